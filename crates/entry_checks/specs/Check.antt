@@ -1,0 +1,192 @@
+-- What an entry asks for, or the error that its submission gives: each test in the order in which it is made.
+use Rattle.std.specs.Prelude.{ℕ, ℤ, pos, negsuc, bytes_eq, unwrap_or, Bool, false, not, ◌&&◌, ◌||◌, ◌==◌, ltb, leb, nat_le, nat_lt, ◌-◌, ◌*◌, ◌/◌, ◌%◌, ◌^◌, List, [], ◌∷◌, length, take, drop, Option, None, Result, Ok, ok_or, bit_or}
+use Rattle.std.specs.List.{list_any, last_or, find}
+use Rattle.std.specs.Option.{option_map}
+use Rattle.sqe_codec.specs.declared.errno.Errno.{Errno}
+use Rattle.sqe_codec.specs.declared.errno.Errno.TheVariants.{ENOENT, EBADF, EINVAL, ENAMETOOLONG, EOPNOTSUPP}
+use Rattle.sqe_codec.specs.declared.sqe.Sqe.{Sqe}
+use Rattle.trace_format.specs.declared.trace.Entry.{Entry}
+use Rattle.trace_format.specs.declared.trace.Version.{Version}
+use Rattle.trace_format.specs.declared.trace.Version.TheVariants.{One, Two}
+use Rattle.std.specs.Int.{w16, w32, from_le_bytes, cast_signed}
+use Rattle.trace_format.specs.Paths.{components}
+use Rattle.trace_format.specs.Sides.{lengths_in, total}
+use Rattle.sqe_codec.specs.Answers.{◌>>=◌, ◌>>◌, require}
+use Rattle.entry_checks.specs.Operation.{Operation, nop, readv, writev, fsync, read_fixed, write_fixed, fallocate, openat, close, read, write, renameat, unlinkat, mkdirat, linkat, ftruncate, File, Span, Path, OpenFlags}
+
+-- The opcodes that are served.
+pub data Opcode : Type 0 where
+  Nop : Opcode
+  Readv : Opcode
+  Writev : Opcode
+  Fsync : Opcode
+  ReadFixed : Opcode
+  WriteFixed : Opcode
+  Fallocate : Opcode
+  Openat : Opcode
+  Close : Opcode
+  Read : Opcode
+  Write : Opcode
+  Renameat : Opcode
+  Unlinkat : Opcode
+  Mkdirat : Opcode
+  Linkat : Opcode
+  Ftruncate : Opcode
+
+-- The opcodes' numbers in io_uring.h.
+abbrev pub opcode_numbers : List (ℕ × Opcode)
+opcode_numbers = (0, Nop) ∷ (1, Readv) ∷ (2, Writev) ∷ (3, Fsync) ∷ (4, ReadFixed) ∷ (5, WriteFixed) ∷ (17, Fallocate) ∷ (18, Openat) ∷ (19, Close) ∷ (22, Read) ∷ (23, Write) ∷ (35, Renameat) ∷ (36, Unlinkat) ∷ (37, Mkdirat) ∷ (39, Linkat) ∷ (55, Ftruncate) ∷ []
+
+-- The opcode of a number, if it is served.
+abbrev pub opcode_of : ℕ → Option Opcode
+opcode_of n = option_map (λ p. p.1) (find (λ p. p.0 == n) opcode_numbers)
+
+-- Whether a word has the bit of a power of two.
+abbrev pub has : ℕ → ℕ → Bool
+has word bit = (word / bit) % 2 == 1
+
+-- The flags of an entry.
+abbrev pub fixed_file : ℕ
+fixed_file = 1
+
+abbrev pub io_drain : ℕ
+io_drain = 2
+
+abbrev pub io_link : ℕ
+io_link = 4
+
+abbrev pub io_hardlink : ℕ
+io_hardlink = 8
+
+abbrev pub buffer_select : ℕ
+buffer_select = 32
+
+abbrev pub skip_success : ℕ
+skip_success = 64
+
+-- At most 1,024 lengths, and a sum below 2^63.
+abbrev pub vector_is_short : Sqe → List ℕ → Bool
+vector_is_short e side = nat_le e.len 1024 && nat_lt (total (lengths_in e.len side)) (2 ^ 63)
+
+-- The old one of two paths, behind its length of two bytes, and the new one behind it.
+abbrev pub old_path : List ℕ → List ℕ
+old_path side = take (from_le_bytes w16 (take 2 side)) (drop 2 side)
+
+abbrev pub new_path : List ℕ → List ℕ
+new_path side = drop (from_le_bytes w16 (take 2 side)) (drop 2 side)
+
+-- `.` and `..` are no components here.
+abbrev pub is_dots : List ℕ → Bool
+is_dots name = bytes_eq name (46 ∷ []) || bytes_eq name (46 ∷ 46 ∷ [])
+
+-- The tests of a path.
+abbrev pub check_path : List ℕ → Result (Unit {0}) Errno
+check_path path = do
+  require (not (length path == 0)) ENOENT
+  require (leb (length path) 4095) ENAMETOOLONG
+  require (not (unwrap_or (last_or None path) 0 == 47)) EINVAL
+  require (not (list_any is_dots (components path))) EINVAL
+
+-- A transfer has no flags of its own; an operation on paths or slots has no registered file.
+abbrev pub check_transfer_flags : Sqe → Result (Unit {0}) Errno
+check_transfer_flags e = require (e.op_flags == 0) EOPNOTSUPP
+
+abbrev pub check_no_registered_file : Sqe → Result (Unit {0}) Errno
+check_no_registered_file e = require (not (has e.flags fixed_file)) EBADF
+
+-- The file, the span and the flags of open(2) that an entry names.
+abbrev pub file_of : Sqe → File
+file_of e = record { registered = has e.flags fixed_file; number = e.fd }
+
+abbrev pub span_of : Sqe → Span
+span_of e = record { index = e.buf_index; address = e.addr; length = e.len }
+
+abbrev pub path_of : ℤ → List ℕ → Path
+path_of d text = record { directory = d; text = text }
+
+abbrev pub open_flags_of : ℕ → OpenFlags
+open_flags_of f = record { access = f % 4; create = has f 64; exclusive = has f 128; truncate = has f 512; append = has f 1024; directory = has f 65536 }
+
+-- The tests of openat's flags: no access 3, no bit outside 0x1fdfc3, and no flag that its file_index forbids.
+abbrev pub are_open_flags : ℕ → ℕ → Bool
+are_open_flags f index =
+    not (f % 4 == 3) && (bit_or f 2088899 == 2088899) && not (has f 64 && has f 65536) && not (has f 524288 && not (index == 0)) && not (index == 2 ^ 32 - 1)
+
+-- Whether a signed number is zero.
+abbrev pub is_zero : ℤ → Bool
+is_zero (pos n) = n == 0
+is_zero (negsuc n) = false
+
+-- The greatest flags of renameat2(2) that a version serves: NOREPLACE in the first, EXCHANGE in the second.
+abbrev pub most_rename_flags : Version → ℕ
+most_rename_flags One = 1
+most_rename_flags Two = 2
+
+-- The tests of each opcode, in order, and the operation that is left.
+abbrev pub check_row : Version → Opcode → Sqe → List ℕ → Result Operation Errno
+check_row v Nop e side = Ok nop
+check_row v Readv e side = do
+  check_transfer_flags e
+  require (vector_is_short e side) EINVAL
+  Ok (readv (file_of e) e.off (total (lengths_in e.len side)))
+check_row v Writev e side = do
+  check_transfer_flags e
+  require (vector_is_short e side) EINVAL
+  Ok (writev (file_of e) e.off (drop (8 * e.len) side))
+check_row v Fsync e side = do
+  require (leb e.op_flags 1) EINVAL
+  Ok (fsync (file_of e))
+check_row v ReadFixed e side = do
+  check_transfer_flags e
+  Ok (read_fixed (file_of e) e.off (span_of e))
+check_row v WriteFixed e side = do
+  check_transfer_flags e
+  Ok (write_fixed (file_of e) e.off (span_of e))
+check_row v Fallocate e side = Ok (fallocate (file_of e) e.off e.addr e.len)
+check_row v Openat e side = do
+  check_no_registered_file e
+  require (are_open_flags e.op_flags e.file_index) EINVAL
+  check_path side
+  Ok (openat (path_of e.fd side) (open_flags_of e.op_flags) e.file_index)
+check_row v Close e side = do
+  check_no_registered_file e
+  require (e.file_index == 0 || is_zero e.fd) EINVAL
+  require (not (e.file_index == 2 ^ 32 - 1)) EINVAL
+  Ok (close e.fd e.file_index)
+check_row v Read e side = do
+  check_transfer_flags e
+  Ok (read (file_of e) e.off e.len)
+check_row v Write e side = do
+  check_transfer_flags e
+  Ok (write (file_of e) e.off side)
+check_row v Renameat e side = do
+  check_no_registered_file e
+  require (leb e.op_flags (most_rename_flags v)) EINVAL
+  check_path (old_path side)
+  check_path (new_path side)
+  Ok (renameat (path_of e.fd (old_path side)) (path_of (cast_signed w32 e.len) (new_path side)) e.op_flags)
+check_row v Unlinkat e side = do
+  check_no_registered_file e
+  require (e.op_flags == 0 || e.op_flags == 512) EINVAL
+  check_path side
+  Ok (unlinkat (path_of e.fd side) (e.op_flags == 512))
+check_row v Mkdirat e side = do
+  check_no_registered_file e
+  check_path side
+  Ok (mkdirat (path_of e.fd side))
+check_row v Linkat e side = do
+  check_no_registered_file e
+  require (e.op_flags == 0 || e.op_flags == 1024) EINVAL
+  check_path (old_path side)
+  check_path (new_path side)
+  Ok (linkat (path_of e.fd (old_path side)) (path_of (cast_signed w32 e.len) (new_path side)))
+check_row v Ftruncate e side = Ok (ftruncate (file_of e) e.off)
+
+-- The operation that an entry asks for, or the error of its submission.
+abbrev pub check : Version → Entry → Result Operation Errno
+check v entry = do
+  o ← ok_or (opcode_of entry.sqe.opcode) EINVAL
+  require (ltb entry.sqe.flags 128) EINVAL
+  require (entry.sqe.personality == 0) EINVAL
+  require (not (has entry.sqe.flags buffer_select)) EOPNOTSUPP
+  check_row v o entry.sqe entry.side

@@ -1,0 +1,3 @@
+pub mod Alone
+mod Shown
+mod Worked

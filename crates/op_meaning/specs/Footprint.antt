@@ -1,0 +1,190 @@
+-- What each place reads and writes, by its row.
+use Rattle.std.specs.Prelude.{ℕ, ℤ, pos, negsuc, zero, suc, Bool, true, false, not, ◌&&◌, ◌||◌, ◌==◌, ltb, leb, ◌+◌, min, List, [], ◌∷◌, ◌++◌, map, length, Option, Some, None, is_ok, if◌then◌else◌}
+use Rattle.chain_plan.specs.declared.role.Role.{Role}
+use Rattle.trace_format.specs.declared.trace.Trace.{Trace}
+use Rattle.sqe_codec.specs.Answers.{each, each_ok}
+use Rattle.entry_checks.specs.Operation.{Operation, nop, readv, writev, fsync, read_fixed, write_fixed, fallocate, openat, close, read, write, renameat, unlinkat, mkdirat, linkat, ftruncate, File, Span, Path, OpenFlags, file_limit, at_position}
+use Rattle.trace_format.specs.Sides.{most_moved}
+use Rattle.chain_plan.specs.Chain.{role}
+use Rattle.trace_format.specs.Steps.{Step, step_at}
+use Rattle.world_parts.specs.World.{World}
+use Rattle.file_tree.specs.Tree.{Target}
+use Rattle.file_tree.specs.Walk.{Place, walk, names_on, is_directory}
+use Rattle.op_meaning.specs.Meaning.{meaning, made_node, made_description, slot_count, span_start, Handle, handle, handle_of, held, is_file, bytes_in, allocation, Allocation, extend, reserve, punch, zero_extend, zero_within, lowest_free}
+use Rattle.op_meaning.specs.Step.{Turn, filled, refused, canceled, runs, turn}
+use Rattle.world_parts.specs.Items.{chain_flag, ring_order, slot_at, descriptor_at, description_at, position_of, size_of, name_at, names_in, Item, one, file_bytes, buffer_bytes, all_descriptors, Use, reads, writes, Footprint}
+
+abbrev pub use_of : Bool → Item → Use
+use_of w x = record { item = x; written = w }
+
+abbrev pub as_reads : Footprint → Footprint
+as_reads f = map (λ u. reads u.item) f
+
+-- How the uses of an operation are taken: as those of an accepted one, which has what it makes, and as those of one that makes files longer, which writes their sizes.
+pub record Taken : Type 0 where
+  pub accepted : Bool
+  pub extending : Bool
+
+-- The slot or descriptor of a file number, so far as there is one.
+abbrev pub held_item : Trace → ℕ → Bool → ℤ → List Item
+held_item t r true (pos n) = if ltb n (slot_count t r) then one (slot_at r n) ∷ [] else []
+held_item t r false (pos n) = if ltb n (length t.descriptors) then one (descriptor_at n) ∷ [] else []
+held_item t r b (negsuc n) = []
+
+abbrev pub file_reads : Trace → ℕ → File → Footprint
+file_reads t r f = map reads (held_item t r f.registered f.number)
+
+-- A range of a file's bytes, below the largest size.
+abbrev pub range_of : ℕ → ℕ → ℕ → Item
+range_of i low high = file_bytes i low (min high file_limit)
+
+-- The bytes that a transfer of n may touch: all, at the position or with an append description.
+abbrev pub transfer_range : ℕ → Bool → ℕ → ℕ → Item
+transfer_range i anywhere o n = if anywhere then range_of i 0 file_limit else range_of i o (o + n)
+
+abbrev pub position_written : Handle → ℕ → Footprint
+position_written h o = if o == at_position then writes (one (position_of h.description)) ∷ [] else []
+
+-- What an operation on an open file has of its description and, where that is of a file, of the file.
+abbrev pub of_file : (ℕ → Handle → Footprint) → Handle → Footprint
+of_file f h = if is_file h.opened then f h.opened.target.node h else []
+
+abbrev pub of_description : World → (ℕ → Handle → Footprint) → ℕ → Footprint
+of_description s f d = reads (one (description_at d)) ∷ each (of_file f) (handle_of s d)
+
+abbrev pub on_file : Trace → World → ℕ → File → (ℕ → Handle → Footprint) → Footprint
+on_file t s r f content = file_reads t r f ++ each (of_description s content) (held t s r f.registered f.number)
+
+abbrev pub span_use : Bool → Trace → ℕ → Span → Footprint
+span_use w t r x = each (λ at. use_of w (buffer_bytes r x.index at (at + x.length)) ∷ []) (span_start t r x)
+
+-- The position of a description, also of a directory's, where a transfer uses it.
+abbrev pub position_use : Trace → World → ℕ → File → ℕ → Footprint
+position_use t s r f o = each (λ h. position_written h o) (handle t s r f)
+
+abbrev pub read_row : Trace → World → ℕ → File → ℕ → ℕ → Footprint
+read_row t s r f o n =
+    on_file t s r f (λ i h. reads (one (size_of i)) ∷ reads (transfer_range i (o == at_position) o n) ∷ position_written h o) ++ position_use t s r f o
+
+-- Whether a change up to an end, below the largest size, would make a file longer.
+abbrev pub would_extend : World → ℕ → ℕ → Bool
+would_extend s i end = ltb (length (bytes_in s i)) (min end file_limit)
+
+abbrev pub write_row : Trace → World → ℕ → Taken → File → ℕ → ℕ → Footprint
+write_row t s r x f o n = on_file t s r f content ++ position_use t s r f o
+  where
+    content : ℕ → Handle → Footprint
+    content i h =
+        let anywhere = h.opened.append || o == at_position in
+        use_of (anywhere || x.extending || (not (n == 0) && would_extend s i (o + n))) (one (size_of i)) ∷ writes (transfer_range i anywhere o n) ∷ position_written h o
+
+-- What an allocation up to an end has of the file: its size, written where it grows, and the range that becomes zero.
+abbrev pub allocation_uses : World → Bool → ℕ → ℕ → ℕ → Option Allocation → Footprint
+allocation_uses s extending i at end (Some extend) = use_of (extending || would_extend s i end) (one (size_of i)) ∷ []
+allocation_uses s extending i at end (Some reserve) = reads (one (size_of i)) ∷ []
+allocation_uses s extending i at end (Some punch) = reads (one (size_of i)) ∷ writes (range_of i at end) ∷ []
+allocation_uses s extending i at end (Some zero_extend) = use_of (extending || would_extend s i end) (one (size_of i)) ∷ writes (range_of i at end) ∷ []
+allocation_uses s extending i at end (Some zero_within) = reads (one (size_of i)) ∷ writes (range_of i at end) ∷ []
+allocation_uses s extending i at end None = reads (one (size_of i)) ∷ []
+
+abbrev pub fallocate_row : Trace → World → ℕ → Taken → File → ℕ → ℕ → ℕ → Footprint
+fallocate_row t s r x f o n mode = on_file t s r f (λ i h. allocation_uses s x.extending i o (o + n) (allocation mode))
+
+abbrev pub ftruncate_row : Trace → World → ℕ → File → ℕ → Footprint
+ftruncate_row t s r f n = on_file t s r f (λ i h. writes (one (size_of i)) ∷ writes (range_of i n file_limit) ∷ [])
+
+-- The names that a walk looks up.
+abbrev pub path_reads : World → Path → Footprint
+path_reads s p = map (λ e. reads (one (name_at e.0 e.1))) (names_on s.nodes p)
+
+-- A name and the number of names of its directory.
+abbrev pub name_written : Place → Footprint
+name_written p = writes (one (name_at p.parent p.name)) ∷ writes (one (names_in p.parent)) ∷ []
+
+abbrev pub made_where : Taken → Footprint → Footprint
+made_where x f = if x.accepted then f else []
+
+-- Where a target is a directory, its names are read.
+abbrev pub directory_names : Option Target → Footprint
+directory_names None = []
+directory_names (Some y) = if is_directory y.kind then reads (one (names_in y.node)) ∷ [] else []
+
+-- The room of openat: its slot, or all descriptors and the lowest free one.
+abbrev pub room_uses : Trace → World → ℕ → ℕ → Footprint
+room_uses t s r zero = reads all_descriptors ∷ each (λ n. writes (one (descriptor_at n)) ∷ []) (lowest_free t s)
+room_uses t s r (suc n) = map writes (held_item t r true (pos n))
+
+abbrev pub description_made : Trace → ℕ → Footprint
+description_made t k = writes (one (description_at (made_description t k))) ∷ writes (one (position_of (made_description t k))) ∷ []
+
+-- What openat writes at the name that it opens: the name where it may make a file, all of a file that it may cut.
+abbrev pub open_uses : Trace → ℕ → Taken → OpenFlags → Place → Option Target → Footprint
+open_uses t k x g q None = if g.create then name_written q ++ made_where x (writes (one (size_of (made_node t k))) ∷ []) else []
+open_uses t k x g q (Some y) = if g.truncate && not (is_directory y.kind) then writes (one (size_of y.node)) ∷ writes (range_of y.node 0 file_limit) ∷ [] else []
+
+abbrev pub openat_row : Trace → World → ℕ → ℕ → Taken → Path → OpenFlags → ℕ → Footprint
+openat_row t s k r x p g index = path_reads s p ++ room_uses t s r index ++ made_where x (description_made t k) ++ each_ok (λ (q : Place). open_uses t k x g q q.target) (walk s.nodes p)
+
+abbrev pub close_row : Trace → ℕ → ℤ → ℕ → Footprint
+close_row t r number zero = map writes (held_item t r false number)
+close_row t r number (suc n) = map writes (held_item t r true (pos n))
+
+abbrev pub unlinkat_row : World → Path → Bool → Footprint
+unlinkat_row s p removes = path_reads s p ++ each_ok (λ (q : Place). name_written q ++ (if removes then directory_names q.target else [])) (walk s.nodes p)
+
+abbrev pub mkdirat_row : Trace → World → ℕ → Taken → Path → Footprint
+mkdirat_row t s k x p = path_reads s p ++ each_ok (λ (q : Place). name_written q ++ made_where x (writes (one (names_in (made_node t k))) ∷ [])) (walk s.nodes p)
+
+abbrev pub linkat_row : World → Path → Path → Footprint
+linkat_row s old new = path_reads s old ++ path_reads s new ++ each_ok name_written (walk s.nodes new)
+
+abbrev pub renameat_row : World → Path → Path → Footprint
+renameat_row s old new = path_reads s old ++ path_reads s new ++ each_ok name_written (walk s.nodes old) ++ each_ok (λ (q : Place). name_written q ++ directory_names q.target) (walk s.nodes new)
+
+-- The items of an operation, all written that its row writes.
+abbrev pub row : Trace → ℕ → ℕ → World → Taken → Operation → Footprint
+row t k r s x nop = []
+row t k r s x (readv f o n) = read_row t s r f o (min n most_moved)
+row t k r s x (writev f o new) = write_row t s r x f o (length new)
+row t k r s x (fsync f) = file_reads t r f
+row t k r s x (read_fixed f o span) = read_row t s r f o (min span.length most_moved) ++ span_use true t r span
+row t k r s x (write_fixed f o span) = write_row t s r x f o (min span.length most_moved) ++ span_use false t r span
+row t k r s x (fallocate f o n mode) = fallocate_row t s r x f o n mode
+row t k r s x (openat p g index) = openat_row t s k r x p g index
+row t k r s x (close number index) = close_row t r number index
+row t k r s x (read f o n) = read_row t s r f o (min n most_moved)
+row t k r s x (write f o new) = write_row t s r x f o (length new)
+row t k r s x (renameat old new flags) = renameat_row s old new
+row t k r s x (unlinkat p removes) = unlinkat_row s p removes
+row t k r s x (mkdirat p) = mkdirat_row t s k x p
+row t k r s x (linkat old new) = linkat_row s old new
+row t k r s x (ftruncate f n) = ftruncate_row t s r f n
+
+-- The row of an operation in a world: where the world refuses it, nothing is made and all is read.
+abbrev pub row_in : Trace → ℕ → ℕ → World → Operation → Footprint
+row_in t k r s o =
+    let ok = is_ok (meaning t k r s o) in
+    let f = row t k r s (record { accepted = ok; extending = false }) o in
+    if ok then f else as_reads f
+
+-- Each place has its ring's order, written in a barrier, and in a chain of two or more its chain.
+abbrev pub order_uses : ℕ → Role → Footprint
+order_uses r c = use_of c.barrier (one (ring_order r)) ∷ (if leb 2 c.length then writes (one (chain_flag c.chain)) ∷ [] else [])
+
+-- What a turn uses apart from the order; a refused or canceled place uses nothing.
+abbrev pub turn_uses : Trace → ℕ → World → Turn → Footprint
+turn_uses t k s (filled r b at new) = writes (buffer_bytes r b at (at + length new)) ∷ []
+turn_uses t k s (refused e posted) = []
+turn_uses t k s (canceled posted) = []
+turn_uses t k s (runs r e o) = row_in t k r s o
+
+abbrev pub ring_at : Trace → ℕ → ℕ
+ring_at t k = of (step_at t k)
+  where
+    of : Option Step → ℕ
+    of None = 0
+    of (Some x) = x.ring
+
+-- The footprint of a place in a world.
+abbrev pub footprint : Trace → ℕ → World → Footprint
+footprint t k s = order_uses (ring_at t k) (role t k) ++ each (turn_uses t k s) (turn t k s)

@@ -1,0 +1,9 @@
+pub mod Loops
+pub mod Readings
+pub mod Whole
+pub mod Sums
+pub mod Runs
+pub mod Adds
+pub mod Spelled
+pub mod OneSpelling
+pub mod Spots

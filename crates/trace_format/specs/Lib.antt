@@ -1,0 +1,10 @@
+pub mod Grammar
+pub mod Read
+pub mod Served
+pub mod Paths
+pub mod Sides
+pub mod Counts
+pub mod Spots
+pub mod Text
+pub mod Spelling
+pub mod Steps

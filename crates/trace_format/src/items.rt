@@ -1,0 +1,126 @@
+//! The initial names.
+ghost use Rattle.std.specs.Prelude.{◌≡◌, []};
+ghost use Rattle.trace_format.specs.Grammar.{several};
+ghost use Rattle.trace_format.specs.Paths.{is_file};
+ghost use Rattle.trace_format.specs.Read.{Gives, reading};
+ghost use Rattle.trace_format.specs.Text.{file, other_name, node, new_path, item, is_item};
+
+use crate::fault::{Kind, ReadError, refused};
+use crate::list::{Blob, Series};
+use crate::paths::{has_directory, has_name, is_file, is_path, parent_of};
+use crate::served::serves_item;
+use crate::source::{Source, bytes_of, u8_of, u16_of, u32_of, u32_to, u64_to};
+use crate::trace::{Item, Node};
+use std::alloc::Global;
+
+#[tactic(auto, unfolding(crate::specs::Text::file))]
+fn file_of(alloc: Global, source: Source<'_>) -> Result<(Node, Source<'_>), ReadError>
+    ensures { Gives (λ x. (x.0, x.1.place, x.1.rest.now)) result (reading file source.entry.place source.entry.rest.now) }
+{
+    let (size, source) = u64_to(source, 1 << 40)?;
+    let (stored, source) = u32_to(source, size.min(0xffff_ffff) as u32)?;
+    let (bytes, source) = bytes_of(source, stored as usize)?;
+    let stored = Series::from_vec(Vec::from_slice(alloc, bytes)?);
+    Ok((Node::File { size, stored }, source))
+}
+
+/// Whether the item of a number from 1 on is a file.
+fn is_file_item(items: &[Item], number: u32) -> bool
+    ensures { result ≡ is_item is_file items.now number }
+{
+    if number == 0 {
+        return false;
+    }
+    match items.get(number as usize - 1) {
+        None => false,
+        Some(item) => is_file(&item.node),
+    }
+}
+
+#[tactic(auto, unfolding(crate::specs::Text::other_name))]
+fn other_name_of<'a>(items: &[Item], source: Source<'a>) -> Result<(Node, Source<'a>), ReadError>
+    ensures { Gives (λ x. (x.0, x.1.place, x.1.rest.now)) result (reading (other_name items.now) source.entry.place source.entry.rest.now) }
+{
+    let place = source.place;
+    let (number, source) = u32_of(source)?;
+    if !is_file_item(items, number) {
+        return Err(refused(Kind::Reference, place));
+    }
+    Ok((Node::OtherName { number }, source))
+}
+
+fn node_of<'a>(
+    alloc: Global,
+    kind: u8,
+    items: &[Item],
+    source: Source<'a>,
+) -> Result<(Node, Source<'a>), ReadError>
+    ensures { Gives (λ x. (x.0, x.1.place, x.1.rest.now)) result (reading (node kind items.now) source.entry.place source.entry.rest.now) }
+{
+    match kind {
+        1 => Ok((Node::Directory, source)),
+        2 => file_of(alloc, source),
+        _ => other_name_of(items, source),
+    }
+}
+
+#[tactic(auto, unfolding(crate::specs::Text::new_path))]
+fn path_of<'a>(
+    alloc: Global,
+    items: &[Item],
+    source: Source<'a>,
+) -> Result<(Blob, Source<'a>), ReadError>
+    ensures { Gives (λ x. (x.0, x.1.place, x.1.rest.now)) result (reading (new_path items.now) source.entry.place source.entry.rest.now) }
+{
+    let (len, source) = u16_of(source)?;
+    let place = source.place;
+    let (path, source) = bytes_of(source, len as usize)?;
+    if !is_path(path) {
+        return Err(refused(Kind::Path, place));
+    }
+    if !has_directory(items, parent_of(path)) {
+        return Err(refused(Kind::NoParent, place));
+    }
+    if has_name(items, path) {
+        return Err(refused(Kind::Exists, place));
+    }
+    Ok((Series::from_vec(Vec::from_slice(alloc, path)?), source))
+}
+
+#[tactic(auto, unfolding(crate::specs::Text::item))]
+fn item_of<'a>(
+    alloc: Global,
+    items: &[Item],
+    source: Source<'a>,
+) -> Result<(Item, Source<'a>), ReadError>
+    ensures { Gives (λ x. (x.0, x.1.place, x.1.rest.now)) result (reading (item items.now) source.entry.place source.entry.rest.now) }
+{
+    let place = source.place;
+    let (kind, source) = u8_of(source)?;
+    if kind < 1 || kind > 3 {
+        return Err(refused(Kind::Limit, place));
+    }
+    if !serves_item(kind) {
+        return Err(refused(Kind::NotYet, place));
+    }
+    let (path, source) = path_of(alloc, items, source)?;
+    let (node, source) = node_of(alloc, kind, items, source)?;
+    Ok((Item { path, node }, source))
+}
+
+pub(crate) fn items_of(
+    alloc: Global,
+    count: u32,
+    source: Source<'_>,
+) -> Result<(Vec<Item>, Source<'_>), ReadError>
+    ensures { Gives (λ x. (x.0.items, x.1.place, x.1.rest.now)) result (reading (several count item []) source.entry.place source.entry.rest.now) }
+{
+    let mut items = Vec::new(alloc);
+    let mut source = source;
+    for _ in 0..count {
+        let (item, after) = item_of(alloc, &items, source)?;
+        items.push(item)?;
+        source = after;
+    }
+    Ok((items, source))
+}

@@ -1,0 +1,41 @@
+//! Owned lists that contracts see as lists.
+ghost use Rattle.std.specs.Prelude.{◌≡◌, List, ℕ, length};
+
+use std::marker::Model;
+
+/// A list of values, as contracts see it.
+#[derive(Debug, Drop)]
+pub struct Series<T> {
+    values: Vec<T>,
+}
+
+impl<T> Model for Series<T> {
+    ghost use Rattle.std.specs.Prelude.{List};
+
+    ghost Value = { List T };
+
+    ghost view = { λ s. s.values.items };
+}
+
+impl<T> Series<T> {
+    pub fn from_vec(values: Vec<T>) -> Self
+        ensures { result ≡ values.items }
+    {
+        Series { values }
+    }
+
+    pub fn as_slice(&self) -> &[T]
+        ensures { result.now ≡ self.now }
+    {
+        self.values.as_slice()
+    }
+
+    pub fn into_vec(self) -> Vec<T>
+        ensures { result.items ≡ self }
+    {
+        self.values
+    }
+}
+
+/// Bytes, which contracts see as a list.
+pub type Blob = Series<u8>;

@@ -1,0 +1,87 @@
+//! Reading a trace.
+ghost use Rattle.std.specs.Prelude.{◌≡◌, ◌≢◌, ◌+◌, ◌<◌, ◌≤◌, ◌^◌, IfOk, IfErr, length};
+ghost use Rattle.trace_format.specs.Read.{Gives, reading};
+ghost use Rattle.std.specs.Prelude.{◌⊎◌};
+ghost use Rattle.trace_format.specs.Grammar.{fault};
+ghost use Rattle.trace_format.specs.Read.{reading_trace, fault_of};
+ghost use Rattle.trace_format.specs.Text.{trace, SpellsTrace, IsRefusal};
+ghost use Rattle.trace_format.specs.declared.fault.Kind.TheVariants.{Memory};
+
+use crate::descriptions::descriptions_of;
+use crate::fault::{Kind, ReadError, TraceFault, refused};
+use crate::header::counts_of;
+use crate::items::items_of;
+use crate::list::Series;
+use crate::records::records_of;
+use crate::rings::rings_of;
+use crate::source::Source;
+use crate::trace::{Trace, Version};
+use std::alloc::Global;
+
+/// How many bytes the text of a trace has at most.
+const LONGEST: usize = 1_073_741_824;
+
+#[tactic(auto, unfolding(crate::specs::Text::trace))]
+fn trace_of(alloc: Global, source: Source<'_>) -> Result<(Trace, Source<'_>), ReadError>
+    ensures { Gives (λ x. (x.0, x.1.place, x.1.rest.now)) result (reading trace source.entry.place source.entry.rest.now) }
+{
+    let (counts, source) = counts_of(source)?;
+    let (items, source) = items_of(alloc, counts.items, source)?;
+    let (descriptions, source) = descriptions_of(alloc, counts.descriptions, &items, source)?;
+    let (rings, source) = rings_of(alloc, counts.rings, counts.descriptions, source)?;
+    let (records, source) = records_of(alloc, counts.records, &rings, source)?;
+    Ok((
+        Trace {
+            version: Version::One,
+            items: Series::from_vec(items),
+            descriptions: Series::from_vec(descriptions),
+            descriptors: Series::from_vec(Vec::new(alloc)),
+            rings: Series::from_vec(rings),
+            records,
+        },
+        source,
+    ))
+}
+
+#[tactic(auto, unfolding(crate::specs::Read::reading_trace))]
+fn read(alloc: Global, bytes: &[u8]) -> Result<Trace, ReadError>
+    ensures { Gives (λ x. x) result (reading_trace bytes.now) }
+{
+    if bytes.len() > LONGEST {
+        return Err(refused(Kind::Limit, LONGEST as u64));
+    }
+    let source = Source {
+        rest: bytes,
+        place: 0,
+    };
+    let (trace, source) = trace_of(alloc, source)?;
+    if !source.rest.is_empty() {
+        return Err(refused(Kind::Trailing, source.place));
+    }
+    Ok(trace)
+}
+
+fn as_fault(error: ReadError) -> TraceFault
+    ensures { result ≡ fault_of error }
+{
+    match error {
+        ReadError::OutOfMemory => TraceFault {
+            kind: Kind::Memory,
+            at: 0,
+        },
+        ReadError::Fault(fault) => fault,
+    }
+}
+
+/// The trace that the bytes spell.
+pub fn read_trace(alloc: Global, bytes: &[u8]) -> Result<Trace, TraceFault>
+    // What is read is spelled so.
+    ensures trace { IfOk result (λ t. SpellsTrace bytes.now t) }
+    // A fault is one of the bytes, which then spell no trace, unless memory ran out.
+    ensures fault { IfErr result (λ f. (f ≡ fault Memory 0) ⊎ IsRefusal bytes.now f) }
+{
+    match read(alloc, bytes) {
+        Ok(trace) => Ok(trace),
+        Err(error) => Err(as_fault(error)),
+    }
+}

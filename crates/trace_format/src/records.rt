@@ -1,0 +1,186 @@
+//! The records.
+ghost use Rattle.std.specs.Prelude.{◌≡◌, ◌≤◌, ◌<◌, ◌+◌, [], ◌∷◌, IfOk, vec_len, length};
+ghost use Rattle.trace_format.specs.Grammar.{several};
+ghost use Rattle.trace_format.specs.Read.{Gives, reading};
+ghost use Rattle.trace_format.specs.Counts.{places_in, places_limit};
+ghost use Rattle.trace_format.specs.Text.{entry, enter, fill, one_record, buffer_len};
+
+use crate::fault::{Kind, ReadError, refused};
+use crate::list::Series;
+use crate::served::{serves_entry, serves_record};
+use crate::sides::fits;
+use crate::source::{Source, bytes_of, u8_of, u16_of, u16_to, u32_of};
+use crate::steps::{Records, step_count};
+use crate::trace::{Entry, Record, Ring};
+use sqe_codec::unpack;
+use std::alloc::Global;
+
+/// How many steps a trace has at most.
+const PLACES: u32 = 1_048_576;
+
+#[tactic(auto, unfolding(crate::specs::Text::entry))]
+fn entry_of(alloc: Global, source: Source<'_>) -> Result<(Entry, Source<'_>), ReadError>
+    ensures { Gives (λ x. (x.0, x.1.place, x.1.rest.now)) result (reading entry source.entry.place source.entry.rest.now) }
+{
+    let place = source.place;
+    let (bytes, source) = bytes_of(source, 64)?;
+    let mut array = [0; 64];
+    array.copy_from_slice(bytes);
+    let sqe = unpack(&array);
+    if !serves_entry(&sqe) {
+        return Err(refused(Kind::NotYet, place));
+    }
+    let place = source.place;
+    let (len, source) = u32_of(source)?;
+    let (side, source) = bytes_of(source, len as usize)?;
+    if !fits(&sqe, side) {
+        return Err(refused(Kind::Side, place));
+    }
+    let side = Series::from_vec(Vec::from_slice(alloc, side)?);
+    Ok((Entry { sqe, side }, source))
+}
+
+fn entries_of(
+    alloc: Global,
+    count: u16,
+    source: Source<'_>,
+) -> Result<(Vec<Entry>, Source<'_>), ReadError>
+    ensures read { Gives (λ x. (x.0.items, x.1.place, x.1.rest.now)) result (reading (several count (λ _. entry) []) source.entry.place source.entry.rest.now) }
+    ensures len { IfOk result (λ x. vec_len x.0 ≡ count) }
+{
+    let mut entries = Vec::new(alloc);
+    let mut source = source;
+    for _ in 0..count {
+        let (entry, after) = entry_of(alloc, source)?;
+        entries.push(entry)?;
+        source = after;
+    }
+    Ok((entries, source))
+}
+
+#[tactic(auto, unfolding(crate::specs::Text::enter))]
+fn enter_of(
+    alloc: Global,
+    rings: usize,
+    used: u32,
+    source: Source<'_>,
+) -> Result<(Record, Source<'_>), ReadError>
+    requires { used ≤ places_limit }
+    ensures read { Gives (λ x. (x.0, x.1.place, x.1.rest.now)) result (reading (enter rings used) source.entry.place source.entry.rest.now) }
+    ensures within { IfOk result (λ x. used + places_in (x.0 ∷ []) ≤ places_limit) }
+{
+    let place = source.place;
+    let (ring, source) = u8_of(source)?;
+    if usize::from(ring) >= rings {
+        return Err(refused(Kind::Reference, place));
+    }
+    let place = source.place;
+    let (count, source) = u16_to(source, 32_768)?;
+    if used + u32::from(count) > PLACES {
+        return Err(refused(Kind::Limit, place));
+    }
+    let (entries, source) = entries_of(alloc, count, source)?;
+    let entries = Series::from_vec(entries);
+    Ok((Record::Enter { ring, entries }, source))
+}
+
+/// The length of a buffer of a ring.
+fn buffer_len(rings: &[Ring], ring: u8, number: u16) -> Option<u32>
+    ensures { result ≡ buffer_len rings.now ring number }
+{
+    match rings.get(ring as usize) {
+        None => None,
+        Some(ring) => match ring.buffers.as_slice().get(number as usize) {
+            None => None,
+            Some(buffer) => Some(buffer.len),
+        },
+    }
+}
+
+#[tactic(auto, unfolding(crate::specs::Text::fill))]
+fn fill_of<'a>(
+    alloc: Global,
+    rings: &[Ring],
+    source: Source<'a>,
+) -> Result<(Record, Source<'a>), ReadError>
+    ensures read { Gives (λ x. (x.0, x.1.place, x.1.rest.now)) result (reading (fill rings.now) source.entry.place source.entry.rest.now) }
+    ensures one { IfOk result (λ x. places_in (x.0 ∷ []) ≡ 1) }
+{
+    let place = source.place;
+    let (ring, source) = u8_of(source)?;
+    if ring as usize >= rings.len() {
+        return Err(refused(Kind::Reference, place));
+    }
+    let place = source.place;
+    let (buffer, source) = u16_of(source)?;
+    let Some(end) = buffer_len(rings, ring, buffer) else {
+        return Err(refused(Kind::Reference, place));
+    };
+    let place = source.place;
+    let (offset, source) = u32_of(source)?;
+    let (len, source) = u32_of(source)?;
+    if u64::from(offset) + u64::from(len) > u64::from(end) {
+        return Err(refused(Kind::Reference, place));
+    }
+    let (bytes, source) = bytes_of(source, len as usize)?;
+    let bytes = Series::from_vec(Vec::from_slice(alloc, bytes)?);
+    Ok((
+        Record::Fill {
+            ring,
+            buffer,
+            offset,
+            bytes,
+        },
+        source,
+    ))
+}
+
+#[tactic(auto, unfolding(crate::specs::Text::one_record))]
+fn record_of<'a>(
+    alloc: Global,
+    rings: &[Ring],
+    used: u32,
+    source: Source<'a>,
+) -> Result<(Record, Source<'a>), ReadError>
+    requires { used ≤ places_limit }
+    ensures read { Gives (λ x. (x.0, x.1.place, x.1.rest.now)) result (reading (one_record rings.now used) source.entry.place source.entry.rest.now) }
+    ensures within { IfOk result (λ x. used + places_in (x.0 ∷ []) ≤ places_limit) }
+{
+    let place = source.place;
+    let (kind, source) = u8_of(source)?;
+    if kind < 1 || kind > 2 {
+        return Err(refused(Kind::Limit, place));
+    }
+    if !serves_record(kind) {
+        return Err(refused(Kind::NotYet, place));
+    }
+    if kind != 1 && used >= PLACES {
+        return Err(refused(Kind::Limit, place));
+    }
+    if kind == 1 {
+        enter_of(alloc, rings.len(), used, source)
+    } else {
+        fill_of(alloc, rings, source)
+    }
+}
+
+pub(crate) fn records_of<'a>(
+    alloc: Global,
+    count: u32,
+    rings: &[Ring],
+    source: Source<'a>,
+) -> Result<(Records, Source<'a>), ReadError>
+    requires { count ≤ places_limit }
+    ensures { Gives (λ x. (x.0, x.1.place, x.1.rest.now)) result (reading (several count (λ earlier. one_record rings.now (places_in earlier)) []) source.entry.place source.entry.rest.now) }
+{
+    let mut records = Vec::new(alloc);
+    let mut used: u32 = 0;
+    let mut source = source;
+    for _ in 0..count {
+        let (record, after) = record_of(alloc, rings, used, source)?;
+        used += step_count(&record) as u32;
+        records.push(record)?;
+        source = after;
+    }
+    Ok((Records::from_vec(alloc, records)?, source))
+}

@@ -1,0 +1,5 @@
+pub mod World
+pub mod Start
+pub mod Items
+pub mod Codes
+pub mod Image

@@ -1,0 +1,6 @@
+//! The world that a replay changes, and the items of a footprint.
+#![tactic(auto)]
+
+mod image;
+
+pub use image::{BufferEntry, DescriptorEntry, Image, NameEntry, SlotEntry};
