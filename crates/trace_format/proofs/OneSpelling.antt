@@ -1,6 +1,6 @@
 -- Each part of a trace is spelled in one way.
-use Rattle.std.proofs.Common.{◌≡◌, ℕ, zero, suc, min, ◌-◌, eqb, ◌+◌, ◌≤◌, ◌<◌, ◌^◌, Bool, true, false, List, [], ◌∷◌, ◌++◌, length, append_assoc, refl, sym, ap, subst, ◌∙◌, arith, inl, inr, ◌⊎◌}
-use Rattle.std.specs.Prelude.{codes, ◌&&◌}
+use Rattle.std.proofs.Common.{◌≡◌, ℕ, zero, suc, min, ◌-◌, eqb, ◌+◌, ◌≤◌, ◌^◌, Bool, true, false, List, [], ◌∷◌, ◌++◌, length, append_assoc, refl, sym, ap, subst, ◌∙◌, arith, inl, inr}
+use Rattle.std.specs.Prelude.{codes, ◌&&◌, nat_le}
 use Rattle.std.specs.List.{flat_map}
 use Rattle.std.specs.Int.{w8, w16, w32, w64, to_le_bytes}
 use Rattle.std.proofs.lemmas.Bool.{eqb-true, eqb-false, leb-true}
@@ -9,20 +9,19 @@ use Rattle.sqe_codec.specs.Fields.{IsBytes, entry_bytes, entry_of}
 use Rattle.sqe_codec.proofs.Parts.{bytes_back}
 use Rattle.trace_format.specs.declared.trace.Buffer.{Buffer}
 use Rattle.trace_format.specs.declared.trace.Ring.{Ring}
-use Rattle.trace_format.specs.declared.trace.Entry.{Entry}
 use Rattle.trace_format.specs.declared.trace.Item.{Item}
 use Rattle.trace_format.specs.declared.trace.Node.{Node}
 use Rattle.trace_format.specs.declared.trace.Node.TheVariants.{File}
 use Rattle.trace_format.specs.Counts.{places_in}
-use Rattle.trace_format.specs.Text.{slot, buffer, ring, entry, file, other_name, node, new_path, item, description, access_of, enter, fill, one_record, header, Counts, trace, SpellsTrace, is_within, buffer_len}
-use Rattle.trace_format.specs.Grammar.{Grammar, Done, Bytes, Place, Test, Then, ◌>>=◌, number, number_to, fault}
+use Rattle.trace_format.specs.Text.{slot, buffer, ring, entry, file, other_name, node, new_path, item, description, access_of, enter, fill, one_record, header, version_of, most_descriptors, Counts, trace, SpellsTrace, is_within, buffer_len}
+use Rattle.trace_format.specs.Grammar.{Grammar, Done, Bytes, Place, Test, ◌>>=◌, number, number_to, fault}
 use Rattle.trace_format.specs.declared.fault.Kind.TheVariants.{Reference}
 use Rattle.trace_format.specs.declared.trace.Record.TheVariants.{Fill}
 use Rattle.trace_format.specs.declared.trace.Record.{Record}
 use Rattle.trace_format.specs.declared.trace.Trace.{Trace}
-use Rattle.trace_format.specs.declared.trace.Version.TheVariants.{One}
-use Rattle.trace_format.specs.Spelling.{slot_bytes, buffer_bytes, ring_bytes, entry_text, kind_of, node_bytes, item_bytes, access_number, flag, description_bytes, record_bytes, header_bytes, trace_bytes}
-use Rattle.trace_format.proofs.Spelled.{Once, Spelt, Front, at_place, at_test, test_passed, at_done, then, at_bytes, at_several, cat, last, wide8, wide16, wide32, wide64, once_number, once_number_to, split, at_choice, once_u8, once_u8_to, within_limit}
+use Rattle.trace_format.specs.Served.{is_served_version, latest_version}
+use Rattle.trace_format.specs.Spelling.{slot_bytes, buffer_bytes, ring_bytes, entry_text, kind_of, node_bytes, item_bytes, access_number, flag, description_bytes, record_bytes, version_number, header_bytes, trace_bytes}
+use Rattle.trace_format.proofs.Spelled.{Once, Spelt, Front, at_place, at_test, test_passed, at_done, then, at_bytes, at_several, cat, last, wide16, wide32, wide64, once_number, once_number_to, split, at_choice, once_u8, once_u8_to, within_limit}
 
 file_kind : (place : ℕ) (text : List ℕ) (y : Node) → IsBytes text → Spelt file place text y → kind_of y ≡ 2
 unfolding file
@@ -222,52 +221,65 @@ once_record rings used place text y fits s =
           first_byte kind.x 2 text kind.rest y (omega arith) (once_fill rings kind.place kind.rest y kind.fits b.1) kind.parts
     ]
 
-abbrev four_bytes : Counts → List ℕ
-four_bytes c = to_le_bytes w32 c.items ++ to_le_bytes w32 c.descriptions ++ to_le_bytes w32 c.rings ++ to_le_bytes w32 c.records ++ to_le_bytes w32 0
+abbrev five_counts : Counts → List ℕ
+five_counts c = to_le_bytes w32 c.items ++ to_le_bytes w32 c.descriptions ++ to_le_bytes w32 c.rings ++ to_le_bytes w32 c.records ++ to_le_bytes w32 c.descriptors
 
 abbrev counts_bytes : Counts → List ℕ
-counts_bytes c = (codes "URINGTRC" ++ to_le_bytes w32 1) ++ four_bytes c
+counts_bytes c = (codes "URINGTRC" ++ to_le_bytes w32 (version_number c.version)) ++ five_counts c
 
 -- what follows the version in the header
-unfoldable counts_tail : Grammar Counts
-counts_tail = do
+unfoldable counts_tail : ℕ → Grammar Counts
+counts_tail version = do
   items ← number_to w32 65535
   descriptions ← number_to w32 65535
   rings ← number_to w32 64
   records ← number_to w32 1048576
-  _ ← number_to w32 0
-  Done (record { items = items; descriptions = descriptions; rings = rings; records = records })
+  descriptors ← number_to w32 (most_descriptors (version_of version))
+  Done (record { version = version_of version; items = items; descriptions = descriptions; rings = rings; records = records; descriptors = descriptors })
 
-zero_text : (place : ℕ) (text : List ℕ) (n : ℕ) → IsBytes text → Spelt (number_to w32 0) place text n → text ≡ to_le_bytes w32 0
-zero_text place text n fits s =
-    let small = within_limit w32 0 place text n fits s in
-    let none : n ≡ 0 = omega (arith, small) in
-    once_number_to w32 0 wide32 place text n fits s ∙ ap (to_le_bytes w32) none
+-- the counts after a version, and their text
+record CountsTail (number : ℕ) (text : List ℕ) (y : Counts) : Type 0 where
+  whole : text ≡ five_counts y
+  version : y.version ≡ version_of number
 
-once_counts_tail : Once counts_tail four_bytes
+once_counts_tail : (version place : ℕ) (text : List ℕ) (y : Counts) → IsBytes text → Spelt (counts_tail version) place text y → CountsTail version text y
 unfolding counts_tail
-once_counts_tail place text y fits s =
+once_counts_tail version place text y fits s =
     let items = then (to_le_bytes w32) (once_number_to w32 65535 wide32) fits s in
     let descriptions = then (to_le_bytes w32) (once_number_to w32 65535 wide32) items.fits items.spelled in
     let rings = then (to_le_bytes w32) (once_number_to w32 64 wide32) descriptions.fits descriptions.spelled in
     let records = then (to_le_bytes w32) (once_number_to w32 1048576 wide32) rings.fits rings.spelled in
-    let none = then (λ _. to_le_bytes w32 0) zero_text records.fits records.spelled in
-    let e = at_done none.spelled in
-    last (cat (cat (cat (cat items.parts descriptions.parts) rings.parts) records.parts) none.parts) e.0 ∙ ap four_bytes (sym e.1)
+    let descriptors = then (to_le_bytes w32) (once_number_to w32 (most_descriptors (version_of version)) wide32) records.fits records.spelled in
+    let e = at_done descriptors.spelled in
+    record {
+      whole = last (cat (cat (cat (cat items.parts descriptions.parts) rings.parts) records.parts) descriptors.parts) e.0 ∙ ap five_counts (sym e.1);
+      version = ap (λ (c : Counts). c.version) e.1;
+    }
 
-header_counted : (magic text rest : List ℕ) (version : ℕ) (c : Counts) → magic ≡ codes "URINGTRC" → version ≡ 1 → Front text (magic ++ to_le_bytes w32 version) rest → rest ≡ four_bytes c → text ≡ counts_bytes c
-header_counted magic text rest version c e f parts g = parts.whole ∙ rw (e, f, g) refl
+-- a version that is served is the number that it was read from
+version_back : (version : ℕ) → is_served_version version ≡ true → version ≡ version_number (version_of version)
+version_back zero h = absurd cc
+version_back (suc zero) h = refl
+version_back (suc (suc zero)) h = refl
+version_back (suc (suc (suc n))) h =
+    let high = leb-true (suc (suc (suc n))) latest_version (and_true (nat_le 1 (suc (suc (suc n)))) (nat_le (suc (suc (suc n))) latest_version) h).1 in
+    absurd (omega (arith, high))
+
+header_counted : (magic text rest : List ℕ) (version : ℕ) (c : Counts) → magic ≡ codes "URINGTRC" → version ≡ version_number (version_of version) → Front text (magic ++ to_le_bytes w32 version) rest → CountsTail version rest c → text ≡ counts_bytes c
+header_counted magic text rest version c e f parts t =
+    let number : version ≡ version_number c.version = f ∙ ap version_number (sym t.version) in
+    parts.whole ∙ rw (e, number, t.whole) refl
 
 once_header : Once header counts_bytes
 unfolding header counts_tail
 once_header place text y fits s =
     let magic = at_bytes fits s in
     let version = then (to_le_bytes w32) (once_number w32 wide32) magic.fits (at_place (at_test magic.spelled)) in
-    let tail : Spelt counts_tail version.place version.rest y = at_test version.spelled in
-    header_counted magic.x text version.rest version.x y ((bytes_eq-Decides magic.x (codes "URINGTRC")).0 (test_passed magic.spelled)) (eqb-true _ _ (test_passed version.spelled)) (cat magic.parts version.parts) (once_counts_tail version.place version.rest y version.fits tail)
+    let tail : Spelt (counts_tail version.x) version.place version.rest y = at_test version.spelled in
+    header_counted magic.x text version.rest version.x y ((bytes_eq-Decides magic.x (codes "URINGTRC")).0 (test_passed magic.spelled)) (version_back version.x (test_passed version.spelled)) (cat magic.parts version.parts) (once_counts_tail version.x version.place version.rest y version.fits tail)
 
-counted_trace : (c : Counts) (t : Trace) → length t.items ≡ c.items → length t.descriptions ≡ c.descriptions → length t.rings ≡ c.rings → length t.records ≡ c.records → counts_bytes c ≡ header_bytes t
-counted_trace c t e f g h = rw (e, f, g, h) refl
+counted_trace : (c : Counts) (t : Trace) → t.version ≡ c.version → length t.items ≡ c.items → length t.descriptions ≡ c.descriptions → length t.rings ≡ c.rings → length t.records ≡ c.records → length t.descriptors ≡ c.descriptors → counts_bytes c ≡ header_bytes t
+counted_trace c t v e f g h d = rw (v, e, f, g, h, d) refl
 
 pub once_trace : Once trace trace_bytes
 unfolding trace
@@ -275,13 +287,14 @@ once_trace place text y fits s =
     let counts = then counts_bytes once_header fits s in
     let items = at_several item_bytes once_item counts.fits counts.spelled in
     let descriptions = at_several description_bytes (λ _. once_description items.x) items.fits items.spelled in
-    let rings = at_several ring_bytes (λ _. once_ring counts.x.descriptions) descriptions.fits descriptions.spelled in
+    let descriptors = at_several slot_bytes (λ _. once_slot counts.x.descriptions) descriptions.fits descriptions.spelled in
+    let rings = at_several ring_bytes (λ _. once_ring counts.x.descriptions) descriptors.fits descriptors.spelled in
     let records = at_several record_bytes (λ earlier. once_record rings.x (places_in earlier)) rings.fits rings.spelled in
     let e = at_done records.spelled in
-    let t : Trace = record { version = One; items = items.x; descriptions = descriptions.x; descriptors = []; rings = rings.x; records = records.x } in
-    let start = counted_trace counts.x t items.len descriptions.len rings.len records.len in
-    last (cat (cat (cat (cat counts.parts items.parts) descriptions.parts) rings.parts) records.parts) e.0
-    ∙ (ap (λ (h : List ℕ). h ++ flat_map item_bytes items.x ++ flat_map description_bytes descriptions.x ++ flat_map ring_bytes rings.x ++ flat_map record_bytes records.x) start ∙ ap trace_bytes (sym e.1))
+    let t : Trace = record { version = counts.x.version; items = items.x; descriptions = descriptions.x; descriptors = descriptors.x; rings = rings.x; records = records.x } in
+    let start = counted_trace counts.x t refl items.len descriptions.len rings.len records.len descriptors.len in
+    last (cat (cat (cat (cat (cat counts.parts items.parts) descriptions.parts) descriptors.parts) rings.parts) records.parts) e.0
+    ∙ (ap (λ (h : List ℕ). h ++ flat_map item_bytes items.x ++ flat_map description_bytes descriptions.x ++ flat_map slot_bytes descriptors.x ++ flat_map ring_bytes rings.x ++ flat_map record_bytes records.x) start ∙ ap trace_bytes (sym e.1))
 
 pub one_spelling : (bytes : List ℕ) (t : Trace) → IsBytes bytes → SpellsTrace bytes t → bytes ≡ trace_bytes t
 one_spelling bytes t fits s = once_trace 0 bytes t fits (record { is = s.1 })

@@ -1,16 +1,17 @@
 -- A step of a list of records is the one that its spot names.
-use Rattle.std.proofs.Common.{◌≡◌, ℕ, zero, suc, ◌+◌, ◌-◌, ◌<◌, ◌≤◌, List, [], ◌∷◌, ◌++◌, length, get_or, take, map, Option, Some, None, refl, sym, ap, ◌∙◌, subst, arith, inl, inr, length-append, append_assoc}
+use Rattle.std.proofs.Common.{◌≡◌, ℕ, zero, suc, ◌+◌, ◌-◌, ◌<◌, ◌≤◌, List, [], ◌∷◌, ◌++◌, length, get_or, take, Some, refl, sym, ap, ◌∙◌, arith, inl, inr, length-append, append_assoc}
 use Rattle.std.proofs.lemmas.List.{length-map, take_more, length-take-le}
-use Rattle.std.specs.List.{slice_get, range_with_len}
+use Rattle.std.specs.List.{slice_get}
 use Rattle.std.proofs.lemmas.Bool.{cases_lt}
 use Rattle.std.proofs.lemmas.List.FromFn.{map-range_with_len_more, length-map-range_with_len, get_or-map-range_with_len}
 use Rattle.std.proofs.lemmas.Option.{slice_get-get_or, slice_get_within, slice_get_read, slice_get-map, get_or_from_slice_get, same_Some}
 use Rattle.trace_format.specs.declared.trace.Record.{Record}
 use Rattle.trace_format.specs.declared.trace.Record.TheVariants.{Enter, Fill}
 use Rattle.trace_format.specs.declared.trace.Entry.{Entry}
+use Rattle.trace_format.specs.declared.trace.Trace.{Trace}
 use Rattle.std.specs.Option.{option_map}
 use Rattle.trace_format.specs.declared.steps.Spot.{Spot}
-use Rattle.trace_format.specs.Steps.{Step, submit, fill, record_steps, steps_from}
+use Rattle.trace_format.specs.Steps.{submit, fill, record_steps, steps_from, steps}
 use Rattle.trace_format.specs.Spots.{record_spots, spots_from}
 use Rattle.trace_format.specs.Counts.{step_count, places_in}
 
@@ -40,6 +41,10 @@ pub places_in-spots_from : (n : ℕ) (rs : List Record) → length (spots_from n
 places_in-spots_from n [] = refl
 places_in-spots_from n (r ∷ rs) =
     omega (arith, length-append (record_spots n (step_count r)) (spots_from (suc n) rs), length-record_spots n (step_count r), places_in-spots_from (suc n) rs)
+
+-- how many steps a trace has
+pub length-steps : (t : Trace) → length (steps t) ≡ places_in t.records
+length-steps t = omega (arith, length-spots_from 0 t.records, places_in-spots_from 0 t.records)
 
 append_nil : {X : Type 0} (xs : List X) → xs ++ [] ≡ xs
 append_nil [] = refl

@@ -1,8 +1,7 @@
 -- The lengths of a vector, and the places of records, one after the other.
-use Rattle.std.proofs.Common.{◌≡◌, ℕ, suc, ◌-◌, ◌+◌, ◌≤◌, ◌<◌, List, [], ◌∷◌, ◌++◌, ◌^◌, min, length, take, drop, refl, sym, ap, ◌∙◌, arith, inl, inr}
+use Rattle.std.proofs.Common.{◌≡◌, ℕ, suc, ◌-◌, ◌+◌, ◌≤◌, ◌<◌, List, [], ◌∷◌, ◌++◌, ◌^◌, min, take, drop, refl, arith, inl, inr}
 use Rattle.std.specs.Int.{w64, from_le_bytes}
 use Rattle.trace_format.specs.declared.trace.Record.{Record}
-use Rattle.trace_format.specs.declared.trace.Record.TheVariants.{Enter, Fill}
 use Rattle.std.proofs.lemmas.Bool.{le-ltb, lt-ltb, le-leb, lt-leb, cases_lt}
 use Rattle.sqe_codec.specs.declared.sqe.Sqe.{Sqe}
 use Rattle.trace_format.specs.Sides.{total, lengths_in, written_len}

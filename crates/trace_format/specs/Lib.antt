@@ -8,3 +8,7 @@ pub mod Spots
 pub mod Text
 pub mod Spelling
 pub mod Steps
+pub mod Names
+pub mod Spans
+pub mod Facts
+pub mod Sizes

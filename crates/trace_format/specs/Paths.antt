@@ -1,26 +1,14 @@
 -- Paths, and the names of the items so far.
-use Rattle.std.specs.Prelude.{ℕ, ◌==◌, Bool, true, false, ◌&&◌, ◌||◌, not, List, [], ◌∷◌, length, nat_le, if◌then◌else◌, codes, slice_get, Option, Some, None, filter}
-use Rattle.std.specs.Borrow.{Bor}
+use Rattle.std.specs.Prelude.{ℕ, ◌==◌, Bool, true, false, ◌&&◌, ◌||◌, not, List, [], ◌∷◌, length, nat_le, if◌then◌else◌, codes, filter}
 use Rattle.std.specs.List.{list_any, list_all, slice_split}
 use Rattle.std.specs.Str.{bytes_eq}
 use Rattle.trace_format.specs.declared.trace.Item.{Item}
 use Rattle.trace_format.specs.declared.trace.Node.{Node}
-use Rattle.trace_format.specs.declared.trace.Node.TheVariants.{Directory, File, OtherName}
-
--- a byte in front of the first run
-abbrev pub onto_first : ℕ → List (List ℕ) → List (List ℕ)
-onto_first b [] = []
-onto_first b (run ∷ runs) = (b ∷ run) ∷ runs
+use Rattle.trace_format.specs.declared.trace.Node.TheVariants.{Directory, File}
 
 -- the runs of bytes between slashes
 abbrev pub runs : List ℕ → List (List ℕ)
-runs [] = [] ∷ []
-runs (b ∷ bs) = if b == 47 then [] ∷ runs bs else onto_first b (runs bs)
-
--- the runs after a slash, if there is one
-abbrev pub runs_after : Option (Bor (List ℕ)) → List (List ℕ)
-runs_after None = []
-runs_after (Some rest) = runs rest.now
+runs bytes = slice_split (λ b. b == 47) bytes
 
 -- a name: 1 to 255 bytes, none of them zero, and neither of the two names that every directory has
 abbrev pub is_name : List ℕ → Bool
@@ -61,4 +49,4 @@ has_directory earlier path = length path == 0 || list_any (is_directory_at path)
 
 -- the names of a path: its runs, without the empty ones
 abbrev pub components : List ℕ → List (List ℕ)
-components path = filter (λ run. not (length run == 0)) (slice_split (λ b. b == 47) path)
+components path = filter (λ run. not (length run == 0)) (runs path)

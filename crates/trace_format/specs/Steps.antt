@@ -1,5 +1,5 @@
 -- The steps of a trace: its entries and its fills of registered buffers, in recorded order. A step's number is its place.
-use Rattle.std.specs.Prelude.{ℕ, suc, ◌+◌, List, [], ◌∷◌, ◌++◌, map, length, Option}
+use Rattle.std.specs.Prelude.{ℕ, suc, List, [], ◌∷◌, ◌++◌, map, length, Option}
 use Rattle.std.specs.List.{slice_get}
 use Rattle.trace_format.specs.declared.trace.Entry.{Entry}
 use Rattle.trace_format.specs.declared.trace.Trace.{Trace}
@@ -8,7 +8,6 @@ use Rattle.trace_format.specs.declared.trace.Record.TheVariants.{Enter, Fill}
 use Rattle.trace_format.specs.declared.steps.Action.{Action as BorrowedAction}
 use Rattle.trace_format.specs.declared.steps.Action.TheVariants as borrowed
 use Rattle.trace_format.specs.declared.steps.Step.{Step as BorrowedStep}
-use Rattle.trace_format.specs.Counts.{step_count}
 
 -- What a step does: it submits an entry, or puts bytes into a registered buffer at an offset.
 pub data Action : Type 0 where
@@ -31,13 +30,15 @@ abbrev pub steps_from : ℕ → List Record → List Step
 steps_from n [] = []
 steps_from n (r ∷ rs) = record_steps n r ++ steps_from (suc n) rs
 
+-- All steps, in recorded order.
 abbrev pub steps : Trace → List Step
 steps t = steps_from 0 t.records
 
--- How many places a trace has, and the step at one.
+-- How many places a trace has.
 abbrev pub places : Trace → ℕ
 places t = length (steps t)
 
+-- The step at a place, if there is one.
 abbrev pub step_at : Trace → ℕ → Option Step
 step_at t k = slice_get (steps t) k
 
@@ -46,5 +47,6 @@ abbrev pub action_meant : BorrowedAction → Action
 action_meant (borrowed.Submit entry) = submit entry.now
 action_meant (borrowed.Fill buffer offset bytes) = fill buffer offset bytes.now
 
+-- The same with its ring and its record.
 abbrev pub step_meant : BorrowedStep → Step
 step_meant s = record { ring = s.ring; from_record = s.record_number; action = action_meant s.action }

@@ -1,11 +1,12 @@
 -- The text of a trace, field by field.
-use Rattle.std.specs.Prelude.{◌≡◌, ℕ, ◌+◌, ◌-◌, ◌<◌, ◌≤◌, ◌⊎◌, ◌++◌, ◌==◌, ◌*◌, ◌^◌, Bool, true, false, ◌&&◌, ◌||◌, not, List, [], ◌∷◌, length, codes, slice_index, slice_get, Option, Some, None, nat_le, nat_lt, if◌then◌else◌, min}
+use Rattle.std.specs.Prelude.{◌≡◌, ℕ, ◌+◌, ◌-◌, ◌<◌, ◌≤◌, ◌⊎◌, ◌++◌, ◌==◌, ◌^◌, Bool, true, false, ◌&&◌, ◌||◌, not, List, [], length, codes, slice_get, Option, Some, None, nat_le, nat_lt, if◌then◌else◌, min}
 use Rattle.std.specs.List.{list_any}
 use Rattle.std.specs.Str.{bytes_eq}
 use Rattle.std.specs.Int.{w8, w16, w32, w64}
 use Rattle.sqe_codec.specs.Fields.{entry_of}
 use Rattle.trace_format.specs.declared.fault.Kind.TheVariants.{Magic, Version, Limit, Path, NoParent, Exists, Reference, Side, Overlap, NotYet, Trailing}
-use Rattle.trace_format.specs.declared.trace.Version.TheVariants.{One}
+use Rattle.trace_format.specs.declared.trace.Version.{Version as TraceVersion}
+use Rattle.trace_format.specs.declared.trace.Version.TheVariants.{One, Two}
 use Rattle.trace_format.specs.declared.trace.Node.{Node}
 use Rattle.trace_format.specs.declared.trace.Node.TheVariants.{Directory, File, OtherName}
 use Rattle.trace_format.specs.declared.trace.Item.{Item}
@@ -18,19 +19,30 @@ use Rattle.trace_format.specs.declared.trace.Entry.{Entry}
 use Rattle.trace_format.specs.declared.trace.Record.{Record}
 use Rattle.trace_format.specs.declared.trace.Record.TheVariants.{Enter, Fill}
 use Rattle.trace_format.specs.declared.trace.Trace.{Trace}
-use Rattle.trace_format.specs.Grammar.{Grammar, Done, Bytes, Place, Test, Choice, Then, ◌>>=◌, Spells, Breaks, fault, number, number_to, several}
+use Rattle.trace_format.specs.Grammar.{Grammar, Done, Bytes, Place, Test, Choice, ◌>>=◌, Spells, Breaks, fault, number, number_to, several}
 use Rattle.trace_format.specs.declared.fault.TraceFault.{TraceFault}
-use Rattle.trace_format.specs.Served.{is_served_item, is_served_append, is_served_record, is_served_entry}
+use Rattle.trace_format.specs.Served.{is_served_version, is_served_item, is_served_append, is_served_record, is_served_entry}
 use Rattle.trace_format.specs.Paths.{is_path, parent_of, has_name, has_directory, is_directory, is_file}
 use Rattle.trace_format.specs.Sides.{is_side_of}
 use Rattle.trace_format.specs.Counts.{places_in, places_limit}
 
--- how many of each there are
+-- the version of a number
+abbrev pub version_of : ℕ → TraceVersion
+version_of number = if number == 1 then One else Two
+
+-- how many descriptors the table has at most: the first version has no table
+abbrev pub most_descriptors : TraceVersion → ℕ
+most_descriptors One = 0
+most_descriptors Two = 1024
+
+-- the version, and how many of each there are
 pub record Counts : Type 0 where
+  pub version : TraceVersion
   pub items : ℕ
   pub descriptions : ℕ
   pub rings : ℕ
   pub records : ℕ
+  pub descriptors : ℕ
 
 -- the first 32 bytes
 unfoldable pub header : Grammar Counts
@@ -39,13 +51,13 @@ header = do
   _ ← Test (bytes_eq magic (codes "URINGTRC")) (fault Magic 0)
   place ← Place
   version ← number w32
-  _ ← Test (version == 1) (fault Version place)
+  _ ← Test (is_served_version version) (fault Version place)
   items ← number_to w32 65535
   descriptions ← number_to w32 65535
   rings ← number_to w32 64
   records ← number_to w32 1048576
-  _ ← number_to w32 0
-  Done (record { items = items; descriptions = descriptions; rings = rings; records = records })
+  descriptors ← number_to w32 (most_descriptors (version_of version))
+  Done (record { version = version_of version; items = items; descriptions = descriptions; rings = rings; records = records; descriptors = descriptors })
 
 -- the item of a number from 1 on passes the test
 abbrev pub is_item : (Node → Bool) → List Item → ℕ → Bool
@@ -82,6 +94,7 @@ new_path earlier = do
   _ ← Test (not (has_name earlier path)) (fault Exists place)
   Done path
 
+-- an initial name, after those before it
 unfoldable pub item : List Item → Grammar Item
 item earlier = do
   place ← Place
@@ -100,9 +113,11 @@ access_of n = if n == 0 then access.Read else if n == 1 then access.Write else a
 abbrev pub is_node : List Item → ℕ → Bool
 is_node items number = number == 0 || is_item (λ n. is_directory n || is_file n) items number
 
+-- a directory, the root among them
 abbrev pub is_directory_number : List Item → ℕ → Bool
 is_directory_number items number = number == 0 || is_item is_directory items number
 
+-- an open file description; that of a directory has access 0
 unfoldable pub description : List Item → Grammar Description
 description items = do
   place ← Place
@@ -129,6 +144,7 @@ slot descriptions = do
 abbrev pub overlap : Buffer → Buffer → Bool
 overlap a b = nat_lt 0 a.len && nat_lt 0 b.len && nat_lt a.address (b.address + b.len) && nat_lt b.address (a.address + a.len)
 
+-- a registered buffer that overlaps none before it
 unfoldable pub buffer : List Buffer → Grammar Buffer
 buffer earlier = do
   start ← Place
@@ -139,6 +155,7 @@ buffer earlier = do
   _ ← Test (not (list_any (λ b. overlap b (record { address = address; len = len })) earlier)) (fault Overlap start)
   Done (record { address = address; len = len })
 
+-- slots and buffers, each with their number in front
 unfoldable pub ring : ℕ → Grammar Ring
 ring descriptions = do
   n ← number_to w16 1024
@@ -178,10 +195,12 @@ buffer_len rings ring number = elim (slice_get rings ring) [
   | Some r ↦ elim (slice_get r.buffers number) [ None ↦ None | Some b ↦ Some b.len ]
 ]
 
+-- an end within a length, if there is one
 abbrev pub is_within : Option ℕ → ℕ → Bool
 is_within None end = false
 is_within (Some len) end = nat_le end len
 
+-- whether there is one
 abbrev pub is_there : Option ℕ → Bool
 is_there None = false
 is_there (Some _) = true
@@ -212,14 +231,16 @@ one_record rings used = do
   _ ← Test (kind == 1 || nat_lt used places_limit) (fault Limit place)
   Choice (kind == 1) (enter (length rings) used) (fill rings)
 
+-- a whole trace
 unfoldable pub trace : Grammar Trace
 trace = do
   counts ← header
   items ← several counts.items item []
   descriptions ← several counts.descriptions (λ _. description items) []
+  descriptors ← several counts.descriptors (λ _. slot counts.descriptions) []
   rings ← several counts.rings (λ _. ring counts.descriptions) []
   records ← several counts.records (λ earlier. one_record rings (places_in earlier)) []
-  Done (record { version = One; items = items; descriptions = descriptions; descriptors = []; rings = rings; records = records })
+  Done (record { version = counts.version; items = items; descriptions = descriptions; descriptors = descriptors; rings = rings; records = records })
 
 -- how many bytes a trace has at most
 abbrev pub longest : ℕ

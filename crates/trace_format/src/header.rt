@@ -1,23 +1,48 @@
-//! The first 32 bytes.
-ghost use Rattle.std.specs.Prelude.{◌≡◌, ◌+◌, ◌<◌, ◌^◌, ◌≤◌, length, IfOk};
+//! The header.
+ghost use Rattle.std.specs.Prelude.{◌≡◌, ◌≤◌, IfOk};
 ghost use Rattle.trace_format.specs.Counts.{places_limit};
 ghost use Rattle.trace_format.specs.Read.{Gives, reading};
-ghost use Rattle.trace_format.specs.Text.{header};
+ghost use Rattle.trace_format.specs.Text.{header, version_of, most_descriptors};
 
 use crate::fault::{Kind, ReadError, refused};
+use crate::served::serves_version;
 use crate::source::{Source, bytes_of, u32_of, u32_to};
+use crate::trace::Version;
 
+/// The version, and how many of each there are.
 #[derive(Clone, Copy)]
 pub(crate) struct Counts {
+    pub version: Version,
     pub items: u32,
     pub descriptions: u32,
     pub rings: u32,
     pub records: u32,
+    pub descriptors: u16,
+}
+
+fn version_of(number: u32) -> Version
+    ensures { result ≡ version_of number }
+{
+    if number == 1 {
+        Version::One
+    } else {
+        Version::Two
+    }
+}
+
+/// How many descriptors the table has at most.
+fn most_descriptors(version: Version) -> u32
+    ensures { result ≡ most_descriptors version }
+{
+    match version {
+        Version::One => 0,
+        Version::Two => 1024,
+    }
 }
 
 #[tactic(auto, unfolding(crate::specs::Text::header))]
 pub(crate) fn counts_of(source: Source<'_>) -> Result<(Counts, Source<'_>), ReadError>
-    ensures read { Gives (λ x. (record { items = x.0.items; descriptions = x.0.descriptions; rings = x.0.rings; records = x.0.records }, x.1.place, x.1.rest.now)) result (reading header source.entry.place source.entry.rest.now) }
+    ensures read { Gives (λ x. (record { version = x.0.version; items = x.0.items; descriptions = x.0.descriptions; rings = x.0.rings; records = x.0.records; descriptors = x.0.descriptors }, x.1.place, x.1.rest.now)) result (reading header source.entry.place source.entry.rest.now) }
     ensures records { IfOk result (λ x. x.0.records ≤ places_limit) }
 {
     let (magic, source) = bytes_of(source, 8)?;
@@ -26,20 +51,23 @@ pub(crate) fn counts_of(source: Source<'_>) -> Result<(Counts, Source<'_>), Read
     }
     let place = source.place;
     let (version, source) = u32_of(source)?;
-    if version != 1 {
+    if !serves_version(version) {
         return Err(refused(Kind::Version, place));
     }
+    let version = version_of(version);
     let (items, source) = u32_to(source, 65_535)?;
     let (descriptions, source) = u32_to(source, 65_535)?;
     let (rings, source) = u32_to(source, 64)?;
     let (records, source) = u32_to(source, 1_048_576)?;
-    let (_, source) = u32_to(source, 0)?;
+    let (descriptors, source) = u32_to(source, most_descriptors(version))?;
     Ok((
         Counts {
+            version,
             items,
             descriptions,
             rings,
             records,
+            descriptors: descriptors as u16,
         },
         source,
     ))

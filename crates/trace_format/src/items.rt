@@ -1,15 +1,17 @@
 //! The initial names.
-ghost use Rattle.std.specs.Prelude.{◌≡◌, []};
+ghost use Rattle.std.specs.Prelude.{◌≡◌, false, [], is_some, IfOk};
 ghost use Rattle.trace_format.specs.Grammar.{several};
+ghost use Rattle.trace_format.specs.Names.{KnowsNames, kind_at};
 ghost use Rattle.trace_format.specs.Paths.{is_file};
 ghost use Rattle.trace_format.specs.Read.{Gives, reading};
-ghost use Rattle.trace_format.specs.Text.{file, other_name, node, new_path, item, is_item};
+ghost use Rattle.trace_format.specs.Text.{file, other_name, node, item, is_item};
 
 use crate::fault::{Kind, ReadError, refused};
-use crate::list::{Blob, Series};
-use crate::paths::{has_directory, has_name, is_file, is_path, parent_of};
+use crate::list::Series;
+use crate::names::{Names, add_name, path_of};
+use crate::paths::{is_directory, is_file};
 use crate::served::serves_item;
-use crate::source::{Source, bytes_of, u8_of, u16_of, u32_of, u32_to, u64_to};
+use crate::source::{Source, bytes_of, u8_of, u32_of, u32_to, u64_to};
 use crate::trace::{Item, Node};
 use std::alloc::Global;
 
@@ -64,36 +66,17 @@ fn node_of<'a>(
     }
 }
 
-#[tactic(auto, unfolding(crate::specs::Text::new_path))]
-fn path_of<'a>(
-    alloc: Global,
-    items: &[Item],
-    source: Source<'a>,
-) -> Result<(Blob, Source<'a>), ReadError>
-    ensures { Gives (λ x. (x.0, x.1.place, x.1.rest.now)) result (reading (new_path items.now) source.entry.place source.entry.rest.now) }
-{
-    let (len, source) = u16_of(source)?;
-    let place = source.place;
-    let (path, source) = bytes_of(source, len as usize)?;
-    if !is_path(path) {
-        return Err(refused(Kind::Path, place));
-    }
-    if !has_directory(items, parent_of(path)) {
-        return Err(refused(Kind::NoParent, place));
-    }
-    if has_name(items, path) {
-        return Err(refused(Kind::Exists, place));
-    }
-    Ok((Series::from_vec(Vec::from_slice(alloc, path)?), source))
-}
-
 #[tactic(auto, unfolding(crate::specs::Text::item))]
 fn item_of<'a>(
     alloc: Global,
     items: &[Item],
+    names: &Names<'_>,
     source: Source<'a>,
-) -> Result<(Item, Source<'a>), ReadError>
-    ensures { Gives (λ x. (x.0, x.1.place, x.1.rest.now)) result (reading (item items.now) source.entry.place source.entry.rest.now) }
+) -> Result<(Item, &'a [u8], Source<'a>), ReadError>
+    requires { KnowsNames names.now items.now }
+    ensures read { Gives (λ x. (x.0, x.2.place, x.2.rest.now)) result (reading (item items.now) source.entry.place source.entry.rest.now) }
+    ensures path { IfOk result (λ x. x.0.path ≡ x.1.now) }
+    ensures fresh { IfOk result (λ x. is_some (kind_at names.now x.1.now) ≡ false) }
 {
     let place = source.place;
     let (kind, source) = u8_of(source)?;
@@ -103,9 +86,13 @@ fn item_of<'a>(
     if !serves_item(kind) {
         return Err(refused(Kind::NotYet, place));
     }
-    let (path, source) = path_of(alloc, items, source)?;
+    let (path, source) = path_of(names, source)?;
     let (node, source) = node_of(alloc, kind, items, source)?;
-    Ok((Item { path, node }, source))
+    let item = Item {
+        path: Series::from_vec(Vec::from_slice(alloc, path)?),
+        node,
+    };
+    Ok((item, path, source))
 }
 
 pub(crate) fn items_of(
@@ -116,9 +103,11 @@ pub(crate) fn items_of(
     ensures { Gives (λ x. (x.0.items, x.1.place, x.1.rest.now)) result (reading (several count item []) source.entry.place source.entry.rest.now) }
 {
     let mut items = Vec::new(alloc);
+    let mut names = Names::new(alloc);
     let mut source = source;
     for _ in 0..count {
-        let (item, after) = item_of(alloc, &items, source)?;
+        let (item, path, after) = item_of(alloc, &items, &names, source)?;
+        add_name(&mut names, path, is_directory(&item.node))?;
         items.push(item)?;
         source = after;
     }

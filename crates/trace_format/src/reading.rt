@@ -1,9 +1,7 @@
 //! Reading a trace.
-ghost use Rattle.std.specs.Prelude.{◌≡◌, ◌≢◌, ◌+◌, ◌<◌, ◌≤◌, ◌^◌, IfOk, IfErr, length};
-ghost use Rattle.trace_format.specs.Read.{Gives, reading};
-ghost use Rattle.std.specs.Prelude.{◌⊎◌};
+ghost use Rattle.std.specs.Prelude.{◌≡◌, ◌⊎◌, IfOk, IfErr};
 ghost use Rattle.trace_format.specs.Grammar.{fault};
-ghost use Rattle.trace_format.specs.Read.{reading_trace, fault_of};
+ghost use Rattle.trace_format.specs.Read.{Gives, reading, reading_trace, fault_of};
 ghost use Rattle.trace_format.specs.Text.{trace, SpellsTrace, IsRefusal};
 ghost use Rattle.trace_format.specs.declared.fault.Kind.TheVariants.{Memory};
 
@@ -13,9 +11,9 @@ use crate::header::counts_of;
 use crate::items::items_of;
 use crate::list::Series;
 use crate::records::records_of;
-use crate::rings::rings_of;
+use crate::rings::{rings_of, slots_of};
 use crate::source::Source;
-use crate::trace::{Trace, Version};
+use crate::trace::Trace;
 use std::alloc::Global;
 
 /// How many bytes the text of a trace has at most.
@@ -28,14 +26,15 @@ fn trace_of(alloc: Global, source: Source<'_>) -> Result<(Trace, Source<'_>), Re
     let (counts, source) = counts_of(source)?;
     let (items, source) = items_of(alloc, counts.items, source)?;
     let (descriptions, source) = descriptions_of(alloc, counts.descriptions, &items, source)?;
+    let (descriptors, source) = slots_of(alloc, counts.descriptors, counts.descriptions, source)?;
     let (rings, source) = rings_of(alloc, counts.rings, counts.descriptions, source)?;
     let (records, source) = records_of(alloc, counts.records, &rings, source)?;
     Ok((
         Trace {
-            version: Version::One,
+            version: counts.version,
             items: Series::from_vec(items),
             descriptions: Series::from_vec(descriptions),
-            descriptors: Series::from_vec(Vec::new(alloc)),
+            descriptors: Series::from_vec(descriptors),
             rings: Series::from_vec(rings),
             records,
         },
@@ -73,7 +72,12 @@ fn as_fault(error: ReadError) -> TraceFault
     }
 }
 
-/// The trace that the bytes spell.
+/// The trace that the bytes spell. It copies what it keeps, so the bytes may go.
+///
+/// # Errors
+///
+/// The first fault in reading order, and [`Kind::Memory`] at 0 where an allocation was refused. A text of
+/// more than 1,073,741,824 bytes is [`Kind::Limit`] there before all else.
 pub fn read_trace(alloc: Global, bytes: &[u8]) -> Result<Trace, TraceFault>
     // What is read is spelled so.
     ensures trace { IfOk result (λ t. SpellsTrace bytes.now t) }

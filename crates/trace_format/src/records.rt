@@ -1,5 +1,5 @@
 //! The records.
-ghost use Rattle.std.specs.Prelude.{◌≡◌, ◌≤◌, ◌<◌, ◌+◌, [], ◌∷◌, IfOk, vec_len, length};
+ghost use Rattle.std.specs.Prelude.{◌≡◌, ◌≤◌, ◌+◌, [], ◌∷◌, IfOk, vec_len};
 ghost use Rattle.trace_format.specs.Grammar.{several};
 ghost use Rattle.trace_format.specs.Read.{Gives, reading};
 ghost use Rattle.trace_format.specs.Counts.{places_in, places_limit};

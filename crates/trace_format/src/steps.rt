@@ -13,7 +13,9 @@ use std::marker::Model;
 /// What a step does: it submits an entry, or puts bytes into a registered buffer at an offset.
 #[derive(Clone, Copy)]
 pub enum Action<'a> {
+    /// Submits an entry.
     Submit(&'a Entry),
+    /// Puts the bytes into the ring's buffer of this number, from this offset in it on.
     Fill {
         buffer: u16,
         offset: u32,
@@ -24,8 +26,11 @@ pub enum Action<'a> {
 /// A step of a trace, with its ring and the number of its record.
 #[derive(Clone, Copy)]
 pub struct Step<'a> {
+    /// The number of its ring.
     pub ring: u8,
+    /// The number of its record, from 0.
     pub record_number: u32,
+    /// What it does.
     pub action: Action<'a>,
 }
 
@@ -86,7 +91,8 @@ fn add_spots(spots: &mut Vec<Spot>, record_number: u32, count: u32) -> Result<()
 }
 
 impl Records {
-    /// The records of a vector: linear in its records and steps.
+    /// The records of a vector. Its time is linear in the records and their steps, and it takes memory
+    /// for the way from each place to its step.
     pub fn from_vec(alloc: Global, items: Vec<Record>) -> Result<Self, AllocError>
         requires records { vec_len items ≤ places_limit }
         requires steps { places_in items.items ≤ places_limit }
@@ -106,7 +112,7 @@ impl Records {
         self.items.as_slice()
     }
 
-    /// How many steps the records have.
+    /// How many steps the records have: an entry each, and a fill each.
     pub fn places(&self) -> u32
         ensures places { result ≡ length (steps_from 0 self.now) }
         ensures limit { result ≤ places_limit }
@@ -114,7 +120,7 @@ impl Records {
         self.spots.len() as u32
     }
 
-    /// The step at a place.
+    /// The step at a place, in constant time.
     pub fn step(&self, place: u32) -> Step<'_>
         requires { place < length (steps_from 0 self.now) }
         ensures { slice_get (steps_from 0 self.now) place ≡ Some (step_meant result) }

@@ -1,10 +1,10 @@
-use Rattle.std.proofs.Common.{[], ◌∷◌, arith, rules, length-append}
+use Rattle.std.proofs.Common.{[], ◌∷◌, arith, length-append}
 use Rattle.std.proofs.lemmas.Result.{err_from_is_err_and}
 use Rattle.trace_format.specs.Grammar.{several}
 use Rattle.trace_format.specs.Read.{reading}
 use Rattle.trace_format.specs.Text.{one_record}
 use Rattle.trace_format.specs.Counts.{places_in}
-use Rattle.trace_format.proofs.Loops.{goes_on, ends, is_done}
+use Rattle.trace_format.proofs.Loops.{goes_on, ends}
 use Rattle.trace_format.proofs.Sums.{places_in-push}
 use Rattle.trace_format.proofs.records.records_of.Goals as goal
 

@@ -1,4 +1,4 @@
-use Rattle.std.proofs.Common.{◌≡◌, arith, length, ap, ◌∙◌, sym, take, take_all}
+use Rattle.std.proofs.Common.{◌≡◌, arith, length, ap, ◌∙◌, take, take_all}
 use Rattle.trace_format.specs.Spots.{spots_from}
 use Rattle.trace_format.proofs.Spots.{step_count-total, spots_more, places_in-spots_from}
 use Rattle.trace_format.proofs.steps.Records.from_vec.Goals as goal

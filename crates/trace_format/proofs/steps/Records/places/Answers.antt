@@ -1,4 +1,4 @@
-use Rattle.std.proofs.Common.{◌≡◌, arith, length, ap, ◌∙◌, sym}
+use Rattle.std.proofs.Common.{arith, length, ap}
 use Rattle.trace_format.proofs.Spots.{length-spots_from}
 use Rattle.trace_format.specs.Steps.{steps_from}
 use Rattle.trace_format.proofs.steps.Records.places.Goals as goal

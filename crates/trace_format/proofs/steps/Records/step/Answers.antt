@@ -1,4 +1,4 @@
-use Rattle.std.proofs.Common.{◌≡◌, arith, length, ap, ◌∙◌, sym}
+use Rattle.std.proofs.Common.{arith, ◌∙◌}
 use Rattle.trace_format.proofs.Spots.{found_here, below_spots, found_within, found_read, enter_step, fill_step}
 use Rattle.trace_format.proofs.steps.Records.step.Goals as goal
 

@@ -1,0 +1,13 @@
+pub mod Changes
+pub mod Files
+pub mod Fills
+pub mod Lines
+pub mod Listing
+pub mod Maps
+pub mod Ordered
+pub mod Outcomes
+pub mod ServedSteps
+pub mod Starts
+pub mod TextMaps
+pub mod Transfers
+pub mod Walks

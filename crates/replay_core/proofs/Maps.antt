@@ -1,0 +1,50 @@
+-- A tree of entries and the finite map that it stands for.
+use Rattle.std.proofs.Common.{◌≡◌, List, [], ◌∷◌, Some, sym, ◌∙◌, ap, refl, subst}
+use Rattle.std.specs.Prelude.{cond, Option, None, IsSome}
+use Rattle.std.specs.Map.{lookup}
+use Rattle.std.specs.declared.cmp.Ordering.{Ordering}
+use Rattle.std.specs.declared.cmp.Ordering.TheVariants.{Less, Equal, Greater}
+use Rattle.std.specs.Ordering.{eq_by_cmp, is_eq}
+use Rattle.std.specs.Cmp.{eq_by_cmp_equiv}
+use Rattle.std.specs.BTreeMap.{BTreeMap, UpdatesBy, WritesThrough, is_at}
+use Rattle.finite_maps.specs.Table.{Table, IsKeyOrder, get, assign, get-insert, get-assign, same_table}
+use Rattle.replay_core.specs.Maps.{table_of}
+
+module _ {K X : Type 0} {R : K → K → Ordering} (o : IsKeyOrder R) where
+  -- what the map has at a key
+  pub get-table_of : (es : List (K × X)) (q : K) → get (table_of o.total es) q ≡ lookup (is_at (R q)) es
+  get-table_of [] q = refl
+  get-table_of (e ∷ es) q = get-insert o.total (table_of o.total es) e.0 e.1 q ∙ ap (λ r. cond (is_at (R q) e.0) (Some e.1) r) (get-table_of es q)
+
+  -- a value that is put into the tree, or taken out, is put into the map, or taken out
+  pub seen-update : (m n : BTreeMap K X) (k : K) (w : Option X) → UpdatesBy R (R k) m n w
+      → table_of o.total n.entries ≡ assign o.total (table_of o.total m.entries) k w
+  seen-update m n k w u = same_table o _ _ (λ q.
+      get-table_of n.entries q ∙ u.0 q ∙ ap (λ b. cond b w (lookup (is_at (R q)) m.entries)) ((eq_by_cmp_equiv o.total).symm k q)
+      ∙ ap (λ r. cond (eq_by_cmp R q k) w r) (sym (get-table_of m.entries q))
+      ∙ sym (get-assign o.total (table_of o.total m.entries) k w q))
+
+  -- a map in which nothing is at a key is the map without it
+  pub absent-assign : (t : Table R X) (k : K) → get t k ≡ None → assign o.total t k None ≡ t
+  absent-assign t k e = same_table o _ _ (λ q. get-assign o.total t k None q ∙ at q (R q k) refl)
+    where
+      at : (q : K) (r : Ordering) → R q k ≡ r → cond (is_eq r) None (get t q) ≡ get t q
+      at q Less h = refl
+      at q Greater h = refl
+      at q Equal h = sym (ap (λ x. get t x) (o.same q k h) ∙ e)
+
+  pub seen-assign : (m n : BTreeMap K X) (t : Table R X) (k : K) (w : Option X) → table_of o.total m.entries ≡ t → UpdatesBy R (R k) m n w → table_of o.total n.entries ≡ assign o.total t k w
+  seen-assign m n t k w is u = seen-update m n k w u ∙ ap (λ t. assign o.total t k w) is
+
+  pub get-of : (es : List (K × X)) (t : Table R X) (q : K) → table_of o.total es ≡ t → get t q ≡ lookup (is_at (R q)) es
+  get-of es t q e = ap (λ n. get n q) (sym e) ∙ get-table_of es q
+
+  -- a value that is written through what `get_mut` lent
+  pub written_through : (m n : BTreeMap K X) (t : Table R X) (k : K) (v w : X) → table_of o.total m.entries ≡ t → WritesThrough R (R k) m w n → Some v ≡ lookup (is_at (R k)) m.entries
+      → (get t k ≡ Some v) × (table_of o.total n.entries ≡ assign o.total t k (Some w))
+  written_through m n t k v w is h e =
+      let P : Option X → Type 0 = λ r. IsSome r in
+      (get-of m.entries t k is ∙ sym e, seen-update m n k (Some w) (h.3 (subst P e refl)) ∙ ap (λ n. assign o.total n k (Some w)) is)
+
+pub not_both : {X : Type 0} (o : Option X) (x : X) → Some x ≡ o → o ≡ None → ⊥
+not_both o x e f = cc

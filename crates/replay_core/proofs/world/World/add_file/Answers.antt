@@ -1,0 +1,15 @@
+use Rattle.std.proofs.Common.{ap, ◌∙◌}
+use Rattle.finite_maps.specs.Table.{insert, number_keys}
+use Rattle.file_tree.specs.Tree.{file}
+use Rattle.replay_core.proofs.Maps.{seen-assign}
+use Rattle.replay_core.proofs.Changes.{file_made}
+use Rattle.replay_core.proofs.world.World.add_file.Goals as goal
+
+pub returns : goal.returns
+returns c =
+    let before = c.args.self.now.nodes in
+    λ i. record (c.self.view_is i) {
+      nodes = (seen-assign number_keys c.self.inside.nodes c.insert.new.self before c.args.number _ (ap (λ w. w.nodes) c.self.view_is) c.in_ok-insert.ensures.updates
+          ∙ ap (λ bs. insert number_keys.total before c.args.number (file bs)) c.in_ok-resize.ensures.items
+          ∙ file_made before c.args.number c.in_ok-bytes.bytes.items c.args.stored.now c.in_ok-bytes.bytes.len c.args.size c.in_ok-bytes.ensures.items c.in_ok-bytes.ensures.len) i;
+    }

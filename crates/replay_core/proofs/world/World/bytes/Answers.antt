@@ -1,0 +1,20 @@
+use Rattle.std.proofs.Common.{ℕ, List, [], Some, ap, sym, ◌∙◌}
+use Rattle.std.specs.Prelude.{Option, unwrap_or}
+use Rattle.std.specs.Option.{option_and_then}
+use Rattle.finite_maps.specs.Table.{number_keys}
+use Rattle.file_tree.specs.Tree.{Node, bytes_of_node}
+use Rattle.replay_core.specs.Nodes.{node_of}
+use Rattle.replay_core.proofs.Maps.{get-of}
+use Rattle.replay_core.proofs.world.World.bytes.Goals as goal
+
+abbrev held : Option Node → List ℕ
+held o = unwrap_or (option_and_then bytes_of_node o) []
+
+pub returns-in-Directory : goal.returns-in-Directory
+returns-in-Directory c = sym (ap held (get-of number_keys c.self.inside.nodes.entries c.args.self.now.nodes c.args.node (ap (λ w. w.nodes) c.self.view_is) ∙ sym c.in-Some.ensures.value ∙ ap (λ x. Some x) (sym c.found.view_is) ∙ ap (λ x. Some (node_of x)) c.in-Directory.is))
+
+pub returns-in-File : goal.returns-in-File
+returns-in-File c = c.as_slice.ensures.value ∙ sym (ap held (get-of number_keys c.self.inside.nodes.entries c.args.self.now.nodes c.args.node (ap (λ w. w.nodes) c.self.view_is) ∙ sym c.in-Some.ensures.value ∙ ap (λ x. Some x) (sym c.found.view_is) ∙ ap (λ x. Some (node_of x)) c.in-File.is))
+
+pub returns-in-None : goal.returns-in-None
+returns-in-None c = sym (ap held (get-of number_keys c.self.inside.nodes.entries c.args.self.now.nodes c.args.node (ap (λ w. w.nodes) c.self.view_is) ∙ sym c.in-None.ensures.value))

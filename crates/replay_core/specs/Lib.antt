@@ -1,0 +1,6 @@
+pub mod Answered
+pub mod Maps
+pub mod Nodes
+pub mod Pending
+pub mod Serial
+pub mod Walks

@@ -1,0 +1,205 @@
+//! What the served entries do to a world.
+ghost use Rattle.std.specs.Prelude.{◌≡◌, ◌≢◌, ◌≤◌, ◌+◌, ◌-◌, ◌^◌, ℕ, pos, List, [], IfOk, OnOk, Ok, Err, length, min, true, option_map, if◌then◌else◌};
+ghost use Rattle.entry_checks.specs.Check.{file_of, fixed_file, has};
+ghost use Rattle.entry_checks.specs.Operation.{at_position};
+ghost use Rattle.op_meaning.proofs.Alone.{served_operation};
+ghost use Rattle.op_meaning.specs.Meaning.{bytes_in, handle, held, meaning, read_meaning, readable, reply as to_reply, slot_count, writable, write_meaning};
+ghost use Rattle.op_meaning.specs.Step.{changes_of};
+ghost use Rattle.replay_core.specs.Answered.{answered, open_file, same_file};
+ghost use Rattle.sqe_codec.specs.Answers.{negated};
+ghost use Rattle.trace_format.specs.Served.{is_served_entry};
+ghost use Rattle.trace_format.specs.Sides.{most_moved};
+ghost use Rattle.world_parts.specs.World.{apply_all};
+
+use crate::world::World;
+use op_meaning::Reply;
+use sqe_codec::{Errno, Sqe};
+use std::alloc::{AllocError, Global};
+use trace_format::{Access, Description, Entry, Series, Trace};
+
+/// The most bytes that one call moves.
+const MOST_MOVED: u32 = 0x7fff_f000;
+
+/// The largest size of a file.
+const LARGEST: u64 = 1 << 40;
+
+/// The least offset that no file has.
+const REFUSED: u64 = 1 << 63;
+
+const FIXED_FILE: u8 = 1;
+
+/// Runs an entry of a ring.
+pub(crate) fn run_entry(
+    alloc: Global,
+    trace: &Trace,
+    ring: u8,
+    entry: &Entry,
+    world: &mut World,
+) -> Result<Reply, AllocError>
+    requires served { is_served_entry entry.now.sqe ≡ true }
+    requires side { length entry.now.side ≤ most_moved }
+    ensures reply { (k : ℕ) → IfOk result (λ reply. reply ≡ answered (meaning trace.now k ring world.old (served_operation entry.now))) }
+    ensures world { (k : ℕ) → OnOk result (world.new ≡ apply_all (changes_of (meaning trace.now k ring world.old (served_operation entry.now))) world.old) }
+{
+    match entry.sqe.opcode {
+        0 => Ok(moved(alloc, 0)),
+        22 => read(alloc, trace, ring, &entry.sqe, world),
+        _ => write(alloc, trace, ring, entry, world),
+    }
+}
+
+fn read(
+    alloc: Global,
+    trace: &Trace,
+    ring: u8,
+    sqe: &Sqe,
+    world: &World,
+) -> Result<Reply, AllocError>
+    requires { sqe.now.off ≢ at_position }
+    ensures { IfOk result (λ reply. reply ≡ answered (read_meaning trace.now world.now ring (file_of sqe.now) sqe.now.off (min sqe.now.len most_moved) (Ok to_reply))) }
+{
+    let file = match readable(trace, ring, sqe, world) {
+        Ok(file) => file,
+        Err(error) => return Ok(refused(alloc, error)),
+    };
+    if sqe.off >= REFUSED {
+        return Ok(refused(alloc, Errno::EINVAL));
+    }
+    let bytes = world.bytes(file.node);
+    let start = (sqe.off as usize).min(bytes.len());
+    let end = bytes.len().min(start + sqe.len.min(MOST_MOVED) as usize);
+    let taken = Vec::from_slice(alloc, &bytes[start..end])?;
+    Ok(Reply {
+        res: (end - start) as i32,
+        bytes: Series::from_vec(taken),
+        posted: true,
+    })
+}
+
+fn write(
+    alloc: Global,
+    trace: &Trace,
+    ring: u8,
+    entry: &Entry,
+    world: &mut World,
+) -> Result<Reply, AllocError>
+    requires offset { entry.now.sqe.off ≢ at_position }
+    requires side { length entry.now.side ≤ most_moved }
+    ensures reply { IfOk result (λ reply. reply ≡ answered (write_meaning trace.now world.old ring (file_of entry.now.sqe) entry.now.sqe.off (Ok entry.now.side))) }
+    ensures world { OnOk result (world.new ≡ apply_all (changes_of (write_meaning trace.now world.old ring (file_of entry.now.sqe) entry.now.sqe.off (Ok entry.now.side))) world.old) }
+{
+    let file = match writable(trace, ring, &entry.sqe, world) {
+        Ok(file) => file,
+        Err(error) => return Ok(refused(alloc, error)),
+    };
+    if entry.sqe.off >= REFUSED {
+        return Ok(refused(alloc, Errno::EINVAL));
+    }
+    let bytes = entry.side.as_slice();
+    if bytes.is_empty() {
+        return Ok(moved(alloc, 0));
+    }
+    let start = write_start(world, &file, entry.sqe.off);
+    if start >= LARGEST {
+        return Ok(refused(alloc, Errno::EFBIG));
+    }
+    let count = bytes.len().min((LARGEST - start) as usize);
+    world.write(file.node, start as usize, &bytes[..count])?;
+    Ok(moved(alloc, count))
+}
+
+/// Where a write starts: at the end of a file that is open to append.
+fn write_start(world: &World, file: &Description, offset: u64) -> u64
+    ensures { result ≡ (if file.now.append then length (bytes_in world.now file.now.node) else offset) }
+{
+    if file.append {
+        world.bytes(file.node).len() as u64
+    } else {
+        offset
+    }
+}
+
+/// The open file that an entry reads, or why it is refused.
+fn readable(trace: &Trace, ring: u8, sqe: &Sqe, world: &World) -> Result<Description, Errno>
+    ensures { same_file world.now result (readable trace.now world.now ring (file_of sqe.now)) }
+{
+    let file = opened(trace, ring, sqe, world).ok_or(Errno::EBADF)?;
+    if file.access == Access::Write {
+        return Err(Errno::EBADF);
+    }
+    if world.is_directory(file.node) {
+        return Err(Errno::EISDIR);
+    }
+    Ok(file)
+}
+
+/// The open file that an entry writes, or why it is refused.
+fn writable(trace: &Trace, ring: u8, sqe: &Sqe, world: &World) -> Result<Description, Errno>
+    ensures { same_file world.now result (writable trace.now world.now ring (file_of sqe.now)) }
+{
+    let file = opened(trace, ring, sqe, world).ok_or(Errno::EBADF)?;
+    if file.access == Access::Read {
+        return Err(Errno::EBADF);
+    }
+    Ok(file)
+}
+
+/// The open file description that an entry's file number stands for.
+fn opened(trace: &Trace, ring: u8, sqe: &Sqe, world: &World) -> Option<Description>
+    ensures { option_map (open_file world.now) result ≡ option_map (λ h. h.opened) (handle trace.now world.now ring (file_of sqe.now)) }
+{
+    world.description(held(trace, ring, sqe, world)?)
+}
+
+/// The number of that open file description: in a slot of the ring, or at a descriptor.
+fn held(trace: &Trace, ring: u8, sqe: &Sqe, world: &World) -> Option<u32>
+    ensures { result ≡ held trace.now world.now ring (has sqe.now.flags fixed_file) sqe.now.fd }
+{
+    if sqe.fd < 0 {
+        return None;
+    }
+    let number = sqe.fd as u32;
+    if sqe.flags & FIXED_FILE != 0 {
+        if (number as usize) < slot_count(trace, ring) {
+            world.slot(ring, number)
+        } else {
+            None
+        }
+    } else if (number as usize) < trace.descriptors.as_slice().len() {
+        world.descriptor(number)
+    } else {
+        None
+    }
+}
+
+/// How many registered files a ring has room for.
+fn slot_count(trace: &Trace, ring: u8) -> usize
+    ensures { result ≡ slot_count trace.now ring }
+{
+    match trace.rings.as_slice().get(ring as usize) {
+        Some(registered) => registered.slots.as_slice().len(),
+        None => 0,
+    }
+}
+
+/// The reply of a call that moved so many bytes, none of them to the caller.
+fn moved(alloc: Global, count: usize) -> Reply
+    requires { count ≤ most_moved }
+    ensures { result ≡ record { res = pos count; bytes = []; posted = true } }
+{
+    Reply {
+        res: count as i32,
+        bytes: Series::from_vec(Vec::new(alloc)),
+        posted: true,
+    }
+}
+
+fn refused(alloc: Global, error: Errno) -> Reply
+    ensures { result ≡ record { res = negated error; bytes = []; posted = true } }
+{
+    Reply {
+        res: -error.code(),
+        bytes: Series::from_vec(Vec::new(alloc)),
+        posted: true,
+    }
+}

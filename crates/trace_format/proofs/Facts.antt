@@ -1,0 +1,226 @@
+-- What the format asks of the records of a spelled trace, and of their steps.
+use Rattle.std.proofs.Common.{◌≡◌, ℕ, suc, ◌+◌, ◌<◌, ◌≤◌, true, List, [], ◌∷◌, length, Some, refl, sym, ap, subst, ◌∙◌, arith, inl, inr}
+use Rattle.std.specs.List.{All, slice_get}
+use Rattle.std.proofs.lemmas.Bool.{ltb-true, leb-true}
+use Rattle.std.proofs.lemmas.List.Elements.{All-nil, All-head, All-tail, All-append, All-push, All-map, All-weaker, All-get_or}
+use Rattle.std.proofs.lemmas.Option.{slice_get_within, slice_get_cases, get_or_from_slice_get}
+use Rattle.sqe_codec.specs.Fields.{IsEntry, entry_of}
+use Rattle.sqe_codec.proofs.Parts.{fields_fit}
+use Rattle.trace_format.specs.declared.trace.Entry.{Entry}
+use Rattle.trace_format.specs.declared.trace.Ring.{Ring}
+use Rattle.trace_format.specs.declared.trace.Record.{Record}
+use Rattle.trace_format.specs.declared.trace.Record.TheVariants.{Enter}
+use Rattle.trace_format.specs.declared.trace.Trace.{Trace}
+use Rattle.trace_format.specs.Counts.{places_in, places_limit}
+use Rattle.trace_format.specs.Facts.{SpelledFits, SpelledServed, SpelledRings, SpelledPlaces, SpelledSubmits, SpelledRanges}
+use Rattle.trace_format.specs.Grammar.{several}
+use Rattle.trace_format.specs.Served.{is_served_entry}
+use Rattle.trace_format.specs.Sides.{is_side_of}
+use Rattle.trace_format.specs.Steps.{Step, Action, submit, record_steps, steps_from, steps, step_at}
+use Rattle.trace_format.specs.Text.{entry, enter, one_record, item, description, slot, ring, header, Counts, trace, SpellsTrace, IsSpelled}
+use Rattle.trace_format.proofs.Spots.{length-steps}
+use Rattle.trace_format.proofs.Sums.{places_in-push}
+use Rattle.trace_format.proofs.Spelled.{Spelt, at_place, at_test, test_passed, at_done, at_choice}
+use Rattle.trace_format.proofs.Apart.{Keeps, AnyText, keeps_any, keeps_bytes, Own, apart, of_several, each, length-several}
+
+-- ---- records
+
+-- What the format asks of an entry, which some bytes give.
+pub record EntryFacts (B : List ℕ → Type 0) (e : Entry) : Type 0 where
+  pub bytes : List ℕ
+  pub has : B bytes
+  pub fields : e.sqe ≡ entry_of bytes
+  pub served : is_served_entry e.sqe ≡ true
+  pub fits : is_side_of e.sqe e.side ≡ true
+
+pub entry_facts : {B : List ℕ → Type 0} → Keeps B → (e : Entry) → Own B entry e → EntryFacts B e
+unfolding entry
+entry_facts {B = B} keeps y o =
+    let sqe = apart keeps o.has (at_place o.is) in
+    let len = apart keeps sqe.rest_has (at_place (at_test sqe.spelled)) in
+    let side = apart keeps len.rest_has len.spelled in
+    let e = at_done (at_test side.spelled) in
+    let made : EntryFacts B (record { sqe = entry_of sqe.x; side = side.x }) = record {
+      bytes = sqe.x;
+      has = subst B (sym sqe.own.is.is.1) sqe.own.has;
+      fields = refl;
+      served = test_passed sqe.spelled;
+      fits = test_passed side.spelled;
+    } in
+    subst (EntryFacts B) (sym e.1) made
+
+-- A record of entries, whose ring is there.
+pub record EnterFacts (B : List ℕ → Type 0) (rings : ℕ) (r : Record) : Type 0 where
+  pub ring : ℕ
+  pub entries : List Entry
+  pub is : r ≡ Enter ring entries
+  pub in_rings : ring < rings
+  pub all : All (EntryFacts B) entries
+
+-- The same where so many places come before it, within the limit.
+record EnterWithin (B : List ℕ → Type 0) (rings used : ℕ) (r : Record) : Type 0 where
+  facts : EnterFacts B rings r
+  within : used + places_in (r ∷ []) ≤ places_limit
+
+enter_within : {B : List ℕ → Type 0} → Keeps B → (rings used place : ℕ) (text : List ℕ) (r : Record) → B text → Spelt (enter rings used) place text r → EnterWithin B rings used r
+unfolding enter
+enter_within {B = B} keeps rings used place text y has s =
+    let ring = apart keeps has (at_place s) in
+    let count = apart keeps ring.rest_has (at_place (at_test ring.spelled)) in
+    let entries = apart keeps count.rest_has (at_test count.spelled) in
+    let e = at_done entries.spelled in
+    let len = length-several (λ _. entry) count.x [] entries.own.place entries.own.text entries.x entries.own.is in
+    let room : used + count.x ≤ places_limit = leb-true _ _ (test_passed count.spelled) in
+    let within : used + places_in (Enter ring.x entries.x ∷ []) ≤ places_limit = omega (arith, len, room) in
+    record {
+      facts = record {
+        ring = ring.x;
+        entries = entries.x;
+        is = e.1;
+        in_rings = ltb-true _ _ (test_passed ring.spelled);
+        all = each (EntryFacts B) (λ _. entry) keeps (λ _. entry_facts keeps) count.x entries.x entries.own;
+      };
+      within = subst (λ (r : Record). used + places_in (r ∷ []) ≤ places_limit) (sym e.1) within;
+    }
+
+-- while records of entries alone are executed, each record is one
+record_within : {B : List ℕ → Type 0} → Keeps B → (rings : List Ring) (used : ℕ) (r : Record) → Own B (one_record rings used) r → EnterWithin B (length rings) used r
+unfolding one_record
+record_within keeps rings used r o =
+    let kind = apart keeps o.has (at_place o.is) in
+    let served = test_passed (at_test kind.spelled) in
+    elim (at_choice (at_test (at_test (at_test kind.spelled)))) [
+      | inl a ↦ enter_within keeps (length rings) used kind.place kind.rest r kind.rest_has a.1
+      | inr b ↦ absurd (cc (served, b.0))
+    ]
+
+-- What the format asks of the records: none goes beyond the limit of places.
+pub record RecordsFacts (B : List ℕ → Type 0) (rings : ℕ) (records : List Record) : Type 0 where
+  pub within : places_in records ≤ places_limit
+  pub all : All (EnterFacts B rings) records
+
+pub records_facts : {B : List ℕ → Type 0} → Keeps B → (rings : List Ring) (n : ℕ) (records : List Record) → Own B (several n (λ earlier. one_record rings (places_in earlier)) []) records → RecordsFacts B (length rings) records
+records_facts {B = B} keeps rings n records o =
+    of_several (RecordsFacts B (length rings)) (λ earlier. one_record rings (places_in earlier)) keeps
+    (λ earlier r before own.
+    let more = record_within keeps rings (places_in earlier) r own in
+    record {
+      within = omega (arith, places_in-push earlier r, more.within);
+      all = All-push (EnterFacts B (length rings)) earlier r before.all more.facts;
+    })
+    n [] records (record { within = omega arith; all = All-nil (EnterFacts B (length rings)) }) o
+
+-- ---- a trace
+
+-- The parts of a spelled trace, each with its own text.
+pub record TraceParts (B : List ℕ → Type 0) (t : Trace) : Type 0 where
+  pub counts : Counts
+  pub counted : Own B header counts
+  pub version : t.version ≡ counts.version
+  pub items : Own B (several counts.items item []) t.items
+  pub descriptions : Own B (several counts.descriptions (λ _. description t.items) []) t.descriptions
+  pub descriptors : Own B (several counts.descriptors (λ _. slot counts.descriptions) []) t.descriptors
+  pub rings : Own B (several counts.rings (λ _. ring counts.descriptions) []) t.rings
+  pub records : Own B (several counts.records (λ earlier. one_record t.rings (places_in earlier)) []) t.records
+
+pub trace_parts : {B : List ℕ → Type 0} → Keeps B → (bytes : List ℕ) (t : Trace) → B bytes → SpellsTrace bytes t → TraceParts B t
+unfolding trace
+trace_parts {B = B} keeps bytes t has spells =
+    let whole : Spelt trace 0 bytes t = record { is = spells.1 } in
+    let counts = apart keeps has whole in
+    let items = apart keeps counts.rest_has counts.spelled in
+    let descriptions = apart keeps items.rest_has items.spelled in
+    let descriptors = apart keeps descriptions.rest_has descriptions.spelled in
+    let rings = apart keeps descriptors.rest_has descriptors.spelled in
+    let records = apart keeps rings.rest_has rings.spelled in
+    let e = at_done records.spelled in
+    let made : TraceParts B (record { version = counts.x.version; items = items.x; descriptions = descriptions.x; descriptors = descriptors.x; rings = rings.x; records = records.x }) = record {
+      counts = counts.x;
+      counted = counts.own;
+      version = refl;
+      items = items.own;
+      descriptions = descriptions.own;
+      descriptors = descriptors.own;
+      rings = rings.own;
+      records = records.own;
+    } in
+    subst (TraceParts B) (sym e.1) made
+
+pub trace_facts : {B : List ℕ → Type 0} → Keeps B → (bytes : List ℕ) (t : Trace) → B bytes → SpellsTrace bytes t → RecordsFacts B (length t.rings) t.records
+trace_facts keeps bytes t has spells =
+    let parts = trace_parts keeps bytes t has spells in
+    records_facts keeps t.rings parts.counts.records t.records parts.records
+
+-- ---- steps
+
+-- A step that submits an entry, on a ring that is there.
+pub record Submitted (B : List ℕ → Type 0) (rings : ℕ) (s : Step) : Type 0 where
+  pub entry : Entry
+  pub is : s.action ≡ submit entry
+  pub in_rings : s.ring < rings
+  pub facts : EntryFacts B entry
+
+enter_steps : {B : List ℕ → Type 0} (rings n : ℕ) (r : Record) → EnterFacts B rings r → All (Submitted B rings) (record_steps n r)
+enter_steps {B = B} rings n r f =
+    let step : Entry → Step = λ e. record { ring = f.ring; from_record = n; action = submit e } in
+    let each_entry : All (λ e. Submitted B rings (step e)) f.entries =
+    All-weaker (EntryFacts B) (λ e. Submitted B rings (step e)) (λ e h. record { entry = e; is = refl; in_rings = f.in_rings; facts = h }) f.entries f.all in
+    subst (λ (x : Record). All (Submitted B rings) (record_steps n x)) (sym f.is) (All-map (Submitted B rings) step f.entries each_entry)
+
+all_steps : {B : List ℕ → Type 0} (rings n : ℕ) (rs : List Record) → All (EnterFacts B rings) rs → All (Submitted B rings) (steps_from n rs)
+all_steps {B = B} rings n [] all = All-nil (Submitted B rings)
+all_steps {B = B} rings n (r ∷ rs) all =
+    All-append (Submitted B rings) (record_steps n r) (steps_from (suc n) rs) (enter_steps rings n r (All-head (EnterFacts B rings) r rs all)) (all_steps rings (suc n) rs (All-tail (EnterFacts B rings) r rs all))
+
+-- what holds of each element holds of the one at an index
+all_at : {X : Type 0} (P : X → Type 0) (xs : List X) (k : ℕ) (x : X) → All P xs → slice_get xs k ≡ Some x → P x
+all_at P xs k x all e = subst P (get_or_from_slice_get xs k x x e) (All-get_or P xs k x (slice_get_within xs k x e) all)
+
+pub submitted : {B : List ℕ → Type 0} → Keeps B → (bytes : List ℕ) (t : Trace) → B bytes → SpellsTrace bytes t → (k : ℕ) (s : Step) → step_at t k ≡ Some s → Submitted B (length t.rings) s
+submitted {B = B} keeps bytes t has spells k s e =
+    all_at (Submitted B (length t.rings)) (steps t) k s (all_steps (length t.rings) 0 t.records (trace_facts keeps bytes t has spells).all) e
+
+-- ---- the laws
+
+any_submitted : (t : Trace) → IsSpelled t → (k : ℕ) (s : Step) → step_at t k ≡ Some s → Submitted AnyText (length t.rings) s
+any_submitted t h k s here = submitted keeps_any h.0 t tt h.1 k s here
+
+-- the facts of the entry that a step submits
+entry_of_step : {B : List ℕ → Type 0} (rings : ℕ) (s : Step) (e : Entry) → Submitted B rings s → s.action ≡ submit e → EntryFacts B e
+entry_of_step {B = B} rings s e h a =
+    let same : h.entry ≡ e = cc (h.is, a) in
+    subst (EntryFacts B) same h.facts
+
+pub spelled_fits : SpelledFits
+spelled_fits t h k s e here a = (entry_of_step (length t.rings) s e (any_submitted t h k s here) a).fits
+
+pub spelled_served : SpelledServed
+spelled_served t h k s e here a = (entry_of_step (length t.rings) s e (any_submitted t h k s here) a).served
+
+pub spelled_rings : SpelledRings
+spelled_rings t h k s here = (any_submitted t h k s here).in_rings
+
+pub spelled_places : SpelledPlaces
+spelled_places t h = omega (arith, length-steps t, (trace_facts keeps_any h.0 t tt h.1).within)
+
+pub spelled_submits : SpelledSubmits
+spelled_submits t h k lt = elim (slice_get_cases (steps t) k).1 [
+  | inl found ↦
+      let s = found.0 in
+      let here = any_submitted t h k s found.2 in
+      record {
+        ring = s.ring;
+        from_record = s.from_record;
+        entry = here.entry;
+        is = found.2 ∙ ap (λ (a : Action). Some (record { ring = s.ring; from_record = s.from_record; action = a })) here.is;
+        in_rings = here.in_rings;
+        fits = here.facts.fits;
+        served = here.facts.served;
+      }
+  | inr past ↦ absurd (omega (arith, past.0))
+]
+
+pub spelled_ranges : SpelledRanges
+spelled_ranges bytes t fits spells k s e here a =
+    let facts = entry_of_step (length t.rings) s e (submitted keeps_bytes bytes t fits spells k s here) a in
+    subst IsEntry (sym facts.fields) (fields_fit facts.bytes facts.has)

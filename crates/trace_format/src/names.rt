@@ -1,0 +1,64 @@
+//! The names so far.
+ghost use Rattle.std.specs.Prelude.{◌≡◌, ◌==◌, ◌||◌, OnOk, IfOk, is_some, unwrap_or, false, length, List};
+ghost use Rattle.trace_format.specs.declared.trace.Item.{Item};
+ghost use Rattle.trace_format.specs.Names.{kind_at, AddsName, KnowsNames};
+ghost use Rattle.trace_format.specs.Read.{Gives, reading};
+ghost use Rattle.trace_format.specs.Text.{new_path};
+
+use crate::fault::{Kind, ReadError, refused};
+use crate::paths::{is_path, parent_of};
+use crate::source::{Source, bytes_of, u16_of};
+use std::alloc::AllocError;
+use std::collections::BTreeMap;
+
+/// Names, as bytes of the text, and whether each is a directory's.
+pub(crate) type Names<'a> = BTreeMap<&'a [u8], bool>;
+
+fn has_name(names: &Names<'_>, path: &[u8]) -> bool
+    ensures { result ≡ is_some (kind_at names.now path.now) }
+{
+    names.contains_key(path)
+}
+
+/// Whether the directory is there, the root with the empty path too.
+fn has_directory(names: &Names<'_>, path: &[u8]) -> bool
+    ensures { result ≡ (length path.now == 0 || unwrap_or (kind_at names.now path.now) false) }
+{
+    path.is_empty() || names.get(path).copied().unwrap_or(false)
+}
+
+/// One name more.
+pub(crate) fn add_name<'a>(
+    names: &mut Names<'a>,
+    path: &'a [u8],
+    is_directory: bool,
+) -> Result<(), AllocError>
+    ensures { OnOk result (AddsName names.old names.new path.now is_directory) }
+{
+    names.insert(path, is_directory)?;
+    Ok(())
+}
+
+/// A new name in a directory that is there.
+#[tactic(auto, unfolding(crate::specs::Text::new_path))]
+pub(crate) fn path_of<'a>(
+    names: &Names<'_>,
+    source: Source<'a>,
+) -> Result<(&'a [u8], Source<'a>), ReadError>
+    ensures read { (items : List Item) → KnowsNames names.now items → Gives (λ x. (x.0.now, x.1.place, x.1.rest.now)) result (reading (new_path items) source.entry.place source.entry.rest.now) }
+    ensures fresh { IfOk result (λ x. is_some (kind_at names.now x.0.now) ≡ false) }
+{
+    let (len, source) = u16_of(source)?;
+    let place = source.place;
+    let (path, source) = bytes_of(source, len as usize)?;
+    if !is_path(path) {
+        return Err(refused(Kind::Path, place));
+    }
+    if !has_directory(names, parent_of(path)) {
+        return Err(refused(Kind::NoParent, place));
+    }
+    if has_name(names, path) {
+        return Err(refused(Kind::Exists, place));
+    }
+    Ok((path, source))
+}

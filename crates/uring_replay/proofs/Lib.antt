@@ -1,0 +1,4 @@
+mod TransferLemmas
+mod ReportLemmas
+mod SessionLemmas
+mod WordsLemmas

@@ -1,0 +1,38 @@
+-- Texts that grow by a piece for each number or element, and the sizes that an image tells.
+use Rattle.std.proofs.Common.{◌≡◌, ℕ, zero, suc, ◌+◌, ◌<◌, List, ◌++◌, All, length, take, get_or, refl, sym, ap, ◌∙◌, arith, add-one, append_assoc, Some}
+use Rattle.std.specs.List.{flat_map, range_with_len, slice_get}
+use Rattle.std.proofs.lemmas.List.{append-nil, take_more, flat_map_more}
+use Rattle.std.proofs.lemmas.List.Elements.{All-map}
+use Rattle.trace_format.specs.declared.trace.Trace.{Trace}
+use Rattle.trace_format.specs.Steps.{Step, step_at}
+use Rattle.op_meaning.specs.declared.reply.Reply.{Reply}
+use Rattle.world_parts.specs.World.{World}
+use Rattle.world_parts.specs.Image.{image_of, name_entry, all_paths}
+use Rattle.uring_replay.specs.Report.{IsSized, place_line, step_line}
+
+-- one number more
+flat_map-range_suc : (f : ℕ → List ℕ) (a n j : ℕ) → a + n ≡ j → flat_map f (range_with_len a (suc n)) ≡ flat_map f (range_with_len a n) ++ f j
+flat_map-range_suc f a zero j e = let same : a ≡ j = omega arith in append-nil (f a) ∙ ap f same
+flat_map-range_suc f a (suc n) j e =
+    ap (λ rest. f a ++ rest) (flat_map-range_suc f (a + 1) n j (omega arith)) ∙ sym (append_assoc (f a) (flat_map f (range_with_len (a + 1) n)) (f j))
+
+-- a text with the pieces of the numbers below k, and then with that of k
+pub range_grown : (old now next : List ℕ) (f : ℕ → List ℕ) (k : ℕ) → now ≡ old ++ flat_map f (range_with_len 0 k) → next ≡ now ++ f k
+    → next ≡ old ++ flat_map f (range_with_len 0 (k + 1))
+range_grown old now next f k so_far e =
+    let more : flat_map f (range_with_len 0 (k + 1)) ≡ flat_map f (range_with_len 0 k) ++ f k = rw add-one (flat_map-range_suc f 0 k k (omega arith)) in
+    rw more (e ∙ ap (λ text. text ++ f k) so_far ∙ append_assoc old (flat_map f (range_with_len 0 k)) (f k))
+
+-- a text with the pieces of the first elements, and then with that of the next
+pub list_grown : {X : Type 0} (old now next : List ℕ) (f : X → List ℕ) (xs : List X) (i : ℕ) (d : X) → i < length xs → now ≡ old ++ flat_map f (take i xs) → next ≡ now ++ f (get_or xs i d)
+    → next ≡ old ++ flat_map f (take (i + 1) xs)
+list_grown old now next f xs i d lt so_far e = rw (take_more xs i d lt) (e ∙ ap (λ text. text ++ f (get_or xs i d)) so_far ∙ flat_map_more f old (take i xs) (get_or xs i d))
+
+-- the line of a place whose step and reply are there
+pub place_line-read : (t : Trace) (replies : List Reply) (ring place : ℕ) (step : Step) (reply : Reply) → step_at t place ≡ Some step → slice_get replies place ≡ Some reply
+    → place_line t replies ring place ≡ step_line ring place step reply
+place_line-read t replies ring place step reply stands answered = rw (stands, answered) refl
+
+-- each name of an image has the size of its file
+pub image_is_sized : (s : World) → All (IsSized s) (image_of s).names
+image_is_sized s = All-map (IsSized s) (name_entry s.nodes) (all_paths s.nodes).entries (λ k d lt. refl)

@@ -1,0 +1,5 @@
+use Rattle.uring_replay.proofs.ReportLemmas.{image_is_sized}
+use Rattle.uring_replay.proofs.report.report_text.Goals as goal
+
+pub push_names-requires : goal.push_names-requires
+push_names-requires c = rw (c.as_slice-2.ensures, c.in_ok-image.ensures) (image_is_sized c.args.replay.now.world)

@@ -1,0 +1,12 @@
+-- What a reader has left and what a writer holds, where they tell it, around one call and around many.
+use Rattle.std.specs.Prelude.{ℕ, ◌<◌, Bool, false, nat_lt, List, length, take, Option, Result, Ok, Err}
+use Rattle.std.specs.Io.KnownBytes.{Appends}
+
+-- the known bytes grew by the first bytes of the output, perhaps by none, but not by all
+abbrev pub AppendsPart : Option (List ℕ) → Option (List ℕ) → List ℕ → Type 0
+AppendsPart old new output = (n : ℕ) × (n < length output) × Appends old new (take n output)
+
+-- whether a write took something: an error and a write of no bytes are failures
+abbrev pub took_some : {E : Type 0} → Result ℕ E → Bool
+took_some (Ok n) = nat_lt 0 n
+took_some (Err e) = false

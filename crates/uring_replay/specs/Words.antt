@@ -1,0 +1,58 @@
+-- The words of the command line, and the answers to them.
+use Rattle.std.specs.Prelude.{◌≡◌, ◌⊎◌, ℕ, Bool, true, false, List, [], ◌∷◌, map, Option, Some, codes, Result, MatchResult, IsErrAnd, Contains}
+use Rattle.std.specs.Option.{option_and_then}
+use Rattle.clap.specs.Words.{App, Row, Rule, new_app, new_rule, one_of, with_rule, with_subcommand}
+use Rattle.clap.specs.Simple.{on_top}
+use Rattle.clap.specs.declared.builder.action.ArgAction.TheVariants.{SetTrue}
+use Rattle.clap.specs.declared.error.kind.ErrorKind.{ErrorKind}
+use Rattle.clap.specs.declared.error.kind.ErrorKind.TheVariants.{DisplayHelp, OutOfMemory}
+use Rattle.uring_replay.specs.declared.words.Options.{Options}
+use Rattle.uring_replay.specs.declared.words.Usage.{Usage}
+use Rattle.uring_replay.specs.declared.words.UsageKind.{UsageKind}
+use Rattle.uring_replay.specs.declared.words.UsageKind.TheVariants.{Help, Wrong, Memory}
+
+-- The words that ask for a run in recorded order, with sums or without.
+abbrev pub serial_words : Bool → List (List ℕ)
+serial_words false = codes "serial" ∷ []
+serial_words true = codes "serial" ∷ codes "--sums" ∷ []
+
+-- The words that ask for help.
+abbrev pub AskForHelp : List (List ℕ) → Type 0
+AskForHelp words = (words ≡ codes "-h" ∷ []) ⊎ (words ≡ codes "--help" ∷ [])
+
+-- The options, or want of memory.
+abbrev pub GivesOptions : Result Options Usage → Options → Type 0
+GivesOptions result options = MatchResult result (λ o. o ≡ options) (λ usage. usage.kind ≡ Memory)
+
+-- Help, or want of memory.
+abbrev pub GivesHelp : Result Options Usage → Type 0
+GivesHelp result = IsErrAnd result (λ usage. (usage.kind ≡ Help) ⊎ (usage.kind ≡ Memory))
+
+-- What an error of the command line's parser is for the user.
+abbrev pub kind_meant : ErrorKind → UsageKind
+kind_meant DisplayHelp = Help
+kind_meant OutOfMemory = Memory
+kind_meant _ = Wrong
+
+-- Options only where the parser finds no fault, and else the kind of one that it finds, or want of memory.
+abbrev pub FailsByRules : List ErrorKind → Result Options Usage → Type 0
+FailsByRules faults result = MatchResult result (λ _. faults ≡ []) (λ usage. (usage.kind ≡ Memory) ⊎ Contains (map kind_meant faults) usage.kind)
+
+-- The text that the parser has for a flag, and the one that it found for `--sums` at the subcommand.
+abbrev pub flag_text : Bool → List ℕ
+flag_text false = codes "false"
+flag_text true = codes "true"
+
+abbrev pub flag_in : Option (List ℕ × List Row) → Option (List ℕ)
+flag_in found = option_and_then (λ p. one_of (codes "sums") p.1) found
+
+-- The command line, as its parser sees it: a subcommand has to be named, and the subcommand `serial` has the flag `--sums`.
+abbrev pub sums_flag : Rule
+sums_flag = record (new_rule (codes "sums")) { long = Some (codes "sums"); action = Some SetTrue }
+
+abbrev pub serial_command : App
+serial_command = with_rule (new_app (codes "serial")) sums_flag
+
+abbrev pub replayer : App
+replayer =
+    with_subcommand (on_top (λ s. record s { no_binary_name = true; subcommand_required = true }) (new_app (codes "uring_replay"))) serial_command.top

@@ -1,0 +1,389 @@
+//! The report of a replay.
+ghost use Rattle.std.specs.Prelude.{◌≡◌, ◌++◌, ◌≤◌, All, IfOk, OnOk, Some, [], length, string_bytes, take, true, unwrap_or};
+ghost use Rattle.std.specs.List.{flat_map, range_with_len};
+ghost use Rattle.sqe_codec.specs.Answers.{each};
+ghost use Rattle.trace_format.specs.Steps.{places, step_meant};
+ghost use Rattle.world_parts.specs.World.{buffer, bytes, size};
+ghost use Rattle.uring_replay.specs.Report.{IsSized, buffer_line, buffer_sum, data_text, description_text, descriptor_line, entry_head, entry_line, entry_outcome, escaped, escaped_byte, file_sum, name_line, posting, report_of, ring_lines, slot_line, step_line, sum_text};
+
+use op_meaning::Reply;
+use replay_core::{Replay, World};
+use sha2::{Digest, Sha256};
+use std::alloc::{AllocError, Global};
+use trace_format::{Action, Step, Trace};
+use world_parts::{BufferEntry, DescriptorEntry, NameEntry, SlotEntry};
+
+/// How many bytes of a reply are shown.
+const SHOWN: usize = 32;
+
+/// The most bytes of a file whose sum is told.
+const MOST_SUMMED: u64 = 16_777_216;
+
+/// The text of the report: the entries of each ring with their replies, and what the world shows at the
+/// end. With `sums`, files of up to 16,777,216 bytes and buffers have their SHA-256 sums.
+pub fn report_text(
+    alloc: Global,
+    trace: &Trace,
+    replay: &Replay,
+    sums: bool,
+) -> Result<Vec<u8>, AllocError>
+    requires replies { length replay.now.replies ≡ places trace.now }
+    ensures { IfOk result (λ text. text.items
+        ≡ report_of trace.now replay.now.world replay.now.replies sums) }
+{
+    let image = replay.world.image(alloc)?;
+    let mut text = String::from_str(alloc, "uring-report 1\n")?;
+    push_rings(alloc, &mut text, trace, replay.replies.as_slice())?;
+    text.push_str("tree\n")?;
+    push_names(
+        alloc,
+        &mut text,
+        &replay.world,
+        image.names.as_slice(),
+        sums,
+    )?;
+    text.push_str("slots\n")?;
+    push_slots(&mut text, image.slots.as_slice())?;
+    push_descriptors(&mut text, image.descriptors.as_slice())?;
+    text.push_str("buffers\n")?;
+    push_buffers(
+        alloc,
+        &mut text,
+        &replay.world,
+        image.buffers.as_slice(),
+        sums,
+    )?;
+    text.push_str("end\n")?;
+    Ok(text.into_bytes())
+}
+
+fn push_rings(
+    alloc: Global,
+    text: &mut String,
+    trace: &Trace,
+    replies: &[Reply],
+) -> Result<(), AllocError>
+    requires { length replies.now ≡ places trace.now }
+    ensures { OnOk result (string_bytes text.new ≡ string_bytes text.old
+        ++ flat_map (ring_lines trace.now replies.now) (range_with_len 0 (length trace.now.rings))) }
+{
+    for ring in 0..trace.rings.as_slice().len() {
+        push_ring(alloc, text, ring, trace, replies)?;
+    }
+    Ok(())
+}
+
+/// The heading of a ring, and the lines of its entries.
+fn push_ring(
+    alloc: Global,
+    text: &mut String,
+    ring: usize,
+    trace: &Trace,
+    replies: &[Reply],
+) -> Result<(), AllocError>
+    requires { length replies.now ≡ places trace.now }
+    ensures { OnOk result (string_bytes text.new
+        ≡ string_bytes text.old ++ ring_lines trace.now replies.now ring) }
+{
+    writeln!(text, "ring {ring}")?;
+    for place in 0..trace.places() {
+        let reply = &replies[place as usize];
+        push_step(alloc, text, ring, place, trace.step(place), reply)?;
+    }
+    Ok(())
+}
+
+/// The line of a step, where it is an entry of the ring.
+fn push_step(
+    alloc: Global,
+    text: &mut String,
+    ring: usize,
+    place: u32,
+    step: Step<'_>,
+    reply: &Reply,
+) -> Result<(), AllocError>
+    ensures { OnOk result (string_bytes text.new
+        ≡ string_bytes text.old ++ step_line ring place (step_meant step.entry) reply.now) }
+{
+    if step.ring as usize != ring {
+        return Ok(());
+    }
+    match step.action {
+        Action::Submit(entry) => push_entry(alloc, text, place, entry.sqe.user_data, reply),
+        Action::Fill { .. } => Ok(()),
+    }
+}
+
+fn push_entry(
+    alloc: Global,
+    text: &mut String,
+    place: u32,
+    user_data: u64,
+    reply: &Reply,
+) -> Result<(), AllocError>
+    ensures { OnOk result (string_bytes text.new
+        ≡ string_bytes text.old ++ entry_line place user_data reply.now) }
+{
+    push_head(text, place, user_data, reply.res)?;
+    push_outcome(alloc, text, reply.posted, reply.bytes.as_slice())
+}
+
+fn push_head(text: &mut String, place: u32, user_data: u64, res: i32) -> Result<(), AllocError>
+    ensures { OnOk result (string_bytes text.new
+        ≡ string_bytes text.old ++ entry_head place user_data res) }
+{
+    write!(text, "{place} user={user_data} res={res} ")
+}
+
+fn push_outcome(
+    alloc: Global,
+    text: &mut String,
+    posted: bool,
+    bytes: &[u8],
+) -> Result<(), AllocError>
+    ensures { OnOk result (string_bytes text.new
+        ≡ string_bytes text.old ++ entry_outcome posted bytes.now) }
+{
+    push_posting(text, posted)?;
+    push_data(alloc, text, bytes)?;
+    text.push_str("\n")
+}
+
+fn push_posting(text: &mut String, posted: bool) -> Result<(), AllocError>
+    ensures { OnOk result (string_bytes text.new ≡ string_bytes text.old ++ posting posted) }
+{
+    if posted {
+        text.push_str("posted")
+    } else {
+        text.push_str("silent")
+    }
+}
+
+/// The bytes of a reply that has some, or the first of them.
+fn push_data(alloc: Global, text: &mut String, bytes: &[u8]) -> Result<(), AllocError>
+    ensures { OnOk result (string_bytes text.new ≡ string_bytes text.old ++ data_text bytes.now) }
+{
+    if bytes.is_empty() {
+        return Ok(());
+    }
+    if bytes.len() <= SHOWN {
+        let shown = hex::encode(alloc, bytes)?;
+        write!(text, " data={shown}")
+    } else {
+        let shown = hex::encode(alloc, first_bytes(bytes))?;
+        write!(text, " data={shown}+")
+    }
+}
+
+fn first_bytes(bytes: &[u8]) -> &[u8]
+    requires { 32 ≤ length bytes.now }
+    ensures { result.now ≡ take 32 bytes.now }
+{
+    &bytes[..SHOWN]
+}
+
+fn push_names(
+    alloc: Global,
+    text: &mut String,
+    world: &World,
+    names: &[NameEntry],
+    sums: bool,
+) -> Result<(), AllocError>
+    requires { All (IsSized world.now) names.now }
+    ensures { OnOk result (string_bytes text.new
+        ≡ string_bytes text.old ++ flat_map (name_line world.now sums) names.now) }
+{
+    for name in names {
+        push_name(alloc, text, world, name, sums)?;
+    }
+    Ok(())
+}
+
+fn push_name(
+    alloc: Global,
+    text: &mut String,
+    world: &World,
+    name: &NameEntry,
+    sums: bool,
+) -> Result<(), AllocError>
+    requires { IsSized world.now name.now }
+    ensures { OnOk result (string_bytes text.new
+        ≡ string_bytes text.old ++ name_line world.now sums name.now) }
+{
+    let path = escaped(alloc, name.path.as_slice())?;
+    let node = name.node;
+    match name.size {
+        None => writeln!(text, "dir {path}"),
+        Some(len) => {
+            write!(text, "file {path} node={node} size={len}")?;
+            push_file_sum(alloc, text, world, node, len, sums)?;
+            text.push_str("\n")
+        }
+    }
+}
+
+/// A path with its unprintable bytes by their numbers.
+fn escaped(alloc: Global, path: &[u8]) -> Result<String, AllocError>
+    ensures { IfOk result (λ text. string_bytes text ≡ escaped path.now) }
+{
+    let mut text = String::new(alloc);
+    for byte in path {
+        push_byte(alloc, &mut text, *byte)?;
+    }
+    Ok(text)
+}
+
+fn push_byte(alloc: Global, text: &mut String, byte: u8) -> Result<(), AllocError>
+    ensures { OnOk result (string_bytes text.new ≡ string_bytes text.old ++ escaped_byte byte) }
+{
+    if byte >= 0x21 && byte <= 0x7e && byte != b'\\' {
+        text.push(byte as char)
+    } else {
+        let digits = hex::encode(alloc, [byte])?;
+        write!(text, "\\x{digits}")
+    }
+}
+
+/// The sum of a file of this length, where sums are asked for. A large file isn't read.
+#[tactic(auto, unfolding(extent_bytes::specs::Bytes::range_of))]
+fn push_file_sum(
+    alloc: Global,
+    text: &mut String,
+    world: &World,
+    node: u32,
+    len: u64,
+    sums: bool,
+) -> Result<(), AllocError>
+    requires { size world.now node ≡ Some len }
+    ensures { OnOk result (string_bytes text.new
+        ≡ string_bytes text.old ++ each (file_sum sums) (bytes world.now node)) }
+{
+    if !sums {
+        return Ok(());
+    }
+    if len > MOST_SUMMED {
+        return text.push_str(" sum=large");
+    }
+    let file = world.file_bytes(alloc, node, 0, len)?;
+    push_sum(alloc, text, file.as_slice())
+}
+
+fn push_sum(alloc: Global, text: &mut String, bytes: &[u8]) -> Result<(), AllocError>
+    ensures { OnOk result (string_bytes text.new ≡ string_bytes text.old ++ sum_text bytes.now) }
+{
+    let sum = hex::encode(alloc, Sha256::digest(bytes))?;
+    write!(text, " sum={sum}")
+}
+
+fn push_slots(text: &mut String, slots: &[SlotEntry]) -> Result<(), AllocError>
+    ensures { OnOk result (string_bytes text.new
+        ≡ string_bytes text.old ++ flat_map slot_line slots.now) }
+{
+    for slot in slots {
+        push_slot(text, *slot)?;
+    }
+    Ok(())
+}
+
+fn push_slot(text: &mut String, entry: SlotEntry) -> Result<(), AllocError>
+    ensures { OnOk result (string_bytes text.new ≡ string_bytes text.old ++ slot_line entry) }
+{
+    let SlotEntry {
+        ring,
+        slot,
+        description,
+        node,
+        position,
+    } = entry;
+    write!(text, "slot {ring} {slot}")?;
+    push_description(text, description, node, position)?;
+    text.push_str("\n")
+}
+
+fn push_description(
+    text: &mut String,
+    description: u32,
+    node: u32,
+    position: u64,
+) -> Result<(), AllocError>
+    ensures { OnOk result (string_bytes text.new
+        ≡ string_bytes text.old ++ description_text description node position) }
+{
+    write!(text, " desc={description} node={node} pos={position}")
+}
+
+fn push_descriptors(text: &mut String, descriptors: &[DescriptorEntry]) -> Result<(), AllocError>
+    ensures { OnOk result (string_bytes text.new
+        ≡ string_bytes text.old ++ flat_map descriptor_line descriptors.now) }
+{
+    for descriptor in descriptors {
+        push_descriptor(text, *descriptor)?;
+    }
+    Ok(())
+}
+
+fn push_descriptor(text: &mut String, entry: DescriptorEntry) -> Result<(), AllocError>
+    ensures { OnOk result (string_bytes text.new
+        ≡ string_bytes text.old ++ descriptor_line entry) }
+{
+    let DescriptorEntry {
+        number,
+        description,
+        node,
+        position,
+    } = entry;
+    write!(text, "descriptor {number}")?;
+    push_description(text, description, node, position)?;
+    text.push_str("\n")
+}
+
+fn push_buffers(
+    alloc: Global,
+    text: &mut String,
+    world: &World,
+    buffers: &[BufferEntry],
+    sums: bool,
+) -> Result<(), AllocError>
+    ensures { OnOk result (string_bytes text.new
+        ≡ string_bytes text.old ++ flat_map (buffer_line world.now sums) buffers.now) }
+{
+    for buffer in buffers {
+        push_buffer(alloc, text, world, *buffer, sums)?;
+    }
+    Ok(())
+}
+
+fn push_buffer(
+    alloc: Global,
+    text: &mut String,
+    world: &World,
+    entry: BufferEntry,
+    sums: bool,
+) -> Result<(), AllocError>
+    ensures { OnOk result (string_bytes text.new
+        ≡ string_bytes text.old ++ buffer_line world.now sums entry) }
+{
+    let BufferEntry { ring, index, len } = entry;
+    write!(text, "buffer {ring} {index} len={len}")?;
+    push_buffer_sum(alloc, text, world, ring, index, sums)?;
+    text.push_str("\n")
+}
+
+/// The sum of a buffer, where sums are asked for.
+fn push_buffer_sum(
+    alloc: Global,
+    text: &mut String,
+    world: &World,
+    ring: u8,
+    index: u32,
+    sums: bool,
+) -> Result<(), AllocError>
+    ensures { OnOk result (string_bytes text.new
+        ≡ string_bytes text.old ++ buffer_sum sums (unwrap_or (buffer world.now ring index) [])) }
+{
+    if !sums {
+        return Ok(());
+    }
+    let taken = world.buffer_bytes(alloc, ring, index)?;
+    push_sum(alloc, text, taken.as_slice())
+}

@@ -1,0 +1,252 @@
+ghost use Rattle.std.specs.Prelude.{Some};
+
+use crate::fault::RunFault;
+use crate::session::run_alone;
+use crate::transfer::{Failed, FromStd, Sink, Source};
+use crate::words::{Mode, Options, UsageKind, read_words};
+use replay_core::ReplayFault;
+use std::alloc::Global;
+use std::io;
+use std::io::Read;
+use std::test::Fail;
+use trace_format::{Kind, TraceFault};
+
+mod examples;
+
+use examples::{
+    LONG_DATA_ODD_NAMES_AND_A_LARGE_FILE, READ_BEFORE_WRITE_PAST_END_ON_OTHER_RING,
+    READ_FOUR_BYTES, SUM_OF_A_SMALL_FILE, WRITE_PAST_END_THEN_READ_ON_OTHER_RING,
+};
+
+const SERIAL: Options = Options {
+    mode: Mode::Serial,
+    sums: false,
+};
+
+const SUMS: Options = Options {
+    mode: Mode::Serial,
+    sums: true,
+};
+
+#[test]
+fn reads_words(rt: HostRuntime) {
+    let cases: [(&[&str], Options); 2] = [
+        (["serial"].as_slice(), SERIAL),
+        (["serial", "--sums"].as_slice(), SUMS),
+    ];
+    for (words, wanted) in cases {
+        let options = read_words(rt.alloc(), words).expect(&rt, "options");
+        assert_eq!(rt; options, wanted);
+    }
+}
+
+#[test]
+fn refuses_words(rt: HostRuntime) {
+    let cases: [(&[&str], UsageKind); 5] = [
+        (["serial", "--help"].as_slice(), UsageKind::Help),
+        ([].as_slice(), UsageKind::Wrong),
+        (["parallel"].as_slice(), UsageKind::Wrong),
+        (["serial", "--sums", "trace"].as_slice(), UsageKind::Wrong),
+        (["serial", "--workers", "2"].as_slice(), UsageKind::Wrong),
+    ];
+    for (words, kind) in cases {
+        let usage = read_words(rt.alloc(), words).expect_err(&rt, "usage");
+        assert_eq!(rt; usage.kind, kind);
+        assert!(rt; !usage.text.is_empty());
+    }
+}
+
+#[test]
+fn statuses_and_lines(rt: HostRuntime) -> Result<(), Fail> {
+    let refused = TraceFault {
+        kind: Kind::NoParent,
+        at: 35,
+    };
+    let no_memory = TraceFault {
+        kind: Kind::Memory,
+        at: 0,
+    };
+    let cases = [
+        (RunFault::Trace(refused), 1, "trace refused: NoParent at 35"),
+        (RunFault::Trace(no_memory), 3, "fault: memory"),
+        (RunFault::Replay(ReplayFault::Memory), 3, "fault: memory"),
+        (RunFault::Read, 3, "fault: read"),
+        (RunFault::Write, 3, "fault: write"),
+    ];
+    for (fault, status, line) in cases {
+        assert_eq!(rt; fault.status(), status);
+        let text = fault.to_string(rt.alloc())?;
+        assert_eq!(rt; text.as_str(), line);
+    }
+    Ok(())
+}
+
+#[test]
+fn writes_reports(rt: HostRuntime) -> Result<(), Fail> {
+    let alloc = rt.alloc();
+    let cases = [
+        READ_FOUR_BYTES,
+        WRITE_PAST_END_THEN_READ_ON_OTHER_RING,
+        READ_BEFORE_WRITE_PAST_END_ON_OTHER_RING,
+        SUM_OF_A_SMALL_FILE,
+        LONG_DATA_ODD_NAMES_AND_A_LARGE_FILE,
+    ];
+    for case in cases {
+        let trace = hex::decode(alloc, case.trace).expect(&rt, "a trace");
+        for (options, report) in [(SERIAL, case.report), (SUMS, case.sums)] {
+            let mut reader = FromStd::new(trace.as_slice());
+            let mut writer = FromStd::new(Vec::new(alloc));
+            let done = run_alone(alloc, &mut reader, &mut writer, &options);
+            assert_eq!(rt; done, Ok(()));
+            assert_eq!(rt; writer.stream.as_slice(), report.as_bytes());
+        }
+    }
+    Ok(())
+}
+
+#[test]
+fn writes_nothing_for_a_refused_trace(rt: HostRuntime) -> Result<(), Fail> {
+    let alloc = rt.alloc();
+    let trace = hex::decode(alloc, READ_FOUR_BYTES.trace).expect(&rt, "a trace");
+    let mut reader = FromStd::new(trace.as_slice().get(..176).ok_or("176 bytes")?);
+    let mut writer = FromStd::new(Vec::new(alloc));
+    let done = run_alone(alloc, &mut reader, &mut writer, &SERIAL);
+    let short = TraceFault {
+        kind: Kind::Short,
+        at: 176,
+    };
+    assert_eq!(rt; done, Err(RunFault::Trace(short)));
+    assert!(rt; writer.stream.is_empty());
+    Ok(())
+}
+
+/// A reader that gives a byte a call, and fails at one call.
+#[derive(Drop)]
+struct SlowReader<'a> {
+    bytes: &'a [u8],
+    turns: u64,
+    failures: u64,
+}
+
+impl Source for SlowReader<'_> {
+    ghost left = { λ reader. Some reader.bytes.now };
+
+    ghost failures = { λ reader. reader.failures };
+
+    fn read_some(&mut self, buffer: &mut [u8]) -> Result<usize, Failed> {
+        if self.turns == 0 {
+            self.failures += 1;
+            return Err(Failed);
+        }
+        self.turns -= 1;
+        match self.bytes {
+            [first, rest @ ..] if !buffer.is_empty() => {
+                buffer[0] = *first;
+                self.bytes = rest;
+                Ok(1)
+            }
+            _ => Ok(0),
+        }
+    }
+}
+
+#[test]
+fn stops_at_a_failed_read(rt: HostRuntime) {
+    let alloc = rt.alloc();
+    let trace = hex::decode(alloc, READ_FOUR_BYTES.trace).expect(&rt, "a trace");
+    // One call for each of the 177 bytes, and one that finds the end.
+    for turns in 0..179u64 {
+        let mut reader = SlowReader {
+            bytes: trace.as_slice(),
+            turns,
+            failures: 0,
+        };
+        let mut writer = FromStd::new(Vec::new(alloc));
+        let done = run_alone(alloc, &mut reader, &mut writer, &SERIAL);
+        if turns < 178 {
+            assert_eq!(rt; done, Err(RunFault::Read));
+            assert!(rt; writer.stream.is_empty());
+        } else {
+            assert_eq!(rt; done, Ok(()));
+            assert_eq!(rt; writer.stream.as_slice(), READ_FOUR_BYTES.report.as_bytes());
+        }
+    }
+}
+
+/// A writer that takes a byte a call, and at one call fails or takes none.
+#[derive(Drop)]
+struct SlowWriter {
+    taken: Vec<u8>,
+    turns: u64,
+    takes_none: bool,
+    failures: u64,
+}
+
+impl Sink for SlowWriter {
+    ghost written = { λ writer. Some writer.taken.items };
+
+    ghost failures = { λ writer. writer.failures };
+
+    fn write_some(&mut self, bytes: &[u8]) -> Result<usize, Failed> {
+        if self.turns > 0 {
+            if let [first, ..] = bytes {
+                if self.taken.push(*first).is_ok() {
+                    self.turns -= 1;
+                    return Ok(1);
+                }
+            }
+        }
+        self.failures += 1;
+        if self.takes_none { Ok(0) } else { Err(Failed) }
+    }
+}
+
+#[test]
+fn stops_at_a_failed_write(rt: HostRuntime) -> Result<(), Fail> {
+    let alloc = rt.alloc();
+    let trace = hex::decode(alloc, READ_FOUR_BYTES.trace).expect(&rt, "a trace");
+    let report = READ_FOUR_BYTES.report.as_bytes();
+    for takes_none in [false, true] {
+        for turns in 0..report.len() + 1 {
+            let mut reader = FromStd::new(trace.as_slice());
+            let mut writer = SlowWriter {
+                taken: Vec::new(alloc),
+                turns: turns as u64,
+                takes_none,
+                failures: 0,
+            };
+            let done = run_alone(alloc, &mut reader, &mut writer, &SERIAL);
+            let front = report.get(..turns).ok_or("a front of the report")?;
+            assert_eq!(rt; writer.taken.as_slice(), front);
+            if turns < report.len() {
+                assert_eq!(rt; done, Err(RunFault::Write));
+            } else {
+                assert_eq!(rt; done, Ok(()));
+            }
+        }
+    }
+    Ok(())
+}
+
+/// A reader of std that is interrupted.
+struct Interrupted;
+
+impl Read for Interrupted {
+    fn read(&mut self, _buffer: &mut [u8]) -> io::Result<usize> {
+        Err(io::Error::from(io::ErrorKind::Interrupted))
+    }
+}
+
+#[test]
+fn takes_interrupted_for_a_failure(rt: HostRuntime) {
+    let alloc = rt.alloc();
+    let mut reader = FromStd::new(Interrupted);
+    let mut writer = FromStd::new(Vec::new(alloc));
+    let done = run_alone(alloc, &mut reader, &mut writer, &SERIAL);
+    assert_eq!(rt; done, Err(RunFault::Read));
+    assert!(rt; writer.stream.is_empty());
+    let FromStd {
+        stream: Interrupted,
+        failures: _,
+    } = reader;
+}
