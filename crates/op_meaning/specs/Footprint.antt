@@ -1,4 +1,4 @@
--- What each place reads and writes, by its row.
+-- What each place reads and writes: a row of uses for each operation.
 use Rattle.std.specs.Prelude.{ℕ, ℤ, pos, negsuc, zero, suc, Bool, true, false, not, ◌&&◌, ◌||◌, ◌==◌, ltb, leb, ◌+◌, min, List, [], ◌∷◌, ◌++◌, map, length, Option, Some, None, is_ok, if◌then◌else◌}
 use Rattle.chain_plan.specs.declared.role.Role.{Role}
 use Rattle.trace_format.specs.declared.trace.Trace.{Trace}
@@ -141,7 +141,7 @@ linkat_row s old new = path_reads s old ++ path_reads s new ++ each_ok name_writ
 abbrev pub renameat_row : World → Path → Path → Footprint
 renameat_row s old new = path_reads s old ++ path_reads s new ++ each_ok name_written (walk s.nodes old) ++ each_ok (λ (q : Place). name_written q ++ directory_names q.target) (walk s.nodes new)
 
--- The items of an operation, all written that its row writes.
+-- The uses of an operation, all written that it writes where it is accepted.
 abbrev pub row : Trace → ℕ → ℕ → World → Taken → Operation → Footprint
 row t k r s x nop = []
 row t k r s x (readv f o n) = read_row t s r f o (min n most_moved)
@@ -160,7 +160,7 @@ row t k r s x (mkdirat p) = mkdirat_row t s k x p
 row t k r s x (linkat old new) = linkat_row s old new
 row t k r s x (ftruncate f n) = ftruncate_row t s r f n
 
--- The row of an operation in a world: where the world refuses it, nothing is made and all is read.
+-- The uses of an operation in a world: where the world refuses it, nothing is made and all is read.
 abbrev pub row_in : Trace → ℕ → ℕ → World → Operation → Footprint
 row_in t k r s o =
     let ok = is_ok (meaning t k r s o) in

@@ -3,7 +3,7 @@ ghost use Rattle.std.specs.Prelude.{◌≡◌, ◌≤◌, [], ◌∷◌, Some, A
 ghost use Rattle.trace_format.specs.Paths.{components};
 ghost use Rattle.trace_format.specs.Text.{IsSpelled};
 ghost use Rattle.trace_format.specs.declared.trace.Ring.{Ring};
-ghost use Rattle.finite_maps.specs.Table.{empty, number_keys, pair_keys};
+ghost use Rattle.finite_maps.specs.Table.{number_keys, pair_keys};
 ghost use Rattle.file_tree.specs.Tree as tree;
 ghost use Rattle.file_tree.specs.Walk as walk;
 ghost use Rattle.world_parts.specs.World.{apply, apply_all, make_node, node_of, set_name, set_size, write_bytes};
@@ -19,7 +19,7 @@ use std::alloc::{AllocError, Global};
 use std::collections::BTreeMap;
 use trace_format::{Buffer, Description, Item, Node as InitialNode, Ring, Trace};
 
-/// The most bytes that a name has, as in path_resolution(7).
+/// The most bytes that a name has: `NAME_MAX` of linux/limits.h.
 const LONGEST_NAME: usize = 255;
 
 /// Where a path leads: the directory that has its last name, and that name.

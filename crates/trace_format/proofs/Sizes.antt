@@ -1,5 +1,5 @@
 -- A trace that is spelled has no more of each than the format allows.
-use Rattle.std.proofs.Common.{◌≡◌, ℕ, zero, suc, ◌+◌, ◌≤◌, Bool, true, List, [], ◌∷◌, ◌++◌, length, refl, ap, subst, sym, ◌∙◌, arith}
+use Rattle.std.proofs.Common.{◌≡◌, ℕ, zero, suc, ◌+◌, ◌≤◌, Bool, true, List, [], ◌∷◌, ◌++◌, length, ap, subst, sym, arith}
 use Rattle.std.specs.Prelude.{All}
 use Rattle.std.specs.Int.{Width, w16, w32}
 use Rattle.std.proofs.lemmas.Bool.{leb-true}
@@ -8,7 +8,7 @@ use Rattle.std.proofs.lemmas.List.Elements.{All-nil, All-push}
 use Rattle.trace_format.specs.declared.fault.TraceFault.{TraceFault}
 use Rattle.trace_format.specs.declared.trace.Ring.{Ring}
 use Rattle.trace_format.specs.declared.trace.Trace.{Trace}
-use Rattle.trace_format.specs.Grammar.{Grammar, Done, Bytes, Place, Test, Then, ◌>>=◌, Spells, number, number_to, several}
+use Rattle.trace_format.specs.Grammar.{Grammar, Done, Test, Then, Spells, number_to, several}
 use Rattle.trace_format.specs.declared.trace.Version.{Version as TraceVersion}
 use Rattle.trace_format.specs.declared.trace.Version.TheVariants.{One, Two}
 use Rattle.trace_format.specs.Text.{Counts, header, item, description, slot, buffer, ring, trace, version_of, most_descriptors, IsSpelled}

