@@ -1,6 +1,6 @@
 -- Entries that stand alone: an entry that is served so far has no link, drain or skip flag, so that it is a chain of its own and always runs.
 use Rattle.std.proofs.Common.{◌≡◌, ℕ, zero, suc, ◌+◌, ◌-◌, ◌^◌, ◌<◌, ◌≤◌, Bool, true, false, not, ltb, bit_and, [], ◌∷◌, ◌++◌, length, Option, Some, None, refl, sym, ap, ◌∙◌, arith, inl, inr, length-append, append-nil, ◌⊎◌}
-use Rattle.std.specs.Prelude.{◌||◌, ◌&&◌, ◌==◌, Ok, is_err, if◌then◌else◌, filter}
+use Rattle.std.specs.Prelude.{◌||◌, ◌&&◌, ◌==◌, Ok, is_err, filter}
 use Rattle.std.specs.List.{range_with_len}
 use Rattle.std.specs.Int.{bit_at}
 use Rattle.std.specs.Option.{option_map}
@@ -17,13 +17,14 @@ use Rattle.trace_format.specs.declared.trace.Version.{Version}
 use Rattle.trace_format.specs.Served.{is_served_entry}
 use Rattle.trace_format.specs.Sides.{is_side_of}
 use Rattle.trace_format.specs.Steps.{Step, submit, steps, places, step_at}
-use Rattle.entry_checks.specs.Operation.{Operation, nop, read, write}
-use Rattle.entry_checks.specs.Check.{Opcode, Nop, Read, Write, opcode_of, has, file_of, check, check_row, io_drain, io_hardlink, skip_success}
+use Rattle.entry_checks.specs.Operation.{Operation}
+use Rattle.entry_checks.specs.Check.{Opcode, Nop, Read, Write, opcode_of, has, check, check_row, io_drain, io_hardlink, skip_success}
 use Rattle.chain_plan.specs.declared.role.Role.{Role}
 use Rattle.chain_plan.specs.Chain.{action_passes, entry_passes, has_link, is_linked, chain_of, ahead, members, fails_check, role}
 use Rattle.world_parts.specs.World.{World, Broken, broken, apply_all}
 use Rattle.op_meaning.specs.declared.reply.Reply.{Reply}
 use Rattle.op_meaning.specs.Meaning.{meaning}
+use Rattle.op_meaning.specs.Served.{served_operation}
 use Rattle.op_meaning.specs.Step.{Turn, runs, running_turn, entry_turn, turn, failed, breaks, result_of, bytes_read, changes_of, reply_of, changes_in, step_reply, step_world, run_world, run_replies}
 
 -- A step that submits an entry that is served so far, with side bytes that fit it.
@@ -36,13 +37,6 @@ pub record ServedStep (s : Step) : Type 0 where
 -- Each step of the trace is such a step.
 pub record AllServed (t : Trace) : Type 0 where
   pub step : (k : ℕ) (s : Step) → step_at t k ≡ Some s → ServedStep s
-
--- What a served entry asks for.
-abbrev pub served_operation : Entry → Operation
-served_operation e =
-    if e.sqe.opcode == 0 then nop
-    else if e.sqe.opcode == 22 then read (file_of e.sqe) e.sqe.off e.sqe.len
-    else write (file_of e.sqe) e.sqe.off e.side
 
 -- The parts of the test of a served entry.
 pub record Served (e : Sqe) : Type 0 where

@@ -23,7 +23,8 @@ use Rattle.trace_format.specs.Text.{IsSpelled}
 use Rattle.std.proofs.lemmas.Option.{slice_get_within, same_Some}
 use Rattle.trace_format.specs.Steps.{steps}
 use Rattle.trace_format.proofs.Facts.{spelled_submits}
-use Rattle.op_meaning.proofs.Alone.{AllServed, served_parts, served_operation, step_reply-served, step_world-served}
+use Rattle.op_meaning.specs.Served.{served_operation}
+use Rattle.op_meaning.proofs.Alone.{AllServed, served_parts, step_reply-served, step_world-served}
 
 -- every entry of a spelled trace is served
 pub all_served : (t : Trace) → IsSpelled t → AllServed t

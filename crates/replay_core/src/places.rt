@@ -2,8 +2,8 @@
 ghost use Rattle.std.specs.Prelude.{◌≡◌, ◌≢◌, ◌≤◌, ◌+◌, ◌-◌, ◌^◌, ℕ, pos, List, [], IfOk, OnOk, Ok, Err, length, min, true, option_map, if◌then◌else◌};
 ghost use Rattle.entry_checks.specs.Check.{file_of, fixed_file, has};
 ghost use Rattle.entry_checks.specs.Operation.{at_position};
-ghost use Rattle.op_meaning.proofs.Alone.{served_operation};
 ghost use Rattle.op_meaning.specs.Meaning.{bytes_in, handle, held, meaning, read_meaning, readable, reply as to_reply, slot_count, writable, write_meaning};
+ghost use Rattle.op_meaning.specs.Served.{served_operation};
 ghost use Rattle.op_meaning.specs.Step.{changes_of};
 ghost use Rattle.replay_core.specs.Answered.{answered, open_file, same_file};
 ghost use Rattle.sqe_codec.specs.Answers.{negated};
