@@ -10,8 +10,9 @@ use Rattle.trace_format.specs.declared.trace.Version.{Version}
 use Rattle.trace_format.specs.declared.trace.Version.TheVariants.{One, Two}
 use Rattle.std.specs.Int.{w16, w32, from_le_bytes, cast_signed}
 use Rattle.trace_format.specs.Paths.{components}
-use Rattle.trace_format.specs.Sides.{lengths_in, total}
+pub use Rattle.trace_format.specs.Sides.{lengths_in, total, vector_is_short}
 use Rattle.sqe_codec.specs.Answers.{◌>>=◌, ◌>>◌, require}
+pub use Rattle.sqe_codec.specs.Flags.{has, fixed_file, io_drain, io_link, io_hardlink, buffer_select, skip_success}
 use Rattle.entry_checks.specs.Operation.{Operation, nop, readv, writev, fsync, read_fixed, write_fixed, fallocate, openat, close, read, write, renameat, unlinkat, mkdirat, linkat, ftruncate, File, Span, Path, OpenFlags}
 
 -- The opcodes that are served.
@@ -40,33 +41,6 @@ opcode_numbers = (0, Nop) ∷ (1, Readv) ∷ (2, Writev) ∷ (3, Fsync) ∷ (4, 
 -- The opcode of a number, if it is served.
 abbrev pub opcode_of : ℕ → Option Opcode
 opcode_of n = option_map (λ p. p.1) (find (λ p. p.0 == n) opcode_numbers)
-
--- Whether a word has the bit of a power of two.
-abbrev pub has : ℕ → ℕ → Bool
-has word bit = (word / bit) % 2 == 1
-
--- The flags of an entry.
-abbrev pub fixed_file : ℕ
-fixed_file = 1
-
-abbrev pub io_drain : ℕ
-io_drain = 2
-
-abbrev pub io_link : ℕ
-io_link = 4
-
-abbrev pub io_hardlink : ℕ
-io_hardlink = 8
-
-abbrev pub buffer_select : ℕ
-buffer_select = 32
-
-abbrev pub skip_success : ℕ
-skip_success = 64
-
--- At most 1,024 lengths, and a sum below 2^63.
-abbrev pub vector_is_short : Sqe → List ℕ → Bool
-vector_is_short e side = nat_le e.len 1024 && nat_lt (total (lengths_in e.len side)) (2 ^ 63)
 
 -- The old one of two paths, behind its length of two bytes, and the new one behind it.
 abbrev pub old_path : List ℕ → List ℕ

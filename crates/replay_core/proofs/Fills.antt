@@ -4,7 +4,7 @@ use Rattle.std.specs.Prelude.{Option, cond}
 use Rattle.std.specs.declared.cmp.Ordering.{Ordering}
 use Rattle.std.specs.Ordering.{eq_by_cmp}
 use Rattle.finite_maps.specs.Table.{Table, IsKeyOrder, empty, get, insert, get-insert, same_table}
-use Rattle.replay_core.proofs.TextMaps.{swapped, is_eq-true}
+use Rattle.finite_maps.proofs.TextMaps.{swapped, is_eq-true}
 
 module _ {K X : Type 0} {R : K → K → Ordering} (o : IsKeyOrder R) where
   -- two values at two keys may be put in either order

@@ -3,11 +3,9 @@ pub mod Files
 pub mod Fills
 pub mod Lines
 pub mod Listing
-pub mod Maps
 pub mod Ordered
 pub mod Outcomes
 pub mod ServedSteps
 pub mod Starts
-pub mod TextMaps
 pub mod Transfers
 pub mod Walks

@@ -10,7 +10,7 @@ use Rattle.std.specs.Cmp.{IsTotalOrder}
 use Rattle.std.specs.FinMap.Entries.{put, by_order}
 use Rattle.std.proofs.lemmas.Map.Keys.{sorted_head, sorted_tail}
 use Rattle.finite_maps.specs.Table.{Table, IsKeyOrder}
-use Rattle.replay_core.specs.Maps.{table_of, seen_table}
+use Rattle.finite_maps.specs.Maps.{table_of, seen_table}
 
 -- an entry below all others comes first
 put_first : {K X : Type 0} (R : K → K → Ordering) (k : K) (v : X) (es : List (K × X)) → AllByRecursion (λ y. R k y ≡ Less) (keys_of es) → put R k v es ≡ (k, v) ∷ es

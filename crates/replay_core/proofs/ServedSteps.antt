@@ -1,14 +1,12 @@
 -- A place of a trace that is served.
-use Rattle.std.proofs.Common.{◌≡◌, ℕ, zero, suc, ◌<◌, ◌≤◌, Some, true, length, List, [], ◌∷◌, ◌++◌, ◌+◌, add-one, ap, sym, ◌∙◌, min, inl, inr, arith}
-use Rattle.std.proofs.lemmas.Bool.{eqb-true}
-use Rattle.std.specs.Prelude.{Result, OnOk, IfOk}
+use Rattle.std.proofs.Common.{◌≡◌, ℕ, zero, suc, ◌<◌, ◌≤◌, Some, true, List, [], ◌∷◌, ◌++◌, ◌+◌, add-one, ap, sym, ◌∙◌, arith}
+use Rattle.std.specs.Prelude.{Result, Ok, OnOk, IfOk}
 use Rattle.std.specs.Borrow.{Bor}
 use Rattle.std.specs.declared.alloc.AllocError.{AllocError}
 use Rattle.trace_format.specs.declared.steps.Step as borrowed
 use Rattle.trace_format.specs.declared.steps.Action.TheVariants as actions
 use Rattle.trace_format.specs.Steps.{Step, submit, fill, step_at, step_meant, action_meant}
 use Rattle.op_meaning.specs.declared.reply.Reply.{Reply}
-use Rattle.op_meaning.specs.Meaning.{meaning}
 use Rattle.op_meaning.specs.Step.{step_reply, step_world, changes_of, run_world, run_replies}
 use Rattle.sqe_codec.specs.Answers.{each}
 use Rattle.std.specs.List.{range_with_len}
@@ -18,33 +16,16 @@ use Rattle.replay_core.proofs.Outcomes.{on_ok, if_ok}
 use Rattle.trace_format.specs.declared.trace.Trace.{Trace}
 use Rattle.trace_format.specs.declared.trace.Entry.{Entry}
 use Rattle.trace_format.specs.Served.{is_served_entry}
-use Rattle.trace_format.specs.Sides.{is_side_of, most_moved}
-use Rattle.trace_format.specs.Text.{IsSpelled}
+use Rattle.trace_format.specs.declared.trace.Version.{Version}
+use Rattle.trace_format.specs.Sides.{is_side_of}
+use Rattle.entry_checks.specs.declared.operation.Op.{Op}
+use Rattle.entry_checks.specs.Answer.{answer}
+use Rattle.entry_checks.specs.Check.{check}
+use Rattle.entry_checks.specs.Meant.{meant}
 use Rattle.std.proofs.lemmas.Option.{slice_get_within, same_Some}
 use Rattle.trace_format.specs.Steps.{steps}
-use Rattle.trace_format.proofs.Facts.{spelled_submits}
-use Rattle.op_meaning.specs.Served.{served_operation}
-use Rattle.op_meaning.proofs.Alone.{AllServed, served_parts, step_reply-served, step_world-served}
-
--- every entry of a spelled trace is served
-pub all_served : (t : Trace) → IsSpelled t → AllServed t
-all_served t h = record {
-  step = λ k s at.
-      let there = spelled_submits t h k (slice_get_within (steps t) k s at) in
-      let same : s ≡ record { ring = there.ring; from_record = there.from_record; action = submit there.entry } = same_Some _ _ (sym at ∙ there.is) in
-      record { entry = there.entry; submits = ap (λ (x : Step). x.action) same; served = there.served; side = there.fits };
-}
-
--- an entry that is served has at most as many bytes beside it as one call moves
-pub short_side : (e : Entry) → is_served_entry e.sqe ≡ true → is_side_of e.sqe e.side ≡ true → length e.side ≤ most_moved
-unfolding is_side_of
-short_side e served side = elim (served_parts e.sqe served).opcode [
-  | inl nop ↦ let none = eqb-true (length e.side) 0 (rw nop at side) in omega (arith, none)
-  | inr moves ↦ elim moves [
-    | inl read ↦ let none = eqb-true (length e.side) 0 (rw read at side) in omega (arith, none)
-    | inr write ↦ let whole = eqb-true (length e.side) (min e.sqe.len most_moved) (rw write at side) in omega (arith, whole)
-  ]
-]
+use Rattle.op_meaning.specs.Served.{served_outcome}
+use Rattle.op_meaning.proofs.Alone.{AllServed, IsServed, served_check, step_reply-served, step_world-served}
 
 -- the step at a place, where what it submits is known
 pub submitted : (t : Trace) (k : ℕ) (s : borrowed.Step) (e : Bor Entry) → step_at t k ≡ Some (step_meant s) → s.action ≡ actions.Submit e
@@ -54,18 +35,22 @@ submitted t k s e at is = at ∙ ap (λ a. Some (record { ring = s.ring; from_re
 -- no step fills a buffer
 pub fills_nothing : (t : Trace) → AllServed t → (k : ℕ) (s : borrowed.Step) (buffer offset : ℕ) (bytes : Bor (List ℕ)) → step_at t k ≡ Some (step_meant s) → s.action ≡ actions.Fill buffer offset bytes → ⊥
 fills_nothing t all k s buffer offset bytes at is =
-    let served = all.step k (step_meant s) at in
-    let e : action_meant s.action ≡ submit served.entry = served.submits in
+    let served = all k (slice_get_within (steps t) k _ at) in
+    let e : action_meant s.action ≡ submit served.entry = ap (λ (x : Step). x.action) (same_Some _ _ (sym at ∙ served.is)) in
     let f : fill buffer offset bytes.now ≡ submit served.entry = sym (ap action_meant is) ∙ e in
     cc
 
-pub replied : (r : Result Reply AllocError) (t : Trace) → AllServed t → (k ring n : ℕ) (e : Entry) (s : World) → step_at t k ≡ Some (record { ring = ring; from_record = n; action = submit e }) → e.sqe.flags < 256
-    → IfOk r (λ reply. reply ≡ answered (meaning t k ring s (served_operation e))) → IfOk r (λ reply. Some reply ≡ step_reply t k s)
-replied r t all k ring n e s at flags h = if_ok r (λ reply is. ap Some is ∙ sym (step_reply-served t all k ring n e s at flags)) h
+-- what an operation that passed its tests asks for
+pub asks_served : (v : Version) (e : Entry) (op : Op) → is_served_entry e.sqe ≡ true → is_side_of e.sqe e.side ≡ true → answer (Ok op) ≡ check v e → IsServed (meant op)
+asks_served v e op served side h = served_check v e (meant op) served side (sym h)
 
-pub stepped : (r : Result Reply AllocError) (t : Trace) → AllServed t → (k ring n : ℕ) (e : Entry) (s after : World) → step_at t k ≡ Some (record { ring = ring; from_record = n; action = submit e }) → e.sqe.flags < 256
-    → OnOk r (after ≡ apply_all (changes_of (meaning t k ring s (served_operation e))) s) → OnOk r (after ≡ step_world t k s)
-stepped r t all k ring n e s after at flags h = on_ok r (λ is. is ∙ sym (step_world-served t all k ring n e s at flags)) h
+pub replied : (r : Result Reply AllocError) (t : Trace) → AllServed t → (k ring n : ℕ) (e : Entry) (s : World) → step_at t k ≡ Some (record { ring = ring; from_record = n; action = submit e })
+    → IfOk r (λ reply. reply ≡ answered (served_outcome t k ring s e)) → IfOk r (λ reply. Some reply ≡ step_reply t k s)
+replied r t all k ring n e s at h = if_ok r (λ reply is. ap Some is ∙ sym (step_reply-served t all k ring n e s at)) h
+
+pub stepped : (r : Result Reply AllocError) (t : Trace) → AllServed t → (k ring n : ℕ) (e : Entry) (s after : World) → step_at t k ≡ Some (record { ring = ring; from_record = n; action = submit e })
+    → OnOk r (after ≡ apply_all (changes_of (served_outcome t k ring s e)) s) → OnOk r (after ≡ step_world t k s)
+stepped r t all k ring n e s after at h = on_ok r (λ is. is ∙ sym (step_world-served t all k ring n e s at)) h
 
 -- one place more of the sequential run
 pub run_world-more : (t : Trace) (k : ℕ) (s after : World) → s ≡ run_world t k → after ≡ step_world t k s → after ≡ run_world t (k + 1)

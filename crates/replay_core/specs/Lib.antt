@@ -1,5 +1,4 @@
 pub mod Answered
-pub mod Maps
 pub mod Nodes
 pub mod Pending
 pub mod Serial

@@ -3,7 +3,7 @@ ghost use Rattle.std.specs.Prelude.{◌≡◌, ◌≤◌, [], ◌∷◌, ◌++�
 ghost use Rattle.std.specs.Option.{option_copied};
 ghost use Rattle.extent_bytes.specs.Bytes.{range_of};
 ghost use Rattle.finite_maps.specs.Table.{text_keys};
-ghost use Rattle.replay_core.specs.Maps.{seen_table};
+ghost use Rattle.finite_maps.specs.Maps.{seen_table};
 ghost use Rattle.replay_core.specs.Pending.{paths_pending};
 ghost use Rattle.world_parts.specs.Image.{all_paths, image_of, paths_below};
 ghost use Rattle.world_parts.specs.World.{buffer, bytes};

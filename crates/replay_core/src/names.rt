@@ -16,8 +16,8 @@ pub(crate) struct Names {
 impl Model for Names {
     ghost use Rattle.file_tree.specs.Tree.{Names};
     ghost use Rattle.finite_maps.specs.Table.{text_keys};
-    ghost use Rattle.replay_core.specs.Maps.{seen_table};
-    ghost use Rattle.world_parts.specs.Codes.{names_code};
+    ghost use Rattle.finite_maps.specs.Maps.{seen_table};
+    ghost use Rattle.file_tree.specs.Codes.{names_code};
 
     ghost Value = { Names };
 

@@ -23,7 +23,7 @@ pub(crate) struct Node {
 impl Model for Node {
     ghost use Rattle.file_tree.specs.Tree.{Node};
     ghost use Rattle.replay_core.specs.Nodes.{node_of};
-    ghost use Rattle.world_parts.specs.Codes.{node_code};
+    ghost use Rattle.file_tree.specs.Codes.{node_code};
 
     ghost Value = { Node };
 

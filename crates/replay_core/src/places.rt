@@ -1,19 +1,20 @@
 //! What the served entries do to a world.
-ghost use Rattle.std.specs.Prelude.{◌≡◌, ◌≢◌, ◌≤◌, ◌+◌, ◌-◌, ◌^◌, ℕ, pos, List, [], IfOk, OnOk, Ok, Err, length, min, true, option_map, if◌then◌else◌};
-ghost use Rattle.entry_checks.specs.Check.{file_of, fixed_file, has};
-ghost use Rattle.entry_checks.specs.Operation.{at_position};
+ghost use Rattle.std.specs.Prelude.{◌≡◌, ◌≢◌, ◌≤◌, ◌+◌, ◌-◌, ◌^◌, ℕ, pos, List, [], IfOk, IfSome, OnOk, Ok, Err, length, min, true, option_map, if◌then◌else◌};
+ghost use Rattle.entry_checks.specs.Meant.{file_meant, meant};
+ghost use Rattle.entry_checks.specs.Operation.{asked, at_position};
 ghost use Rattle.op_meaning.specs.Meaning.{bytes_in, handle, held, meaning, read_meaning, readable, reply as to_reply, slot_count, writable, write_meaning};
-ghost use Rattle.op_meaning.specs.Served.{served_operation};
+ghost use Rattle.op_meaning.specs.Served.{is_served_operation, served_outcome};
 ghost use Rattle.op_meaning.specs.Step.{changes_of};
 ghost use Rattle.replay_core.specs.Answered.{answered, open_file, same_file};
 ghost use Rattle.sqe_codec.specs.Answers.{negated};
 ghost use Rattle.trace_format.specs.Served.{is_served_entry};
-ghost use Rattle.trace_format.specs.Sides.{most_moved};
+ghost use Rattle.trace_format.specs.Sides.{is_side_of, most_moved};
 ghost use Rattle.world_parts.specs.World.{apply_all};
 
 use crate::world::World;
+use entry_checks::{FileNumber, Op, check};
 use op_meaning::Reply;
-use sqe_codec::{Errno, Sqe};
+use sqe_codec::Errno;
 use std::alloc::{AllocError, Global};
 use trace_format::{Access, Description, Entry, Series, Trace};
 
@@ -26,9 +27,7 @@ const LARGEST: u64 = 1 << 40;
 /// The least offset that no file has.
 const REFUSED: u64 = 1 << 63;
 
-const FIXED_FILE: u8 = 1;
-
-/// Runs an entry of a ring.
+/// Runs an entry of a ring, or refuses it by the tests of its submission.
 pub(crate) fn run_entry(
     alloc: Global,
     trace: &Trace,
@@ -37,14 +36,42 @@ pub(crate) fn run_entry(
     world: &mut World,
 ) -> Result<Reply, AllocError>
     requires served { is_served_entry entry.now.sqe ≡ true }
-    requires side { length entry.now.side ≤ most_moved }
-    ensures reply { (k : ℕ) → IfOk result (λ reply. reply ≡ answered (meaning trace.now k ring world.old (served_operation entry.now))) }
-    ensures world { (k : ℕ) → OnOk result (world.new ≡ apply_all (changes_of (meaning trace.now k ring world.old (served_operation entry.now))) world.old) }
+    requires side { is_side_of entry.now.sqe entry.now.side ≡ true }
+    ensures reply { (k : ℕ) → IfOk result (λ reply. reply ≡ answered (served_outcome trace.now k ring world.old entry.now)) }
+    ensures world { (k : ℕ) → OnOk result (world.new ≡ apply_all (changes_of (served_outcome trace.now k ring world.old entry.now)) world.old) }
 {
-    match entry.sqe.opcode {
-        0 => Ok(moved(alloc, 0)),
-        22 => read(alloc, trace, ring, &entry.sqe, world),
-        _ => write(alloc, trace, ring, entry, world),
+    match check(entry, trace.version) {
+        Ok(op) => run_operation(alloc, trace, ring, op, world),
+        Err(error) => Ok(refused(alloc, error)),
+    }
+}
+
+fn run_operation(
+    alloc: Global,
+    trace: &Trace,
+    ring: u8,
+    op: Op<'_>,
+    world: &mut World,
+) -> Result<Reply, AllocError>
+    requires served { is_served_operation (meant op) ≡ true }
+    requires short { IfSome (asked (meant op)) (λ n. n ≤ most_moved) }
+    ensures reply { (k : ℕ) → IfOk result (λ reply. reply ≡ answered (meaning trace.now k ring world.old (meant op.entry))) }
+    ensures world { (k : ℕ) → OnOk result (world.new ≡ apply_all (changes_of (meaning trace.now k ring world.old (meant op.entry))) world.old) }
+{
+    match op {
+        Op::Nop => Ok(moved(alloc, 0)),
+        Op::Read {
+            file,
+            offset,
+            total,
+        } => read(alloc, trace, ring, file, offset, total, world),
+        Op::Write {
+            file,
+            offset,
+            bytes,
+        } => write(alloc, trace, ring, file, offset, bytes, world),
+        // No trace with another operation is accepted yet.
+        _ => unreachable!(),
     }
 }
 
@@ -52,22 +79,24 @@ fn read(
     alloc: Global,
     trace: &Trace,
     ring: u8,
-    sqe: &Sqe,
+    file: FileNumber,
+    offset: u64,
+    total: u32,
     world: &World,
 ) -> Result<Reply, AllocError>
-    requires { sqe.now.off ≢ at_position }
-    ensures { IfOk result (λ reply. reply ≡ answered (read_meaning trace.now world.now ring (file_of sqe.now) sqe.now.off (min sqe.now.len most_moved) (Ok to_reply))) }
+    requires { offset ≢ at_position }
+    ensures { IfOk result (λ reply. reply ≡ answered (read_meaning trace.now world.now ring (file_meant file) offset (min total most_moved) (Ok to_reply))) }
 {
-    let file = match readable(trace, ring, sqe, world) {
+    let file = match readable(trace, ring, file, world) {
         Ok(file) => file,
         Err(error) => return Ok(refused(alloc, error)),
     };
-    if sqe.off >= REFUSED {
+    if offset >= REFUSED {
         return Ok(refused(alloc, Errno::EINVAL));
     }
     let bytes = world.bytes(file.node);
-    let start = (sqe.off as usize).min(bytes.len());
-    let end = bytes.len().min(start + sqe.len.min(MOST_MOVED) as usize);
+    let start = (offset as usize).min(bytes.len());
+    let end = bytes.len().min(start + total.min(MOST_MOVED) as usize);
     let taken = Vec::from_slice(alloc, &bytes[start..end])?;
     Ok(Reply {
         res: (end - start) as i32,
@@ -80,26 +109,27 @@ fn write(
     alloc: Global,
     trace: &Trace,
     ring: u8,
-    entry: &Entry,
+    file: FileNumber,
+    offset: u64,
+    bytes: &[u8],
     world: &mut World,
 ) -> Result<Reply, AllocError>
-    requires offset { entry.now.sqe.off ≢ at_position }
-    requires side { length entry.now.side ≤ most_moved }
-    ensures reply { IfOk result (λ reply. reply ≡ answered (write_meaning trace.now world.old ring (file_of entry.now.sqe) entry.now.sqe.off (Ok entry.now.side))) }
-    ensures world { OnOk result (world.new ≡ apply_all (changes_of (write_meaning trace.now world.old ring (file_of entry.now.sqe) entry.now.sqe.off (Ok entry.now.side))) world.old) }
+    requires offset { offset ≢ at_position }
+    requires short { length bytes.now ≤ most_moved }
+    ensures reply { IfOk result (λ reply. reply ≡ answered (write_meaning trace.now world.old ring (file_meant file) offset (Ok bytes.now))) }
+    ensures world { OnOk result (world.new ≡ apply_all (changes_of (write_meaning trace.now world.old ring (file_meant file) offset (Ok bytes.now))) world.old) }
 {
-    let file = match writable(trace, ring, &entry.sqe, world) {
+    let file = match writable(trace, ring, file, world) {
         Ok(file) => file,
         Err(error) => return Ok(refused(alloc, error)),
     };
-    if entry.sqe.off >= REFUSED {
+    if offset >= REFUSED {
         return Ok(refused(alloc, Errno::EINVAL));
     }
-    let bytes = entry.side.as_slice();
     if bytes.is_empty() {
         return Ok(moved(alloc, 0));
     }
-    let start = write_start(world, &file, entry.sqe.off);
+    let start = write_start(world, &file, offset);
     if start >= LARGEST {
         return Ok(refused(alloc, Errno::EFBIG));
     }
@@ -119,11 +149,11 @@ fn write_start(world: &World, file: &Description, offset: u64) -> u64
     }
 }
 
-/// The open file that an entry reads, or why it is refused.
-fn readable(trace: &Trace, ring: u8, sqe: &Sqe, world: &World) -> Result<Description, Errno>
-    ensures { same_file world.now result (readable trace.now world.now ring (file_of sqe.now)) }
+/// The open file that a read is from, or why it is refused.
+fn readable(trace: &Trace, ring: u8, file: FileNumber, world: &World) -> Result<Description, Errno>
+    ensures { same_file world.now result (readable trace.now world.now ring (file_meant file)) }
 {
-    let file = opened(trace, ring, sqe, world).ok_or(Errno::EBADF)?;
+    let file = opened(trace, ring, file, world).ok_or(Errno::EBADF)?;
     if file.access == Access::Write {
         return Err(Errno::EBADF);
     }
@@ -133,33 +163,33 @@ fn readable(trace: &Trace, ring: u8, sqe: &Sqe, world: &World) -> Result<Descrip
     Ok(file)
 }
 
-/// The open file that an entry writes, or why it is refused.
-fn writable(trace: &Trace, ring: u8, sqe: &Sqe, world: &World) -> Result<Description, Errno>
-    ensures { same_file world.now result (writable trace.now world.now ring (file_of sqe.now)) }
+/// The open file that a write is to, or why it is refused.
+fn writable(trace: &Trace, ring: u8, file: FileNumber, world: &World) -> Result<Description, Errno>
+    ensures { same_file world.now result (writable trace.now world.now ring (file_meant file)) }
 {
-    let file = opened(trace, ring, sqe, world).ok_or(Errno::EBADF)?;
+    let file = opened(trace, ring, file, world).ok_or(Errno::EBADF)?;
     if file.access == Access::Read {
         return Err(Errno::EBADF);
     }
     Ok(file)
 }
 
-/// The open file description that an entry's file number stands for.
-fn opened(trace: &Trace, ring: u8, sqe: &Sqe, world: &World) -> Option<Description>
-    ensures { option_map (open_file world.now) result ≡ option_map (λ h. h.opened) (handle trace.now world.now ring (file_of sqe.now)) }
+/// The open file description that a file number stands for.
+fn opened(trace: &Trace, ring: u8, file: FileNumber, world: &World) -> Option<Description>
+    ensures { option_map (open_file world.now) result ≡ option_map (λ h. h.opened) (handle trace.now world.now ring (file_meant file)) }
 {
-    world.description(held(trace, ring, sqe, world)?)
+    world.description(held(trace, ring, file, world)?)
 }
 
 /// The number of that open file description: in a slot of the ring, or at a descriptor.
-fn held(trace: &Trace, ring: u8, sqe: &Sqe, world: &World) -> Option<u32>
-    ensures { result ≡ held trace.now world.now ring (has sqe.now.flags fixed_file) sqe.now.fd }
+fn held(trace: &Trace, ring: u8, file: FileNumber, world: &World) -> Option<u32>
+    ensures { result ≡ held trace.now world.now ring file.registered file.number }
 {
-    if sqe.fd < 0 {
+    if file.number < 0 {
         return None;
     }
-    let number = sqe.fd as u32;
-    if sqe.flags & FIXED_FILE != 0 {
+    let number = file.number as u32;
+    if file.registered {
         if (number as usize) < slot_count(trace, ring) {
             world.slot(ring, number)
         } else {

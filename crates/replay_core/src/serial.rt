@@ -74,11 +74,7 @@ fn run_place(
 {
     let step = trace.step(place);
     match step.action {
-        Action::Submit(entry) => {
-            // Read, so that it is known to fit a byte.
-            let _flags = entry.sqe.flags;
-            run_entry(alloc, trace, step.ring, entry, world)
-        }
+        Action::Submit(entry) => run_entry(alloc, trace, step.ring, entry, world),
         // No trace with such a step is accepted yet.
         Action::Fill { .. } => unreachable!(),
     }

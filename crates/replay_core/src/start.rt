@@ -8,7 +8,7 @@ ghost use Rattle.file_tree.specs.Tree as tree;
 ghost use Rattle.file_tree.specs.Walk as walk;
 ghost use Rattle.world_parts.specs.World.{apply, apply_all, make_node, node_of, set_name, set_size, write_bytes};
 ghost use Rattle.world_parts.specs.Start as initial;
-ghost use Rattle.replay_core.specs.Maps.{table_of};
+ghost use Rattle.finite_maps.specs.Maps.{table_of};
 ghost use Rattle.replay_core.specs.Walks.{walk_meant};
 
 use crate::names::Names;

@@ -44,7 +44,7 @@ pub struct World {
 
 impl Model for World {
     ghost use Rattle.finite_maps.specs.Table.{empty, number_keys, pair_keys};
-    ghost use Rattle.replay_core.specs.Maps.{table_of};
+    ghost use Rattle.finite_maps.specs.Maps.{table_of};
     ghost use Rattle.world_parts.specs.Codes.{world_code};
     ghost use Rattle.world_parts.specs.World as state;
 

@@ -33,7 +33,7 @@ mod writing;
 pub use fault::{Kind, TraceFault};
 pub use list::{Blob, Series};
 pub use reading::read_trace;
-pub use sides::fits;
+pub use sides::{fits, vector_total};
 pub use steps::{Action, Records, Step};
 pub use trace::{Access, Buffer, Description, Entry, Item, Node, Record, Ring, Trace, Version};
 pub use writing::write_trace;

@@ -2,9 +2,9 @@ use Rattle.std.proofs.Common.{sym, ap, ◌∙◌, take, get_or}
 use Rattle.trace_format.specs.declared.trace.Buffer.{Buffer}
 use Rattle.finite_maps.specs.Table.{pair_keys}
 use Rattle.world_parts.specs.Start.{buffers_from}
-use Rattle.replay_core.specs.Maps.{table_of}
+use Rattle.finite_maps.specs.Maps.{table_of}
 use Rattle.replay_core.proofs.Fills.{keep}
-use Rattle.replay_core.proofs.Maps.{seen-assign}
+use Rattle.finite_maps.proofs.Maps.{seen-assign}
 use Rattle.replay_core.proofs.Starts.{zeros-full, zeros-empty, buffers-more}
 use Rattle.replay_core.proofs.start.add_buffers.Goals.{then-buffer-ne0+in_ok-insert, else-buffer-ne0}
 use Rattle.replay_core.proofs.start.add_buffers.Goals as goal

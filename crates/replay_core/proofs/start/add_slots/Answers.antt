@@ -1,9 +1,9 @@
 use Rattle.std.proofs.Common.{sym, ap, ◌∙◌, take}
 use Rattle.finite_maps.specs.Table.{pair_keys}
 use Rattle.world_parts.specs.Start.{slots_from}
-use Rattle.replay_core.specs.Maps.{table_of}
+use Rattle.finite_maps.specs.Maps.{table_of}
 use Rattle.replay_core.proofs.Fills.{keep}
-use Rattle.replay_core.proofs.Maps.{seen-assign}
+use Rattle.finite_maps.proofs.Maps.{seen-assign}
 use Rattle.replay_core.proofs.Starts.{held-full, held-empty, slots-more}
 use Rattle.replay_core.proofs.start.add_slots.Goals.{in-Some+in_ok-insert, in_default}
 use Rattle.replay_core.proofs.start.add_slots.Goals as goal

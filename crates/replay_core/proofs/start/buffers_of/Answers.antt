@@ -3,7 +3,7 @@ use Rattle.trace_format.specs.declared.trace.Buffer.{Buffer}
 use Rattle.trace_format.specs.declared.trace.Ring.{Ring}
 use Rattle.finite_maps.specs.Table.{pair_keys}
 use Rattle.world_parts.specs.Start.{buffers_from}
-use Rattle.replay_core.specs.Maps.{table_of}
+use Rattle.finite_maps.specs.Maps.{table_of}
 use Rattle.replay_core.proofs.Starts.{ring_buffers-more}
 use Rattle.replay_core.proofs.start.buffers_of.Goals as goal
 

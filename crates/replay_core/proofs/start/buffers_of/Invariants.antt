@@ -1,7 +1,7 @@
 use Rattle.std.proofs.Common.{◌≡◌, take}
 use Rattle.finite_maps.specs.Table.{pair_keys}
 use Rattle.world_parts.specs.Start.{ring_buffers}
-use Rattle.replay_core.specs.Maps.{table_of}
+use Rattle.finite_maps.specs.Maps.{table_of}
 use Rattle.replay_core.proofs.start.buffers_of.Given as goal
 
 -- the map has the buffers of the rings so far

@@ -1,6 +1,6 @@
 use Rattle.std.proofs.Common.{sym, ◌∙◌}
 use Rattle.finite_maps.specs.Table.{number_keys}
-use Rattle.replay_core.proofs.Maps.{seen-assign}
+use Rattle.finite_maps.proofs.Maps.{seen-assign}
 use Rattle.replay_core.proofs.Starts.{descriptions-more}
 use Rattle.replay_core.proofs.start.descriptions_of.Goals as goal
 

@@ -2,9 +2,9 @@ use Rattle.std.proofs.Common.{sym, ap, ◌∙◌}
 use Rattle.finite_maps.specs.Table.{number_keys}
 use Rattle.world_parts.specs.Start.{descriptors_from}
 use Rattle.std.proofs.Common.{take}
-use Rattle.replay_core.specs.Maps.{table_of}
+use Rattle.finite_maps.specs.Maps.{table_of}
 use Rattle.replay_core.proofs.Fills.{keep}
-use Rattle.replay_core.proofs.Maps.{seen-assign}
+use Rattle.finite_maps.proofs.Maps.{seen-assign}
 use Rattle.replay_core.proofs.Starts.{held-full, held-empty, descriptors-more}
 use Rattle.replay_core.proofs.start.descriptors_of.Goals.{in-Some+in_ok-insert, in_default}
 use Rattle.replay_core.proofs.start.descriptors_of.Goals as goal

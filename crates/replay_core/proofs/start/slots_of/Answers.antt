@@ -2,7 +2,7 @@ use Rattle.std.proofs.Common.{ℕ, List, sym, ap, ◌∙◌, get_or}
 use Rattle.trace_format.specs.declared.trace.Ring.{Ring}
 use Rattle.finite_maps.specs.Table.{pair_keys}
 use Rattle.world_parts.specs.Start.{slots_from}
-use Rattle.replay_core.specs.Maps.{table_of}
+use Rattle.finite_maps.specs.Maps.{table_of}
 use Rattle.replay_core.proofs.Starts.{ring_slots-more}
 use Rattle.replay_core.proofs.start.slots_of.Goals as goal
 

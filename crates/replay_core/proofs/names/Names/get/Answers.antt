@@ -1,6 +1,6 @@
 use Rattle.std.proofs.Common.{ap, sym, ◌∙◌}
 use Rattle.finite_maps.specs.Table.{get, text_keys}
-use Rattle.replay_core.proofs.TextMaps.{get-seen_table}
+use Rattle.finite_maps.proofs.TextMaps.{get-seen_table}
 use Rattle.replay_core.proofs.names.Names.get.Goals as goal
 
 pub returns : goal.returns

@@ -1,5 +1,5 @@
 use Rattle.finite_maps.specs.Table.{text_keys}
-use Rattle.replay_core.proofs.TextMaps.{seen-insert_entry}
+use Rattle.finite_maps.proofs.TextMaps.{seen-insert_entry}
 use Rattle.replay_core.proofs.names.Names.insert.Goals as goal
 
 pub returns : goal.returns

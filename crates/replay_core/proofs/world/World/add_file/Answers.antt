@@ -1,7 +1,7 @@
 use Rattle.std.proofs.Common.{ap, ◌∙◌}
 use Rattle.finite_maps.specs.Table.{insert, number_keys}
 use Rattle.file_tree.specs.Tree.{file}
-use Rattle.replay_core.proofs.Maps.{seen-assign}
+use Rattle.finite_maps.proofs.Maps.{seen-assign}
 use Rattle.replay_core.proofs.Changes.{file_made}
 use Rattle.replay_core.proofs.world.World.add_file.Goals as goal
 

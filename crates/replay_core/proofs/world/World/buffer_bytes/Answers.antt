@@ -1,7 +1,7 @@
 use Rattle.std.proofs.Common.{[], ap, sym, ◌∙◌}
 use Rattle.std.specs.Prelude.{unwrap_or, replicate}
 use Rattle.finite_maps.specs.Table.{pair_keys}
-use Rattle.replay_core.proofs.Maps.{get-of}
+use Rattle.finite_maps.proofs.Maps.{get-of}
 use Rattle.replay_core.proofs.world.World.buffer_bytes.Goals.{in-Some, in-None}
 use Rattle.replay_core.proofs.world.World.buffer_bytes.Goals as goal
 

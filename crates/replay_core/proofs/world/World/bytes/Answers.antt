@@ -4,7 +4,7 @@ use Rattle.std.specs.Option.{option_and_then}
 use Rattle.finite_maps.specs.Table.{number_keys}
 use Rattle.file_tree.specs.Tree.{Node, bytes_of_node}
 use Rattle.replay_core.specs.Nodes.{node_of}
-use Rattle.replay_core.proofs.Maps.{get-of}
+use Rattle.finite_maps.proofs.Maps.{get-of}
 use Rattle.replay_core.proofs.world.World.bytes.Goals as goal
 
 abbrev held : Option Node → List ℕ

@@ -1,6 +1,6 @@
 use Rattle.std.proofs.Common.{ap, sym, ◌∙◌}
 use Rattle.finite_maps.specs.Table.{number_keys}
-use Rattle.replay_core.proofs.Maps.{get-of}
+use Rattle.finite_maps.proofs.Maps.{get-of}
 use Rattle.replay_core.proofs.world.World.description.Goals as goal
 
 pub returns : goal.returns

@@ -3,7 +3,7 @@ use Rattle.finite_maps.specs.Table.{number_keys}
 use Rattle.file_tree.specs.Walk.{is_directory}
 use Rattle.file_tree.specs.Tree.{kind_of_node}
 use Rattle.replay_core.specs.Nodes.{node_of}
-use Rattle.replay_core.proofs.Maps.{get-of}
+use Rattle.finite_maps.proofs.Maps.{get-of}
 use Rattle.replay_core.proofs.world.World.is_directory.Goals as goal
 
 pub returns-in-Directory : goal.returns-in-Directory

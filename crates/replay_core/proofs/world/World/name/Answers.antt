@@ -5,7 +5,7 @@ use Rattle.finite_maps.specs.Table.{get, number_keys}
 use Rattle.file_tree.specs.Tree.{Tree, Node, names_of_node, target}
 use Rattle.world_parts.specs.World.{node_of}
 use Rattle.replay_core.specs.Nodes as nodes
-use Rattle.replay_core.proofs.Maps.{get-of}
+use Rattle.finite_maps.proofs.Maps.{get-of}
 use Rattle.replay_core.proofs.Changes.{node_of-target}
 use Rattle.replay_core.proofs.world.World.name.Goals as goal
 

@@ -4,7 +4,7 @@ use Rattle.std.specs.Option.{option_and_then, option_copied}
 use Rattle.finite_maps.specs.Table.{number_keys}
 use Rattle.file_tree.specs.Tree.{Node, Names, names_of_node}
 use Rattle.replay_core.specs.Nodes.{node_of}
-use Rattle.replay_core.proofs.Maps.{get-of}
+use Rattle.finite_maps.proofs.Maps.{get-of}
 use Rattle.replay_core.proofs.world.World.names.Goals as goal
 
 abbrev held : Option Node → Option Names

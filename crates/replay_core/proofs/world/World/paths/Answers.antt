@@ -2,11 +2,11 @@ use Rattle.std.proofs.Common.{◌≡◌, [], ◌++◌, length, ap, sym, ◌∙�
 use Rattle.std.proofs.lemmas.List.{append-nil, nil_from_length}
 use Rattle.finite_maps.specs.Table.{empty, text_keys, number_keys}
 use Rattle.world_parts.specs.Image.{by_path, paths_below}
-use Rattle.replay_core.specs.Maps.{seen_table}
+use Rattle.finite_maps.specs.Maps.{seen_table}
 use Rattle.replay_core.specs.Pending.{paths_pending}
 use Rattle.replay_core.proofs.Listing.{one_listed, fewer}
 use Rattle.replay_core.proofs.Ordered.{entries_of}
-use Rattle.replay_core.proofs.TextMaps.{seen-insert_entry}
+use Rattle.finite_maps.proofs.TextMaps.{seen-insert_entry}
 use Rattle.replay_core.proofs.world.World.paths.Goals as goal
 
 pub loop-path-init : goal.loop-path-init

@@ -1,7 +1,7 @@
 use Rattle.std.proofs.Common.{◌≡◌, length}
 use Rattle.finite_maps.specs.Table.{text_keys}
 use Rattle.world_parts.specs.Image.{all_paths, by_path}
-use Rattle.replay_core.specs.Maps.{seen_table}
+use Rattle.finite_maps.specs.Maps.{seen_table}
 use Rattle.replay_core.specs.Pending.{paths_pending}
 use Rattle.replay_core.proofs.world.World.paths.Given as goal
 

@@ -2,9 +2,9 @@ use Rattle.std.proofs.Common.{Some, ap, sym, ◌∙◌}
 use Rattle.std.specs.Option.{option_map}
 use Rattle.finite_maps.specs.Table.{assign, number_keys}
 use Rattle.file_tree.specs.Tree.{renamed_node}
-use Rattle.replay_core.specs.Maps.{table_of}
+use Rattle.finite_maps.specs.Maps.{table_of}
 use Rattle.replay_core.proofs.Outcomes.{on_ok}
-use Rattle.replay_core.proofs.Maps.{get-of, absent-assign, written_through}
+use Rattle.finite_maps.proofs.Maps.{get-of, absent-assign, written_through}
 use Rattle.replay_core.proofs.world.World.set_name.Goals as goal
 
 pub returns-in_default : goal.returns-in_default

@@ -2,9 +2,9 @@ use Rattle.std.proofs.Common.{Some, option_map, ap, sym, ◌∙◌}
 use Rattle.finite_maps.specs.Table.{assign, number_keys}
 use Rattle.extent_bytes.specs.Bytes.{overwritten}
 use Rattle.file_tree.specs.Tree.{rewritten_node}
-use Rattle.replay_core.specs.Maps.{table_of}
+use Rattle.finite_maps.specs.Maps.{table_of}
 use Rattle.replay_core.proofs.Outcomes.{on_ok}
-use Rattle.replay_core.proofs.Maps.{get-of, absent-assign, written_through}
+use Rattle.finite_maps.proofs.Maps.{get-of, absent-assign, written_through}
 use Rattle.replay_core.proofs.world.World.write_bytes.Goals as goal
 
 pub returns-in_default : goal.returns-in_default

@@ -8,7 +8,7 @@ use Rattle.std.specs.Ordering.{eq_by_cmp, is_eq}
 use Rattle.std.specs.Cmp.{eq_by_cmp_equiv}
 use Rattle.std.specs.BTreeMap.{BTreeMap, UpdatesBy, WritesThrough, is_at}
 use Rattle.finite_maps.specs.Table.{Table, IsKeyOrder, get, assign, get-insert, get-assign, same_table}
-use Rattle.replay_core.specs.Maps.{table_of}
+use Rattle.finite_maps.specs.Maps.{table_of}
 
 module _ {K X : Type 0} {R : K → K → Ordering} (o : IsKeyOrder R) where
   -- what the map has at a key

@@ -8,7 +8,7 @@ use Rattle.std.specs.Ordering.{eq_by_cmp, is_eq, match_ordering}
 use Rattle.std.specs.Cmp.{tied_itself}
 use Rattle.std.specs.BTreeMap.{is_at, insert_entry}
 use Rattle.finite_maps.specs.Table.{Table, IsKeyOrder, get, insert, get-insert, same_table}
-use Rattle.replay_core.specs.Maps.{seen_table}
+use Rattle.finite_maps.specs.Maps.{seen_table}
 
 absorbed : {X : Type 0} (b : Bool) (x y z : X) → cond b x z ≡ cond b x (cond b y z)
 absorbed true x y z = refl

@@ -1,0 +1,175 @@
+//! The tests that the rows of the table name, and what they take from an entry.
+ghost use Rattle.std.specs.Prelude.{◌≡◌, ◌≤◌, ◌*◌, ◌==◌, ◌||◌, not, true, leb, length, drop, ℕ};
+ghost use Rattle.std.specs.Int.{cast_signed, w32};
+ghost use Rattle.sqe_codec.specs.Answers.{require, ◌>>◌};
+ghost use Rattle.sqe_codec.specs.declared.errno.Errno.TheVariants.{EINVAL};
+ghost use Rattle.trace_format.specs.Sides.{vector_len};
+ghost use Rattle.entry_checks.specs.Check.{check_transfer_flags, check_no_registered_file, are_open_flags, open_flags_of, is_zero, file_of, span_of, most_rename_flags};
+ghost use Rattle.entry_checks.specs.Meant.{flags_meant, file_meant, span_meant};
+ghost use Rattle.entry_checks.specs.Answer.{check_submission, check_vector};
+
+use crate::operation::{BufferSpan, FileNumber, OpenAtFlags};
+use sqe_codec::{BUFFER_SELECT, Errno, FIXED_FILE, Sqe, has_flag};
+use trace_format::{Version, vector_total};
+
+// The flags of open(2), as asm-generic/fcntl.h has them.
+const ACCESS: u32 = 0o3;
+
+const CREATE: u32 = 0o100;
+
+const EXCLUSIVE: u32 = 0o200;
+
+const TRUNCATE: u32 = 0o1000;
+
+const APPEND: u32 = 0o2000;
+
+const DIRECTORY: u32 = 0o200000;
+
+const CLOSE_ON_EXEC: u32 = 0o2000000;
+
+/// All flags that openat takes.
+const OPEN_FLAGS: u32 = 0x1f_dfc3;
+
+/// `IORING_FILE_INDEX_ALLOC`, by which the kernel would choose the slot.
+const ALLOCATED_SLOT: u32 = u32::MAX;
+
+pub(crate) fn require(holds: bool, error: Errno) -> Result<(), Errno>
+    ensures { result ≡ require holds error }
+{
+    if holds { Ok(()) } else { Err(error) }
+}
+
+/// The tests of every entry whose opcode is served.
+pub(crate) fn submission(sqe: &Sqe) -> Result<(), Errno>
+    ensures { result ≡ check_submission sqe.now }
+{
+    require(sqe.flags < 128, Errno::EINVAL)?;
+    require(sqe.personality == 0, Errno::EINVAL)?;
+    require(!sqe.has(BUFFER_SELECT), Errno::EOPNOTSUPP)
+}
+
+/// A transfer takes no flags of its own.
+pub(crate) fn transfer(sqe: &Sqe) -> Result<(), Errno>
+    ensures { result ≡ check_transfer_flags sqe.now }
+{
+    require(sqe.op_flags == 0, Errno::EOPNOTSUPP)
+}
+
+/// The sum of the lengths of a vectored transfer.
+pub(crate) fn vector(sqe: &Sqe, side: &[u8]) -> Result<u64, Errno>
+    requires { vector_len sqe.now ≤ length side.now }
+    ensures { result ≡ check_vector sqe.now side.now }
+{
+    vector_total(sqe, side).ok_or(Errno::EINVAL)
+}
+
+/// The bytes that a vectored write moves: they stand behind its lengths.
+pub(crate) fn written<'a>(sqe: &Sqe, side: &'a [u8]) -> &'a [u8]
+    requires few { sqe.now.len ≤ 1024 }
+    requires there { 8 * sqe.now.len ≤ length side.now }
+    ensures { result.now ≡ drop (8 * sqe.now.len) side.now }
+{
+    &side[8 * sqe.len as usize..]
+}
+
+/// An operation on paths or slots takes no registered file.
+pub(crate) fn no_registered_file(sqe: &Sqe) -> Result<(), Errno>
+    ensures { result ≡ check_no_registered_file sqe.now }
+{
+    require(!sqe.has(FIXED_FILE), Errno::EBADF)
+}
+
+/// The operation's flags are at most these.
+pub(crate) fn flags_up_to(sqe: &Sqe, most: u32) -> Result<(), Errno>
+    ensures { result ≡ require (leb sqe.now.op_flags most) EINVAL }
+{
+    require(sqe.op_flags <= most, Errno::EINVAL)
+}
+
+/// The operation's flags are none, or this one.
+pub(crate) fn flag_or_none(sqe: &Sqe, flag: u32) -> Result<(), Errno>
+    ensures { result ≡ require (sqe.now.op_flags == 0 || sqe.now.op_flags == flag) EINVAL }
+{
+    require(sqe.op_flags == 0 || sqe.op_flags == flag, Errno::EINVAL)
+}
+
+/// The flags of openat: an access, no bit that it doesn't take, no file made where a directory is asked
+/// for, no flag for an ordinary descriptor where a slot is named, and no slot that the kernel would choose.
+pub(crate) fn open_flags(sqe: &Sqe) -> Result<(), Errno>
+    ensures { result ≡ require (are_open_flags sqe.now.op_flags sqe.now.file_index) EINVAL }
+{
+    let flags = sqe.op_flags;
+    let known = flags & ACCESS != 3 && flags | OPEN_FLAGS == OPEN_FLAGS;
+    let agree = !(has_flag(flags, CREATE) && has_flag(flags, DIRECTORY))
+        && !(has_flag(flags, CLOSE_ON_EXEC) && sqe.file_index != 0);
+    require(
+        known && agree && sqe.file_index != ALLOCATED_SLOT,
+        Errno::EINVAL,
+    )
+}
+
+/// A close names a slot or a descriptor, not both.
+pub(crate) fn slot_or_descriptor(sqe: &Sqe) -> Result<(), Errno>
+    ensures { result ≡ require (sqe.now.file_index == 0 || is_zero sqe.now.fd) EINVAL }
+{
+    require(sqe.file_index == 0 || sqe.fd == 0, Errno::EINVAL)
+}
+
+/// A close names its slot by a number.
+pub(crate) fn numbered_slot(sqe: &Sqe) -> Result<(), Errno>
+    ensures { result ≡ require (not (sqe.now.file_index == 4294967295)) EINVAL }
+{
+    require(sqe.file_index != ALLOCATED_SLOT, Errno::EINVAL)
+}
+
+/// The greatest flags of renameat2(2) that a version takes: `RENAME_NOREPLACE`, then `RENAME_EXCHANGE`.
+pub(crate) fn most_rename_flags(version: Version) -> u32
+    ensures { result ≡ most_rename_flags version }
+{
+    match version {
+        Version::One => 1,
+        Version::Two => 2,
+    }
+}
+
+/// The file that an entry names.
+pub(crate) fn file_of(sqe: &Sqe) -> FileNumber
+    ensures { file_meant result ≡ file_of sqe.now }
+{
+    FileNumber {
+        registered: sqe.has(FIXED_FILE),
+        number: sqe.fd,
+    }
+}
+
+/// The range of a registered buffer that an entry names.
+pub(crate) fn span_of(sqe: &Sqe) -> BufferSpan
+    ensures { span_meant result ≡ span_of sqe.now }
+{
+    BufferSpan {
+        index: sqe.buf_index,
+        address: sqe.addr,
+        length: sqe.len,
+    }
+}
+
+/// The flags of openat that have an effect.
+pub(crate) fn open_flags_of(flags: u32) -> OpenAtFlags
+    ensures { flags_meant result ≡ open_flags_of flags }
+{
+    OpenAtFlags {
+        access: (flags & ACCESS) as u8,
+        create: has_flag(flags, CREATE),
+        exclusive: has_flag(flags, EXCLUSIVE),
+        truncate: has_flag(flags, TRUNCATE),
+        append: has_flag(flags, APPEND),
+        directory: has_flag(flags, DIRECTORY),
+    }
+}
+
+/// The directory of a second path, which stands in `len`.
+pub(crate) fn new_directory(sqe: &Sqe) -> i32
+    ensures { result ≡ cast_signed w32 sqe.now.len }
+{
+    sqe.len.cast_signed()
+}
