@@ -131,6 +131,78 @@ pub(super) const SUM_OF_A_SMALL_FILE: Example = Example {
         end\n",
 };
 
+/// An unknown opcode, the reserved flag bit and a personality.
+pub(super) const GENERAL_TESTS_GIVE_EINVAL: Example = Example {
+    trace: "5552494e475452430100000001000000010000000100000001000000000000000202002f610a000000000000\
+        000a000000303132333435363738390100000002000000000000000000040001000000000000000000000000\
+        000000010000100000000000001000000001000300c800000000000000000000000000000000000000000000\
+        0000000000000000000000000000000000000000000000000000000000000000000000000000000000000000\
+        0000800000000000000000000000000000000000000000000000000000000000000000000000000000000000\
+        0000000000000000000000000000000000000000000000000000000000000000000000000000000000000000\
+        0000000000000000000000000000000000000000000000010000000000000000000000000000000000000000\
+        0000000000",
+    report: "uring-report 1\n\
+        ring 0\n\
+        0 user=0 res=-22 posted\n\
+        1 user=0 res=-22 posted\n\
+        2 user=0 res=-22 posted\n\
+        tree\n\
+        file /a node=1 size=10\n\
+        slots\n\
+        slot 0 0 desc=0 node=1 pos=0\n\
+        buffers\n\
+        buffer 0 0 len=16\n\
+        end\n",
+    sums: "uring-report 1\n\
+        ring 0\n\
+        0 user=0 res=-22 posted\n\
+        1 user=0 res=-22 posted\n\
+        2 user=0 res=-22 posted\n\
+        tree\n\
+        file /a node=1 size=10 sum=84d89877f0d4041efb6bf91a16f0248f2fd573e6af05c19f96bedb9f882f7882\n\
+        slots\n\
+        slot 0 0 desc=0 node=1 pos=0\n\
+        buffers\n\
+        buffer 0 0 len=16 sum=374708fff7719dd5979ec875d56cd2286f6d3cf7ec317a3b25632aab28ec37bb\n\
+        end\n",
+};
+
+/// Reads that the tests of submission refuse.
+pub(super) const BUFFER_SELECTION_PERSONALITY_AND_RW_FLAGS_OF_READ: Example = Example {
+    trace: "5552494e475452430100000001000000010000000100000001000000000000000202002f610a000000000000\
+        000a000000303132333435363738390100000002000000000000000000040001000000000000000000000000\
+        0000000100001000000000000010000000010003001621000000000000020000000000000000000000000000\
+        0004000000000000000000000000000000000000000000000000000000000000000000000000000000000000\
+        0016210000000000000200000000000000000000000000000004000000000000000000000000000000000001\
+        0000000000000000000000000000000000000000000000000016010000000000000200000000000000000000\
+        0000000000040000000100000000000000000000000000000000000000000000000000000000000000000000\
+        0000000000",
+    report: "uring-report 1\n\
+        ring 0\n\
+        0 user=0 res=-95 posted\n\
+        1 user=0 res=-22 posted\n\
+        2 user=0 res=-95 posted\n\
+        tree\n\
+        file /a node=1 size=10\n\
+        slots\n\
+        slot 0 0 desc=0 node=1 pos=0\n\
+        buffers\n\
+        buffer 0 0 len=16\n\
+        end\n",
+    sums: "uring-report 1\n\
+        ring 0\n\
+        0 user=0 res=-95 posted\n\
+        1 user=0 res=-22 posted\n\
+        2 user=0 res=-95 posted\n\
+        tree\n\
+        file /a node=1 size=10 sum=84d89877f0d4041efb6bf91a16f0248f2fd573e6af05c19f96bedb9f882f7882\n\
+        slots\n\
+        slot 0 0 desc=0 node=1 pos=0\n\
+        buffers\n\
+        buffer 0 0 len=16 sum=374708fff7719dd5979ec875d56cd2286f6d3cf7ec317a3b25632aab28ec37bb\n\
+        end\n",
+};
+
 /// Replies with 32 bytes and more, names with bytes that are not shown as they are, and a file too long for a sum.
 pub(super) const LONG_DATA_ODD_NAMES_AND_A_LARGE_FILE: Example = Example {
     trace: "5552494e475452430100000004000000020000000200000001000000000000000202002f6228000000000000\
