@@ -1,6 +1,7 @@
 -- A tree of entries and the finite map that it stands for.
 use Rattle.std.proofs.Common.{◌≡◌, List, [], ◌∷◌, Some, sym, ◌∙◌, ap, refl, subst}
 use Rattle.std.specs.Prelude.{cond, Option, None, IsSome}
+use Rattle.std.specs.Option.{option_map}
 use Rattle.std.specs.Map.{lookup}
 use Rattle.std.specs.declared.cmp.Ordering.{Ordering}
 use Rattle.std.specs.declared.cmp.Ordering.TheVariants.{Less, Equal, Greater}
@@ -45,6 +46,34 @@ module _ {K X : Type 0} {R : K → K → Ordering} (o : IsKeyOrder R) where
   written_through m n t k v w is h e =
       let P : Option X → Type 0 = λ r. IsSome r in
       (get-of m.entries t k is ∙ sym e, seen-update m n k (Some w) (h.3 (subst P e refl)) ∙ ap (λ n. assign o.total n k (Some w)) is)
+
+  -- a value that is put where it is already changes nothing
+  pub present-assign : (t : Table R X) (k : K) (v : X) → get t k ≡ Some v → assign o.total t k (Some v) ≡ t
+  present-assign t k v e = same_table o _ _ (λ q. get-assign o.total t k (Some v) q ∙ at q (R q k) refl)
+    where
+      at : (q : K) (r : Ordering) → R q k ≡ r → cond (is_eq r) (Some v) (get t q) ≡ get t q
+      at q Less h = refl
+      at q Greater h = refl
+      at q Equal h = sym (ap (λ x. get t x) (o.same q k h) ∙ e)
+
+  -- a change of what isn't there changes nothing
+  pub absent-rewrite : (f : X → X) (es : List (K × X)) (t : Table R X) (k : K) → table_of o.total es ≡ t → None ≡ lookup (is_at (R k)) es → assign o.total t k (option_map f (get t k)) ≡ t
+  absent-rewrite f es t k is e =
+      let none = get-of es t k is ∙ sym e in
+      ap (λ d. assign o.total t k (option_map f d)) none ∙ absent-assign t k none
+
+  -- a value that is changed through what `get_mut` lent
+  pub rewritten_through : (f : X → X) (m n : BTreeMap K X) (t : Table R X) (k : K) (v w : X) → table_of o.total m.entries ≡ t → WritesThrough R (R k) m w n → Some v ≡ lookup (is_at (R k)) m.entries → w ≡ f v
+      → table_of o.total n.entries ≡ assign o.total t k (option_map f (get t k))
+  rewritten_through f m n t k v w is h e d =
+      let p = written_through m n t k v w is h e in
+      p.1 ∙ ap (λ x. assign o.total t k (Some x)) d ∙ ap (λ y. assign o.total t k (option_map f y)) (sym p.0)
+
+  -- a value that is left as it was
+  pub left_through : (m n : BTreeMap K X) (t : Table R X) (k : K) (v w : X) → table_of o.total m.entries ≡ t → WritesThrough R (R k) m w n → Some v ≡ lookup (is_at (R k)) m.entries → w ≡ v → table_of o.total n.entries ≡ t
+  left_through m n t k v w is h e d =
+      let p = written_through m n t k v w is h e in
+      p.1 ∙ ap (λ x. assign o.total t k (Some x)) d ∙ present-assign t k v p.0
 
 pub not_both : {X : Type 0} (o : Option X) (x : X) → Some x ≡ o → o ≡ None → ⊥
 not_both o x e f = cc

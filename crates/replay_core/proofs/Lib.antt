@@ -3,7 +3,6 @@ pub mod Files
 pub mod Fills
 pub mod Lines
 pub mod Listing
-pub mod Ordered
 pub mod Outcomes
 pub mod ServedSteps
 pub mod Starts

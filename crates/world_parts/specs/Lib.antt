@@ -3,3 +3,4 @@ pub mod Start
 pub mod Items
 pub mod Codes
 pub mod Image
+pub mod Laws

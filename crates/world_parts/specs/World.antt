@@ -1,5 +1,5 @@
 -- The state of a replay: the file tree, the open file descriptions, the registered files and buffers, the descriptors, the chains that broke.
-use Rattle.std.specs.Prelude.{◌≡◌, ℕ, Bool, ◌≤◌, ◌<◌, List, [], ◌∷◌, Option, Some, None, IfSome, IsSome}
+use Rattle.std.specs.Prelude.{◌≡◌, ℕ, Bool, ◌≤◌, List, [], ◌∷◌, Option, Some, IfSome, IsSome}
 use Rattle.std.specs.Option.{option_map}
 use Rattle.std.specs.Ordering.{nat_cmp}
 use Rattle.trace_format.specs.declared.trace.Access.{Access}

@@ -2,5 +2,6 @@
 #![tactic(auto)]
 
 mod image;
+pub mod laws;
 
 pub use image::{BufferEntry, DescriptorEntry, Image, NameEntry, SlotEntry};

@@ -1,7 +1,7 @@
 use Rattle.std.proofs.Common.{ap, ◌∙◌}
 use Rattle.std.specs.Prelude.{map}
 use Rattle.finite_maps.specs.Table.{text_keys}
-use Rattle.replay_core.proofs.Ordered.{seen_entries_of}
+use Rattle.finite_maps.proofs.Ordered.{seen_entries_of}
 use Rattle.replay_core.proofs.names.Names.iter.Goals as goal
 
 pub returns : goal.returns

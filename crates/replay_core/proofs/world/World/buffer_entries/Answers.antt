@@ -6,7 +6,7 @@ use Rattle.finite_maps.specs.Table.{pair_keys}
 use Rattle.world_parts.specs.declared.image.BufferEntry.{BufferEntry}
 use Rattle.world_parts.specs.Image.{image_of, buffer_entry}
 use Rattle.replay_core.proofs.Lines.{no_lines, more_lines, all_lines}
-use Rattle.replay_core.proofs.Ordered.{entries_of}
+use Rattle.finite_maps.proofs.Ordered.{entries_of}
 use Rattle.replay_core.proofs.world.World.buffer_entries.Goals as goal
 
 abbrev line : (ℕ × ℕ) × List ℕ → List BufferEntry

@@ -4,7 +4,7 @@ use Rattle.sqe_codec.specs.Answers.{each}
 use Rattle.finite_maps.specs.Table.{get, number_keys}
 use Rattle.world_parts.specs.Image.{image_of, descriptor_entry}
 use Rattle.replay_core.proofs.Lines.{no_lines}
-use Rattle.replay_core.proofs.Ordered.{entries_of}
+use Rattle.finite_maps.proofs.Ordered.{entries_of}
 use Rattle.replay_core.proofs.world.World.descriptor_entries.Goals as goal
 
 pub loop-number-init : goal.loop-number-init

@@ -9,7 +9,7 @@ use Rattle.file_tree.specs.Tree.{Tree}
 use Rattle.world_parts.specs.declared.image.NameEntry.{NameEntry}
 use Rattle.world_parts.specs.Image.{image_of, all_paths, name_entry}
 use Rattle.replay_core.proofs.Lines.{no_lines}
-use Rattle.replay_core.proofs.Ordered.{seen_entries_of}
+use Rattle.finite_maps.proofs.Ordered.{seen_entries_of}
 use Rattle.replay_core.proofs.world.World.name_entries.Goals as goal
 
 abbrev seen : Vec ℕ Global × ℕ → List ℕ × ℕ

@@ -5,7 +5,7 @@ use Rattle.world_parts.specs.Image.{by_path, paths_below}
 use Rattle.finite_maps.specs.Maps.{seen_table}
 use Rattle.replay_core.specs.Pending.{paths_pending}
 use Rattle.replay_core.proofs.Listing.{one_listed, fewer}
-use Rattle.replay_core.proofs.Ordered.{entries_of}
+use Rattle.finite_maps.proofs.Ordered.{entries_of}
 use Rattle.finite_maps.proofs.TextMaps.{seen-insert_entry}
 use Rattle.replay_core.proofs.world.World.paths.Goals as goal
 

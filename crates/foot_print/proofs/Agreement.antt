@@ -1,0 +1,80 @@
+-- What agreement on a footprint gives for its parts, and for the file that a number stands for.
+use Rattle.std.specs.Prelude.{◌≡◌, ℕ, ℤ, pos, negsuc, Bool, true, false, cond, ◌||◌, ltb, T, List, [], ◌∷◌, ◌++◌, map, length, Option, Some, None, refl}
+use Rattle.std.specs.List.{list_any}
+use Rattle.std.specs.Option.{option_map, option_and_then}
+use mathlib.Core.Path.{sym, subst, ap, ◌∙◌}
+use lib.Dec.{eqb_refl}
+use Rattle.trace_format.specs.declared.trace.Trace.{Trace}
+use Rattle.entry_checks.specs.Operation.{File}
+use Rattle.world_parts.specs.World.{World, slot, descriptor}
+use Rattle.op_meaning.specs.Meaning.{slot_count, held, Handle, handle, handle_of}
+use Rattle.sqe_codec.specs.Answers.{each}
+use Rattle.world_parts.specs.Items.{Atom, slot_at, descriptor_at, description_at, value, one, member_of, Use, reads, Footprint, has_atom, Agree}
+use Rattle.op_meaning.specs.Footprint.{as_reads, held_item, file_reads, of_file, of_description, on_file}
+use Rattle.world_parts.proofs.Collision.{both, either_left, either_right, same_atom_refl}
+use Rattle.world_parts.proofs.Trees.{some_apart, some_same}
+
+pub in_left : {A : Type 0} (p : A → Bool) (xs ys : List A) → T (list_any p xs) → T (list_any p (xs ++ ys))
+in_left p [] ys h = absurd h
+in_left p (x ∷ xs) ys h =
+    elim (p x) as (λ b. T (b || list_any p xs) → T (b || list_any p (xs ++ ys))) [ true ↦ λ k. tt | false ↦ λ k. in_left p xs ys k ] h
+
+pub in_right : {A : Type 0} (p : A → Bool) (xs ys : List A) → T (list_any p ys) → T (list_any p (xs ++ ys))
+in_right p [] ys h = h
+in_right p (x ∷ xs) ys h = either_right (p x) _ (in_right p xs ys h)
+
+pub agree_left : (s u : World) (f g : Footprint) → Agree (f ++ g) s u → Agree f s u
+agree_left s u f g h = record { same = λ a m. h.same a (in_left _ f g m) }
+
+pub agree_right : (s u : World) (f g : Footprint) → Agree (f ++ g) s u → Agree g s u
+agree_right s u f g h = record { same = λ a m. h.same a (in_right _ f g m) }
+
+pub agree_tail : (s u : World) (x : Use) (f : Footprint) → Agree (x ∷ f) s u → Agree f s u
+agree_tail s u x f h = record { same = λ a m. h.same a (either_right (member_of x.item a) _ m) }
+
+pub has_atom-as_reads : (f : Footprint) (a : Atom) → T (has_atom f a) → T (has_atom (as_reads f) a)
+has_atom-as_reads [] a h = h
+has_atom-as_reads (x ∷ f) a h =
+    elim (member_of x.item a) as (λ b. T (b || has_atom f a) → T (b || has_atom (as_reads f) a)) [ true ↦ λ k. tt | false ↦ λ k. has_atom-as_reads f a k ] h
+
+pub agree_taken : (s u : World) (b : Bool) (f : Footprint) → Agree (cond b f (as_reads f)) s u → Agree f s u
+agree_taken s u true f h = h
+agree_taken s u false f h = record { same = λ a m. h.same a (has_atom-as_reads f a m) }
+
+-- The open file description that a number stands for, and its handle, are the same.
+pub held_same : (t : Trace) (s u : World) (r : ℕ) (b : Bool) (n : ℤ) → Agree (map reads (held_item t r b n)) s u → held t u r b n ≡ held t s r b n
+held_same t s u r true (pos n) h =
+    elim (ltb n (slot_count t r)) as (λ c. Agree (map reads (cond c (one (slot_at r n) ∷ []) [])) s u → cond c (slot u r n) None ≡ cond c (slot s r n) None) [
+      | true ↦ λ k. sym (k.same (slot_at r n) (either_left _ _ (both _ _ (eqb_refl r) (eqb_refl n))))
+      | false ↦ λ k. refl
+    ] h
+held_same t s u r false (pos n) h =
+    elim (ltb n (length t.descriptors)) as (λ c. Agree (map reads (cond c (one (descriptor_at n) ∷ []) [])) s u → cond c (descriptor u n) None ≡ cond c (descriptor s n) None) [
+      | true ↦ λ k. sym (k.same (descriptor_at n) (either_left _ _ (eqb_refl n)))
+      | false ↦ λ k. refl
+    ] h
+held_same t s u r b (negsuc n) h = refl
+
+pub agree_head : (s u : World) (a : Atom) (w : Bool) (f : Footprint) → Agree (record { item = one a; written = w } ∷ f) s u → value s a ≡ value u a
+agree_head s u a w f h = h.same a (either_left _ _ (same_atom_refl a))
+
+-- Where two worlds agree on what an operation has of an open file, its handle is the same, and they agree on what it has of the file.
+pub handle_same : (t : Trace) (s u : World) (r : ℕ) (f : File) (content : ℕ → Handle → Footprint) → Agree (on_file t s r f content) s u → handle t u r f ≡ handle t s r f
+handle_same t s u r f content a =
+    ap (λ d. option_and_then (handle_of u) d) (held_same t s u r f.registered f.number (agree_left s u _ _ a)) ∙ at_description (held t s r f.registered f.number) (agree_right s u (file_reads t r f) _ a)
+  where
+    at_description : (d : Option ℕ) → Agree (each (of_description s content) d) s u → option_and_then (handle_of u) d ≡ option_and_then (handle_of s) d
+    at_description None k = refl
+    at_description (Some d) k = ap (λ o. option_map (λ x. record { description = d; opened = x }) o) (sym (agree_head s u (description_at d) false _ k))
+
+-- What two worlds agree on of the file.
+pub agree_on_content : (t : Trace) (s u : World) (r : ℕ) (f : File) (content : ℕ → Handle → Footprint) → Agree (on_file t s r f content) s u → (h : Handle) → handle t s r f ≡ Some h → Agree (of_file content h) s u
+agree_on_content t s u r f content a h e = within (held t s r f.registered f.number) e (agree_right s u (file_reads t r f) _ a)
+  where
+    of_handle : (d : ℕ) (o : Option Handle) → o ≡ Some h → Agree (each (of_file content) o) s u → Agree (of_file content h) s u
+    of_handle d None e k = absurd (some_apart (sym e))
+    of_handle d (Some g) e k = subst (λ x. Agree (of_file content x) s u) (some_same g h e) k
+
+    within : (d : Option ℕ) → option_and_then (handle_of s) d ≡ Some h → Agree (each (of_description s content) d) s u → Agree (of_file content h) s u
+    within None e k = absurd (some_apart (sym e))
+    within (Some d) e k = of_handle d (handle_of s d) e (agree_tail s u (reads (one (description_at d))) (each (of_file content) (handle_of s d)) k)

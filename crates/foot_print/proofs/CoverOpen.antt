@@ -1,0 +1,152 @@
+-- The footprint of a place that opens a file covers it.
+use Rattle.std.specs.Prelude.{◌≡◌, ℕ, zero, suc, Bool, true, false, cond, not, ◌&&◌, ◌||◌, ◌==◌, ltb, leb, ◌<◌, ◌≤◌, T, List, [], ◌∷◌, ◌++◌, map, length, Option, Some, None, Ok, ok_or, is_none, is_ok, refl, IfSome}
+use Rattle.std.specs.List.{find, range_with_len}
+use Rattle.std.specs.Option.{option_map}
+use mathlib.Core.Path.{sym, subst, ap, ◌∙◌}
+use mathlib.Core.Logic.{inl}
+use native.Mathlib.Omega.{arith}
+use lib.Dec.{eqb_refl, lt→ltb, le→leb}
+use Rattle.sqe_codec.specs.declared.errno.Errno.TheVariants.{ENOENT, EEXIST, EISDIR, ENOTDIR, EINVAL, EMFILE}
+use Rattle.trace_format.specs.declared.trace.Trace.{Trace}
+use Rattle.sqe_codec.specs.Answers.{◌>>=◌, ◌>>◌, require, each, each_ok}
+use Rattle.entry_checks.specs.Operation.{openat, Path, OpenFlags, file_limit}
+use Rattle.world_parts.specs.World.{World, kind, size, Change, set_name, set_size, make_node, make_description, apply}
+use Rattle.file_tree.specs.Tree.{a_file, Target}
+use Rattle.extent_bytes.specs.Bytes.{resized}
+use Rattle.file_tree.specs.Walk.{Place, walk, is_directory}
+use Rattle.op_meaning.specs.Meaning.{Effect, made_node, made_description, slot_count, Room, in_slot, at_descriptor, lowest_free, room, filled, may_open, found_or_made, open_changes, opened_with, open_as}
+use Rattle.world_parts.specs.Items.{slot_at, descriptor_at, description_at, position_of, size_of, byte_at, one, all_descriptors, reads, writes, Footprint, writes_atom, Agree, Holds}
+use Rattle.op_meaning.specs.Footprint.{made_where, name_written, path_reads, range_of, room_uses, description_made, open_uses}
+use Rattle.foot_print.specs.Laws.{Awaits}
+use Rattle.world_parts.proofs.Collision.{both, either_left}
+use Rattle.foot_print.proofs.Agreement.{agree_left, agree_right}
+use Rattle.world_parts.proofs.Changes.{rewriting-kind}
+use Rattle.world_parts.proofs.ChangesOfNames.{Leads, naming-kind}
+use Rattle.world_parts.proofs.ChangesOfMaking.{made-kind}
+use Rattle.foot_print.proofs.CoverChanges.{SupportsAll}
+use Rattle.foot_print.proofs.CoverOperation.{taken, RowTells, RowSupports, Owes}
+use Rattle.foot_print.proofs.CoverWalk.{walk_same, path_reads_same, walk_leads}
+use Rattle.foot_print.proofs.CoverNames.{name_supported, unused}
+use Rattle.foot_print.proofs.Accepted.{err_apart, ok_same, ok_bind, ok_then, holds_left, holds_right, holds_over, holds_ok}
+
+-- The room of openat is decided by what its row has of slots and descriptors.
+module _ (t : Trace) (s u : World) (r : ℕ) where
+  lowest_same : Agree (room_uses t s r zero) s u → lowest_free t u ≡ lowest_free t s
+  lowest_same a = λ i. find (λ n. is_none (sym (a.same (descriptor_at n) tt) i)) (range_with_len 0 (length t.descriptors))
+
+  room_same : (index : ℕ) → Agree (room_uses t s r index) s u → room t u r index ≡ room t s r index
+  room_same zero a = ap (λ x. ok_or (option_map at_descriptor x) EMFILE) (lowest_same a)
+  room_same (suc n) a = refl
+
+  room_uses_same : (index : ℕ) → Agree (room_uses t s r index) s u → room_uses t u r index ≡ room_uses t s r index
+  room_uses_same zero a = ap (λ x. reads all_descriptors ∷ each (λ n. writes (one (descriptor_at n)) ∷ []) x) (lowest_same a)
+  room_uses_same (suc n) a = refl
+
+openat_tells : (t : Trace) (k r : ℕ) (s u : World) (p : Path) (g : OpenFlags) (index : ℕ) → RowTells t k r s u (openat p g index)
+openat_tells t k r s u p g index x a =
+    let made = made_where (taken x) (description_made t k) in
+    let at_place = each_ok (λ (q : Place). open_uses t k (taken x) g q q.target) (walk s.nodes p) in
+    let before = agree_left s u (path_reads s p ++ room_uses t s r index) made (agree_left s u (path_reads s p ++ room_uses t s r index ++ made) at_place a) in
+    let path = agree_left s u (path_reads s p) (room_uses t s r index) before in
+    let rooms = agree_right s u (path_reads s p) (room_uses t s r index) before in
+    let walked = walk_same s u p path in
+    let in_room = room_same t s u r index rooms in
+    record {
+      same_meaning = λ i. in_room i >>= λ at. walked i >>= λ q. may_open g q.target >> Ok (open_as t k r g at q);
+      same_row = λ y i. path_reads_same s u p path i ++ room_uses_same t s u r index rooms i ++ made_where (taken y) (description_made t k) ++ each_ok (λ (q : Place). open_uses t k (taken y) g q q.target) (walked i);
+    }
+
+-- The row writes the room that is filled.
+room_supported : (t : Trace) (s z : World) (r index d : ℕ) (at : Room) (f : Footprint) → room t s r index ≡ Ok at → Holds f (room_uses t s r index) → SupportsAll f z (filled r at d).changes
+room_supported t s z r zero d at f h w = by (lowest_free t s) h w
+  where
+    by : (o : Option ℕ) → ok_or (option_map at_descriptor o) EMFILE ≡ Ok at → Holds f (reads all_descriptors ∷ each (λ n. writes (one (descriptor_at n)) ∷ []) o) → SupportsAll f z (filled r at d).changes
+    by None q k = absurd (err_apart q)
+    by (Some n) q k = subst (λ x. SupportsAll f z (filled r x d).changes) (ok_same (at_descriptor n) at q) (k.writes (descriptor_at n) (either_left _ _ (eqb_refl n)), tt)
+room_supported t s z r (suc n) d at f h w = by (ltb n (slot_count t r)) h w
+  where
+    by : (b : Bool) → (require b EINVAL >> Ok (in_slot n)) ≡ Ok at → Holds f (map writes (cond b (one (slot_at r n) ∷ []) [])) → SupportsAll f z (filled r at d).changes
+    by true q k = subst (λ x. SupportsAll f z (filled r x d).changes) (ok_same (in_slot n) at q) (k.writes (slot_at r n) (either_left _ _ (both _ _ (eqb_refl r) (eqb_refl n))), tt)
+    by false q k = absurd (err_apart q)
+
+-- A file that is cut is no directory.
+cuts_a_file : (directory create truncate other : Bool) → T (not (directory && (create || truncate || other))) → T truncate → directory ≡ false
+cuts_a_file false c x o h k = refl
+cuts_a_file true true x o h k = absurd h
+cuts_a_file true false true o h k = absurd h
+cuts_a_file true false false o h k = absurd k
+
+pub second_test : (a b c : Bool) → T (is_ok (require a EEXIST >> (require b EISDIR >> require c ENOTDIR))) → T b
+second_test true true c h = tt
+second_test true false c h = absurd h
+second_test false b c h = absurd h
+
+module _ (t : Trace) (k : ℕ) (s : World) (g : OpenFlags) (w : Awaits t k s) (q : Place) (f : Footprint) (last : List Change) (rest : (z : World) → SupportsAll f z last) (describes : Holds f (description_made t k)) where
+  abbrev m : ℕ
+  m = made_node t k
+
+  abbrev d : ℕ
+  d = made_description t k
+
+  described : (z : World) (x : Target) → kind z x.node ≡ x.kind → SupportsAll f z (make_description d (opened_with g x) ∷ last)
+  described z x h = (
+    (h, describes.writes (description_at d) (either_left _ _ (eqb_refl d)), describes.writes (position_of d) (either_left _ _ (eqb_refl d))),
+    rest (apply (make_description d (opened_with g x)) z),
+  )
+
+  make_supported : Holds f (name_written q ++ writes (one (size_of m)) ∷ []) → SupportsAll f s (open_changes g m q None ++ make_description d (opened_with g (found_or_made m None)) ∷ last)
+  make_supported h =
+      let after = apply (make_node m a_file) s in (
+        (unused t k s w, h.writes (size_of m) ((holds_right (name_written q) (writes (one (size_of m)) ∷ [])).writes (size_of m) (either_left _ _ (eqb_refl m)))),
+        (
+          (name_supported f after q (Some (found_or_made m None)) (holds_over f (name_written q ++ writes (one (size_of m)) ∷ []) (name_written q) h (holds_left (name_written q) (writes (one (size_of m)) ∷ []))) (made-kind s m a_file)).0,
+          described (apply (set_name q.parent q.name (Some (found_or_made m None))) after) (found_or_made m None) (naming-kind q.name (Some (found_or_made m None)) after q.parent m ∙ made-kind s m a_file),
+        ),
+      )
+
+  cut_supported : (y : Target) → kind s y.node ≡ y.kind → Holds f (writes (one (size_of y.node)) ∷ writes (range_of y.node 0 file_limit) ∷ []) → SupportsAll f s (set_size y.node 0 ∷ make_description d (opened_with g y) ∷ last)
+  cut_supported y l h = (
+    (inl (h.writes (size_of y.node) (either_left _ _ (eqb_refl y.node))), below (size s y.node) (w.is_world.files_fit y.node)),
+    described (apply (set_size y.node 0) s) y (rewriting-kind (λ bs. resized bs 0) s y.node y.node ∙ l),
+  )
+    where
+      below : (o : Option ℕ) → IfSome o (λ n. n ≤ file_limit) → IfSome o (λ n. (p : ℕ) → 0 ≤ p → p < n → T (writes_atom f (byte_at y.node p)))
+      below None c = tt
+      below (Some n) c = λ p a b. h.writes (byte_at y.node p) (either_left _ _ (both (y.node == y.node) _ (eqb_refl y.node) (both (leb 0 p) _ (le→leb 0 p a) (lt→ltb p _ (omega arith)))))
+
+  found_supported : (y : Target) → kind s y.node ≡ y.kind → (T g.truncate → is_directory y.kind ≡ false) → Holds f (open_uses t k (taken true) g q (Some y)) → SupportsAll f s (open_changes g m q (Some y) ++ make_description d (opened_with g y) ∷ last)
+  found_supported y l c h = by g.truncate c h
+    where
+      whole : Footprint
+      whole = writes (one (size_of y.node)) ∷ writes (range_of y.node 0 file_limit) ∷ []
+
+      by : (b : Bool) → (T b → is_directory y.kind ≡ false) → Holds f (cond (b && not (is_directory y.kind)) whole []) → SupportsAll f s (cond b (set_size y.node 0 ∷ []) [] ++ make_description d (opened_with g y) ∷ last)
+      by true c h = cut_supported y l (subst (λ x. Holds f (cond (not x) whole [])) (c tt) h)
+      by false c h = described s y l
+
+  target_supported : (z : Option Target) → Leads s z → T (is_ok (may_open g z)) → Holds f (open_uses t k (taken true) g q z) → SupportsAll f s (open_changes g m q z ++ make_description d (opened_with g (found_or_made m z)) ∷ last)
+  target_supported None l c h = by g.create c h
+    where
+      by : (b : Bool) → T (is_ok (require b ENOENT)) → Holds f (cond b (name_written q ++ writes (one (size_of m)) ∷ []) []) → SupportsAll f s (open_changes g m q None ++ make_description d (opened_with g (found_or_made m None)) ∷ last)
+      by true c h = make_supported h
+      by false c h = absurd c
+  target_supported (Some y) l c h = found_supported y l (cuts_a_file (is_directory y.kind) g.create g.truncate (not (g.access == 0)) (second_test _ _ _ c)) h
+
+openat_supports : (t : Trace) (k r : ℕ) (s : World) (p : Path) (g : OpenFlags) (index : ℕ) → Awaits t k s → RowSupports t k r s (openat p g index)
+openat_supports t k r s p g index w e h =
+    let at = ok_bind (room t s r index) _ e h in
+    let q = ok_bind (walk s.nodes p) _ e at.2 in
+    let last = ok_then (may_open g q.0.target) _ e q.2 in
+    let made = description_made t k in
+    let uses : Place → Footprint = λ x. open_uses t k (taken true) g x x.target in
+    let places = each_ok uses (walk s.nodes p) in
+    let looks = path_reads s p ++ room_uses t s r index in
+    let row_is = looks ++ made ++ places in
+    let rooms = holds_over row_is looks (room_uses t s r index) (holds_over row_is (looks ++ made) looks (holds_left (looks ++ made) places) (holds_left looks made)) (holds_right (path_reads s p) (room_uses t s r index)) in
+    let describes = holds_over row_is (looks ++ made) made (holds_left (looks ++ made) places) (holds_right looks made) in
+    let here = holds_over row_is places (uses q.0) (holds_right (looks ++ made) places) (holds_ok uses (walk s.nodes p) q.0 q.1) in
+    subst (λ (x : Effect). SupportsAll row_is s x.changes) (ok_same (open_as t k r g at.0 q.0) e last.0)
+    (target_supported t k s g w q.0 row_is (filled r at.0 (made_description t k)).changes (λ z. room_supported t s z r index (made_description t k) at.0 row_is at.1 rooms) describes q.0.target (walk_leads s p q.0 q.1) last.1 here)
+
+pub openat_owes : (t : Trace) (k r : ℕ) (s : World) (p : Path) (g : OpenFlags) (index : ℕ) → Awaits t k s → Owes t k r (openat p g index) s
+openat_owes t k r s p g index w = record { tells = λ u v. openat_tells t k r s u p g index; supports = openat_supports t k r s p g index w }

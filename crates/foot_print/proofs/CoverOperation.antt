@@ -1,0 +1,168 @@
+-- From the row of an operation to the place that runs it: where the row tells the operation's meaning and supports its changes, the footprint covers the place.
+use Rattle.std.specs.Prelude.{◌≡◌, ℕ, Bool, true, false, cond, ◌&&◌, leb, ltb, ◌+◌, ◌<◌, T, List, [], ◌∷◌, ◌++◌, Option, Some, Result, Ok, Err, refl, is_ok, not}
+use Rattle.std.specs.List.{list_any}
+use mathlib.Core.Path.{sym, subst, ap, ◌∙◌}
+use native.Mathlib.Omega.{arith}
+use lib.Dec.{ltb→lt, le→leb}
+use Rattle.sqe_codec.specs.declared.errno.Errno.{Errno}
+use Rattle.trace_format.specs.declared.trace.Entry.{Entry}
+use Rattle.chain_plan.specs.declared.role.Role.{Role}
+use Rattle.trace_format.specs.declared.trace.Trace.{Trace}
+use Rattle.sqe_codec.specs.Answers.{each}
+use Rattle.entry_checks.specs.Operation.{Operation}
+use Rattle.entry_checks.specs.Check.{has, io_hardlink, skip_success}
+use Rattle.chain_plan.specs.Chain.{role}
+use Rattle.world_parts.specs.World.{World, Change, break_chain, apply, apply_all, loud, quiet}
+use Rattle.op_meaning.specs.Meaning.{Effect, meaning}
+use Rattle.op_meaning.specs.Step.{Turn, runs, turn, step_world, step_changes, changes_in, changes_of, breaks}
+use Rattle.world_parts.specs.Items.{Atom, chain_flag, member_of, value, one, Use, writes, Footprint, has_atom, writes_atom, Agree, Holds}
+use Rattle.op_meaning.specs.Footprint.{Taken, row, row_in, as_reads, order_uses, turn_uses, ring_at, footprint}
+use Rattle.foot_print.specs.Laws.{Awaits, Covers}
+use Rattle.world_parts.proofs.Collision.{either_left, either_right, true_of}
+use Rattle.foot_print.proofs.Agreement.{in_left, in_right, agree_taken}
+use Rattle.world_parts.proofs.Collision.{same_atom_refl}
+use Rattle.foot_print.proofs.Answered.{ok_same}
+use Rattle.foot_print.proofs.CoverPlace.{Decided, footprint_same, step_reply_same, step_changes_same}
+use Rattle.foot_print.proofs.CoverChanges.{SupportsAll, supports_all_held, agree_after_changes, kept_by_changes}
+
+-- A place whose operation is decided by its row, and whose footprint supports its changes, is covered by it.
+pub covers : (t : Trace) (k : ℕ) (s : World)
+    → ((u : World) → Awaits t k u → (r : ℕ) (e : Entry) (o : Operation) → turn t k s ≡ Some (runs r e o) → Agree (row_in t k r s o) s u → Decided t k r s u o)
+    → ((u : World) → Awaits t k u → Agree (footprint t k s) s u → SupportsAll (footprint t k s) u (step_changes t k s))
+    → Awaits t k s → Covers t k (footprint t k s) s
+covers t k s decided supports w u v agree =
+    let same = step_changes_same t k s u (decided u v) agree in
+    let in_s = supports s w (record { same = λ a m. refl }) in
+    let in_u = supports u v agree in
+    record {
+      same_footprint = footprint_same t k s u (decided u v) agree;
+      same_reply = step_reply_same t k s u (decided u v) agree;
+      agree_after = subst (λ cs. Agree (footprint t k s) (step_world t k s) (apply_all cs u)) (sym same) (agree_after_changes (footprint t k s) s u (step_changes t k s) in_s in_u agree);
+      nothing_else = λ a n. subst (λ cs. value (apply_all cs u) a ≡ value u a) (sym same) (kept_by_changes (footprint t k s) u (step_changes t k s) in_u a n);
+    }
+
+pub supports_append : (f : Footprint) (cs ds : List Change) (u : World) → SupportsAll f u cs → ((v : World) → SupportsAll f v ds) → SupportsAll f u (cs ++ ds)
+supports_append f [] ds u h g = g u
+supports_append f (c ∷ cs) ds u h g = (h.0, supports_append f cs ds (apply c u) h.1 g)
+
+-- The order of a place supports the breaking of its chain.
+pub breaks_supported : (c : Role) (r : ℕ) (e : Entry) (rest : Footprint) (fails : Bool) (v : World) → SupportsAll (order_uses r c ++ rest) v (breaks c e fails)
+breaks_supported c r e rest fails v = when (fails && not (has e.sqe.flags io_hardlink)) (ltb (c.member + 1) c.length) long
+  where
+    F : Footprint
+    F = order_uses r c ++ rest
+
+    long : T (ltb (c.member + 1) c.length) → T (writes_atom F (chain_flag c.chain))
+    long h =
+        let m : c.member + 1 < c.length = ltb→lt _ _ h in
+        let two : leb 2 c.length ≡ true = true_of _ (le→leb 2 c.length (omega arith)) in
+        in_left (λ (u : Use). u.written && member_of u.item (chain_flag c.chain)) (order_uses r c) rest (either_right (c.barrier && member_of (one (Rattle.world_parts.specs.Items.ring_order r)) (chain_flag c.chain)) _ (subst (λ b. T (list_any (λ (u : Use). u.written && member_of u.item (chain_flag c.chain)) (cond b (writes (one (chain_flag c.chain)) ∷ []) []))) (sym two) (either_left _ _ (same_atom_refl (chain_flag c.chain)))))
+
+    when : (a b : Bool) → (T b → T (writes_atom F (chain_flag c.chain))) → SupportsAll F v (cond (a && b) (break_chain c.chain (cond (has e.sqe.flags skip_success) quiet loud) ∷ []) [])
+    when true true g = (g tt, tt)
+    when true false g = tt
+    when false b g = tt
+
+-- What an entry's turn runs.
+ring_run : Option Turn → ℕ
+ring_run (Some (runs r e o)) = r
+ring_run _ = 0
+
+operation_run : Option Turn → Operation
+operation_run (Some (runs r e o)) = o
+operation_run _ = Operation.nop
+
+pub same_run : (r q : ℕ) (e d : Entry) (o p : Operation) → Some (runs r e o) ≡ Some (runs q d p) → ◌≡◌ {A = ℕ × Operation} (r, o) (q, p)
+unfolding ring_run operation_run
+same_run r q e d o p h = λ i. (ring_run (h i), operation_run (h i))
+
+-- A row taken as accepted, or as refused.
+abbrev pub taken : Bool → Taken
+taken b = record { accepted = b; extending = false }
+
+-- What a row tells of an operation: its meaning, and the row itself.
+pub record Tells (t : Trace) (k r : ℕ) (s u : World) (o : Operation) : Type 0 where
+  pub same_meaning : meaning t k r u o ≡ meaning t k r s o
+  pub same_row : (b : Bool) → row t k r u (taken b) o ≡ row t k r s (taken b) o
+
+-- Worlds that agree on the row have the same meaning and row.
+abbrev pub RowTells : Trace → ℕ → ℕ → World → World → Operation → Type 0
+RowTells t k r s u o = (b : Bool) → Agree (row t k r s (taken b) o) s u → Tells t k r s u o
+
+-- The row of an accepted operation supports its changes.
+abbrev pub RowSupports : Trace → ℕ → ℕ → World → Operation → Type 0
+RowSupports t k r s o = (x : Effect) → meaning t k r s o ≡ Ok x → SupportsAll (row t k r s (taken true) o) s x.changes
+
+module _ (t : Trace) (k r : ℕ) (s : World) (o : Operation) where
+  told : (u : World) → RowTells t k r s u o → Agree (row_in t k r s o) s u → Tells t k r s u o
+  told u tells a = tells (is_ok (meaning t k r s o)) (agree_taken s u (is_ok (meaning t k r s o)) _ a)
+
+  decided : (u : World) → RowTells t k r s u o → Agree (row_in t k r s o) s u → Decided t k r s u o
+  decided u tells a =
+      let x = told u tells a in
+      record {
+        same_meaning = x.same_meaning;
+        same_row = λ i. cond (is_ok (x.same_meaning i)) (x.same_row (is_ok (x.same_meaning i)) i) (as_reads (x.same_row (is_ok (x.same_meaning i)) i));
+      }
+
+  supported : (u : World) (F : Footprint) → RowTells t k r s u o → RowSupports t k r u o → Agree (row_in t k r s o) s u → Holds F (row_in t k r s o) → SupportsAll F u (changes_of (meaning t k r s o))
+  supported u F tells supports a holds = by (meaning t k r s o) refl
+    where
+      x : Tells t k r s u o
+      x = told u tells a
+
+      by : (m : Result Effect Errno) → meaning t k r s o ≡ m → SupportsAll F u (changes_of m)
+      by (Err e) q = tt
+      by (Ok y) q =
+          let fine : is_ok (meaning t k r s o) ≡ true = ap is_ok q in
+          let row_is : row_in t k r s o ≡ row t k r s (taken true) o = λ i. cond (fine i) (row t k r s (taken (fine i)) o) (as_reads (row t k r s (taken (fine i)) o)) in
+          supports_all_held F (row t k r s (taken true) o) u y.changes (subst (Holds F) row_is holds)
+          (subst (λ f. SupportsAll f u y.changes) (x.same_row true) (supports y (x.same_meaning ∙ q)))
+
+-- The footprint of a place covers it where the row of the operation that it runs tells the meaning and supports the changes.
+pub operation_covers : (t : Trace) (k : ℕ) (s : World) (r : ℕ) (e : Entry) (o : Operation) → turn t k s ≡ Some (runs r e o)
+    → ((u : World) → Awaits t k u → RowTells t k r s u o) → ((u : World) → Awaits t k u → RowSupports t k r u o)
+    → Awaits t k s → Covers t k (footprint t k s) s
+operation_covers t k s r e o h tells supports w = covers t k s decides supports_changes w
+  where
+    decides : (u : World) → Awaits t k u → (q : ℕ) (d : Entry) (p : Operation) → turn t k s ≡ Some (runs q d p) → Agree (row_in t k q s p) s u → Decided t k q s u p
+    decides u v q d p g = subst (λ x. Agree (row_in t k x.0 s x.1) s u → Decided t k x.0 s u x.1) (same_run r q e d o p (sym h ∙ g)) (decided t k r s o u (tells u v))
+
+    F : Footprint
+    F = footprint t k s
+
+    order : Footprint
+    order = order_uses (ring_at t k) (role t k)
+
+    up : (p : Use → Bool) → T (list_any p (row_in t k r s o)) → T (list_any p F)
+    up p m = in_right p order (each (turn_uses t k s) (turn t k s)) (subst (λ x. T (list_any p (each (turn_uses t k s) x))) (sym h) m)
+
+    holds : Holds F (row_in t k r s o)
+    holds = record { has = λ a m. up (λ (x : Use). member_of x.item a) m; writes = λ a m. up (λ (x : Use). x.written && member_of x.item a) m }
+
+    supports_changes : (u : World) → Awaits t k u → Agree F s u → SupportsAll F u (step_changes t k s)
+    supports_changes u v a =
+        subst (λ x. SupportsAll F u (each (changes_in t k s) x)) (sym h)
+        (supports_append F (changes_of (meaning t k r s o)) _ u (supported t k r s o u F (tells u v) (supports u v) (record { same = λ b m. a.same b (holds.has b m) }) holds)
+        (λ z. breaks_supported (role t k) (ring_at t k) e (each (turn_uses t k s) (turn t k s)) _ z))
+
+-- A footprint has all uses of another.
+pub record Contains (f g : Footprint) : Type 0 where
+  pub uses : (p : Use → Bool) → T (list_any p g) → T (list_any p f)
+
+-- What an operation owes in a world: its row tells its meaning and itself, and where it is accepted, supports its changes.
+pub record Owes (t : Trace) (k r : ℕ) (o : Operation) (s : World) : Type 0 where
+  pub tells : (u : World) → Awaits t k u → RowTells t k r s u o
+  pub supports : RowSupports t k r s o
+
+-- What an accepted answer changes is supported where that of its effect is.
+pub supports_effect : (g : Footprint) (u : World) (x y : Effect) → ◌≡◌ {A = Result Effect Errno} (Ok x) (Ok y) → SupportsAll g u x.changes → SupportsAll g u y.changes
+supports_effect g u x y e h = subst (λ z. SupportsAll g u z.changes) (ok_same x y e) h
+
+-- The statement of cover for one operation at every place that runs it.
+abbrev pub OperationCovers : Operation → Type 0
+OperationCovers o = (t : Trace) (k : ℕ) (s : World) (r : ℕ) (e : Entry) → turn t k s ≡ Some (runs r e o) → Awaits t k s → Covers t k (footprint t k s) s
+
+-- An operation that pays what it owes in every world is covered.
+pub owed_covers : (o : Operation) → ((t : Trace) (k r : ℕ) (s : World) → Awaits t k s → Owes t k r o s) → OperationCovers o
+owed_covers o owes t k s r e h w = operation_covers t k s r e o h (λ u v. (owes t k r s w).tells u v) (λ u v. (owes t k r u v).supports) w

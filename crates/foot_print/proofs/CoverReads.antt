@@ -1,0 +1,110 @@
+-- Operations that read an open file: read, readv, and read_fixed, which reads into a registered buffer.
+use Rattle.std.specs.Prelude.{◌≡◌, ℕ, Bool, true, false, cond, not, ◌&&◌, ◌==◌, leb, min, ◌+◌, ◌<◌, ◌≤◌, T, List, [], ◌∷◌, ◌++◌, length, take, drop, Option, Some, None, Result, Ok, ok_or, refl}
+use Rattle.std.specs.List.{list_any}
+use Rattle.std.specs.Option.{option_map}
+use mathlib.Core.Path.{sym, subst, ap, ◌∙◌}
+use native.Mathlib.Omega.{arith}
+use lib.Dec.{ltb→lt, lt→ltb, leb→le, le→leb, eqb_refl}
+use Rattle.std.proofs.Math.ListN.{length-take}
+use Rattle.sqe_codec.specs.declared.errno.Errno.{Errno}
+use Rattle.sqe_codec.specs.declared.errno.Errno.TheVariants.{EBADF, EISDIR, EINVAL, EFAULT}
+use Rattle.trace_format.specs.declared.trace.Trace.{Trace}
+use Rattle.sqe_codec.specs.Answers.{each, ◌>>◌, require}
+use Rattle.entry_checks.specs.Operation.{read, readv, read_fixed, File, Span, at_position}
+use Rattle.trace_format.specs.Sides.{most_moved}
+use Rattle.world_parts.specs.World.{World, set_position}
+use Rattle.op_meaning.specs.Meaning.{Effect, done, Handle, handle, can_read, is_file, is_bad_offset, Destination, reply, into, delivered, advance, transfer_start, bytes_in, read_effect, readable, read_meaning, span_start, span_destination}
+use Rattle.world_parts.specs.Items.{position_of, buffer_byte, size_of, member_of, one, buffer_bytes, Use, reads, writes, Footprint, writes_atom}
+use Rattle.op_meaning.specs.Footprint.{on_file, transfer_range, position_written, position_use, read_row, span_use}
+use Rattle.foot_print.specs.Laws.{Awaits}
+use Rattle.world_parts.proofs.Collision.{both, either_left, left, right, true_of}
+use Rattle.foot_print.proofs.Agreement.{in_left, in_right, agree_left}
+use Rattle.world_parts.proofs.Trees.{some_apart}
+use Rattle.foot_print.proofs.Answered.{ok_same, was_ok, was_required, was_there}
+use Rattle.foot_print.proofs.OpenFile.{in_on_file}
+use Rattle.foot_print.proofs.CoverRead.{read_same, read_row_same}
+use Rattle.foot_print.proofs.CoverChanges.{SupportsAll}
+use Rattle.foot_print.proofs.CoverOperation.{Contains, Owes, supports_effect}
+
+-- A transfer at the position is supported where the position is written.
+pub advance_supported : (g : Footprint) (v : World) (h : Handle) (o end : ℕ) → (T (o == at_position) → T (writes_atom g (position_of h.description))) → SupportsAll g v (advance h o end)
+advance_supported g v h o end w = by (o == at_position) w
+  where
+    by : (b : Bool) → (T b → T (writes_atom g (position_of h.description))) → SupportsAll g v (cond b (set_position h.description end ∷ []) [])
+    by true k = (k tt, tt)
+    by false k = tt
+
+-- Where a transfer uses the position, it is written.
+pub position_is_written : (h : Handle) (o : ℕ) → T (o == at_position) → T (writes_atom (position_written h o) (position_of h.description))
+position_is_written h o p = subst (λ b. T (writes_atom (cond b (writes (one (position_of h.description)) ∷ []) []) (position_of h.description))) (sym (true_of _ p)) (either_left _ _ (eqb_refl h.description))
+
+module _ (t : Trace) (r : ℕ) (f : File) (o n : ℕ) (span : Result Destination Errno) (s : World) (g : Footprint) where
+  -- A destination that a read may have is written.
+  abbrev IsWritten : Destination → Type 0
+  IsWritten reply = Unit {0}
+  IsWritten (into b at) = (p : ℕ) → at ≤ p → p < at + n → T (writes_atom g (buffer_byte r b p))
+
+  delivered_supported : (h : Handle) (at : ℕ) (x : List ℕ) (to : Destination) → length x ≤ n → (T (o == at_position) → T (writes_atom g (position_of h.description))) → IsWritten to → SupportsAll g s (delivered r to x (advance h o at)).changes
+  delivered_supported h at x reply l w d = advance_supported g s h o at w
+  delivered_supported h at x (into b from) l w d = (
+    (λ p m. let below : from ≤ p = leb→le from p (left _ _ m) in let above : p < from + length x = ltb→lt p _ (right (leb from p) _ m) in d p below (omega arith)),
+    advance_supported g _ h o at w,
+  )
+
+  -- What a read's row, and what it has of its destination, supports its changes.
+  pub read_supported : (e : Effect) → read_meaning t s r f o n span ≡ Ok e → Contains g (read_row t s r f o n) → ((to : Destination) → span ≡ Ok to → IsWritten to) → SupportsAll g s e.changes
+  read_supported e q c d =
+      let m = was_ok (readable t s r f) _ e q in
+      let l = was_ok (ok_or (handle t s r f) EBADF) (λ h. require (can_read h.opened.access) EBADF >> (require (is_file h.opened) EISDIR >> Ok h)) m.0 m.1 in
+      let i = was_required (is_file l.0.opened) EISDIR (Ok l.0) m.0 (was_required (can_read l.0.opened.access) EBADF _ m.0 l.2).1 in
+      let there = was_there (handle t s r f) EBADF m.0 (l.1 ∙ i.1) in
+      let x = was_ok span _ e m.2 in
+      let y = was_required (not (is_bad_offset o)) EINVAL _ e x.2 in
+      supports_effect g s _ e y.1 (moves m.0 x.0 (n == 0) (subst (λ h. T (is_file h.opened)) (ok_same l.0 m.0 i.1) i.0) there (d x.0 x.1))
+    where
+      content : ℕ → Handle → Footprint
+      content i h = reads (one (size_of i)) ∷ reads (transfer_range i (o == at_position) o n) ∷ position_written h o
+
+      moves : (h : Handle) (to : Destination) (none : Bool) → T (is_file h.opened) → handle t s r f ≡ Some h → IsWritten to → SupportsAll g s (cond none (done []) (read_effect s r h o n to)).changes
+      moves h to true i there w = tt
+      moves h to false i there w =
+          let at = transfer_start s h o in
+          let x = take n (drop at (bytes_in s h.opened.target.node)) in
+          let l = length-take n (drop at (bytes_in s h.opened.target.node)) in
+          delivered_supported h (at + length x) x to (omega arith) (λ p. c.uses (λ (z : Use). z.written && member_of z.item (position_of h.description))
+          (in_left (λ (z : Use). z.written && member_of z.item (position_of h.description)) (on_file t s r f content) (position_use t s r f o)
+          (in_on_file t s r f content (λ (z : Use). z.written && member_of z.item (position_of h.description)) h there i (position_is_written h o p)))) w
+
+pub read_owes : (t : Trace) (k r : ℕ) (s : World) (f : File) (o n : ℕ) → Awaits t k s → Owes t k r (read f o n) s
+read_owes t k r s f o n w = record {
+  tells = λ u v b a. record { same_meaning = read_same t s u r f o (min n most_moved) (Ok reply) w.is_world a; same_row = λ c. read_row_same t s u r f o (min n most_moved) a };
+  supports = λ e q. read_supported t r f o (min n most_moved) (Ok reply) s (read_row t s r f o (min n most_moved)) e q (record { uses = λ p m. m }) (λ to h. subst (IsWritten t r f o (min n most_moved) (Ok reply) s (read_row t s r f o (min n most_moved))) (ok_same reply to h) tt);
+}
+
+pub readv_owes : (t : Trace) (k r : ℕ) (s : World) (f : File) (o n : ℕ) → Awaits t k s → Owes t k r (readv f o n) s
+readv_owes t k r s f o n w = let x = read_owes t k r s f o n w in record { tells = λ u v b a. let y = x.tells u v b a in record { same_meaning = y.same_meaning; same_row = y.same_row }; supports = x.supports }
+
+-- The range of a span in its buffer that a transfer of fewer bytes uses.
+pub in_span : (b : Bool) (t : Trace) (r : ℕ) (x : Span) (q : Use → Bool) (at : ℕ) → span_start t r x ≡ Some at → T (q (record { item = buffer_bytes r x.index at (at + x.length); written = b })) → T (list_any q (span_use b t r x))
+in_span b t r x q at e m = subst (λ o. T (list_any q (each (λ at. record { item = buffer_bytes r x.index at (at + x.length); written = b } ∷ []) o))) (sym e) (either_left _ _ m)
+
+pub offset_in_span : (r b at n p : ℕ) → at ≤ p → p < at + n → T (member_of (buffer_bytes r b at (at + n)) (buffer_byte r b p))
+offset_in_span r b at n p below above = both (r == r && b == b) _ (both _ _ (eqb_refl r) (eqb_refl b)) (both (leb at p) _ (le→leb at p below) (lt→ltb p _ above))
+
+pub read_fixed_owes : (t : Trace) (k r : ℕ) (s : World) (f : File) (o : ℕ) (x : Span) → Awaits t k s → Owes t k r (read_fixed f o x) s
+read_fixed_owes t k r s f o x w = record {
+  tells = λ u v b a.
+      let d = agree_left s u (read_row t s r f o n) (span_use true t r x) a in
+      record { same_meaning = read_same t s u r f o n (span_destination t r x) w.is_world d; same_row = λ c. ap (λ z. z ++ span_use true t r x) (read_row_same t s u r f o n d) };
+  supports = λ e q.
+      read_supported t r f o n (span_destination t r x) s (read_row t s r f o n ++ span_use true t r x) e q (record { uses = λ p m. in_left p (read_row t s r f o n) (span_use true t r x) m }) (destination (span_start t r x) refl);
+}
+  where
+    n : ℕ
+    n = min x.length most_moved
+
+    destination : (y : Option ℕ) → span_start t r x ≡ y → (to : Destination) → ok_or (option_map (λ at. into x.index at) y) EFAULT ≡ Ok to → IsWritten t r f o (min x.length most_moved) (span_destination t r x) s (read_row t s r f o (min x.length most_moved) ++ span_use true t r x) to
+    destination None e to h = absurd (some_apart (sym (was_there None EFAULT to h)))
+    destination (Some at) e to h = subst (IsWritten t r f o (min x.length most_moved) (span_destination t r x) s (read_row t s r f o (min x.length most_moved) ++ span_use true t r x)) (ok_same (into x.index at) to h) (λ p below above.
+        in_right (λ (z : Use). z.written && member_of z.item (buffer_byte r x.index p)) (read_row t s r f o (min x.length most_moved)) (span_use true t r x)
+        (in_span true t r x (λ (z : Use). z.written && member_of z.item (buffer_byte r x.index p)) at e (offset_in_span r x.index at x.length p below (omega arith))))

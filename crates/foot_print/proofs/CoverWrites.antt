@@ -1,0 +1,248 @@
+-- Operations that write an open file: write, writev, and write_fixed, which writes from a registered buffer.
+use Rattle.std.specs.Prelude.{◌≡◌, ℕ, zero, suc, Bool, true, false, cond, not, ◌&&◌, ◌||◌, ◌==◌, ltb, leb, min, ◌+◌, ◌-◌, ◌<◌, ◌≤◌, ◌⊎◌, T, List, [], ◌∷◌, ◌++◌, length, take, drop, Option, Some, None, Result, Ok, ok_or, refl, unwrap_or, IfSome}
+use Rattle.std.specs.List.{slice_get}
+use Rattle.std.specs.Option.{option_map, option_and_then, is_some}
+use mathlib.Core.Path.{sym, subst, ap, ◌∙◌}
+use mathlib.Core.Logic.{inl, inr}
+use native.Mathlib.Omega.{arith}
+use lib.Dec.{ltb→lt, lt→ltb, leb→le, le→leb, eqb→eq, eqb_refl, nltb→le}
+use Rattle.std.proofs.Math.ListN.{length-take}
+use Rattle.sqe_codec.specs.declared.errno.Errno.{Errno}
+use Rattle.sqe_codec.specs.declared.errno.Errno.TheVariants.{EBADF, EINVAL, EFBIG, EFAULT}
+use Rattle.trace_format.specs.declared.trace.Trace.{Trace}
+use Rattle.sqe_codec.specs.Answers.{each, ◌>>=◌, ◌>>◌, require}
+use Rattle.entry_checks.specs.Operation.{write, writev, write_fixed, File, Span, at_position, file_limit}
+use Rattle.trace_format.specs.Sides.{most_moved}
+use Rattle.world_parts.specs.World.{World, IsWorld, bytes, size, position, buffer}
+use Rattle.op_meaning.specs.Meaning.{Effect, done, Handle, handle, can_write, is_bad_offset, transfer_start, write_start, write_effect, writable, write_meaning, bytes_in, span_start, span_bytes}
+use Rattle.world_parts.specs.Items.{Atom, member_of, size_of, byte_at, position_of, buffer_byte, within, one, Use, writes, Footprint, writes_atom, Agree}
+use Rattle.op_meaning.specs.Footprint.{Taken, use_of, on_file, transfer_range, position_written, position_use, would_extend, write_row, span_use}
+use Rattle.foot_print.specs.Laws.{Awaits}
+use Rattle.world_parts.proofs.Collision.{both, either_left, either_right, left, right}
+use Rattle.foot_print.proofs.Agreement.{in_left, agree_left, agree_right, agree_head, agree_tail, handle_same}
+use Rattle.world_parts.proofs.Trees.{some_same, some_apart}
+use Rattle.foot_print.proofs.Answered.{ok_same, was_ok, was_required, was_there}
+use Rattle.foot_print.proofs.OpenFile.{with_handle, on_file_same, in_on_file, on_its_file, writable_is_file, file_there, length_same, length_by_size}
+use Rattle.foot_print.proofs.CoverChanges.{SupportsAll}
+use Rattle.foot_print.proofs.CoverOperation.{Contains, taken, Owes, supports_effect}
+use Rattle.foot_print.proofs.CoverReads.{advance_supported, position_is_written, in_span, offset_in_span}
+
+-- What a write of at most n bytes has of the file.
+abbrev pub content : World → Bool → ℕ → ℕ → ℕ → Handle → Footprint
+content s ext o n i h =
+    let anywhere = h.opened.append || o == at_position in
+    use_of (anywhere || ext || (not (n == 0) && would_extend s i (o + n))) (one (size_of i)) ∷ writes (transfer_range i anywhere o n) ∷ position_written h o
+
+write_row_same : (t : Trace) (s u : World) (r : ℕ) (x : Taken) (f : File) (o n : ℕ) → Agree (write_row t s r x f o n) s u → write_row t u r x f o n ≡ write_row t s r x f o n
+write_row_same t s u r x f o n b =
+    let a = agree_left s u _ _ b in
+    λ i. on_file_same t s u r f (content s x.extending o n) (content u x.extending o n) same a i ++ each (λ h. position_written h o) (handle_same t s u r f (content s x.extending o n) a i)
+  where
+    same : (h : Handle) → Agree (content s x.extending o n h.opened.target.node h) s u → content u x.extending o n h.opened.target.node h ≡ content s x.extending o n h.opened.target.node h
+    same h k = ap (λ m. use_of ((h.opened.append || o == at_position) || x.extending || (not (n == 0) && ltb m (min (o + n) file_limit))) (one (size_of h.opened.target.node)) ∷ writes (transfer_range h.opened.target.node (h.opened.append || o == at_position) o n) ∷ position_written h o)
+        (length_same s u h.opened.target.node (agree_head s u (size_of h.opened.target.node) _ _ k))
+
+-- Where a write starts is the same where worlds agree on its content.
+start_same : (s u : World) (ext : Bool) (o n : ℕ) (h : Handle) → Agree (content s ext o n h.opened.target.node h) s u → write_start u h o ≡ write_start s h o
+start_same s u ext o n h a =
+    elim h.opened.append as (λ b. cond b (length (bytes_in u h.opened.target.node)) (transfer_start u h o) ≡ cond b (length (bytes_in s h.opened.target.node)) (transfer_start s h o)) [
+      | true ↦ length_same s u h.opened.target.node (agree_head s u (size_of h.opened.target.node) _ _ a)
+      | false ↦ elim (o == at_position) as (λ b. Agree (cond b (writes (one (position_of h.description)) ∷ []) []) s u → cond b (unwrap_or (position u h.description) 0) o ≡ cond b (unwrap_or (position s h.description) 0) o) [
+        | true ↦ λ k. ap (λ x. unwrap_or x 0) (sym (agree_head s u (position_of h.description) true [] k))
+        | false ↦ λ k. refl
+      ] (agree_tail s u _ _ (agree_tail s u _ _ a))
+    ]
+
+-- What a write does from a place in a file, and with a handle.
+abbrev writes_from : ℕ → Handle → ℕ → List ℕ → Result Effect Errno
+writes_from o h at new = cond (length new == 0) (Ok (done [])) (require (ltb at file_limit) EFBIG >> Ok (write_effect h o at (take (file_limit - at) new)))
+
+abbrev handed : World → ℕ → Result (List ℕ) Errno → Bool → Handle → Result Effect Errno
+handed s o source cw h = (require cw EBADF >> Ok h) >>= λ g. source >>= λ new. require (not (is_bad_offset o)) EINVAL >> writes_from o g (write_start s g o) new
+
+by_handle : (t : Trace) (s : World) (r : ℕ) (f : File) (o : ℕ) (source : Result (List ℕ) Errno) → write_meaning t s r f o source ≡ (ok_or (handle t s r f) EBADF >>= λ h. handed s o source (can_write h.opened.access) h)
+by_handle t s r f o source = by (handle t s r f)
+  where
+    by : (x : Option Handle) → ((ok_or x EBADF >>= λ h. require (can_write h.opened.access) EBADF >> Ok h) >>= λ h. source >>= λ new. require (not (is_bad_offset o)) EINVAL >> writes_from o h (write_start s h o) new) ≡ (ok_or x EBADF >>= λ h. handed s o source (can_write h.opened.access) h)
+    by None = refl
+    by (Some h) = refl
+
+handed_same : (s u : World) (o : ℕ) (source : Result (List ℕ) Errno) (cw : Bool) (h : Handle) → (T cw → write_start u h o ≡ write_start s h o) → handed u o source cw h ≡ handed s o source cw h
+handed_same s u o source false h a = refl
+handed_same s u o source true h a = ap (λ x. source >>= λ new. require (not (is_bad_offset o)) EINVAL >> writes_from o h x new) (a tt)
+
+write_same : (t : Trace) (s u : World) (r : ℕ) (x : Taken) (f : File) (o n : ℕ) (source : Result (List ℕ) Errno) → IsWorld s → Agree (write_row t s r x f o n) s u → write_meaning t u r f o source ≡ write_meaning t s r f o source
+write_same t s u r x f o n source w a =
+    by_handle t u r f o source
+    ∙ with_handle t s u r f c (λ h. handed s o source (can_write h.opened.access) h) (λ h. handed u o source (can_write h.opened.access) h) (agree_left s u _ _ a) (λ h e b.
+    handed_same s u o source (can_write h.opened.access) h (λ k. start_same s u x.extending o n h (on_its_file t s u c h (writable_is_file t s r f h w e k) b)))
+    ∙ sym (by_handle t s r f o source)
+  where
+    c : ℕ → Handle → Footprint
+    c = content s x.extending o n
+
+-- Without an append flag and the position, a write starts at its offset.
+start_is : (a b : Bool) (x y o : ℕ) → (a || b) ≡ false → cond a x (cond b y o) ≡ o
+start_is true b x y o e = absurd (subst T e tt)
+start_is false true x y o e = absurd (subst T e tt)
+start_is false false x y o e = refl
+
+at_most : (x : Option ℕ) (a : ℕ) → a ≤ unwrap_or x 0 → IfSome x (λ n. a ≤ n)
+at_most None a h = tt
+at_most (Some n) a h = h
+
+false_of : (b : Bool) → (T b → ⊥) → b ≡ false
+false_of true h = absurd (h tt)
+false_of false h = refl
+
+not_zero : (n : ℕ) → 0 < n → T (not (n == 0))
+not_zero n h = elim (n == 0) as (λ b. (n == 0) ≡ b → T (not b)) [ true ↦ λ e. (let z : n ≡ 0 = eqb→eq n 0 (subst T (sym e) tt) in absurd (omega arith)) | false ↦ λ e. tt ] refl
+
+positive : (n : ℕ) → (n == 0) ≡ false → 0 < n
+positive zero e = absurd (subst T e tt)
+positive (suc n) e = omega arith
+
+-- What the content of a write writes supports its changes.
+module _ (s : World) (o n : ℕ) (new : List ℕ) (h : Handle) (g : Footprint) (c : Contains g (content s false o n h.opened.target.node h))
+    (there : T (is_some (size s h.opened.target.node))) (fewer : length new ≤ n) where
+  abbrev i : ℕ
+  i = h.opened.target.node
+
+  abbrev anywhere : Bool
+  anywhere = h.opened.append || o == at_position
+
+  abbrev flag : Bool
+  flag = anywhere || false || (not (n == 0) && would_extend s i (o + n))
+
+  written : (a : Atom) → T (writes_atom (content s false o n i h) a) → T (writes_atom g a)
+  written a m = c.uses (λ (x : Use). x.written && member_of x.item a) m
+
+  -- Where the write makes the file longer, the size is written.
+  growth : (at : ℕ) → (anywhere ≡ false → at ≡ o) → at < file_limit → 0 < length new → T (writes_atom g (size_of i)) ⊎ IfSome (size s i) (λ m. at + length (take (file_limit - at) new) ≤ m)
+  growth at from below some =
+      elim flag as (λ b. flag ≡ b → T (writes_atom g (size_of i)) ⊎ IfSome (size s i) (λ m. at + length (take (file_limit - at) new) ≤ m)) [
+        | true ↦ λ e. inl (written (size_of i) (either_left _ _ (both flag (i == i) (subst T (sym e) tt) (eqb_refl i))))
+        | false ↦ λ e. inr (at_most (size s i) _ (short (false_of anywhere (λ w. subst T e (either_left (anywhere || false) _ (either_left anywhere false w)))) (false_of (would_extend s i (o + n)) (λ w. subst T e (either_right (anywhere || false) _ (both _ _ (not_zero n (omega arith)) w))))))
+      ] refl
+    where
+      short : anywhere ≡ false → would_extend s i (o + n) ≡ false → at + length (take (file_limit - at) new) ≤ unwrap_or (size s i) 0
+      short e f =
+          let begin : at ≡ o = from e in
+          let longest : min (o + n) file_limit ≤ length (bytes_in s i) = nltb→le _ _ (subst (λ b. T (not b)) (sym f) tt) in
+          let count = length-take (file_limit - at) new in
+          let known : length (bytes_in s i) ≡ unwrap_or (size s i) 0 = length_by_size (bytes s i) in
+          omega arith
+
+  -- The bytes that move are written.
+  bytes_written : (at : ℕ) → (anywhere ≡ false → at ≡ o) → at < file_limit → (p : ℕ) → T (within at (at + length (take (file_limit - at) new)) p) → T (writes_atom g (byte_at i p))
+  bytes_written at from below p m =
+      let lower : at ≤ p = leb→le at p (left (leb at p) _ m) in
+      let upper : p < at + length (take (file_limit - at) new) = ltb→lt p _ (right (leb at p) _ m) in
+      let count = length-take (file_limit - at) new in
+      written (byte_at i p) (either_right (flag && member_of (one (size_of i)) (byte_at i p)) _ (either_left _ _ (elim anywhere as (λ b. anywhere ≡ b → T (member_of (transfer_range i b o n) (byte_at i p))) [
+        | true ↦ λ e. both (i == i) _ (eqb_refl i) (both (leb 0 p) _ (le→leb 0 p (omega arith)) (lt→ltb p _ (omega arith)))
+        | false ↦ λ e. let begin : at ≡ o = from e in both (i == i) _ (eqb_refl i) (both (leb o p) _ (le→leb o p (omega arith)) (lt→ltb p _ (omega arith)))
+      ] refl)))
+
+  moves : write_start s h o < file_limit → 0 < length new → SupportsAll g s (write_effect h o (write_start s h o) (take (file_limit - write_start s h o) new)).changes
+  moves below some = (
+    (
+      there,
+      c.uses (λ (x : Use). member_of x.item (size_of i)) (either_left _ _ (eqb_refl i)),
+      growth (write_start s h o) (start_is h.opened.append (o == at_position) _ _ o) below some,
+      bytes_written (write_start s h o) (start_is h.opened.append (o == at_position) _ _ o) below,
+    ),
+    advance_supported g _ h o _ (λ e. written (position_of h.description) (either_right (flag && member_of (one (size_of i)) (position_of h.description)) _ (either_right (member_of (transfer_range i anywhere o n) (position_of h.description)) _ (position_is_written h o e)))),
+  )
+
+  from_supported : (e : Effect) → writes_from o h (write_start s h o) new ≡ Ok e → SupportsAll g s e.changes
+  from_supported e q = by (length new == 0) refl q
+    where
+      by : (b : Bool) → (length new == 0) ≡ b → cond b (Ok (done [])) (require (ltb (write_start s h o) file_limit) EFBIG >> Ok (write_effect h o (write_start s h o) (take (file_limit - write_start s h o) new))) ≡ Ok e → SupportsAll g s e.changes
+      by true z k = supports_effect g s (done []) e k tt
+      by false z k = let x = was_required (ltb (write_start s h o) file_limit) EFBIG _ e k in supports_effect g s _ e x.1 (moves (ltb→lt _ _ x.0) (positive (length new) z))
+
+-- What a write's row writes supports its changes.
+write_supported : (t : Trace) (r : ℕ) (f : File) (o n : ℕ) (source : Result (List ℕ) Errno) (s : World) (g : Footprint) → IsWorld s → ((new : List ℕ) → source ≡ Ok new → length new ≤ n)
+    → (e : Effect) → write_meaning t s r f o source ≡ Ok e → Contains g (on_file t s r f (content s false o n)) → SupportsAll g s e.changes
+write_supported t r f o n source s g w few e q c =
+    let m = was_ok (writable t s r f) _ e q in
+    let l = was_ok (ok_or (handle t s r f) EBADF) (λ h. require (can_write h.opened.access) EBADF >> Ok h) m.0 m.1 in
+    let i = was_required (can_write l.0.opened.access) EBADF (Ok l.0) m.0 l.2 in
+    let there = was_there (handle t s r f) EBADF m.0 (l.1 ∙ i.1) in
+    let can = subst (λ h. T (can_write h.opened.access)) (ok_same l.0 m.0 i.1) i.0 in
+    let y = was_ok source _ e m.2 in
+    let k = was_required (not (is_bad_offset o)) EINVAL _ e y.2 in
+    let d = on_content m.0 there can in
+    from_supported s o n y.0 m.0 g d (file_there t s r f m.0 w there can) (few y.0 y.1) e k.1
+  where
+    on_content : (h : Handle) → handle t s r f ≡ Some h → T (can_write h.opened.access) → Contains g (content s false o n h.opened.target.node h)
+    on_content h there can = record { uses = λ p m. c.uses p (in_on_file t s r f (content s false o n) p h there (writable_is_file t s r f h w there can) m) }
+
+pub write_owes : (t : Trace) (k r : ℕ) (s : World) (f : File) (o : ℕ) (new : List ℕ) → Awaits t k s → Owes t k r (write f o new) s
+write_owes t k r s f o new w = record {
+  tells = λ u v b a. record { same_meaning = write_same t s u r (taken true) f o (length new) (Ok new) w.is_world a; same_row = λ c. write_row_same t s u r (taken true) f o (length new) a };
+  supports = λ e q. write_supported t r f o (length new) (Ok new) s (write_row t s r (taken true) f o (length new)) w.is_world (λ x h. subst (λ y. length y ≤ length new) (ok_same new x h) (omega arith)) e q
+      (record { uses = λ p m. in_left p (on_file t s r f (content s false o (length new))) (position_use t s r f o) m });
+}
+
+pub writev_owes : (t : Trace) (k r : ℕ) (s : World) (f : File) (o : ℕ) (new : List ℕ) → Awaits t k s → Owes t k r (writev f o new) s
+writev_owes t k r s f o new w = let x = write_owes t k r s f o new w in record { tells = λ u v b a. let y = x.tells u v b a in record { same_meaning = y.same_meaning; same_row = y.same_row }; supports = x.supports }
+
+drop_none : {A : Type 0} (n : ℕ) → ◌≡◌ {A = List A} (drop n []) []
+drop_none zero = refl
+drop_none (suc n) = refl
+
+take_none : {A : Type 0} (n : ℕ) → ◌≡◌ {A = List A} (take n []) []
+take_none zero = refl
+take_none (suc n) = refl
+
+-- A slice is decided by what is found in its range.
+slice_decided : (n at : ℕ) (xs ys : List ℕ) → ((p : ℕ) → at ≤ p → p < at + n → slice_get xs p ≡ slice_get ys p) → take n (drop at xs) ≡ take n (drop at ys)
+slice_decided zero at xs ys h = refl
+slice_decided (suc n) zero [] [] h = refl
+slice_decided (suc n) zero [] (y ∷ ys) h = absurd (some_apart (sym (h 0 (omega arith) (omega arith))))
+slice_decided (suc n) zero (x ∷ xs) [] h = absurd (some_apart (h 0 (omega arith) (omega arith)))
+slice_decided (suc n) zero (x ∷ xs) (y ∷ ys) h = λ i. some_same x y (h 0 (omega arith) (omega arith)) i ∷ slice_decided n zero xs ys (λ p a b. h (suc p) (omega arith) (omega arith)) i
+slice_decided (suc n) (suc at) [] [] h = refl
+slice_decided (suc n) (suc at) [] (y ∷ ys) h = sym (ap (take (suc n)) (drop_none at)) ∙ slice_decided (suc n) at [] ys (λ p a b. h (suc p) (omega arith) (omega arith))
+slice_decided (suc n) (suc at) (x ∷ xs) [] h = slice_decided (suc n) at xs [] (λ p a b. h (suc p) (omega arith) (omega arith)) ∙ ap (take (suc n)) (drop_none at)
+slice_decided (suc n) (suc at) (x ∷ xs) (y ∷ ys) h = slice_decided (suc n) at xs ys (λ p a b. h (suc p) (omega arith) (omega arith))
+
+found_in : (o : Option (List ℕ)) (p : ℕ) → slice_get (unwrap_or o []) p ≡ option_and_then (λ bs. slice_get bs p) o
+found_in None p = refl
+found_in (Some bs) p = refl
+
+-- The bytes of a span are the same where worlds agree on them.
+span_bytes_same : (t : Trace) (s u : World) (r : ℕ) (x : Span) → Agree (span_use false t r x) s u → span_bytes t u r x ≡ span_bytes t s r x
+span_bytes_same t s u r x a = by (span_start t r x) refl
+  where
+    n : ℕ
+    n = min x.length most_moved
+
+    held : World → List ℕ
+    held w = unwrap_or (buffer w r x.index) []
+
+    by : (y : Option ℕ) → span_start t r x ≡ y → ok_or (option_map (λ at. take (min x.length most_moved) (drop at (unwrap_or (buffer u r x.index) []))) y) EFAULT ≡ ok_or (option_map (λ at. take (min x.length most_moved) (drop at (unwrap_or (buffer s r x.index) []))) y) EFAULT
+    by None e = refl
+    by (Some at) e = ap (λ z. Ok z) (slice_decided (min x.length most_moved) at (unwrap_or (buffer u r x.index) []) (unwrap_or (buffer s r x.index) []) (λ p below above.
+        found_in (buffer u r x.index) p ∙ sym (a.same (buffer_byte r x.index p) (in_span false t r x (λ (z : Use). member_of z.item (buffer_byte r x.index p)) at e (offset_in_span r x.index at x.length p below (omega arith)))) ∙ sym (found_in (buffer s r x.index) p)))
+
+span_bytes_fit : (t : Trace) (s : World) (r : ℕ) (x : Span) (new : List ℕ) → span_bytes t s r x ≡ Ok new → length new ≤ min x.length most_moved
+span_bytes_fit t s r x new e = by (span_start t r x) e
+  where
+    by : (y : Option ℕ) → ok_or (option_map (λ at. take (min x.length most_moved) (drop at (unwrap_or (buffer s r x.index) []))) y) EFAULT ≡ Ok new → length new ≤ min x.length most_moved
+    by None h = absurd (some_apart (sym (was_there None EFAULT new h)))
+    by (Some at) h = let l = length-take (min x.length most_moved) (drop at (unwrap_or (buffer s r x.index) [])) in subst (λ y. length y ≤ min x.length most_moved) (ok_same _ new h) (omega arith)
+
+pub write_fixed_owes : (t : Trace) (k r : ℕ) (s : World) (f : File) (o : ℕ) (x : Span) → Awaits t k s → Owes t k r (write_fixed f o x) s
+write_fixed_owes t k r s f o x w = record {
+  tells = λ u v b a.
+      let d = agree_left s u (write_row t s r (taken true) f o (min x.length most_moved)) (span_use false t r x) a in
+      record {
+        same_meaning = ap (write_meaning t u r f o) (span_bytes_same t s u r x (agree_right s u (write_row t s r (taken true) f o (min x.length most_moved)) (span_use false t r x) a)) ∙ write_same t s u r (taken true) f o (min x.length most_moved) (span_bytes t s r x) w.is_world d;
+        same_row = λ c. ap (λ z. z ++ span_use false t r x) (write_row_same t s u r (taken true) f o (min x.length most_moved) d);
+      };
+  supports = λ e q. write_supported t r f o (min x.length most_moved) (span_bytes t s r x) s (write_row t s r (taken true) f o (min x.length most_moved) ++ span_use false t r x) w.is_world (span_bytes_fit t s r x) e q
+      (record { uses = λ p m. in_left p (write_row t s r (taken true) f o (min x.length most_moved)) (span_use false t r x) (in_left p (on_file t s r f (content s false o (min x.length most_moved))) (position_use t s r f o) m) });
+}

@@ -1,0 +1,149 @@
+-- Operations on open files leave a world: their changes keep all nodes, names and descriptions.
+use Rattle.std.specs.Prelude.{◌≡◌, ℕ, ℤ, pos, negsuc, zero, suc, Bool, true, false, cond, not, ◌&&◌, ◌==◌, ltb, leb, ◌+◌, ◌-◌, ◌^◌, ◌<◌, ◌≤◌, List, [], ◌∷◌, length, take, Option, Some, None, Result, Ok, ok_or, refl, IfSome, unwrap_or}
+use Rattle.std.specs.Option.{option_map, option_and_then, is_some}
+use Rattle.std.proofs.Math.ListN.{length-take}
+use mathlib.Core.Path.{sym, subst}
+use native.Mathlib.Omega.{arith}
+use lib.Dec.{ltb→lt, leb→le}
+use Rattle.sqe_codec.specs.declared.errno.Errno.{Errno}
+use Rattle.sqe_codec.specs.declared.errno.Errno.TheVariants.{EBADF, EINVAL, EFBIG, EOPNOTSUPP}
+use Rattle.trace_format.specs.declared.trace.Trace.{Trace}
+use Rattle.sqe_codec.specs.Answers.{◌>>◌, require}
+use Rattle.entry_checks.specs.Operation.{file_limit, File, at_position}
+use Rattle.finite_maps.specs.Table.{get}
+use Rattle.world_parts.specs.World.{World, IsWorld, name, slot, bytes, Change, make_node, set_slot, set_descriptor, make_description, set_position, set_size, write_bytes, zero_bytes, write_buffer, break_chain, apply}
+use Rattle.file_tree.specs.Tree.{IsTree, Node, bytes_of_node, rewritten_node}
+use Rattle.file_tree.specs.Tree.{directory}
+use Rattle.file_tree.specs.Tree.{file}
+use Rattle.extent_bytes.specs.Bytes.{resized, overwritten, zeroed}
+use Rattle.finite_maps.specs.Table.{adjust_number}
+use Rattle.op_meaning.specs.Meaning.{Effect, done, made_node, made_description, Handle, handle, bytes_in, can_write, is_bad_offset, Destination, reply, into, delivered, advance, read_effect, readable, read_meaning, write_start, write_effect, writable, write_meaning, Allocation, extend, reserve, punch, zero_extend, zero_within, allocation, allocate, fallocate_meaning, ftruncate_meaning, close_meaning, held, slot_count}
+use Rattle.world_parts.specs.Items.{description_at}
+use Rattle.world_parts.proofs.ByteWords.{length-zeroed}
+use Rattle.world_parts.proofs.Changes.{adjusted, opened_kept, name_kept, rewriting-kind, rewriting-names, set_position-value}
+use Rattle.world_parts.proofs.ByteWords.{length-overwritten, length-resized}
+use Rattle.foot_print.proofs.Accepted.{ok_same, ok_bind, ok_require}
+use Rattle.world_parts.proofs.KeepWorld.{IsSound, sound, is_world, sound_kept, slotting_sound, holding_sound, breaking_world, AllMakeOnly}
+use Rattle.foot_print.proofs.KeepNames.{Leaves}
+
+-- A change of what files, buffers and positions hold, within the largest size; or one that empties a slot or descriptor.
+abbrev pub OfContents : Change → Type 0
+OfContents (set_position d p) = Unit {0}
+OfContents (set_size i n) = n ≤ file_limit
+OfContents (write_bytes i at new) = at + length new ≤ file_limit
+OfContents (zero_bytes i low high) = low ≤ high
+OfContents (write_buffer r b at new) = Unit {0}
+OfContents (set_slot r n None) = Unit {0}
+OfContents (set_descriptor n None) = Unit {0}
+OfContents (break_chain c b) = Unit {0}
+OfContents _ = ⊥
+
+abbrev pub AllOfContents : List Change → Type 0
+AllOfContents [] = Unit {0}
+AllOfContents (c ∷ cs) = OfContents c × AllOfContents cs
+
+-- A file's bytes are rewritten within the largest size.
+rewriting_world : (s : World) (i : ℕ) (f : List ℕ → List ℕ) → ((bs : List ℕ) → length bs ≤ file_limit → length (f bs) ≤ file_limit) → IsWorld s → IsWorld (record s { nodes = adjust_number (rewritten_node f) s.nodes i })
+rewriting_world s i f g w =
+    let after : World = record s { nodes = adjust_number (rewritten_node f) s.nodes i } in
+    let look : name after ≡ name s = λ j e m. name_kept s (adjust_number (rewritten_node f) s.nodes i) (rewriting-kind f s i) e m (rewriting-names f s i e) j in
+    is_world after (subst IsTree (sym look) w.tree)
+    (sound_kept s after (rewriting-kind f s i 0) (opened_kept s (adjust_number (rewritten_node f) s.nodes i) (rewriting-kind f s i)) (λ r n. refl) (λ n. refl)
+    (λ j. subst (λ x. IfSome (option_map length (option_and_then bytes_of_node x)) (λ n. n ≤ file_limit)) (sym (adjusted (rewritten_node f) s.nodes i j))
+    (elim (j == i) as (λ b. IfSome (option_map length (option_and_then bytes_of_node (cond b (option_map (rewritten_node f) (get s.nodes j)) (get s.nodes j)))) (λ n. n ≤ file_limit)) [ true ↦ fits (get s.nodes j) (w.files_fit j) | false ↦ w.files_fit j ]))
+    (sound s w))
+  where
+    fits : (x : Option Node) → IfSome (option_map length (option_and_then bytes_of_node x)) (λ n. n ≤ file_limit) → IfSome (option_map length (option_and_then bytes_of_node (option_map (rewritten_node f) x))) (λ n. n ≤ file_limit)
+    fits None h = tt
+    fits (Some (directory ns)) h = tt
+    fits (Some (file bs)) h = g bs h
+
+contents_world : (s : World) (c : Change) → OfContents c → IsWorld s → IsWorld (apply c s)
+contents_world s (set_position d p) h w = is_world (apply (set_position d p) s) w.tree (sound_kept s (apply (set_position d p) s) refl (λ e. set_position-value s d p (description_at e)) (λ r n. refl) (λ n. refl) w.files_fit (sound s w))
+contents_world s (set_size i n) h w = rewriting_world s i (λ bs. resized bs n) (λ bs k. subst (λ x. x ≤ file_limit) (sym (length-resized bs n)) h) w
+contents_world s (write_bytes i at new) h w = rewriting_world s i (λ bs. overwritten bs at new) (λ bs k. subst (λ x. x ≤ file_limit) (sym (length-overwritten bs new at)) (omega arith)) w
+contents_world s (zero_bytes i low high) h w = rewriting_world s i (λ bs. zeroed bs low high) (λ bs k. (let l = length-zeroed bs low high in omega arith)) w
+contents_world s (write_buffer r b at new) h w = record { root = w.root; tree = w.tree; descriptions_lead = w.descriptions_lead; slots_lead = w.slots_lead; descriptors_lead = w.descriptors_lead; files_fit = w.files_fit; directories_are_read = w.directories_are_read }
+contents_world s (set_slot r n None) h w = is_world (apply (set_slot r n None) s) w.tree (slotting_sound s r n None tt (sound s w))
+contents_world s (set_descriptor n None) h w = is_world (apply (set_descriptor n None) s) w.tree (holding_sound s n None tt (sound s w))
+contents_world s (break_chain c b) h w = breaking_world s c b w
+contents_world s _ h w = absurd h
+
+makes_nothing : (i d : ℕ) (c : Change) → OfContents c → Rattle.world_parts.proofs.KeepWorld.MakesOnly i d c
+makes_nothing i d (make_node j k) h = absurd h
+makes_nothing i d (make_description j o) h = absurd h
+makes_nothing i d _ h = tt
+
+pub contents_leave : (t : Trace) (k : ℕ) (s : World) (cs : List Change) → AllOfContents cs → IsWorld s → Leaves t k s cs
+contents_leave t k s [] h w = (w, tt)
+contents_leave t k s (c ∷ cs) h w = (let rest = contents_leave t k (apply c s) cs h.1 (contents_world s c h.0 w) in (rest.0, (makes_nothing (made_node t k) (made_description t k) c h.0, rest.1)))
+
+-- What the changes of accepted operations on open files are.
+of_effect : (x y : Effect) → ◌≡◌ {A = Result Effect Errno} (Ok x) (Ok y) → AllOfContents x.changes → AllOfContents y.changes
+of_effect x y h g = subst (λ (z : Effect). AllOfContents z.changes) (ok_same x y h) g
+
+advances : (h : Handle) (o end : ℕ) → AllOfContents (advance h o end)
+advances h o end = elim (o == at_position) as (λ b. AllOfContents (cond b (set_position h.description end ∷ []) [])) [ true ↦ (tt, tt) | false ↦ tt ]
+
+pub read_contents : (t : Trace) (s : World) (r : ℕ) (f : File) (o n : ℕ) (span : Result Destination Errno) (x : Effect) → read_meaning t s r f o n span ≡ Ok x → AllOfContents x.changes
+read_contents t s r f o n span x h =
+    let g = ok_bind (readable t s r f) _ x h in
+    let to = ok_bind span _ x g.2 in
+    of_effect (cond (n == 0) (done []) (read_effect s r g.0 o n to.0)) x (ok_require (not (is_bad_offset o)) EINVAL (Ok (cond (n == 0) (done []) (read_effect s r g.0 o n to.0))) x to.2).0 (by g.0 to.0 (n == 0))
+  where
+    moves : (g : Handle) (to : Destination) (moved : List ℕ) (end : ℕ) → AllOfContents (delivered r to moved (advance g o end)).changes
+    moves g reply moved end = advances g o end
+    moves g (into b at) moved end = (tt, advances g o end)
+
+    by : (g : Handle) (to : Destination) (b : Bool) → AllOfContents (cond b (done []) (read_effect s r g o n to)).changes
+    by g to true = tt
+    by g to false = moves g to _ _
+
+pub write_contents : (t : Trace) (s : World) (r : ℕ) (f : File) (o : ℕ) (source : Result (List ℕ) Errno) (x : Effect) → write_meaning t s r f o source ≡ Ok x → AllOfContents x.changes
+write_contents t s r f o source x h =
+    let g = ok_bind (writable t s r f) _ x h in
+    let new = ok_bind source _ x g.2 in
+    by g.0 new.0 (length new.0 == 0) (ok_require (not (is_bad_offset o)) EINVAL _ x new.2).0
+  where
+    by : (g : Handle) (new : List ℕ) (b : Bool) → cond b (Ok (done [])) (require (ltb (write_start s g o) file_limit) EFBIG >> Ok (write_effect g o (write_start s g o) (take (file_limit - write_start s g o) new))) ≡ Ok x → AllOfContents x.changes
+    by g new true e = of_effect (done []) x e tt
+    by g new false e =
+        let at = write_start s g o in
+        let tested = ok_require (ltb at file_limit) EFBIG (Ok (write_effect g o at (take (file_limit - at) new))) x e in
+        let below : at < file_limit = ltb→lt at file_limit tested.1 in
+        let count = length-take (file_limit - at) new in
+        of_effect (write_effect g o at (take (file_limit - at) new)) x tested.0 (omega arith, advances g o _)
+
+bounded : (s : World) (i : ℕ) → IsWorld s → length (bytes_in s i) ≤ file_limit
+bounded s i w = by (bytes s i) (w.files_fit i)
+  where
+    by : (x : Option (List ℕ)) → IfSome (option_map length x) (λ n. n ≤ file_limit) → length (unwrap_or x []) ≤ file_limit
+    by None h = omega arith
+    by (Some bs) h = h
+
+pub fallocate_contents : (t : Trace) (s : World) (r : ℕ) (f : File) (o n mode : ℕ) (x : Effect) → IsWorld s → fallocate_meaning t s r f o n mode ≡ Ok x → AllOfContents x.changes
+fallocate_contents t s r f o n mode x w h =
+    let g = ok_bind (ok_or (handle t s r f) EBADF) _ x h in
+    let a = ok_bind (ok_or (allocation mode) EOPNOTSUPP) _ x (ok_require (ltb o (2 ^ 63) && not (n == 0) && ltb n (2 ^ 63)) EINVAL _ x g.2).0 in
+    let last = ok_require (leb (o + n) file_limit) EFBIG _ x (ok_require (can_write g.0.opened.access) EBADF _ x a.2).0 in
+    of_effect (done (allocate s g.0.opened.target.node o (o + n) a.0)) x last.0 (by g.0.opened.target.node (leb→le (o + n) file_limit last.1) a.0)
+  where
+    by : (i : ℕ) → o + n ≤ file_limit → (a : Allocation) → AllOfContents (allocate s i o (o + n) a)
+    by i l extend = (let b = bounded s i w in (omega arith, tt))
+    by i l reserve = tt
+    by i l punch = (omega arith, tt)
+    by i l zero_extend = (let b = bounded s i w in (omega arith, (omega arith, tt)))
+    by i l zero_within = (omega arith, tt)
+
+pub ftruncate_contents : (t : Trace) (s : World) (r : ℕ) (f : File) (n : ℕ) (x : Effect) → ftruncate_meaning t s r f n ≡ Ok x → AllOfContents x.changes
+ftruncate_contents t s r f n x h =
+    let g = ok_bind (ok_or (handle t s r f) EBADF) _ x h in
+    let a = ok_require (ltb n (2 ^ 63)) EINVAL _ x g.2 in
+    let b = ok_require (can_write g.0.opened.access) EINVAL _ x a.0 in
+    let last = ok_require (leb n file_limit) EFBIG _ x b.0 in
+    of_effect (done (set_size g.0.opened.target.node n ∷ [])) x last.0 (leb→le n file_limit last.1, tt)
+
+pub close_contents : (t : Trace) (s : World) (r : ℕ) (number : ℤ) (index : ℕ) (x : Effect) → close_meaning t s r number index ≡ Ok x → AllOfContents x.changes
+close_contents t s r (pos n) zero x h = of_effect (done (set_descriptor n None ∷ [])) x (ok_require (is_some (held t s r false (pos n))) EBADF _ x h).0 (tt, tt)
+close_contents t s r (negsuc n) zero x h = of_effect (done []) x (ok_require (is_some (held t s r false (negsuc n))) EBADF _ x h).0 tt
+close_contents t s r number (suc n) x h = of_effect (done (set_slot r n None ∷ [])) x (ok_require (is_some (slot s r n)) EBADF _ x (ok_require (ltb n (slot_count t r)) EINVAL _ x h).0).0 (tt, tt)

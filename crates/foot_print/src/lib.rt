@@ -1,0 +1,8 @@
+//! What each place of a trace reads and writes, and why that suffices.
+//!
+//! The footprint of a place in a world is a list of items: slots, descriptors, open file descriptions,
+//! positions, sizes, ranges of bytes, names, buffers, the flag of its chain and the order of its ring. The
+//! rows of the operations stand in `op_meaning`. Here are the laws behind running places at once.
+#![tactic(auto)]
+
+pub mod laws;

@@ -1,0 +1,37 @@
+-- Changes of the bytes of a buffer.
+use Rattle.std.proofs.Common.{◌≡◌, ℕ, ◌+◌, ◌-◌, ◌<◌, ◌≤◌, List, [], ◌++◌, length, take, drop, replicate, min, arith, sym, ◌∙◌, ap, ⊎_elim}
+use Rattle.std.proofs.lemmas.List.{length-append, length-take, length-drop, length-replicate, append-nil, take_all, drop_all, take-append-le}
+use Rattle.std.proofs.Math.Seq.{take-append_seam, take-append-add, take-nil, drop-nil}
+use Rattle.std.proofs.lemmas.Bool.{cases_lt}
+use Rattle.extent_bytes.specs.Bytes.{overlaid, overwritten, range_of, resized}
+
+-- a range of no bytes
+pub range_of-nothing : (low high : ℕ) → range_of [] low high ≡ []
+unfolding range_of
+range_of-nothing low high = ap (take (high - low)) (drop-nil low) ∙ take-nil (high - low)
+
+-- what is made longer from no bytes is zeros
+pub resized-nothing : (n : ℕ) → resized [] n ≡ replicate n 0
+unfolding resized
+resized-nothing n = ap (λ (xs : List ℕ). xs ++ replicate {A = ℕ} (n - 0) 0) (take-nil {A = ℕ} n) ∙ ap (λ m. replicate {A = ℕ} m 0) (omega arith)
+
+-- bytes that lie past a buffer change nothing
+pub overlaid-past : (old : List ℕ) (at : ℕ) (new : List ℕ) → length old ≤ at → overlaid old at new ≡ old
+unfolding overwritten
+overlaid-past old at new h = ap (λ xs. take (length old) (xs ++ (replicate (at - length old) 0 ++ (new ++ drop (at + length new) old)))) (take_all at old h) ∙ take-append_seam old _
+
+-- those that fit into it alone are put over it
+pub overlaid-clipped : (old : List ℕ) (at : ℕ) (new : List ℕ) (n : ℕ) → at ≤ length old → n ≡ min (length new) (length old - at) → overwritten old at (take n new) ≡ overlaid old at new
+unfolding overwritten
+overlaid-clipped old at new n h e =
+    let gap : at - length old ≡ 0 = omega arith in
+    let front : length (take at old) ≡ at = length-take at old ∙ omega arith in
+    ⊎_elim
+    (λ (k : length old < at + length new).
+    let all : length old ≡ length (take at old) + n = omega (arith, front, e) in
+    let count : length (take n new) ≡ n = length-take n new ∙ omega (arith, e) in
+    rw (gap) (ap (λ xs. take at old ++ (take n new ++ xs)) (drop_all (at + length (take n new)) old (omega (arith, count, all, front))) ∙ ap (λ xs. take at old ++ xs) (append-nil (take n new))
+    ∙ sym (ap (λ m. take m (take at old ++ (new ++ drop (at + length new) old))) all ∙ take-append-add (take at old) (new ++ drop (at + length new) old) n ∙ ap (λ xs. take at old ++ xs) (take-append-le n new _ (omega (arith, e))))))
+    (λ (k : at + length new ≤ length old).
+    ap (overwritten old at) (take_all n new (omega (arith, e))) ∙ sym (take_all (length old) (overwritten old at new) (simp (length-append, length-take, length-replicate, length-drop) (omega arith))))
+    (cases_lt (length old) (at + length new))

@@ -1,0 +1,2 @@
+mod BufferBytes
+mod Looked

@@ -1,0 +1,111 @@
+//! The open file descriptions of a replay.
+ghost use Rattle.std.specs.Prelude.{◌≡◌, ◌↔◌, IsTrue, OnErr, OnOk};
+ghost use Rattle.std.specs.Option.{option_map};
+ghost use Rattle.finite_maps.specs.Table.{adjust_number, empty, get, insert, number_keys};
+
+use std::alloc::{AllocError, Global};
+use std::collections::BTreeMap;
+use std::collections::btree_map::Iter;
+use std::marker::Model;
+use trace_format::Description;
+
+/// Open file descriptions, as open(2) has them, by number.
+///
+/// A call that answers [`AllocError`] leaves the descriptions as they were.
+#[derive(Drop)]
+pub struct Descriptions {
+    entries: BTreeMap<u32, Description>,
+}
+
+impl Model for Descriptions {
+    ghost use Rattle.std.specs.Ordering.{nat_cmp};
+    ghost use Rattle.std.specs.Coded.{coded_ℕ};
+    ghost use Rattle.trace_format.specs.declared.trace.Description.{Description};
+    ghost use Rattle.trace_format.specs.contracts.trace.Description as description;
+    ghost use Rattle.finite_maps.specs.Table.{Table, code, number_keys};
+    ghost use Rattle.finite_maps.specs.Maps.{table_of};
+
+    ghost Value = { Table nat_cmp Description };
+
+    ghost coded = { code coded_ℕ description.the_row.coded };
+
+    ghost view = { λ d. table_of number_keys.total d.entries.entries };
+}
+
+// Whether two descriptions say the same.
+fn alike(one: &Description, other: &Description) -> bool
+    ensures { IsTrue result ↔ (one.now ≡ other.now) }
+{
+    one.node == other.node
+        && one.access == other.access
+        && one.append == other.append
+        && one.position == other.position
+}
+
+impl Descriptions {
+    /// No descriptions.
+    pub fn new(alloc: Global) -> Self
+        ensures { result ≡ empty }
+    {
+        Descriptions {
+            entries: BTreeMap::new(alloc),
+        }
+    }
+
+    /// What a description says.
+    pub fn get(&self, number: u32) -> Option<Description>
+        ensures { result ≡ get self.now number }
+    {
+        self.entries.get(&number).copied()
+    }
+
+    /// Puts a description at a number, in place of the one that was there.
+    pub fn set(&mut self, number: u32, description: Description) -> Result<(), AllocError>
+        ensures ok { OnOk result (self.new ≡ insert number_keys.total self.old number description) }
+        ensures err { OnErr result (self.new ≡ self.old) }
+    {
+        self.entries.insert(number, description)?;
+        Ok(())
+    }
+
+    /// The position of a description, in bytes.
+    pub fn position(&self, number: u32) -> Option<u64>
+        ensures { result ≡ option_map (λ d. d.position) (get self.now number) }
+    {
+        self.get(number).map(|description| description.position)
+    }
+
+    /// Moves the position of a description, as lseek(2) does. Where there is no description,
+    /// nothing changes.
+    pub fn set_position(&mut self, number: u32, position: u64)
+        ensures { self.new ≡ adjust_number (λ d. record d { position = position }) self.old number }
+    {
+        let Some(description) = self.entries.get_mut(&number) else {
+            return;
+        };
+        description.position = position;
+    }
+
+    /// The descriptions in the order of their numbers.
+    pub fn iter(&self) -> Iter<'_, u32, Description>
+        ensures { result ≡ self.now.entries }
+    {
+        self.entries.iter()
+    }
+
+    /// Whether both have the same descriptions at the same numbers. It takes no memory.
+    pub fn same(&self, other: &Descriptions) -> bool
+        ensures { IsTrue result ↔ (self.now ≡ other.now) }
+    {
+        let mut others = other.iter();
+        for (number, description) in self.iter() {
+            let Some((other_number, other_description)) = others.next() else {
+                return false;
+            };
+            if number != other_number || !alike(description, other_description) {
+                return false;
+            }
+        }
+        others.next().is_none()
+    }
+}

@@ -1,0 +1,10 @@
+pub mod Collision
+pub mod Sharing
+pub mod Values
+pub mod ByteWords
+pub mod Changes
+pub mod ChangesOfNames
+pub mod ChangesOfMaking
+pub mod ChangesOfFiles
+pub mod Trees
+pub mod KeepWorld
