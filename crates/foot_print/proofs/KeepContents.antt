@@ -19,9 +19,9 @@ use Rattle.extent_bytes.specs.Bytes.{resized, overwritten, zeroed}
 use Rattle.finite_maps.specs.Table.{adjust_number}
 use Rattle.op_meaning.specs.Meaning.{Effect, done, made_node, made_description, Handle, handle, bytes_in, can_write, is_bad_offset, Destination, reply, into, delivered, advance, read_effect, readable, read_meaning, write_start, write_effect, writable, write_meaning, Allocation, extend, reserve, punch, zero_extend, zero_within, allocation, allocate, fallocate_meaning, ftruncate_meaning, close_meaning, held, slot_count}
 use Rattle.world_parts.specs.Items.{description_at}
-use Rattle.world_parts.proofs.ByteWords.{length-zeroed}
+use Rattle.extent_bytes.proofs.Lengths.{length-zeroed}
 use Rattle.world_parts.proofs.Changes.{adjusted, opened_kept, name_kept, rewriting-kind, rewriting-names, set_position-value}
-use Rattle.world_parts.proofs.ByteWords.{length-overwritten, length-resized}
+use Rattle.extent_bytes.proofs.Lengths.{length-overwritten, length-resized}
 use Rattle.foot_print.proofs.Accepted.{ok_same, ok_bind, ok_require}
 use Rattle.world_parts.proofs.KeepWorld.{IsSound, sound, is_world, sound_kept, slotting_sound, holding_sound, breaking_world, AllMakeOnly}
 use Rattle.foot_print.proofs.KeepNames.{Leaves}
@@ -61,7 +61,7 @@ rewriting_world s i f g w =
 contents_world : (s : World) (c : Change) → OfContents c → IsWorld s → IsWorld (apply c s)
 contents_world s (set_position d p) h w = is_world (apply (set_position d p) s) w.tree (sound_kept s (apply (set_position d p) s) refl (λ e. set_position-value s d p (description_at e)) (λ r n. refl) (λ n. refl) w.files_fit (sound s w))
 contents_world s (set_size i n) h w = rewriting_world s i (λ bs. resized bs n) (λ bs k. subst (λ x. x ≤ file_limit) (sym (length-resized bs n)) h) w
-contents_world s (write_bytes i at new) h w = rewriting_world s i (λ bs. overwritten bs at new) (λ bs k. subst (λ x. x ≤ file_limit) (sym (length-overwritten bs new at)) (omega arith)) w
+contents_world s (write_bytes i at new) h w = rewriting_world s i (λ bs. overwritten bs at new) (λ bs k. subst (λ x. x ≤ file_limit) (sym (length-overwritten bs at new)) (omega arith)) w
 contents_world s (zero_bytes i low high) h w = rewriting_world s i (λ bs. zeroed bs low high) (λ bs k. (let l = length-zeroed bs low high in omega arith)) w
 contents_world s (write_buffer r b at new) h w = record { root = w.root; tree = w.tree; descriptions_lead = w.descriptions_lead; slots_lead = w.slots_lead; descriptors_lead = w.descriptors_lead; files_fit = w.files_fit; directories_are_read = w.directories_are_read }
 contents_world s (set_slot r n None) h w = is_world (apply (set_slot r n None) s) w.tree (slotting_sound s r n None tt (sound s w))

@@ -14,7 +14,8 @@ use Rattle.file_tree.specs.Tree.{file}
 use Rattle.finite_maps.specs.Table.{adjust_number}
 use Rattle.extent_bytes.specs.Bytes.{overwritten}
 use Rattle.world_parts.specs.Items.{Atom, description_at, position_of, size_of, byte_at, name_at, names_in, Value, value, within}
-use Rattle.world_parts.proofs.ByteWords.{byte-overwritten, length-overwritten}
+use Rattle.world_parts.proofs.ByteWords.{byte-overwritten}
+use Rattle.extent_bytes.proofs.Lengths.{length-overwritten}
 
 adjusted_by : {X : Type 0} (f : X → X) (m : Table nat_cmp X) (k q : ℕ) (b : Bool) → (q == k) ≡ b → cond b (option_map f (get m k)) (get m q) ≡ cond b (option_map f (get m q)) (get m q)
 adjusted_by f m k q true e = ap (λ i. option_map f (get m i)) (sym (eqb→eq q k (subst T (sym e) tt)))
@@ -108,7 +109,7 @@ write_bytes-value s i at new (size_of j) h = transformed (λ x. option_map lengt
     same : (x : Option Node) → option_map length (option_and_then bytes_of_node (option_map put x)) ≡ option_map (λ n. max n (at + length new)) (option_map length (option_and_then bytes_of_node x))
     same None = refl
     same (Some (directory ns)) = refl
-    same (Some (file bs)) = ap (λ n. Some n) (length-overwritten bs new at)
+    same (Some (file bs)) = ap (λ n. Some n) (length-overwritten bs at new)
 write_bytes-value s i at new (byte_at j p) h =
     ap (λ x. byte_of (option_and_then bytes_of_node x) p) (adjusted put s.nodes i j)
     ∙ elim (j == i) as (λ b. (j == i) ≡ b → byte_of (option_and_then bytes_of_node (cond b (option_map put (get s.nodes j)) (get s.nodes j))) p

@@ -22,7 +22,8 @@ use Rattle.extent_bytes.specs.Bytes.{overwritten, overlaid, zeroed}
 use Rattle.world_parts.specs.Items.{Atom, description_at, size_of, byte_at, name_at, names_in, buffer_size, buffer_byte, Value, value, within}
 use Rattle.world_parts.proofs.Collision.{left, right}
 use Rattle.world_parts.proofs.Changes.{transformed, opened_kept, name_kept, rewriting-kind, rewriting-names}
-use Rattle.world_parts.proofs.ByteWords.{byte-overwritten, length-overwritten, byte-zeroed, length-zeroed}
+use Rattle.world_parts.proofs.ByteWords.{byte-overwritten, byte-zeroed}
+use Rattle.extent_bytes.proofs.Lengths.{length-overwritten, length-zeroed}
 
 tied_then : (o p : Ordering) → is_eq (ordering_then o p) ≡ is_eq o && is_eq p
 tied_then Less p = refl
@@ -83,7 +84,7 @@ buffered r b at new (buffer_byte q c p) x = cond (q == r && c == b) (put_at at n
 buffered r b at new a x = x
 
 length-overlaid : (old new : List ℕ) (at : ℕ) → length (overlaid old at new) ≡ length old
-length-overlaid old new at = length-take (length old) (overwritten old at new) ∙ ap (min (length old)) (length-overwritten old new at) ∙ omega arith
+length-overlaid old new at = length-take (length old) (overwritten old at new) ∙ ap (min (length old)) (length-overwritten old at new) ∙ omega arith
 
 byte-overlaid : (old new : List ℕ) (at p : ℕ) → slice_get (overlaid old at new) p ≡ put_at at new p (slice_get old p)
 byte-overlaid old new at p = by (ltb p (length old)) refl

@@ -18,7 +18,8 @@ use Rattle.extent_bytes.specs.Bytes.{resized}
 use Rattle.finite_maps.specs.Table.{adjust_number}
 use Rattle.world_parts.specs.Items.{Atom, slot_at, descriptor_at, description_at, position_of, size_of, byte_at, name_at, names_in, Value, value}
 use Rattle.world_parts.proofs.Changes.{transformed, opened_kept, name_kept, rewriting-kind, rewriting-names}
-use Rattle.world_parts.proofs.ByteWords.{length-resized, each-resized}
+use Rattle.world_parts.proofs.ByteWords.{each-resized}
+use Rattle.extent_bytes.proofs.Lengths.{length-resized}
 
 -- A node's number is unused: there is no such node, and nothing leads to it.
 pub record Unused (s : World) (i : ℕ) : Type 0 where

@@ -8,6 +8,7 @@ use Rattle.finite_maps.specs.Table.{Table, get, insert, assign, adjust_number, n
 use Rattle.extent_bytes.specs.Bytes.{overwritten, overlaid, resized, zeroed}
 use Rattle.file_tree.specs.Tree.{Tree, Names, Kind, a_directory, Target, IsTree, new_node, renamed_node, rewritten_node}
 use Rattle.file_tree.specs.Tree as tree
+pub use Rattle.file_tree.specs.Found.{node_of}
 use Rattle.entry_checks.specs.Operation.{file_limit}
 
 -- A chain that a failure broke: loud where its cancelled members post, quiet where they don't.
@@ -95,9 +96,6 @@ pub data Change : Type 0 where
 -- A new description, at position 0.
 abbrev pub new_description : Opened → Description
 new_description o = record { node = o.target.node; access = o.access; append = o.append; position = 0 }
-
-abbrev pub node_of : Option Target → Option ℕ
-node_of x = option_map (λ (y : Target). y.node) x
 
 -- The world after a change.
 abbrev pub apply : Change → World → World

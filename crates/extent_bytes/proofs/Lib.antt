@@ -1,0 +1,10 @@
+pub mod Outcomes
+pub mod Lengths
+pub mod Lists
+pub mod Whole
+pub mod PageFacts
+pub mod NextPage
+pub mod Overlays
+pub mod Moves
+pub mod Compares
+pub mod ExtentFacts

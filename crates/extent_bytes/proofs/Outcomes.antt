@@ -1,0 +1,32 @@
+-- What is known of a value by its variant.
+use Rattle.std.proofs.Common.{◌≡◌, ◌⊎◌, inl, inr, List, sym, ◌∙◌, subst, refl, Some, None, false}
+use Rattle.std.specs.Prelude.{OnOk, OnErr, IsSome, Result, Ok, Err, Option}
+use Rattle.std.specs.Prelude.{is_some, is_ok, if◌then◌else◌}
+
+pub err_of : {T E : Type 0} {P : Type 0} (r : Result T E) → P → OnErr r P
+err_of (Ok x) h = tt
+err_of (Err e) h = h
+
+pub ok_of : {T E : Type 0} {P : Type 0} (r : Result T E) → P → OnOk r P
+ok_of (Ok x) h = h
+ok_of (Err e) h = tt
+
+pub some_or_none : {X : Type 0} (o : Option X) → IsSome o ⊎ (o ≡ None)
+some_or_none None = inr refl
+some_or_none (Some x) = inl refl
+
+pub some_is : {X : Type 0} (o : Option X) (v : X) → o ≡ Some v → IsSome o
+some_is o v e = let P : Option _ → Type 0 = λ u. IsSome u in subst P (sym e) refl
+
+pub none_is : {X : Type 0} (o : Option X) → (IsSome o → ⊥) → o ≡ None
+none_is None h = refl
+none_is (Some x) h = absurd (h refl)
+
+pub none_of : {X : Type 0} (o : Option X) → is_some o ≡ false → o ≡ None
+none_of None h = refl
+none_of (Some x) h = cc
+
+-- what an append leaves where it succeeds
+pub ok_items : {T E X : Type 0} (r : Result T E) (xs ys zs ws : List X) → zs ≡ (if is_ok r then ys else xs) → ys ≡ ws → OnOk r (zs ≡ ws)
+ok_items (Ok x) xs ys zs ws h e = h ∙ e
+ok_items (Err e) xs ys zs ws h d = tt

@@ -1,0 +1,52 @@
+-- The part's bytes lie over those of the range.
+use Rattle.std.proofs.Common.{arith, ap, sym, ◌∙◌}
+use Rattle.extent_bytes.specs.Bytes.{overwritten}
+use Rattle.extent_bytes.specs.Pages.{bytes_of}
+use Rattle.std.proofs.lemmas.Result.{on_err_weaker, on_ok_weaker}
+use Rattle.extent_bytes.proofs.Outcomes.{ok_of}
+use Rattle.extent_bytes.proofs.Lists.{overwritten_none}
+use Rattle.extent_bytes.proofs.ExtentFacts.{bytes_of-put_back, bytes_of-same, length-bytes_of, length_seen}
+use Rattle.extent_bytes.proofs.extents.Extents.put_back.Goals as goal
+
+pub returns-then-len-eq0-clause-ok : goal.returns-then-len-eq0-clause-ok
+returns-then-len-eq0-clause-ok c =
+    let e = length_seen c.part.inside.pages c.part.inside.start c.part.inside.len c.args.part c.part.view_is in
+    sym (overwritten_none c.args.self.now c.args.lo c.args.part (omega (arith, e, c.if-len-eq0.true)) (omega (arith, c.requires)))
+
+pub overflow_add-from : goal.overflow_add-from
+overflow_add-from c =
+    let e = length_seen c.self.inside.pages c.self.inside.start c.self.inside.len c.args.self.now c.self.view_is in
+    let d = length_seen c.part.inside.pages c.part.inside.start c.part.inside.len c.args.part c.part.view_is in omega (arith, c.self.invariant, c.requires)
+
+pub overflow_add-from-2 : goal.overflow_add-from-2
+overflow_add-from-2 c =
+    let e = length_seen c.self.inside.pages c.self.inside.start c.self.inside.len c.args.self.now c.self.view_is in
+    let d = length_seen c.part.inside.pages c.part.inside.start c.part.inside.len c.args.part c.part.view_is in omega (arith, c.self.invariant, c.requires)
+
+pub overlay-requires-clause-small : goal.overlay-requires-clause-small
+overlay-requires-clause-small c =
+    let e = length_seen c.self.inside.pages c.self.inside.start c.self.inside.len c.args.self.now c.self.view_is in
+    let d = length_seen c.part.inside.pages c.part.inside.start c.part.inside.len c.args.part c.part.view_is in omega (arith, c.self.invariant, c.requires)
+
+pub returns-clause-ok : goal.returns-clause-ok
+returns-clause-ok c =
+    let e = length_seen c.self.inside.pages c.self.inside.start c.self.inside.len c.args.self.now c.self.view_is in
+    let d = length_seen c.part.inside.pages c.part.inside.start c.part.inside.len c.args.part c.part.view_is in
+    on_ok_weaker c.overlay.result
+    (λ o.
+    bytes_of-put_back c.self.inside.pages c.overlay.new.pages c.part.inside.pages c.in_ok-patch.patch c.self.inside.start c.self.inside.len c.args.lo c.part.inside.start c.part.inside.len
+    (omega (arith, c.requires)) o c.in_ok-patch.ensures
+    ∙ ap (λ xs. overwritten xs c.args.lo (bytes_of c.part.inside.pages c.part.inside.start c.part.inside.len)) c.self.view_is
+    ∙ ap (λ ys. overwritten c.args.self.now c.args.lo ys) c.part.view_is)
+    c.overlay.ensures.ok
+
+pub returns-clause-err : goal.returns-clause-err
+returns-clause-err c =
+    on_err_weaker c.overlay.result
+    (λ h. bytes_of-same c.self.inside.pages c.overlay.new.pages c.self.inside.start c.self.inside.len h ∙ c.self.view_is)
+    c.overlay.ensures.err
+
+pub returns-clause-len : goal.returns-clause-len
+returns-clause-len c =
+    let e = length_seen c.self.inside.pages c.self.inside.start c.self.inside.len c.args.self.now c.self.view_is in
+    ok_of c.overlay.result (length-bytes_of c.overlay.new.pages c.self.inside.start c.self.inside.len ∙ sym e)

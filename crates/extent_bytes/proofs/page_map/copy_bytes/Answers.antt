@@ -1,0 +1,29 @@
+use Rattle.std.proofs.Common.{◌≡◌, ◌+◌, ◌-◌, ◌*◌, length, get_or, arith, ap, sym, ◌∙◌, refl}
+use Rattle.extent_bytes.specs.Pages.{page_byte}
+use Rattle.std.proofs.lemmas.Result.{on_ok_weaker}
+use Rattle.extent_bytes.proofs.Lists.{get_or-part, length-part}
+use Rattle.extent_bytes.proofs.PageFacts.{byte_at-page}
+use Rattle.extent_bytes.proofs.Overlays.{overlaid_to}
+use Rattle.extent_bytes.proofs.page_map.copy_bytes.Goals as goal
+
+pub returns-in-Some-clause-ok : goal.returns-in-Some-clause-ok
+returns-in-Some-clause-ok c =
+    let k = c.args.number in
+    let from = c.args.from in
+    let to = c.args.to in
+    let source = c.args.source.now in
+    let page = c.in-Some.page.now in
+    let long = c.as_slice-bytes.ensures.len in
+    let back : k * 4096 + (from + (to - from)) ≡ k * 4096 + to = omega arith in
+    on_ok_weaker c.put_bytes.result
+    (overlaid_to c.args.pages.now c.put_bytes.new.pages _ _ (k * 4096 + from) (k * 4096 + to) _ _ refl (ap (λ n. k * 4096 + (from + n)) (length-part c.as_slice-bytes.result.now from to c.requires.forward (omega (arith, ap length c.as_slice-bytes.ensures.bytes))) ∙ back)
+    (λ p h l. get_or-part c.as_slice-bytes.result.now from to (p - (k * 4096 + from)) (p - k * 4096) (omega arith) (omega arith) ∙ ap (λ xs. get_or xs (p - k * 4096) 0) c.as_slice-bytes.ensures.bytes ∙ ap (λ o. page_byte o (p - k * 4096)) c.in-Some.ensures.value ∙ sym (byte_at-page source c.args.source_number (p - k * 4096) (omega arith))))
+    c.put_bytes.ensures.ok
+
+pub returns-in-None-clause-ok : goal.returns-in-None-clause-ok
+returns-in-None-clause-ok c =
+    let k = c.args.number in
+    on_ok_weaker c.clear_bytes.result
+    (overlaid_to c.args.pages.now c.clear_bytes.new.pages _ _ (k * 4096 + c.args.from) (k * 4096 + c.args.to) _ _ refl refl
+    (λ p h l. ap (λ o. page_byte o (p - k * 4096)) c.in-None.ensures.value ∙ sym (byte_at-page c.args.source.now c.args.source_number (p - k * 4096) (omega arith))))
+    c.clear_bytes.ensures.ok

@@ -1,0 +1,77 @@
+-- What stored pages of 4,096 bytes stand for.
+use Rattle.std.specs.Prelude.{◌≡◌, ℕ, ◌+◌, ◌-◌, ◌*◌, ◌/◌, ◌%◌, ◌<◌, ◌≤◌, List, Option, None, Some, IsSome, map, length, replicate, slice_index}
+use Rattle.std.specs.BTreeMap.{BTreeMap, get}
+use Rattle.std.specs.List.{range_with_len}
+use Rattle.std.specs.Ordering.{nat_cmp}
+
+-- A page of zeros.
+unfoldable pub blank_page : List ℕ
+blank_page = replicate 4096 0
+
+-- Pages by their numbers.
+abbrev pub PageMap : Type 0
+PageMap = BTreeMap ℕ (List ℕ)
+
+-- The byte at i of a page, where a page that is not there is zeros.
+abbrev pub page_byte : Option (List ℕ) → ℕ → ℕ
+page_byte None i = 0
+page_byte (Some page) i = slice_index page i
+
+-- The page of a number.
+abbrev pub page_of : PageMap → ℕ → Option (List ℕ)
+page_of pages number = get nat_cmp pages number
+
+-- The byte at a position p: page p / 4096 holds it, at p % 4096.
+unfoldable pub byte_at : PageMap → ℕ → ℕ
+byte_at pages p = page_byte (page_of pages (p / 4096)) (p % 4096)
+
+-- The bytes from a position on.
+unfoldable pub bytes_of : PageMap → ℕ → ℕ → List ℕ
+bytes_of pages start len = map (λ i. byte_at pages (start + i)) (range_with_len 0 len)
+
+-- Both have the same byte at each position.
+abbrev pub SameBytes : PageMap → PageMap → Type 0
+SameBytes old new = (p : ℕ) → byte_at new p ≡ byte_at old p
+
+-- Both have the same byte at each position below a bound.
+abbrev pub SameBelow : PageMap → PageMap → ℕ → Type 0
+SameBelow old new bound = (p : ℕ) → p < bound → byte_at new p ≡ byte_at old p
+
+-- The bytes from one position on are those of another map from another position on.
+abbrev pub SameRange : PageMap → ℕ → PageMap → ℕ → ℕ → Type 0
+SameRange old from new to len = (i : ℕ) → i < len → byte_at new (to + i) ≡ byte_at old (from + i)
+
+-- The new bytes are f from lo up to hi, and elsewhere the old ones.
+pub record Overlaid (old new : PageMap) (lo hi : ℕ) (f : ℕ → ℕ) : Type 0 where
+  pub below : (p : ℕ) → p < lo → byte_at new p ≡ byte_at old p
+  pub inside : (p : ℕ) → lo ≤ p → p < hi → byte_at new p ≡ f p
+  pub above : (p : ℕ) → hi ≤ p → byte_at new p ≡ byte_at old p
+
+-- A patch, which lay over the range from lo up to hi, now has the pages from first up to end whole.
+pub record Completed (pages old new : PageMap) (first end lo hi : ℕ) : Type 0 where
+  pub below : (p : ℕ) → first * 4096 ≤ p → p < lo → byte_at new (p - first * 4096) ≡ byte_at pages p
+  pub inside : (p : ℕ) → lo ≤ p → p < hi → byte_at new (p - first * 4096) ≡ byte_at old (p - first * 4096)
+  pub above : (p : ℕ) → hi ≤ p → p < end * 4096 → byte_at new (p - first * 4096) ≡ byte_at pages p
+
+-- The new bytes are zeros from lo up to `at`, then bs, and elsewhere the old ones.
+pub record WrittenAt (old new : PageMap) (lo at : ℕ) (bs : List ℕ) : Type 0 where
+  pub below : (p : ℕ) → p < lo → byte_at new p ≡ byte_at old p
+  pub gap : (p : ℕ) → lo ≤ p → p < at → byte_at new p ≡ 0
+  pub inside : (p : ℕ) → at ≤ p → p < at + length bs → byte_at new p ≡ slice_index bs (p - at)
+  pub above : (p : ℕ) → at + length bs ≤ p → byte_at new p ≡ byte_at old p
+
+-- The bytes bs lie from a position on.
+abbrev pub HoldsAt : PageMap → ℕ → List ℕ → Type 0
+HoldsAt pages at bs = (i : ℕ) → i < length bs → byte_at pages (at + i) ≡ slice_index bs i
+
+-- The bytes of the page of a number that lie from start up to end are a map's from a position on.
+abbrev pub PageAgrees : List ℕ → ℕ → ℕ → ℕ → PageMap → ℕ → Type 0
+PageAgrees page number start end other other_start =
+    (i : ℕ) → start + i < end → (start + i) / 4096 ≡ number →
+    byte_at other (other_start + i) ≡ slice_index page ((start + i) % 4096)
+
+-- So are those of all stored pages of a map.
+abbrev pub StoredAgree : PageMap → ℕ → ℕ → PageMap → ℕ → Type 0
+StoredAgree pages start end other other_start =
+    (i : ℕ) → start + i < end → IsSome (page_of pages ((start + i) / 4096)) →
+    byte_at other (other_start + i) ≡ byte_at pages (start + i)

@@ -1,0 +1,93 @@
+// Bytes of two maps of pages compared. Only stored pages are looked at.
+ghost use Rattle.std.specs.Prelude.{◌≡◌, ◌+◌, ◌*◌, ◌/◌, ◌<◌, ◌≤◌, ◌^◌, ◌↔◌, length, IsTrue, All};
+ghost use Rattle.extent_bytes.specs.Pages.{HoldsAt, PageAgrees, StoredAgree};
+
+use crate::page::{PAGE_SIZE, Page};
+use crate::page_map::{PAGE, Pages, next_stored};
+
+fn is_blank(bytes: &[u8]) -> bool
+    ensures { IsTrue result ↔ All (λ byte. byte ≡ 0) bytes.now }
+{
+    bytes.iter().all(|&byte| byte == 0)
+}
+
+// Whether the bytes are those of one page, from a place in it on.
+fn page_holds(pages: &Pages, number: u64, offset: usize, bytes: &[u8]) -> bool
+    requires { offset + length bytes.now ≤ PAGE_SIZE }
+    ensures { IsTrue result ↔ HoldsAt pages.now (number * 4096 + offset) bytes.now }
+{
+    match pages.get(&number) {
+        Some(page) => {
+            let stored = page.as_slice();
+            &stored[offset..offset + bytes.len()] == bytes
+        }
+        None => is_blank(bytes),
+    }
+}
+
+// Whether the bytes are those from a position on.
+fn holds(pages: &Pages, at: u64, bytes: &[u8]) -> bool
+    requires { at + length bytes.now < 2 ^ 63 }
+    ensures { IsTrue result ↔ HoldsAt pages.now at bytes.now }
+{
+    let mut done = 0;
+    while done < bytes.len() {
+        let position = at + done as u64;
+        let offset = (position % PAGE) as usize;
+        let count = (PAGE_SIZE - offset).min(bytes.len() - done);
+        if !page_holds(pages, position / PAGE, offset, &bytes[done..done + count]) {
+            return false;
+        }
+        done += count;
+    }
+    true
+}
+
+// Whether the bytes of the page of a number that lie from `start` up to `end` are the other map's
+// from `other_start` on.
+fn page_agrees(
+    page: &Page,
+    number: u64,
+    start: u64,
+    end: u64,
+    other: &Pages,
+    other_start: u64,
+) -> bool
+    requires forward { start ≤ end }
+    requires small { end < 2 ^ 62 }
+    requires near { other_start < 4096 }
+    requires first { start / 4096 ≤ number }
+    requires last { number * 4096 < end }
+    ensures { IsTrue result ↔ PageAgrees page.now number start end other.now other_start }
+{
+    let from = start.max(number * PAGE);
+    let to = end.min(number * PAGE + PAGE);
+    let stored = page.as_slice();
+    let bytes = &stored[(from - number * PAGE) as usize..(to - number * PAGE) as usize];
+    holds(other, other_start + (from - start), bytes)
+}
+
+// Whether all bytes of stored pages that lie from `start` up to `end` are the other map's from
+// `other_start` on.
+pub(crate) fn stored_agree(
+    pages: &Pages,
+    start: u64,
+    end: u64,
+    other: &Pages,
+    other_start: u64,
+) -> bool
+    requires forward { start ≤ end }
+    requires small { end < 2 ^ 62 }
+    requires near { other_start < 4096 }
+    ensures { IsTrue result ↔ StoredAgree pages.now start end other.now other_start }
+{
+    let last = end.div_ceil(PAGE);
+    let mut at = start / PAGE;
+    while let Some((number, page)) = next_stored(pages, at, last) {
+        if !page_agrees(page, number, start, end, other, other_start) {
+            return false;
+        }
+        at = number + 1;
+    }
+    true
+}

@@ -1,0 +1,238 @@
+// Lists of bytes whose stored pages alone take memory.
+ghost use Rattle.std.specs.Prelude.{◌≡◌, ℕ, ◌+◌, ◌-◌, ◌≤◌, ◌↔◌, List, [], length, vec_len, max, IsTrue, IfOk, OnOk, OnErr};
+ghost use Rattle.extent_bytes.specs.Bytes.{overwritten, zeroed, resized, range_of};
+
+use crate::comparing::stored_agree;
+use crate::moving::{aligned, shared};
+use crate::overlaying::{overlay, write_range, zero_range};
+use crate::page_map::{PAGE, Pages, append_part, copy_bytes, discard};
+use std::alloc::{AllocError, Global};
+use std::collections::BTreeMap;
+use std::marker::Model;
+
+/// The greatest length of a byte list, 2^40.
+pub const MAX_LEN: u64 = 1_099_511_627_776;
+
+/// A list of at most [`MAX_LEN`] bytes. Only pages with bytes that were written take memory.
+///
+/// A call that answers [`AllocError`] leaves the list as it was.
+#[derive(Drop)]
+pub struct Extents {
+    // Where the first byte lies in page 0.
+    start: u64,
+    len: u64,
+    pages: Pages,
+    alloc: Global,
+}
+
+impl Model for Extents {
+    ghost use Rattle.std.specs.Prelude.{ℕ, List, ◌≤◌, ◌<◌, ◌^◌};
+    ghost use Rattle.extent_bytes.specs.Pages.{bytes_of};
+
+    ghost Value = { List ℕ };
+
+    ghost view = { λ e. bytes_of e.pages e.start e.len };
+
+    ghost invariant = { λ e. (e.start < 4096) × (e.len ≤ 2 ^ 40) };
+}
+
+impl Extents {
+    /// The empty list.
+    pub fn new(alloc: Global) -> Extents
+        ensures { result ≡ [] }
+    {
+        Extents {
+            start: 0,
+            len: 0,
+            pages: BTreeMap::new(alloc),
+            alloc,
+        }
+    }
+
+    /// How many bytes the list has.
+    pub fn len(&self) -> u64
+        ensures value { result ≡ length self.now }
+        ensures bound { length self.now ≤ MAX_LEN }
+    {
+        self.len
+    }
+
+    /// The bytes from `lo` up to `hi`.
+    pub fn read(&self, lo: u64, hi: u64) -> Result<Vec<u8>, AllocError>
+        requires forward { lo ≤ hi }
+        requires inside { hi ≤ length self.now }
+        ensures value { IfOk result (λ bytes. bytes.items ≡ range_of self.now lo hi) }
+        ensures len { IfOk result (λ bytes. vec_len bytes ≡ hi - lo) }
+    {
+        let end = self.start + hi;
+        let mut bytes = Vec::with_capacity(self.alloc, (hi - lo) as usize)?;
+        let mut at = self.start + lo;
+        while at < end {
+            let offset = at % PAGE;
+            let count = (PAGE - offset).min(end - at);
+            append_part(
+                &mut bytes,
+                &self.pages,
+                at / PAGE,
+                offset as usize,
+                (offset + count) as usize,
+            )?;
+            at += count;
+        }
+        Ok(bytes)
+    }
+
+    /// Writes the bytes from `at` on. A gap past the end is zeros, which take no memory.
+    pub fn write(&mut self, at: u64, bytes: &[u8]) -> Result<(), AllocError>
+        requires { at + length bytes.now ≤ MAX_LEN }
+        ensures ok { OnOk result (self.new ≡ overwritten self.old at bytes.now) }
+        ensures len { OnOk result (
+            length self.new ≡ max (length self.old) (at + length bytes.now)) }
+        ensures err { OnErr result (self.new ≡ self.old) }
+    {
+        let end = self.start + self.len;
+        write_range(&mut self.pages, self.alloc, end, self.start + at, bytes)?;
+        self.len = self.len.max(at + bytes.len() as u64);
+        Ok(())
+    }
+
+    /// Makes the bytes from `lo` up to `hi` zeros, and gives the pages within back.
+    pub fn zero(&mut self, lo: u64, hi: u64) -> Result<(), AllocError>
+        requires forward { lo ≤ hi }
+        requires inside { hi ≤ length self.old }
+        ensures ok { OnOk result (self.new ≡ zeroed self.old lo hi) }
+        ensures len { OnOk result (length self.new ≡ length self.old) }
+        ensures err { OnErr result (self.new ≡ self.old) }
+    {
+        zero_range(
+            &mut self.pages,
+            self.alloc,
+            self.start + lo,
+            self.start + hi,
+        )
+    }
+
+    /// Cuts the list, or extends it with zeros, to `len` bytes.
+    pub fn set_len(&mut self, len: u64) -> Result<(), AllocError>
+        requires { len ≤ MAX_LEN }
+        ensures ok { OnOk result (self.new ≡ resized self.old len) }
+        ensures len { OnOk result (length self.new ≡ len) }
+        ensures err { OnErr result (self.new ≡ self.old) }
+    {
+        if self.len < len {
+            let end = self.start + self.len;
+            zero_range(&mut self.pages, self.alloc, end, self.start + len)?;
+            self.len = len;
+            return Ok(());
+        }
+        self.len = len;
+        discard(&mut self.pages, (self.start + len).div_ceil(PAGE), u64::MAX);
+        Ok(())
+    }
+
+    /// The bytes from `lo` up to `hi` as a list of its own, which shares their pages.
+    pub fn share(&self, lo: u64, hi: u64) -> Result<Extents, AllocError>
+        requires forward { lo ≤ hi }
+        requires inside { hi ≤ length self.now }
+        ensures value { IfOk result (λ part. part ≡ range_of self.now lo hi) }
+        ensures len { IfOk result (λ part. length part ≡ hi - lo) }
+    {
+        let from = self.start + lo;
+        let to = self.start + hi;
+        Ok(Extents {
+            start: from % PAGE,
+            len: hi - lo,
+            pages: shared(&self.pages, self.alloc, from / PAGE, to.div_ceil(PAGE))?,
+            alloc: self.alloc,
+        })
+    }
+
+    // The bytes from `lo` up to `hi` as a list of its own. A part of one page is copied, so that
+    // the page keeps its one owner. More than that is shared.
+    fn detached(&self, lo: u64, hi: u64) -> Result<Extents, AllocError>
+        requires forward { lo ≤ hi }
+        requires inside { hi ≤ length self.now }
+        ensures value { IfOk result (λ part. part ≡ range_of self.now lo hi) }
+        ensures len { IfOk result (λ part. length part ≡ hi - lo) }
+    {
+        let from = self.start + lo;
+        let start = from % PAGE;
+        let end = start + (hi - lo);
+        if end > PAGE {
+            return self.share(lo, hi);
+        }
+        let mut pages = BTreeMap::new(self.alloc);
+        copy_bytes(
+            &mut pages,
+            self.alloc,
+            0,
+            &self.pages,
+            from / PAGE,
+            start as usize,
+            end as usize,
+        )?;
+        Ok(Extents {
+            start,
+            len: hi - lo,
+            pages,
+            alloc: self.alloc,
+        })
+    }
+
+    /// Takes the bytes from `lo` up to `hi` out as a list of its own, and leaves zeros there.
+    pub fn cut(&mut self, lo: u64, hi: u64) -> Result<Extents, AllocError>
+        requires forward { lo ≤ hi }
+        requires inside { hi ≤ length self.old }
+        ensures part { IfOk result (λ part. part ≡ range_of self.old lo hi) }
+        ensures part_len { IfOk result (λ part. length part ≡ hi - lo) }
+        ensures rest { OnOk result (self.new ≡ zeroed self.old lo hi) }
+        ensures len { OnOk result (length self.new ≡ length self.old) }
+        ensures err { OnErr result (self.new ≡ self.old) }
+    {
+        let part = self.detached(lo, hi)?;
+        self.zero(lo, hi)?;
+        Ok(part)
+    }
+
+    /// Puts the bytes of `part` in place of those from `lo` on.
+    pub fn put_back(&mut self, lo: u64, part: Extents) -> Result<(), AllocError>
+        requires { lo + length part ≤ length self.old }
+        ensures ok { OnOk result (self.new ≡ overwritten self.old lo part) }
+        ensures len { OnOk result (length self.new ≡ length self.old) }
+        ensures err { OnErr result (self.new ≡ self.old) }
+    {
+        let Extents {
+            start,
+            len,
+            pages,
+            alloc,
+        } = part;
+        if len == 0 {
+            return Ok(());
+        }
+        let from = self.start + lo;
+        let patch = aligned(pages, alloc, start, start + len, from % PAGE)?;
+        overlay(&mut self.pages, self.alloc, patch, from, from + len)
+    }
+
+    /// Whether both lists have the same bytes. It takes no memory, and only looks at stored pages.
+    pub fn same(&self, other: &Extents) -> bool
+        ensures { IsTrue result ↔ (self.now ≡ other.now) }
+    {
+        if self.len != other.len {
+            return false;
+        }
+        let end = self.start + self.len;
+        let other_end = other.start + other.len;
+        if !stored_agree(&self.pages, self.start, end, &other.pages, other.start) {
+            return false;
+        }
+        stored_agree(
+            &other.pages,
+            other.start,
+            other_end,
+            &self.pages,
+            self.start,
+        )
+    }
+}

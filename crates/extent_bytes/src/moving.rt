@@ -1,0 +1,93 @@
+// Ranges of a map of pages as maps of their own.
+ghost use Rattle.std.specs.Prelude.{◌≡◌, ℕ, ◌+◌, ◌-◌, ◌*◌, ◌/◌, ◌<◌, ◌≤◌, ◌^◌, min, max, slice_index, IfOk, OnOk};
+ghost use Rattle.extent_bytes.specs.Pages.{page_of, SameRange, Overlaid};
+
+use crate::page::Page;
+use crate::page_map::{PAGE, Pages, next_stored, put_range};
+use std::alloc::{AllocError, Global};
+use std::collections::BTreeMap;
+
+// The pages from `from` up to `to`, numbered from 0. They are shared and not copied.
+pub(crate) fn shared(pages: &Pages, alloc: Global, from: u64, to: u64) -> Result<Pages, AllocError>
+    requires { from ≤ to }
+    ensures { IfOk result (λ part.
+        (j : ℕ) → from + j < to → page_of part j ≡ page_of pages.now (from + j)) }
+{
+    let mut part = BTreeMap::new(alloc);
+    let mut at = from;
+    while let Some((number, page)) = next_stored(pages, at, to) {
+        part.insert(number - from, page.share()?)?;
+        at = number + 1;
+    }
+    Ok(part)
+}
+
+// The bytes of the page of a number that lie from `start` up to `end`, written from `target` on.
+fn move_page(
+    moved: &mut Pages,
+    alloc: Global,
+    page: &Page,
+    number: u64,
+    start: u64,
+    end: u64,
+    target: u64,
+) -> Result<(), AllocError>
+    requires forward { start ≤ end }
+    requires small { end < 2 ^ 62 }
+    requires near { target < 4096 }
+    requires first { start / 4096 ≤ number }
+    requires last { number * 4096 < end }
+    ensures { OnOk result (Overlaid moved.old moved.new
+        (target + (max start (number * 4096) - start))
+        (target + (min end (number * 4096 + 4096) - start))
+        (λ p. slice_index page.now (start + (p - target) - number * 4096))) }
+{
+    let from = start.max(number * PAGE);
+    let to = end.min(number * PAGE + PAGE);
+    let stored = page.as_slice();
+    let bytes = &stored[(from - number * PAGE) as usize..(to - number * PAGE) as usize];
+    put_range(moved, alloc, target + (from - start), bytes)
+}
+
+// The bytes of a range as pages of their own, from another place in page 0 on.
+fn moved(
+    pages: &Pages,
+    alloc: Global,
+    start: u64,
+    end: u64,
+    target: u64,
+) -> Result<Pages, AllocError>
+    requires forward { start ≤ end }
+    requires small { end < 2 ^ 62 }
+    requires near { target < 4096 }
+    ensures { IfOk result (λ moved. SameRange pages.now start moved target (end - start)) }
+{
+    let mut moved = BTreeMap::new(alloc);
+    let last = end.div_ceil(PAGE);
+    let mut at = start / PAGE;
+    while let Some((number, page)) = next_stored(pages, at, last) {
+        move_page(&mut moved, alloc, page, number, start, end, target)?;
+        at = number + 1;
+    }
+    Ok(moved)
+}
+
+// The bytes of a range as pages of their own, from another place in page 0 on. They are copied only
+// where that is another place than they have.
+pub(crate) fn aligned(
+    pages: Pages,
+    alloc: Global,
+    start: u64,
+    end: u64,
+    target: u64,
+) -> Result<Pages, AllocError>
+    requires forward { start ≤ end }
+    requires small { end < 2 ^ 62 }
+    requires near { target < 4096 }
+    ensures { IfOk result (λ moved. SameRange pages start moved target (end - start)) }
+{
+    if start == target {
+        return Ok(pages);
+    }
+    moved(&pages, alloc, start, end, target)
+}

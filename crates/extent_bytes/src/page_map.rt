@@ -1,0 +1,181 @@
+// Stored pages by their numbers. Page k holds the bytes from 4,096 * k on, and one that is not
+// stored is zeros.
+ghost use Rattle.std.specs.Prelude.{◌≡◌, ℕ, ◌+◌, ◌-◌, ◌*◌, ◌<◌, ◌≤◌, ◌^◌, ◌++◌, length, vec_len, slice_index, None, Some, IsSome, IfSome, IfNone, IfOk, OnOk, OnErr};
+ghost use Rattle.extent_bytes.specs.Pages.{page_of, byte_at, bytes_of, SameBytes, SameBelow, Overlaid};
+
+use crate::page::{PAGE_SIZE, Page};
+use std::alloc::{AllocError, Global};
+use std::collections::BTreeMap;
+
+pub(crate) type Pages = BTreeMap<u64, Page>;
+
+pub(crate) const PAGE: u64 = PAGE_SIZE as u64;
+
+// The first stored page from `from` on and below `to`, and its number.
+pub(crate) fn next_stored(pages: &Pages, from: u64, to: u64) -> Option<(u64, &Page)>
+    requires { from ≤ to }
+    ensures page { IfSome result (λ found. page_of pages.now found.0 ≡ Some found.1.now) }
+    ensures within { IfSome result (λ found. (from ≤ found.0) × (found.0 < to)) }
+    ensures least { IfSome result (λ found.
+        (j : ℕ) → from ≤ j → j < to → IsSome (page_of pages.now j) → found.0 ≤ j) }
+    ensures none { IfNone result ((j : ℕ) → from ≤ j → j < to → page_of pages.now j ≡ None) }
+{
+    if from == to {
+        return None;
+    }
+    match pages.range(from..to).next() {
+        Some((number, page)) => Some((*number, page)),
+        None => None,
+    }
+}
+
+// The number of the first stored page from `from` on and below `to`.
+pub(crate) fn next_page(pages: &Pages, from: u64, to: u64) -> Option<u64>
+    requires { from ≤ to }
+    ensures stored { IfSome result (λ k. IsSome (page_of pages.now k)) }
+    ensures within { IfSome result (λ k. (from ≤ k) × (k < to)) }
+    ensures least { IfSome result (λ k.
+        (j : ℕ) → from ≤ j → j < to → IsSome (page_of pages.now j) → k ≤ j) }
+    ensures none { IfNone result ((j : ℕ) → from ≤ j → j < to → page_of pages.now j ≡ None) }
+{
+    match next_stored(pages, from, to) {
+        Some((number, _)) => Some(number),
+        None => None,
+    }
+}
+
+// Takes the pages from `from` up to `to` away.
+pub(crate) fn discard(pages: &mut Pages, from: u64, to: u64)
+    requires { from ≤ to }
+    ensures gone { (j : ℕ) → from ≤ j → j < to → page_of pages.new j ≡ None }
+    ensures below { (j : ℕ) → j < from → page_of pages.new j ≡ page_of pages.old j }
+    ensures above { (j : ℕ) → to ≤ j → page_of pages.new j ≡ page_of pages.old j }
+{
+    while let Some(number) = next_page(pages, from, to) {
+        pages.remove(&number);
+    }
+}
+
+// Writes the bytes into one page.
+pub(crate) fn put_bytes(
+    pages: &mut Pages,
+    alloc: Global,
+    number: u64,
+    at: usize,
+    bytes: &[u8],
+) -> Result<(), AllocError>
+    requires { at + length bytes.now ≤ PAGE_SIZE }
+    ensures ok { OnOk result (Overlaid pages.old pages.new
+        (number * 4096 + at) (number * 4096 + (at + length bytes.now))
+        (λ p. slice_index bytes.now (p - (number * 4096 + at)))) }
+    ensures err { OnErr result (SameBytes pages.old pages.new) }
+{
+    match pages.get_mut(&number) {
+        Some(page) => page.write(alloc, at, bytes),
+        None => {
+            pages.insert(number, Page::new(alloc, at, bytes)?)?;
+            Ok(())
+        }
+    }
+}
+
+// Makes a part of one page zeros.
+fn clear_bytes(
+    pages: &mut Pages,
+    alloc: Global,
+    number: u64,
+    from: usize,
+    to: usize,
+) -> Result<(), AllocError>
+    requires forward { from ≤ to }
+    requires inside { to ≤ PAGE_SIZE }
+    ensures ok { OnOk result (Overlaid pages.old pages.new
+        (number * 4096 + from) (number * 4096 + to) (λ _. 0)) }
+    ensures err { OnErr result (SameBytes pages.old pages.new) }
+{
+    match pages.get_mut(&number) {
+        Some(page) => page.clear(alloc, from, to),
+        None => Ok(()),
+    }
+}
+
+// Writes a part of a page of another map into the same part of one page.
+pub(crate) fn copy_bytes(
+    pages: &mut Pages,
+    alloc: Global,
+    number: u64,
+    source: &Pages,
+    source_number: u64,
+    from: usize,
+    to: usize,
+) -> Result<(), AllocError>
+    requires forward { from ≤ to }
+    requires inside { to ≤ PAGE_SIZE }
+    ensures ok { OnOk result (Overlaid pages.old pages.new
+        (number * 4096 + from) (number * 4096 + to)
+        (λ p. byte_at source.now (source_number * 4096 + (p - number * 4096)))) }
+    ensures err { OnErr result (SameBytes pages.old pages.new) }
+{
+    if from == to {
+        return Ok(());
+    }
+    match source.get(&source_number) {
+        Some(page) => {
+            let bytes = page.as_slice();
+            put_bytes(pages, alloc, number, from, &bytes[from..to])
+        }
+        None => clear_bytes(pages, alloc, number, from, to),
+    }
+}
+
+// Writes the bytes from a position on. Some may be written before memory is wanting.
+pub(crate) fn put_range(
+    pages: &mut Pages,
+    alloc: Global,
+    at: u64,
+    bytes: &[u8],
+) -> Result<(), AllocError>
+    requires { at + length bytes.now < 2 ^ 63 }
+    ensures ok { OnOk result (Overlaid pages.old pages.new
+        at (at + length bytes.now) (λ p. slice_index bytes.now (p - at))) }
+    ensures err { OnErr result (SameBelow pages.old pages.new at) }
+{
+    let mut done = 0;
+    while done < bytes.len() {
+        let position = at + done as u64;
+        let offset = (position % PAGE) as usize;
+        let count = (PAGE_SIZE - offset).min(bytes.len() - done);
+        put_bytes(
+            pages,
+            alloc,
+            position / PAGE,
+            offset,
+            &bytes[done..done + count],
+        )?;
+        done += count;
+    }
+    Ok(())
+}
+
+// Appends a part of one page to the bytes.
+pub(crate) fn append_part(
+    bytes: &mut Vec<u8>,
+    pages: &Pages,
+    number: u64,
+    from: usize,
+    to: usize,
+) -> Result<(), AllocError>
+    requires forward { from ≤ to }
+    requires inside { to ≤ PAGE_SIZE }
+    requires small { vec_len bytes.old < 2 ^ 62 }
+    ensures { OnOk result (bytes.new.items ≡
+        bytes.old.items ++ bytes_of pages.now (number * 4096 + from) (to - from)) }
+{
+    match pages.get(&number) {
+        Some(page) => {
+            let stored = page.as_slice();
+            bytes.extend_from_slice(&stored[from..to])
+        }
+        None => bytes.resize(bytes.len() + (to - from), 0),
+    }
+}

@@ -1,0 +1,6 @@
+pub mod Adjusted
+pub mod DirectoriesAbove
+pub mod Ranges
+pub mod Removals
+pub mod Sameness
+pub mod Walks

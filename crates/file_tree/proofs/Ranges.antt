@@ -1,0 +1,53 @@
+-- Ranges of bytes, as far as there are bytes.
+use Rattle.std.proofs.Common.{◌≡◌, ℕ, ◌+◌, ◌-◌, ◌<◌, ◌≤◌, List, [], length, take, drop, sym, ◌∙◌, ap, refl, inl, inr, arith}
+use Rattle.std.specs.Prelude.{◌⊎◌, min, replicate}
+use Rattle.std.proofs.lemmas.Bool.{cases_lt}
+use Rattle.std.proofs.lemmas.List.{take_min, drop_min, length-drop, take-append-drop}
+use Rattle.std.proofs.Math.Seq.{take-nil, drop-nil}
+use Rattle.extent_bytes.specs.Bytes.{overwritten, range_of, zeroed}
+
+module _ (bytes : List ℕ) (lo hi : ℕ) where
+  abbrev end : ℕ
+  end = min hi (length bytes)
+
+  pub range_of-within : range_of bytes (min lo end) end ≡ range_of bytes lo hi
+  unfolding range_of
+  range_of-within = by_order (cases_lt hi lo)
+    where
+      by_order : (hi < lo) ⊎ (lo ≤ hi) → take (end - min lo end) (drop (min lo end) bytes) ≡ take (hi - lo) (drop lo bytes)
+      by_order (inl h) =
+          let none : end - min lo end ≡ 0 = omega (arith) in
+          let none_too : hi - lo ≡ 0 = omega (arith, h) in
+          rw (none, none_too) refl
+      by_order (inr h) =
+          let first : min lo end ≡ min lo (length bytes) = omega (arith, h) in
+          let count : end - min lo (length bytes) ≡ min (hi - lo) (length (drop lo bytes)) = omega (arith, h, length-drop lo bytes) in
+          rw (first, drop_min lo bytes, count) (take_min (hi - lo) (drop lo bytes))
+
+  -- nothing is put over the bytes
+  overwritten-none : (at : ℕ) → at ≤ length bytes → overwritten bytes at [] ≡ bytes
+  unfolding overwritten
+  overwritten-none at h =
+      let no_gap : at - length bytes ≡ 0 = omega (arith, h) in
+      let same : at + 0 ≡ at = omega arith in
+      rw (no_gap, same) (take-append-drop at bytes)
+
+  pub zeroed-within : zeroed bytes (min lo end) end ≡ zeroed bytes lo hi
+  zeroed-within = by_order (cases_lt end lo)
+    where
+      by_order : (end < lo) ⊎ (lo ≤ end) → zeroed bytes (min lo end) end ≡ zeroed bytes lo hi
+      by_order (inl h) =
+          let none : min end (length bytes) - min lo end ≡ 0 = omega (arith, h) in
+          let none_too : min hi (length bytes) - lo ≡ 0 = omega (arith, h) in
+          ap (λ n. overwritten bytes (min (min lo end) (length bytes)) (replicate n 0)) none
+          ∙ overwritten-none (min (min lo end) (length bytes)) (omega arith)
+          ∙ sym (ap (λ n. overwritten bytes (min lo (length bytes)) (replicate n 0)) none_too ∙ overwritten-none (min lo (length bytes)) (omega arith))
+      by_order (inr h) =
+          let first : min lo end ≡ lo = omega (arith, h) in
+          let last : min end (length bytes) ≡ end = omega (arith) in
+          rw (first, last) refl
+
+-- no bytes are in a range of none
+pub range_of-none : (lo hi : ℕ) → range_of [] lo hi ≡ []
+unfolding range_of
+range_of-none lo hi = ap (take (hi - lo)) (drop-nil lo) ∙ take-nil (hi - lo)

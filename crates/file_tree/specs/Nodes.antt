@@ -1,0 +1,9 @@
+-- The nodes that a tree keeps.
+use Rattle.file_tree.specs.Tree.{Node, directory, file}
+use Rattle.file_tree.specs.declared.node.Content.{Content}
+use Rattle.file_tree.specs.declared.node.Content.TheVariants.{Directory, File}
+
+-- a directory with its names, or a file with its bytes
+abbrev pub node_of : Content → Node
+node_of (Directory names) = directory names
+node_of (File bytes) = file bytes

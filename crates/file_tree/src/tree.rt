@@ -1,0 +1,132 @@
+//! The file tree: its nodes and their names.
+ghost use Rattle.std.specs.Prelude.{◌≡◌, ◌==◌, ◌↔◌, unwrap_or, IfNone, IfOk, IsOk, IsTrue, OnErr, OnOk};
+ghost use Rattle.std.specs.Option.{option_copied, option_map};
+ghost use Rattle.finite_maps.specs.Table.{adjust_number, count, empty, insert, number_keys};
+ghost use Rattle.file_tree.specs.Kinds.{kind_meant};
+ghost use Rattle.file_tree.specs.Tree.{directory, new_node, renamed_node};
+ghost use Rattle.file_tree.specs.Tree as tree;
+ghost use Rattle.file_tree.specs.Found.{node_of};
+
+use crate::names::Names;
+use crate::node::{Content, Kind, Node};
+use std::alloc::{AllocError, Global};
+use std::collections::BTreeMap;
+use std::marker::Model;
+
+/// Directories and files by their numbers. The root is directory 0.
+#[derive(Drop)]
+pub struct Tree {
+    pub(crate) nodes: BTreeMap<u32, Node>,
+}
+
+impl Model for Tree {
+    ghost use Rattle.file_tree.specs.Tree.{Tree};
+    ghost use Rattle.finite_maps.specs.Table.{number_keys};
+    ghost use Rattle.finite_maps.specs.Maps.{table_of};
+    ghost use Rattle.file_tree.specs.Codes.{tree_code};
+
+    ghost Value = { Tree };
+
+    ghost coded = { tree_code };
+
+    ghost view = { λ t. table_of number_keys.total t.nodes.entries };
+}
+
+impl Tree {
+    /// A tree with the root alone.
+    ///
+    /// # Errors
+    ///
+    /// Want of memory.
+    pub fn new(alloc: Global) -> Result<Self, AllocError>
+        ensures { IfOk result (λ tree. tree ≡ insert number_keys.total empty 0 (directory empty)) }
+    {
+        let mut nodes = BTreeMap::new(alloc);
+        nodes.insert(0, Node::new(alloc, Kind::Directory))?;
+        Ok(Tree { nodes })
+    }
+
+    /// How many nodes there are, those without names too.
+    pub fn node_count(&self) -> usize
+        ensures { result ≡ count self.now }
+    {
+        self.nodes.len()
+    }
+
+    /// Whether both trees have the same nodes with the same names and bytes. It takes no memory.
+    pub fn same(&self, other: &Tree) -> bool
+        ensures { IsTrue result ↔ (self.now ≡ other.now) }
+    {
+        self.nodes.len() == other.nodes.len() && self.nodes == other.nodes
+    }
+
+    /// What a node is; none where there is no such node.
+    pub fn kind(&self, node: u32) -> Option<Kind>
+        ensures { option_map kind_meant result ≡ tree.kind self.now node }
+    {
+        Some(self.nodes.get(&node)?.kind())
+    }
+
+    /// The names of a directory; none where the node is none.
+    pub fn names(&self, node: u32) -> Option<&Names>
+        ensures { option_copied result ≡ tree.names self.now node }
+    {
+        match &self.nodes.get(&node)?.content {
+            Content::Directory(names) => Some(names),
+            Content::File(_) => None,
+        }
+    }
+
+    /// The number of the node that a name of a directory leads to.
+    pub fn name(&self, directory: u32, name: &[u8]) -> Option<u32>
+        ensures { result ≡ node_of (tree.name self.now directory name.now) }
+    {
+        self.names(directory)?.get(name)
+    }
+
+    /// Whether a node has no names. A file has none.
+    pub fn is_empty(&self, node: u32) -> bool
+        ensures { result ≡ (unwrap_or (tree.name_count self.now node) 0 == 0) }
+    {
+        match self.names(node) {
+            Some(names) => names.is_empty(),
+            None => true,
+        }
+    }
+
+    /// Makes a node: a directory without names, or an empty file. One that had the number goes.
+    ///
+    /// # Errors
+    ///
+    /// Want of memory; the tree is as before.
+    pub fn add_node(&mut self, alloc: Global, number: u32, kind: Kind) -> Result<(), AllocError>
+        ensures ok { OnOk result (self.new ≡ insert number_keys.total self.old number (new_node (kind_meant kind))) }
+        ensures err { OnErr result (self.new ≡ self.old) }
+    {
+        self.nodes.insert(number, Node::new(alloc, kind))?;
+        Ok(())
+    }
+
+    /// Lets a name of a directory lead to a node, or to none, which takes no memory. Where there is no
+    /// such directory nothing changes.
+    ///
+    /// # Errors
+    ///
+    /// Want of memory; the tree is as before.
+    pub fn set_name(
+        &mut self,
+        alloc: Global,
+        directory: u32,
+        name: &[u8],
+        node: Option<u32>,
+    ) -> Result<(), AllocError>
+        ensures ok { OnOk result (self.new ≡ adjust_number (renamed_node name.now node) self.old directory) }
+        ensures err { OnErr result (self.new ≡ self.old) }
+        ensures removal { IfNone node (IsOk result) }
+    {
+        let Some(found) = self.nodes.get_mut(&directory) else {
+            return Ok(());
+        };
+        found.set_name(alloc, name, node)
+    }
+}

@@ -1,0 +1,118 @@
+//! Where a path leads, after path_resolution(7).
+ghost use Rattle.std.specs.Prelude.{◌≡◌, ◌==◌};
+ghost use Rattle.std.specs.List.{list_any};
+ghost use Rattle.trace_format.specs.Paths.{components};
+ghost use Rattle.file_tree.specs.Found.{walk_meant};
+ghost use Rattle.file_tree.specs.Tree as tree;
+ghost use Rattle.file_tree.specs.Walk as walk;
+
+use crate::node::Kind;
+use crate::tree::Tree;
+use sqe_codec::Errno;
+
+/// The directory that stands for the working directory: `AT_FDCWD` of openat(2).
+const WORKING_DIRECTORY: i32 = -100;
+
+/// The most bytes that a name has: `NAME_MAX` of linux/limits.h.
+const LONGEST_NAME: usize = 255;
+
+/// Where a path leads: the directory that has its last name, that name, and the node that it leads to.
+#[derive(Clone, Copy, Debug)]
+pub struct Place<'a> {
+    pub parent: u32,
+    pub name: &'a [u8],
+    /// None where the directory has no such name.
+    pub node: Option<u32>,
+}
+
+/// Whether a path starts at the root: an absolute one, or a relative one at the working directory.
+fn starts_at_root(directory: i32, path: &[u8]) -> bool
+    ensures { result ≡ walk.starts_at_root (record { directory = directory; text = path.now }) }
+{
+    path.starts_with(b"/") || directory == WORKING_DIRECTORY
+}
+
+impl Tree {
+    /// Where a path leads.
+    ///
+    /// An absolute path starts at the root, and so does a relative one at the working directory
+    /// (`AT_FDCWD`). No other directory is served.
+    ///
+    /// # Errors
+    ///
+    /// EBADF for a relative path at another directory. Then name by name: ENAMETOOLONG for one of more
+    /// than 255 bytes, and but for the last one ENOENT where it is missing and ENOTDIR where it leads to
+    /// a file. ENOENT for a path without names.
+    pub fn walk<'a>(&self, directory: i32, path: &'a [u8]) -> Result<Place<'a>, Errno>
+        ensures { walk_meant self.now result ≡ walk.walk self.now (record { directory = directory; text = path.now }) }
+    {
+        if !starts_at_root(directory, path) {
+            return Err(Errno::EBADF);
+        }
+        self.walk_from_root(path)
+    }
+
+    /// Whether a node is one of the directories in which the walk of a path looks a name up: the parent
+    /// of what the path leads to, or one above it.
+    pub fn is_above(&self, node: u32, directory: i32, path: &[u8]) -> bool
+        ensures { result ≡ walk.is_above self.now node (record { directory = directory; text = path.now }) }
+    {
+        starts_at_root(directory, path) && self.is_above_from_root(node, path)
+    }
+
+    fn is_above_from_root(&self, node: u32, path: &[u8]) -> bool
+        ensures { result ≡ list_any (λ e. e.0 == node) (walk.names_from self.now 0 (components path.now)) }
+    {
+        let mut parent = 0;
+        for name in path.split(|b| *b == b'/').filter(|run| !run.is_empty()) {
+            if name.len() > LONGEST_NAME {
+                return false;
+            }
+            if parent == node {
+                return true;
+            }
+            match self.directory_at(parent, name) {
+                Ok(next) => parent = next,
+                Err(_) => return false,
+            }
+        }
+        false
+    }
+
+    fn walk_from_root<'a>(&self, path: &'a [u8]) -> Result<Place<'a>, Errno>
+        ensures { walk_meant self.now result ≡ walk.walk_from self.now 0 (components path.now) }
+    {
+        let mut parent = 0;
+        let mut last: Option<&[u8]> = None;
+        for name in path.split(|b| *b == b'/').filter(|run| !run.is_empty()) {
+            if let Some(directory) = last {
+                parent = self.directory_at(parent, directory)?;
+            }
+            if name.len() > LONGEST_NAME {
+                return Err(Errno::ENAMETOOLONG);
+            }
+            last = Some(name);
+        }
+        match last {
+            Some(name) => Ok(Place {
+                parent,
+                name,
+                node: self.name(parent, name),
+            }),
+            None => Err(Errno::ENOENT),
+        }
+    }
+
+    /// The directory that a name of a directory leads to.
+    fn directory_at(&self, directory: u32, name: &[u8]) -> Result<u32, Errno>
+        ensures { result ≡ walk.directory_at (tree.name self.now directory name.now) }
+    {
+        let Some(node) = self.name(directory, name) else {
+            return Err(Errno::ENOENT);
+        };
+        match self.kind(node) {
+            Some(Kind::Directory) => Ok(node),
+            _ => Err(Errno::ENOTDIR),
+        }
+    }
+}
