@@ -22,3 +22,15 @@ pub mod CoverWrites
 pub mod Cover
 pub mod Keep
 pub mod Commute
+pub mod AnyOrder
+pub mod Beginning
+pub mod Bounds
+pub mod Holding
+pub mod Lawful
+pub mod ReachRows
+pub mod RowSame
+pub mod RowsHeld
+pub mod RowsSeen
+pub mod RowsWide
+pub mod Writing
+pub mod Starts

@@ -1,1 +1,3 @@
 pub mod Laws
+pub mod Reach
+pub mod Replayed

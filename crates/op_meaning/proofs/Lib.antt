@@ -1,3 +1,3 @@
 pub mod Alone
-mod Shown
+pub mod Shown
 mod Worked

@@ -12,3 +12,4 @@ pub mod KnownSpans
 pub mod Apart
 pub mod Facts
 pub mod Sizes
+pub mod Sound

@@ -12,3 +12,4 @@ pub mod Names
 pub mod Spans
 pub mod Facts
 pub mod Sizes
+pub mod Sound

@@ -1,4 +1,4 @@
-use Rattle.std.proofs.Common.{◌≡◌, ◌<◌, ◌^◌, arith, take, ◌∙◌}
+use Rattle.std.proofs.Common.{◌≡◌, arith, take}
 use Rattle.trace_format.specs.Sides.{total, lengths_in}
 use Rattle.std.specs.Int.{w64, from_le_bytes}
 use Rattle.trace_format.proofs.Sums.{total-next, total-none, vector_total-refused, vector_total-taken}

@@ -1,0 +1,252 @@
+-- In a world whose numbers are initial or of earlier places, all that a place looks up is of earlier places.
+use Rattle.std.specs.Prelude.{◌≡◌, ℕ, ℤ, pos, negsuc, zero, suc, Bool, true, false, cond, not, ◌&&◌, ◌||◌, ◌==◌, ltb, ◌+◌, ◌-◌, ◌<◌, ◌≤◌, min, length, T, List, [], ◌∷◌, ◌++◌, map, Option, Some, None, Result, Ok, Err, refl, IfSome, IsSome}
+use Rattle.std.specs.Option.{option_map, option_and_then, is_some}
+use Rattle.std.proofs.Common.{inl, inr}
+use mathlib.Core.Path.{sym, subst, ap, ◌∙◌}
+use native.Mathlib.Omega.{arith}
+use lib.Dec.{ltb→lt, lt→ltb}
+use Rattle.sqe_codec.specs.declared.errno.Errno.{Errno}
+use Rattle.sqe_codec.specs.declared.errno.Errno.TheVariants.{ENAMETOOLONG, EBADF}
+use Rattle.trace_format.specs.declared.trace.Trace.{Trace}
+use Rattle.sqe_codec.specs.Answers.{each, each_ok, ◌>>=◌, ◌>>◌, require}
+use Rattle.trace_format.specs.Paths.{components}
+use Rattle.entry_checks.specs.Operation.{Operation, nop, readv, writev, fsync, read_fixed, write_fixed, fallocate, openat, close, read, write, renameat, unlinkat, mkdirat, linkat, ftruncate, File, Span, Path, OpenFlags, file_limit, at_position}
+use Rattle.trace_format.specs.Sides.{most_moved}
+use Rattle.finite_maps.specs.Table.{get}
+use Rattle.world_parts.specs.World.{World, IsWorld, Description, Opened, opened, opened_by, kind, names, name, slot, descriptor}
+use Rattle.file_tree.specs.Tree.{target}
+use Rattle.file_tree.specs.Tree.{Target, kind_of_node}
+use Rattle.file_tree.specs.Walk.{Place, walk, walk_from, names_from, directory_at, fits_name, starts_at_root, is_directory}
+use Rattle.op_meaning.specs.Meaning.{made_node, made_description, slot_count, span_start, Handle, handle_of, held, is_file, allocation, Allocation, extend, reserve, punch, zero_extend, zero_within}
+use Rattle.world_parts.specs.Items.{Atom, description_at, position_of, size_of, byte_at, name_at, names_in, buffer_byte, Item, one, file_bytes, buffer_bytes, member_of, Use, reads, writes, Footprint, has_atom}
+use Rattle.op_meaning.specs.Footprint.{use_of, held_item, file_reads, of_file, of_description, on_file, range_of, transfer_range, position_written, position_use, span_use, path_reads, name_written, directory_names, close_row}
+use Rattle.foot_print.specs.Reach.{taken, write_content, allocated, opened_taken}
+use Rattle.foot_print.specs.Replayed.{IsBefore, is_earlier}
+use Rattle.world_parts.proofs.Collision.{same_atom-eq}
+use Rattle.foot_print.proofs.Holding.{split, drop_false}
+use Rattle.foot_print.proofs.RowsSeen.{read_content, cut_content}
+
+none_some : {A : Type 0} (o : Option A) → o ≡ None → is_some o ≡ true → ⊥
+none_some o e h = subst T (sym h ∙ ap is_some e) tt
+
+decide : (b : Bool) → (b ≡ false → ⊥) → T b
+decide true h = tt
+decide false h = h refl
+
+module _ (t : Trace) (k : ℕ) (s : World) (w : IsWorld s) (before : IsBefore t k s) where
+  node_before : (i : ℕ) → IsSome (kind s i) → T (ltb i (made_node t k))
+  node_before i h = decide _ (λ e. later e)
+    where
+      later : ltb i (made_node t k) ≡ false → ⊥
+      later e =
+          let n : ¬ (i < made_node t k) = λ l. subst T e (lt→ltb i (made_node t k) l) in
+          let le : made_node t k ≤ i = omega arith in
+          let j : ℕ = k + (i - made_node t k) in
+          let same : made_node t j ≡ i = omega arith in
+          let unused : get s.nodes (made_node t j) ≡ None = (before j (omega arith)).no_node in
+          none_some (kind s i) (ap (option_map kind_of_node) (subst (λ x. get s.nodes x ≡ None) same unused)) h
+
+  description_before : (d : ℕ) → IsSome (opened s d) → T (ltb d (made_description t k))
+  description_before d h = decide _ (λ e. later e)
+    where
+      later : ltb d (made_description t k) ≡ false → ⊥
+      later e =
+          let n : ¬ (d < made_description t k) = λ l. subst T e (lt→ltb d (made_description t k) l) in
+          let le : made_description t k ≤ d = omega arith in
+          let j : ℕ = k + (d - made_description t k) in
+          let same : made_description t j ≡ d = omega arith in
+          let unused : get s.descriptions (made_description t j) ≡ None = (before j (omega arith)).no_description in
+          none_some (opened s d) (ap (option_map (opened_by s)) (subst (λ x. get s.descriptions x ≡ None) same unused)) h
+
+  abbrev Bound : Footprint → Type 0
+  Bound f = (a : Atom) → T (has_atom f a) → T (is_earlier t k a)
+
+  bound_nothing : Bound []
+  bound_nothing a h = absurd h
+
+  bound_all : (f g : Footprint) → Bound f → Bound g → Bound (f ++ g)
+  bound_all f g x y a h = elim (split (λ (u : Use). member_of u.item a) f g h) [ inl m ↦ x a m | inr m ↦ y a m ]
+
+  bound_one : (b : Atom) (v : Bool) → T (is_earlier t k b) → Bound (record { item = one b; written = v } ∷ [])
+  bound_one b v e a h = subst (λ c. T (is_earlier t k c)) (same_atom-eq b a (drop_false _ h)) e
+
+  bound_range : (i low high : ℕ) (v : Bool) → T (ltb i (made_node t k)) → Bound (record { item = file_bytes i low high; written = v } ∷ [])
+  bound_range i low high v e a h = go a (drop_false _ h)
+    where
+      go : (b : Atom) → T (member_of (file_bytes i low high) b) → T (is_earlier t k b)
+      go (byte_at j p) m = subst (λ n. T (ltb n (made_node t k))) (lib.Dec.eqb→eq i j (Rattle.world_parts.proofs.Collision.left _ _ m)) e
+      go _ m = absurd m
+
+  bound_buffer : (r b low high : ℕ) (v : Bool) → Bound (record { item = buffer_bytes r b low high; written = v } ∷ [])
+  bound_buffer r b low high v a h = go a (drop_false _ h)
+    where
+      go : (c : Atom) → T (member_of (buffer_bytes r b low high) c) → T (is_earlier t k c)
+      go (buffer_byte q c p) m = tt
+      go _ m = absurd m
+
+  bound_held : (v : Bool) (r : ℕ) (b : Bool) (n : ℤ) → Bound (map (use_of v) (held_item t r b n))
+  bound_held v r true (pos n) = elim (ltb n (slot_count t r)) as (λ c. Bound (map (use_of v) (cond c (one (Rattle.world_parts.specs.Items.slot_at r n) ∷ []) []))) [ true ↦ bound_one (Rattle.world_parts.specs.Items.slot_at r n) v tt | false ↦ bound_nothing ]
+  bound_held v r false (pos n) = elim (ltb n (length t.descriptors)) as (λ c. Bound (map (use_of v) (cond c (one (Rattle.world_parts.specs.Items.descriptor_at n) ∷ []) []))) [ true ↦ bound_one (Rattle.world_parts.specs.Items.descriptor_at n) v tt | false ↦ bound_nothing ]
+  bound_held v r b (negsuc n) = bound_nothing
+
+  module _ (r : ℕ) where
+    held_leads : (b : Bool) (n : ℤ) → IfSome (held t s r b n) (λ d. IsSome (opened s d))
+    held_leads true (pos n) = elim (ltb n (slot_count t r)) as (λ c. IfSome (cond c (slot s r n) None) (λ d. IsSome (opened s d))) [ true ↦ w.slots_lead r n | false ↦ tt ]
+    held_leads false (pos n) = elim (ltb n (length t.descriptors)) as (λ c. IfSome (cond c (descriptor s n) None) (λ d. IsSome (opened s d))) [ true ↦ w.descriptors_lead n | false ↦ tt ]
+    held_leads b (negsuc n) = tt
+
+    bound_position : (o : ℕ) (h : Handle) → T (ltb h.description (made_description t k)) → Bound (position_written h o)
+    bound_position o h e = elim (o == at_position) as (λ b. Bound (cond b (writes (one (position_of h.description)) ∷ []) [])) [ true ↦ bound_one (position_of h.description) true e | false ↦ bound_nothing ]
+
+    abbrev BoundContent : (ℕ → Handle → Footprint) → Type 0
+    BoundContent c = (i : ℕ) (h : Handle) → T (ltb i (made_node t k)) → T (ltb h.description (made_description t k)) → Bound (c i h)
+
+    bound_file : (f : File) (c : ℕ → Handle → Footprint) → BoundContent c → Bound (on_file t s r f c)
+    bound_file f c h = bound_all (file_reads t r f) _ (bound_held false r f.registered f.number) (at (held t s r f.registered f.number) (held_leads f.registered f.number))
+      where
+        content : (d : ℕ) → T (ltb d (made_description t k)) → (y : Option Description) → IfSome (option_map (opened_by s) y) (λ (o : Opened). IsSome o.target.kind)
+            → Bound (each (of_file c) (option_map (λ (o : Opened). record { description = d; opened = o }) (option_map (opened_by s) y)))
+        content d e None l = bound_nothing
+        content d e (Some y) l = elim (is_file (opened_by s y)) as (λ b. Bound (cond b (c y.node (record { description = d; opened = opened_by s y })) [])) [ true ↦ h y.node (record { description = d; opened = opened_by s y }) (node_before y.node l) e | false ↦ bound_nothing ]
+
+        at : (x : Option ℕ) → IfSome x (λ d. IsSome (opened s d)) → Bound (each (of_description s c) x)
+        at None l = bound_nothing
+        at (Some d) l = bound_all (reads (one (description_at d)) ∷ []) _ (bound_one (description_at d) false (description_before d l)) (content d (description_before d l) (get s.descriptions d) (w.descriptions_lead d))
+
+    bound_transfer : (f : File) (o : ℕ) (c : ℕ → Handle → Footprint) → BoundContent c → Bound (on_file t s r f c ++ position_use t s r f o)
+    bound_transfer f o c h = bound_all (on_file t s r f c) _ (bound_file f c h) (at (held t s r f.registered f.number) (held_leads f.registered f.number))
+      where
+        of_handle : (d : ℕ) → T (ltb d (made_description t k)) → (x : Option Opened) → Bound (each (λ h. position_written h o) (option_map (λ (y : Opened). record { description = d; opened = y }) x))
+        of_handle d e None = bound_nothing
+        of_handle d e (Some y) = bound_position o (record { description = d; opened = y }) e
+
+        at : (x : Option ℕ) → IfSome x (λ d. IsSome (opened s d)) → Bound (each (λ h. position_written h o) (option_and_then (handle_of s) x))
+        at None l = bound_nothing
+        at (Some d) l = of_handle d (description_before d l) (opened s d)
+
+    bound_transferred : (v : Bool) (b : Bool) (i o n : ℕ) → T (ltb i (made_node t k)) → Bound (record { item = transfer_range i b o n; written = v } ∷ [])
+    bound_transferred v true i o n e = bound_range i 0 (min file_limit file_limit) v e
+    bound_transferred v false i o n e = bound_range i o (min (o + n) file_limit) v e
+
+    bound_read : (f : File) (o n : ℕ) → Bound (Rattle.op_meaning.specs.Footprint.read_row t s r f o n)
+    bound_read f o n = bound_transfer f o (read_content o n) (λ i h e d. bound_all (reads (one (size_of i)) ∷ []) (reads (transfer_range i (o == at_position) o n) ∷ position_written h o) (bound_one (size_of i) false e)
+        (bound_all (reads (transfer_range i (o == at_position) o n) ∷ []) (position_written h o) (bound_transferred false (o == at_position) i o n e) (bound_position o h d)))
+
+    bound_write : (f : File) (o n : ℕ) → Bound (Rattle.foot_print.specs.Reach.write_taken t s r f o n)
+    bound_write f o n = bound_transfer f o (write_content o n) (λ i h e d. bound_all (writes (one (size_of i)) ∷ []) (writes (transfer_range i (h.opened.append || o == at_position) o n) ∷ position_written h o) (bound_one (size_of i) true e)
+        (bound_all (writes (transfer_range i (h.opened.append || o == at_position) o n) ∷ []) (position_written h o) (bound_transferred true (h.opened.append || o == at_position) i o n e) (bound_position o h d)))
+
+    bound_span : (v : Bool) (x : Span) → Bound (span_use v t r x)
+    bound_span v x = at (span_start t r x)
+      where
+        at : (y : Option ℕ) → Bound (each (λ at'. use_of v (buffer_bytes r x.index at' (at' + x.length)) ∷ []) y)
+        at None = bound_nothing
+        at (Some p) = bound_buffer r x.index p (p + x.length) v
+
+    bound_allocated : (o n i : ℕ) (a : Option Allocation) → T (ltb i (made_node t k)) → Bound (allocated o n i a)
+    bound_allocated o n i (Some extend) e = bound_one (size_of i) true e
+    bound_allocated o n i (Some reserve) e = bound_one (size_of i) false e
+    bound_allocated o n i (Some punch) e = bound_all (reads (one (size_of i)) ∷ []) (writes (range_of i o (o + n)) ∷ []) (bound_one (size_of i) false e) (bound_range i o (min (o + n) file_limit) true e)
+    bound_allocated o n i (Some zero_extend) e = bound_all (writes (one (size_of i)) ∷ []) (writes (range_of i o (o + n)) ∷ []) (bound_one (size_of i) true e) (bound_range i o (min (o + n) file_limit) true e)
+    bound_allocated o n i (Some zero_within) e = bound_all (reads (one (size_of i)) ∷ []) (writes (range_of i o (o + n)) ∷ []) (bound_one (size_of i) false e) (bound_range i o (min (o + n) file_limit) true e)
+    bound_allocated o n i None e = bound_one (size_of i) false e
+
+    bound_cut : (i n : ℕ) → T (ltb i (made_node t k)) → Bound (writes (one (size_of i)) ∷ writes (range_of i n file_limit) ∷ [])
+    bound_cut i n e = bound_all (writes (one (size_of i)) ∷ []) (writes (range_of i n file_limit) ∷ []) (bound_one (size_of i) true e) (bound_range i n (min file_limit file_limit) true e)
+
+    -- Walks.
+    abbrev look : ℕ × List ℕ → Use
+    look e = reads (one (name_at e.0 e.1))
+
+    bound_names : (ns : List (List ℕ)) (d : ℕ) → T (ltb d (made_node t k)) → Bound (map look (names_from s.nodes d ns))
+    bound_names [] d e = bound_nothing
+    bound_names (n ∷ ns) d e =
+        elim (fits_name n) as (λ b. Bound (map look (cond b ((d, n) ∷ each_ok (λ x. names_from s.nodes x ns) (directory_at (name s d n))) []))) [
+          | true ↦ bound_all (look (d, n) ∷ []) _ (bound_one (name_at d n) false e) (further (bound_names ns) (option_and_then (λ m. get m n) (names s d)) (w.tree.names_lead d n))
+          | false ↦ bound_nothing
+        ]
+      where
+        further : ((x : ℕ) → T (ltb x (made_node t k)) → Bound (map look (names_from s.nodes x ns))) → (y : Option ℕ) → IfSome (option_map (target s.nodes) y) (λ (g : Target). IsSome g.kind)
+            → Bound (map look (each_ok (λ x. names_from s.nodes x ns) (directory_at (option_map (target s.nodes) y))))
+        further next None l = bound_nothing
+        further next (Some i) l = elim (is_directory (kind s i)) as (λ b. Bound (map look (each_ok (λ x. names_from s.nodes x ns) (cond b (Ok i) (Err Rattle.sqe_codec.specs.declared.errno.Errno.TheVariants.ENOTDIR))))) [ true ↦ next i (node_before i l) | false ↦ bound_nothing ]
+
+    root_before : T (ltb 0 (made_node t k))
+    root_before = lt→ltb 0 (made_node t k) (omega arith)
+
+    bound_path : (p : Path) → Bound (path_reads s p)
+    bound_path p = elim (starts_at_root p) as (λ b. Bound (map look (cond b (names_from s.nodes 0 (components p.text)) []))) [ true ↦ bound_names (components p.text) 0 root_before | false ↦ bound_nothing ]
+
+    -- Where a walk ends, its directory and what the last name leads to are of earlier places.
+    abbrev Placed : Result Place Errno → Type 0
+    Placed (Ok q) = T (ltb q.parent (made_node t k)) × IfSome q.target (λ (y : Target). T (ltb y.node (made_node t k)))
+    Placed (Err e) = Unit {0}
+
+    leads : (y : Option ℕ) → IfSome (option_map (target s.nodes) y) (λ (g : Target). IsSome g.kind) → IfSome (option_map (target s.nodes) y) (λ (g : Target). T (ltb g.node (made_node t k)))
+    leads None l = tt
+    leads (Some i) l = node_before i l
+
+    placed_from : (ns : List (List ℕ)) (d : ℕ) → T (ltb d (made_node t k)) → Placed (walk_from s.nodes d ns)
+    placed_from [] d e = tt
+    placed_from (n ∷ []) d e = elim (fits_name n) as (λ b. Placed (require b ENAMETOOLONG >> Ok (record { parent = d; name = n; target = name s d n }))) [
+      | true ↦ (e, leads (option_and_then (λ m. get m n) (names s d)) (w.tree.names_lead d n))
+      | false ↦ tt
+    ]
+    placed_from (n ∷ m ∷ ns) d e = elim (fits_name n) as (λ b. Placed (require b ENAMETOOLONG >> (directory_at (name s d n) >>= λ x. walk_from s.nodes x (m ∷ ns)))) [
+      | true ↦ further (placed_from (m ∷ ns)) (option_and_then (λ q. get q n) (names s d)) (w.tree.names_lead d n)
+      | false ↦ tt
+    ]
+      where
+        further : ((x : ℕ) → T (ltb x (made_node t k)) → Placed (walk_from s.nodes x (m ∷ ns))) → (y : Option ℕ) → IfSome (option_map (target s.nodes) y) (λ (g : Target). IsSome g.kind)
+            → Placed (directory_at (option_map (target s.nodes) y) >>= λ x. walk_from s.nodes x (m ∷ ns))
+        further next None l = tt
+        further next (Some i) l = elim (is_directory (kind s i)) as (λ b. Placed ((cond b (Ok i) (Err Rattle.sqe_codec.specs.declared.errno.Errno.TheVariants.ENOTDIR)) >>= λ x. walk_from s.nodes x (m ∷ ns))) [ true ↦ next i (node_before i l) | false ↦ tt ]
+
+    placed : (p : Path) → Placed (walk s.nodes p)
+    placed p = elim (starts_at_root p) as (λ b. Placed (require b EBADF >> walk_from s.nodes 0 (components p.text))) [ true ↦ placed_from (components p.text) 0 root_before | false ↦ tt ]
+
+    bound_place : (g : Place → Footprint) → ((q : Place) → T (ltb q.parent (made_node t k)) → IfSome q.target (λ (y : Target). T (ltb y.node (made_node t k))) → Bound (g q)) → (x : Result Place Errno) → Placed x → Bound (each_ok g x)
+    bound_place g h (Ok q) l = h q l.0 l.1
+    bound_place g h (Err e) l = bound_nothing
+
+    bound_name : (q : Place) → T (ltb q.parent (made_node t k)) → Bound (name_written q)
+    bound_name q e = bound_all (writes (one (name_at q.parent q.name)) ∷ []) (writes (one (names_in q.parent)) ∷ []) (bound_one (name_at q.parent q.name) true e) (bound_one (names_in q.parent) true e)
+
+    bound_directory : (y : Option Target) → IfSome y (λ (g : Target). T (ltb g.node (made_node t k))) → Bound (directory_names y)
+    bound_directory None l = bound_nothing
+    bound_directory (Some y) l = elim (is_directory y.kind) as (λ b. Bound (cond b (reads (one (names_in y.node)) ∷ []) [])) [ true ↦ bound_one (names_in y.node) false l | false ↦ bound_nothing ]
+
+    bound_removed : (removes : Bool) (y : Option Target) → IfSome y (λ (g : Target). T (ltb g.node (made_node t k))) → Bound (cond removes (directory_names y) [])
+    bound_removed true y l = bound_directory y l
+    bound_removed false y l = bound_nothing
+
+    bound_opened : (g : OpenFlags) (q : Place) → T (ltb q.parent (made_node t k)) → (y : Option Target) → IfSome y (λ (x : Target). T (ltb x.node (made_node t k))) → Bound (opened_taken g q y)
+    bound_opened g q e None l = elim g.create as (λ b. Bound (cond b (name_written q) [])) [ true ↦ bound_name q e | false ↦ bound_nothing ]
+    bound_opened g q e (Some y) l = elim (g.truncate && not (is_directory y.kind)) as (λ b. Bound (cond b (writes (one (size_of y.node)) ∷ writes (range_of y.node 0 file_limit) ∷ []) [])) [ true ↦ bound_cut y.node 0 l | false ↦ bound_nothing ]
+
+    bound_close : (number : ℤ) (index : ℕ) → Bound (close_row t r number index)
+    bound_close number zero = bound_held true r false number
+    bound_close number (suc n) = bound_held true r true (pos n)
+
+    bound_paths : (old new : Path) → Bound (path_reads s old ++ path_reads s new)
+    bound_paths old new = bound_all (path_reads s old) _ (bound_path old) (bound_path new)
+
+    pub taken_bound : (o : Operation) (a : Atom) → T (has_atom (taken t r s o) a) → T (is_earlier t k a)
+    taken_bound nop = bound_nothing
+    taken_bound (readv f o n) = bound_read f o (min n most_moved)
+    taken_bound (writev f o new) = bound_write f o (length new)
+    taken_bound (fsync f) = bound_held false r f.registered f.number
+    taken_bound (read_fixed f o x) = bound_all _ (span_use true t r x) (bound_read f o (min x.length most_moved)) (bound_span true x)
+    taken_bound (write_fixed f o x) = bound_all _ (span_use false t r x) (bound_write f o (min x.length most_moved)) (bound_span false x)
+    taken_bound (fallocate f o n mode) = bound_file f (λ i h. allocated o n i (allocation mode)) (λ i h e d. bound_allocated o n i (allocation mode) e)
+    taken_bound (openat p g index) = bound_all (path_reads s p) _ (bound_path p) (bound_place (λ (q : Place). opened_taken g q q.target) (λ q e l. bound_opened g q e q.target l) (walk s.nodes p) (placed p))
+    taken_bound (close number index) = bound_close number index
+    taken_bound (read f o n) = bound_read f o (min n most_moved)
+    taken_bound (write f o new) = bound_write f o (length new)
+    taken_bound (renameat old new flags) = bound_all (path_reads s old ++ path_reads s new ++ each_ok name_written (walk s.nodes old)) _
+        (bound_all (path_reads s old ++ path_reads s new) _ (bound_paths old new) (bound_place name_written (λ q e l. bound_name q e) (walk s.nodes old) (placed old)))
+        (bound_place (λ (q : Place). name_written q ++ directory_names q.target) (λ q e l. bound_all (name_written q) _ (bound_name q e) (bound_directory q.target l)) (walk s.nodes new) (placed new))
+    taken_bound (unlinkat p removes) = bound_all (path_reads s p) _ (bound_path p) (bound_place (λ (q : Place). name_written q ++ cond removes (directory_names q.target) []) (λ q e l. bound_all (name_written q) _ (bound_name q e) (bound_removed removes q.target l)) (walk s.nodes p) (placed p))
+    taken_bound (mkdirat p) = bound_all (path_reads s p) _ (bound_path p) (bound_place name_written (λ q e l. bound_name q e) (walk s.nodes p) (placed p))
+    taken_bound (linkat old new) = bound_all (path_reads s old ++ path_reads s new) _ (bound_paths old new) (bound_place name_written (λ q e l. bound_name q e) (walk s.nodes new) (placed new))
+    taken_bound (ftruncate f n) = bound_file f (cut_content n) (λ i h e d. bound_cut i n e)

@@ -1,0 +1,81 @@
+-- The row of a place as running is decided by its own items: it is the footprint in the world in which no chain is broken.
+use Rattle.std.specs.Prelude.{◌≡◌, ℕ, T, ◌++◌, Option, Some, None, refl}
+use mathlib.Core.Path.{sym, subst, ap, ◌∙◌}
+use Rattle.trace_format.specs.declared.trace.Trace.{Trace}
+use Rattle.sqe_codec.specs.Answers.{each}
+use Rattle.entry_checks.specs.Operation.{Operation, nop, readv, writev, fsync, read_fixed, write_fixed, fallocate, openat, close, read, write, renameat, unlinkat, mkdirat, linkat, ftruncate}
+use Rattle.finite_maps.specs.Table.{empty}
+use Rattle.world_parts.specs.World.{World, IsWorld}
+use Rattle.op_meaning.specs.Step.{Turn, filled, refused, canceled, runs}
+use Rattle.world_parts.specs.Items.{Atom, chain_flag, ring_order, slot_at, descriptor_at, description_at, position_of, size_of, byte_at, name_at, names_in, buffer_size, buffer_byte, value, has_atom, Agree}
+use Rattle.op_meaning.specs.Footprint.{footprint, row_in, turn_uses}
+use Rattle.foot_print.specs.Laws.{Awaits, FootprintsCover}
+use Rattle.foot_print.specs.Reach.{task, order_of, running_row}
+
+-- A world with all its chains running.
+abbrev unbroken : World → World
+unbroken s = record s { broken = empty }
+
+module _ (t : Trace) (k : ℕ) where
+  row_unbroken : (r : ℕ) (s : World) (o : Operation) → row_in t k r (unbroken s) o ≡ row_in t k r s o
+  row_unbroken r s nop = refl
+  row_unbroken r s (readv f o n) = refl
+  row_unbroken r s (writev f o new) = refl
+  row_unbroken r s (fsync f) = refl
+  row_unbroken r s (read_fixed f o x) = refl
+  row_unbroken r s (write_fixed f o x) = refl
+  row_unbroken r s (fallocate f o n mode) = refl
+  row_unbroken r s (openat p g index) = refl
+  row_unbroken r s (close number index) = refl
+  row_unbroken r s (read f o n) = refl
+  row_unbroken r s (write f o new) = refl
+  row_unbroken r s (renameat old new flags) = refl
+  row_unbroken r s (unlinkat p removes) = refl
+  row_unbroken r s (mkdirat p) = refl
+  row_unbroken r s (linkat old new) = refl
+  row_unbroken r s (ftruncate f n) = refl
+
+  uses_unbroken : (s : World) (x : Option Turn) → each (turn_uses t k (unbroken s)) x ≡ each (turn_uses t k s) x
+  uses_unbroken s None = refl
+  uses_unbroken s (Some (filled r b at new)) = refl
+  uses_unbroken s (Some (refused e p)) = refl
+  uses_unbroken s (Some (canceled p)) = refl
+  uses_unbroken s (Some (runs r e o)) = row_unbroken r s o
+
+  row_is_footprint : (s : World) → footprint t k (unbroken s) ≡ running_row t k s
+  row_is_footprint s = ap (λ x. order_of t k ++ x) (uses_unbroken s (task t k))
+
+  world_unbroken : (s : World) → IsWorld s → IsWorld (unbroken s)
+  world_unbroken s w = record {
+    root = w.root;
+    tree = w.tree;
+    descriptions_lead = w.descriptions_lead;
+    slots_lead = w.slots_lead;
+    descriptors_lead = w.descriptors_lead;
+    files_fit = w.files_fit;
+    directories_are_read = w.directories_are_read;
+  }
+
+  awaits_unbroken : (s : World) → Awaits t k s → Awaits t k (unbroken s)
+  awaits_unbroken s a = record { is_world = world_unbroken s a.is_world; no_node = a.no_node; no_description = a.no_description }
+
+  same_unbroken : (s u : World) (a : Atom) → value s a ≡ value u a → value (unbroken s) a ≡ value (unbroken u) a
+  same_unbroken s u (chain_flag c) e = refl
+  same_unbroken s u (ring_order r) e = e
+  same_unbroken s u (slot_at r n) e = e
+  same_unbroken s u (descriptor_at n) e = e
+  same_unbroken s u (description_at d) e = e
+  same_unbroken s u (position_of d) e = e
+  same_unbroken s u (size_of i) e = e
+  same_unbroken s u (byte_at i p) e = e
+  same_unbroken s u (name_at d n) e = e
+  same_unbroken s u (names_in d) e = e
+  same_unbroken s u (buffer_size r b) e = e
+  same_unbroken s u (buffer_byte r b p) e = e
+
+  pub running_row_same : FootprintsCover → (s u : World) → Awaits t k s → Awaits t k u → ((a : Atom) → T (has_atom (running_row t k s) a) → value s a ≡ value u a) → running_row t k u ≡ running_row t k s
+  running_row_same cover s u ws wu same =
+      let agree : Agree (footprint t k (unbroken s)) (unbroken s) (unbroken u) = record { same = λ a h. same_unbroken s u a (same a (subst (λ f. T (has_atom f a)) (row_is_footprint s) h)) } in
+      sym (row_is_footprint u)
+      ∙ (cover t k (unbroken s) (awaits_unbroken s ws) (unbroken u) (awaits_unbroken u wu) agree).same_footprint
+      ∙ row_is_footprint s

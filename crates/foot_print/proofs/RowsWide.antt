@@ -1,0 +1,185 @@
+-- Where all that an operation looks up is of earlier places, its row where it is unresolved holds the one as accepted.
+use Rattle.std.specs.Prelude.{ℕ, Bool, true, false, cond, not, ◌&&◌, ◌||◌, ◌==◌, ◌+◌, min, length, T, List, [], ◌∷◌, ◌++◌, map, Option, Some, None, Result, Ok, Err}
+use Rattle.std.specs.List.{list_all}
+use mathlib.Core.Path.{subst}
+use Rattle.sqe_codec.specs.declared.errno.Errno.{Errno}
+use Rattle.trace_format.specs.declared.trace.Trace.{Trace}
+use Rattle.sqe_codec.specs.Answers.{each, each_ok}
+use Rattle.entry_checks.specs.Operation.{Operation, nop, readv, writev, fsync, read_fixed, write_fixed, fallocate, openat, close, read, write, renameat, unlinkat, mkdirat, linkat, ftruncate, File, Path, OpenFlags, file_limit, at_position}
+use Rattle.trace_format.specs.Sides.{most_moved}
+use Rattle.world_parts.specs.World.{World}
+use Rattle.file_tree.specs.Tree.{Target}
+use Rattle.file_tree.specs.Walk.{Place, walk, is_directory, names_on}
+use Rattle.op_meaning.specs.Meaning.{made_node, Handle, handle, handle_of, held, is_file, allocation, Allocation, extend, reserve, punch, zero_extend, zero_within}
+use Rattle.world_parts.specs.Items.{Atom, description_at, position_of, size_of, byte_at, name_at, names_in, Item, one, file_bytes, all_bytes_and_sizes, member_of, Use, reads, writes, Footprint, has_atom, writes_atom}
+use Rattle.op_meaning.specs.Footprint.{file_reads, of_file, of_description, on_file, range_of, position_written, position_use, span_use, path_reads, name_written, directory_names}
+use Rattle.foot_print.specs.Reach.{taken, write_content, allocated, opened_taken, all_files, any_name, unresolved_file, unresolved_row}
+use Rattle.foot_print.specs.Replayed.{is_earlier}
+use Rattle.world_parts.proofs.Collision.{both, left, right, either_left, same_atom-eq}
+use Rattle.foot_print.proofs.Holding.{Over, drop_false, over_self, over_nothing, over_all, over_first, over_second, over_both, over_uses, all_append, all_each}
+
+-- Uses of a file and its description, and of names.
+abbrev pub is_file_use : Use → Bool
+is_file_use u = sort u.item u.written
+  where
+    sort : Item → Bool → Bool
+    sort (one (size_of i)) w = true
+    sort (one (position_of d)) w = true
+    sort (one (description_at d)) w = not w
+    sort (file_bytes i low high) w = true
+    sort _ w = false
+
+abbrev pub is_name_use : Use → Bool
+is_name_use u = sort u.item
+  where
+    sort : Item → Bool
+    sort (one (name_at d n)) = true
+    sort (one (names_in d)) = true
+    sort _ = false
+
+module _ (t : Trace) (k : ℕ) where
+  abbrev earlier : Atom → Bool
+  earlier = is_earlier t k
+
+  -- A use of one atom is held where the atom is.
+  at_atom : (r : Footprint) (b : Atom) (w : Bool) → (T (earlier b) → T (has_atom r b)) → (T (earlier b) → T w → T (writes_atom r b)) → Over earlier r (record { item = one b; written = w } ∷ [])
+  at_atom r b w h g = record {
+    has = λ a e m. subst (λ c. T (earlier c) → T (has_atom r c)) (same_atom-eq b a (drop_false _ m)) h e;
+    writes = λ a e m. subst (λ c. T (earlier c) → T w → T (writes_atom r c)) (same_atom-eq b a (right w _ (drop_false _ m))) g e (left w _ (drop_false _ m));
+  }
+
+  whole_file : (i low high : ℕ) (w : Bool) → Over earlier (writes (all_bytes_and_sizes (made_node t k)) ∷ []) (record { item = file_bytes i low high; written = w } ∷ [])
+  whole_file i low high w = record { has = λ a e m. go a e (drop_false _ m); writes = λ a e m. go a e (right w _ (drop_false _ m)) }
+    where
+      go : (a : Atom) → T (earlier a) → T (member_of (file_bytes i low high) a) → T (member_of (all_bytes_and_sizes (made_node t k)) a || false)
+      go (byte_at j p) e m = either_left _ _ e
+      go _ e m = absurd m
+
+  file_use : (x : Item) (w : Bool) → T (is_file_use (record { item = x; written = w })) → Over earlier (all_files t k) (record { item = x; written = w } ∷ [])
+  file_use (one (size_of i)) w h = at_atom (all_files t k) (size_of i) w (λ e. either_left _ _ e) (λ e v. either_left _ _ e)
+  file_use (one (position_of d)) w h = at_atom (all_files t k) (position_of d) w (λ e. either_left _ _ e) (λ e v. either_left _ _ e)
+  file_use (one (description_at d)) true h = absurd h
+  file_use (one (description_at d)) false h = at_atom (all_files t k) (description_at d) false (λ e. either_left _ _ e) (λ e v. absurd v)
+  file_use (file_bytes i low high) w h = over_first earlier (writes (all_bytes_and_sizes (made_node t k)) ∷ []) _ _ (whole_file i low high w)
+  file_use _ w h = absurd h
+
+  name_use : (x : Item) (w : Bool) → T (is_name_use (record { item = x; written = w })) → Over earlier (any_name t k) (record { item = x; written = w } ∷ [])
+  name_use (one (name_at d n)) w h = at_atom (any_name t k) (name_at d n) w (λ e. either_left _ _ e) (λ e v. either_left _ _ e)
+  name_use (one (names_in d)) w h = at_atom (any_name t k) (names_in d) w (λ e. either_left _ _ e) (λ e v. either_left _ _ e)
+  name_use _ w h = absurd h
+
+  files_held : (f : Footprint) → T (list_all is_file_use f) → Over earlier (all_files t k) f
+  files_held f h = over_uses earlier (all_files t k) is_file_use (λ (u : Use) m. file_use u.item u.written m) f h
+
+  names_held : (f : Footprint) → T (list_all is_name_use f) → Over earlier (any_name t k) f
+  names_held f h = over_uses earlier (any_name t k) is_name_use (λ (u : Use) m. name_use u.item u.written m) f h
+
+  module _ (r : ℕ) (s : World) where
+    position_uses : (o : ℕ) (h : Handle) → T (list_all is_file_use (position_written h o))
+    position_uses o h = elim (o == at_position) as (λ b. T (list_all is_file_use (cond b (writes (one (position_of h.description)) ∷ []) []))) [ true ↦ tt | false ↦ tt ]
+
+    content_uses : (c : ℕ → Handle → Footprint) → ((i : ℕ) (h : Handle) → T (list_all is_file_use (c i h))) → (x : Option ℕ) → T (list_all is_file_use (each (of_description s c) x))
+    content_uses c h None = tt
+    content_uses c h (Some d) = all_each is_file_use (of_file c) (handle_of s d) (λ (g : Handle). at g (is_file g.opened))
+      where
+        at : (g : Handle) (b : Bool) → T (list_all is_file_use (cond b (c g.opened.target.node g) []))
+        at g true = h g.opened.target.node g
+        at g false = tt
+
+    on_file_held : (f : File) (c : ℕ → Handle → Footprint) → ((i : ℕ) (h : Handle) → T (list_all is_file_use (c i h))) → Over earlier (unresolved_file t k r f) (on_file t s r f c)
+    on_file_held f c h = over_both earlier (file_reads t r f) (all_files t k) (file_reads t r f) _ (over_self earlier (file_reads t r f)) (files_held _ (content_uses c h (held t s r f.registered f.number)))
+
+    transfer_held : (f : File) (o : ℕ) (c : ℕ → Handle → Footprint) → ((i : ℕ) (h : Handle) → T (list_all is_file_use (c i h))) → Over earlier (unresolved_file t k r f) (on_file t s r f c ++ position_use t s r f o)
+    transfer_held f o c h = over_all earlier (unresolved_file t k r f) (on_file t s r f c) _ (on_file_held f c h)
+        (over_second earlier (file_reads t r f) (all_files t k) _ (files_held _ (all_each is_file_use (λ g. position_written g o) (handle t s r f) (position_uses o))))
+
+    transfer_item : (b : Bool) (i low high : ℕ) (w : Bool) → T (is_file_use (record { item = cond b (range_of i 0 file_limit) (range_of i low high); written = w }))
+    transfer_item true i low high w = tt
+    transfer_item false i low high w = tt
+
+    read_held : (f : File) (o n : ℕ) → Over earlier (unresolved_file t k r f) (Rattle.op_meaning.specs.Footprint.read_row t s r f o n)
+    read_held f o n = transfer_held f o (λ i h. reads (one (size_of i)) ∷ reads (Rattle.op_meaning.specs.Footprint.transfer_range i (o == at_position) o n) ∷ position_written h o) (λ i h. both (is_file_use (reads (Rattle.op_meaning.specs.Footprint.transfer_range i (o == at_position) o n))) _ (transfer_item (o == at_position) i o (o + n) false) (position_uses o h))
+
+    write_held : (f : File) (o n : ℕ) → Over earlier (unresolved_file t k r f) (Rattle.foot_print.specs.Reach.write_taken t s r f o n)
+    write_held f o n = transfer_held f o (write_content o n) (λ i h. both (is_file_use (writes (Rattle.op_meaning.specs.Footprint.transfer_range i (h.opened.append || o == at_position) o n))) _ (transfer_item (h.opened.append || o == at_position) i o (o + n) true) (position_uses o h))
+
+    allocation_uses_files : (o n i : ℕ) (a : Option Allocation) → T (list_all is_file_use (allocated o n i a))
+    allocation_uses_files o n i (Some extend) = tt
+    allocation_uses_files o n i (Some reserve) = tt
+    allocation_uses_files o n i (Some punch) = tt
+    allocation_uses_files o n i (Some zero_extend) = tt
+    allocation_uses_files o n i (Some zero_within) = tt
+    allocation_uses_files o n i None = tt
+
+    names_on_path : (es : List (ℕ × List ℕ)) → T (list_all is_name_use (map (λ (e : ℕ × List ℕ). reads (one (name_at e.0 e.1))) es))
+    names_on_path [] = tt
+    names_on_path (e ∷ es) = names_on_path es
+
+    path_names : (p : Path) → T (list_all is_name_use (path_reads s p))
+    path_names p = names_on_path (names_on s.nodes p)
+
+    written_names : (w : Result Place Errno) → T (list_all is_name_use (each_ok name_written w))
+    written_names (Ok q) = tt
+    written_names (Err e) = tt
+
+    directory_uses : (y : Option Target) → T (list_all is_name_use (directory_names y))
+    directory_uses None = tt
+    directory_uses (Some y) = elim (is_directory y.kind) as (λ b. T (list_all is_name_use (cond b (reads (one (names_in y.node)) ∷ []) []))) [ true ↦ tt | false ↦ tt ]
+
+    unlink_names : (removes : Bool) (w : Result Place Errno) → T (list_all is_name_use (each_ok (λ (q : Place). name_written q ++ cond removes (directory_names q.target) []) w))
+    unlink_names removes (Err e) = tt
+    unlink_names true (Ok q) = directory_uses q.target
+    unlink_names false (Ok q) = tt
+
+    rename_names : (w : Result Place Errno) → T (list_all is_name_use (each_ok (λ (q : Place). name_written q ++ directory_names q.target) w))
+    rename_names (Err e) = tt
+    rename_names (Ok q) = directory_uses q.target
+
+    two_paths : (old new : Path) → T (list_all is_name_use (path_reads s old ++ path_reads s new))
+    two_paths old new = all_append is_name_use (path_reads s old) (path_reads s new) (path_names old) (path_names new)
+
+    cut : Bool → Footprint
+    cut b = cond b (writes (all_bytes_and_sizes (made_node t k)) ∷ []) []
+
+    truncated : (i : ℕ) → Over earlier (writes (all_bytes_and_sizes (made_node t k)) ∷ []) (writes (one (size_of i)) ∷ writes (range_of i 0 file_limit) ∷ [])
+    truncated i = over_all earlier _ (writes (one (size_of i)) ∷ []) _ (at_atom _ (size_of i) true (λ e. either_left _ _ e) (λ e v. either_left _ _ e)) (whole_file i 0 (min file_limit file_limit) true)
+
+    opened_held : (g : OpenFlags) (q : Place) (y : Option Target) → Over earlier (any_name t k ++ cut g.truncate) (opened_taken g q y)
+    unfolding cut
+    opened_held g q None = elim g.create as (λ b. Over earlier (any_name t k ++ cut g.truncate) (cond b (name_written q) [])) [
+      | true ↦ over_first earlier (any_name t k) _ _ (names_held (name_written q) tt)
+      | false ↦ over_nothing earlier _
+    ]
+    opened_held g q (Some y) = go g.truncate (not (is_directory y.kind))
+      where
+        go : (b c : Bool) → Over earlier (any_name t k ++ cut b) (cond (b && c) (writes (one (size_of y.node)) ∷ writes (range_of y.node 0 file_limit) ∷ []) [])
+        go false c = over_nothing earlier _
+        go true false = over_nothing earlier _
+        go true true = over_second earlier (any_name t k) _ _ (truncated y.node)
+
+    open_held : (p : Path) (g : OpenFlags) → Over earlier (any_name t k ++ cut g.truncate) (path_reads s p ++ each_ok (λ (q : Place). opened_taken g q q.target) (walk s.nodes p))
+    open_held p g = over_all earlier _ (path_reads s p) _ (over_first earlier (any_name t k) _ _ (names_held (path_reads s p) (path_names p))) (at (walk s.nodes p))
+      where
+        at : (w : Result Place Errno) → Over earlier (any_name t k ++ cut g.truncate) (each_ok (λ (q : Place). opened_taken g q q.target) w)
+        at (Ok q) = opened_held g q q.target
+        at (Err e) = over_nothing earlier _
+
+    pub unresolved_over_taken : (o : Operation) → Over earlier (unresolved_row t k r o) (taken t r s o)
+    unfolding cut
+    unresolved_over_taken nop = over_nothing earlier _
+    unresolved_over_taken (readv f o n) = read_held f o (min n most_moved)
+    unresolved_over_taken (writev f o new) = write_held f o (length new)
+    unresolved_over_taken (fsync f) = over_self earlier _
+    unresolved_over_taken (read_fixed f o x) = over_both earlier _ (span_use true t r x) _ (span_use true t r x) (read_held f o (min x.length most_moved)) (over_self earlier _)
+    unresolved_over_taken (write_fixed f o x) = over_both earlier _ (span_use false t r x) _ (span_use false t r x) (write_held f o (min x.length most_moved)) (over_self earlier _)
+    unresolved_over_taken (fallocate f o n mode) = on_file_held f (λ i h. allocated o n i (allocation mode)) (λ i h. allocation_uses_files o n i (allocation mode))
+    unresolved_over_taken (openat p g index) = open_held p g
+    unresolved_over_taken (close number index) = over_self earlier _
+    unresolved_over_taken (read f o n) = read_held f o (min n most_moved)
+    unresolved_over_taken (write f o new) = write_held f o (length new)
+    unresolved_over_taken (renameat old new flags) =
+        names_held _ (all_append is_name_use (path_reads s old ++ path_reads s new ++ each_ok name_written (walk s.nodes old)) _ (all_append is_name_use (path_reads s old ++ path_reads s new) _ (two_paths old new) (written_names (walk s.nodes old))) (rename_names (walk s.nodes new)))
+    unresolved_over_taken (unlinkat p removes) = names_held _ (all_append is_name_use (path_reads s p) _ (path_names p) (unlink_names removes (walk s.nodes p)))
+    unresolved_over_taken (mkdirat p) = names_held _ (all_append is_name_use (path_reads s p) _ (path_names p) (written_names (walk s.nodes p)))
+    unresolved_over_taken (linkat old new) = names_held _ (all_append is_name_use (path_reads s old ++ path_reads s new) _ (two_paths old new) (written_names (walk s.nodes new)))
+    unresolved_over_taken (ftruncate f n) = on_file_held f (λ i h. writes (one (size_of i)) ∷ writes (range_of i n file_limit) ∷ []) (λ i h. tt)

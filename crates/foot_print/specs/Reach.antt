@@ -1,0 +1,185 @@
+-- What a place may use once earlier places that haven't finished have run.
+use Rattle.std.specs.Prelude.{ℕ, zero, suc, Bool, true, false, not, ◌&&◌, ◌||◌, ◌==◌, ◌+◌, min, length, List, [], ◌∷◌, ◌++◌, Option, None, Some, if◌then◌else◌}
+use Rattle.std.specs.List.{list_any}
+use Rattle.trace_format.specs.declared.trace.Trace.{Trace}
+use Rattle.sqe_codec.specs.Answers.{each, each_ok}
+use Rattle.entry_checks.specs.Operation.{Operation, nop, readv, writev, fsync, read_fixed, write_fixed, fallocate, openat, close, read, write, renameat, unlinkat, mkdirat, linkat, ftruncate, File, OpenFlags, file_limit, at_position}
+use Rattle.trace_format.specs.Sides.{most_moved}
+use Rattle.chain_plan.specs.Chain.{role}
+use Rattle.world_parts.specs.World.{World}
+use Rattle.file_tree.specs.Tree.{Target}
+use Rattle.file_tree.specs.Walk.{Place, walk, is_directory}
+use Rattle.op_meaning.specs.Meaning.{made_node, made_description, Handle, allocation, Allocation, extend, reserve, punch, zero_extend, zero_within}
+use Rattle.op_meaning.specs.Step.{Turn, filled, canceled, runs, turn, turn_under}
+use Rattle.world_parts.specs.Items.{file_bytes, chain_flag, size_of, names_in, Item, one, all_names, all_bytes_and_sizes, all_positions, all_descriptions, all_descriptors, share, reads, writes, Footprint}
+use Rattle.op_meaning.specs.Footprint.{file_reads, on_file, position_written, position_use, range_of, transfer_range, span_use, path_reads, name_written, room_uses, description_made, read_row, close_row, ftruncate_row, unlinkat_row, linkat_row, renameat_row, order_uses, turn_uses, ring_at}
+
+-- Whether one of some footprints writes an atom of an item, or of an item of a footprint.
+abbrev pub written_by : List Footprint → Item → Bool
+written_by earlier x = list_any (λ f. list_any (λ u. u.written && share u.item x) f) earlier
+
+abbrev pub is_met : Footprint → List Footprint → Bool
+is_met f earlier = list_any (λ u. written_by earlier u.item) f
+
+-- The slots, descriptors, descriptions and names that decide which items an operation uses.
+-- The slot or descriptor that openat or close changes is none of them, nor is that of fsync.
+abbrev pub file_seen : Trace → World → ℕ → File → Footprint
+file_seen t s r f = on_file t s r f (λ i h. [])
+
+abbrev pub seen : Trace → ℕ → World → Operation → Footprint
+seen t r s nop = []
+seen t r s (readv f o n) = file_seen t s r f
+seen t r s (writev f o new) = file_seen t s r f
+seen t r s (fsync f) = []
+seen t r s (read_fixed f o x) = file_seen t s r f
+seen t r s (write_fixed f o x) = file_seen t s r f
+seen t r s (fallocate f o n mode) = file_seen t s r f
+seen t r s (openat p g index) = path_reads s p
+seen t r s (close number index) = []
+seen t r s (read f o n) = file_seen t s r f
+seen t r s (write f o new) = file_seen t s r f
+seen t r s (renameat old new flags) = path_reads s old ++ path_reads s new
+seen t r s (unlinkat p removes) = path_reads s p
+seen t r s (mkdirat p) = path_reads s p
+seen t r s (linkat old new) = path_reads s old ++ path_reads s new
+seen t r s (ftruncate f n) = file_seen t s r f
+
+-- The row of an operation as accepted and extending, apart from what it makes and from the room of openat.
+abbrev pub write_content : ℕ → ℕ → ℕ → Handle → Footprint
+write_content o n i h = writes (one (size_of i)) ∷ writes (transfer_range i (h.opened.append || o == at_position) o n) ∷ position_written h o
+
+abbrev pub write_taken : Trace → World → ℕ → File → ℕ → ℕ → Footprint
+write_taken t s r f o n = on_file t s r f (write_content o n) ++ position_use t s r f o
+
+abbrev pub allocated : ℕ → ℕ → ℕ → Option Allocation → Footprint
+allocated o n i (Some extend) = writes (one (size_of i)) ∷ []
+allocated o n i (Some reserve) = reads (one (size_of i)) ∷ []
+allocated o n i (Some punch) = reads (one (size_of i)) ∷ writes (range_of i o (o + n)) ∷ []
+allocated o n i (Some zero_extend) = writes (one (size_of i)) ∷ writes (range_of i o (o + n)) ∷ []
+allocated o n i (Some zero_within) = reads (one (size_of i)) ∷ writes (range_of i o (o + n)) ∷ []
+allocated o n i None = reads (one (size_of i)) ∷ []
+
+abbrev pub opened_taken : OpenFlags → Place → Option Target → Footprint
+opened_taken g q None = if g.create then name_written q else []
+opened_taken g q (Some y) = if g.truncate && not (is_directory y.kind) then writes (one (size_of y.node)) ∷ writes (range_of y.node 0 file_limit) ∷ [] else []
+
+abbrev pub taken : Trace → ℕ → World → Operation → Footprint
+taken t r s nop = []
+taken t r s (readv f o n) = read_row t s r f o (min n most_moved)
+taken t r s (writev f o new) = write_taken t s r f o (length new)
+taken t r s (fsync f) = file_reads t r f
+taken t r s (read_fixed f o span) = read_row t s r f o (min span.length most_moved) ++ span_use true t r span
+taken t r s (write_fixed f o span) = write_taken t s r f o (min span.length most_moved) ++ span_use false t r span
+taken t r s (fallocate f o n mode) = on_file t s r f (λ i h. allocated o n i (allocation mode))
+taken t r s (openat p g index) = path_reads s p ++ each_ok (λ (q : Place). opened_taken g q q.target) (walk s.nodes p)
+taken t r s (close number index) = close_row t r number index
+taken t r s (read f o n) = read_row t s r f o (min n most_moved)
+taken t r s (write f o new) = write_taken t s r f o (length new)
+taken t r s (renameat old new flags) = renameat_row s old new
+taken t r s (unlinkat p removes) = unlinkat_row s p removes
+taken t r s (mkdirat p) = path_reads s p ++ each_ok name_written (walk s.nodes p)
+taken t r s (linkat old new) = linkat_row s old new
+taken t r s (ftruncate f n) = ftruncate_row t s r f n
+
+abbrev pub node_made : Trace → ℕ → Footprint
+node_made t k = writes (one (size_of (made_node t k))) ∷ writes (file_bytes (made_node t k) 0 file_limit) ∷ writes (one (names_in (made_node t k))) ∷ []
+
+-- What an operation that may make a node or a description writes of their numbers.
+abbrev pub makes : Trace → ℕ → Operation → Footprint
+makes t k (openat p g index) = node_made t k ++ description_made t k
+makes t k (mkdirat p) = node_made t k ++ description_made t k
+makes t k _ = []
+
+-- The room of openat: its slot or its free descriptor; whichever it finds free, where an earlier reach writes a descriptor.
+abbrev pub room_taken : Trace → World → ℕ → List Footprint → Operation → Footprint
+room_taken t s r earlier (openat p g zero) = if written_by earlier all_descriptors then writes all_descriptors ∷ [] else room_uses t s r zero
+room_taken t s r earlier (openat p g (suc n)) = room_uses t s r (suc n)
+room_taken t s r earlier _ = []
+
+-- All files and their descriptions, and all names, that are there at the start or are made before a place.
+abbrev pub all_files : Trace → ℕ → Footprint
+all_files t k = writes (all_bytes_and_sizes (made_node t k)) ∷ writes (all_positions (made_description t k)) ∷ reads (all_descriptions (made_description t k)) ∷ []
+
+abbrev pub any_name : Trace → ℕ → Footprint
+any_name t k = writes (all_names (made_node t k)) ∷ []
+
+abbrev pub unresolved_file : Trace → ℕ → ℕ → File → Footprint
+unresolved_file t k r f = file_reads t r f ++ all_files t k
+
+-- What an operation may use, apart from what it makes and its room, where an item that decides its others isn't known yet.
+abbrev pub unresolved_row : Trace → ℕ → ℕ → Operation → Footprint
+unresolved_row t k r nop = []
+unresolved_row t k r (readv f o n) = unresolved_file t k r f
+unresolved_row t k r (writev f o new) = unresolved_file t k r f
+unresolved_row t k r (fsync f) = file_reads t r f
+unresolved_row t k r (read_fixed f o x) = unresolved_file t k r f ++ span_use true t r x
+unresolved_row t k r (write_fixed f o x) = unresolved_file t k r f ++ span_use false t r x
+unresolved_row t k r (fallocate f o n mode) = unresolved_file t k r f
+unresolved_row t k r (openat p g index) = any_name t k ++ (if g.truncate then writes (all_bytes_and_sizes (made_node t k)) ∷ [] else [])
+unresolved_row t k r (close number index) = close_row t r number index
+unresolved_row t k r (read f o n) = unresolved_file t k r f
+unresolved_row t k r (write f o new) = unresolved_file t k r f
+unresolved_row t k r (renameat old new flags) = any_name t k
+unresolved_row t k r (unlinkat p removes) = any_name t k
+unresolved_row t k r (mkdirat p) = any_name t k
+unresolved_row t k r (linkat old new) = any_name t k
+unresolved_row t k r (ftruncate f n) = unresolved_file t k r f
+
+-- What a place would do if its chain weren't broken.
+abbrev pub task : Trace → ℕ → Option Turn
+task t k = turn_under t k None
+
+abbrev pub is_canceled : Option Turn → Bool
+is_canceled (Some (canceled posted)) = true
+is_canceled _ = false
+
+-- What a turn looks up: the items that decide its others, and its items as accepted.
+pub record Look : Type 0 where
+  pub deciding : Footprint
+  pub items : Footprint
+
+abbrev pub look_of : Trace → ℕ → World → Option Turn → Look
+look_of t k s (Some (runs r e o)) = record { deciding = seen t r s o; items = taken t r s o }
+look_of t k s (Some (filled r b at new)) = record { deciding = []; items = turn_uses t k s (filled r b at new) }
+look_of t k s _ = record { deciding = []; items = [] }
+
+-- What a turn may use where it makes what it may make.
+abbrev pub extras_of : Trace → ℕ → World → List Footprint → Option Turn → Footprint
+extras_of t k s earlier (Some (runs r e o)) = makes t k o ++ room_taken t s r earlier o
+extras_of t k s earlier _ = []
+
+abbrev pub unresolved_of : Trace → ℕ → World → Option Turn → Footprint
+unresolved_of t k s (Some (runs r e o)) = unresolved_row t k r o
+unresolved_of t k s (Some (filled r b at new)) = turn_uses t k s (filled r b at new)
+unresolved_of t k s _ = []
+
+abbrev pub order_of : Trace → ℕ → Footprint
+order_of t k = order_uses (ring_at t k) (role t k)
+
+-- The row of a place as running, as accepted, and where an item that decides its others isn't known yet.
+abbrev pub running_row : Trace → ℕ → World → Footprint
+running_row t k s = order_of t k ++ each (turn_uses t k s) (task t k)
+
+abbrev pub accepted_row : Trace → ℕ → World → List Footprint → Footprint
+accepted_row t k s earlier = order_of t k ++ ((look_of t k s (task t k)).items ++ extras_of t k s earlier (task t k))
+
+abbrev pub wide_row : Trace → ℕ → World → List Footprint → Footprint
+wide_row t k s earlier = order_of t k ++ (unresolved_of t k s (task t k) ++ extras_of t k s earlier (task t k))
+
+-- Whether a place is taken to run: it does where an earlier member of its chain hasn't finished.
+abbrev pub is_taken_to_run : Trace → ℕ → World → List Footprint → Bool
+is_taken_to_run t k s earlier = if written_by earlier (one (chain_flag (role t k).chain)) then true else (if is_canceled (turn t k s) then false else true)
+
+-- The reach of a place in a world, given the reaches of the earlier places that haven't finished.
+abbrev pub reach : Trace → ℕ → World → List Footprint → Footprint
+reach t k s earlier =
+    if is_taken_to_run t k s earlier then
+    (if is_met (look_of t k s (task t k)).deciding earlier then wide_row t k s earlier
+    else if is_met (running_row t k s) earlier then accepted_row t k s earlier
+    else running_row t k s)
+    else order_of t k
+
+-- The reaches of places in order, each given those before it; behind those of earlier places.
+abbrev pub reaches : Trace → World → List Footprint → List ℕ → List Footprint
+reaches t s earlier [] = earlier
+reaches t s earlier (k ∷ ks) = reaches t s (earlier ++ reach t k s earlier ∷ []) ks

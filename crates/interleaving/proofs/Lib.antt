@@ -1,0 +1,12 @@
+pub mod Commute
+pub mod Skipping
+pub mod Ahead
+pub mod Finish
+pub mod Orders
+pub mod Together
+pub mod Members
+pub mod Rounding
+pub mod Prefixes
+pub mod Sets
+pub mod ByRows
+pub mod Sharing

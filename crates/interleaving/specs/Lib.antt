@@ -1,0 +1,9 @@
+pub mod System
+pub mod Laws
+pub mod Commuting
+pub mod Machine
+pub mod Gather
+pub mod Rounds
+pub mod Prefix
+pub mod Sharing
+pub mod Rows

@@ -1,0 +1,19 @@
+use Rattle.wave_pick.proofs.laws.rounds_are_legal.Goals as goal
+
+pub returns-clause-legal : goal.returns-clause-legal
+returns-clause-legal c t s = c.rounds_are_sequential.ensures.legal (t, s)
+
+pub returns-clause-sequential : goal.returns-clause-sequential
+returns-clause-sequential c t s = c.rounds_are_sequential.ensures.sequential (t, s)
+
+pub returns-clause-gathered : goal.returns-clause-gathered
+returns-clause-gathered c t s = c.rounds_are_sequential.ensures.gathered (t, s)
+
+pub returns-clause-go_on : goal.returns-clause-go_on
+returns-clause-go_on c t s = c.rounds_are_sequential.ensures.go_on (t, s)
+
+pub returns-clause-order : goal.returns-clause-order
+returns-clause-order c t s = c.rounds_are_sequential.ensures.order (t, s)
+
+pub returns-clause-sets : goal.returns-clause-sets
+returns-clause-sets c t s = c.rounds_are_sequential.ensures.sets (t, s)
