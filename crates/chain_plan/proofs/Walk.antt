@@ -72,7 +72,7 @@ range_more a (suc n) =
     ap (λ xs. a ∷ xs) (rw e at (range_more (a + 1) n))
 
 -- the place n stands in its chain, and in no other
-below_here : (t : Trace) (n : ℕ) → below t (suc n) (chain_of t n) ≡ below t n (chain_of t n) ++ n ∷ []
+pub below_here : (t : Trace) (n : ℕ) → below t (suc n) (chain_of t n) ≡ below t n (chain_of t n) ++ n ∷ []
 below_here t n =
     let e : 0 + n ≡ n = omega arith in
     let here : eqb (chain_of t n) (chain_of t n) ≡ true = eq-eqb _ _ refl in
@@ -82,7 +82,7 @@ append_nil : {X : Type 0} (xs : List X) → xs ++ [] ≡ xs
 append_nil [] = refl
 append_nil (x ∷ xs) = ap (λ ys. x ∷ ys) (append_nil xs)
 
-below_other : (t : Trace) (n c : ℕ) → (chain_of t n ≡ c → ⊥) → below t (suc n) c ≡ below t n c
+pub below_other : (t : Trace) (n c : ℕ) → (chain_of t n ≡ c → ⊥) → below t (suc n) c ≡ below t n c
 below_other t n c other =
     let e : 0 + n ≡ n = omega arith in
     let away : eqb (chain_of t n) c ≡ false = ne_eqb _ _ other in

@@ -1,2 +1,3 @@
 pub mod Lawful
+pub mod Orders
 pub mod Rounds

@@ -1,7 +1,9 @@
+use Rattle.trace_format.specs.Steps.{places}
+use Rattle.wave_pick.proofs.Orders.{always_collide}
 use Rattle.wave_pick.proofs.laws.legal_orders_are_sequential.Goals as goal
 
 pub returns-clause-sequential : goal.returns-clause-sequential
 returns-clause-sequential c t s = c.every_legal_order_is_sequential.ensures.sequential (t, s)
 
 pub returns-clause-order : goal.returns-clause-order
-returns-clause-order c t s = c.every_legal_order_is_sequential.ensures.order (t, s)
+returns-clause-order c t s i k lt within o before after legal = c.every_legal_order_is_sequential.ensures.order (t, s) (places t) i k lt (always_collide t i k lt within o) before after legal

@@ -1,3 +1,5 @@
+use Rattle.trace_format.specs.Steps.{places}
+use Rattle.wave_pick.proofs.Orders.{always_collide}
 use Rattle.wave_pick.proofs.laws.rounds_are_legal.Goals as goal
 
 pub returns-clause-legal : goal.returns-clause-legal
@@ -13,7 +15,7 @@ pub returns-clause-go_on : goal.returns-clause-go_on
 returns-clause-go_on c t s = c.rounds_are_sequential.ensures.go_on (t, s)
 
 pub returns-clause-order : goal.returns-clause-order
-returns-clause-order c t s = c.rounds_are_sequential.ensures.order (t, s)
+returns-clause-order c t s window r i k lt within o chosen = c.rounds_are_sequential.ensures.order (t, s) (places t) window r i k lt (always_collide t i k lt within o) chosen
 
 pub returns-clause-sets : goal.returns-clause-sets
 returns-clause-sets c t s = c.rounds_are_sequential.ensures.sets (t, s)
