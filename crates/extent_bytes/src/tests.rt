@@ -61,6 +61,16 @@ fn stores_no_zeros(rt: HostRuntime) -> Result<(), Fail> {
 }
 
 #[test]
+fn ends_at_the_greatest_size(rt: HostRuntime) -> Result<(), Fail> {
+    let mut list = digits(rt.alloc())?;
+    list.write(1_099_511_627_774, b"xy")?;
+    assert_eq!(rt; list.len(), 1_099_511_627_776);
+    let end = list.read(1_099_511_627_773, MAX_LEN)?;
+    assert_eq!(rt; end.as_slice(), b"\0xy".as_slice());
+    Ok(())
+}
+
+#[test]
 fn compares_bytes(rt: HostRuntime) -> Result<(), Fail> {
     let mut list = Extents::new(rt.alloc());
     list.set_len(MAX_LEN)?;
