@@ -147,9 +147,9 @@ impl Extents {
         })
     }
 
-    // The bytes from `lo` up to `hi` as a list of its own. A part of one page is copied, so that
-    // the page keeps its one owner. More than that is shared.
-    fn detached(&self, lo: u64, hi: u64) -> Result<Extents, AllocError>
+    /// What [`Extents::share`] gives, for bytes that change next in this list. A part of one page is
+    /// copied, so that the page keeps its one owner. More than that is shared.
+    pub fn detach(&self, lo: u64, hi: u64) -> Result<Extents, AllocError>
         requires forward { lo ≤ hi }
         requires inside { hi ≤ length self.now }
         ensures value { IfOk result (λ part. part ≡ range_of self.now lo hi) }
@@ -189,7 +189,7 @@ impl Extents {
         ensures len { OnOk result (length self.new ≡ length self.old) }
         ensures err { OnErr result (self.new ≡ self.old) }
     {
-        let part = self.detached(lo, hi)?;
+        let part = self.detach(lo, hi)?;
         self.zero(lo, hi)?;
         Ok(part)
     }

@@ -16,10 +16,10 @@ abbrev pub same_names : Names → Names → Bool
 same_names ns ms = pointwise same_name ns.entries ms.entries
 
 abbrev pub same_node : Node → Node → Bool
-same_node (directory ns) (directory ms) = same_names ns ms
+same_node (directory ns o) (directory ms p) = nat_eq o p && same_names ns ms
 same_node (file bs) (file cs) = pointwise nat_eq bs cs
-same_node (directory ns) (file cs) = false
-same_node (file bs) (directory ms) = false
+same_node (directory ns o) (file cs) = false
+same_node (file bs) (directory ms p) = false
 
 -- Each test says whether its two values are equal.
 
@@ -40,29 +40,27 @@ same_names_decides ns ms =
     (λ h. same_entries_table ns ms (entries.0 h), λ h. entries.1 (ap (λ (n : Names). n.entries) h))
 
 is_a_directory : Node → Bool
-is_a_directory (directory ns) = true
+is_a_directory (directory ns o) = true
 is_a_directory (file bs) = false
 
 pub same_node_decides : (n m : Node) → Decides (same_node n m) (n ≡ m)
 unfolding is_a_directory
-same_node_decides (directory ns) (directory ms) = let d = same_names_decides ns ms in (λ h. ap directory (d.0 h), λ h. d.1 (injective h))
+same_node_decides (directory ns o) (directory ms p) =
+    let d = pair_decides unsigned_Decides same_names_decides (o, ns) (p, ms) in (λ h. ap (λ q. directory q.1 q.0) (d.0 h), λ h. d.1 (ap both h))
   where
-    names_in : Node → Names
-    names_in (directory xs) = xs
-    names_in (file bs) = ns
-
-    injective : directory ns ≡ directory ms → ns ≡ ms
-    injective h = ap names_in h
+    both : Node → ℕ × Names
+    both (directory xs q) = (q, xs)
+    both (file bs) = (o, ns)
 same_node_decides (file bs) (file cs) = let d = bytes_decides bs cs in (λ h. ap file (d.0 h), λ h. d.1 (injective h))
   where
     bytes_in : Node → List ℕ
-    bytes_in (directory xs) = bs
+    bytes_in (directory xs q) = bs
     bytes_in (file xs) = xs
 
     injective : file bs ≡ file cs → bs ≡ cs
     injective h = ap bytes_in h
-same_node_decides (directory ns) (file cs) = (λ h. absurd (true≢false (sym h)), λ h. absurd (true≢false (ap is_a_directory h)))
-same_node_decides (file bs) (directory ms) = (λ h. absurd (true≢false (sym h)), λ h. absurd (true≢false (sym (ap is_a_directory h))))
+same_node_decides (directory ns o) (file cs) = (λ h. absurd (true≢false (sym h)), λ h. absurd (true≢false (ap is_a_directory h)))
+same_node_decides (file bs) (directory ms p) = (λ h. absurd (true≢false (sym h)), λ h. absurd (true≢false (sym (ap is_a_directory h))))
 
 -- A test of equality is an equivalence.
 pub decided : {A : Type 0} {E : A → A → Bool} → ((x y : A) → Decides (E x y) (x ≡ y)) → IsPartialEquivalence E

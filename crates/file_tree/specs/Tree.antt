@@ -1,17 +1,17 @@
 -- The file tree: directories and files by number.
-use Rattle.std.specs.Prelude.{◌≡◌, ℕ, List, [], length, Option, Some, None, IfSome, IsSome, slice_index_or}
+use Rattle.std.specs.Prelude.{◌≡◌, ℕ, ◌+◌, ◌-◌, List, [], length, Option, Some, None, IfSome, IsSome, slice_index_or}
 use Rattle.std.specs.Option.{option_map, option_and_then}
 use Rattle.std.specs.Ordering.{nat_cmp}
 use Rattle.std.specs.Cmp.Lexicographic.{slice_cmp}
-use Rattle.finite_maps.specs.Table.{Table, empty, get, assign, count, text_keys}
+use Rattle.finite_maps.specs.Table.{Table, empty, get, insert, assign, count, text_keys}
 
 -- The names of a directory, each with the number of its node.
 abbrev pub Names : Type 0
 Names = Table (slice_cmp nat_cmp) ℕ
 
--- A node of the file tree: a directory, or a file with its bytes.
+-- A node of the file tree: a directory with its names, and how many others it has that aren't shown; or a file with its bytes. Only in parts of a world there are others.
 pub data Node : Type 0 where
-  directory : (names : Names) → Node
+  directory : (names : Names) (others : ℕ) → Node
   file : (bytes : List ℕ) → Node
 
 pub data Kind : Type 0 where
@@ -23,15 +23,23 @@ abbrev pub Tree : Type 0
 Tree = Table nat_cmp Node
 
 abbrev pub kind_of_node : Node → Kind
-kind_of_node (directory ns) = a_directory
+kind_of_node (directory ns o) = a_directory
 kind_of_node (file bs) = a_file
 
 abbrev pub names_of_node : Node → Option Names
-names_of_node (directory ns) = Some ns
+names_of_node (directory ns o) = Some ns
 names_of_node (file bs) = None
 
+abbrev pub others_of_node : Node → Option ℕ
+others_of_node (directory ns o) = Some o
+others_of_node (file bs) = None
+
+abbrev pub count_of_node : Node → Option ℕ
+count_of_node (directory ns o) = Some (count ns + o)
+count_of_node (file bs) = None
+
 abbrev pub bytes_of_node : Node → Option (List ℕ)
-bytes_of_node (directory ns) = None
+bytes_of_node (directory ns o) = None
 bytes_of_node (file bs) = Some bs
 
 -- The kind of a node; the names of a directory; the bytes of a file.
@@ -55,9 +63,12 @@ target tree i = record { node = i; kind = kind tree i }
 abbrev pub name : Tree → ℕ → List ℕ → Option Target
 name tree d n = option_map (target tree) (option_and_then (λ ns. get ns n) (names tree d))
 
--- How many names a directory has.
+-- How many names of a directory aren't shown, and how many it has with them.
+abbrev pub others : Tree → ℕ → Option ℕ
+others tree d = option_and_then others_of_node (get tree d)
+
 abbrev pub name_count : Tree → ℕ → Option ℕ
-name_count tree d = option_map count (names tree d)
+name_count tree d = option_and_then count_of_node (get tree d)
 
 -- The size of a file, and the byte at an offset: zero past the size, and where there is no file.
 abbrev pub size : Tree → ℕ → Option ℕ
@@ -73,16 +84,21 @@ byte tree i p = byte_of (bytes tree i) p
 -- Changes of a node.
 
 abbrev pub new_node : Kind → Node
-new_node a_directory = directory empty
+new_node a_directory = directory empty 0
 new_node a_file = file []
 
 abbrev pub renamed_node : List ℕ → Option ℕ → Node → Node
-renamed_node n i (directory ns) = directory (assign text_keys.total ns n i)
+renamed_node n i (directory ns o) = directory (assign text_keys.total ns n i) o
 renamed_node n i (file bs) = file bs
 
 abbrev pub rewritten_node : (List ℕ → List ℕ) → Node → Node
-rewritten_node f (directory ns) = directory ns
+rewritten_node f (directory ns o) = directory ns o
 rewritten_node f (file bs) = file (f bs)
+
+-- A directory that shows one of its other names.
+abbrev pub shown_node : List ℕ → ℕ → Node → Node
+shown_node n i (directory ns o) = directory (insert text_keys.total ns n i) (o - 1)
+shown_node n i (file bs) = file bs
 
 -- A directory lies above another where it names it, or one below it does.
 pub data Above (look : ℕ → List ℕ → Option Target) : ℕ → ℕ → Type 0 where

@@ -3,11 +3,11 @@ ghost use Rattle.std.specs.Prelude.{◌≡◌, ◌+◌, ◌≤◌, [], length, u
 ghost use Rattle.std.specs.Option.{option_copied};
 ghost use Rattle.entry_checks.specs.Operation.{file_limit};
 ghost use Rattle.extent_bytes.specs.Bytes.{overwritten, range_of, resized, zeroed};
-ghost use Rattle.finite_maps.specs.Table.{adjust_number};
-ghost use Rattle.file_tree.specs.Tree.{rewritten_node};
+ghost use Rattle.finite_maps.specs.Table.{adjust_number, insert, number_keys};
+ghost use Rattle.file_tree.specs.Tree.{file, rewritten_node};
 ghost use Rattle.file_tree.specs.Tree as tree;
 
-use crate::node::within;
+use crate::node::{Kind, Node, within};
 use crate::tree::Tree;
 use extent_bytes::Extents;
 use std::alloc::{AllocError, Global};
@@ -26,6 +26,22 @@ impl Tree {
         ensures bound { IfSome result (λ size. size ≤ file_limit) }
     {
         Some(self.bytes(node)?.len())
+    }
+
+    /// Makes a file of zeros, which take no memory. A node that had the number goes.
+    ///
+    /// # Errors
+    ///
+    /// Want of memory; the tree is as before.
+    pub fn add_zeros(&mut self, alloc: Global, number: u32, size: u64) -> Result<(), AllocError>
+        requires { size ≤ file_limit }
+        ensures ok { OnOk result (self.new ≡ insert number_keys.total self.old number (file (resized [] size))) }
+        ensures err { OnErr result (self.new ≡ self.old) }
+    {
+        let mut node = Node::new(alloc, Kind::File);
+        node.set_size(size)?;
+        self.nodes.insert(number, node)?;
+        Ok(())
     }
 
     /// The bytes of a file from `lo` up to `hi`, as far as it has them; none where the node is no file.
@@ -56,6 +72,21 @@ impl Tree {
         };
         let (lo, hi) = within(bytes, lo, hi);
         bytes.share(lo, hi)
+    }
+
+    /// What [`Tree::share`] gives, for bytes that change next in this tree.
+    ///
+    /// # Errors
+    ///
+    /// Want of memory.
+    pub fn detach(&self, alloc: Global, node: u32, lo: u64, hi: u64) -> Result<Extents, AllocError>
+        ensures { IfOk result (λ part. part ≡ range_of (unwrap_or (tree.bytes self.now node) []) lo hi) }
+    {
+        let Some(bytes) = self.bytes(node) else {
+            return Ok(Extents::new(alloc));
+        };
+        let (lo, hi) = within(bytes, lo, hi);
+        bytes.detach(lo, hi)
     }
 
     /// Writes bytes into a file from `at` on; a gap past its end becomes zeros. Where the node is no file

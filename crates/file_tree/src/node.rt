@@ -1,10 +1,11 @@
 //! A node of the file tree.
-ghost use Rattle.std.specs.Prelude.{◌≡◌, ◌+◌, ◌≤◌, [], length, unwrap_or, IfNone, IfOk, IfSome, IsOk, OnErr, OnOk};
+ghost use Rattle.std.specs.Prelude.{◌≡◌, ◌+◌, ◌≤◌, ◌==◌, [], length, unwrap_or, IfNone, IfOk, IfSome, IsOk, OnErr, OnOk};
 ghost use Rattle.std.specs.Option.{option_copied};
 ghost use Rattle.entry_checks.specs.Operation.{file_limit};
 ghost use Rattle.extent_bytes.specs.Bytes.{overwritten, range_of, resized, zeroed};
+ghost use Rattle.finite_maps.specs.Table.{empty};
 ghost use Rattle.file_tree.specs.Kinds.{kind_meant};
-ghost use Rattle.file_tree.specs.Tree.{bytes_of_node, kind_of_node, new_node, renamed_node, rewritten_node};
+ghost use Rattle.file_tree.specs.Tree.{bytes_of_node, count_of_node, directory, kind_of_node, new_node, renamed_node, rewritten_node, shown_node};
 
 use crate::names::Names;
 use extent_bytes::Extents;
@@ -23,7 +24,8 @@ pub enum Kind {
 /// What a node holds.
 #[derive(Drop)]
 pub(crate) enum Content {
-    Directory(Names),
+    /// The names that are shown, and how many others there are.
+    Directory { names: Names, others: usize },
     File(Extents),
 }
 
@@ -62,17 +64,32 @@ impl Node {
         ensures { result ≡ new_node (kind_meant kind) }
     {
         let content = match kind {
-            Kind::Directory => Content::Directory(Names::new(alloc)),
+            Kind::Directory => Content::Directory {
+                names: Names::new(alloc),
+                others: 0,
+            },
             Kind::File => Content::File(Extents::new(alloc)),
         };
         Node { content }
+    }
+
+    /// A directory that shows none of its names, so many in number.
+    pub(crate) fn listing(alloc: Global, others: usize) -> Self
+        ensures { result ≡ directory empty others }
+    {
+        Node {
+            content: Content::Directory {
+                names: Names::new(alloc),
+                others,
+            },
+        }
     }
 
     pub(crate) fn kind(&self) -> Kind
         ensures { kind_meant result ≡ kind_of_node self.now }
     {
         match &self.content {
-            Content::Directory(_) => Kind::Directory,
+            Content::Directory { .. } => Kind::Directory,
             Content::File(_) => Kind::File,
         }
     }
@@ -89,8 +106,51 @@ impl Node {
         ensures removal { IfNone node (IsOk result) }
     {
         match &mut self.content {
-            Content::Directory(names) => names.set(alloc, name, node),
+            Content::Directory { names, .. } => names.set(alloc, name, node),
             Content::File(_) => Ok(()),
+        }
+    }
+
+    /// Lets a directory show one of its other names; a file stays as it is.
+    pub(crate) fn show_name(
+        &mut self,
+        alloc: Global,
+        name: &[u8],
+        node: u32,
+    ) -> Result<(), AllocError>
+        ensures ok { OnOk result (self.new ≡ shown_node name.now node self.old) }
+        ensures err { OnErr result (self.new ≡ self.old) }
+    {
+        match &mut self.content {
+            Content::Directory { names, others } => {
+                names.set(alloc, name, Some(node))?;
+                *others = others.saturating_sub(1);
+                Ok(())
+            }
+            Content::File(_) => Ok(()),
+        }
+    }
+
+    /// How many names a directory has, those that aren't shown too.
+    pub(crate) fn name_count(&self) -> Result<Option<usize>, AllocError>
+        ensures { IfOk result (λ count. count ≡ count_of_node self.now) }
+    {
+        match &self.content {
+            Content::Directory { names, others } => {
+                let count = names.len().checked_add(*others).ok_or(AllocError)?;
+                Ok(Some(count))
+            }
+            Content::File(_) => Ok(None),
+        }
+    }
+
+    /// Whether a node has no names. A file has none.
+    pub(crate) fn is_empty(&self) -> bool
+        ensures { result ≡ (unwrap_or (count_of_node self.now) 0 == 0) }
+    {
+        match &self.content {
+            Content::Directory { names, others } => names.is_empty() && *others == 0,
+            Content::File(_) => true,
         }
     }
 
@@ -99,7 +159,7 @@ impl Node {
         ensures { option_copied result ≡ bytes_of_node self.now }
     {
         match &self.content {
-            Content::Directory(_) => None,
+            Content::Directory { .. } => None,
             Content::File(bytes) => Some(bytes),
         }
     }
@@ -111,7 +171,7 @@ impl Node {
         ensures err { OnErr result (self.new ≡ self.old) }
     {
         match &mut self.content {
-            Content::Directory(_) => Ok(()),
+            Content::Directory { .. } => Ok(()),
             Content::File(file) => file.write(at, bytes),
         }
     }
@@ -122,7 +182,7 @@ impl Node {
         ensures err { OnErr result (self.new ≡ self.old) }
     {
         match &mut self.content {
-            Content::Directory(_) => Ok(()),
+            Content::Directory { .. } => Ok(()),
             Content::File(file) => {
                 let (lo, hi) = within(file, lo, hi);
                 file.zero(lo, hi)
@@ -137,7 +197,7 @@ impl Node {
         ensures err { OnErr result (self.new ≡ self.old) }
     {
         match &mut self.content {
-            Content::Directory(_) => Ok(()),
+            Content::Directory { .. } => Ok(()),
             Content::File(file) => file.set_len(size),
         }
     }
@@ -149,7 +209,7 @@ impl Node {
         ensures err { OnErr result (self.new ≡ self.old) }
     {
         match &mut self.content {
-            Content::Directory(_) => Ok(Extents::new(alloc)),
+            Content::Directory { .. } => Ok(Extents::new(alloc)),
             Content::File(file) => {
                 let (lo, hi) = within(file, lo, hi);
                 file.cut(lo, hi)
@@ -164,7 +224,7 @@ impl Node {
         ensures err { OnErr result (self.new ≡ self.old) }
     {
         match &mut self.content {
-            Content::Directory(_) => Ok(()),
+            Content::Directory { .. } => Ok(()),
             Content::File(file) => file.put_back(lo, part),
         }
     }
@@ -179,7 +239,13 @@ impl PartialEq for Node {
 
     fn eq(&self, other: &Node) -> bool {
         match (&self.content, &other.content) {
-            (Content::Directory(names), Content::Directory(others)) => names == others,
+            (
+                Content::Directory { names, others },
+                Content::Directory {
+                    names: other_names,
+                    others: other_others,
+                },
+            ) => others == other_others && names == other_names,
             (Content::File(bytes), Content::File(others)) => bytes.same(others),
             _ => false,
         }

@@ -86,6 +86,21 @@ fn names(rt: HostRuntime) -> Result<(), Fail> {
 }
 
 #[test]
+fn nodes_taken_out(rt: HostRuntime) -> Result<(), Fail> {
+    let alloc = rt.alloc();
+    let mut tree = small_tree(alloc)?;
+    tree.remove_node(4);
+    tree.remove_node(9);
+    assert_eq!(rt; tree.kind(4), None);
+    assert_eq!(rt; tree.node_count(), 4);
+    assert_eq!(rt; tree.name(2, b"f"), Some(4));
+    tree.remove_node(2);
+    assert_eq!(rt; tree.name(2, b"f"), None);
+    assert_eq!(rt; tree.kind(3), Some(Kind::Directory));
+    Ok(())
+}
+
+#[test]
 fn names_in_order(rt: HostRuntime) -> Result<(), Fail> {
     let tree = small_tree(rt.alloc())?;
     let names = tree.names(0).ok_or("no root")?;
@@ -171,5 +186,41 @@ fn directories_above(rt: HostRuntime) -> Result<(), Fail> {
         assert_eq!(rt; found, want, "{node} above {path}");
     }
     assert!(rt; !tree.is_above(0, 7, b"a"));
+    Ok(())
+}
+
+#[test]
+fn other_names(rt: HostRuntime) -> Result<(), Fail> {
+    let alloc = rt.alloc();
+    let mut tree = small_tree(alloc)?;
+    assert_eq!(rt; tree.name_count(2)?, Some(2));
+    assert_eq!(rt; tree.name_count(4)?, None);
+    tree.add_listing(alloc, 5, 2)?;
+    assert_eq!(rt; tree.kind(5), Some(Kind::Directory));
+    assert_eq!(rt; tree.name_count(5)?, Some(2));
+    assert!(rt; !tree.is_empty(5));
+    tree.show_name(alloc, 5, b"b", 1)?;
+    tree.show_name(alloc, 5, b"c", 4)?;
+    assert_eq!(rt; tree.name(5, b"b"), Some(1));
+    assert_eq!(rt; tree.name_count(5)?, Some(2));
+    tree.set_name(alloc, 5, b"b", None)?;
+    assert!(rt; !tree.is_empty(5));
+    tree.set_name(alloc, 5, b"c", None)?;
+    assert!(rt; tree.is_empty(5));
+    tree.add_listing(alloc, 5, usize::MAX)?;
+    tree.set_name(alloc, 5, b"b", Some(1))?;
+    assert!(rt; tree.name_count(5).is_err());
+    Ok(())
+}
+
+#[test]
+fn others_tell_trees_apart(rt: HostRuntime) -> Result<(), Fail> {
+    let alloc = rt.alloc();
+    let mut tree = small_tree(alloc)?;
+    let other = small_tree(alloc)?;
+    tree.add_listing(alloc, 3, 1)?;
+    assert!(rt; !tree.same(&other));
+    tree.add_listing(alloc, 3, 0)?;
+    assert!(rt; tree.same(&other));
     Ok(())
 }

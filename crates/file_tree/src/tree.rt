@@ -1,9 +1,9 @@
 //! The file tree: its nodes and their names.
 ghost use Rattle.std.specs.Prelude.{◌≡◌, ◌==◌, ◌↔◌, unwrap_or, IfNone, IfOk, IsOk, IsTrue, OnErr, OnOk};
 ghost use Rattle.std.specs.Option.{option_copied, option_map};
-ghost use Rattle.finite_maps.specs.Table.{adjust_number, count, empty, insert, number_keys};
+ghost use Rattle.finite_maps.specs.Table.{adjust_number, count, empty, insert, number_keys, remove};
 ghost use Rattle.file_tree.specs.Kinds.{kind_meant};
-ghost use Rattle.file_tree.specs.Tree.{directory, new_node, renamed_node};
+ghost use Rattle.file_tree.specs.Tree.{directory, new_node, renamed_node, shown_node};
 ghost use Rattle.file_tree.specs.Tree as tree;
 ghost use Rattle.file_tree.specs.Found.{node_of};
 
@@ -33,13 +33,22 @@ impl Model for Tree {
 }
 
 impl Tree {
+    /// A tree without nodes, as a part of a tree starts.
+    pub fn empty(alloc: Global) -> Self
+        ensures { result ≡ empty }
+    {
+        Tree {
+            nodes: BTreeMap::new(alloc),
+        }
+    }
+
     /// A tree with the root alone.
     ///
     /// # Errors
     ///
     /// Want of memory.
     pub fn new(alloc: Global) -> Result<Self, AllocError>
-        ensures { IfOk result (λ tree. tree ≡ insert number_keys.total empty 0 (directory empty)) }
+        ensures { IfOk result (λ tree. tree ≡ insert number_keys.total empty 0 (directory empty 0)) }
     {
         let mut nodes = BTreeMap::new(alloc);
         nodes.insert(0, Node::new(alloc, Kind::Directory))?;
@@ -67,12 +76,12 @@ impl Tree {
         Some(self.nodes.get(&node)?.kind())
     }
 
-    /// The names of a directory; none where the node is none.
+    /// The names that a directory shows; none where the node is none.
     pub fn names(&self, node: u32) -> Option<&Names>
         ensures { option_copied result ≡ tree.names self.now node }
     {
         match &self.nodes.get(&node)?.content {
-            Content::Directory(names) => Some(names),
+            Content::Directory { names, .. } => Some(names),
             Content::File(_) => None,
         }
     }
@@ -88,9 +97,23 @@ impl Tree {
     pub fn is_empty(&self, node: u32) -> bool
         ensures { result ≡ (unwrap_or (tree.name_count self.now node) 0 == 0) }
     {
-        match self.names(node) {
-            Some(names) => names.is_empty(),
+        match self.nodes.get(&node) {
+            Some(found) => found.is_empty(),
             None => true,
+        }
+    }
+
+    /// How many names a directory has, those that aren't shown too; none where the node is none.
+    ///
+    /// # Errors
+    ///
+    /// Want of memory, where no machine could have so many.
+    pub fn name_count(&self, node: u32) -> Result<Option<usize>, AllocError>
+        ensures { IfOk result (λ count. count ≡ tree.name_count self.now node) }
+    {
+        match self.nodes.get(&node) {
+            Some(found) => found.name_count(),
+            None => Ok(None),
         }
     }
 
@@ -105,6 +128,32 @@ impl Tree {
     {
         self.nodes.insert(number, Node::new(alloc, kind))?;
         Ok(())
+    }
+
+    /// Makes a directory that shows none of its names, `others` in number. A node that had the number
+    /// goes.
+    ///
+    /// # Errors
+    ///
+    /// Want of memory; the tree is as before.
+    pub fn add_listing(
+        &mut self,
+        alloc: Global,
+        number: u32,
+        others: usize,
+    ) -> Result<(), AllocError>
+        ensures ok { OnOk result (self.new ≡ insert number_keys.total self.old number (directory empty others)) }
+        ensures err { OnErr result (self.new ≡ self.old) }
+    {
+        self.nodes.insert(number, Node::listing(alloc, others))?;
+        Ok(())
+    }
+
+    /// Takes a node out, if it is there. Names that lead to it stay.
+    pub fn remove_node(&mut self, number: u32)
+        ensures { self.new ≡ remove self.old number }
+    {
+        self.nodes.remove(&number);
     }
 
     /// Lets a name of a directory lead to a node, or to none, which takes no memory. Where there is no
@@ -128,5 +177,26 @@ impl Tree {
             return Ok(());
         };
         found.set_name(alloc, name, node)
+    }
+
+    /// Lets a directory show one of its other names. Where there is no such directory nothing changes.
+    ///
+    /// # Errors
+    ///
+    /// Want of memory; the tree is as before.
+    pub fn show_name(
+        &mut self,
+        alloc: Global,
+        directory: u32,
+        name: &[u8],
+        node: u32,
+    ) -> Result<(), AllocError>
+        ensures ok { OnOk result (self.new ≡ adjust_number (shown_node name.now node) self.old directory) }
+        ensures err { OnErr result (self.new ≡ self.old) }
+    {
+        let Some(listing) = self.nodes.get_mut(&directory) else {
+            return Ok(());
+        };
+        listing.show_name(alloc, name, node)
     }
 }

@@ -14,7 +14,7 @@ use sqe_codec::Errno;
 const WORKING_DIRECTORY: i32 = -100;
 
 /// The most bytes that a name has: `NAME_MAX` of linux/limits.h.
-const LONGEST_NAME: usize = 255;
+pub const LONGEST_NAME: usize = 255;
 
 /// Where a path leads: the directory that has its last name, that name, and the node that it leads to.
 #[derive(Clone, Copy, Debug)]
@@ -26,7 +26,7 @@ pub struct Place<'a> {
 }
 
 /// Whether a path starts at the root: an absolute one, or a relative one at the working directory.
-fn starts_at_root(directory: i32, path: &[u8]) -> bool
+pub fn starts_at_root(directory: i32, path: &[u8]) -> bool
     ensures { result ≡ walk.starts_at_root (record { directory = directory; text = path.now }) }
 {
     path.starts_with(b"/") || directory == WORKING_DIRECTORY
@@ -104,7 +104,11 @@ impl Tree {
     }
 
     /// The directory that a name of a directory leads to.
-    fn directory_at(&self, directory: u32, name: &[u8]) -> Result<u32, Errno>
+    ///
+    /// # Errors
+    ///
+    /// ENOENT where the name is missing, ENOTDIR where it leads to a file.
+    pub fn directory_at(&self, directory: u32, name: &[u8]) -> Result<u32, Errno>
         ensures { result ≡ walk.directory_at (tree.name self.now directory name.now) }
     {
         let Some(node) = self.name(directory, name) else {

@@ -77,7 +77,7 @@ above_descriptions (d ∷ ds) n q le =
     apart e = let l : n + suc (length ds) ≤ q = le in omega arith
 
 above_bare : Above 1 bare.nodes
-above_bare = above_insert 0 empty (Node.directory empty) (λ q le. refl)
+above_bare = above_insert 0 empty (Node.directory empty 0) (λ q le. refl)
 
 pub starts_before : (t : Trace) → IsBefore t 0 (start t)
 starts_before t j le = record {

@@ -1,5 +1,5 @@
 -- Places whose footprints don't collide commute: from the covers alone, whatever the operations are.
-use Rattle.std.specs.Prelude.{◌≡◌, ℕ, Bool, true, false, not, T, refl}
+use Rattle.std.specs.Prelude.{◌≡◌, ℕ, true, false, not, T, refl}
 use mathlib.Core.Path.{sym, subst, ◌∙◌}
 use Rattle.trace_format.specs.declared.trace.Trace.{Trace}
 use Rattle.world_parts.specs.World.{World}
@@ -7,16 +7,9 @@ use Rattle.op_meaning.specs.Step.{step_world}
 use Rattle.world_parts.specs.Items.{Atom, value, Footprint, has_atom, writes_atom, collide, Agree}
 use Rattle.op_meaning.specs.Footprint.{footprint}
 use Rattle.foot_print.specs.Laws.{Awaits, CoversAt, Covers, FootprintsCover, StepsKeepWorlds, StepsCommute}
-use Rattle.world_parts.proofs.Collision.{first_writes-collide, second_writes-collide, writes-has}
+use Rattle.world_parts.proofs.Collision.{first_unwritten, second_unwritten, writes-has}
 use Rattle.world_parts.proofs.Values.{atoms_make_the_world}
-
-pub not_both : (b : Bool) → T (not b) → T b → ⊥
-not_both true h k = h
-not_both false h k = k
-
-none : (b : Bool) → (T b → ⊥) → T (not b)
-none true h = h tt
-none false h = tt
+use Rattle.foot_print.proofs.Awaiting.{awaits_unused}
 
 module _ (cover : FootprintsCover) (keep : StepsKeepWorlds) (t : Trace) (j k : ℕ) (s : World) (wj : Awaits t j s) (wk : Awaits t k s) (apart : ¬ (j ≡ k)) (free : T (not (collide (footprint t j s) (footprint t k s)))) where
   abbrev F : Footprint
@@ -42,16 +35,16 @@ module _ (cover : FootprintsCover) (keep : StepsKeepWorlds) (t : Trace) (j k : �
 
   -- What the first writes the second doesn't have, and the other way round.
   unwritten_j : (a : Atom) → T (has_atom G a) → T (not (writes_atom F a))
-  unwritten_j a h = none _ (λ w. not_both _ free (first_writes-collide F G a w h))
+  unwritten_j a h = first_unwritten F G a free h
 
   unwritten_k : (a : Atom) → T (has_atom F a) → T (not (writes_atom G a))
-  unwritten_k a h = none _ (λ w. not_both _ free (second_writes-collide F G a h w))
+  unwritten_k a h = second_unwritten F G a free h
 
   agree_k : Agree G s after_j
-  agree_k = record { same = λ a h. sym ((covers_j s wj (agrees F s)).nothing_else a (unwritten_j a h)) }
+  agree_k = record { same = λ a h. sym ((covers_j s (awaits_unused t j s wj) (agrees F s)).nothing_else a (unwritten_j a h)) }
 
   agree_j : Agree F s after_k
-  agree_j = record { same = λ a h. sym ((covers_k s wk (agrees G s)).nothing_else a (unwritten_k a h)) }
+  agree_j = record { same = λ a h. sym ((covers_k s (awaits_unused t k s wk) (agrees G s)).nothing_else a (unwritten_k a h)) }
 
   awaits_k : Awaits t k after_j
   awaits_k = (keep t j s wj).1 k (λ e. apart (sym e)) wk
@@ -60,10 +53,10 @@ module _ (cover : FootprintsCover) (keep : StepsKeepWorlds) (t : Trace) (j k : �
   awaits_j = (keep t k s wk).1 j apart wj
 
   second_k : CoversAt t k G s after_j
-  second_k = covers_k after_j awaits_k agree_k
+  second_k = covers_k after_j (awaits_unused t k after_j awaits_k) agree_k
 
   second_j : CoversAt t j F s after_k
-  second_j = covers_j after_k awaits_j agree_j
+  second_j = covers_j after_k (awaits_unused t j after_k awaits_j) agree_j
 
   pub same_atoms : (a : Atom) → value (step_world t k after_j) a ≡ value (step_world t j after_k) a
   same_atoms a =
@@ -82,7 +75,7 @@ module _ (cover : FootprintsCover) (keep : StepsKeepWorlds) (t : Trace) (j k : �
       written_j w = second_k.nothing_else a (unwritten_k a (writes-has F a w)) ∙ second_j.agree_after.same a (writes-has F a w)
 
       neither : T (not (writes_atom G a)) → T (not (writes_atom F a)) → value (step_world t k after_j) a ≡ value (step_world t j after_k) a
-      neither g f = second_k.nothing_else a g ∙ (covers_j s wj (agrees F s)).nothing_else a f ∙ sym ((covers_k s wk (agrees G s)).nothing_else a g) ∙ sym (second_j.nothing_else a f)
+      neither g f = second_k.nothing_else a g ∙ (covers_j s (awaits_unused t j s wj) (agrees F s)).nothing_else a f ∙ sym ((covers_k s (awaits_unused t k s wk) (agrees G s)).nothing_else a g) ∙ sym (second_j.nothing_else a f)
 
 pub steps_commute : FootprintsCover → StepsKeepWorlds → StepsCommute
 steps_commute cover keep t j k s wj wk apart free = (

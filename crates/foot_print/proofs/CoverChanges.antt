@@ -10,13 +10,12 @@ use Rattle.finite_maps.specs.Table.{get, get-insert, number_keys}
 use Rattle.world_parts.specs.World.{World, Opened, Broken, kind, bytes, size, name, name_count, Change, set_name, make_node, make_description, set_slot, set_descriptor, set_position, set_size, write_bytes, zero_bytes, write_buffer, break_chain, apply, apply_all}
 use Rattle.file_tree.specs.Tree.{Target, Kind, a_directory, a_file, byte_of}
 use Rattle.world_parts.specs.Items.{Atom, chain_flag, slot_at, descriptor_at, description_at, position_of, size_of, byte_at, name_at, names_in, buffer_byte, Value, value, within, Footprint, has_atom, writes_atom, Agree, Holds}
-use Rattle.world_parts.proofs.Collision.{text_eq, left, right, writes-has}
+use Rattle.world_parts.proofs.Collision.{not_both, text_eq, left, right, writes-has}
 use Rattle.world_parts.proofs.ChangesOfNames.{Leads, renamed, set_name-value}
 use Rattle.world_parts.proofs.ChangesOfFiles.{emptied, zero_bytes-value, buffered, write_buffer-value}
 use Rattle.world_parts.proofs.ChangesOfMaking.{Unused, made, make_node-value, described, make_description-value, slotted, set_slot-value, held_at, set_descriptor-value, cut, set_size-value}
 use Rattle.world_parts.proofs.ByteWords.{past_end}
 use Rattle.std.specs.Str.{bytes_eq}
-use Rattle.foot_print.proofs.Commute.{not_both}
 use Rattle.world_parts.proofs.Changes.{positioned, set_position-value, written, write_bytes-value}
 
 -- A chain that breaks.
@@ -49,7 +48,7 @@ Supports f s (set_descriptor n x) = T (writes_atom f (descriptor_at n))
 Supports f s (set_size i n) =
     (T (writes_atom f (size_of i)) ⊎ IfSome (size s i) (λ m. m ≡ n))
     × IfSome (size s i) (λ m. (p : ℕ) → n ≤ p → p < m → T (writes_atom f (byte_at i p)))
-Supports f s (zero_bytes i low high) = (low ≤ high) × ((p : ℕ) → T (within low high p) → T (writes_atom f (byte_at i p)))
+Supports f s (zero_bytes i low high) = (p : ℕ) → T (within low high p) → T (writes_atom f (byte_at i p))
 Supports f s (write_buffer r b at new) = (p : ℕ) → T (within at (at + length new) p) → T (writes_atom f (buffer_byte r b p))
 
 abbrev pub SupportsAll : Footprint → World → List Change → Type 0
@@ -79,7 +78,7 @@ agree_after_change f s u (make_description n o) h k g = agree_by f s u (make_des
 agree_after_change f s u (set_slot r n x) h k g = agree_by f s u (set_slot r n x) (slotted r n x) (set_slot-value s r n x) (set_slot-value u r n x) g
 agree_after_change f s u (set_descriptor n x) h k g = agree_by f s u (set_descriptor n x) (held_at n x) (set_descriptor-value s n x) (set_descriptor-value u n x) g
 agree_after_change f s u (set_size j n) h k g = agree_by f s u (set_size j n) (cut j n) (set_size-value s j n) (set_size-value u j n) g
-agree_after_change f s u (zero_bytes i low high) h k g = agree_by f s u (zero_bytes i low high) (emptied i low high) (λ a. zero_bytes-value s i low high a h.0) (λ a. zero_bytes-value u i low high a h.0) g
+agree_after_change f s u (zero_bytes i low high) h k g = agree_by f s u (zero_bytes i low high) (emptied i low high) (zero_bytes-value s i low high) (zero_bytes-value u i low high) g
 agree_after_change f s u (write_buffer r b at new) h k g = agree_by f s u (write_buffer r b at new) (buffered r b at new) (write_buffer-value s r b at new) (write_buffer-value u r b at new) g
 
 unless : {A : Type 0} (b : Bool) (x y : A) → (T b → x ≡ y) → cond b x y ≡ y
@@ -171,10 +170,10 @@ kept_by_change f s (write_bytes i at new) h a n = write_bytes-value s i at new a
     kept (size_of j) n = unless (j == i) _ _ (λ q. sized_same j n q h.2)
     kept (byte_at j p) n = unless (j == i && within at (at + length new) p) _ _ (λ q. absurd (clash f (λ k. byte_at k p) j i (left (j == i) _ q) (h.3 p (right (j == i) _ q)) n))
     kept _ n = refl
-kept_by_change f s (zero_bytes i low high) h a n = zero_bytes-value s i low high a h.0 ∙ kept a n
+kept_by_change f s (zero_bytes i low high) h a n = zero_bytes-value s i low high a ∙ kept a n
   where
     kept : (a : Atom) → T (not (writes_atom f a)) → emptied i low high a (value s a) ≡ value s a
-    kept (byte_at j p) n = unless (j == i) _ _ (λ q. unless (within low high p) _ _ (λ l. absurd (clash f (λ k. byte_at k p) j i q (h.1 p l) n)))
+    kept (byte_at j p) n = unless (j == i) _ _ (λ q. unless (within low high p) _ _ (λ l. absurd (clash f (λ k. byte_at k p) j i q (h p l) n)))
     kept _ n = refl
 kept_by_change f s (write_buffer r b at new) h a n = write_buffer-value s r b at new a ∙ kept a n
   where
@@ -205,7 +204,7 @@ supports_held g f s (make_description n o) w h = (h.0, w.writes (description_at 
 supports_held g f s (set_slot r n x) w h = w.writes (slot_at r n) h
 supports_held g f s (set_descriptor n x) w h = w.writes (descriptor_at n) h
 supports_held g f s (set_size i n) w h = (either_held (w.writes (size_of i)) h.0, if_held (size s i) (λ m k p l b. w.writes (byte_at i p) (k p l b)) h.1)
-supports_held g f s (zero_bytes i low high) w h = (h.0, λ p m. w.writes (byte_at i p) (h.1 p m))
+supports_held g f s (zero_bytes i low high) w h = λ p m. w.writes (byte_at i p) (h p m)
 supports_held g f s (write_buffer r b at new) w h = λ p m. w.writes (buffer_byte r b p) (h p m)
 
 pub supports_all_held : (g f : Footprint) (s : World) (cs : List Change) → Holds g f → SupportsAll f s cs → SupportsAll g s cs

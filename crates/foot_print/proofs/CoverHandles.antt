@@ -1,68 +1,36 @@
 -- Operations that use no more than the slot or descriptor of a file number: nop, fsync and close.
-use Rattle.std.specs.Prelude.{◌≡◌, ℕ, ℤ, pos, negsuc, zero, suc, Bool, true, false, cond, ◌||◌, ltb, T, List, [], ◌∷◌, map, length, Option, Some, None, Result, Ok, ok_or, refl, IfSome, IsSome}
-use Rattle.std.specs.Option.{option_map, option_and_then, is_some}
-use mathlib.Core.Path.{sym, subst, ap, ◌∙◌}
+use Rattle.std.specs.Prelude.{◌≡◌, ℕ, ℤ, pos, negsuc, zero, suc, Bool, true, false, cond, ◌||◌, ltb, T, List, [], ◌∷◌, map, length, Option, None, Ok, refl}
+use Rattle.std.specs.Option.{is_some}
+use mathlib.Core.Path.{sym, subst, ap}
 use lib.Dec.{eqb_refl}
-use Rattle.sqe_codec.specs.declared.errno.Errno.{Errno}
 use Rattle.sqe_codec.specs.declared.errno.Errno.TheVariants.{EBADF, EINVAL}
 use Rattle.trace_format.specs.declared.trace.Trace.{Trace}
 use Rattle.sqe_codec.specs.Answers.{◌>>◌, require}
 use Rattle.entry_checks.specs.Operation.{nop, fsync, close, File}
-use Rattle.world_parts.specs.World.{World, IsWorld, Opened, opened, slot, descriptor, set_slot, set_descriptor}
-use Rattle.op_meaning.specs.Meaning.{Effect, done, slot_count, held, Handle, handle, handle_of}
+use Rattle.world_parts.specs.World.{World, slot, set_slot, set_descriptor}
+use Rattle.op_meaning.specs.Meaning.{done, slot_count, held}
 use Rattle.world_parts.specs.Items.{Atom, slot_at, descriptor_at, member_of, Item, one, reads, writes, has_atom, writes_atom, Agree}
 use Rattle.op_meaning.specs.Footprint.{held_item, file_reads}
 use Rattle.foot_print.specs.Laws.{Awaits}
 use Rattle.world_parts.proofs.Collision.{either_left, true_of}
 use Rattle.foot_print.proofs.Agreement.{held_same}
-use Rattle.world_parts.proofs.Trees.{some_apart}
 use Rattle.world_parts.proofs.Collision.{same_atom_refl}
 use Rattle.foot_print.proofs.Answered.{was_required, after_require}
 use Rattle.foot_print.proofs.CoverOperation.{Owes, supports_effect}
 
 pub nop_owes : (t : Trace) (k r : ℕ) (s : World) → Awaits t k s → Owes t k r nop s
 nop_owes t k r s w = record {
-  tells = λ u v b a. record { same_meaning = refl; same_row = λ c. refl };
-  supports = λ e q. supports_effect [] s (done []) e q tt;
+  tells = λ u b a. record { same_meaning = refl; same_row = λ c. refl };
+  supports = λ u v a e q. supports_effect [] u (done []) e q tt;
 }
-
--- What a slot or a descriptor holds is open.
-pub held_is_open : (t : Trace) (s : World) (r : ℕ) (b : Bool) (n : ℤ) (d : ℕ) → IsWorld s → held t s r b n ≡ Some d → is_some (opened s d) ≡ true
-held_is_open t s r true (pos n) d w e = by (ltb n (slot_count t r)) e
-  where
-    by : (c : Bool) → cond c (slot s r n) None ≡ Some d → is_some (opened s d) ≡ true
-    by true q = subst (λ x. IfSome x (λ y. IsSome (opened s y))) q (w.slots_lead r n)
-    by false q = absurd (some_apart (sym q))
-held_is_open t s r false (pos n) d w e = by (ltb n (length t.descriptors)) e
-  where
-    by : (c : Bool) → cond c (descriptor s n) None ≡ Some d → is_some (opened s d) ≡ true
-    by true q = subst (λ x. IfSome x (λ y. IsSome (opened s y))) q (w.descriptors_lead n)
-    by false q = absurd (some_apart (sym q))
-held_is_open t s r b (negsuc n) d w e = absurd (some_apart (sym e))
-
-handle_with : ℕ → Opened → Handle
-handle_with d o = record { description = d; opened = o }
-
--- Whether a file number is refused is seen by its slot or descriptor alone.
-fsync_by_held : (t : Trace) (s : World) (r : ℕ) (f : File) → IsWorld s → (ok_or (handle t s r f) EBADF >> Ok (done [])) ≡ (require (is_some (held t s r f.registered f.number)) EBADF >> Ok (done []))
-unfolding handle_with
-fsync_by_held t s r f w = by (held t s r f.registered f.number) refl
-  where
-    of : (d : ℕ) (x : Option Opened) → is_some x ≡ true → ◌≡◌ {A = Result Effect Errno} (ok_or (option_map (handle_with d) x) EBADF >> Ok (done [])) (Ok (done []))
-    of d None e = absurd (subst T (sym e) tt)
-    of d (Some o) e = refl
-
-    by : (x : Option ℕ) → held t s r f.registered f.number ≡ x → (ok_or (option_and_then (handle_of s) x) EBADF >> Ok (done [])) ≡ (require (is_some x) EBADF >> Ok (done []))
-    by None e = refl
-    by (Some d) e = of d (opened s d) (held_is_open t s r f.registered f.number d w e)
 
 pub fsync_owes : (t : Trace) (k r : ℕ) (s : World) (f : File) → Awaits t k s → Owes t k r (fsync f) s
 fsync_owes t k r s f w = record {
-  tells = λ u v b a. record {
-    same_meaning = fsync_by_held t u r f v.is_world ∙ ap (λ x. require (is_some x) EBADF >> Ok (done [])) (held_same t s u r f.registered f.number a) ∙ sym (fsync_by_held t s r f w.is_world);
+  tells = λ u b a. record {
+    same_meaning = ap (λ x. require (is_some x) EBADF >> Ok (done [])) (held_same t s u r f.registered f.number a);
     same_row = λ c. refl;
   };
-  supports = λ e q. let m = was_required (is_some (held t s r f.registered f.number)) EBADF (Ok (done [])) e (sym (fsync_by_held t s r f w.is_world) ∙ q) in supports_effect (file_reads t r f) s (done []) e m.1 tt;
+  supports = λ u v a e q. let m = was_required (is_some (held t u r f.registered f.number)) EBADF (Ok (done [])) e q in supports_effect (file_reads t r f) u (done []) e m.1 tt;
 }
 
 -- What a footprint writes of some items, worlds that agree on it agree on.
@@ -86,27 +54,27 @@ there_first false x h = h
 
 pub close_owes : (t : Trace) (k r : ℕ) (s : World) (number : ℤ) (index : ℕ) → Awaits t k s → Owes t k r (close number index) s
 close_owes t k r s (negsuc n) zero w = record {
-  tells = λ u v b a. record { same_meaning = refl; same_row = λ c. refl };
-  supports = λ e q. absurd (was_required false EBADF (Ok (done [])) e q).0;
+  tells = λ u b a. record { same_meaning = refl; same_row = λ c. refl };
+  supports = λ u v a e q. absurd (was_required false EBADF (Ok (done [])) e q).0;
 }
 close_owes t k r s (pos n) zero w = record {
-  tells = λ u v b a. record {
+  tells = λ u b a. record {
     same_meaning = ap (λ x. require (is_some x) EBADF >> Ok (done (set_descriptor n None ∷ []))) (held_same t s u r false (pos n) (agree_written s u (held_item t r false (pos n)) a));
     same_row = λ c. refl;
   };
-  supports = λ e q.
-      let m = was_required (is_some (held t s r false (pos n))) EBADF (Ok (done (set_descriptor n None ∷ []))) e q in
-      supports_effect (map writes (held_item t r false (pos n))) s (done (set_descriptor n None ∷ [])) e m.1 (writes_descriptor t r n (there_first _ _ m.0), tt);
+  supports = λ u v a e q.
+      let m = was_required (is_some (held t u r false (pos n))) EBADF (Ok (done (set_descriptor n None ∷ []))) e q in
+      supports_effect (map writes (held_item t r false (pos n))) u (done (set_descriptor n None ∷ [])) e m.1 (writes_descriptor t r n (there_first _ _ m.0), tt);
 }
 close_owes t k r s number (suc n) w = record {
-  tells = λ u v b a. record {
+  tells = λ u b a. record {
     same_meaning = after_require (ltb n (slot_count t r)) EINVAL _ _ (λ h. ap (λ x. require (is_some x) EBADF >> Ok (done (set_slot r n None ∷ []))) (slot_same u h a));
     same_row = λ c. refl;
   };
-  supports = λ e q.
+  supports = λ u v a e q.
       let m = was_required (ltb n (slot_count t r)) EINVAL _ e q in
-      let l = was_required (is_some (slot s r n)) EBADF _ e m.1 in
-      supports_effect (map writes (held_item t r true (pos n))) s (done (set_slot r n None ∷ [])) e l.1 (writes_slot t r n m.0, tt);
+      let l = was_required (is_some (slot u r n)) EBADF _ e m.1 in
+      supports_effect (map writes (held_item t r true (pos n))) u (done (set_slot r n None ∷ [])) e l.1 (writes_slot t r n m.0, tt);
 }
   where
     slot_same : (u : World) → T (ltb n (slot_count t r)) → Agree (map writes (held_item t r true (pos n))) s u → slot u r n ≡ slot s r n

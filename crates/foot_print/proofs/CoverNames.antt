@@ -1,7 +1,6 @@
 -- The footprints of places that make, link, rename and remove names cover them.
-use Rattle.std.specs.Prelude.{◌≡◌, ℕ, Bool, true, false, cond, not, ◌&&◌, ◌==◌, T, [], ◌∷◌, ◌++◌, Option, Some, None, Result, Ok, Err, ok_or, is_some, is_none, refl, unwrap_or, IfSome}
+use Rattle.std.specs.Prelude.{◌≡◌, ℕ, Bool, true, false, cond, not, ◌&&◌, ◌==◌, T, [], ◌∷◌, ◌++◌, Option, Some, None, Result, Ok, Err, ok_or, is_some, is_none, refl, unwrap_or}
 use Rattle.std.specs.List.{list_any}
-use Rattle.std.specs.Option.{option_map, option_and_then}
 use mathlib.Core.Path.{sym, subst, ap, ◌∙◌}
 use lib.Dec.{eqb_refl}
 use Rattle.sqe_codec.specs.declared.errno.Errno.{Errno}
@@ -9,21 +8,19 @@ use Rattle.sqe_codec.specs.declared.errno.Errno.TheVariants.{EPERM, ENOENT, EEXI
 use Rattle.trace_format.specs.declared.trace.Trace.{Trace}
 use Rattle.sqe_codec.specs.Answers.{◌>>=◌, ◌>>◌, require, each_ok}
 use Rattle.entry_checks.specs.Operation.{unlinkat, mkdirat, linkat, renameat, Path}
-use Rattle.finite_maps.specs.Table.{get}
-use Rattle.world_parts.specs.World.{World, kind, names, Description, opened_by, set_name, make_node, apply}
-use Rattle.file_tree.specs.Tree.{target}
-use Rattle.file_tree.specs.Tree.{Names}
-use Rattle.file_tree.specs.Tree.{a_directory, kind_of_node, Target}
+use Rattle.world_parts.specs.World.{World, kind, set_name, make_node, apply}
+use Rattle.file_tree.specs.Tree.{a_directory, Target}
 use Rattle.file_tree.specs.Walk.{Place, walk, is_directory}
 use Rattle.op_meaning.specs.Meaning.{Effect, done, made_node, new_directory, has_names, may_remove, goes_below, exchange_meaning, exchanged, move_meaning, moved_name, may_replace, rename_to}
 use Rattle.world_parts.specs.Items.{name_at, names_in, one, reads, writes, Footprint, writes_atom, Agree, Holds}
 use Rattle.op_meaning.specs.Footprint.{made_where, name_written, path_reads, directory_names}
-use Rattle.foot_print.specs.Laws.{Awaits}
+use Rattle.foot_print.specs.Laws.{Awaits, Unused}
 use Rattle.world_parts.proofs.Collision.{either_left}
 use Rattle.foot_print.proofs.Agreement.{agree_left, agree_right, agree_head}
+use Rattle.foot_print.proofs.Awaiting.{node_unused}
 use Rattle.world_parts.proofs.Collision.{same_atom_refl}
 use Rattle.world_parts.proofs.ChangesOfNames.{Leads, naming-kind}
-use Rattle.world_parts.proofs.ChangesOfMaking.{Unused, made-kind}
+use Rattle.world_parts.proofs.ChangesOfMaking.{made-kind}
 use Rattle.foot_print.proofs.CoverChanges.{SupportsAll}
 use Rattle.foot_print.proofs.CoverOperation.{taken, RowTells, RowSupports, Owes}
 use Rattle.foot_print.proofs.CoverWalk.{walk_same, names_on_same, path_reads_same, walk_leads}
@@ -51,25 +48,6 @@ two_names_supported f s p q x y h k l m = (
   name_supported f (apply (set_name p.parent p.name x) s) q y k (leads_after s (apply (set_name p.parent p.name x) s) y (λ i. naming-kind p.name x s p.parent i) m),
 )
 
--- The number of the node that a place makes is unused.
-pub unused : (t : Trace) (k : ℕ) (s : World) → Awaits t k s → Unused s (made_node t k)
-unused t k s w = record {
-  no_node = w.no_node;
-  unnamed = λ d n. target_apart (option_and_then (λ (ns : Names). get ns n) (names s d)) (w.is_world.tree.names_lead d n);
-  unopened = λ d. opened_apart (get s.descriptions d) (w.is_world.descriptions_lead d);
-}
-  where
-    apart : (j : ℕ) → is_some (kind s j) ≡ true → ¬ (j ≡ made_node t k)
-    apart j h e = subst T (sym h ∙ ap (λ i. is_some (kind s i)) e ∙ ap (λ x. is_some (option_map kind_of_node x)) w.no_node) tt
-
-    target_apart : (o : Option ℕ) → IfSome (option_map (target s.nodes) o) (λ x. is_some x.kind ≡ true) → IfSome (option_map (target s.nodes) o) (λ x. ¬ (x.node ≡ made_node t k))
-    target_apart None h = tt
-    target_apart (Some j) h = apart j h
-
-    opened_apart : (o : Option Description) → IfSome (option_map (opened_by s) o) (λ x. is_some x.target.kind ≡ true) → IfSome (option_map (opened_by s) o) (λ x. ¬ (x.target.node ≡ made_node t k))
-    opened_apart None h = tt
-    opened_apart (Some d) h = apart d.node h
-
 -- Making a directory.
 mkdirat_tells : (t : Trace) (k r : ℕ) (s u : World) (p : Path) → RowTells t k r s u (mkdirat p)
 mkdirat_tells t k r s u p x a =
@@ -80,7 +58,7 @@ mkdirat_tells t k r s u p x a =
       same_row = λ y i. path_reads_same s u p path i ++ each_ok (λ (q : Place). name_written q ++ made_where (taken y) (writes (one (names_in (made_node t k))) ∷ [])) (walked i);
     }
 
-mkdirat_supports : (t : Trace) (k r : ℕ) (s : World) (p : Path) → Awaits t k s → RowSupports t k r s (mkdirat p)
+mkdirat_supports : (t : Trace) (k r : ℕ) (s : World) (p : Path) → Unused t k s → RowSupports t k r s (mkdirat p)
 mkdirat_supports t k r s p w x h =
     let m = made_node t k in
     let uses : Place → Footprint = λ q. name_written q ++ writes (one (names_in m)) ∷ [] in
@@ -88,12 +66,12 @@ mkdirat_supports t k r s p w x h =
     let q = at.0 in
     let here = holds_over _ _ (uses q) (holds_right (path_reads s p) (each_ok uses (walk s.nodes p))) (holds_ok uses (walk s.nodes p) q at.1) in
     of_done (path_reads s p ++ each_ok uses (walk s.nodes p)) s _ x (ok_require (is_none q.target) EEXIST _ x at.2).0 (
-      (unused t k s w, here.writes (names_in m) ((holds_right (name_written q) (writes (one (names_in m)) ∷ [])).writes (names_in m) (either_left _ _ (eqb_refl m)))),
+      (node_unused t k s w, here.writes (names_in m) ((holds_right (name_written q) (writes (one (names_in m)) ∷ [])).writes (names_in m) (either_left _ _ (eqb_refl m)))),
       name_supported _ (apply (make_node m a_directory) s) q (Some (new_directory m)) (holds_over _ (uses q) (name_written q) here (holds_left (name_written q) (writes (one (names_in m)) ∷ []))) (made-kind s m a_directory),
     )
 
 pub mkdirat_owes : (t : Trace) (k r : ℕ) (s : World) (p : Path) → Awaits t k s → Owes t k r (mkdirat p) s
-mkdirat_owes t k r s p w = record { tells = λ u v. mkdirat_tells t k r s u p; supports = mkdirat_supports t k r s p w }
+mkdirat_owes t k r s p w = record { tells = λ u. mkdirat_tells t k r s u p; supports = λ u v a. mkdirat_supports t k r u p v }
 
 -- Linking.
 linkat_tells : (t : Trace) (k r : ℕ) (s u : World) (old new : Path) → RowTells t k r s u (linkat old new)
@@ -120,7 +98,7 @@ linkat_supports t k r s old new x h =
     (subst (Leads s) (ok_some p.0.target ENOENT y.0 y.1) (walk_leads s old p.0 p.1)))
 
 pub linkat_owes : (t : Trace) (k r : ℕ) (s : World) (old new : Path) → Awaits t k s → Owes t k r (linkat old new) s
-linkat_owes t k r s old new w = record { tells = λ u v. linkat_tells t k r s u old new; supports = linkat_supports t k r s old new }
+linkat_owes t k r s old new w = record { tells = λ u. linkat_tells t k r s u old new; supports = λ u v a. linkat_supports t k r u old new }
 
 -- Removing.
 removal : Bool → Place → Footprint
@@ -176,7 +154,7 @@ unlinkat_supports t k r s p removes x h =
     tt)
 
 pub unlinkat_owes : (t : Trace) (k r : ℕ) (s : World) (p : Path) (removes : Bool) → Awaits t k s → Owes t k r (unlinkat p removes) s
-unlinkat_owes t k r s p removes w = record { tells = λ u v. unlinkat_tells t k r s u p removes; supports = unlinkat_supports t k r s p removes }
+unlinkat_owes t k r s p removes w = record { tells = λ u. unlinkat_tells t k r s u p removes; supports = λ u v a. unlinkat_supports t k r u p removes }
 
 -- Renaming.
 replaced : Place → Footprint
@@ -269,4 +247,4 @@ renameat_supports t k r s old new flags e h =
     rename_supports row_is s p.0 q.0 at_old at_new x.0 (subst (Leads s) (ok_some p.0.target ENOENT x.0 x.1) (walk_leads s old p.0 p.1)) e old new flags (walk_leads s new q.0 q.1) x.2
 
 pub renameat_owes : (t : Trace) (k r : ℕ) (s : World) (old new : Path) (flags : ℕ) → Awaits t k s → Owes t k r (renameat old new flags) s
-renameat_owes t k r s old new flags w = record { tells = λ u v. renameat_tells t k r s u old new flags; supports = renameat_supports t k r s old new flags }
+renameat_owes t k r s old new flags w = record { tells = λ u. renameat_tells t k r s u old new flags; supports = λ u v a. renameat_supports t k r u old new flags }

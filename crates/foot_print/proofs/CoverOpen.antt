@@ -15,9 +15,9 @@ use Rattle.file_tree.specs.Tree.{a_file, Target}
 use Rattle.extent_bytes.specs.Bytes.{resized}
 use Rattle.file_tree.specs.Walk.{Place, walk, is_directory}
 use Rattle.op_meaning.specs.Meaning.{Effect, made_node, made_description, slot_count, Room, in_slot, at_descriptor, lowest_free, room, filled, may_open, found_or_made, open_changes, opened_with, open_as}
-use Rattle.world_parts.specs.Items.{slot_at, descriptor_at, description_at, position_of, size_of, byte_at, one, all_descriptors, reads, writes, Footprint, writes_atom, Agree, Holds}
-use Rattle.op_meaning.specs.Footprint.{made_where, name_written, path_reads, range_of, room_uses, description_made, open_uses}
-use Rattle.foot_print.specs.Laws.{Awaits}
+use Rattle.world_parts.specs.Items.{slot_at, descriptor_at, description_at, position_of, size_of, byte_at, one, all_descriptors, reads, writes, Footprint, has_atom, writes_atom, Agree, Holds}
+use Rattle.op_meaning.specs.Footprint.{row, made_where, name_written, path_reads, range_of, room_uses, description_made, open_uses}
+use Rattle.foot_print.specs.Laws.{Awaits, Unused}
 use Rattle.world_parts.proofs.Collision.{both, either_left}
 use Rattle.foot_print.proofs.Agreement.{agree_left, agree_right}
 use Rattle.world_parts.proofs.Changes.{rewriting-kind}
@@ -26,7 +26,9 @@ use Rattle.world_parts.proofs.ChangesOfMaking.{made-kind}
 use Rattle.foot_print.proofs.CoverChanges.{SupportsAll}
 use Rattle.foot_print.proofs.CoverOperation.{taken, RowTells, RowSupports, Owes}
 use Rattle.foot_print.proofs.CoverWalk.{walk_same, path_reads_same, walk_leads}
-use Rattle.foot_print.proofs.CoverNames.{name_supported, unused}
+use Rattle.foot_print.proofs.CoverNames.{name_supported}
+use Rattle.foot_print.proofs.Awaiting.{node_unused}
+use Rattle.foot_print.proofs.OpenFile.{sizes_fit}
 use Rattle.foot_print.proofs.Accepted.{err_apart, ok_same, ok_bind, ok_then, holds_left, holds_right, holds_over, holds_ok}
 
 -- The room of openat is decided by what its row has of slots and descriptors.
@@ -81,7 +83,7 @@ second_test true true c h = tt
 second_test true false c h = absurd h
 second_test false b c h = absurd h
 
-module _ (t : Trace) (k : ℕ) (s : World) (g : OpenFlags) (w : Awaits t k s) (q : Place) (f : Footprint) (last : List Change) (rest : (z : World) → SupportsAll f z last) (describes : Holds f (description_made t k)) where
+module _ (t : Trace) (k : ℕ) (s : World) (g : OpenFlags) (w : Unused t k s) (q : Place) (f : Footprint) (fits : (i : ℕ) → T (has_atom f (size_of i)) → IfSome (size s i) (λ n. n ≤ file_limit)) (last : List Change) (rest : (z : World) → SupportsAll f z last) (describes : Holds f (description_made t k)) where
   abbrev m : ℕ
   m = made_node t k
 
@@ -97,7 +99,7 @@ module _ (t : Trace) (k : ℕ) (s : World) (g : OpenFlags) (w : Awaits t k s) (q
   make_supported : Holds f (name_written q ++ writes (one (size_of m)) ∷ []) → SupportsAll f s (open_changes g m q None ++ make_description d (opened_with g (found_or_made m None)) ∷ last)
   make_supported h =
       let after = apply (make_node m a_file) s in (
-        (unused t k s w, h.writes (size_of m) ((holds_right (name_written q) (writes (one (size_of m)) ∷ [])).writes (size_of m) (either_left _ _ (eqb_refl m)))),
+        (node_unused t k s w, h.writes (size_of m) ((holds_right (name_written q) (writes (one (size_of m)) ∷ [])).writes (size_of m) (either_left _ _ (eqb_refl m)))),
         (
           (name_supported f after q (Some (found_or_made m None)) (holds_over f (name_written q ++ writes (one (size_of m)) ∷ []) (name_written q) h (holds_left (name_written q) (writes (one (size_of m)) ∷ []))) (made-kind s m a_file)).0,
           described (apply (set_name q.parent q.name (Some (found_or_made m None))) after) (found_or_made m None) (naming-kind q.name (Some (found_or_made m None)) after q.parent m ∙ made-kind s m a_file),
@@ -106,7 +108,7 @@ module _ (t : Trace) (k : ℕ) (s : World) (g : OpenFlags) (w : Awaits t k s) (q
 
   cut_supported : (y : Target) → kind s y.node ≡ y.kind → Holds f (writes (one (size_of y.node)) ∷ writes (range_of y.node 0 file_limit) ∷ []) → SupportsAll f s (set_size y.node 0 ∷ make_description d (opened_with g y) ∷ last)
   cut_supported y l h = (
-    (inl (h.writes (size_of y.node) (either_left _ _ (eqb_refl y.node))), below (size s y.node) (w.is_world.files_fit y.node)),
+    (inl (h.writes (size_of y.node) (either_left _ _ (eqb_refl y.node))), below (size s y.node) (fits y.node (h.has (size_of y.node) (either_left _ _ (eqb_refl y.node))))),
     described (apply (set_size y.node 0) s) y (rewriting-kind (λ bs. resized bs 0) s y.node y.node ∙ l),
   )
     where
@@ -132,8 +134,9 @@ module _ (t : Trace) (k : ℕ) (s : World) (g : OpenFlags) (w : Awaits t k s) (q
       by false c h = absurd c
   target_supported (Some y) l c h = found_supported y l (cuts_a_file (is_directory y.kind) g.create g.truncate (not (g.access == 0)) (second_test _ _ _ c)) h
 
-openat_supports : (t : Trace) (k r : ℕ) (s : World) (p : Path) (g : OpenFlags) (index : ℕ) → Awaits t k s → RowSupports t k r s (openat p g index)
-openat_supports t k r s p g index w e h =
+openat_supports : (t : Trace) (k r : ℕ) (s : World) (p : Path) (g : OpenFlags) (index : ℕ) → Unused t k s
+    → ((i : ℕ) → T (has_atom (row t k r s (taken true) (openat p g index)) (size_of i)) → IfSome (size s i) (λ n. n ≤ file_limit)) → RowSupports t k r s (openat p g index)
+openat_supports t k r s p g index w fits e h =
     let at = ok_bind (room t s r index) _ e h in
     let q = ok_bind (walk s.nodes p) _ e at.2 in
     let last = ok_then (may_open g q.0.target) _ e q.2 in
@@ -146,7 +149,10 @@ openat_supports t k r s p g index w e h =
     let describes = holds_over row_is (looks ++ made) made (holds_left (looks ++ made) places) (holds_right looks made) in
     let here = holds_over row_is places (uses q.0) (holds_right (looks ++ made) places) (holds_ok uses (walk s.nodes p) q.0 q.1) in
     subst (λ (x : Effect). SupportsAll row_is s x.changes) (ok_same (open_as t k r g at.0 q.0) e last.0)
-    (target_supported t k s g w q.0 row_is (filled r at.0 (made_description t k)).changes (λ z. room_supported t s z r index (made_description t k) at.0 row_is at.1 rooms) describes q.0.target (walk_leads s p q.0 q.1) last.1 here)
+    (target_supported t k s g w q.0 row_is fits (filled r at.0 (made_description t k)).changes (λ z. room_supported t s z r index (made_description t k) at.0 row_is at.1 rooms) describes q.0.target (walk_leads s p q.0 q.1) last.1 here)
 
 pub openat_owes : (t : Trace) (k r : ℕ) (s : World) (p : Path) (g : OpenFlags) (index : ℕ) → Awaits t k s → Owes t k r (openat p g index) s
-openat_owes t k r s p g index w = record { tells = λ u v. openat_tells t k r s u p g index; supports = openat_supports t k r s p g index w }
+openat_owes t k r s p g index w = record {
+  tells = λ u. openat_tells t k r s u p g index;
+  supports = λ u v a. openat_supports t k r u p g index v (sizes_fit (row t k r u (taken true) (openat p g index)) s u w.is_world (subst (λ f. Agree f s u) (sym ((openat_tells t k r s u p g index true a).same_row true)) a));
+}

@@ -17,26 +17,27 @@ use Rattle.op_meaning.specs.Meaning.{Effect, meaning}
 use Rattle.op_meaning.specs.Step.{Turn, runs, turn, step_world, step_changes, changes_in, changes_of, breaks}
 use Rattle.world_parts.specs.Items.{Atom, chain_flag, member_of, value, one, Use, writes, Footprint, has_atom, writes_atom, Agree, Holds}
 use Rattle.op_meaning.specs.Footprint.{Taken, row, row_in, as_reads, order_uses, turn_uses, ring_at, footprint}
-use Rattle.foot_print.specs.Laws.{Awaits, Covers}
+use Rattle.foot_print.specs.Laws.{Awaits, Unused, Covers}
 use Rattle.world_parts.proofs.Collision.{either_left, either_right, true_of}
 use Rattle.foot_print.proofs.Agreement.{in_left, in_right, agree_taken}
 use Rattle.world_parts.proofs.Collision.{same_atom_refl}
 use Rattle.foot_print.proofs.Answered.{ok_same}
+use Rattle.foot_print.proofs.Awaiting.{awaits_unused}
 use Rattle.foot_print.proofs.CoverPlace.{Decided, footprint_same, step_reply_same, step_changes_same}
 use Rattle.foot_print.proofs.CoverChanges.{SupportsAll, supports_all_held, agree_after_changes, kept_by_changes}
 
 -- A place whose operation is decided by its row, and whose footprint supports its changes, is covered by it.
 pub covers : (t : Trace) (k : ℕ) (s : World)
-    → ((u : World) → Awaits t k u → (r : ℕ) (e : Entry) (o : Operation) → turn t k s ≡ Some (runs r e o) → Agree (row_in t k r s o) s u → Decided t k r s u o)
-    → ((u : World) → Awaits t k u → Agree (footprint t k s) s u → SupportsAll (footprint t k s) u (step_changes t k s))
+    → ((u : World) (r : ℕ) (e : Entry) (o : Operation) → turn t k s ≡ Some (runs r e o) → Agree (row_in t k r s o) s u → Decided t k r s u o)
+    → ((u : World) → Unused t k u → Agree (footprint t k s) s u → SupportsAll (footprint t k s) u (step_changes t k s))
     → Awaits t k s → Covers t k (footprint t k s) s
 covers t k s decided supports w u v agree =
-    let same = step_changes_same t k s u (decided u v) agree in
-    let in_s = supports s w (record { same = λ a m. refl }) in
+    let same = step_changes_same t k s u (decided u) agree in
+    let in_s = supports s (awaits_unused t k s w) (record { same = λ a m. refl }) in
     let in_u = supports u v agree in
     record {
-      same_footprint = footprint_same t k s u (decided u v) agree;
-      same_reply = step_reply_same t k s u (decided u v) agree;
+      same_footprint = footprint_same t k s u (decided u) agree;
+      same_reply = step_reply_same t k s u (decided u) agree;
       agree_after = subst (λ cs. Agree (footprint t k s) (step_world t k s) (apply_all cs u)) (sym same) (agree_after_changes (footprint t k s) s u (step_changes t k s) in_s in_u agree);
       nothing_else = λ a n. subst (λ cs. value (apply_all cs u) a ≡ value u a) (sym same) (kept_by_changes (footprint t k s) u (step_changes t k s) in_u a n);
     }
@@ -105,7 +106,7 @@ module _ (t : Trace) (k r : ℕ) (s : World) (o : Operation) where
         same_row = λ i. cond (is_ok (x.same_meaning i)) (x.same_row (is_ok (x.same_meaning i)) i) (as_reads (x.same_row (is_ok (x.same_meaning i)) i));
       }
 
-  supported : (u : World) (F : Footprint) → RowTells t k r s u o → RowSupports t k r u o → Agree (row_in t k r s o) s u → Holds F (row_in t k r s o) → SupportsAll F u (changes_of (meaning t k r s o))
+  supported : (u : World) (F : Footprint) → RowTells t k r s u o → (Agree (row t k r s (taken true) o) s u → RowSupports t k r u o) → Agree (row_in t k r s o) s u → Holds F (row_in t k r s o) → SupportsAll F u (changes_of (meaning t k r s o))
   supported u F tells supports a holds = by (meaning t k r s o) refl
     where
       x : Tells t k r s u o
@@ -117,16 +118,16 @@ module _ (t : Trace) (k r : ℕ) (s : World) (o : Operation) where
           let fine : is_ok (meaning t k r s o) ≡ true = ap is_ok q in
           let row_is : row_in t k r s o ≡ row t k r s (taken true) o = λ i. cond (fine i) (row t k r s (taken (fine i)) o) (as_reads (row t k r s (taken (fine i)) o)) in
           supports_all_held F (row t k r s (taken true) o) u y.changes (subst (Holds F) row_is holds)
-          (subst (λ f. SupportsAll f u y.changes) (x.same_row true) (supports y (x.same_meaning ∙ q)))
+          (subst (λ f. SupportsAll f u y.changes) (x.same_row true) (supports (subst (λ f. Agree f s u) row_is a) y (x.same_meaning ∙ q)))
 
 -- The footprint of a place covers it where the row of the operation that it runs tells the meaning and supports the changes.
 pub operation_covers : (t : Trace) (k : ℕ) (s : World) (r : ℕ) (e : Entry) (o : Operation) → turn t k s ≡ Some (runs r e o)
-    → ((u : World) → Awaits t k u → RowTells t k r s u o) → ((u : World) → Awaits t k u → RowSupports t k r u o)
+    → ((u : World) → RowTells t k r s u o) → ((u : World) → Unused t k u → Agree (row t k r s (taken true) o) s u → RowSupports t k r u o)
     → Awaits t k s → Covers t k (footprint t k s) s
 operation_covers t k s r e o h tells supports w = covers t k s decides supports_changes w
   where
-    decides : (u : World) → Awaits t k u → (q : ℕ) (d : Entry) (p : Operation) → turn t k s ≡ Some (runs q d p) → Agree (row_in t k q s p) s u → Decided t k q s u p
-    decides u v q d p g = subst (λ x. Agree (row_in t k x.0 s x.1) s u → Decided t k x.0 s u x.1) (same_run r q e d o p (sym h ∙ g)) (decided t k r s o u (tells u v))
+    decides : (u : World) (q : ℕ) (d : Entry) (p : Operation) → turn t k s ≡ Some (runs q d p) → Agree (row_in t k q s p) s u → Decided t k q s u p
+    decides u q d p g = subst (λ x. Agree (row_in t k x.0 s x.1) s u → Decided t k x.0 s u x.1) (same_run r q e d o p (sym h ∙ g)) (decided t k r s o u (tells u))
 
     F : Footprint
     F = footprint t k s
@@ -140,20 +141,20 @@ operation_covers t k s r e o h tells supports w = covers t k s decides supports_
     holds : Holds F (row_in t k r s o)
     holds = record { has = λ a m. up (λ (x : Use). member_of x.item a) m; writes = λ a m. up (λ (x : Use). x.written && member_of x.item a) m }
 
-    supports_changes : (u : World) → Awaits t k u → Agree F s u → SupportsAll F u (step_changes t k s)
+    supports_changes : (u : World) → Unused t k u → Agree F s u → SupportsAll F u (step_changes t k s)
     supports_changes u v a =
         subst (λ x. SupportsAll F u (each (changes_in t k s) x)) (sym h)
-        (supports_append F (changes_of (meaning t k r s o)) _ u (supported t k r s o u F (tells u v) (supports u v) (record { same = λ b m. a.same b (holds.has b m) }) holds)
+        (supports_append F (changes_of (meaning t k r s o)) _ u (supported t k r s o u F (tells u) (supports u v) (record { same = λ b m. a.same b (holds.has b m) }) holds)
         (λ z. breaks_supported (role t k) (ring_at t k) e (each (turn_uses t k s) (turn t k s)) _ z))
 
 -- A footprint has all uses of another.
 pub record Contains (f g : Footprint) : Type 0 where
   pub uses : (p : Use → Bool) → T (list_any p g) → T (list_any p f)
 
--- What an operation owes in a world: its row tells its meaning and itself, and where it is accepted, supports its changes.
+-- What an operation owes in a world: its row tells its meaning and itself to any world or part of one that agrees on it, and supports its changes there where it is accepted.
 pub record Owes (t : Trace) (k r : ℕ) (o : Operation) (s : World) : Type 0 where
-  pub tells : (u : World) → Awaits t k u → RowTells t k r s u o
-  pub supports : RowSupports t k r s o
+  pub tells : (u : World) → RowTells t k r s u o
+  pub supports : (u : World) → Unused t k u → Agree (row t k r s (taken true) o) s u → RowSupports t k r u o
 
 -- What an accepted answer changes is supported where that of its effect is.
 pub supports_effect : (g : Footprint) (u : World) (x y : Effect) → ◌≡◌ {A = Result Effect Errno} (Ok x) (Ok y) → SupportsAll g u x.changes → SupportsAll g u y.changes
@@ -165,4 +166,4 @@ OperationCovers o = (t : Trace) (k : ℕ) (s : World) (r : ℕ) (e : Entry) → 
 
 -- An operation that pays what it owes in every world is covered.
 pub owed_covers : (o : Operation) → ((t : Trace) (k r : ℕ) (s : World) → Awaits t k s → Owes t k r o s) → OperationCovers o
-owed_covers o owes t k s r e h w = operation_covers t k s r e o h (λ u v. (owes t k r s w).tells u v) (λ u v. (owes t k r u v).supports) w
+owed_covers o owes t k s r e h w = operation_covers t k s r e o h (owes t k r s w).tells (owes t k r s w).supports w

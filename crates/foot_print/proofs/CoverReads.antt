@@ -77,12 +77,12 @@ module _ (t : Trace) (r : ℕ) (f : File) (o n : ℕ) (span : Result Destination
 
 pub read_owes : (t : Trace) (k r : ℕ) (s : World) (f : File) (o n : ℕ) → Awaits t k s → Owes t k r (read f o n) s
 read_owes t k r s f o n w = record {
-  tells = λ u v b a. record { same_meaning = read_same t s u r f o (min n most_moved) (Ok reply) w.is_world a; same_row = λ c. read_row_same t s u r f o (min n most_moved) a };
-  supports = λ e q. read_supported t r f o (min n most_moved) (Ok reply) s (read_row t s r f o (min n most_moved)) e q (record { uses = λ p m. m }) (λ to h. subst (IsWritten t r f o (min n most_moved) (Ok reply) s (read_row t s r f o (min n most_moved))) (ok_same reply to h) tt);
+  tells = λ u b a. record { same_meaning = read_same t s u r f o (min n most_moved) (Ok reply) w.is_world a; same_row = λ c. read_row_same t s u r f o (min n most_moved) a };
+  supports = λ u v a e q. read_supported t r f o (min n most_moved) (Ok reply) u (read_row t u r f o (min n most_moved)) e q (record { uses = λ p m. m }) (λ to h. subst (IsWritten t r f o (min n most_moved) (Ok reply) u (read_row t u r f o (min n most_moved))) (ok_same reply to h) tt);
 }
 
 pub readv_owes : (t : Trace) (k r : ℕ) (s : World) (f : File) (o n : ℕ) → Awaits t k s → Owes t k r (readv f o n) s
-readv_owes t k r s f o n w = let x = read_owes t k r s f o n w in record { tells = λ u v b a. let y = x.tells u v b a in record { same_meaning = y.same_meaning; same_row = y.same_row }; supports = x.supports }
+readv_owes t k r s f o n w = let x = read_owes t k r s f o n w in record { tells = λ u b a. let y = x.tells u b a in record { same_meaning = y.same_meaning; same_row = y.same_row }; supports = x.supports }
 
 -- The range of a span in its buffer that a transfer of fewer bytes uses.
 pub in_span : (b : Bool) (t : Trace) (r : ℕ) (x : Span) (q : Use → Bool) (at : ℕ) → span_start t r x ≡ Some at → T (q (record { item = buffer_bytes r x.index at (at + x.length); written = b })) → T (list_any q (span_use b t r x))
@@ -93,18 +93,18 @@ offset_in_span r b at n p below above = both (r == r && b == b) _ (both _ _ (eqb
 
 pub read_fixed_owes : (t : Trace) (k r : ℕ) (s : World) (f : File) (o : ℕ) (x : Span) → Awaits t k s → Owes t k r (read_fixed f o x) s
 read_fixed_owes t k r s f o x w = record {
-  tells = λ u v b a.
+  tells = λ u b a.
       let d = agree_left s u (read_row t s r f o n) (span_use true t r x) a in
       record { same_meaning = read_same t s u r f o n (span_destination t r x) w.is_world d; same_row = λ c. ap (λ z. z ++ span_use true t r x) (read_row_same t s u r f o n d) };
-  supports = λ e q.
-      read_supported t r f o n (span_destination t r x) s (read_row t s r f o n ++ span_use true t r x) e q (record { uses = λ p m. in_left p (read_row t s r f o n) (span_use true t r x) m }) (destination (span_start t r x) refl);
+  supports = λ u v a e q.
+      read_supported t r f o n (span_destination t r x) u (read_row t u r f o n ++ span_use true t r x) e q (record { uses = λ p m. in_left p (read_row t u r f o n) (span_use true t r x) m }) (destination u (span_start t r x) refl);
 }
   where
     n : ℕ
     n = min x.length most_moved
 
-    destination : (y : Option ℕ) → span_start t r x ≡ y → (to : Destination) → ok_or (option_map (λ at. into x.index at) y) EFAULT ≡ Ok to → IsWritten t r f o (min x.length most_moved) (span_destination t r x) s (read_row t s r f o (min x.length most_moved) ++ span_use true t r x) to
-    destination None e to h = absurd (some_apart (sym (was_there None EFAULT to h)))
-    destination (Some at) e to h = subst (IsWritten t r f o (min x.length most_moved) (span_destination t r x) s (read_row t s r f o (min x.length most_moved) ++ span_use true t r x)) (ok_same (into x.index at) to h) (λ p below above.
-        in_right (λ (z : Use). z.written && member_of z.item (buffer_byte r x.index p)) (read_row t s r f o (min x.length most_moved)) (span_use true t r x)
+    destination : (u : World) (y : Option ℕ) → span_start t r x ≡ y → (to : Destination) → ok_or (option_map (λ at. into x.index at) y) EFAULT ≡ Ok to → IsWritten t r f o (min x.length most_moved) (span_destination t r x) u (read_row t u r f o (min x.length most_moved) ++ span_use true t r x) to
+    destination u None e to h = absurd (some_apart (sym (was_there None EFAULT to h)))
+    destination u (Some at) e to h = subst (IsWritten t r f o (min x.length most_moved) (span_destination t r x) u (read_row t u r f o (min x.length most_moved) ++ span_use true t r x)) (ok_same (into x.index at) to h) (λ p below above.
+        in_right (λ (z : Use). z.written && member_of z.item (buffer_byte r x.index p)) (read_row t u r f o (min x.length most_moved)) (span_use true t r x)
         (in_span true t r x (λ (z : Use). z.written && member_of z.item (buffer_byte r x.index p)) at e (offset_in_span r x.index at x.length p below (omega arith))))

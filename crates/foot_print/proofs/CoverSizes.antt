@@ -17,7 +17,7 @@ use Rattle.foot_print.specs.Laws.{Awaits}
 use Rattle.world_parts.proofs.Collision.{both, either_left, either_right, left, right}
 use Rattle.foot_print.proofs.Agreement.{agree_head}
 use Rattle.foot_print.proofs.Answered.{was_ok, was_required, was_there}
-use Rattle.foot_print.proofs.OpenFile.{with_handle, on_file_same, in_on_file, on_its_file, writable_is_file, length_same, length_by_size}
+use Rattle.foot_print.proofs.OpenFile.{with_handle, on_file_same, in_on_file, on_its_file, handles_sound, handles_sound_too, writable_is_file, sizes_fit, length_same, length_by_size}
 use Rattle.foot_print.proofs.CoverChanges.{Supports, SupportsAll}
 use Rattle.foot_print.proofs.CoverOperation.{Contains, Owes, supports_effect}
 
@@ -56,7 +56,7 @@ module _ (s u : World) (extending : Bool) (i at end : ℕ) where
   same_allocate zero_within z = refl
 
 -- What an allocation writes supports its changes.
-module _ (s : World) (g : Footprint) (i at end : ℕ) (rises : at ≤ end) (fits : end ≤ file_limit) where
+module _ (s : World) (g : Footprint) (i at end : ℕ) (fits : end ≤ file_limit) where
   growth_supported : (T (would_extend s i end) → T (writes_atom g (size_of i))) → Supports g s (extended s i end)
   growth_supported w = (sized (would_extend s i end) refl, nothing_behind (size s i) (length_by_size (bytes s i)))
     where
@@ -76,7 +76,7 @@ module _ (s : World) (g : Footprint) (i at end : ℕ) (rises : at ≤ end) (fits
           inr (subst (λ n. IfSome (size s i) (λ m. m ≡ max n end)) (sym l) (kept (size s i) (omega arith)))
 
   zeros_supported : ((p : ℕ) → at ≤ p → p < end → T (writes_atom g (byte_at i p))) → (v : World) → SupportsAll g v (zero_bytes i at end ∷ [])
-  zeros_supported w v = ((rises, λ p m. w p (leb→le at p (left _ _ m)) (ltb→lt p end (right (leb at p) _ m))), tt)
+  zeros_supported w v = (λ p m. w p (leb→le at p (left _ _ m)) (ltb→lt p end (right (leb at p) _ m)), tt)
 
   allocation_supported : (a : Allocation) → Contains g (allocation_uses s false i at end (Some a)) → SupportsAll g s (allocate s i at end a)
   allocation_supported extend c = (growth_supported (λ h. c.uses (λ (x : Use). x.written && member_of x.item (size_of i)) (either_left _ _ (both (would_extend s i end) (i == i) h (eqb_refl i)))), tt)
@@ -103,25 +103,25 @@ allocated s o n mode h = allocated_by (ltb o (2 ^ 63) && not (n == 0) && ltb n (
 
 pub fallocate_owes : (t : Trace) (k r : ℕ) (s : World) (f : File) (o n mode : ℕ) → Awaits t k s → Owes t k r (fallocate f o n mode) s
 fallocate_owes t k r s f o n mode w = record {
-  tells = λ u v d a. record {
+  tells = λ u d a. record {
     same_meaning = with_handle t s u r f (content s) (allocated s o n mode) (allocated u o n mode) a (λ h e b.
         allocated_same (ltb o (2 ^ 63) && not (n == 0) && ltb n (2 ^ 63)) (allocation mode) (can_write h.opened.access) (leb (o + n) file_limit) (allocate u h.opened.target.node o (o + n)) (allocate s h.opened.target.node o (o + n)) (λ c x.
-        same_allocate s u false h.opened.target.node o (o + n) x (has_size s u false h.opened.target.node o (o + n) (allocation mode) (on_its_file t s u (content s) h (writable_is_file t s r f h w.is_world e c) b))));
+        same_allocate s u false h.opened.target.node o (o + n) x (has_size s u false h.opened.target.node o (o + n) (allocation mode) (on_its_file t s u (content s) h (writable_is_file h (handles_sound t s r f w.is_world h e) c) b))));
     same_row = λ x. on_file_same t s u r f (content s) (content u) (λ h b. same_uses s u false h.opened.target.node o (o + n) (allocation mode) (has_size s u false h.opened.target.node o (o + n) (allocation mode) b)) a;
   };
-  supports = λ e q.
-      let m = was_ok (ok_or (handle t s r f) EBADF) (allocated s o n mode) e q in
+  supports = λ u v a e q.
+      let m = was_ok (ok_or (handle t u r f) EBADF) (allocated u o n mode) e q in
       let l = was_required _ EINVAL _ e m.2 in
       let x = was_ok (ok_or (allocation mode) EOPNOTSUPP) _ e l.1 in
       let y = was_required (can_write m.0.opened.access) EBADF _ e x.2 in
       let z = was_required (leb (o + n) file_limit) EFBIG _ e y.1 in
       let i = m.0.opened.target.node in
-      let there = was_there (handle t s r f) EBADF m.0 m.1 in
+      let there = was_there (handle t u r f) EBADF m.0 m.1 in
       let here = was_there (allocation mode) EOPNOTSUPP x.0 x.1 in
-      let whole : Contains (on_file t s r f (content s)) (content s i m.0) = record { uses = λ p d. in_on_file t s r f (content s) p m.0 there (writable_is_file t s r f m.0 w.is_world there y.0) d } in
-      let part : Contains (on_file t s r f (content s)) (allocation_uses s false i o (o + n) (Some x.0)) = subst (λ b. Contains (on_file t s r f (content s)) (allocation_uses s false i o (o + n) b)) here whole in
+      let whole : Contains (on_file t u r f (content u)) (content u i m.0) = record { uses = λ p d. in_on_file t u r f (content u) p m.0 there (writable_is_file m.0 (handles_sound_too t s u r f (content s) w.is_world a m.0 there) y.0) d } in
+      let part : Contains (on_file t u r f (content u)) (allocation_uses u false i o (o + n) (Some x.0)) = subst (λ b. Contains (on_file t u r f (content u)) (allocation_uses u false i o (o + n) b)) here whole in
       let limit : o + n ≤ file_limit = leb→le (o + n) file_limit z.0 in
-      supports_effect (on_file t s r f (content s)) s (done (allocate s i o (o + n) x.0)) e z.1 (allocation_supported s (on_file t s r f (content s)) i o (o + n) (omega arith) limit x.0 part);
+      supports_effect (on_file t u r f (content u)) u (done (allocate u i o (o + n) x.0)) e z.1 (allocation_supported u (on_file t u r f (content u)) i o (o + n) limit x.0 part);
 }
   where
     content : World → ℕ → Handle → Footprint
@@ -133,16 +133,18 @@ truncated n h = require (ltb n (2 ^ 63)) EINVAL >> (require (can_write h.opened.
 
 pub ftruncate_owes : (t : Trace) (k r : ℕ) (s : World) (f : File) (n : ℕ) → Awaits t k s → Owes t k r (ftruncate f n) s
 ftruncate_owes t k r s f n w = record {
-  tells = λ u v d a. record { same_meaning = with_handle t s u r f content (truncated n) (truncated n) a (λ h e b. refl); same_row = λ x. on_file_same t s u r f content content (λ h b. refl) a };
-  supports = λ e q.
-      let m = was_ok (ok_or (handle t s r f) EBADF) (truncated n) e q in
+  tells = λ u d a. record { same_meaning = with_handle t s u r f content (truncated n) (truncated n) a (λ h e b. refl); same_row = λ x. on_file_same t s u r f content content (λ h b. refl) a };
+  supports = λ u v a e q.
+      let m = was_ok (ok_or (handle t u r f) EBADF) (truncated n) e q in
       let l = was_required _ EINVAL _ e m.2 in
       let y = was_required (can_write m.0.opened.access) EINVAL _ e l.1 in
       let z = was_required (leb n file_limit) EFBIG _ e y.1 in
       let i = m.0.opened.target.node in
-      let there = was_there (handle t s r f) EBADF m.0 m.1 in
-      let whole : Contains (on_file t s r f content) (content i m.0) = record { uses = λ p d. in_on_file t s r f content p m.0 there (writable_is_file t s r f m.0 w.is_world there y.0) d } in
-      supports_effect (on_file t s r f content) s (done (set_size i n ∷ [])) e z.1 ((inl (whole.uses (λ (x : Use). x.written && member_of x.item (size_of i)) (either_left _ _ (eqb_refl i))), cut_off (on_file t s r f content) i (size s i) (w.is_world.files_fit i) whole), tt);
+      let there = was_there (handle t u r f) EBADF m.0 m.1 in
+      let whole : Contains (on_file t u r f content) (content i m.0) = record { uses = λ p d. in_on_file t u r f content p m.0 there (writable_is_file m.0 (handles_sound_too t s u r f content w.is_world a m.0 there) y.0) d } in
+      let same = on_file_same t s u r f content content (λ h b. refl) a in
+      let fits = sizes_fit (on_file t u r f content) s u w.is_world (subst (λ g. Agree g s u) (sym same) a) in
+      supports_effect (on_file t u r f content) u (done (set_size i n ∷ [])) e z.1 ((inl (whole.uses (λ (x : Use). x.written && member_of x.item (size_of i)) (either_left _ _ (eqb_refl i))), cut_off (on_file t u r f content) i (size u i) (fits i (whole.uses (λ (x : Use). member_of x.item (size_of i)) (either_left _ _ (eqb_refl i)))) whole), tt);
 }
   where
     content : ℕ → Handle → Footprint

@@ -25,7 +25,7 @@ idles _ = true
 
 -- A place that runs no operation is covered: of such places only a Fill changes anything, the bytes that it writes.
 pub idle_covers : (t : Trace) (k : ℕ) (s : World) (x : Option Turn) → turn t k s ≡ x → T (idles x) → Awaits t k s → Covers t k (footprint t k s) s
-idle_covers t k s x h n w = covers t k s (λ u v r e o g a. absurd (subst (λ y. T (idles y)) (sym h ∙ g) n)) (λ u v a. subst (λ y. SupportsAll (footprint t k s) u (each (changes_in t k s) y)) (sym h) (supports u x h n)) w
+idle_covers t k s x h n w = covers t k s (λ u r e o g a. absurd (subst (λ y. T (idles y)) (sym h ∙ g) n)) (λ u v a. subst (λ y. SupportsAll (footprint t k s) u (each (changes_in t k s) y)) (sym h) (supports u x h n)) w
   where
     supports : (u : World) (y : Option Turn) → turn t k s ≡ y → T (idles y) → SupportsAll (footprint t k s) u (each (changes_in t k s) y)
     supports u None g m = tt

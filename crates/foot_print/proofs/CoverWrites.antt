@@ -22,7 +22,7 @@ use Rattle.world_parts.proofs.Collision.{both, either_left, either_right, left, 
 use Rattle.foot_print.proofs.Agreement.{in_left, agree_left, agree_right, agree_head, agree_tail, handle_same}
 use Rattle.world_parts.proofs.Trees.{some_same, some_apart}
 use Rattle.foot_print.proofs.Answered.{ok_same, was_ok, was_required, was_there}
-use Rattle.foot_print.proofs.OpenFile.{with_handle, on_file_same, in_on_file, on_its_file, writable_is_file, file_there, length_same, length_by_size}
+use Rattle.foot_print.proofs.OpenFile.{with_handle, on_file_same, in_on_file, on_its_file, handles_sound, handles_sound_too, HandlesSound, writable_is_file, file_there, length_same, length_by_size}
 use Rattle.foot_print.proofs.CoverChanges.{SupportsAll}
 use Rattle.foot_print.proofs.CoverOperation.{Contains, taken, Owes, supports_effect}
 use Rattle.foot_print.proofs.CoverReads.{advance_supported, position_is_written, in_span, offset_in_span}
@@ -75,7 +75,7 @@ write_same : (t : Trace) (s u : World) (r : ℕ) (x : Taken) (f : File) (o n : �
 write_same t s u r x f o n source w a =
     by_handle t u r f o source
     ∙ with_handle t s u r f c (λ h. handed s o source (can_write h.opened.access) h) (λ h. handed u o source (can_write h.opened.access) h) (agree_left s u _ _ a) (λ h e b.
-    handed_same s u o source (can_write h.opened.access) h (λ k. start_same s u x.extending o n h (on_its_file t s u c h (writable_is_file t s r f h w e k) b)))
+    handed_same s u o source (can_write h.opened.access) h (λ k. start_same s u x.extending o n h (on_its_file t s u c h (writable_is_file h (handles_sound t s r f w h e) k) b)))
     ∙ sym (by_handle t s r f o source)
   where
     c : ℕ → Handle → Footprint
@@ -163,7 +163,7 @@ module _ (s : World) (o n : ℕ) (new : List ℕ) (h : Handle) (g : Footprint) (
       by false z k = let x = was_required (ltb (write_start s h o) file_limit) EFBIG _ e k in supports_effect g s _ e x.1 (moves (ltb→lt _ _ x.0) (positive (length new) z))
 
 -- What a write's row writes supports its changes.
-write_supported : (t : Trace) (r : ℕ) (f : File) (o n : ℕ) (source : Result (List ℕ) Errno) (s : World) (g : Footprint) → IsWorld s → ((new : List ℕ) → source ≡ Ok new → length new ≤ n)
+write_supported : (t : Trace) (r : ℕ) (f : File) (o n : ℕ) (source : Result (List ℕ) Errno) (s : World) (g : Footprint) → HandlesSound t s r f → ((new : List ℕ) → source ≡ Ok new → length new ≤ n)
     → (e : Effect) → write_meaning t s r f o source ≡ Ok e → Contains g (on_file t s r f (content s false o n)) → SupportsAll g s e.changes
 write_supported t r f o n source s g w few e q c =
     let m = was_ok (writable t s r f) _ e q in
@@ -174,20 +174,20 @@ write_supported t r f o n source s g w few e q c =
     let y = was_ok source _ e m.2 in
     let k = was_required (not (is_bad_offset o)) EINVAL _ e y.2 in
     let d = on_content m.0 there can in
-    from_supported s o n y.0 m.0 g d (file_there t s r f m.0 w there can) (few y.0 y.1) e k.1
+    from_supported s o n y.0 m.0 g d (file_there t s r f m.0 (w m.0 there) there can) (few y.0 y.1) e k.1
   where
     on_content : (h : Handle) → handle t s r f ≡ Some h → T (can_write h.opened.access) → Contains g (content s false o n h.opened.target.node h)
-    on_content h there can = record { uses = λ p m. c.uses p (in_on_file t s r f (content s false o n) p h there (writable_is_file t s r f h w there can) m) }
+    on_content h there can = record { uses = λ p m. c.uses p (in_on_file t s r f (content s false o n) p h there (writable_is_file h (w h there) can) m) }
 
 pub write_owes : (t : Trace) (k r : ℕ) (s : World) (f : File) (o : ℕ) (new : List ℕ) → Awaits t k s → Owes t k r (write f o new) s
 write_owes t k r s f o new w = record {
-  tells = λ u v b a. record { same_meaning = write_same t s u r (taken true) f o (length new) (Ok new) w.is_world a; same_row = λ c. write_row_same t s u r (taken true) f o (length new) a };
-  supports = λ e q. write_supported t r f o (length new) (Ok new) s (write_row t s r (taken true) f o (length new)) w.is_world (λ x h. subst (λ y. length y ≤ length new) (ok_same new x h) (omega arith)) e q
-      (record { uses = λ p m. in_left p (on_file t s r f (content s false o (length new))) (position_use t s r f o) m });
+  tells = λ u b a. record { same_meaning = write_same t s u r (taken true) f o (length new) (Ok new) w.is_world a; same_row = λ c. write_row_same t s u r (taken true) f o (length new) a };
+  supports = λ u v a e q. write_supported t r f o (length new) (Ok new) u (write_row t u r (taken true) f o (length new)) (handles_sound_too t s u r f (content s false o (length new)) w.is_world (agree_left s u _ _ a)) (λ x h. subst (λ y. length y ≤ length new) (ok_same new x h) (omega arith)) e q
+      (record { uses = λ p m. in_left p (on_file t u r f (content u false o (length new))) (position_use t u r f o) m });
 }
 
 pub writev_owes : (t : Trace) (k r : ℕ) (s : World) (f : File) (o : ℕ) (new : List ℕ) → Awaits t k s → Owes t k r (writev f o new) s
-writev_owes t k r s f o new w = let x = write_owes t k r s f o new w in record { tells = λ u v b a. let y = x.tells u v b a in record { same_meaning = y.same_meaning; same_row = y.same_row }; supports = x.supports }
+writev_owes t k r s f o new w = let x = write_owes t k r s f o new w in record { tells = λ u b a. let y = x.tells u b a in record { same_meaning = y.same_meaning; same_row = y.same_row }; supports = x.supports }
 
 drop_none : {A : Type 0} (n : ℕ) → ◌≡◌ {A = List A} (drop n []) []
 drop_none zero = refl
@@ -237,12 +237,14 @@ span_bytes_fit t s r x new e = by (span_start t r x) e
 
 pub write_fixed_owes : (t : Trace) (k r : ℕ) (s : World) (f : File) (o : ℕ) (x : Span) → Awaits t k s → Owes t k r (write_fixed f o x) s
 write_fixed_owes t k r s f o x w = record {
-  tells = λ u v b a.
+  tells = λ u b a.
       let d = agree_left s u (write_row t s r (taken true) f o (min x.length most_moved)) (span_use false t r x) a in
       record {
         same_meaning = ap (write_meaning t u r f o) (span_bytes_same t s u r x (agree_right s u (write_row t s r (taken true) f o (min x.length most_moved)) (span_use false t r x) a)) ∙ write_same t s u r (taken true) f o (min x.length most_moved) (span_bytes t s r x) w.is_world d;
         same_row = λ c. ap (λ z. z ++ span_use false t r x) (write_row_same t s u r (taken true) f o (min x.length most_moved) d);
       };
-  supports = λ e q. write_supported t r f o (min x.length most_moved) (span_bytes t s r x) s (write_row t s r (taken true) f o (min x.length most_moved) ++ span_use false t r x) w.is_world (span_bytes_fit t s r x) e q
-      (record { uses = λ p m. in_left p (write_row t s r (taken true) f o (min x.length most_moved)) (span_use false t r x) (in_left p (on_file t s r f (content s false o (min x.length most_moved))) (position_use t s r f o) m) });
+  supports = λ u v a e q.
+      let row_agrees = agree_left s u (write_row t s r (taken true) f o (min x.length most_moved)) (span_use false t r x) a in
+      write_supported t r f o (min x.length most_moved) (span_bytes t u r x) u (write_row t u r (taken true) f o (min x.length most_moved) ++ span_use false t r x) (handles_sound_too t s u r f (content s false o (min x.length most_moved)) w.is_world (agree_left s u _ _ row_agrees)) (span_bytes_fit t u r x) e q
+      (record { uses = λ p m. in_left p (write_row t u r (taken true) f o (min x.length most_moved)) (span_use false t r x) (in_left p (on_file t u r f (content u false o (min x.length most_moved))) (position_use t u r f o) m) });
 }

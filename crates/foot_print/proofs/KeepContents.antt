@@ -20,7 +20,7 @@ use Rattle.finite_maps.specs.Table.{adjust_number}
 use Rattle.op_meaning.specs.Meaning.{Effect, done, made_node, made_description, Handle, handle, bytes_in, can_write, is_bad_offset, Destination, reply, into, delivered, advance, read_effect, readable, read_meaning, write_start, write_effect, writable, write_meaning, Allocation, extend, reserve, punch, zero_extend, zero_within, allocation, allocate, fallocate_meaning, ftruncate_meaning, close_meaning, held, slot_count}
 use Rattle.world_parts.specs.Items.{description_at}
 use Rattle.extent_bytes.proofs.Lengths.{length-zeroed}
-use Rattle.world_parts.proofs.Changes.{adjusted, opened_kept, name_kept, rewriting-kind, rewriting-names, set_position-value}
+use Rattle.world_parts.proofs.Changes.{adjusted, opened_kept, name_kept, rewriting-kind, rewriting-names, rewriting-others, set_position-value}
 use Rattle.extent_bytes.proofs.Lengths.{length-overwritten, length-resized}
 use Rattle.foot_print.proofs.Accepted.{ok_same, ok_bind, ok_require}
 use Rattle.world_parts.proofs.KeepWorld.{IsSound, sound, is_world, sound_kept, slotting_sound, holding_sound, breaking_world, AllMakeOnly}
@@ -31,7 +31,7 @@ abbrev pub OfContents : Change → Type 0
 OfContents (set_position d p) = Unit {0}
 OfContents (set_size i n) = n ≤ file_limit
 OfContents (write_bytes i at new) = at + length new ≤ file_limit
-OfContents (zero_bytes i low high) = low ≤ high
+OfContents (zero_bytes i low high) = Unit {0}
 OfContents (write_buffer r b at new) = Unit {0}
 OfContents (set_slot r n None) = Unit {0}
 OfContents (set_descriptor n None) = Unit {0}
@@ -51,19 +51,20 @@ rewriting_world s i f g w =
     (sound_kept s after (rewriting-kind f s i 0) (opened_kept s (adjust_number (rewritten_node f) s.nodes i) (rewriting-kind f s i)) (λ r n. refl) (λ n. refl)
     (λ j. subst (λ x. IfSome (option_map length (option_and_then bytes_of_node x)) (λ n. n ≤ file_limit)) (sym (adjusted (rewritten_node f) s.nodes i j))
     (elim (j == i) as (λ b. IfSome (option_map length (option_and_then bytes_of_node (cond b (option_map (rewritten_node f) (get s.nodes j)) (get s.nodes j)))) (λ n. n ≤ file_limit)) [ true ↦ fits (get s.nodes j) (w.files_fit j) | false ↦ w.files_fit j ]))
+    (λ j. subst (λ x. IfSome x (λ n. n ≡ 0)) (sym (rewriting-others f s i j)) (w.all_shown j))
     (sound s w))
   where
     fits : (x : Option Node) → IfSome (option_map length (option_and_then bytes_of_node x)) (λ n. n ≤ file_limit) → IfSome (option_map length (option_and_then bytes_of_node (option_map (rewritten_node f) x))) (λ n. n ≤ file_limit)
     fits None h = tt
-    fits (Some (directory ns)) h = tt
+    fits (Some (directory ns o)) h = tt
     fits (Some (file bs)) h = g bs h
 
-contents_world : (s : World) (c : Change) → OfContents c → IsWorld s → IsWorld (apply c s)
-contents_world s (set_position d p) h w = is_world (apply (set_position d p) s) w.tree (sound_kept s (apply (set_position d p) s) refl (λ e. set_position-value s d p (description_at e)) (λ r n. refl) (λ n. refl) w.files_fit (sound s w))
+pub contents_world : (s : World) (c : Change) → OfContents c → IsWorld s → IsWorld (apply c s)
+contents_world s (set_position d p) h w = is_world (apply (set_position d p) s) w.tree (sound_kept s (apply (set_position d p) s) refl (λ e. set_position-value s d p (description_at e)) (λ r n. refl) (λ n. refl) w.files_fit w.all_shown (sound s w))
 contents_world s (set_size i n) h w = rewriting_world s i (λ bs. resized bs n) (λ bs k. subst (λ x. x ≤ file_limit) (sym (length-resized bs n)) h) w
 contents_world s (write_bytes i at new) h w = rewriting_world s i (λ bs. overwritten bs at new) (λ bs k. subst (λ x. x ≤ file_limit) (sym (length-overwritten bs at new)) (omega arith)) w
 contents_world s (zero_bytes i low high) h w = rewriting_world s i (λ bs. zeroed bs low high) (λ bs k. (let l = length-zeroed bs low high in omega arith)) w
-contents_world s (write_buffer r b at new) h w = record { root = w.root; tree = w.tree; descriptions_lead = w.descriptions_lead; slots_lead = w.slots_lead; descriptors_lead = w.descriptors_lead; files_fit = w.files_fit; directories_are_read = w.directories_are_read }
+contents_world s (write_buffer r b at new) h w = record { root = w.root; tree = w.tree; descriptions_lead = w.descriptions_lead; slots_lead = w.slots_lead; descriptors_lead = w.descriptors_lead; files_fit = w.files_fit; directories_are_read = w.directories_are_read; all_shown = w.all_shown }
 contents_world s (set_slot r n None) h w = is_world (apply (set_slot r n None) s) w.tree (slotting_sound s r n None tt (sound s w))
 contents_world s (set_descriptor n None) h w = is_world (apply (set_descriptor n None) s) w.tree (holding_sound s n None tt (sound s w))
 contents_world s (break_chain c b) h w = breaking_world s c b w
@@ -131,9 +132,9 @@ fallocate_contents t s r f o n mode x w h =
     by : (i : ℕ) → o + n ≤ file_limit → (a : Allocation) → AllOfContents (allocate s i o (o + n) a)
     by i l extend = (let b = bounded s i w in (omega arith, tt))
     by i l reserve = tt
-    by i l punch = (omega arith, tt)
-    by i l zero_extend = (let b = bounded s i w in (omega arith, (omega arith, tt)))
-    by i l zero_within = (omega arith, tt)
+    by i l punch = (tt, tt)
+    by i l zero_extend = (let b = bounded s i w in (omega arith, (tt, tt)))
+    by i l zero_within = (tt, tt)
 
 pub ftruncate_contents : (t : Trace) (s : World) (r : ℕ) (f : File) (n : ℕ) (x : Effect) → ftruncate_meaning t s r f n ≡ Ok x → AllOfContents x.changes
 ftruncate_contents t s r f n x h =

@@ -20,12 +20,12 @@ use Rattle.file_tree.specs.Walk.{Place, walk, walk_from, names_from, is_above, i
 use Rattle.op_meaning.specs.Meaning.{Effect, meaning, done, made_node, made_description, may_remove}
 use Rattle.foot_print.specs.Laws.{Awaits}
 use Rattle.world_parts.proofs.Collision.{either_left, either_right, true_of}
-use Rattle.foot_print.proofs.Commute.{not_both}
+use Rattle.world_parts.proofs.Collision.{not_both}
 use Rattle.world_parts.proofs.Trees.{some_apart, some_same}
 use Rattle.world_parts.proofs.ChangesOfNames.{Leads}
 use Rattle.world_parts.proofs.ChangesOfMaking.{Unused, made-kind, making-name}
 use Rattle.foot_print.proofs.CoverWalk.{walk_leads, walk_finds}
-use Rattle.foot_print.proofs.CoverNames.{unused}
+use Rattle.foot_print.proofs.Awaiting.{awaits_unused, node_unused}
 use Rattle.foot_print.proofs.Accepted.{err_apart, ok_same, ok_bind, ok_then, ok_require, ok_some}
 use Rattle.world_parts.proofs.Trees.{Look, directory_of, put, UpTo, MayPut, may_remove_name, put_tree, tree_same}
 use Rattle.world_parts.proofs.KeepWorld.{sound, is_world, naming_sound, naming_names, making_sound, AllMakeOnly}
@@ -194,4 +194,4 @@ mkdirat_keeps t k r s p w x h =
     let m = made_node t k in
     let q = ok_bind (walk s.nodes p) _ x h in
     of_changes t k s _ x (ok_require (is_none q.0.target) EEXIST _ x q.2).0
-    (made_and_named s m q.0.parent q.0.name a_directory w.is_world (unused t k s w) (parent_there s w.is_world p q.0 q.1) refl, (refl, (tt, tt)))
+    (made_and_named s m q.0.parent q.0.name a_directory w.is_world (node_unused t k s (awaits_unused t k s w)) (parent_there s w.is_world p q.0 q.1) refl, (refl, (tt, tt)))

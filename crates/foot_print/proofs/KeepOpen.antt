@@ -19,7 +19,7 @@ use Rattle.world_parts.proofs.Changes.{rewriting-kind, rewriting-names, name_kep
 use Rattle.world_parts.proofs.ChangesOfNames.{Leads, naming-kind}
 use Rattle.world_parts.proofs.ChangesOfMaking.{made-kind, make_description-value}
 use Rattle.foot_print.proofs.CoverWalk.{walk_leads, walk_finds}
-use Rattle.foot_print.proofs.CoverNames.{unused}
+use Rattle.foot_print.proofs.Awaiting.{awaits_unused, node_unused}
 use Rattle.foot_print.proofs.CoverOpen.{second_test}
 use Rattle.foot_print.proofs.Accepted.{ok_same, ok_bind, ok_then}
 use Rattle.world_parts.proofs.KeepWorld.{IsSound, sound, is_world, sizing_sound, describing_sound, slotting_sound, holding_sound}
@@ -65,7 +65,7 @@ module _ (t : Trace) (k r : ℕ) (g : OpenFlags) (at : Room) where
   open_leaves s w q p None f l c =
       let x = found_or_made i None in
       let between = apply (set_name q.parent q.name (Some x)) (apply (make_node i a_file) s) in
-      let z = made_and_named s i q.parent q.name a_file w.is_world (unused t k s w) p refl in
+      let z = made_and_named s i q.parent q.name a_file w.is_world (node_unused t k s (awaits_unused t k s w)) p refl in
       let o = opened_world between x z.tree (sound between z) (naming-kind q.name (Some x) (apply (make_node i a_file) s) q.parent i ∙ made-kind s i a_file) refl (λ e. absurd (a_file_is_none e)) in
       (o.0, (refl, (tt, o.1)))
     where

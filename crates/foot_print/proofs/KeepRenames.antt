@@ -10,11 +10,11 @@ use Rattle.sqe_codec.specs.declared.errno.Errno.TheVariants.{ENOENT, EEXIST, EIN
 use Rattle.trace_format.specs.declared.trace.Trace.{Trace}
 use Rattle.sqe_codec.specs.Answers.{◌>>◌, require}
 use Rattle.entry_checks.specs.Operation.{renameat, Path}
-use Rattle.finite_maps.specs.Table.{get, count}
-use Rattle.world_parts.specs.World.{World, names, name, name_count, IsWorld, set_name, apply}
+use Rattle.finite_maps.specs.Table.{get}
+use Rattle.world_parts.specs.World.{World, name, name_count, IsWorld, set_name, apply}
 use Rattle.file_tree.specs.Tree.{target}
 use Rattle.file_tree.specs.Tree.{a_directory, Target, IsTree}
-use Rattle.file_tree.specs.Tree.{Names}
+use Rattle.file_tree.specs.Tree.{Names, Node, directory, file, names_of_node, count_of_node}
 use Rattle.file_tree.specs.Walk.{Place, walk, is_above, is_directory}
 use Rattle.op_meaning.specs.Meaning.{Effect, done, goes_below, exchange_meaning, exchanged, move_meaning, moved_name, may_replace, rename_to}
 use Rattle.world_parts.proofs.Collision.{left, right}
@@ -29,11 +29,12 @@ use Rattle.foot_print.proofs.KeepNames.{named_tree, not_passed, Leaves, Keeps, o
 
 -- A directory that has a name is one.
 has_count : (s : World) (d : ℕ) (n : List ℕ) (x : Target) → name s d n ≡ Some x → is_some (name_count s d) ≡ true
-has_count s d n x h = by (names s d) h
+has_count s d n x h = by (get s.nodes d) h
   where
-    by : (o : Option Names) → option_map (target s.nodes) (option_and_then (λ (k : Names). get k n) o) ≡ Some x → is_some (option_map count o) ≡ true
+    by : (o : Option Node) → option_map (target s.nodes) (option_and_then (λ (k : Names). get k n) (option_and_then names_of_node o)) ≡ Some x → is_some (option_and_then count_of_node o) ≡ true
     by None g = absurd (some_apart (sym g))
-    by (Some k) g = refl
+    by (Some (directory ns k)) g = refl
+    by (Some (file bs)) g = absurd (some_apart (sym g))
 
 -- The names after one is set in a directory.
 names_put : (s : World) (d : ℕ) (n : List ℕ) (x : Option Target) → Leads s x → is_some (name_count s d) ≡ true → name (apply (set_name d n x) s) ≡ put (name s) d n x

@@ -16,6 +16,7 @@ use Rattle.world_parts.specs.Items.{Atom, chain_flag, descriptor_at, value, one,
 use Rattle.op_meaning.specs.Footprint.{footprint, turn_uses}
 use Rattle.foot_print.specs.Laws.{Awaits, Covers, CoversAt, FootprintsCover}
 use Rattle.foot_print.specs.Reach.{makes, task, is_canceled, look_of, extras_of, unresolved_of, order_of, running_row, reach}
+use Rattle.foot_print.proofs.Awaiting.{awaits_unused}
 use Rattle.foot_print.proofs.Cover.{all_covered}
 use Rattle.foot_print.proofs.Keep.{steps_keep_worlds}
 use Rattle.foot_print.specs.Replayed.{Unused, IsBefore, Bounded, is_earlier, replayed, rows}
@@ -172,7 +173,7 @@ module _ (t : Trace) (starts : IsWorld (start t)) where
       record { no_node = a.no_node; no_description = a.no_description }
 
   covers_same : (k : ℕ) (s u : World) (ws : IsWorld s) (wu : IsWorld u) (ns : Unused t k s) (nu : Unused t k u) → AgreeOn (replayed t) (footprint t k s) s u → CoversAt t k (footprint t k s) s u
-  covers_same k s u ws wu ns nu h = covering k s ws ns u (awaits t k u wu nu) (to_agree t (footprint t k s) s u h)
+  covers_same k s u ws wu ns nu h = covering k s ws ns u (awaits_unused t k u (awaits t k u wu nu)) (to_agree t (footprint t k s) s u h)
 
   pub replay_covers : Cover (replayed t)
   replay_covers = record {

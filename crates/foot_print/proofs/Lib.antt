@@ -1,4 +1,5 @@
 pub mod Agreement
+pub mod Awaiting
 pub mod KeepNames
 pub mod KeepRenames
 pub mod KeepContents
@@ -34,3 +35,9 @@ pub mod RowsSeen
 pub mod RowsWide
 pub mod Writing
 pub mod Starts
+pub mod Running
+pub mod Parts
+pub mod Narrow
+pub mod Putting
+mod PathReads
+mod Placed

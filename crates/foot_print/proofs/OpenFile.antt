@@ -19,7 +19,7 @@ use Rattle.file_tree.specs.Tree.{directory}
 use Rattle.file_tree.specs.Tree.{file}
 use Rattle.file_tree.specs.Walk.{is_directory}
 use Rattle.op_meaning.specs.Meaning.{Effect, Handle, handle, handle_of, held, can_write, is_file, bytes_in}
-use Rattle.world_parts.specs.Items.{description_at, size_of, value, one, Use, reads, Footprint, Agree}
+use Rattle.world_parts.specs.Items.{description_at, size_of, value, one, Use, reads, Footprint, has_atom, Agree}
 use Rattle.op_meaning.specs.Footprint.{on_file, of_file, of_description, file_reads}
 use Rattle.world_parts.proofs.Collision.{either_right, true_of}
 use Rattle.foot_print.proofs.Agreement.{in_right, agree_left, agree_right, agree_head, agree_tail, handle_same, agree_on_content, held_same}
@@ -95,12 +95,32 @@ kind_of None h = absurd h
 kind_of (Some a_directory) h = refl
 kind_of (Some a_file) h = absurd h
 
+-- What is opened is there, and a directory only to be read.
+pub record IsSound (o : Opened) : Type 0 where
+  pub is_there : IsSome o.target.kind
+  pub directory_is_read : o.target.kind ≡ Some a_directory → o.access ≡ Read
+
+-- All that a file number can stand for is sound.
+abbrev pub HandlesSound : Trace → World → ℕ → File → Type 0
+HandlesSound t s r f = (h : Handle) → handle t s r f ≡ Some h → IsSound h.opened
+
+pub handles_sound : (t : Trace) (s : World) (r : ℕ) (f : File) → IsWorld s → HandlesSound t s r f
+handles_sound t s r f w h e =
+    let o = handle_opened t s r f h e in
+    record {
+      is_there = subst (λ x. IfSome x (λ y. IsSome y.target.kind)) o (w.descriptions_lead h.description);
+      directory_is_read = subst (λ x. IfSome x (λ y. y.target.kind ≡ Some a_directory → y.access ≡ Read)) o (w.directories_are_read h.description);
+    }
+
+-- It is so too in what agrees with a world on an operation's file.
+pub handles_sound_too : (t : Trace) (s u : World) (r : ℕ) (f : File) (c : ℕ → Handle → Footprint) → IsWorld s → Agree (on_file t s r f c) s u → HandlesSound t u r f
+handles_sound_too t s u r f c w a h e = handles_sound t s r f w h (sym (handle_same t s u r f c a) ∙ e)
+
 -- What can be written is a file.
-pub writable_is_file : (t : Trace) (s : World) (r : ℕ) (f : File) (h : Handle) → IsWorld s → handle t s r f ≡ Some h → T (can_write h.opened.access) → T (is_file h.opened)
-writable_is_file t s r f h w e c =
-    let fact = subst (λ x. IfSome x (λ o. o.target.kind ≡ Some a_directory → o.access ≡ Read)) (handle_opened t s r f h e) (w.directories_are_read h.description) in
+pub writable_is_file : (h : Handle) → IsSound h.opened → T (can_write h.opened.access) → T (is_file h.opened)
+writable_is_file h sound c =
     elim (is_directory h.opened.target.kind) as (λ b. is_directory h.opened.target.kind ≡ b → T (not b)) [
-      | true ↦ λ d. subst T (read_alone h.opened.access (fact (kind_of h.opened.target.kind (subst T (sym d) tt)))) c
+      | true ↦ λ d. subst T (read_alone h.opened.access (sound.directory_is_read (kind_of h.opened.target.kind (subst T (sym d) tt)))) c
       | false ↦ λ d. tt
     ] refl
 
@@ -116,16 +136,14 @@ handle_kind s d o e = by (get s.descriptions d) e
 
 sized_file : (x : Option Node) → T (is_some (option_map kind_of_node x)) → T (not (is_directory (option_map kind_of_node x))) → T (is_some (option_map length (option_and_then bytes_of_node x)))
 sized_file None h k = absurd h
-sized_file (Some (directory ns)) h k = absurd k
+sized_file (Some (directory ns o)) h k = absurd k
 sized_file (Some (file bs)) h k = tt
 
 -- What is written is a file that is there.
-pub file_there : (t : Trace) (s : World) (r : ℕ) (f : File) (h : Handle) → IsWorld s → handle t s r f ≡ Some h → T (can_write h.opened.access) → T (is_some (size s h.opened.target.node))
-file_there t s r f h w e c =
-    let o = handle_opened t s r f h e in
-    let same = handle_kind s h.description h.opened o in
-    let some : is_some h.opened.target.kind ≡ true = subst (λ x. IfSome x (λ y. IsSome y.target.kind)) o (w.descriptions_lead h.description) in
-    sized_file (get s.nodes h.opened.target.node) (subst (λ k. T (is_some k)) (sym same) (subst T (sym some) tt)) (subst (λ k. T (not (is_directory k))) (sym same) (writable_is_file t s r f h w e c))
+pub file_there : (t : Trace) (s : World) (r : ℕ) (f : File) (h : Handle) → IsSound h.opened → handle t s r f ≡ Some h → T (can_write h.opened.access) → T (is_some (size s h.opened.target.node))
+file_there t s r f h sound e c =
+    let same = handle_kind s h.description h.opened (handle_opened t s r f h e) in
+    sized_file (get s.nodes h.opened.target.node) (subst (λ k. T (is_some k)) (sym same) (subst T (sym sound.is_there) tt)) (subst (λ k. T (not (is_directory k))) (sym same) (writable_is_file h sound c))
 
 -- The length of a file's bytes, by its size; a byte past it is zero.
 pub length_by_size : (x : Option (List ℕ)) → length (unwrap_or x []) ≡ unwrap_or (option_map length x) 0
@@ -141,6 +159,10 @@ byte_past s i p h = by (bytes s i) h
     by : (x : Option (List ℕ)) → length (unwrap_or x []) ≤ p → byte_of x p ≡ 0
     by None k = refl
     by (Some bs) k = get_or_past bs p 0 k
+
+-- Files fit too where what a footprint has agrees with a world.
+pub sizes_fit : (f : Footprint) (s u : World) → IsWorld s → Agree f s u → (i : ℕ) → T (has_atom f (size_of i)) → IfSome (size u i) (λ n. n ≤ file_limit)
+sizes_fit f s u w a i m = subst (λ x. IfSome x (λ n. n ≤ file_limit)) (a.same (size_of i) m) (w.files_fit i)
 
 pub at_most_limit : (s : World) (i : ℕ) → IsWorld s → length (bytes_in s i) ≤ file_limit
 at_most_limit s i w = by (bytes s i) (w.files_fit i)

@@ -10,6 +10,7 @@ use Rattle.op_meaning.specs.Step.{Turn, filled, refused, canceled, runs}
 use Rattle.world_parts.specs.Items.{Atom, chain_flag, ring_order, slot_at, descriptor_at, description_at, position_of, size_of, byte_at, name_at, names_in, buffer_size, buffer_byte, value, has_atom, Agree}
 use Rattle.op_meaning.specs.Footprint.{footprint, row_in, turn_uses}
 use Rattle.foot_print.specs.Laws.{Awaits, FootprintsCover}
+use Rattle.foot_print.proofs.Awaiting.{awaits_unused}
 use Rattle.foot_print.specs.Reach.{task, order_of, running_row}
 
 -- A world with all its chains running.
@@ -54,6 +55,7 @@ module _ (t : Trace) (k : ℕ) where
     descriptors_lead = w.descriptors_lead;
     files_fit = w.files_fit;
     directories_are_read = w.directories_are_read;
+    all_shown = w.all_shown;
   }
 
   awaits_unbroken : (s : World) → Awaits t k s → Awaits t k (unbroken s)
@@ -77,5 +79,5 @@ module _ (t : Trace) (k : ℕ) where
   running_row_same cover s u ws wu same =
       let agree : Agree (footprint t k (unbroken s)) (unbroken s) (unbroken u) = record { same = λ a h. same_unbroken s u a (same a (subst (λ f. T (has_atom f a)) (row_is_footprint s) h)) } in
       sym (row_is_footprint u)
-      ∙ (cover t k (unbroken s) (awaits_unbroken s ws) (unbroken u) (awaits_unbroken u wu) agree).same_footprint
+      ∙ (cover t k (unbroken s) (awaits_unbroken s ws) (unbroken u) (awaits_unused t k (unbroken u) (awaits_unbroken u wu)) agree).same_footprint
       ∙ row_is_footprint s

@@ -28,10 +28,10 @@ use Rattle.trace_format.specs.Text.{IsSpelled, is_item, is_node, is_directory_nu
 use Rattle.trace_format.proofs.Sound.{spelled_sound}
 use Rattle.entry_checks.specs.Operation.{Path, file_limit}
 use Rattle.finite_maps.specs.Table.{Table, empty, get, insert, get-insert, number_keys, pair_keys, pair_cmp}
-use Rattle.file_tree.specs.Tree.{Node, a_directory, a_file, Names, Target, target, IsTree, Above, names_it, one_below, kind_of_node, names_of_node, bytes_of_node}
+use Rattle.file_tree.specs.Tree.{Node, a_directory, a_file, Names, Target, target, IsTree, Above, names_it, one_below, kind_of_node, names_of_node, others_of_node, bytes_of_node}
 use Rattle.file_tree.specs.Walk.{Place, walk_from, directory_at, fits_name, starts_at_root, is_directory as is_directory_kind}
 use Rattle.extent_bytes.specs.Bytes.{resized, overwritten}
-use Rattle.world_parts.specs.World.{World, IsWorld, Description, kind, names, name, size, opened, opened_by, Opened, slot, descriptor, apply, apply_all, make_node, set_name, set_size, write_bytes}
+use Rattle.world_parts.specs.World.{World, IsWorld, Description, kind, names, name, others, size, opened, opened_by, Opened, slot, descriptor, apply, apply_all, make_node, set_name, set_size, write_bytes}
 use Rattle.world_parts.specs.Start.{start, bare, name_at, with_node, with_items, descriptions_from, slots_from, ring_slots, descriptors_from}
 use Rattle.world_parts.proofs.Changes.{rewriting-kind}
 use Rattle.world_parts.proofs.ChangesOfNames.{naming-kind}
@@ -46,8 +46,8 @@ use Rattle.foot_print.proofs.KeepContents.{contents_leave}
 -- The root has no names.
 no_names : (d : ℕ) (n : List ℕ) → name bare d n ≡ None
 no_names d n =
-    ap seen (get-insert number_keys.total empty 0 (Node.directory empty) d)
-    ∙ elim (eq_by_cmp nat_cmp d 0) as (λ b. seen (cond b (Some (Node.directory empty)) None) ≡ None) [ true ↦ refl | false ↦ refl ]
+    ap seen (get-insert number_keys.total empty 0 (Node.directory empty 0) d)
+    ∙ elim (eq_by_cmp nat_cmp d 0) as (λ b. seen (cond b (Some (Node.directory empty 0)) None) ≡ None) [ true ↦ refl | false ↦ refl ]
   where
     seen : Option Node → Option Target
     seen x = option_map (target bare.nodes) (option_and_then (λ (ns : Names). get ns n) (option_and_then names_of_node x))
@@ -55,8 +55,8 @@ no_names d n =
 -- There are no files beside it.
 no_files : (i : ℕ) → size bare i ≡ None
 no_files i =
-    ap seen (get-insert number_keys.total empty 0 (Node.directory empty) i)
-    ∙ elim (eq_by_cmp nat_cmp i 0) as (λ b. seen (cond b (Some (Node.directory empty)) None) ≡ None) [ true ↦ refl | false ↦ refl ]
+    ap seen (get-insert number_keys.total empty 0 (Node.directory empty 0) i)
+    ∙ elim (eq_by_cmp nat_cmp i 0) as (λ b. seen (cond b (Some (Node.directory empty 0)) None) ≡ None) [ true ↦ refl | false ↦ refl ]
   where
     seen : Option Node → Option ℕ
     seen x = option_map length (option_and_then bytes_of_node x)
@@ -76,8 +76,16 @@ bare_world = record {
   descriptors_lead = λ n. tt;
   files_fit = λ i. subst (λ x. IfSome x (λ n. n ≤ file_limit)) (sym (no_files i)) tt;
   directories_are_read = λ d. tt;
+  all_shown = all_shown;
 }
   where
+    seen : Option Node → Option ℕ
+    seen x = option_and_then others_of_node x
+
+    all_shown : (d : ℕ) → IfSome (others bare d) (λ n. n ≡ 0)
+    all_shown d = subst (λ x. IfSome (seen x) (λ n. n ≡ 0)) (sym (get-insert number_keys.total empty 0 (Node.directory empty 0) d))
+        (elim (eq_by_cmp nat_cmp d 0) as (λ b. IfSome (seen (cond b (Some (Node.directory empty 0)) None)) (λ n. n ≡ 0)) [ true ↦ refl | false ↦ tt ])
+
     nothing_above : (d i : ℕ) → ¬ (Above (name bare) d i)
     nothing_above d i (names_it _ _ n h) = some_apart (sym h ∙ no_names d n)
     nothing_above d i (one_below _ c _ n a h) = some_apart (sym h ∙ no_names c n)
@@ -294,8 +302,8 @@ nothing_made : IsSoFar bare []
 nothing_made = record { is_world = bare_world; made = λ k x h. absurd (some_apart (sym h)); unmade = no_node }
   where
     no_node : (j : ℕ) → 0 < j → kind bare j ≡ None
-    no_node j h = ap (option_map kind_of_node) (get-insert number_keys.total empty 0 (Node.directory empty) j
-        ∙ ap (λ b. cond b (Some (Node.directory empty)) None) (unsigned_tied j 0 ∙ ne_eqb j 0 (λ e. absurd (omega (arith, e, h)))))
+    no_node j h = ap (option_map kind_of_node) (get-insert number_keys.total empty 0 (Node.directory empty 0) j
+        ∙ ap (λ b. cond b (Some (Node.directory empty 0)) None) (unsigned_tied j 0 ∙ ne_eqb j 0 (λ e. absurd (omega (arith, e, h)))))
 
 -- ---- descriptions, slots and descriptors
 
@@ -394,6 +402,7 @@ starts_in_world t spelled = record {
   files_fit = so.is_world.files_fit;
   directories_are_read = λ d. seen_opened (start t) (DescriptionFits t.items) (λ o. o.target.kind ≡ Some a_directory → o.access ≡ Access.Read)
       (λ x f k. f.is_read (number_of_directory items_in t.items x.node so f.leads k)) (get (start t).descriptions d) (described d);
+  all_shown = so.is_world.all_shown;
 }
   where
     facts : IsSoundTrace t

@@ -1,8 +1,8 @@
 -- What it means that footprints cover, and that steps keep worlds and commute.
-use Rattle.std.specs.Prelude.{◌≡◌, ℕ, not, T, None}
+use Rattle.std.specs.Prelude.{◌≡◌, ℕ, List, not, T, None, IfSome}
 use Rattle.trace_format.specs.declared.trace.Trace.{Trace}
 use Rattle.finite_maps.specs.Table.{get}
-use Rattle.world_parts.specs.World.{World, IsWorld}
+use Rattle.world_parts.specs.World.{World, IsWorld, name, opened}
 use Rattle.world_parts.specs.Items.{Atom, value, Footprint, writes_atom, collide, Agree}
 use Rattle.op_meaning.specs.Meaning.{made_node, made_description}
 use Rattle.op_meaning.specs.Step.{step_world, step_reply}
@@ -14,7 +14,14 @@ pub record Awaits (t : Trace) (k : ℕ) (s : World) : Type 0 where
   pub no_node : get s.nodes (made_node t k) ≡ None
   pub no_description : get s.descriptions (made_description t k) ≡ None
 
--- A footprint covers a place in a world: in every world that agrees on it the place has the same footprint and reply,
+-- Nothing that a place makes is there yet: neither its node, nor its description, and no name and no description leads to its node.
+pub record Unused (t : Trace) (k : ℕ) (u : World) : Type 0 where
+  pub no_node : get u.nodes (made_node t k) ≡ None
+  pub no_description : get u.descriptions (made_description t k) ≡ None
+  pub unnamed : (d : ℕ) (n : List ℕ) → IfSome (name u d n) (λ x. ¬ (x.node ≡ made_node t k))
+  pub unopened : (d : ℕ) → IfSome (opened u d) (λ o. ¬ (o.target.node ≡ made_node t k))
+
+-- A footprint covers a place in a world: in any world or part of one that agrees on it the place has the same footprint and reply,
 -- the worlds that the step leaves agree on it, and no other atom changes than those that it writes.
 pub record CoversAt (t : Trace) (k : ℕ) (f : Footprint) (s u : World) : Type 0 where
   pub same_footprint : footprint t k u ≡ footprint t k s
@@ -23,7 +30,7 @@ pub record CoversAt (t : Trace) (k : ℕ) (f : Footprint) (s u : World) : Type 0
   pub nothing_else : (a : Atom) → T (not (writes_atom f a)) → value (step_world t k u) a ≡ value u a
 
 abbrev pub Covers : Trace → ℕ → Footprint → World → Type 0
-Covers t k f s = (u : World) → Awaits t k u → Agree f s u → CoversAt t k f s u
+Covers t k f s = (u : World) → Unused t k u → Agree f s u → CoversAt t k f s u
 
 -- Every footprint covers its place.
 abbrev pub FootprintsCover : Type 0

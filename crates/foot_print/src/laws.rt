@@ -1,15 +1,16 @@
-//! Laws of footprints and reaches: that footprints suffice, that steps keep worlds, that places commute, and
-//! that reaches hold what is to come.
+//! Laws of footprints and reaches: that footprints suffice, that steps keep worlds, that places commute and
+//! run on parts, and that reaches hold what is to come.
 //!
 //! They are functions without effect: a call brings the law into a proof.
 ghost use Rattle.foot_print.specs.Laws.{FootprintsCover, StepsCommute, StepsKeepWorlds};
+ghost use Rattle.foot_print.specs.Parts.{CutThenPut, FootprintsAreNarrow, HolesKeepWorlds, PartsAreOfTheWhole, PlacesRunOnParts, PutIsStep, RoundIsSteps};
 ghost use Rattle.foot_print.specs.Replayed.{replayed};
 ghost use Rattle.interleaving.specs.Laws.{Laws};
 ghost use Rattle.trace_format.specs.Text.{IsSpelled};
 ghost use Rattle.trace_format.specs.declared.trace.Trace.{Trace};
 
-/// In every world that agrees on a place's footprint the place has the same footprint and the same reply,
-/// gives what it writes the same values, and changes nothing else.
+/// In every world, and part of one, that agrees on a place's footprint the place has the same footprint and
+/// the same reply, gives what it writes the same values, and changes nothing else.
 pub fn footprints_cover()
     ensures { FootprintsCover }
 {}
@@ -22,6 +23,44 @@ pub fn steps_keep_worlds()
 /// Two places whose footprints do not collide give the same world and the same replies in either order.
 pub fn steps_commute()
     ensures { StepsCommute }
+{}
+
+/// A part that is cut out of a world and put back unchanged leaves the world as it was.
+pub fn cut_then_put()
+    ensures { CutThenPut }
+{}
+
+/// A place that runs on the part that its footprint cuts out gives the same reply as on the world, and
+/// putting the part back leaves the world that the place's step leaves, and no other.
+pub fn places_run_on_parts()
+    ensures { PlacesRunOnParts }
+{}
+
+/// A world in which parts have left zeros is a world of a replay.
+pub fn holes_keep_worlds()
+    ensures { HolesKeepWorlds }
+{}
+
+/// The footprint of a place names single items and ranges, so that a part can be cut by it.
+pub fn footprints_are_narrow()
+    ensures { FootprintsAreNarrow }
+{}
+
+/// A part that is cut while others are out, with none of which it collides, is a part of the world as it was.
+pub fn parts_are_of_the_whole()
+    ensures { PartsAreOfTheWhole }
+{}
+
+/// Putting one of several parts back, after its place has run on it, is that place's step: the world has the
+/// holes of the other parts left, its reply is that of the step, and the others can be put back as before.
+pub fn put_is_step()
+    ensures { PutIsStep }
+{}
+
+/// The parts of places whose footprints do not collide, all cut out of one world, run, and put back one after
+/// another, leave the world and the replies of the places' steps in order.
+pub fn round_is_steps()
+    ensures { RoundIsSteps }
 {}
 
 /// The replay of a trace that some bytes spell keeps the laws of footprints and of reaches: the reach of a

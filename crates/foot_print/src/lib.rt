@@ -5,4 +5,13 @@
 //! rows of the operations stand in `op_meaning`. Here are the laws behind running places at once.
 #![tactic(auto)]
 
+mod attempt;
+mod file_rows;
 pub mod laws;
+mod of_place;
+mod path_rows;
+mod rows;
+#[cfg(test)]
+mod tests;
+
+pub use of_place::{foot, foot_in};

@@ -328,7 +328,7 @@ abbrev pub meaning : Trace → ℕ → ℕ → World → Operation → Result Ef
 meaning t k r s nop = Ok (done [])
 meaning t k r s (readv f o n) = read_meaning t s r f o (min n most_moved) (Ok reply)
 meaning t k r s (writev f o new) = write_meaning t s r f o (Ok new)
-meaning t k r s (fsync f) = ok_or (handle t s r f) EBADF >> Ok (done [])
+meaning t k r s (fsync f) = require (is_some (held t s r f.registered f.number)) EBADF >> Ok (done [])
 meaning t k r s (read_fixed f o x) = read_meaning t s r f o (min x.length most_moved) (span_destination t r x)
 meaning t k r s (write_fixed f o x) = write_meaning t s r f o (span_bytes t s r x)
 meaning t k r s (fallocate f o n mode) = fallocate_meaning t s r f o n mode

@@ -1,10 +1,2 @@
-pub mod Changes
-pub mod Files
-pub mod Fills
-pub mod Lines
-pub mod Listing
-pub mod Outcomes
-pub mod ServedSteps
-pub mod Starts
-pub mod Transfers
-pub mod Walks
+pub mod Places
+pub mod Parts

@@ -1,15 +1,18 @@
 //! The replay of the places in recorded order.
-ghost use Rattle.std.specs.Prelude.{◌≡◌, ◌<◌, IfOk, IsOkUnless, OnOk, Some};
-ghost use Rattle.op_meaning.specs.Step.{step_reply, step_world};
+ghost use Rattle.std.specs.Prelude.{◌≡◌, ◌+◌, ◌<◌, IfOk, IsOkUnless, OnOk, Some};
+ghost use Rattle.chain_plan.specs.Plan.{roles};
+ghost use Rattle.op_meaning.specs.Step.{run_world, step_reply};
 ghost use Rattle.replay_core.specs.Serial.{IsSequential};
 ghost use Rattle.trace_format.specs.Steps.{places};
 ghost use Rattle.trace_format.specs.Text.{IsSpelled};
+ghost use Rattle.world_parts.specs.Part.{whole};
 
-use crate::places::run_entry;
-use crate::world::World;
-use op_meaning::Reply;
+use chain_plan::Plan;
+use foot_print::foot;
+use op_meaning::{Reply, run_entry};
 use std::alloc::{AllocError, Global};
-use trace_format::{Action, Series, Trace};
+use trace_format::{Series, Trace};
+use world_parts::World;
 
 /// What a replay gives: the world at the end, and of each place its reply and the round in which it ran.
 #[derive(Drop)]
@@ -46,11 +49,12 @@ fn sequential(alloc: Global, trace: &Trace) -> Result<Replay, AllocError>
     requires { IsSpelled trace.now }
     ensures { IfOk result (λ replay. IsSequential trace.now replay) }
 {
+    let plan = Plan::of(alloc, trace)?;
     let mut world = World::of(alloc, trace)?;
     let mut replies = Vec::new(alloc);
     let mut rounds = Vec::new(alloc);
     for place in 0..trace.places() {
-        replies.push(run_place(alloc, trace, place, &mut world)?)?;
+        replies.push(run_place(alloc, trace, &plan, place, &mut world)?)?;
         rounds.push(place)?;
     }
     Ok(Replay {
@@ -60,22 +64,24 @@ fn sequential(alloc: Global, trace: &Trace) -> Result<Replay, AllocError>
     })
 }
 
-/// Runs the step at a place.
+/// Runs the step at a place on the part of the world that its footprint cuts out.
 fn run_place(
     alloc: Global,
     trace: &Trace,
+    plan: &Plan,
     place: u32,
     world: &mut World,
 ) -> Result<Reply, AllocError>
     requires trace { IsSpelled trace.now }
     requires place { place < places trace.now }
-    ensures reply { IfOk result (λ reply. Some reply ≡ step_reply trace.now place world.old) }
-    ensures world { OnOk result (world.new ≡ step_world trace.now place world.old) }
+    requires plan { plan.now ≡ roles trace.now }
+    requires world { world.old ≡ whole (run_world trace.now place) }
+    ensures reply { IfOk result (λ reply. Some reply ≡ step_reply trace.now place (run_world trace.now place)) }
+    ensures world { OnOk result (world.new ≡ whole (run_world trace.now (place + 1))) }
 {
-    let step = trace.step(place);
-    match step.action {
-        Action::Submit(entry) => run_entry(alloc, trace, step.ring, entry, world),
-        // No trace with such a step is accepted yet.
-        Action::Fill { .. } => unreachable!(),
-    }
+    let footprint = foot(alloc, place, trace, plan, world)?;
+    let mut part = world.cut(alloc, place, footprint)?;
+    let reply = run_entry(alloc, place, trace, &plan.role(place), &mut part)?;
+    world.put(alloc, part)?;
+    Ok(reply)
 }

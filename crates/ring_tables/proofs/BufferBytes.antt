@@ -1,9 +1,10 @@
 -- Changes of the bytes of a buffer.
 use Rattle.std.proofs.Common.{◌≡◌, ℕ, ◌+◌, ◌-◌, ◌<◌, ◌≤◌, List, [], ◌++◌, length, take, drop, replicate, min, arith, sym, ◌∙◌, ap, ⊎_elim}
-use Rattle.std.proofs.lemmas.List.{length-append, length-take, length-drop, length-replicate, append-nil, take_all, drop_all, take-append-le}
+use Rattle.std.proofs.lemmas.List.{length-append, length-take, length-drop, length-replicate, append-nil, take_all, drop_all, take-append-le, take-replicate}
 use Rattle.std.proofs.Math.Seq.{take-append_seam, take-append-add, take-nil, drop-nil}
 use Rattle.std.proofs.lemmas.Bool.{cases_lt}
-use Rattle.extent_bytes.specs.Bytes.{overlaid, overwritten, range_of, resized}
+use Rattle.extent_bytes.specs.Bytes.{overlaid, overwritten, range_of, resized, zeroed}
+use Rattle.extent_bytes.proofs.Lists.{overwritten_none}
 
 -- a range of no bytes
 pub range_of-nothing : (low high : ℕ) → range_of [] low high ≡ []
@@ -35,3 +36,29 @@ overlaid-clipped old at new n h e =
     (λ (k : at + length new ≤ length old).
     ap (overwritten old at) (take_all n new (omega (arith, e))) ∙ sym (take_all (length old) (overwritten old at new) (simp (length-append, length-take, length-replicate, length-drop) (omega arith))))
     (cases_lt (length old) (at + length new))
+
+-- zeros in the part of a range where a buffer has bytes are zeros put over it
+pub zeroed-overlaid : (old : List ℕ) (low high first last : ℕ) → last ≡ min high (length old) → first ≡ min low last → zeroed old first last ≡ overlaid old low (replicate (high - low) 0)
+zeroed-overlaid old low high first last l f =
+    ⊎_elim
+    (λ (inside : low < length old).
+    ⊎_elim
+    (λ (some : low < high).
+    let at : min first (length old) ≡ low = omega arith in
+    let size : min last (length old) - first ≡ count = omega arith in
+    (λ i. overwritten old (at i) (replicate (size i) 0)) ∙ sym (clipped inside))
+    (λ (none : high ≤ low). nothing (omega arith) ∙ sym (clipped inside ∙ overwritten_none old low (replicate count 0) (length-replicate count 0 ∙ omega arith) (omega arith)))
+    (cases_lt low high))
+    (λ (past : length old ≤ low). nothing (omega arith) ∙ sym (overlaid-past old low (replicate (high - low) 0) past))
+    (cases_lt low (length old))
+  where
+    count : ℕ
+    count = min (high - low) (length old - low)
+
+    nothing : min last (length old) - first ≡ 0 → zeroed old first last ≡ old
+    nothing e = overwritten_none old (min first (length old)) (replicate (min last (length old) - first) 0) (length-replicate (min last (length old) - first) 0 ∙ e) (omega arith)
+
+    clipped : low < length old → overlaid old low (replicate (high - low) 0) ≡ overwritten old low (replicate count 0)
+    clipped h =
+        sym (overlaid-clipped old low (replicate (high - low) 0) count (omega arith) (ap (λ n. min n (length old - low)) (sym (length-replicate (high - low) 0))))
+        ∙ ap (overwritten old low) (take-replicate count (high - low) 0 (omega arith))

@@ -1,11 +1,11 @@
 //! The registered buffers of rings.
-ghost use Rattle.std.specs.Prelude.{◌≡◌, ◌+◌, ◌≤◌, ◌↔◌, IfOk, IsTrue, OnErr, OnOk, length, replicate};
+ghost use Rattle.std.specs.Prelude.{◌≡◌, ◌+◌, ◌-◌, ◌≤◌, ◌↔◌, IfOk, IfSome, IsTrue, OnErr, OnOk, length, replicate};
 ghost use Rattle.std.specs.Option.{option_map};
 ghost use Rattle.extent_bytes.specs.Bytes.{overlaid, overwritten, range_of, zeroed};
 ghost use Rattle.finite_maps.specs.Table.{empty, get, insert, pair_keys};
 ghost use Rattle.ring_tables.specs.Contents.{bytes_at, rewritten_at};
 
-use extent_bytes::Extents;
+use extent_bytes::{Extents, MAX_LEN};
 use std::alloc::{AllocError, Global};
 use std::collections::BTreeMap;
 use std::collections::btree_map::Iter;
@@ -50,15 +50,26 @@ impl Buffers {
         ensures ok { OnOk result (self.new ≡ insert pair_keys.total self.old (ring, index) (replicate len 0)) }
         ensures err { OnErr result (self.new ≡ self.old) }
     {
+        self.add_zeros(ring, index, len as u64)
+    }
+
+    /// Adds a buffer of zeros, `len` bytes long, which may be more than a ring registers, in place of
+    /// the one that was there.
+    pub fn add_zeros(&mut self, ring: u8, index: u32, len: u64) -> Result<(), AllocError>
+        requires { len ≤ MAX_LEN }
+        ensures ok { OnOk result (self.new ≡ insert pair_keys.total self.old (ring, index) (replicate len 0)) }
+        ensures err { OnErr result (self.new ≡ self.old) }
+    {
         let mut buffer = Extents::new(self.alloc);
-        buffer.set_len(len as u64)?;
+        buffer.set_len(len)?;
         self.entries.insert((ring, index), buffer)?;
         Ok(())
     }
 
-    /// The length of a buffer in bytes.
+    /// The length of a buffer in bytes, at most 2^40.
     pub fn len(&self, ring: u8, index: u32) -> Option<u64>
-        ensures { result ≡ option_map length (get self.now (ring, index)) }
+        ensures value { result ≡ option_map length (get self.now (ring, index)) }
+        ensures bound { IfSome result (λ len. len ≤ MAX_LEN) }
     {
         self.entries.get(&(ring, index)).map(|buffer| buffer.len())
     }
@@ -103,6 +114,32 @@ impl Buffers {
             Some(buffer) => buffer.share(lo, hi),
             None => Ok(Extents::new(self.alloc)),
         }
+    }
+
+    /// What [`Buffers::share`] gives, for bytes that change next in this buffer.
+    pub fn detach(&self, ring: u8, index: u32, lo: u64, hi: u64) -> Result<Extents, AllocError>
+        requires forward { lo ≤ hi }
+        requires inside { hi ≤ length (bytes_at self.now ring index) }
+        ensures { IfOk result (λ part. part ≡ range_of (bytes_at self.now ring index) lo hi) }
+    {
+        match self.entries.get(&(ring, index)) {
+            Some(buffer) => buffer.detach(lo, hi),
+            None => Ok(Extents::new(self.alloc)),
+        }
+    }
+
+    /// Makes the bytes of a buffer from `lo` up to `hi` zeros, as far as it has them. Where there is
+    /// no buffer nothing changes.
+    pub fn zero(&mut self, ring: u8, index: u32, lo: u64, hi: u64) -> Result<(), AllocError>
+        ensures ok { OnOk result (self.new ≡ rewritten_at (λ old. overlaid old lo (replicate (hi - lo) 0)) self.old ring index) }
+        ensures err { OnErr result (self.new ≡ self.old) }
+    {
+        let Some(buffer) = self.entries.get_mut(&(ring, index)) else {
+            return Ok(());
+        };
+        let end = hi.min(buffer.len());
+        let start = lo.min(end);
+        buffer.zero(start, end)
     }
 
     /// Takes the bytes of a buffer from `lo` up to `hi` out as a list of its own, and leaves zeros

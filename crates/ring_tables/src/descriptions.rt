@@ -1,7 +1,7 @@
 //! The open file descriptions of a replay.
 ghost use Rattle.std.specs.Prelude.{◌≡◌, ◌↔◌, IsTrue, OnErr, OnOk};
 ghost use Rattle.std.specs.Option.{option_map};
-ghost use Rattle.finite_maps.specs.Table.{adjust_number, empty, get, insert, number_keys};
+ghost use Rattle.finite_maps.specs.Table.{adjust_number, empty, get, insert, number_keys, remove};
 
 use std::alloc::{AllocError, Global};
 use std::collections::BTreeMap;
@@ -66,6 +66,13 @@ impl Descriptions {
     {
         self.entries.insert(number, description)?;
         Ok(())
+    }
+
+    /// Takes a description out, if it is there.
+    pub fn remove(&mut self, number: u32)
+        ensures { self.new ≡ remove self.old number }
+    {
+        self.entries.remove(&number);
     }
 
     /// The position of a description, in bytes.

@@ -1,5 +1,5 @@
 //! The descriptors of the process.
-ghost use Rattle.std.specs.Prelude.{◌≡◌, ◌↔◌, IsOk, IsTrue, None, OnErr, OnOk, is_none};
+ghost use Rattle.std.specs.Prelude.{◌≡◌, ◌↔◌, IfOk, IsOk, IsTrue, None, OnErr, OnOk, is_none};
 ghost use Rattle.std.specs.List.{find, range_with_len};
 ghost use Rattle.finite_maps.specs.Table.{assign, empty, get, number_keys};
 
@@ -73,6 +73,14 @@ impl Descriptors {
         ensures { result ≡ self.now.entries }
     {
         self.entries.iter()
+    }
+
+    /// The same descriptors once more.
+    pub fn copy(&self) -> Result<Descriptors, AllocError>
+        ensures { IfOk result (λ copy. copy ≡ self.now) }
+    {
+        let entries = self.entries.clone()?;
+        Ok(Descriptors { entries })
     }
 
     /// Whether both have the same open file descriptions at the same descriptors. It takes no

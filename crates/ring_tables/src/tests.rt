@@ -48,6 +48,25 @@ fn a_position_is_of_its_description(rt: HostRuntime) -> Result<(), Fail> {
 }
 
 #[test]
+fn descriptions_are_taken_out(rt: HostRuntime) -> Result<(), Fail> {
+    let mut descriptions = Descriptions::new(rt.alloc());
+    let description = Description {
+        node: 3,
+        access: Access::Read,
+        append: false,
+        position: 2,
+    };
+    descriptions.set(4, description)?;
+    descriptions.set(5, description)?;
+    descriptions.remove(4);
+    descriptions.remove(6);
+    assert_eq!(rt; descriptions.position(4), None);
+    assert_eq!(rt; descriptions.position(5), Some(2));
+    assert_eq!(rt; descriptions.iter().count(), 1);
+    Ok(())
+}
+
+#[test]
 fn the_lowest_free_descriptor_fills_holes(rt: HostRuntime) -> Result<(), Fail> {
     let mut descriptors = Descriptors::new(rt.alloc());
     descriptors.set(0, Some(4))?;

@@ -1,23 +1,23 @@
 -- What the format asks of the records of a spelled trace, and of their steps.
-use Rattle.std.proofs.Common.{◌≡◌, ℕ, suc, ◌+◌, ◌<◌, ◌≤◌, true, List, [], ◌∷◌, length, Some, refl, sym, ap, subst, ◌∙◌, arith, inl, inr}
+use Rattle.std.proofs.Common.{◌≡◌, ℕ, suc, ◌+◌, ◌<◌, ◌≤◌, true, List, [], ◌∷◌, length, Some, refl, sym, ap, subst, ◌∙◌, arith, inl, inr, ◌⊎◌, Bool, false, ◌||◌}
 use Rattle.std.specs.List.{All, slice_get}
+use Rattle.std.specs.Prelude.{◌==◌, nat_lt}
 use Rattle.std.proofs.lemmas.Bool.{ltb-true, leb-true}
-use Rattle.std.proofs.lemmas.List.Elements.{All-nil, All-head, All-tail, All-append, All-push, All-map, All-weaker, All-get_or}
+use Rattle.std.proofs.lemmas.List.Elements.{All-nil, All-cons, All-head, All-tail, All-append, All-push, All-map, All-weaker, All-get_or}
 use Rattle.std.proofs.lemmas.Option.{slice_get_within, slice_get_cases, get_or_from_slice_get}
 use Rattle.sqe_codec.specs.Fields.{IsEntry, entry_of}
 use Rattle.sqe_codec.proofs.Parts.{fields_fit}
 use Rattle.trace_format.specs.declared.trace.Entry.{Entry}
 use Rattle.trace_format.specs.declared.trace.Ring.{Ring}
 use Rattle.trace_format.specs.declared.trace.Record.{Record}
-use Rattle.trace_format.specs.declared.trace.Record.TheVariants.{Enter}
+use Rattle.trace_format.specs.declared.trace.Record.TheVariants.{Enter, Fill}
 use Rattle.trace_format.specs.declared.trace.Trace.{Trace}
 use Rattle.trace_format.specs.Counts.{places_in, places_limit}
-use Rattle.trace_format.specs.Facts.{SpelledFits, SpelledServed, SpelledRings, SpelledPlaces, SpelledSubmits, SpelledRanges}
+use Rattle.trace_format.specs.Facts.{SpelledFits, SpelledRings, SpelledPlaces, SpelledRanges}
 use Rattle.trace_format.specs.Grammar.{several}
-use Rattle.trace_format.specs.Served.{is_served_entry}
 use Rattle.trace_format.specs.Sides.{is_side_of}
-use Rattle.trace_format.specs.Steps.{Step, Action, submit, record_steps, steps_from, steps, step_at}
-use Rattle.trace_format.specs.Text.{entry, enter, one_record, item, description, slot, ring, header, Counts, trace, SpellsTrace, IsSpelled}
+use Rattle.trace_format.specs.Steps.{Step, submit, fill as fill_step, record_steps, steps_from, steps, step_at}
+use Rattle.trace_format.specs.Text.{entry, enter, fill, one_record, item, description, slot, ring, header, Counts, trace, SpellsTrace, IsSpelled}
 use Rattle.trace_format.proofs.Spots.{length-steps}
 use Rattle.trace_format.proofs.Sums.{places_in-push}
 use Rattle.trace_format.proofs.Spelled.{Spelt, at_place, at_test, test_passed, at_done, at_choice}
@@ -30,21 +30,19 @@ pub record EntryFacts (B : List ℕ → Type 0) (e : Entry) : Type 0 where
   pub bytes : List ℕ
   pub has : B bytes
   pub fields : e.sqe ≡ entry_of bytes
-  pub served : is_served_entry e.sqe ≡ true
   pub fits : is_side_of e.sqe e.side ≡ true
 
 pub entry_facts : {B : List ℕ → Type 0} → Keeps B → (e : Entry) → Own B entry e → EntryFacts B e
 unfolding entry
 entry_facts {B = B} keeps y o =
-    let sqe = apart keeps o.has (at_place o.is) in
-    let len = apart keeps sqe.rest_has (at_place (at_test sqe.spelled)) in
+    let sqe = apart keeps o.has o.is in
+    let len = apart keeps sqe.rest_has (at_place sqe.spelled) in
     let side = apart keeps len.rest_has len.spelled in
     let e = at_done (at_test side.spelled) in
     let made : EntryFacts B (record { sqe = entry_of sqe.x; side = side.x }) = record {
       bytes = sqe.x;
       has = subst B (sym sqe.own.is.is.1) sqe.own.has;
       fields = refl;
-      served = test_passed sqe.spelled;
       fits = test_passed side.spelled;
     } in
     subst (EntryFacts B) (sym e.1) made
@@ -57,12 +55,25 @@ pub record EnterFacts (B : List ℕ → Type 0) (rings : ℕ) (r : Record) : Typ
   pub in_rings : ring < rings
   pub all : All (EntryFacts B) entries
 
+-- A record that fills a buffer, whose ring is there.
+pub record FillFacts (rings : ℕ) (r : Record) : Type 0 where
+  pub ring : ℕ
+  pub buffer : ℕ
+  pub offset : ℕ
+  pub bytes : List ℕ
+  pub is : r ≡ Fill ring buffer offset bytes
+  pub in_rings : ring < rings
+
+-- A record of either kind.
+abbrev pub RecordFacts : (List ℕ → Type 0) → ℕ → Record → Type 0
+RecordFacts B rings r = EnterFacts B rings r ⊎ FillFacts rings r
+
 -- The same where so many places come before it, within the limit.
-record EnterWithin (B : List ℕ → Type 0) (rings used : ℕ) (r : Record) : Type 0 where
-  facts : EnterFacts B rings r
+record RecordWithin (B : List ℕ → Type 0) (rings used : ℕ) (r : Record) : Type 0 where
+  facts : RecordFacts B rings r
   within : used + places_in (r ∷ []) ≤ places_limit
 
-enter_within : {B : List ℕ → Type 0} → Keeps B → (rings used place : ℕ) (text : List ℕ) (r : Record) → B text → Spelt (enter rings used) place text r → EnterWithin B rings used r
+enter_within : {B : List ℕ → Type 0} → Keeps B → (rings used place : ℕ) (text : List ℕ) (r : Record) → B text → Spelt (enter rings used) place text r → RecordWithin B rings used r
 unfolding enter
 enter_within {B = B} keeps rings used place text y has s =
     let ring = apart keeps has (at_place s) in
@@ -73,31 +84,54 @@ enter_within {B = B} keeps rings used place text y has s =
     let room : used + count.x ≤ places_limit = leb-true _ _ (test_passed count.spelled) in
     let within : used + places_in (Enter ring.x entries.x ∷ []) ≤ places_limit = omega (arith, len, room) in
     record {
-      facts = record {
+      facts = inl (record {
         ring = ring.x;
         entries = entries.x;
         is = e.1;
         in_rings = ltb-true _ _ (test_passed ring.spelled);
         all = each (EntryFacts B) (λ _. entry) keeps (λ _. entry_facts keeps) count.x entries.x entries.own;
-      };
+      });
       within = subst (λ (r : Record). used + places_in (r ∷ []) ≤ places_limit) (sym e.1) within;
     }
 
--- while records of entries alone are executed, each record is one
-record_within : {B : List ℕ → Type 0} → Keeps B → (rings : List Ring) (used : ℕ) (r : Record) → Own B (one_record rings used) r → EnterWithin B (length rings) used r
+next_within : (n m : ℕ) → n < m → n + 1 ≤ m
+next_within n m h = omega (arith, h)
+
+fill_within : {B : List ℕ → Type 0} → Keeps B → (rings : List Ring) (used place : ℕ) (text : List ℕ) (r : Record) → used < places_limit → B text → Spelt (fill rings) place text r → RecordWithin B (length rings) used r
+unfolding fill
+fill_within {B = B} keeps rings used place text r room has s =
+    let ring = apart keeps has (at_place s) in
+    let buffer = apart keeps ring.rest_has (at_place (at_test ring.spelled)) in
+    let offset = apart keeps buffer.rest_has (at_place (at_test buffer.spelled)) in
+    let len = apart keeps offset.rest_has offset.spelled in
+    let bytes = apart keeps len.rest_has (at_test len.spelled) in
+    let e = at_done bytes.spelled in
+    let one : places_in (Fill ring.x buffer.x offset.x bytes.x ∷ []) ≡ 1 = refl in
+    let within : used + places_in (Fill ring.x buffer.x offset.x bytes.x ∷ []) ≤ places_limit = subst (λ (n : ℕ). used + n ≤ places_limit) (sym one) (next_within used places_limit room) in
+    record {
+      facts = inr (record { ring = ring.x; buffer = buffer.x; offset = offset.x; bytes = bytes.x; is = e.1; in_rings = ltb-true _ _ (test_passed ring.spelled) });
+      within = subst (λ (r : Record). used + places_in (r ∷ []) ≤ places_limit) (sym e.1) within;
+    }
+
+-- the second of two tests passed where the first did not
+second_true : (x y : Bool) → x ≡ false → (x || y) ≡ true → y ≡ true
+second_true x y e h = sym (ap (λ b. b || y) e) ∙ h
+
+-- each record, of entries or a fill
+record_within : {B : List ℕ → Type 0} → Keeps B → (rings : List Ring) (used : ℕ) (r : Record) → Own B (one_record rings used) r → RecordWithin B (length rings) used r
 unfolding one_record
 record_within keeps rings used r o =
     let kind = apart keeps o.has (at_place o.is) in
-    let served = test_passed (at_test kind.spelled) in
-    elim (at_choice (at_test (at_test (at_test kind.spelled)))) [
+    let counted = at_test kind.spelled in
+    elim (at_choice (at_test counted)) [
       | inl a ↦ enter_within keeps (length rings) used kind.place kind.rest r kind.rest_has a.1
-      | inr b ↦ absurd (cc (served, b.0))
+      | inr b ↦ fill_within keeps rings used kind.place kind.rest r (ltb-true used places_limit (second_true (kind.x == 1) (nat_lt used places_limit) b.0 (test_passed counted))) kind.rest_has b.1
     ]
 
 -- What the format asks of the records: none goes beyond the limit of places.
 pub record RecordsFacts (B : List ℕ → Type 0) (rings : ℕ) (records : List Record) : Type 0 where
   pub within : places_in records ≤ places_limit
-  pub all : All (EnterFacts B rings) records
+  pub all : All (RecordFacts B rings) records
 
 pub records_facts : {B : List ℕ → Type 0} → Keeps B → (rings : List Ring) (n : ℕ) (records : List Record) → Own B (several n (λ earlier. one_record rings (places_in earlier)) []) records → RecordsFacts B (length rings) records
 records_facts {B = B} keeps rings n records o =
@@ -106,9 +140,9 @@ records_facts {B = B} keeps rings n records o =
     let more = record_within keeps rings (places_in earlier) r own in
     record {
       within = omega (arith, places_in-push earlier r, more.within);
-      all = All-push (EnterFacts B (length rings)) earlier r before.all more.facts;
+      all = All-push (RecordFacts B (length rings)) earlier r before.all more.facts;
     })
-    n [] records (record { within = omega arith; all = All-nil (EnterFacts B (length rings)) }) o
+    n [] records (record { within = omega arith; all = All-nil (RecordFacts B (length rings)) }) o
 
 -- ---- a trace
 
@@ -153,74 +187,50 @@ trace_facts keeps bytes t has spells =
 
 -- ---- steps
 
--- A step that submits an entry, on a ring that is there.
-pub record Submitted (B : List ℕ → Type 0) (rings : ℕ) (s : Step) : Type 0 where
-  pub entry : Entry
-  pub is : s.action ≡ submit entry
+-- A step on a ring that is there, and what the format asks of the entry that it submits.
+pub record StepFacts (B : List ℕ → Type 0) (rings : ℕ) (s : Step) : Type 0 where
   pub in_rings : s.ring < rings
-  pub facts : EntryFacts B entry
+  pub entry : (e : Entry) → s.action ≡ submit e → EntryFacts B e
 
-enter_steps : {B : List ℕ → Type 0} (rings n : ℕ) (r : Record) → EnterFacts B rings r → All (Submitted B rings) (record_steps n r)
-enter_steps {B = B} rings n r f =
+record_steps_facts : {B : List ℕ → Type 0} (rings n : ℕ) (r : Record) → RecordFacts B rings r → All (StepFacts B rings) (record_steps n r)
+record_steps_facts {B = B} rings n r (inl f) =
     let step : Entry → Step = λ e. record { ring = f.ring; from_record = n; action = submit e } in
-    let each_entry : All (λ e. Submitted B rings (step e)) f.entries =
-    All-weaker (EntryFacts B) (λ e. Submitted B rings (step e)) (λ e h. record { entry = e; is = refl; in_rings = f.in_rings; facts = h }) f.entries f.all in
-    subst (λ (x : Record). All (Submitted B rings) (record_steps n x)) (sym f.is) (All-map (Submitted B rings) step f.entries each_entry)
+    let each_entry : All (λ e. StepFacts B rings (step e)) f.entries =
+    All-weaker (EntryFacts B) (λ e. StepFacts B rings (step e)) (λ e h. record { in_rings = f.in_rings; entry = λ x a. let same : e ≡ x = cc a in subst (EntryFacts B) same h }) f.entries f.all in
+    subst (λ (x : Record). All (StepFacts B rings) (record_steps n x)) (sym f.is) (All-map (StepFacts B rings) step f.entries each_entry)
+record_steps_facts {B = B} rings n r (inr f) =
+    let step : Step = record { ring = f.ring; from_record = n; action = fill_step f.buffer f.offset f.bytes } in
+    let one : StepFacts B rings step = record { in_rings = f.in_rings; entry = λ x a. absurd (cc a) } in
+    subst (λ (x : Record). All (StepFacts B rings) (record_steps n x)) (sym f.is) (All-cons (StepFacts B rings) step [] one (All-nil (StepFacts B rings)))
 
-all_steps : {B : List ℕ → Type 0} (rings n : ℕ) (rs : List Record) → All (EnterFacts B rings) rs → All (Submitted B rings) (steps_from n rs)
-all_steps {B = B} rings n [] all = All-nil (Submitted B rings)
+all_steps : {B : List ℕ → Type 0} (rings n : ℕ) (rs : List Record) → All (RecordFacts B rings) rs → All (StepFacts B rings) (steps_from n rs)
+all_steps {B = B} rings n [] all = All-nil (StepFacts B rings)
 all_steps {B = B} rings n (r ∷ rs) all =
-    All-append (Submitted B rings) (record_steps n r) (steps_from (suc n) rs) (enter_steps rings n r (All-head (EnterFacts B rings) r rs all)) (all_steps rings (suc n) rs (All-tail (EnterFacts B rings) r rs all))
+    All-append (StepFacts B rings) (record_steps n r) (steps_from (suc n) rs) (record_steps_facts rings n r (All-head (RecordFacts B rings) r rs all)) (all_steps rings (suc n) rs (All-tail (RecordFacts B rings) r rs all))
 
 -- what holds of each element holds of the one at an index
 all_at : {X : Type 0} (P : X → Type 0) (xs : List X) (k : ℕ) (x : X) → All P xs → slice_get xs k ≡ Some x → P x
 all_at P xs k x all e = subst P (get_or_from_slice_get xs k x x e) (All-get_or P xs k x (slice_get_within xs k x e) all)
 
-pub submitted : {B : List ℕ → Type 0} → Keeps B → (bytes : List ℕ) (t : Trace) → B bytes → SpellsTrace bytes t → (k : ℕ) (s : Step) → step_at t k ≡ Some s → Submitted B (length t.rings) s
-submitted {B = B} keeps bytes t has spells k s e =
-    all_at (Submitted B (length t.rings)) (steps t) k s (all_steps (length t.rings) 0 t.records (trace_facts keeps bytes t has spells).all) e
+pub step_facts : {B : List ℕ → Type 0} → Keeps B → (bytes : List ℕ) (t : Trace) → B bytes → SpellsTrace bytes t → (k : ℕ) (s : Step) → step_at t k ≡ Some s → StepFacts B (length t.rings) s
+step_facts {B = B} keeps bytes t has spells k s e =
+    all_at (StepFacts B (length t.rings)) (steps t) k s (all_steps (length t.rings) 0 t.records (trace_facts keeps bytes t has spells).all) e
 
 -- ---- the laws
 
-any_submitted : (t : Trace) → IsSpelled t → (k : ℕ) (s : Step) → step_at t k ≡ Some s → Submitted AnyText (length t.rings) s
-any_submitted t h k s here = submitted keeps_any h.0 t tt h.1 k s here
-
--- the facts of the entry that a step submits
-entry_of_step : {B : List ℕ → Type 0} (rings : ℕ) (s : Step) (e : Entry) → Submitted B rings s → s.action ≡ submit e → EntryFacts B e
-entry_of_step {B = B} rings s e h a =
-    let same : h.entry ≡ e = cc (h.is, a) in
-    subst (EntryFacts B) same h.facts
+any_step : (t : Trace) → IsSpelled t → (k : ℕ) (s : Step) → step_at t k ≡ Some s → StepFacts AnyText (length t.rings) s
+any_step t h k s here = step_facts keeps_any h.0 t tt h.1 k s here
 
 pub spelled_fits : SpelledFits
-spelled_fits t h k s e here a = (entry_of_step (length t.rings) s e (any_submitted t h k s here) a).fits
-
-pub spelled_served : SpelledServed
-spelled_served t h k s e here a = (entry_of_step (length t.rings) s e (any_submitted t h k s here) a).served
+spelled_fits t h k s e here a = ((any_step t h k s here).entry e a).fits
 
 pub spelled_rings : SpelledRings
-spelled_rings t h k s here = (any_submitted t h k s here).in_rings
+spelled_rings t h k s here = (any_step t h k s here).in_rings
 
 pub spelled_places : SpelledPlaces
 spelled_places t h = omega (arith, length-steps t, (trace_facts keeps_any h.0 t tt h.1).within)
 
-pub spelled_submits : SpelledSubmits
-spelled_submits t h k lt = elim (slice_get_cases (steps t) k).1 [
-  | inl found ↦
-      let s = found.0 in
-      let here = any_submitted t h k s found.2 in
-      record {
-        ring = s.ring;
-        from_record = s.from_record;
-        entry = here.entry;
-        is = found.2 ∙ ap (λ (a : Action). Some (record { ring = s.ring; from_record = s.from_record; action = a })) here.is;
-        in_rings = here.in_rings;
-        fits = here.facts.fits;
-        served = here.facts.served;
-      }
-  | inr past ↦ absurd (omega (arith, past.0))
-]
-
 pub spelled_ranges : SpelledRanges
 spelled_ranges bytes t fits spells k s e here a =
-    let facts = entry_of_step (length t.rings) s e (submitted keeps_bytes bytes t fits spells k s here) a in
+    let facts = (step_facts keeps_bytes bytes t fits spells k s here).entry e a in
     subst IsEntry (sym facts.fields) (fields_fit facts.bytes facts.has)

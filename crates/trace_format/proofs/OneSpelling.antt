@@ -13,13 +13,12 @@ use Rattle.trace_format.specs.declared.trace.Item.{Item}
 use Rattle.trace_format.specs.declared.trace.Node.{Node}
 use Rattle.trace_format.specs.declared.trace.Node.TheVariants.{File}
 use Rattle.trace_format.specs.Counts.{places_in}
-use Rattle.trace_format.specs.Text.{slot, buffer, ring, entry, file, other_name, node, new_path, item, description, access_of, enter, fill, one_record, header, version_of, most_descriptors, Counts, trace, SpellsTrace, is_within, buffer_len}
+use Rattle.trace_format.specs.Text.{slot, buffer, ring, entry, file, other_name, node, new_path, item, description, access_of, enter, fill, one_record, header, is_read_version, latest_version, version_of, most_descriptors, Counts, trace, SpellsTrace, is_within, buffer_len}
 use Rattle.trace_format.specs.Grammar.{Grammar, Done, Bytes, Place, Test, ◌>>=◌, number, number_to, fault}
 use Rattle.trace_format.specs.declared.fault.Kind.TheVariants.{Reference}
 use Rattle.trace_format.specs.declared.trace.Record.TheVariants.{Fill}
 use Rattle.trace_format.specs.declared.trace.Record.{Record}
 use Rattle.trace_format.specs.declared.trace.Trace.{Trace}
-use Rattle.trace_format.specs.Served.{is_served_version, latest_version}
 use Rattle.trace_format.specs.Spelling.{slot_bytes, buffer_bytes, ring_bytes, entry_text, kind_of, node_bytes, item_bytes, access_number, flag, description_bytes, record_bytes, version_number, header_bytes, trace_bytes}
 use Rattle.trace_format.proofs.Spelled.{Once, Spelt, Front, at_place, at_test, test_passed, at_done, then, at_bytes, at_several, cat, last, wide16, wide32, wide64, once_number, once_number_to, split, at_choice, once_u8, once_u8_to, within_limit}
 
@@ -66,8 +65,8 @@ once_ring descriptions place text y fits s =
 pub once_entry : Once entry entry_text
 unfolding entry entry_text
 once_entry place text y fits s =
-    let sqe = at_bytes fits (at_place s) in
-    let len = then (to_le_bytes w32) (once_number w32 wide32) sqe.fits (at_place (at_test sqe.spelled)) in
+    let sqe = at_bytes fits s in
+    let len = then (to_le_bytes w32) (once_number w32 wide32) sqe.fits (at_place sqe.spelled) in
     let side = at_bytes len.fits len.spelled in
     let e = at_done (at_test side.spelled) in
     let back : entry_bytes (entry_of sqe.x) ≡ sqe.x = bytes_back sqe.x sqe.front_fits sqe.len in
@@ -123,7 +122,7 @@ unfolding item path_text
 once_item earlier place text y fits s =
     let kind = then (λ n. n ∷ []) once_u8 fits (at_place s) in
     let range = and_true _ _ (test_passed kind.spelled) in
-    let path = then path_text (once_path earlier) kind.fits (at_test (at_test kind.spelled)) in
+    let path = then path_text (once_path earlier) kind.fits (at_test kind.spelled) in
     let made = split path.fits path.spelled in
     let e = at_done made.spelled in
     let node = node_spelled kind.x earlier made.start made.front made.x (leb-true _ _ range.0) (leb-true _ _ range.1) made.front_fits made.own in
@@ -145,8 +144,8 @@ unfolding description
 once_description items place text y fits s =
     let number = then (to_le_bytes w32) (once_number w32 wide32) fits (at_place s) in
     let access = split number.fits (at_place (at_test number.spelled)) in
-    let append = split access.fits (at_place (at_test access.spelled)) in
-    let position = then (to_le_bytes w64) (once_number_to w64 (2 ^ 63 - 1) wide64) append.fits (at_test append.spelled) in
+    let append = split access.fits (at_test access.spelled) in
+    let position = then (to_le_bytes w64) (once_number_to w64 (2 ^ 63 - 1) wide64) append.fits append.spelled in
     let e = at_done position.spelled in
     let a : access.front ≡ access_number (access_of access.x) ∷ [] = once_u8_to 2 access.start access.front access.x access.front_fits access.own ∙ ap (λ (n : ℕ). n ∷ []) (access_back access.x (within_limit w8 2 access.start access.front access.x access.front_fits access.own)) in
     let b : append.front ≡ flag (eqb append.x 1) ∷ [] = once_u8_to 1 append.start append.front append.x append.front_fits append.own ∙ ap (λ (n : ℕ). n ∷ []) (flag_back append.x (within_limit w8 1 append.start append.front append.x append.front_fits append.own)) in
@@ -212,7 +211,7 @@ unfolding one_record
 once_record rings used place text y fits s =
     let kind = then (λ n. n ∷ []) once_u8 fits (at_place s) in
     let range = and_true _ _ (test_passed kind.spelled) in
-    elim (at_choice (at_test (at_test (at_test kind.spelled)))) [
+    elim (at_choice (at_test (at_test kind.spelled))) [
       | inl a ↦ first_byte kind.x 1 text kind.rest y (eqb-true _ _ a.0) (once_enter (length rings) used kind.place kind.rest y kind.fits a.1) kind.parts
       | inr b ↦
           let other : kind.x ≡ 1 → ⊥ = eqb-false _ _ b.0 in
@@ -257,7 +256,7 @@ once_counts_tail version place text y fits s =
     }
 
 -- a version that is served is the number that it was read from
-version_back : (version : ℕ) → is_served_version version ≡ true → version ≡ version_number (version_of version)
+version_back : (version : ℕ) → is_read_version version ≡ true → version ≡ version_number (version_of version)
 version_back zero h = absurd cc
 version_back (suc zero) h = refl
 version_back (suc (suc zero)) h = refl

@@ -59,7 +59,7 @@ item_fits : (earlier : List Item) (x : Item) → Own AnyText (item earlier) x �
 unfolding item
 item_fits earlier x o =
     let kind = apart keeps_any tt (at_place o.is) in
-    let path = apart keeps_any tt (at_test (at_test kind.spelled)) in
+    let path = apart keeps_any tt (at_test kind.spelled) in
     let made = apart keeps_any tt path.spelled in
     subst (λ (y : Item). NodeFits earlier y.node) (sym (at_done made.spelled).1) (node_fits kind.x earlier made.x made.own)
 
@@ -103,8 +103,8 @@ unfolding description
 description_fits items d o =
     let number = apart keeps_any tt (at_place o.is) in
     let rights = apart keeps_any tt (at_place (at_test number.spelled)) in
-    let append = apart keeps_any tt (at_place (at_test rights.spelled)) in
-    let position = apart keeps_any tt (at_test append.spelled) in
+    let append = apart keeps_any tt (at_test rights.spelled) in
+    let position = apart keeps_any tt append.spelled in
     let made : DescriptionFits items (record { node = number.x; access = access_of rights.x; append = (append.x == 1); position = position.x }) = record {
       leads = test_passed number.spelled;
       is_read = reads_alone rights.x (is_directory_number items number.x) (test_passed rights.spelled);

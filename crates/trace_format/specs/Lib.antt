@@ -1,6 +1,5 @@
 pub mod Grammar
 pub mod Read
-pub mod Served
 pub mod Paths
 pub mod Sides
 pub mod Counts

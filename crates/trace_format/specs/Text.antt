@@ -4,7 +4,7 @@ use Rattle.std.specs.List.{list_any}
 use Rattle.std.specs.Str.{bytes_eq}
 use Rattle.std.specs.Int.{w8, w16, w32, w64}
 use Rattle.sqe_codec.specs.Fields.{entry_of}
-use Rattle.trace_format.specs.declared.fault.Kind.TheVariants.{Magic, Version, Limit, Path, NoParent, Exists, Reference, Side, Overlap, NotYet, Trailing}
+use Rattle.trace_format.specs.declared.fault.Kind.TheVariants.{Magic, Version, Limit, Path, NoParent, Exists, Reference, Side, Overlap, Trailing}
 use Rattle.trace_format.specs.declared.trace.Version.{Version as TraceVersion}
 use Rattle.trace_format.specs.declared.trace.Version.TheVariants.{One, Two}
 use Rattle.trace_format.specs.declared.trace.Node.{Node}
@@ -21,7 +21,6 @@ use Rattle.trace_format.specs.declared.trace.Record.TheVariants.{Enter, Fill}
 use Rattle.trace_format.specs.declared.trace.Trace.{Trace}
 use Rattle.trace_format.specs.Grammar.{Grammar, Done, Bytes, Place, Test, Choice, ◌>>=◌, Spells, Breaks, fault, number, number_to, several}
 use Rattle.trace_format.specs.declared.fault.TraceFault.{TraceFault}
-use Rattle.trace_format.specs.Served.{is_served_version, is_served_item, is_served_append, is_served_record, is_served_entry}
 use Rattle.trace_format.specs.Paths.{is_path, parent_of, has_name, has_directory, is_directory, is_file}
 use Rattle.trace_format.specs.Sides.{is_side_of}
 use Rattle.trace_format.specs.Counts.{places_in, places_limit}
@@ -44,6 +43,14 @@ pub record Counts : Type 0 where
   pub records : ℕ
   pub descriptors : ℕ
 
+-- the latest version that is read
+abbrev pub latest_version : ℕ
+latest_version = 1
+
+-- versions: from the first to the latest
+abbrev pub is_read_version : ℕ → Bool
+is_read_version version = nat_le 1 version && nat_le version latest_version
+
 -- the first 32 bytes
 unfoldable pub header : Grammar Counts
 header = do
@@ -51,7 +58,7 @@ header = do
   _ ← Test (bytes_eq magic (codes "URINGTRC")) (fault Magic 0)
   place ← Place
   version ← number w32
-  _ ← Test (is_served_version version) (fault Version place)
+  _ ← Test (is_read_version version) (fault Version place)
   items ← number_to w32 65535
   descriptions ← number_to w32 65535
   rings ← number_to w32 64
@@ -100,7 +107,6 @@ item earlier = do
   place ← Place
   kind ← number w8
   _ ← Test (nat_le 1 kind && nat_le kind 3) (fault Limit place)
-  _ ← Test (is_served_item kind) (fault NotYet place)
   path ← new_path earlier
   made ← node kind earlier
   Done (record { path = path; node = made })
@@ -126,9 +132,7 @@ description items = do
   place ← Place
   n ← number_to w8 2
   _ ← Test (n == 0 || not (is_directory_number items number)) (fault Limit place)
-  place ← Place
   append ← number_to w8 1
-  _ ← Test (is_served_append append) (fault NotYet place)
   position ← number_to w64 (2 ^ 63 - 1)
   Done (record { node = number; access = access_of n; append = (append == 1); position = position })
 
@@ -167,9 +171,7 @@ ring descriptions = do
 -- a submitted entry, and the bytes beside it
 unfoldable pub entry : Grammar Entry
 entry = do
-  place ← Place
   bytes ← Bytes 64
-  _ ← Test (is_served_entry (entry_of bytes)) (fault NotYet place)
   place ← Place
   len ← number w32
   side ← Bytes len
@@ -227,7 +229,6 @@ one_record rings used = do
   place ← Place
   kind ← number w8
   _ ← Test (nat_le 1 kind && nat_le kind 2) (fault Limit place)
-  _ ← Test (is_served_record kind) (fault NotYet place)
   _ ← Test (kind == 1 || nat_lt used places_limit) (fault Limit place)
   Choice (kind == 1) (enter (length rings) used) (fill rings)
 

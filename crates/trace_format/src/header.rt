@@ -5,9 +5,11 @@ ghost use Rattle.trace_format.specs.Read.{Gives, reading};
 ghost use Rattle.trace_format.specs.Text.{header, version_of, most_descriptors};
 
 use crate::fault::{Kind, ReadError, refused};
-use crate::served::serves_version;
 use crate::source::{Source, bytes_of, u32_of, u32_to};
 use crate::trace::Version;
+
+/// The latest version that is read.
+const LATEST_VERSION: u32 = 1;
 
 /// The version, and how many of each there are.
 #[derive(Clone, Copy)]
@@ -51,7 +53,7 @@ pub(crate) fn counts_of(source: Source<'_>) -> Result<(Counts, Source<'_>), Read
     }
     let place = source.place;
     let (version, source) = u32_of(source)?;
-    if !serves_version(version) {
+    if version < 1 || version > LATEST_VERSION {
         return Err(refused(Kind::Version, place));
     }
     let version = version_of(version);

@@ -10,7 +10,6 @@ use crate::fault::{Kind, ReadError, refused};
 use crate::list::Series;
 use crate::names::{Names, add_name, path_of};
 use crate::paths::{is_directory, is_file};
-use crate::served::serves_item;
 use crate::source::{Source, bytes_of, u8_of, u32_of, u32_to, u64_to};
 use crate::trace::{Item, Node};
 use std::alloc::Global;
@@ -82,9 +81,6 @@ fn item_of<'a>(
     let (kind, source) = u8_of(source)?;
     if kind < 1 || kind > 3 {
         return Err(refused(Kind::Limit, place));
-    }
-    if !serves_item(kind) {
-        return Err(refused(Kind::NotYet, place));
     }
     let (path, source) = path_of(names, source)?;
     let (node, source) = node_of(alloc, kind, items, source)?;

@@ -22,7 +22,6 @@ mod paths;
 mod reading;
 mod records;
 mod rings;
-mod served;
 mod sides;
 mod source;
 mod spans;

@@ -7,7 +7,6 @@ ghost use Rattle.trace_format.specs.Text.{entry, enter, fill, one_record, buffer
 
 use crate::fault::{Kind, ReadError, refused};
 use crate::list::Series;
-use crate::served::{serves_entry, serves_record};
 use crate::sides::fits;
 use crate::source::{Source, bytes_of, u8_of, u16_of, u16_to, u32_of};
 use crate::steps::{Records, step_count};
@@ -22,14 +21,10 @@ const PLACES: u32 = 1_048_576;
 fn entry_of(alloc: Global, source: Source<'_>) -> Result<(Entry, Source<'_>), ReadError>
     ensures { Gives (λ x. (x.0, x.1.place, x.1.rest.now)) result (reading entry source.entry.place source.entry.rest.now) }
 {
-    let place = source.place;
     let (bytes, source) = bytes_of(source, 64)?;
     let mut array = [0; 64];
     array.copy_from_slice(bytes);
     let sqe = unpack(&array);
-    if !serves_entry(&sqe) {
-        return Err(refused(Kind::NotYet, place));
-    }
     let place = source.place;
     let (len, source) = u32_of(source)?;
     let (side, source) = bytes_of(source, len as usize)?;
@@ -150,9 +145,6 @@ fn record_of<'a>(
     let (kind, source) = u8_of(source)?;
     if kind < 1 || kind > 2 {
         return Err(refused(Kind::Limit, place));
-    }
-    if !serves_record(kind) {
-        return Err(refused(Kind::NotYet, place));
     }
     if kind != 1 && used >= PLACES {
         return Err(refused(Kind::Limit, place));

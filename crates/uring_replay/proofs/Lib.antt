@@ -2,3 +2,4 @@ mod TransferLemmas
 mod ReportLemmas
 mod SessionLemmas
 mod WordsLemmas
+mod SumLemmas

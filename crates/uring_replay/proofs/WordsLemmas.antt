@@ -3,41 +3,52 @@ use Rattle.std.proofs.Common.{◌≡◌, ◌⊎◌, ℕ, Bool, true, false, List
 use Rattle.std.specs.Prelude.{Result}
 use Rattle.std.specs.Option.{option_map}
 use Rattle.std.specs.Result.{MatchResult}
+use Rattle.std.proofs.lemmas.Option.{same_Some}
 use Rattle.std.proofs.lemmas.Result.{MatchResult-weaker}
 use Rattle.clap.proofs.WalkLemmas.{one_text-rows}
-use Rattle.clap.specs.Words.{App, FailsBy, HasKind, HasMatchesOf, IsAmong, Row, fault_of, found_of, one_of, one_text, rows_of, is_simple, is_simple_and_free, kind_of, subcommand_of, subcommand_rows_of, takes}
+use Rattle.clap.specs.Words.{App, FailsBy, HasKind, HasMatchesOf, IsAmong, Row, fault_of, found_of, one_of, one_text, rows_of, is_simple, is_simple_and_free, kind_of, subcommand_name_of, subcommand_of, subcommand_rows_of, takes}
 use Rattle.clap.specs.declared.error.Error.{Error}
 use Rattle.clap.specs.declared.error.kind.ErrorKind.{ErrorKind}
 use Rattle.clap.specs.declared.error.kind.ErrorKind.TheVariants.{DisplayHelp, OutOfMemory}
 use Rattle.clap.specs.declared.parser.matches.ArgMatches.{ArgMatches}
+use Rattle.clap.specs.declared.parser.matches.ArgMatches.TheViews.{out-ArgMatches}
 use Rattle.clap.proofs.OnLiterals.{clap_on_literals}
+use Rattle.uring_replay.specs.declared.words.Mode.{Mode}
+use Rattle.uring_replay.specs.declared.words.Mode.TheVariants.{Serial, Check}
+use Rattle.uring_replay.specs.declared.words.Options.{Options}
 use Rattle.uring_replay.specs.declared.words.UsageKind.{UsageKind}
 use Rattle.uring_replay.specs.declared.words.UsageKind.TheVariants.{Memory}
-use Rattle.uring_replay.specs.Words.{AskForHelp, flag_in, flag_text, kind_meant, serial_words, replayer}
+use Rattle.uring_replay.specs.Words.{AskForHelp, AreFound, flag_in, flag_text, kind_meant, mode_words, words_of, replayer}
 
--- the flag that is found
-flag_found : (sums : Bool) → flag_in (subcommand_of replayer (serial_words sums)) ≡ Some (flag_text sums)
+-- what is found for the words of each mode
+options_found : (m : Mode) (sums : Bool) (words : List (List ℕ)) → mode_words m sums ≡ Some words → AreFound m sums (subcommand_of replayer words)
 unfolding clap_on_literals
-flag_found false = refl
-flag_found true = refl
+options_found Serial false words e = rw (← same_Some _ _ e) (refl, refl)
+options_found Serial true words e = rw (← same_Some _ _ e) (refl, refl)
+options_found Check false words e = rw (← same_Some _ _ e) (refl, refl)
+options_found Check true words e = cc e
 
-words_taken : (sums : Bool) → takes replayer (serial_words sums) ≡ true
+words_taken : (m : Mode) (sums : Bool) (words : List (List ℕ)) → mode_words m sums ≡ Some words → takes replayer words ≡ true
 unfolding clap_on_literals
-words_taken false = refl
-words_taken true = refl
+words_taken Serial false words e = rw (← same_Some _ _ e) refl
+words_taken Serial true words e = rw (← same_Some _ _ e) refl
+words_taken Check false words e = rw (← same_Some _ _ e) refl
+words_taken Check true words e = cc e
 
 help_found : (words : List (List ℕ)) → AskForHelp words → fault_of replayer words ≡ DisplayHelp ∷ []
 unfolding clap_on_literals
 help_found words (inl e) = rw e refl
 help_found words (inr e) = rw e refl
 
--- the flag in the matches of the program's words
-pub flag_met : (a : App) (words : List (List ℕ)) (m : ArgMatches) (sums : Bool) → a ≡ replayer → words ≡ serial_words sums → HasMatchesOf a words m
-    → flag_in (subcommand_rows_of m) ≡ Some (flag_text sums)
-flag_met a words m sums command asked h = ap flag_in ((h (ap is_simple command)).1 ∙ ap₂ subcommand_of command asked) ∙ flag_found sums
+-- the options in the matches of the words that ask for them
+pub options_met : (a : App) (words : List (List ℕ)) (m : ArgMatches) (o : Options) → a ≡ replayer → words_of o ≡ Some words → HasMatchesOf a words m
+    → AreFound o.mode o.sums (subcommand_rows_of m)
+options_met a words m o command asked h =
+    let same : subcommand_rows_of m ≡ subcommand_of replayer words = (h (ap is_simple command)).1 ∙ ap (λ x. subcommand_of x words) command in
+    subst (AreFound o.mode o.sums) (sym same) (options_found o.mode o.sums words asked)
 
-pub words_pass : (a : App) (words : List (List ℕ)) (sums : Bool) → a ≡ replayer → words ≡ serial_words sums → takes a words ≡ true
-words_pass a words sums command asked = ap₂ takes command asked ∙ words_taken sums
+pub words_pass : (a : App) (words : List (List ℕ)) (o : Options) → a ≡ replayer → words_of o ≡ Some words → takes a words ≡ true
+words_pass a words o command asked = ap (λ x. takes x words) command ∙ words_taken o.mode o.sums words asked
 
 -- words that ask for help end the parse
 pub help_ends : {T : Type 0} (a : App) (words : List (List ℕ)) (r : Result T Error) → a ≡ replayer → AskForHelp words → (is_simple_and_free a ≡ true → FailsBy (fault_of a words) r)
@@ -57,12 +68,28 @@ read_as_flag : (flag sums : Bool) (text : Option (List ℕ)) → text ≡ Some (
 read_as_flag flag false text e set unset = unset e
 read_as_flag flag true text e set unset = set e
 
-pub flag_is : (m chosen : ArgMatches) (flag sums : Bool) → Some (rows_of (found_of chosen)) ≡ option_map (λ p. p.1) (subcommand_rows_of m)
+flag_is : (m chosen : ArgMatches) (flag sums : Bool) → Some (rows_of (found_of chosen)) ≡ option_map (λ p. p.1) (subcommand_rows_of m)
     → (one_text (found_of chosen) (codes "sums") ≡ Some (codes "true") → flag ≡ true) → (one_text (found_of chosen) (codes "sums") ≡ Some (codes "false") → flag ≡ false)
     → flag_in (subcommand_rows_of m) ≡ Some (flag_text sums) → flag ≡ sums
 flag_is m chosen flag sums rows set unset found =
     read_as_flag flag sums (one_text (found_of chosen) (codes "sums"))
     (one_text-rows (found_of chosen) (codes "sums") ∙ rows_at (subcommand_rows_of m) (rows_of (found_of chosen)) (flag_text sums) (sym rows) found) set unset
+
+fused : {A B C : Type 0} (f : A → B) (g : B → C) (o : Option A) → option_map g (option_map f o) ≡ option_map (λ x. g (f x)) o
+fused f g None = refl
+fused f g (Some x) = refl
+
+named : (m : ArgMatches) → option_map (λ p. p.0) (subcommand_rows_of m) ≡ subcommand_name_of m
+named m = fused _ _ (out-ArgMatches m).subcommand
+
+-- the options where the subcommand is `serial`
+pub serial_chosen : (m chosen : ArgMatches) (flag : Bool) (mode : Mode) (sums : Bool) → subcommand_name_of m ≡ Some (codes "serial") → Some (rows_of (found_of chosen)) ≡ option_map (λ p. p.1) (subcommand_rows_of m)
+    → (one_text (found_of chosen) (codes "sums") ≡ Some (codes "true") → flag ≡ true) → (one_text (found_of chosen) (codes "sums") ≡ Some (codes "false") → flag ≡ false)
+    → AreFound mode sums (subcommand_rows_of m) → ◌≡◌ {A = Options} (record { mode = Serial; sums = flag }) (record { mode = mode; sums = sums })
+serial_chosen m chosen flag Serial sums name rows set unset h = ap (λ f. record { mode = Serial; sums = f }) (flag_is m chosen flag sums rows set unset h.1)
+serial_chosen m chosen flag Check sums name rows set unset h =
+    let same : codes "serial" ≡ codes "check" = same_Some _ _ (sym name ∙ sym (named m) ∙ h.0) in
+    absurd (cc same)
 
 -- the parse by the rules of the program's command line
 pub same_rules : {T : Type 0} (a : App) (words : List (List ℕ)) (r : Result T Error) → a ≡ replayer → (is_simple_and_free a ≡ true → FailsBy (fault_of a words) r) → FailsBy (fault_of replayer words) r

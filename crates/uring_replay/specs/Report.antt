@@ -1,5 +1,6 @@
 -- The report of a replay.
 use Rattle.std.specs.Prelude.{◌≡◌, ℕ, ℤ, ◌==◌, Bool, true, false, not, ◌&&◌, nat_le, nat_lt, List, [], ◌∷◌, ◌++◌, length, take, codes, Option, Some, None, unwrap_or, if◌then◌else◌}
+use Rattle.std.specs.Option.{option_map}
 use Rattle.std.specs.List.{flat_map, slice_get, range_with_len}
 use Rattle.std.specs.Fmt.{decimal, signed_decimal}
 use Rattle.hex.specs.Hex.{encode_lower}
@@ -95,6 +96,10 @@ named_line path node (Some size) sum =
 abbrev pub IsSized : World → NameEntry → Type 0
 IsSized s name = name.size ≡ size s name.node
 
+-- The length that an entry of an image tells is that of its buffer.
+abbrev pub IsLong : World → BufferEntry → Type 0
+IsLong s e = option_map length (buffer s e.ring e.index) ≡ Some e.len
+
 abbrev pub name_line : World → Bool → NameEntry → List ℕ
 name_line s sums name = named_line name.path name.node name.size (each (file_sum sums) (bytes s name.node))
 
@@ -114,6 +119,10 @@ descriptor_line e = line (codes "descriptor " ++ decimal e.number ++ description
 abbrev pub buffer_line : World → Bool → BufferEntry → List ℕ
 buffer_line s sums e =
     line (codes "buffer " ++ decimal e.ring ++ codes " " ++ decimal e.index ++ codes " len=" ++ decimal e.len ++ buffer_sum sums (unwrap_or (buffer s e.ring e.index) []))
+
+-- The line of a check: how many places and rings a trace has.
+abbrev pub check_line : Trace → List ℕ
+check_line t = line (codes "ok " ++ decimal (places t) ++ codes " places " ++ decimal (length t.rings) ++ codes " rings")
 
 -- The report of a trace, of the world at its end and of the replies of its places; with sums where they are asked for.
 abbrev pub report_of : Trace → World → List Reply → Bool → List ℕ

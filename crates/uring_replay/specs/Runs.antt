@@ -12,8 +12,8 @@ use Rattle.uring_replay.specs.declared.fault.RunFault.{RunFault}
 use Rattle.uring_replay.specs.declared.fault.RunFault.TheVariants.{Trace, Replay, Read, Write}
 use Rattle.uring_replay.specs.declared.words.Options.{Options}
 use Rattle.uring_replay.specs.declared.words.Mode.{Mode}
-use Rattle.uring_replay.specs.declared.words.Mode.TheVariants.{Serial}
-use Rattle.uring_replay.specs.Report.{report_of}
+use Rattle.uring_replay.specs.declared.words.Mode.TheVariants.{Serial, Check}
+use Rattle.uring_replay.specs.Report.{check_line, report_of}
 use Rattle.uring_replay.specs.Transfer.{AppendsPart}
 
 -- The report of the sequential run of a trace.
@@ -23,6 +23,7 @@ sequential_report t sums = report_of t (sequential_world t) (sequential_replies 
 -- The output for a trace, by the mode.
 abbrev pub mode_output : Mode → Bool → trace.Trace → List ℕ
 mode_output Serial sums t = sequential_report t sums
+mode_output Check sums t = check_line t
 
 abbrev pub output_of : Options → trace.Trace → List ℕ
 output_of options t = mode_output options.mode options.sums t

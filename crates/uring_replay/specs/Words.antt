@@ -1,20 +1,27 @@
 -- The words of the command line, and the answers to them.
-use Rattle.std.specs.Prelude.{◌≡◌, ◌⊎◌, ℕ, Bool, true, false, List, [], ◌∷◌, map, Option, Some, codes, Result, MatchResult, IsErrAnd, Contains}
-use Rattle.std.specs.Option.{option_and_then}
+use Rattle.std.specs.Prelude.{◌≡◌, ◌⊎◌, ℕ, Bool, true, false, List, [], ◌∷◌, map, Option, None, Some, codes, Result, MatchResult, IsErrAnd, Contains}
+use Rattle.std.specs.Option.{option_and_then, option_map}
 use Rattle.clap.specs.Words.{App, Row, Rule, new_app, new_rule, one_of, with_rule, with_subcommand}
 use Rattle.clap.specs.Simple.{on_top}
 use Rattle.clap.specs.declared.builder.action.ArgAction.TheVariants.{SetTrue}
 use Rattle.clap.specs.declared.error.kind.ErrorKind.{ErrorKind}
 use Rattle.clap.specs.declared.error.kind.ErrorKind.TheVariants.{DisplayHelp, OutOfMemory}
+use Rattle.uring_replay.specs.declared.words.Mode.{Mode}
+use Rattle.uring_replay.specs.declared.words.Mode.TheVariants.{Serial, Check}
 use Rattle.uring_replay.specs.declared.words.Options.{Options}
 use Rattle.uring_replay.specs.declared.words.Usage.{Usage}
 use Rattle.uring_replay.specs.declared.words.UsageKind.{UsageKind}
 use Rattle.uring_replay.specs.declared.words.UsageKind.TheVariants.{Help, Wrong, Memory}
 
--- The words that ask for a run in recorded order, with sums or without.
-abbrev pub serial_words : Bool → List (List ℕ)
-serial_words false = codes "serial" ∷ []
-serial_words true = codes "serial" ∷ codes "--sums" ∷ []
+-- The words that ask for options: a run in recorded order, with sums or without, or a check. Nothing asks for a check with sums.
+abbrev pub mode_words : Mode → Bool → Option (List (List ℕ))
+mode_words Serial false = Some (codes "serial" ∷ [])
+mode_words Serial true = Some (codes "serial" ∷ codes "--sums" ∷ [])
+mode_words Check false = Some (codes "check" ∷ [])
+mode_words Check true = None
+
+abbrev pub words_of : Options → Option (List (List ℕ))
+words_of options = mode_words options.mode options.sums
 
 -- The words that ask for help.
 abbrev pub AskForHelp : List (List ℕ) → Type 0
@@ -46,7 +53,12 @@ flag_text true = codes "true"
 abbrev pub flag_in : Option (List ℕ × List Row) → Option (List ℕ)
 flag_in found = option_and_then (λ p. one_of (codes "sums") p.1) found
 
--- The command line, as its parser sees it: a subcommand has to be named, and the subcommand `serial` has the flag `--sums`.
+-- What the parser finds where these options are asked for: the name of the subcommand, and at `serial` the flag.
+abbrev pub AreFound : Mode → Bool → Option (List ℕ × List Row) → Type 0
+AreFound Serial sums found = (option_map (λ p. p.0) found ≡ Some (codes "serial")) × (flag_in found ≡ Some (flag_text sums))
+AreFound Check sums found = (option_map (λ p. p.0) found ≡ Some (codes "check")) × (sums ≡ false)
+
+-- The command line, as its parser sees it: a subcommand has to be named, `serial`, which has the flag `--sums`, or `check`.
 abbrev pub sums_flag : Rule
 sums_flag = record (new_rule (codes "sums")) { long = Some (codes "sums"); action = Some SetTrue }
 
@@ -55,4 +67,5 @@ serial_command = with_rule (new_app (codes "serial")) sums_flag
 
 abbrev pub replayer : App
 replayer =
-    with_subcommand (on_top (λ s. record s { no_binary_name = true; subcommand_required = true }) (new_app (codes "uring_replay"))) serial_command.top
+    let top = on_top (λ s. record s { no_binary_name = true; subcommand_required = true }) (new_app (codes "uring_replay")) in
+    with_subcommand (with_subcommand top serial_command.top) (new_app (codes "check")).top

@@ -4,6 +4,7 @@
 mod fault;
 mod report;
 mod session;
+mod sums;
 mod transfer;
 mod words;
 

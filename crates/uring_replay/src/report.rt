@@ -1,17 +1,19 @@
 //! The report of a replay.
 ghost use Rattle.std.specs.Prelude.{◌≡◌, ◌++◌, ◌≤◌, All, IfOk, OnOk, Some, [], length, string_bytes, take, true, unwrap_or};
 ghost use Rattle.std.specs.List.{flat_map, range_with_len};
+ghost use Rattle.std.specs.Option.{option_map};
 ghost use Rattle.sqe_codec.specs.Answers.{each};
 ghost use Rattle.trace_format.specs.Steps.{places, step_meant};
-ghost use Rattle.world_parts.specs.World.{buffer, bytes, size};
-ghost use Rattle.uring_replay.specs.Report.{IsSized, buffer_line, buffer_sum, data_text, description_text, descriptor_line, entry_head, entry_line, entry_outcome, escaped, escaped_byte, file_sum, name_line, posting, report_of, ring_lines, slot_line, step_line, sum_text};
+ghost use Rattle.uring_replay.specs.Sums.{held};
+ghost use Rattle.world_parts.specs.World.{bytes, size};
+ghost use Rattle.uring_replay.specs.Report.{IsLong, IsSized, buffer_line, check_line, data_text, description_text, descriptor_line, entry_head, entry_line, entry_outcome, escaped, escaped_byte, file_sum, name_line, posting, report_of, ring_lines, slot_line, step_line, sum_text};
 
+use crate::sums::{Holder, sum_of};
 use op_meaning::Reply;
-use replay_core::{Replay, World};
-use sha2::{Digest, Sha256};
+use replay_core::Replay;
 use std::alloc::{AllocError, Global};
 use trace_format::{Action, Step, Trace};
-use world_parts::{BufferEntry, DescriptorEntry, NameEntry, SlotEntry};
+use world_parts::{BufferEntry, DescriptorEntry, NameEntry, SlotEntry, State};
 
 /// How many bytes of a reply are shown.
 const SHOWN: usize = 32;
@@ -29,31 +31,34 @@ pub fn report_text(
 ) -> Result<Vec<u8>, AllocError>
     requires replies { length replay.now.replies ≡ places trace.now }
     ensures { IfOk result (λ text. text.items
-        ≡ report_of trace.now replay.now.world replay.now.replies sums) }
+        ≡ report_of trace.now replay.now.world.world replay.now.replies sums) }
 {
-    let image = replay.world.image(alloc)?;
+    let world = replay.world.state();
+    let image = world.image(alloc)?;
     let mut text = String::from_str(alloc, "uring-report 1\n")?;
     push_rings(alloc, &mut text, trace, replay.replies.as_slice())?;
     text.push_str("tree\n")?;
-    push_names(
-        alloc,
-        &mut text,
-        &replay.world,
-        image.names.as_slice(),
-        sums,
-    )?;
+    push_names(alloc, &mut text, world, image.names.as_slice(), sums)?;
     text.push_str("slots\n")?;
     push_slots(&mut text, image.slots.as_slice())?;
     push_descriptors(&mut text, image.descriptors.as_slice())?;
     text.push_str("buffers\n")?;
-    push_buffers(
-        alloc,
-        &mut text,
-        &replay.world,
-        image.buffers.as_slice(),
-        sums,
-    )?;
+    push_buffers(alloc, &mut text, world, image.buffers.as_slice(), sums)?;
     text.push_str("end\n")?;
+    Ok(text.into_bytes())
+}
+
+/// The line of a check: how many places and rings a trace has.
+///
+/// # Errors
+///
+/// Want of memory.
+pub fn check_text(alloc: Global, trace: &Trace) -> Result<Vec<u8>, AllocError>
+    ensures { IfOk result (λ text. text.items ≡ check_line trace.now) }
+{
+    let places = trace.places();
+    let rings = trace.rings.as_slice().len();
+    let text = format!(in alloc; "ok {places} places {rings} rings\n")?;
     Ok(text.into_bytes())
 }
 
@@ -185,7 +190,7 @@ fn first_bytes(bytes: &[u8]) -> &[u8]
 fn push_names(
     alloc: Global,
     text: &mut String,
-    world: &World,
+    world: &State,
     names: &[NameEntry],
     sums: bool,
 ) -> Result<(), AllocError>
@@ -202,7 +207,7 @@ fn push_names(
 fn push_name(
     alloc: Global,
     text: &mut String,
-    world: &World,
+    world: &State,
     name: &NameEntry,
     sums: bool,
 ) -> Result<(), AllocError>
@@ -245,11 +250,10 @@ fn push_byte(alloc: Global, text: &mut String, byte: u8) -> Result<(), AllocErro
 }
 
 /// The sum of a file of this length, where sums are asked for. A large file isn't read.
-#[tactic(auto, unfolding(extent_bytes::specs::Bytes::range_of))]
 fn push_file_sum(
     alloc: Global,
     text: &mut String,
-    world: &World,
+    world: &State,
     node: u32,
     len: u64,
     sums: bool,
@@ -264,14 +268,21 @@ fn push_file_sum(
     if len > MOST_SUMMED {
         return text.push_str(" sum=large");
     }
-    let file = world.file_bytes(alloc, node, 0, len)?;
-    push_sum(alloc, text, file.as_slice())
+    push_sum(alloc, text, world, Holder::File { node }, len)
 }
 
-fn push_sum(alloc: Global, text: &mut String, bytes: &[u8]) -> Result<(), AllocError>
-    ensures { OnOk result (string_bytes text.new ≡ string_bytes text.old ++ sum_text bytes.now) }
+fn push_sum(
+    alloc: Global,
+    text: &mut String,
+    world: &State,
+    holder: Holder,
+    len: u64,
+) -> Result<(), AllocError>
+    requires { option_map length (held world.now holder) ≡ Some len }
+    ensures { OnOk result (string_bytes text.new
+        ≡ string_bytes text.old ++ sum_text (unwrap_or (held world.now holder) [])) }
 {
-    let sum = hex::encode(alloc, Sha256::digest(bytes))?;
+    let sum = hex::encode(alloc, sum_of(alloc, world, holder, len)?)?;
     write!(text, " sum={sum}")
 }
 
@@ -340,10 +351,11 @@ fn push_descriptor(text: &mut String, entry: DescriptorEntry) -> Result<(), Allo
 fn push_buffers(
     alloc: Global,
     text: &mut String,
-    world: &World,
+    world: &State,
     buffers: &[BufferEntry],
     sums: bool,
 ) -> Result<(), AllocError>
+    requires { All (IsLong world.now) buffers.now }
     ensures { OnOk result (string_bytes text.new
         ≡ string_bytes text.old ++ flat_map (buffer_line world.now sums) buffers.now) }
 {
@@ -356,34 +368,18 @@ fn push_buffers(
 fn push_buffer(
     alloc: Global,
     text: &mut String,
-    world: &World,
+    world: &State,
     entry: BufferEntry,
     sums: bool,
 ) -> Result<(), AllocError>
+    requires { IsLong world.now entry }
     ensures { OnOk result (string_bytes text.new
         ≡ string_bytes text.old ++ buffer_line world.now sums entry) }
 {
     let BufferEntry { ring, index, len } = entry;
     write!(text, "buffer {ring} {index} len={len}")?;
-    push_buffer_sum(alloc, text, world, ring, index, sums)?;
-    text.push_str("\n")
-}
-
-/// The sum of a buffer, where sums are asked for.
-fn push_buffer_sum(
-    alloc: Global,
-    text: &mut String,
-    world: &World,
-    ring: u8,
-    index: u32,
-    sums: bool,
-) -> Result<(), AllocError>
-    ensures { OnOk result (string_bytes text.new
-        ≡ string_bytes text.old ++ buffer_sum sums (unwrap_or (buffer world.now ring index) [])) }
-{
-    if !sums {
-        return Ok(());
+    if sums {
+        push_sum(alloc, text, world, Holder::Buffer { ring, index }, len)?;
     }
-    let taken = world.buffer_bytes(alloc, ring, index)?;
-    push_sum(alloc, text, taken.as_slice())
+    text.push_str("\n")
 }

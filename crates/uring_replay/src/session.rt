@@ -6,7 +6,7 @@ ghost use Rattle.uring_replay.specs.Runs.{ReadsTrace, TellsOfReading, WritesOutp
 ghost use Rattle.uring_replay.specs.Transfer.{AppendsPart};
 
 use crate::fault::RunFault;
-use crate::report::report_text;
+use crate::report::{check_text, report_text};
 use crate::transfer::{Sink, Source, TextFault, read_text, write_text};
 use crate::words::{Mode, Options};
 use replay_core::{ReplayFault, replay_serial};
@@ -67,6 +67,9 @@ fn output_alone(alloc: Global, trace: &Trace, options: &Options) -> Result<Vec<u
 {
     match options.mode {
         Mode::Serial => serial_report(alloc, trace, options.sums).map_err(RunFault::Replay),
+        Mode::Check => {
+            check_text(alloc, trace).map_err(|_| RunFault::Replay(ReplayFault::Memory))
+        }
     }
 }
 

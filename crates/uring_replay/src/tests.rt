@@ -15,8 +15,9 @@ mod examples;
 
 use examples::{
     BUFFER_SELECTION_PERSONALITY_AND_RW_FLAGS_OF_READ, GENERAL_TESTS_GIVE_EINVAL,
-    LONG_DATA_ODD_NAMES_AND_A_LARGE_FILE, READ_BEFORE_WRITE_PAST_END_ON_OTHER_RING,
-    READ_FOUR_BYTES, SUM_OF_A_SMALL_FILE, WRITE_PAST_END_THEN_READ_ON_OTHER_RING,
+    LONG_DATA_ODD_NAMES_AND_A_LARGE_FILE, NEIGHBOURING_WRITES_DO_NOT_COLLIDE, NO_RECORDS,
+    OVERLAPPING_READS_SHARE_A_ROUND, READ_BEFORE_WRITE_PAST_END_ON_OTHER_RING, READ_FOUR_BYTES,
+    SUM_OF_A_SMALL_FILE, TWO_WRITTEN_RANGES_IN_ONE_PAGE, WRITE_PAST_END_THEN_READ_ON_OTHER_RING,
 };
 
 const SERIAL: Options = Options {
@@ -29,11 +30,17 @@ const SUMS: Options = Options {
     sums: true,
 };
 
+const CHECK: Options = Options {
+    mode: Mode::Check,
+    sums: false,
+};
+
 #[test]
 fn reads_words(rt: HostRuntime) {
-    let cases: [(&[&str], Options); 2] = [
+    let cases: [(&[&str], Options); 3] = [
         (["serial"].as_slice(), SERIAL),
         (["serial", "--sums"].as_slice(), SUMS),
+        (["check"].as_slice(), CHECK),
     ];
     for (words, wanted) in cases {
         let options = read_words(rt.alloc(), words).expect(&rt, "options");
@@ -43,12 +50,13 @@ fn reads_words(rt: HostRuntime) {
 
 #[test]
 fn refuses_words(rt: HostRuntime) {
-    let cases: [(&[&str], UsageKind); 5] = [
+    let cases: [(&[&str], UsageKind); 6] = [
         (["serial", "--help"].as_slice(), UsageKind::Help),
         ([].as_slice(), UsageKind::Wrong),
         (["parallel"].as_slice(), UsageKind::Wrong),
         (["serial", "--sums", "trace"].as_slice(), UsageKind::Wrong),
         (["serial", "--workers", "2"].as_slice(), UsageKind::Wrong),
+        (["check", "--sums"].as_slice(), UsageKind::Wrong),
     ];
     for (words, kind) in cases {
         let usage = read_words(rt.alloc(), words).expect_err(&rt, "usage");
@@ -90,6 +98,10 @@ fn writes_reports(rt: HostRuntime) -> Result<(), Fail> {
         WRITE_PAST_END_THEN_READ_ON_OTHER_RING,
         READ_BEFORE_WRITE_PAST_END_ON_OTHER_RING,
         SUM_OF_A_SMALL_FILE,
+        NO_RECORDS,
+        NEIGHBOURING_WRITES_DO_NOT_COLLIDE,
+        OVERLAPPING_READS_SHARE_A_ROUND,
+        TWO_WRITTEN_RANGES_IN_ONE_PAGE,
         GENERAL_TESTS_GIVE_EINVAL,
         BUFFER_SELECTION_PERSONALITY_AND_RW_FLAGS_OF_READ,
         LONG_DATA_ODD_NAMES_AND_A_LARGE_FILE,
@@ -103,6 +115,30 @@ fn writes_reports(rt: HostRuntime) -> Result<(), Fail> {
             assert_eq!(rt; done, Ok(()));
             assert_eq!(rt; writer.stream.as_slice(), report.as_bytes());
         }
+    }
+    Ok(())
+}
+
+#[test]
+fn writes_the_line_of_a_check(rt: HostRuntime) -> Result<(), Fail> {
+    let alloc = rt.alloc();
+    let cases = [
+        (READ_FOUR_BYTES, "ok 1 places 1 rings\n"),
+        (
+            WRITE_PAST_END_THEN_READ_ON_OTHER_RING,
+            "ok 2 places 2 rings\n",
+        ),
+        // Three places of one record.
+        (GENERAL_TESTS_GIVE_EINVAL, "ok 3 places 1 rings\n"),
+        (SUM_OF_A_SMALL_FILE, "ok 0 places 1 rings\n"),
+    ];
+    for (case, line) in cases {
+        let trace = hex::decode(alloc, case.trace).expect(&rt, "a trace");
+        let mut reader = FromStd::new(trace.as_slice());
+        let mut writer = FromStd::new(Vec::new(alloc));
+        let done = run_alone(alloc, &mut reader, &mut writer, &CHECK);
+        assert_eq!(rt; done, Ok(()));
+        assert_eq!(rt; writer.stream.as_slice(), line.as_bytes());
     }
     Ok(())
 }

@@ -1,7 +1,7 @@
 //! The words of the command line.
-ghost use Rattle.std.specs.Prelude.{◌≡◌, ◌⊎◌, Bool, IfErr, IfOk, IsErrAnd, MatchResult, Some, map};
+ghost use Rattle.std.specs.Prelude.{◌≡◌, ◌⊎◌, IfErr, IfOk, IsErrAnd, MatchResult, Some, map};
 ghost use Rattle.clap.specs.Words.{FailsBy, app_of, fault_of, kind_of, subcommand_rows_of};
-ghost use Rattle.uring_replay.specs.Words.{AskForHelp, FailsByRules, GivesHelp, GivesOptions, flag_in, flag_text, kind_meant, replayer, serial_words};
+ghost use Rattle.uring_replay.specs.Words.{AreFound, AskForHelp, FailsByRules, GivesHelp, GivesOptions, kind_meant, replayer, words_of};
 
 use clap::error::ErrorKind;
 use clap::{Arg, ArgAction, ArgMatches, Command, Error};
@@ -12,6 +12,8 @@ use std::alloc::{AllocError, Global};
 pub enum Mode {
     /// A run of the places in recorded order, and its report.
     Serial,
+    /// How many places and rings the trace has, in one line. Nothing is run.
+    Check,
 }
 
 /// What the words ask for.
@@ -40,11 +42,11 @@ pub struct Usage {
     pub text: String,
 }
 
-/// Reads the words after the program's name: `serial`, with `--sums` or without. Any other words are
-/// wrong, unless they ask for help.
+/// Reads the words after the program's name: `serial`, with `--sums` or without, or `check`. Any other
+/// words are wrong, unless they ask for help.
 pub fn read_words<'a>(alloc: Global, words: &'a [&'a str]) -> Result<Options, Usage>
-    ensures options { (sums : Bool) → map (λ word. word.now) words.now ≡ serial_words sums
-        → GivesOptions result (record { mode = Mode.Serial; sums = sums }) }
+    ensures options { (options : Options) → words_of options ≡ Some (map (λ word. word.now) words.now)
+        → GivesOptions result options }
     ensures help { AskForHelp (map (λ word. word.now) words.now) → GivesHelp result }
 
     // All other words by the rules of the command line.
@@ -57,9 +59,8 @@ pub fn read_words<'a>(alloc: Global, words: &'a [&'a str]) -> Result<Options, Us
 }
 
 fn parsed<'a>(alloc: Global, words: &'a [&'a str]) -> Result<Options, Error>
-    ensures options { (sums : Bool) → map (λ word. word.now) words.now ≡ serial_words sums
-        → MatchResult result (λ options. options ≡ record { mode = Mode.Serial; sums = sums })
-        (λ error. kind_of error ≡ ErrorKind.OutOfMemory) }
+    ensures options { (options : Options) → words_of options ≡ Some (map (λ word. word.now) words.now)
+        → MatchResult result (λ given. given ≡ options) (λ error. kind_of error ≡ ErrorKind.OutOfMemory) }
     ensures help { AskForHelp (map (λ word. word.now) words.now) → IsErrAnd result (λ error.
         (kind_of error ≡ ErrorKind.DisplayHelp) ⊎ (kind_of error ≡ ErrorKind.OutOfMemory)) }
     ensures rules { FailsBy (fault_of replayer (map (λ word. word.now) words.now)) result }
@@ -73,16 +74,18 @@ fn parsed<'a>(alloc: Global, words: &'a [&'a str]) -> Result<Options, Error>
 
 /// The options of the subcommand that was named.
 fn options_in(matches: &ArgMatches<'_>) -> Options
-    ensures { (sums : Bool) → flag_in (subcommand_rows_of matches.now) ≡ Some (flag_text sums)
-        → result ≡ record { mode = Mode.Serial; sums = sums } }
+    ensures { (options : Options) → AreFound options.mode options.sums (subcommand_rows_of matches.now)
+        → result ≡ options }
 {
-    let sums = match matches.subcommand() {
-        Some((_, chosen)) => chosen.get_flag("sums"),
-        None => false,
-    };
-    Options {
-        mode: Mode::Serial,
-        sums,
+    match matches.subcommand() {
+        Some(("serial", chosen)) => Options {
+            mode: Mode::Serial,
+            sums: chosen.get_flag("sums"),
+        },
+        _ => Options {
+            mode: Mode::Check,
+            sums: false,
+        },
     }
 }
 
@@ -96,11 +99,15 @@ fn program<'a>(alloc: Global) -> Result<Command<'a>, AllocError>
     let serial = Command::new(alloc, "serial")
         .about("Runs the places in recorded order and prints the report")
         .arg(sums)?;
+    let check = Command::new(alloc, "check").about(
+        "Reads the trace and counts its places and rings",
+    );
     Command::new(alloc, "uring_replay")
         .about("Replays a recorded trace from standard input")
         .no_binary_name(true)
         .subcommand_required(true)
-        .subcommand(serial)
+        .subcommand(serial)?
+        .subcommand(check)
 }
 
 fn usage_of(alloc: Global, error: &Error) -> Usage

@@ -5,9 +5,9 @@ use Rattle.std.specs.Ordering.{nat_cmp}
 use Rattle.std.specs.Cmp.{unsigned_tied}
 use mathlib.Core.Path.{sym, subst, ap, ◌∙◌}
 use lib.Dec.{eqb→eq}
-use Rattle.finite_maps.specs.Table.{Table, get, count, get-assign, number_keys}
-use Rattle.world_parts.specs.World.{World, Description, kind, names, bytes, name, opened, opened_by, set_position, write_bytes, apply}
-use Rattle.file_tree.specs.Tree.{Node, kind_of_node, names_of_node, bytes_of_node, byte_of, rewritten_node}
+use Rattle.finite_maps.specs.Table.{Table, get, get-assign, number_keys}
+use Rattle.world_parts.specs.World.{World, Description, kind, names, bytes, name, name_count, others, opened, opened_by, set_position, write_bytes, apply}
+use Rattle.file_tree.specs.Tree.{Node, kind_of_node, names_of_node, others_of_node, count_of_node, bytes_of_node, byte_of, rewritten_node}
 use Rattle.file_tree.specs.Tree.{Names}
 use Rattle.file_tree.specs.Tree.{directory}
 use Rattle.file_tree.specs.Tree.{file}
@@ -80,13 +80,23 @@ written i at new a x = x
 module _ (f : List ℕ → List ℕ) where
   kind_seen : (x : Option Node) → option_map kind_of_node (option_map (rewritten_node f) x) ≡ option_map kind_of_node x
   kind_seen None = refl
-  kind_seen (Some (directory ns)) = refl
+  kind_seen (Some (directory ns o)) = refl
   kind_seen (Some (file bs)) = refl
 
   names_seen : (x : Option Node) → option_and_then names_of_node (option_map (rewritten_node f) x) ≡ option_and_then names_of_node x
   names_seen None = refl
-  names_seen (Some (directory ns)) = refl
+  names_seen (Some (directory ns o)) = refl
   names_seen (Some (file bs)) = refl
+
+  others_seen : (x : Option Node) → option_and_then others_of_node (option_map (rewritten_node f) x) ≡ option_and_then others_of_node x
+  others_seen None = refl
+  others_seen (Some (directory ns o)) = refl
+  others_seen (Some (file bs)) = refl
+
+  count_seen : (x : Option Node) → option_and_then count_of_node (option_map (rewritten_node f) x) ≡ option_and_then count_of_node x
+  count_seen None = refl
+  count_seen (Some (directory ns o)) = refl
+  count_seen (Some (file bs)) = refl
 
   pub rewriting-kind : (s : World) (i j : ℕ) → option_map kind_of_node (get (adjust_number (rewritten_node f) s.nodes i) j) ≡ kind s j
   rewriting-kind s i j = observed (option_map kind_of_node) (rewritten_node f) s.nodes i j kind_seen
@@ -94,10 +104,16 @@ module _ (f : List ℕ → List ℕ) where
   pub rewriting-names : (s : World) (i j : ℕ) → option_and_then names_of_node (get (adjust_number (rewritten_node f) s.nodes i) j) ≡ names s j
   rewriting-names s i j = observed (option_and_then names_of_node) (rewritten_node f) s.nodes i j names_seen
 
+  pub rewriting-others : (s : World) (i j : ℕ) → option_and_then others_of_node (get (adjust_number (rewritten_node f) s.nodes i) j) ≡ others s j
+  rewriting-others s i j = observed (option_and_then others_of_node) (rewritten_node f) s.nodes i j others_seen
+
+  pub rewriting-count : (s : World) (i j : ℕ) → option_and_then count_of_node (get (adjust_number (rewritten_node f) s.nodes i) j) ≡ name_count s j
+  rewriting-count s i j = observed (option_and_then count_of_node) (rewritten_node f) s.nodes i j count_seen
+
 byte_put : (at : ℕ) (new : List ℕ) (p : ℕ) (x : Option Node) → T (is_some (option_and_then bytes_of_node x))
     → byte_of (option_and_then bytes_of_node (option_map (rewritten_node (λ bs. overwritten bs at new)) x)) p ≡ cond (within at (at + length new) p) (slice_index_or new (p - at) 0) (byte_of (option_and_then bytes_of_node x) p)
 byte_put at new p None h = absurd h
-byte_put at new p (Some (directory ns)) h = absurd h
+byte_put at new p (Some (directory ns o)) h = absurd h
 byte_put at new p (Some (file bs)) h = byte-overwritten bs new at p
 
 pub write_bytes-value : (s : World) (i at : ℕ) (new : List ℕ) (a : Atom) → T (is_some (bytes s i)) → value (apply (write_bytes i at new) s) a ≡ written i at new a (value s a)
@@ -108,7 +124,7 @@ write_bytes-value s i at new (size_of j) h = transformed (λ x. option_map lengt
 
     same : (x : Option Node) → option_map length (option_and_then bytes_of_node (option_map put x)) ≡ option_map (λ n. max n (at + length new)) (option_map length (option_and_then bytes_of_node x))
     same None = refl
-    same (Some (directory ns)) = refl
+    same (Some (directory ns o)) = refl
     same (Some (file bs)) = ap (λ n. Some n) (length-overwritten bs at new)
 write_bytes-value s i at new (byte_at j p) h =
     ap (λ x. byte_of (option_and_then bytes_of_node x) p) (adjusted put s.nodes i j)
@@ -120,7 +136,7 @@ write_bytes-value s i at new (byte_at j p) h =
   where
     put : Node → Node
     put = rewritten_node (λ bs. overwritten bs at new)
-write_bytes-value s i at new (names_in e) h = ap (option_map count) (rewriting-names (λ bs. overwritten bs at new) s i e)
+write_bytes-value s i at new (names_in e) h = rewriting-count (λ bs. overwritten bs at new) s i e
 write_bytes-value s i at new (name_at e n) h = name_kept s (adjust_number (rewritten_node (λ bs. overwritten bs at new)) s.nodes i) (rewriting-kind (λ bs. overwritten bs at new) s i) e n (rewriting-names (λ bs. overwritten bs at new) s i e)
 write_bytes-value s i at new (description_at e) h = opened_kept s (adjust_number (rewritten_node (λ bs. overwritten bs at new)) s.nodes i) (rewriting-kind (λ bs. overwritten bs at new) s i) e
 write_bytes-value s i at new _ h = refl

@@ -12,7 +12,7 @@ use Rattle.std.proofs.lemmas.List.{get_or-take}
 use Rattle.std.proofs.lemmas.Option.{slice_get-get_or, slice_get_past}
 use Rattle.std.proofs.Math.ListN.{length-take}
 use lib.Dec.{nltb→le, ltb→lt, eqb→eq}
-use Rattle.finite_maps.specs.Table.{get, count, get-assign, pair_keys, pair_cmp}
+use Rattle.finite_maps.specs.Table.{get, get-assign, pair_keys, pair_cmp}
 use Rattle.world_parts.specs.World.{World, byte, size, buffer, zero_bytes, write_buffer, apply}
 use Rattle.file_tree.specs.Tree.{Node, bytes_of_node, byte_of, rewritten_node}
 use Rattle.file_tree.specs.Tree.{directory}
@@ -21,7 +21,7 @@ use Rattle.finite_maps.specs.Table.{adjust_number}
 use Rattle.extent_bytes.specs.Bytes.{overwritten, overlaid, zeroed}
 use Rattle.world_parts.specs.Items.{Atom, description_at, size_of, byte_at, name_at, names_in, buffer_size, buffer_byte, Value, value, within}
 use Rattle.world_parts.proofs.Collision.{left, right}
-use Rattle.world_parts.proofs.Changes.{transformed, opened_kept, name_kept, rewriting-kind, rewriting-names}
+use Rattle.world_parts.proofs.Changes.{transformed, opened_kept, name_kept, rewriting-kind, rewriting-names, rewriting-count}
 use Rattle.world_parts.proofs.ByteWords.{byte-overwritten, byte-zeroed}
 use Rattle.extent_bytes.proofs.Lengths.{length-overwritten, length-zeroed}
 
@@ -37,7 +37,7 @@ pair_tied q m r n = tied_then (nat_cmp q r) (nat_cmp m n) ∙ (λ i. unsigned_ti
 module _ (f : List ℕ → List ℕ) (g : ℕ → ℕ) (p : ℕ) (each_byte : (bs : List ℕ) → slice_index_or (f bs) p 0 ≡ g (slice_index_or bs p 0)) (at_zero : g 0 ≡ 0) where
   byte_seen : (x : Option Node) → byte_of (option_and_then bytes_of_node (option_map (rewritten_node f) x)) p ≡ g (byte_of (option_and_then bytes_of_node x) p)
   byte_seen None = sym at_zero
-  byte_seen (Some (directory ns)) = sym at_zero
+  byte_seen (Some (directory ns o)) = sym at_zero
   byte_seen (Some (file bs)) = each_byte bs
 
   rewriting-byte : (s : World) (i j : ℕ) → byte_of (option_and_then bytes_of_node (get (adjust_number (rewritten_node f) s.nodes i) j)) p ≡ cond (j == i) (g (byte s j p)) (byte s j p)
@@ -47,7 +47,7 @@ module _ (f : List ℕ → List ℕ) (g : ℕ → ℕ) (p : ℕ) (each_byte : (b
 module _ (f : List ℕ → List ℕ) (g : ℕ → ℕ) (each_length : (bs : List ℕ) → length (f bs) ≡ g (length bs)) where
   size_seen : (x : Option Node) → option_map length (option_and_then bytes_of_node (option_map (rewritten_node f) x)) ≡ option_map g (option_map length (option_and_then bytes_of_node x))
   size_seen None = refl
-  size_seen (Some (directory ns)) = refl
+  size_seen (Some (directory ns o)) = refl
   size_seen (Some (file bs)) = ap (λ n. Some n) (each_length bs)
 
   rewriting-size : (s : World) (i j : ℕ) → option_map length (option_and_then bytes_of_node (get (adjust_number (rewritten_node f) s.nodes i) j)) ≡ cond (j == i) (option_map g (size s j)) (size s j)
@@ -62,18 +62,18 @@ abbrev pub emptied : ℕ → ℕ → ℕ → (a : Atom) → Value a → Value a
 emptied i low high (byte_at j p) x = cond (j == i) (cond (within low high p) 0 x) x
 emptied i low high a x = x
 
-pub zero_bytes-value : (s : World) (i low high : ℕ) (a : Atom) → low ≤ high → value (apply (zero_bytes i low high) s) a ≡ emptied i low high a (value s a)
-zero_bytes-value s i low high (size_of j) h = rewriting-size (λ bs. zeroed bs low high) (λ n. n) (λ bs. length-zeroed bs low high) s i j ∙ by (j == i) (size s j)
+pub zero_bytes-value : (s : World) (i low high : ℕ) (a : Atom) → value (apply (zero_bytes i low high) s) a ≡ emptied i low high a (value s a)
+zero_bytes-value s i low high (size_of j) = rewriting-size (λ bs. zeroed bs low high) (λ n. n) (λ bs. length-zeroed bs low high) s i j ∙ by (j == i) (size s j)
   where
     by : (b : Bool) (x : Option ℕ) → cond b (option_map (λ n. n) x) x ≡ x
     by true None = refl
     by true (Some n) = refl
     by false x = refl
-zero_bytes-value s i low high (byte_at j p) h = rewriting-byte (λ bs. zeroed bs low high) (λ x. cond (within low high p) 0 x) p (λ bs. byte-zeroed bs low high p) (same_both (within low high p) 0) s i j
-zero_bytes-value s i low high (names_in e) h = ap (option_map count) (rewriting-names (λ bs. zeroed bs low high) s i e)
-zero_bytes-value s i low high (name_at e m) h = name_kept s (adjust_number (rewritten_node (λ bs. zeroed bs low high)) s.nodes i) (rewriting-kind (λ bs. zeroed bs low high) s i) e m (rewriting-names (λ bs. zeroed bs low high) s i e)
-zero_bytes-value s i low high (description_at e) h = opened_kept s (adjust_number (rewritten_node (λ bs. zeroed bs low high)) s.nodes i) (rewriting-kind (λ bs. zeroed bs low high) s i) e
-zero_bytes-value s i low high _ h = refl
+zero_bytes-value s i low high (byte_at j p) = rewriting-byte (λ bs. zeroed bs low high) (λ x. cond (within low high p) 0 x) p (λ bs. byte-zeroed bs low high p) (same_both (within low high p) 0) s i j
+zero_bytes-value s i low high (names_in e) = rewriting-count (λ bs. zeroed bs low high) s i e
+zero_bytes-value s i low high (name_at e m) = name_kept s (adjust_number (rewritten_node (λ bs. zeroed bs low high)) s.nodes i) (rewriting-kind (λ bs. zeroed bs low high) s i) e m (rewriting-names (λ bs. zeroed bs low high) s i e)
+zero_bytes-value s i low high (description_at e) = opened_kept s (adjust_number (rewritten_node (λ bs. zeroed bs low high)) s.nodes i) (rewriting-kind (λ bs. zeroed bs low high) s i) e
+zero_bytes-value s i low high _ = refl
 
 -- Bytes that are put into a buffer, within its length.
 abbrev pub put_at : ℕ → List ℕ → ℕ → Option ℕ → Option ℕ

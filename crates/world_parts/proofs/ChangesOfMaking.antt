@@ -7,17 +7,17 @@ use Rattle.std.specs.declared.cmp.Ordering.TheVariants.{Less, Equal, Greater}
 use Rattle.std.specs.Cmp.{unsigned_tied}
 use mathlib.Core.Path.{sym, subst, ap, ◌∙◌}
 use lib.Dec.{eqb→eq, eqb_refl}
-use Rattle.finite_maps.specs.Table.{get, insert, count, get-insert, get-assign, number_keys, pair_keys, pair_cmp}
-use Rattle.world_parts.specs.World.{World, Description, kind, names, byte, name, Opened, opened, opened_by, new_description, make_node, make_description, set_slot, set_descriptor, set_size, apply}
+use Rattle.finite_maps.specs.Table.{get, insert, get-insert, get-assign, number_keys, pair_keys, pair_cmp}
+use Rattle.world_parts.specs.World.{World, Description, kind, names, others, byte, name, Opened, opened, opened_by, new_description, make_node, make_description, set_slot, set_descriptor, set_size, apply}
 use Rattle.file_tree.specs.Tree.{target}
-use Rattle.file_tree.specs.Tree.{Node, Kind, a_directory, a_file, kind_of_node, names_of_node, bytes_of_node, byte_of, new_node, rewritten_node}
+use Rattle.file_tree.specs.Tree.{Node, Kind, a_directory, a_file, kind_of_node, names_of_node, others_of_node, count_of_node, bytes_of_node, byte_of, new_node, rewritten_node}
 use Rattle.file_tree.specs.Tree.{Names}
 use Rattle.file_tree.specs.Tree.{directory}
 use Rattle.file_tree.specs.Tree.{file}
 use Rattle.extent_bytes.specs.Bytes.{resized}
 use Rattle.finite_maps.specs.Table.{adjust_number}
 use Rattle.world_parts.specs.Items.{Atom, slot_at, descriptor_at, description_at, position_of, size_of, byte_at, name_at, names_in, Value, value}
-use Rattle.world_parts.proofs.Changes.{transformed, opened_kept, name_kept, rewriting-kind, rewriting-names}
+use Rattle.world_parts.proofs.Changes.{transformed, opened_kept, name_kept, rewriting-kind, rewriting-names, rewriting-count}
 use Rattle.world_parts.proofs.ByteWords.{each-resized}
 use Rattle.extent_bytes.proofs.Lengths.{length-resized}
 
@@ -49,6 +49,15 @@ module _ (s : World) (i : ℕ) (k : Kind) where
 
   pub made-kind : kind after i ≡ Some (kind_of_node (new_node k))
   made-kind = seen (option_map kind_of_node) i ∙ elim (i == i) as (λ b. T b → cond b (Some (kind_of_node (new_node k))) (kind s i) ≡ Some (kind_of_node (new_node k))) [ true ↦ λ e. refl | false ↦ λ e. absurd e ] (eqb_refl i)
+
+  -- A new node shows all its names.
+  pub making-others : (j : ℕ) → IfSome (others s j) (λ n. n ≡ 0) → IfSome (others after j) (λ n. n ≡ 0)
+  making-others j h = subst (λ x. IfSome x (λ n. n ≡ 0)) (sym (seen (option_and_then others_of_node) j))
+      (elim (j == i) as (λ b. IfSome (cond b (others_of_node (new_node k)) (others s j)) (λ n. n ≡ 0)) [ true ↦ shows k | false ↦ h ])
+    where
+      shows : (q : Kind) → IfSome (others_of_node (new_node q)) (λ n. n ≡ 0)
+      shows a_directory = refl
+      shows a_file = tt
 
   module _ (unused : Unused s i) where
     -- What sees no difference between the new node and none is as before.
@@ -88,8 +97,8 @@ module _ (s : World) (i : ℕ) (k : Kind) where
 pub make_node-value : (s : World) (i : ℕ) (k : Kind) (a : Atom) → Unused s i → value (apply (make_node i k) s) a ≡ made i k a (value s a)
 make_node-value s i a_file (size_of j) h = seen s i a_file (λ x. option_map length (option_and_then bytes_of_node x)) j
 make_node-value s i a_directory (size_of j) h = kept s i a_directory h (λ x. option_map length (option_and_then bytes_of_node x)) j refl
-make_node-value s i a_file (names_in j) h = kept s i a_file h (λ x. option_map count (option_and_then names_of_node x)) j refl
-make_node-value s i a_directory (names_in j) h = seen s i a_directory (λ x. option_map count (option_and_then names_of_node x)) j
+make_node-value s i a_file (names_in j) h = kept s i a_file h (option_and_then count_of_node) j refl
+make_node-value s i a_directory (names_in j) h = seen s i a_directory (option_and_then count_of_node) j
 make_node-value s i a_file (byte_at j p) h = making-byte s i a_file h j p
 make_node-value s i a_directory (byte_at j p) h = making-byte s i a_directory h j p
 make_node-value s i a_file (name_at e n) h = making-name s i a_file h e n
@@ -157,7 +166,7 @@ set_size-value s i n (size_of j) = transformed (λ x. option_map length (option_
   where
     same : (x : Option Node) → option_map length (option_and_then bytes_of_node (option_map (rewritten_node (resizing n)) x)) ≡ option_map (λ m. n) (option_map length (option_and_then bytes_of_node x))
     same None = refl
-    same (Some (directory ns)) = refl
+    same (Some (directory ns o)) = refl
     same (Some (file bs)) = ap (λ k. Some k) (length-resized bs n)
 set_size-value s i n (byte_at j p) =
     transformed (λ x. byte_of (option_and_then bytes_of_node x) p) (λ v. cond (leb n p) 0 v) (rewritten_node (resizing n)) s.nodes i j same
@@ -165,9 +174,9 @@ set_size-value s i n (byte_at j p) =
   where
     same : (x : Option Node) → byte_of (option_and_then bytes_of_node (option_map (rewritten_node (resizing n)) x)) p ≡ cond (leb n p) 0 (byte_of (option_and_then bytes_of_node x) p)
     same None = elim (leb n p) as (λ b. ◌≡◌ {A = ℕ} 0 (cond b 0 0)) [ true ↦ refl | false ↦ refl ]
-    same (Some (directory ns)) = elim (leb n p) as (λ b. ◌≡◌ {A = ℕ} 0 (cond b 0 0)) [ true ↦ refl | false ↦ refl ]
+    same (Some (directory ns o)) = elim (leb n p) as (λ b. ◌≡◌ {A = ℕ} 0 (cond b 0 0)) [ true ↦ refl | false ↦ refl ]
     same (Some (file bs)) = each-resized bs n p
-set_size-value s i n (names_in e) = ap (option_map count) (rewriting-names (resizing n) s i e)
+set_size-value s i n (names_in e) = rewriting-count (resizing n) s i e
 set_size-value s i n (name_at e m) = name_kept s (adjust_number (rewritten_node (resizing n)) s.nodes i) (rewriting-kind (resizing n) s i) e m (rewriting-names (resizing n) s i e)
 set_size-value s i n (description_at e) = opened_kept s (adjust_number (rewritten_node (resizing n)) s.nodes i) (rewriting-kind (resizing n) s i) e
 set_size-value s i n _ = refl

@@ -1,5 +1,5 @@
 -- Two footprints that don't collide share no atom that one of them writes.
-use Rattle.std.specs.Prelude.{◌≡◌, ℕ, Bool, true, false, ◌&&◌, ◌||◌, ◌==◌, ltb, min, ◌<◌, ◌≤◌, T, List, [], ◌∷◌, refl}
+use Rattle.std.specs.Prelude.{◌≡◌, ℕ, Bool, true, false, not, ◌&&◌, ◌||◌, ◌==◌, ltb, min, ◌<◌, ◌≤◌, T, List, [], ◌∷◌, refl}
 use Rattle.std.specs.List.{list_any}
 use Rattle.std.specs.Str.{bytes_eq}
 use Rattle.std.proofs.lemmas.Slice.Eq.{bytes_eq-Decides}
@@ -27,6 +27,14 @@ either_left false b p = absurd p
 pub either_right : (a b : Bool) → T b → T (a || b)
 either_right true b p = tt
 either_right false b p = p
+
+pub not_both : (b : Bool) → T (not b) → T b → ⊥
+not_both true h k = h
+not_both false h k = k
+
+none : (b : Bool) → (T b → ⊥) → T (not b)
+none true h = h tt
+none false h = tt
 
 -- Two ranges that hold an offset meet.
 meets : (low high from to p : ℕ) → T (within low high p) → T (within from to p) → T (ranges_meet low high from to)
@@ -165,6 +173,13 @@ second_writes-collide f g a h k =
     any_passes _ (λ (u : Use). list_any (λ (v : Use). (u.written || v.written) && share u.item v.item) g)
     (λ (u : Use) m. any_passes _ (λ (v : Use). (u.written || v.written) && share u.item v.item)
     (λ (v : Use) n. both (u.written || v.written) _ (either_right u.written v.written (left v.written _ n)) (member-share u.item v.item a m (right v.written _ n))) g k) f h
+
+-- Of two footprints that don't collide, each writes nothing that the other has.
+pub first_unwritten : (f g : Footprint) (a : Atom) → T (not (collide f g)) → T (has_atom g a) → T (not (writes_atom f a))
+first_unwritten f g a h m = none _ (λ w. not_both _ h (first_writes-collide f g a w m))
+
+pub second_unwritten : (f g : Footprint) (a : Atom) → T (not (collide f g)) → T (has_atom f a) → T (not (writes_atom g a))
+second_unwritten f g a h m = none _ (λ w. not_both _ h (second_writes-collide f g a m w))
 
 -- What a footprint writes, it has.
 pub writes-has : (f : Footprint) (a : Atom) → T (writes_atom f a) → T (has_atom f a)

@@ -10,15 +10,15 @@ use lib.Dec.{eqb→eq}
 use Rattle.trace_format.specs.declared.trace.Access.{Access}
 use Rattle.entry_checks.specs.Operation.{file_limit}
 use Rattle.finite_maps.specs.Table.{Table, get, get-insert, number_keys}
-use Rattle.world_parts.specs.World.{World, IsWorld, kind, name, name_count, size, Opened, opened, slot, descriptor, Change, set_name, make_node, set_slot, set_descriptor, make_description, set_position, set_size, write_bytes, zero_bytes, write_buffer, break_chain, new_description, node_of, apply, apply_all}
+use Rattle.world_parts.specs.World.{World, IsWorld, kind, name, name_count, others, size, Opened, opened, slot, descriptor, Change, set_name, make_node, set_slot, set_descriptor, make_description, set_position, set_size, write_bytes, zero_bytes, write_buffer, break_chain, new_description, node_of, apply, apply_all}
 use Rattle.file_tree.specs.Tree.{IsTree, Kind, a_directory, a_file, Target, new_node, renamed_node, rewritten_node}
 use Rattle.extent_bytes.specs.Bytes.{resized, overwritten, zeroed}
 use Rattle.finite_maps.specs.Table.{adjust_number}
 use Rattle.world_parts.specs.Items.{slot_at, descriptor_at, description_at, size_of, name_at}
 use Rattle.world_parts.proofs.Trees.{some_apart}
-use Rattle.world_parts.proofs.Changes.{adjusted, opened_kept, rewriting-kind}
-use Rattle.world_parts.proofs.ChangesOfNames.{Leads, naming-kind, naming-bytes, set_name-value}
-use Rattle.world_parts.proofs.ChangesOfMaking.{Unused, making-kind, making-description, make_node-value, make_description-value, set_slot-value, set_descriptor-value, set_size-value}
+use Rattle.world_parts.proofs.Changes.{adjusted, opened_kept, rewriting-kind, rewriting-others}
+use Rattle.world_parts.proofs.ChangesOfNames.{Leads, naming-kind, naming-bytes, naming-others, set_name-value}
+use Rattle.world_parts.proofs.ChangesOfMaking.{Unused, making-kind, making-others, making-description, make_node-value, make_description-value, set_slot-value, set_descriptor-value, set_size-value}
 use Rattle.world_parts.proofs.Trees.{put}
 
 -- What a world is apart from its tree.
@@ -29,33 +29,36 @@ pub record IsSound (s : World) : Type 0 where
   pub descriptors_lead : (n : ℕ) → IfSome (descriptor s n) (λ d. is_some (opened s d) ≡ true)
   pub files_fit : (i : ℕ) → IfSome (size s i) (λ n. n ≤ file_limit)
   pub directories_are_read : (d : ℕ) → IfSome (opened s d) (λ o. o.target.kind ≡ Some a_directory → o.access ≡ Access.Read)
+  pub all_shown : (d : ℕ) → IfSome (others s d) (λ n. n ≡ 0)
 
 pub sound : (s : World) → IsWorld s → IsSound s
-sound s w = record { root = w.root; descriptions_lead = w.descriptions_lead; slots_lead = w.slots_lead; descriptors_lead = w.descriptors_lead; files_fit = w.files_fit; directories_are_read = w.directories_are_read }
+sound s w = record { root = w.root; descriptions_lead = w.descriptions_lead; slots_lead = w.slots_lead; descriptors_lead = w.descriptors_lead; files_fit = w.files_fit; directories_are_read = w.directories_are_read; all_shown = w.all_shown }
 
 pub is_world : (s : World) → IsTree (name s) → IsSound s → IsWorld s
-is_world s t w = record { root = w.root; tree = t; descriptions_lead = w.descriptions_lead; slots_lead = w.slots_lead; descriptors_lead = w.descriptors_lead; files_fit = w.files_fit; directories_are_read = w.directories_are_read }
+is_world s t w = record { root = w.root; tree = t; descriptions_lead = w.descriptions_lead; slots_lead = w.slots_lead; descriptors_lead = w.descriptors_lead; files_fit = w.files_fit; directories_are_read = w.directories_are_read; all_shown = w.all_shown }
 
--- A change that keeps what is opened, and the files' sizes in bounds.
-pub sound_kept : (s u : World) → kind u 0 ≡ kind s 0 → ((d : ℕ) → opened u d ≡ opened s d) → ((r n : ℕ) → slot u r n ≡ slot s r n) → ((n : ℕ) → descriptor u n ≡ descriptor s n) → ((i : ℕ) → IfSome (size u i) (λ n. n ≤ file_limit)) → IsSound s → IsSound u
-sound_kept s u k o l d z w = record {
+-- A change that keeps what is opened, the files' sizes in bounds and all names shown.
+pub sound_kept : (s u : World) → kind u 0 ≡ kind s 0 → ((d : ℕ) → opened u d ≡ opened s d) → ((r n : ℕ) → slot u r n ≡ slot s r n) → ((n : ℕ) → descriptor u n ≡ descriptor s n) → ((i : ℕ) → IfSome (size u i) (λ n. n ≤ file_limit)) → ((e : ℕ) → IfSome (others u e) (λ n. n ≡ 0)) → IsSound s → IsSound u
+sound_kept s u k o l d z a w = record {
   root = k ∙ w.root;
   descriptions_lead = λ e. subst (λ x. IfSome x (λ y. is_some y.target.kind ≡ true)) (sym (o e)) (w.descriptions_lead e);
   slots_lead = λ r n. subst (λ x. IfSome x (λ e. is_some (opened u e) ≡ true)) (sym (l r n)) (subst (λ (g : ℕ → Option Opened). IfSome (slot s r n) (λ e. is_some (g e) ≡ true)) (λ i e. sym (o e) i) (w.slots_lead r n));
   descriptors_lead = λ n. subst (λ x. IfSome x (λ e. is_some (opened u e) ≡ true)) (sym (d n)) (subst (λ (g : ℕ → Option Opened). IfSome (descriptor s n) (λ e. is_some (g e) ≡ true)) (λ i e. sym (o e) i) (w.descriptors_lead n));
   files_fit = z;
   directories_are_read = λ e. subst (λ x. IfSome x (λ y. y.target.kind ≡ Some a_directory → y.access ≡ Access.Read)) (sym (o e)) (w.directories_are_read e);
+  all_shown = a;
 }
 
 pub naming_sound : (s : World) (d : ℕ) (n : List ℕ) (x : Option Target) → IsSound s → IsSound (apply (set_name d n x) s)
 naming_sound s d n x w = sound_kept s (apply (set_name d n x) s) (naming-kind n x s d 0) (opened_kept s (adjust_number (renamed_node n (node_of x)) s.nodes d) (naming-kind n x s d)) (λ r m. refl) (λ m. refl)
-    (λ i. subst (λ y. IfSome (option_map Rattle.std.specs.Prelude.length y) (λ m. m ≤ file_limit)) (sym (naming-bytes n x s d i)) (w.files_fit i)) w
+    (λ i. subst (λ y. IfSome (option_map Rattle.std.specs.Prelude.length y) (λ m. m ≤ file_limit)) (sym (naming-bytes n x s d i)) (w.files_fit i))
+    (λ i. subst (λ y. IfSome y (λ m. m ≡ 0)) (sym (naming-others n x s d i)) (w.all_shown i)) w
 
 pub naming_names : (s : World) (d : ℕ) (n : List ℕ) (x : Option Target) → Leads s x → (e : ℕ) (m : List ℕ) → name (apply (set_name d n x) s) e m ≡ put (name s) d n (cond (is_some (name_count s d)) x None) e m
 naming_names s d n x h e m = set_name-value n x s d (name_at e m) h
 
 pub making_sound : (s : World) (i : ℕ) (k : Kind) → Unused s i → IsSound s → IsSound (apply (make_node i k) s)
-making_sound s i k u w = sound_kept s (apply (make_node i k) s) (making-kind s i k 0 (λ e. some_apart (sym w.root ∙ ap (kind s) e ∙ ap (option_map Rattle.file_tree.specs.Tree.kind_of_node) u.no_node))) (making-description s i k u) (λ r m. refl) (λ m. refl) (fits k u) w
+making_sound s i k u w = sound_kept s (apply (make_node i k) s) (making-kind s i k 0 (λ e. some_apart (sym w.root ∙ ap (kind s) e ∙ ap (option_map Rattle.file_tree.specs.Tree.kind_of_node) u.no_node))) (making-description s i k u) (λ r m. refl) (λ m. refl) (fits k u) (λ j. making-others s i k j (w.all_shown j)) w
   where
     fits : (q : Kind) → Unused s i → (j : ℕ) → IfSome (size (apply (make_node i q) s) j) (λ n. n ≤ file_limit)
     fits a_directory v j = subst (λ x. IfSome x (λ n. n ≤ file_limit)) (sym (make_node-value s i a_directory (size_of j) v)) (w.files_fit j)
@@ -63,7 +66,8 @@ making_sound s i k u w = sound_kept s (apply (make_node i k) s) (making-kind s i
 
 pub sizing_sound : (s : World) (i n : ℕ) → n ≤ file_limit → IsSound s → IsSound (apply (set_size i n) s)
 sizing_sound s i n h w = sound_kept s (apply (set_size i n) s) (rewriting-kind (λ bs. resized bs n) s i 0) (opened_kept s (adjust_number (rewritten_node (λ bs. resized bs n)) s.nodes i) (rewriting-kind (λ bs. resized bs n) s i)) (λ r m. refl) (λ m. refl)
-    (λ j. subst (λ x. IfSome x (λ m. m ≤ file_limit)) (sym (set_size-value s i n (size_of j))) (elim (j == i) as (λ b. IfSome (cond b (option_map (λ m. n) (size s j)) (size s j)) (λ m. m ≤ file_limit)) [ true ↦ cut_fits (size s j) | false ↦ w.files_fit j ])) w
+    (λ j. subst (λ x. IfSome x (λ m. m ≤ file_limit)) (sym (set_size-value s i n (size_of j))) (elim (j == i) as (λ b. IfSome (cond b (option_map (λ m. n) (size s j)) (size s j)) (λ m. m ≤ file_limit)) [ true ↦ cut_fits (size s j) | false ↦ w.files_fit j ]))
+    (λ j. subst (λ x. IfSome x (λ m. m ≡ 0)) (sym (rewriting-others (λ bs. resized bs n) s i j)) (w.all_shown j)) w
   where
     cut_fits : (x : Option ℕ) → IfSome (option_map (λ m. n) x) (λ m. m ≤ file_limit)
     cut_fits None = tt
@@ -78,6 +82,7 @@ describing_sound s n o h l r w = record {
   descriptors_lead = λ m. still (descriptor s m) (w.descriptors_lead m);
   files_fit = w.files_fit;
   directories_are_read = λ e. either (λ y. y.target.kind ≡ Some a_directory → y.access ≡ Access.Read) e r (w.directories_are_read e);
+  all_shown = w.all_shown;
 }
   where
     after : World
@@ -105,6 +110,7 @@ slotting_sound s r n x h w = record {
   descriptors_lead = w.descriptors_lead;
   files_fit = w.files_fit;
   directories_are_read = w.directories_are_read;
+  all_shown = w.all_shown;
 }
 
 pub holding_sound : (s : World) (n : ℕ) (x : Option ℕ) → IfSome x (λ d. is_some (opened s d) ≡ true) → IsSound s → IsSound (apply (set_descriptor n x) s)
@@ -115,10 +121,11 @@ holding_sound s n x h w = record {
   descriptors_lead = λ m. subst (λ y. IfSome y (λ d. is_some (opened s d) ≡ true)) (sym (set_descriptor-value s n x (descriptor_at m))) (elim (m == n) as (λ c. IfSome (cond c x (descriptor s m)) (λ d. is_some (opened s d) ≡ true)) [ true ↦ h | false ↦ w.descriptors_lead m ]);
   files_fit = w.files_fit;
   directories_are_read = w.directories_are_read;
+  all_shown = w.all_shown;
 }
 
 pub breaking_world : (s : World) (c : ℕ) (b : Rattle.world_parts.specs.World.Broken) → IsWorld s → IsWorld (apply (break_chain c b) s)
-breaking_world s c b w = record { root = w.root; tree = w.tree; descriptions_lead = w.descriptions_lead; slots_lead = w.slots_lead; descriptors_lead = w.descriptors_lead; files_fit = w.files_fit; directories_are_read = w.directories_are_read }
+breaking_world s c b w = record { root = w.root; tree = w.tree; descriptions_lead = w.descriptions_lead; slots_lead = w.slots_lead; descriptors_lead = w.descriptors_lead; files_fit = w.files_fit; directories_are_read = w.directories_are_read; all_shown = w.all_shown }
 
 -- Changes make no other node and description than those of the numbers.
 abbrev pub MakesOnly : ℕ → ℕ → Change → Type 0

@@ -1,4 +1,9 @@
 pub mod Collision
+pub mod Copies
+pub mod CopiesOfNodes
+pub mod CopiesOfNames
+pub mod CopiesOfBytes
+pub mod Cuts
 pub mod Sharing
 pub mod Values
 pub mod ByteWords
@@ -8,3 +13,16 @@ pub mod ChangesOfMaking
 pub mod ChangesOfFiles
 pub mod Trees
 pub mod KeepWorld
+mod FootprintCode
+pub mod Starts
+pub mod Fills
+pub mod Listing
+pub mod Lines
+pub mod Sized
+pub mod Holes
+pub mod Raw
+pub mod Nearer
+pub mod Pasting
+pub mod PutSteps
+pub mod PutBack
+pub mod PutTables

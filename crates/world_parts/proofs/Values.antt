@@ -1,27 +1,27 @@
 -- Two worlds with the same atoms are one.
-use Rattle.std.specs.Prelude.{◌≡◌, ℕ, suc, T, List, [], ◌∷◌, length, Option, Some, None, refl, slice_index_or}
+use Rattle.std.specs.Prelude.{◌≡◌, ℕ, suc, ◌+◌, T, List, [], ◌∷◌, length, Option, Some, None, refl, slice_index_or}
 use Rattle.std.specs.List.{slice_get}
 use Rattle.std.specs.Option.{option_map, option_and_then, is_some}
 use mathlib.Core.Path.{sym, subst, ap, ◌∙◌}
 use native.Mathlib.Omega.{arith}
-use Rattle.finite_maps.specs.Table.{get, same_table, number_keys, pair_keys, text_keys}
+use Rattle.finite_maps.specs.Table.{get, count, same_table, number_keys, pair_keys, text_keys}
 use Rattle.world_parts.specs.World.{World, Description, Opened, opened_by}
 use Rattle.file_tree.specs.Tree.{target}
-use Rattle.file_tree.specs.Tree.{Node, Target, names_of_node, bytes_of_node, byte_of}
+use Rattle.file_tree.specs.Tree.{Node, Target, names_of_node, count_of_node, bytes_of_node, byte_of}
 use Rattle.file_tree.specs.Tree.{Names}
 use Rattle.file_tree.specs.Tree.{directory}
 use Rattle.file_tree.specs.Tree.{file}
 use Rattle.world_parts.specs.Items.{chain_flag, slot_at, descriptor_at, description_at, position_of, size_of, byte_at, name_at, names_in, buffer_size, buffer_byte}
 use Rattle.world_parts.specs.Laws.{AtomsMakeTheWorld}
 
-some_apart : {A : Type 0} {x : A} → ¬ (Some x ≡ None)
+pub some_apart : {A : Type 0} {x : A} → ¬ (Some x ≡ None)
 some_apart e = subst (λ o. T (is_some o)) e tt
 
-same_some : {A : Type 0} (x y : A) → Some x ≡ Some y → x ≡ y
+pub same_some : {A : Type 0} (x y : A) → Some x ≡ Some y → x ≡ y
 same_some x y e = ap (λ o. elim o [ Some z ↦ z | None ↦ x ]) e
 
 -- Lists of one length with the same bytes at each offset.
-same_bytes : (xs ys : List ℕ) → length xs ≡ length ys → ((p : ℕ) → slice_index_or xs p 0 ≡ slice_index_or ys p 0) → xs ≡ ys
+pub same_bytes : (xs ys : List ℕ) → length xs ≡ length ys → ((p : ℕ) → slice_index_or xs p 0 ≡ slice_index_or ys p 0) → xs ≡ ys
 same_bytes [] [] e h = refl
 same_bytes [] (y ∷ ys) e h = absurd (omega arith)
 same_bytes (x ∷ xs) [] e h = absurd (omega arith)
@@ -45,21 +45,29 @@ named s (Some i) = refl
 same_names : (s u : World) (m n : Names) → ((q : List ℕ) → option_map (target s.nodes) (get m q) ≡ option_map (target u.nodes) (get n q)) → m ≡ n
 same_names s u m n h = same_table text_keys m n (λ q. sym (named s (get m q)) ∙ ap node_of (h q) ∙ named u (get n q))
 
+-- How many names there are besides the same ones.
+same_rest : (m n : Names) (o p : ℕ) → m ≡ n → count m + o ≡ count n + p → o ≡ p
+same_rest m n o p e h =
+    let counts : count m ≡ count n = ap (λ (k : Names). count k) e in
+    omega (arith, counts, h)
+
 -- Nodes with the same size, bytes, number of names and names.
 same_node : (s u : World) (x y : Option Node)
     → option_map length (option_and_then bytes_of_node x) ≡ option_map length (option_and_then bytes_of_node y)
     → ((p : ℕ) → byte_of (option_and_then bytes_of_node x) p ≡ byte_of (option_and_then bytes_of_node y) p)
-    → option_map (λ (m : Names). length m.entries) (option_and_then names_of_node x) ≡ option_map (λ (m : Names). length m.entries) (option_and_then names_of_node y)
+    → option_and_then count_of_node x ≡ option_and_then count_of_node y
     → ((q : List ℕ) → option_map (target s.nodes) (option_and_then (λ (m : Names). get m q) (option_and_then names_of_node x)) ≡ option_map (target u.nodes) (option_and_then (λ (m : Names). get m q) (option_and_then names_of_node y)))
     → x ≡ y
 same_node s u None None z b c n = refl
-same_node s u None (Some (directory m)) z b c n = absurd (some_apart (sym c))
+same_node s u None (Some (directory m o)) z b c n = absurd (some_apart (sym c))
 same_node s u None (Some (file bs)) z b c n = absurd (some_apart (sym z))
-same_node s u (Some (directory m)) None z b c n = absurd (some_apart c)
+same_node s u (Some (directory m o)) None z b c n = absurd (some_apart c)
 same_node s u (Some (file bs)) None z b c n = absurd (some_apart z)
-same_node s u (Some (directory m)) (Some (file bs)) z b c n = absurd (some_apart c)
-same_node s u (Some (file bs)) (Some (directory m)) z b c n = absurd (some_apart z)
-same_node s u (Some (directory m)) (Some (directory k)) z b c n = ap (λ q. Some (directory q)) (same_names s u m k n)
+same_node s u (Some (directory m o)) (Some (file bs)) z b c n = absurd (some_apart c)
+same_node s u (Some (file bs)) (Some (directory m o)) z b c n = absurd (some_apart z)
+same_node s u (Some (directory m o)) (Some (directory k p)) z b c n =
+    let shown = same_names s u m k n in
+    λ i. Some (directory (shown i) (same_rest m k o p shown (same_some _ _ c) i))
 same_node s u (Some (file bs)) (Some (file cs)) z b c n = ap (λ q. Some (file q)) (same_bytes bs cs (same_some _ _ z) b)
 
 abbrev rebuilt : Option Opened → Option ℕ → Option Description
@@ -73,7 +81,7 @@ rebuilds s (Some d) = refl
 same_description : (s u : World) (x y : Option Description) → option_map (opened_by s) x ≡ option_map (opened_by u) y → option_map (λ e. e.position) x ≡ option_map (λ e. e.position) y → x ≡ y
 same_description s u x y o p = sym (rebuilds s x) ∙ (λ i. rebuilt (o i) (p i)) ∙ rebuilds u y
 
-same_buffer : (x y : Option (List ℕ)) → option_map length x ≡ option_map length y → ((p : ℕ) → option_and_then (λ bs. slice_get bs p) x ≡ option_and_then (λ bs. slice_get bs p) y) → x ≡ y
+pub same_buffer : (x y : Option (List ℕ)) → option_map length x ≡ option_map length y → ((p : ℕ) → option_and_then (λ bs. slice_get bs p) x ≡ option_and_then (λ bs. slice_get bs p) y) → x ≡ y
 same_buffer None None z b = refl
 same_buffer None (Some ys) z b = absurd (some_apart (sym z))
 same_buffer (Some xs) None z b = absurd (some_apart z)

@@ -2,5 +2,11 @@ pub mod World
 pub mod Start
 pub mod Items
 pub mod Codes
+pub mod Copying
 pub mod Image
 pub mod Laws
+pub mod Part
+pub mod Uses
+pub mod Sized
+pub mod Pending
+pub mod Putting

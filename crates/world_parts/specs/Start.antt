@@ -64,7 +64,7 @@ ring_buffers r (x ∷ xs) = buffers_from r 0 x.buffers (ring_buffers (suc r) xs)
 
 -- A world with the root alone.
 abbrev pub bare : World
-bare = record { nodes = insert number_keys.total empty 0 (Node.directory empty); descriptions = empty; slots = empty; descriptors = empty; buffers = empty; broken = empty }
+bare = record { nodes = insert number_keys.total empty 0 (Node.directory empty 0); descriptions = empty; slots = empty; descriptors = empty; buffers = empty; broken = empty }
 
 -- The world that a trace starts with; all chains are running.
 abbrev pub start : Trace → World

@@ -38,12 +38,15 @@ names s i = tree.names s.nodes i
 abbrev pub bytes : World → ℕ → Option (List ℕ)
 bytes s i = tree.bytes s.nodes i
 
--- What a name of a directory leads to, and how many names it has.
+-- What a name of a directory leads to; how many names it has, and how many of them aren't shown.
 abbrev pub name : World → ℕ → List ℕ → Option Target
 name s d n = tree.name s.nodes d n
 
 abbrev pub name_count : World → ℕ → Option ℕ
 name_count s d = tree.name_count s.nodes d
+
+abbrev pub others : World → ℕ → Option ℕ
+others s d = tree.others s.nodes d
 
 -- The size of a file, and the byte at an offset: zero past the size, and where there is no file.
 abbrev pub size : World → ℕ → Option ℕ
@@ -128,3 +131,5 @@ pub record IsWorld (s : World) : Type 0 where
   pub files_fit : (i : ℕ) → IfSome (size s i) (λ n. n ≤ file_limit)
   -- A directory is only opened to read.
   pub directories_are_read : (d : ℕ) → IfSome (opened s d) (λ o. o.target.kind ≡ Some a_directory → o.access ≡ Access.Read)
+  -- A whole world shows all names.
+  pub all_shown : (d : ℕ) → IfSome (others s d) (λ n. n ≡ 0)

@@ -1,7 +1,27 @@
-//! The world that a replay changes, and the items of a footprint.
+//! The world that a replay changes, the items of a footprint, and the parts that footprints cut out.
 #![tactic(auto)]
 
+mod broken;
+mod changing;
+mod copying;
+mod cutting;
+mod footprint;
+#[cfg(test)]
+mod footprint_tests;
 mod image;
+mod imaging;
 pub mod laws;
+mod laying;
+mod part;
+mod putting;
+mod start;
+mod state;
+#[cfg(test)]
+mod tests;
+mod whole;
 
+pub use broken::Broken;
+pub use footprint::{Footprint, Item, Use, collide};
 pub use image::{BufferEntry, DescriptorEntry, Image, NameEntry, SlotEntry};
+pub use part::{Part, World};
+pub use state::State;

@@ -203,6 +203,131 @@ pub(super) const BUFFER_SELECTION_PERSONALITY_AND_RW_FLAGS_OF_READ: Example = Ex
         end\n",
 };
 
+/// Two writes side by side.
+pub(super) const NEIGHBOURING_WRITES_DO_NOT_COLLIDE: Example = Example {
+    trace: "5552494e475452430100000001000000010000000100000001000000000000000202002f610a0000000000\
+        00000a0000003031323334353637383901000000020000000000000000000400010000000000000000000000\
+        0000000001000010000000000000100000000100020017010000000000000000000000000000000000000000\
+        0000020000000000000000000000000000000000000000000000000000000000000000000000000000000200\
+        0000616217010000000000000200000000000000000000000000000002000000000000000000000000000000\
+        000000000000000000000000000000000000000000000000020000006364",
+    report: "uring-report 1\n\
+        ring 0\n\
+        0 user=0 res=2 posted\n\
+        1 user=0 res=2 posted\n\
+        tree\n\
+        file /a node=1 size=10\n\
+        slots\n\
+        slot 0 0 desc=0 node=1 pos=0\n\
+        buffers\n\
+        buffer 0 0 len=16\n\
+        end\n",
+    sums: "uring-report 1\n\
+        ring 0\n\
+        0 user=0 res=2 posted\n\
+        1 user=0 res=2 posted\n\
+        tree\n\
+        file /a node=1 size=10 sum=498e51388f8c24b039420bac650a41c33821ba99e54b1ab33ad0e1ed721ff79e\n\
+        slots\n\
+        slot 0 0 desc=0 node=1 pos=0\n\
+        buffers\n\
+        buffer 0 0 len=16 sum=374708fff7719dd5979ec875d56cd2286f6d3cf7ec317a3b25632aab28ec37bb\n\
+        end\n",
+};
+
+/// No records.
+pub(super) const NO_RECORDS: Example = Example {
+    trace: "5552494e475452430100000001000000010000000100000000000000000000000202002f610a0000000000\
+        00000a0000003031323334353637383901000000020000000000000000000400010000000000000000000000\
+        000000000100001000000000000010000000",
+    report: "uring-report 1\n\
+        ring 0\n\
+        tree\n\
+        file /a node=1 size=10\n\
+        slots\n\
+        slot 0 0 desc=0 node=1 pos=0\n\
+        buffers\n\
+        buffer 0 0 len=16\n\
+        end\n",
+    sums: "uring-report 1\n\
+        ring 0\n\
+        tree\n\
+        file /a node=1 size=10 sum=84d89877f0d4041efb6bf91a16f0248f2fd573e6af05c19f96bedb9f882f7882\n\
+        slots\n\
+        slot 0 0 desc=0 node=1 pos=0\n\
+        buffers\n\
+        buffer 0 0 len=16 sum=374708fff7719dd5979ec875d56cd2286f6d3cf7ec317a3b25632aab28ec37bb\n\
+        end\n",
+};
+
+/// Reads of ranges that overlap.
+pub(super) const OVERLAPPING_READS_SHARE_A_ROUND: Example = Example {
+    trace: "5552494e475452430100000001000000010000000100000001000000000000000202002f610a0000000000\
+        00000a0000003031323334353637383901000000020000000000000000000400010000000000000000000000\
+        0000000001000010000000000000100000000100020016010000000000000000000000000000000000000000\
+        0000040000000000000000000000000000000000000000000000000000000000000000000000000000000000\
+        0000160100000000000002000000000000000000000000000000040000000000000000000000000000000000\
+        0000000000000000000000000000000000000000000000000000",
+    report: "uring-report 1\n\
+        ring 0\n\
+        0 user=0 res=4 posted data=30313233\n\
+        1 user=0 res=4 posted data=32333435\n\
+        tree\n\
+        file /a node=1 size=10\n\
+        slots\n\
+        slot 0 0 desc=0 node=1 pos=0\n\
+        buffers\n\
+        buffer 0 0 len=16\n\
+        end\n",
+    sums: "uring-report 1\n\
+        ring 0\n\
+        0 user=0 res=4 posted data=30313233\n\
+        1 user=0 res=4 posted data=32333435\n\
+        tree\n\
+        file /a node=1 size=10 sum=84d89877f0d4041efb6bf91a16f0248f2fd573e6af05c19f96bedb9f882f7882\n\
+        slots\n\
+        slot 0 0 desc=0 node=1 pos=0\n\
+        buffers\n\
+        buffer 0 0 len=16 sum=374708fff7719dd5979ec875d56cd2286f6d3cf7ec317a3b25632aab28ec37bb\n\
+        end\n",
+};
+
+/// Two writes of one page, and a read of both.
+pub(super) const TWO_WRITTEN_RANGES_IN_ONE_PAGE: Example = Example {
+    trace: "5552494e475452430100000001000000010000000100000001000000000000000202002f610a0000000000\
+        00000a0000003031323334353637383901000000020000000000000000000400010000000000000000000000\
+        0000000001000010000000000000100000000100030017010000000000000000000000000000000000000000\
+        0000010000000000000000000000000000000000000000000000000000000000000000000000000000000100\
+        0000411701000000000000010000000000000000000000000000000100000000000000000000000000000000\
+        0000000000000000000000000000000000000000000000010000004216010000000000000000000000000000\
+        0000000000000000020000000000000000000000000000000000000000000000000000000000000000000000\
+        0000000000000000",
+    report: "uring-report 1\n\
+        ring 0\n\
+        0 user=0 res=1 posted\n\
+        1 user=0 res=1 posted\n\
+        2 user=0 res=2 posted data=4142\n\
+        tree\n\
+        file /a node=1 size=10\n\
+        slots\n\
+        slot 0 0 desc=0 node=1 pos=0\n\
+        buffers\n\
+        buffer 0 0 len=16\n\
+        end\n",
+    sums: "uring-report 1\n\
+        ring 0\n\
+        0 user=0 res=1 posted\n\
+        1 user=0 res=1 posted\n\
+        2 user=0 res=2 posted data=4142\n\
+        tree\n\
+        file /a node=1 size=10 sum=b38acc483b9bea8ceafe08082077cd440472ec361e37fec7e8e90f42ee40bc6c\n\
+        slots\n\
+        slot 0 0 desc=0 node=1 pos=0\n\
+        buffers\n\
+        buffer 0 0 len=16 sum=374708fff7719dd5979ec875d56cd2286f6d3cf7ec317a3b25632aab28ec37bb\n\
+        end\n",
+};
+
 /// Replies with 32 bytes and more, names with bytes that are not shown as they are, and a file too long for a sum.
 pub(super) const LONG_DATA_ODD_NAMES_AND_A_LARGE_FILE: Example = Example {
     trace: "5552494e475452430100000004000000020000000200000001000000000000000202002f6228000000000000\

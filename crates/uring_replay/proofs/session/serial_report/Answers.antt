@@ -1,3 +1,4 @@
+use Rattle.std.proofs.Common.{ap}
 use Rattle.uring_replay.proofs.SessionLemmas.{length-replies, sequential_text}
 use Rattle.uring_replay.proofs.session.serial_report.Goals as goal
 
@@ -6,5 +7,5 @@ report_text-requires c = record { replies = length-replies c.args.trace.now c.in
 
 pub returns-in-Ok-clause-ok : goal.returns-in-Ok-clause-ok
 returns-in-Ok-clause-ok c =
-    sequential_text c.args.trace.now c.in_ok-replay.replay.world c.in_ok-replay.replay.replies c.args.sums c.in-Ok.text.items
-    c.in_ok-replay.ensures.replay.world c.in_ok-replay.ensures.replay.replies c.in-Ok.ensures
+    sequential_text c.args.trace.now c.in_ok-replay.replay.world.world c.in_ok-replay.replay.replies c.args.sums c.in-Ok.text.items
+    (ap (λ d. d.world) c.in_ok-replay.ensures.replay.world) c.in_ok-replay.ensures.replay.replies c.in-Ok.ensures

@@ -1,9 +1,8 @@
-use Rattle.std.proofs.Common.{ap}
-use Rattle.uring_replay.specs.declared.words.Mode.TheVariants.{Serial}
-use Rattle.uring_replay.proofs.WordsLemmas.{flag_is}
+use Rattle.std.proofs.Common.{sym, ap, ◌∙◌, Some}
+use Rattle.uring_replay.proofs.WordsLemmas.{serial_chosen}
 use Rattle.uring_replay.proofs.words.options_in.Goals as goal
 
-pub returns-in-Some : goal.returns-in-Some
-returns-in-Some c =
-    λ sums found. ap (λ flag. record { mode = Serial; sums = flag })
-    (flag_is c.args.matches.now c.in-Some.chosen.now c.get_flag-sums.result sums c.in-Some.ensures.rows c.get_flag-sums.ensures.value c.get_flag-sums.ensures.other found)
+pub returns-in-Some-serial-default : goal.returns-in-Some-serial-default
+returns-in-Some-serial-default c =
+    λ options found. serial_chosen c.args.matches.now c.in-Some-serial-default.chosen.now c.get_flag.result options.mode options.sums (sym c.in-Some-serial-default.ensures.name ∙ ap Some c.in-Some-serial-default.is-serial)
+    c.in-Some-serial-default.ensures.rows c.get_flag.ensures.value c.get_flag.ensures.other found

@@ -1,20 +1,20 @@
 use Rattle.std.proofs.Common.{map, Ok, Err}
 use Rattle.clap.specs.Words.{app_of}
 use Rattle.clap.specs.declared.parser.matches.ArgMatches.{ArgMatches}
-use Rattle.uring_replay.proofs.WordsLemmas.{flag_met, help_ends, same_rules, words_pass}
+use Rattle.uring_replay.proofs.WordsLemmas.{options_met, help_ends, same_rules, words_pass}
 use Rattle.uring_replay.proofs.words.parsed.Goals as goal
 
 pub returns-in-Ok-clause-options : goal.returns-in-Ok-clause-options
 returns-in-Ok-clause-options c =
-    λ sums asked. c.options_in.ensures sums
-    (flag_met (app_of c.in_ok-command.command) (map (λ word. word.now) c.args.words.now) c.in-Ok.matches sums c.in_ok-command.ensures asked c.in-Ok.ensures.matches)
+    λ o asked. c.options_in.ensures o
+    (options_met (app_of c.in_ok-command.command) (map (λ word. word.now) c.args.words.now) c.in-Ok.matches o c.in_ok-command.ensures asked c.in-Ok.ensures.matches)
 
 pub returns-in-Ok-clause-help : goal.returns-in-Ok-clause-help
 returns-in-Ok-clause-help c = λ asked. help_ends (app_of c.in_ok-command.command) (map (λ word. word.now) c.args.words.now) (Ok c.in-Ok.matches) c.in_ok-command.ensures asked c.in-Ok.ensures.kinds
 
 pub returns-in-Err-clause-options : goal.returns-in-Err-clause-options
 returns-in-Err-clause-options c =
-    λ sums asked. c.in-Err.ensures.passes (words_pass (app_of c.in_ok-command.command) (map (λ word. word.now) c.args.words.now) sums c.in_ok-command.ensures asked)
+    λ o asked. c.in-Err.ensures.passes (words_pass (app_of c.in_ok-command.command) (map (λ word. word.now) c.args.words.now) o c.in_ok-command.ensures asked)
 
 pub returns-in-Err-clause-help : goal.returns-in-Err-clause-help
 returns-in-Err-clause-help c = λ asked. help_ends {T = ArgMatches} (app_of c.in_ok-command.command) (map (λ word. word.now) c.args.words.now) (Err c.in-Err.error) c.in_ok-command.ensures asked c.in-Err.ensures.kinds

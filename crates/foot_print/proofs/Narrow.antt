@@ -1,0 +1,159 @@
+-- Footprints of places name single items and ranges.
+use Rattle.std.specs.Prelude.{ℕ, ℤ, pos, negsuc, zero, suc, Bool, true, false, cond, not, ◌&&◌, ◌||◌, ◌==◌, ltb, leb, ◌+◌, T, List, [], ◌∷◌, ◌++◌, map, length, Option, Some, None, is_ok}
+use Rattle.chain_plan.specs.declared.role.Role.{Role}
+use Rattle.chain_plan.specs.Chain.{role}
+use Rattle.trace_format.specs.declared.trace.Trace.{Trace}
+use Rattle.sqe_codec.specs.Answers.{each_ok}
+use Rattle.entry_checks.specs.Operation.{Operation, nop, readv, writev, fsync, read_fixed, write_fixed, fallocate, openat, close, read, write, renameat, unlinkat, mkdirat, linkat, ftruncate, File, Span, Path, OpenFlags, file_limit, at_position}
+use Rattle.file_tree.specs.Tree.{Target}
+use Rattle.file_tree.specs.Walk.{Place, walk, names_on, is_directory}
+use Rattle.world_parts.specs.World.{World}
+use Rattle.world_parts.specs.Items.{Atom, chain_flag, slot_at, descriptor_at, position_of, size_of, name_at, names_in, Item, one, file_bytes, buffer_bytes, all_names, all_bytes_and_sizes, all_positions, all_descriptions, all_descriptors, Use, reads, writes, Footprint}
+use Rattle.world_parts.specs.Part.{is_narrow_use, is_narrow}
+use Rattle.op_meaning.specs.Meaning.{meaning, made_node, slot_count, span_start, Handle, handle, handle_of, held, is_file, allocation, Allocation, extend, reserve, punch, zero_extend, zero_within, lowest_free}
+use Rattle.op_meaning.specs.Step.{Turn, filled, refused, canceled, runs, turn}
+use Rattle.op_meaning.specs.Footprint.{use_of, as_reads, Taken, held_item, file_reads, range_of, transfer_range, position_written, of_file, of_description, on_file, span_use, position_use, read_row, write_row, allocation_uses, path_reads, name_written, made_where, directory_names, room_uses, description_made, open_uses, openat_row, close_row, unlinkat_row, renameat_row, row, row_in, order_uses, turn_uses, ring_at}
+use Rattle.foot_print.specs.Parts.{FootprintsAreNarrow}
+use Rattle.foot_print.proofs.Holding.{all_append, all_each, all_each_ok}
+use Rattle.foot_print.proofs.CoverWrites.{content}
+use Rattle.world_parts.proofs.Collision.{both, right, left}
+
+both_narrow : (f g : Footprint) → T (is_narrow f) → T (is_narrow g) → T (is_narrow (f ++ g))
+both_narrow f g h k = all_append is_narrow_use f g h k
+
+-- What names an item that it writes, names it too where it reads only.
+read_narrow : (x : Item) (w : Bool) → T (is_narrow_use (record { item = x; written = w })) → T (is_narrow_use (reads x))
+read_narrow (one a) w h = tt
+read_narrow (file_bytes i low high) w h = tt
+read_narrow (buffer_bytes r b low high) w h = tt
+read_narrow (all_names n) w h = h
+read_narrow (all_bytes_and_sizes n) w h = h
+read_narrow (all_positions n) w h = h
+read_narrow (all_descriptions n) w h = h
+read_narrow all_descriptors w h = tt
+
+reads_narrow : (f : Footprint) → T (is_narrow f) → T (is_narrow (as_reads f))
+reads_narrow [] h = tt
+reads_narrow (u ∷ f) h = both (is_narrow_use (reads u.item)) _ (read_narrow u.item u.written (left (is_narrow_use u) _ h)) (reads_narrow f (right (is_narrow_use u) _ h))
+
+-- The slot or descriptor of a number, and what an operation has of an open file.
+held_narrow : (g : Item → Use) → ((a : Atom) → T (is_narrow_use (g (one a)))) → (t : Trace) (r : ℕ) (b : Bool) (n : ℤ) → T (is_narrow (map g (held_item t r b n)))
+held_narrow g h t r true (pos n) = elim (ltb n (slot_count t r)) as (λ b. T (is_narrow (map g (cond b (one (slot_at r n) ∷ []) [])))) [ true ↦ both _ _ (h (slot_at r n)) tt | false ↦ tt ]
+held_narrow g h t r false (pos n) = elim (ltb n (length t.descriptors)) as (λ b. T (is_narrow (map g (cond b (one (descriptor_at n) ∷ []) [])))) [ true ↦ both _ _ (h (descriptor_at n)) tt | false ↦ tt ]
+held_narrow g h t r b (negsuc n) = tt
+
+module _ (t : Trace) (s : World) (r : ℕ) where
+  file_narrow : (f : File) (c : ℕ → Handle → Footprint) → ((i : ℕ) (h : Handle) → T (is_narrow (c i h))) → T (is_narrow (on_file t s r f c))
+  file_narrow f c h = both_narrow (file_reads t r f) _ (held_narrow reads (λ a. tt) t r f.registered f.number) (all_each is_narrow_use (of_description s c) (held t s r f.registered f.number) (λ d. all_each is_narrow_use (of_file c) (handle_of s d) (λ (g : Handle). at g (is_file g.opened))))
+    where
+      at : (g : Handle) (b : Bool) → T (is_narrow (cond b (c g.opened.target.node g) []))
+      at g true = h g.opened.target.node g
+      at g false = tt
+
+  position_narrow : (o : ℕ) (h : Handle) → T (is_narrow (position_written h o))
+  position_narrow o h = elim (o == at_position) as (λ b. T (is_narrow (cond b (writes (one (position_of h.description)) ∷ []) []))) [ true ↦ tt | false ↦ tt ]
+
+  range_narrow : (b : Bool) (i low high : ℕ) (w : Bool) → T (is_narrow_use (record { item = cond b (range_of i 0 file_limit) (range_of i low high); written = w }))
+  range_narrow true i low high w = tt
+  range_narrow false i low high w = tt
+
+  moving_narrow : (f : File) (o : ℕ) (c : ℕ → Handle → Footprint) → ((i : ℕ) (h : Handle) → T (is_narrow (c i h))) → T (is_narrow (on_file t s r f c ++ position_use t s r f o))
+  moving_narrow f o c h = both_narrow (on_file t s r f c) _ (file_narrow f c h) (all_each is_narrow_use (λ g. position_written g o) (handle t s r f) (position_narrow o))
+
+  reading_narrow : (f : File) (o n : ℕ) → T (is_narrow (read_row t s r f o n))
+  reading_narrow f o n = moving_narrow f o (λ i h. reads (one (size_of i)) ∷ reads (transfer_range i (o == at_position) o n) ∷ position_written h o) (λ i h. both (is_narrow_use (reads (transfer_range i (o == at_position) o n))) _ (range_narrow (o == at_position) i o (o + n) false) (position_narrow o h))
+
+  writing_narrow : (x : Taken) (f : File) (o n : ℕ) → T (is_narrow (write_row t s r x f o n))
+  writing_narrow x f o n = moving_narrow f o (content s x.extending o n) (λ i h. both (is_narrow_use (writes (transfer_range i (h.opened.append || o == at_position) o n))) _ (range_narrow (h.opened.append || o == at_position) i o (o + n) true) (position_narrow o h))
+
+  span_narrow : (w : Bool) (x : Span) → T (is_narrow (span_use w t r x))
+  span_narrow w x = all_each is_narrow_use (λ at. use_of w (buffer_bytes r x.index at (at + x.length)) ∷ []) (span_start t r x) (λ at. tt)
+
+  allocation_narrow : (b : Bool) (i at end : ℕ) (a : Option Allocation) → T (is_narrow (allocation_uses s b i at end a))
+  allocation_narrow b i at end (Some extend) = tt
+  allocation_narrow b i at end (Some reserve) = tt
+  allocation_narrow b i at end (Some punch) = tt
+  allocation_narrow b i at end (Some zero_extend) = tt
+  allocation_narrow b i at end (Some zero_within) = tt
+  allocation_narrow b i at end None = tt
+
+  path_narrow : (p : Path) → T (is_narrow (path_reads s p))
+  path_narrow p = by (names_on s.nodes p)
+    where
+      by : (es : List (ℕ × List ℕ)) → T (is_narrow (map (λ e. reads (one (name_at e.0 e.1))) es))
+      by [] = tt
+      by (e ∷ es) = by es
+
+  names_narrow : (y : Option Target) → T (is_narrow (directory_names y))
+  names_narrow None = tt
+  names_narrow (Some y) = elim (is_directory y.kind) as (λ b. T (is_narrow (cond b (reads (one (names_in y.node)) ∷ []) []))) [ true ↦ tt | false ↦ tt ]
+
+  made_narrow : (x : Taken) (f : Footprint) → T (is_narrow f) → T (is_narrow (made_where x f))
+  made_narrow x f h = elim x.accepted as (λ b. T (is_narrow (cond b f []))) [ true ↦ h | false ↦ tt ]
+
+  room_narrow : (index : ℕ) → T (is_narrow (room_uses t s r index))
+  room_narrow zero = all_each is_narrow_use (λ n. writes (one (descriptor_at n)) ∷ []) (lowest_free t s) (λ n. tt)
+  room_narrow (suc n) = held_narrow writes (λ a. tt) t r true (pos n)
+
+  opened_narrow : (k : ℕ) (x : Taken) (g : OpenFlags) (q : Place) (y : Option Target) → T (is_narrow (open_uses t k x g q y))
+  opened_narrow k x g q None = elim g.create as (λ b. T (is_narrow (cond b (name_written q ++ made_where x (writes (one (size_of (made_node t k))) ∷ [])) []))) [ true ↦ made_narrow x (writes (one (size_of (made_node t k))) ∷ []) tt | false ↦ tt ]
+  opened_narrow k x g q (Some y) = elim (g.truncate && not (is_directory y.kind)) as (λ b. T (is_narrow (cond b (writes (one (size_of y.node)) ∷ writes (range_of y.node 0 file_limit) ∷ []) []))) [ true ↦ tt | false ↦ tt ]
+
+  opening_narrow : (k : ℕ) (x : Taken) (p : Path) (g : OpenFlags) (index : ℕ) → T (is_narrow (openat_row t s k r x p g index))
+  opening_narrow k x p g index =
+      let looks = path_reads s p ++ room_uses t s r index in
+      both_narrow (looks ++ made_where x (description_made t k)) _
+      (both_narrow looks _ (both_narrow (path_reads s p) _ (path_narrow p) (room_narrow index)) (made_narrow x (description_made t k) tt))
+      (all_each_ok is_narrow_use (λ (q : Place). open_uses t k x g q q.target) (walk s.nodes p) (λ q. opened_narrow k x g q q.target))
+
+  closing_narrow : (number : ℤ) (index : ℕ) → T (is_narrow (close_row t r number index))
+  closing_narrow number zero = held_narrow writes (λ a. tt) t r false number
+  closing_narrow number (suc n) = held_narrow writes (λ a. tt) t r true (pos n)
+
+  removing_narrow : (p : Path) (removes : Bool) → T (is_narrow (unlinkat_row s p removes))
+  removing_narrow p removes = both_narrow (path_reads s p) _ (path_narrow p) (all_each_ok is_narrow_use (λ (q : Place). name_written q ++ cond removes (directory_names q.target) []) (walk s.nodes p) (λ q.
+      elim removes as (λ b. T (is_narrow (name_written q ++ cond b (directory_names q.target) []))) [ true ↦ names_narrow q.target | false ↦ tt ]))
+
+  renaming_narrow : (old new : Path) → T (is_narrow (renameat_row s old new))
+  renaming_narrow old new =
+      let looks = path_reads s old ++ path_reads s new in
+      both_narrow (looks ++ each_ok name_written (walk s.nodes old)) _
+      (both_narrow looks _ (both_narrow (path_reads s old) _ (path_narrow old) (path_narrow new)) (all_each_ok is_narrow_use name_written (walk s.nodes old) (λ q. tt)))
+      (all_each_ok is_narrow_use (λ (q : Place). name_written q ++ directory_names q.target) (walk s.nodes new) (λ q. names_narrow q.target))
+
+  row_narrow : (k : ℕ) (x : Taken) (o : Operation) → T (is_narrow (row t k r s x o))
+  row_narrow k x nop = tt
+  row_narrow k x (readv f o n) = reading_narrow f o _
+  row_narrow k x (writev f o new) = writing_narrow x f o _
+  row_narrow k x (fsync f) = held_narrow reads (λ a. tt) t r f.registered f.number
+  row_narrow k x (read_fixed f o span) = both_narrow (read_row t s r f o _) _ (reading_narrow f o _) (span_narrow true span)
+  row_narrow k x (write_fixed f o span) = both_narrow (write_row t s r x f o _) _ (writing_narrow x f o _) (span_narrow false span)
+  row_narrow k x (fallocate f o n mode) = file_narrow f (λ i h. allocation_uses s x.extending i o (o + n) (allocation mode)) (λ i h. allocation_narrow x.extending i o (o + n) (allocation mode))
+  row_narrow k x (openat p g index) = opening_narrow k x p g index
+  row_narrow k x (close number index) = closing_narrow number index
+  row_narrow k x (read f o n) = reading_narrow f o _
+  row_narrow k x (write f o new) = writing_narrow x f o _
+  row_narrow k x (renameat old new flags) = renaming_narrow old new
+  row_narrow k x (unlinkat p removes) = removing_narrow p removes
+  row_narrow k x (mkdirat p) = both_narrow (path_reads s p) _ (path_narrow p) (all_each_ok is_narrow_use (λ (q : Place). name_written q ++ made_where x (writes (one (names_in (made_node t k))) ∷ [])) (walk s.nodes p) (λ q. made_narrow x (writes (one (names_in (made_node t k))) ∷ []) tt))
+  row_narrow k x (linkat old new) = both_narrow (path_reads s old ++ path_reads s new) _ (both_narrow (path_reads s old) _ (path_narrow old) (path_narrow new)) (all_each_ok is_narrow_use name_written (walk s.nodes new) (λ q. tt))
+  row_narrow k x (ftruncate f n) = file_narrow f (λ i h. writes (one (size_of i)) ∷ writes (range_of i n file_limit) ∷ []) (λ i h. tt)
+
+  row_in_narrow : (k : ℕ) (o : Operation) → T (is_narrow (row_in t k r s o))
+  row_in_narrow k o = by (is_ok (meaning t k r s o))
+    where
+      by : (b : Bool) → T (is_narrow (cond b (row t k r s (record { accepted = b; extending = false }) o) (as_reads (row t k r s (record { accepted = b; extending = false }) o))))
+      by true = row_narrow k (record { accepted = true; extending = false }) o
+      by false = reads_narrow (row t k r s (record { accepted = false; extending = false }) o) (row_narrow k (record { accepted = false; extending = false }) o)
+
+order_narrow : (r : ℕ) (c : Role) → T (is_narrow (order_uses r c))
+order_narrow r c = elim (leb 2 c.length) as (λ b. T (is_narrow (cond b (writes (one (chain_flag c.chain)) ∷ []) []))) [ true ↦ tt | false ↦ tt ]
+
+pub all_narrow : FootprintsAreNarrow
+all_narrow t k s = both_narrow (order_uses (ring_at t k) (role t k)) _ (order_narrow (ring_at t k) (role t k)) (all_each is_narrow_use (turn_uses t k s) (turn t k s) by)
+  where
+    by : (x : Turn) → T (is_narrow (turn_uses t k s x))
+    by (filled r b at new) = tt
+    by (refused e p) = tt
+    by (canceled p) = tt
+    by (runs r e o) = row_in_narrow t s r k o

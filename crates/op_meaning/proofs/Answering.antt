@@ -1,0 +1,45 @@
+-- Failures, replies and changes of an operation that ran, by what it answers.
+use Rattle.std.proofs.Common.{◌≡◌, ℕ, Bool, List, [], ◌∷◌, ◌++◌, Option, Some, None, refl, sym, ap, ◌∙◌, arith}
+use Rattle.std.specs.Prelude.{◌<◌, ◌≤◌, ◌^◌, Result, Ok, Err, IfOk}
+use Rattle.sqe_codec.specs.declared.errno.Errno.{Errno}
+use Rattle.trace_format.specs.declared.trace.Entry.{Entry}
+use Rattle.chain_plan.specs.declared.role.Role.{Role}
+use Rattle.entry_checks.specs.Operation.{Operation, asked}
+use Rattle.world_parts.specs.World.{World, Change, apply, apply_all}
+use Rattle.trace_format.specs.Sides.{most_moved}
+use Rattle.op_meaning.specs.declared.outcome.Done.{Done}
+use Rattle.op_meaning.specs.Meaning.{Effect}
+use Rattle.op_meaning.specs.Outcomes.{answered, answer_of, fails_as, reply_with}
+use Rattle.op_meaning.specs.Step.{failed, breaks, result_of, bytes_read, changes_of}
+
+-- An operation fails by its answer alone.
+pub fails : (o : Operation) (x : Result Effect Errno) → fails_as (asked o) (answer_of x) ≡ failed o x
+fails o (Ok x) = by (asked o) refl
+  where
+    by : (a : Option ℕ) → asked o ≡ a → fails_as (asked o) (Ok (x.count, x.bytes)) ≡ failed o (Ok x)
+    by None is = rw is refl
+    by (Some n) is = rw is refl
+fails o (Err e) = refl
+
+-- Its reply too.
+pub replies : (posted : Bool) (x : Result Effect Errno) → reply_with posted (answer_of x) ≡ record { res = result_of x; bytes = bytes_read x; posted = posted }
+replies posted (Ok x) = refl
+replies posted (Err e) = refl
+
+-- An outcome's count is small where its answer's is.
+pub small_outcome : (d : Result Done Errno) (x : Result Effect Errno) → answered d ≡ answer_of x → IfOk x (λ y. y.count ≤ most_moved) → IfOk d (λ y. y.count < 2 ^ 31)
+small_outcome (Ok d) (Ok x) is le =
+    let pair : ◌≡◌ {A = ℕ × List ℕ} (d.count, d.bytes) (x.count, x.bytes) = cc in
+    let same : d.count ≡ x.count = ap (λ (p : ℕ × List ℕ). p.0) pair in
+    omega arith
+small_outcome (Ok d) (Err e) is le = absurd (cc)
+small_outcome (Err e) x is le = tt
+
+-- Changes one after the other.
+pub apply_all-append : (xs ys : List Change) (s : World) → apply_all (xs ++ ys) s ≡ apply_all ys (apply_all xs s)
+apply_all-append [] ys s = refl
+apply_all-append (x ∷ xs) ys s = apply_all-append xs ys (apply x s)
+
+-- What an operation changes, and what it breaks where it fails.
+pub changed : (s w v : World) (c : Role) (e : Entry) (x : Result Effect Errno) (b f : Bool) → w ≡ apply_all (changes_of x) s → v ≡ apply_all (breaks c e b) w → b ≡ f → v ≡ apply_all (changes_of x ++ breaks c e f) s
+changed s w v c e x b f h g is = g ∙ (λ i. apply_all (breaks c e (is i)) (h i)) ∙ sym (apply_all-append (changes_of x) (breaks c e f) s)

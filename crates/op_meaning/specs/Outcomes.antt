@@ -1,0 +1,28 @@
+-- What operations answer, as the code has it.
+use Rattle.std.specs.Prelude.{ℕ, Bool, true, false, not, ◌==◌, List, Option, Some, None, Result, Ok, Err, pos}
+use Rattle.sqe_codec.specs.declared.errno.Errno.{Errno}
+use Rattle.op_meaning.specs.declared.outcome.Done.{Done}
+use Rattle.op_meaning.specs.declared.reply.Reply.{Reply}
+use Rattle.op_meaning.specs.Meaning.{Effect}
+use Rattle.op_meaning.specs.Step.{error_reply}
+
+-- the count and the bytes of an accepted operation, or its error
+abbrev pub answer_of : Result Effect Errno → Result (ℕ × List ℕ) Errno
+answer_of (Ok x) = Ok (x.count, x.bytes)
+answer_of (Err e) = Err e
+
+-- the same, of an outcome
+abbrev pub answered : Result Done Errno → Result (ℕ × List ℕ) Errno
+answered (Ok d) = Ok (d.count, d.bytes)
+answered (Err e) = Err e
+
+-- whether an operation failed that asked for so many bytes, or for none
+abbrev pub fails_as : Option ℕ → Result (ℕ × List ℕ) Errno → Bool
+fails_as a (Err e) = true
+fails_as None (Ok x) = false
+fails_as (Some n) (Ok x) = not (n == x.0)
+
+-- the reply that has what an operation answers
+abbrev pub reply_with : Bool → Result (ℕ × List ℕ) Errno → Reply
+reply_with posted (Ok x) = record { res = pos x.0; bytes = x.1; posted = posted }
+reply_with posted (Err e) = error_reply e posted

@@ -1,0 +1,212 @@
+//! Files that are open, and ranges of registered buffers.
+ghost use Rattle.std.specs.Prelude.{◌≡◌, ◌==◌, ◌+◌, ◌<◌, ◌≤◌, ◌^◌, ◌<ℤ◌, IfSome, MatchOption, false, length, pos, true};
+ghost use Rattle.std.specs.Option.{option_map};
+ghost use Rattle.entry_checks.specs.Meant.{file_meant, span_meant};
+ghost use Rattle.entry_checks.specs.Operation.{at_position, file_limit};
+ghost use Rattle.file_tree.specs.Walk as walk;
+ghost use Rattle.op_meaning.specs.Handles.{found, handle_meant};
+ghost use Rattle.op_meaning.specs.Meaning.{bytes_in, can_read, can_write, handle, held, is_bad_offset, readable, registered_buffer, slot_count, span_start, transfer_start, writable};
+ghost use Rattle.world_parts.specs.World as world;
+
+use entry_checks::{BufferSpan, FileNumber};
+use file_tree::Kind;
+use sqe_codec::Errno;
+use trace_format::{Access, Buffer, Description, Trace};
+use world_parts::State;
+
+/// The offset by which a transfer uses the position of its open file description.
+const AT_POSITION: u64 = u64::MAX;
+
+/// The least offset that no file has.
+const REFUSED: u64 = 1 << 63;
+
+/// A file that is open: the number of its open file description, and what that says.
+#[derive(Clone, Copy, Debug)]
+pub struct OpenFile {
+    pub number: u32,
+    pub description: Description,
+}
+
+/// How many registered files a ring has room for.
+pub fn slot_count(trace: &Trace, ring: u8) -> usize
+    ensures { result ≡ slot_count trace.now ring }
+{
+    match trace.rings.as_slice().get(ring as usize) {
+        Some(registered) => registered.slots.as_slice().len(),
+        None => 0,
+    }
+}
+
+/// A number that isn't negative.
+pub(crate) fn unsigned(number: i32) -> Option<u32>
+    ensures { MatchOption result (number <ℤ pos 0) (λ n. number ≡ pos n) }
+{
+    if number < 0 {
+        None
+    } else {
+        Some(number as u32)
+    }
+}
+
+/// The number of the open file description that a registered file of a ring holds.
+pub(crate) fn held_by_slot(trace: &Trace, ring: u8, slot: u32, state: &State) -> Option<u32>
+    ensures { result ≡ held trace.now state.now ring true (pos slot) }
+{
+    if (slot as usize) < slot_count(trace, ring) {
+        state.slot(ring, slot)
+    } else {
+        None
+    }
+}
+
+/// The number of the open file description that a descriptor of the process holds.
+pub(crate) fn held_by_descriptor(trace: &Trace, descriptor: u32, state: &State) -> Option<u32>
+    ensures { result ≡ held trace.now state.now 0 false (pos descriptor) }
+{
+    if (descriptor as usize) < trace.descriptors.as_slice().len() {
+        state.descriptor(descriptor)
+    } else {
+        None
+    }
+}
+
+/// The number of the open file description that a file number stands for: in a slot of the ring, or at a
+/// descriptor.
+pub fn held(trace: &Trace, ring: u8, file: FileNumber, state: &State) -> Option<u32>
+    ensures { result ≡ held trace.now state.now ring file.registered file.number }
+{
+    let number = unsigned(file.number)?;
+    if file.registered {
+        held_by_slot(trace, ring, number, state)
+    } else {
+        held_by_descriptor(trace, number, state)
+    }
+}
+
+/// The open file that a file number stands for.
+pub fn open_file(trace: &Trace, ring: u8, file: FileNumber, state: &State) -> Option<OpenFile>
+    ensures { option_map (handle_meant state.now) result ≡ handle trace.now state.now ring (file_meant file) }
+{
+    let number = held(trace, ring, file, state)?;
+    let description = state.description(number)?;
+    Some(OpenFile {
+        number,
+        description,
+    })
+}
+
+/// Whether an access lets its holder read.
+pub fn can_read(access: Access) -> bool
+    ensures { result ≡ can_read access }
+{
+    match access {
+        Access::Read | Access::Both => true,
+        Access::Write => false,
+    }
+}
+
+/// Whether an access lets its holder write.
+pub fn can_write(access: Access) -> bool
+    ensures { result ≡ can_write access }
+{
+    match access {
+        Access::Write | Access::Both => true,
+        Access::Read => false,
+    }
+}
+
+/// Whether a node is a directory.
+pub fn is_directory(node: u32, state: &State) -> bool
+    ensures { result ≡ walk.is_directory (world.kind state.now node) }
+{
+    match state.kind(node) {
+        Some(Kind::Directory) => true,
+        Some(Kind::File) => false,
+        None => false,
+    }
+}
+
+/// The open file that a read is from, or why it is refused.
+pub fn readable(trace: &Trace, ring: u8, file: FileNumber, state: &State) -> Result<OpenFile, Errno>
+    ensures { found state.now result ≡ readable trace.now state.now ring (file_meant file) }
+{
+    let file = open_file(trace, ring, file, state).ok_or(Errno::EBADF)?;
+    if !can_read(file.description.access) {
+        return Err(Errno::EBADF);
+    }
+    if is_directory(file.description.node, state) {
+        return Err(Errno::EISDIR);
+    }
+    Ok(file)
+}
+
+/// The open file that a write is to, or why it is refused.
+pub fn writable(trace: &Trace, ring: u8, file: FileNumber, state: &State) -> Result<OpenFile, Errno>
+    ensures { found state.now result ≡ writable trace.now state.now ring (file_meant file) }
+{
+    let file = open_file(trace, ring, file, state).ok_or(Errno::EBADF)?;
+    if !can_write(file.description.access) {
+        return Err(Errno::EBADF);
+    }
+    Ok(file)
+}
+
+/// Whether no file position can be this offset, which doesn't stand for the position either.
+pub fn is_bad_offset(offset: u64) -> bool
+    ensures { result ≡ is_bad_offset offset }
+{
+    offset >= REFUSED && offset != AT_POSITION
+}
+
+/// Whether a transfer with this offset uses the position of its open file description.
+pub fn is_at_position(offset: u64) -> bool
+    ensures { result ≡ (offset == at_position) }
+{
+    offset == AT_POSITION
+}
+
+/// The size of a file in bytes, at most 2^40; 0 where the node is no file.
+pub fn size(node: u32, state: &State) -> u64
+    ensures value { result ≡ length (bytes_in state.now node) }
+    ensures bound { result ≤ file_limit }
+{
+    state.size(node).unwrap_or(0)
+}
+
+/// Where a transfer starts: at its offset, or at the position.
+pub fn transfer_start(file: &OpenFile, offset: u64, state: &State) -> u64
+    ensures { result ≡ transfer_start state.now (handle_meant state.now file.now) offset }
+{
+    if !is_at_position(offset) {
+        return offset;
+    }
+    match state.description(file.number) {
+        Some(description) => description.position,
+        None => 0,
+    }
+}
+
+/// A registered buffer of a ring that is no empty entry.
+pub fn registered_buffer(trace: &Trace, ring: u8, index: u16) -> Option<Buffer>
+    ensures { result ≡ registered_buffer trace.now ring index }
+{
+    let registered = trace.rings.as_slice().get(ring as usize)?;
+    let buffer = registered.buffers.as_slice().get(index as usize)?;
+    if buffer.len == 0 {
+        return None;
+    }
+    Some(*buffer)
+}
+
+/// Where a span starts in its buffer, if it lies in one.
+pub fn span_start(trace: &Trace, ring: u8, span: BufferSpan) -> Option<u64>
+    ensures place { result ≡ span_start trace.now ring (span_meant span) }
+    ensures bound { IfSome result (λ at. at + span.length < 2 ^ 32) }
+{
+    let buffer = registered_buffer(trace, ring, span.index)?;
+    let at = span.address.checked_sub(buffer.address)?;
+    if u64::from(span.length) > u64::from(buffer.len) || at > u64::from(buffer.len - span.length) {
+        return None;
+    }
+    Some(at)
+}

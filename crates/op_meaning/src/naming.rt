@@ -1,0 +1,278 @@
+//! The operations on names: UNLINKAT, MKDIRAT, LINKAT and RENAMEAT.
+ghost use Rattle.std.specs.Prelude.{◌≡◌, ◌<◌, IfOk, OnOk};
+ghost use Rattle.std.specs.Option.{option_map};
+ghost use Rattle.entry_checks.specs.Meant.{path_meant};
+ghost use Rattle.file_tree.specs.Found.{place_meant};
+ghost use Rattle.file_tree.specs.Tree.{Tree, target};
+ghost use Rattle.file_tree.specs.Walk as walk;
+ghost use Rattle.op_meaning.specs.Meaning as meaning;
+ghost use Rattle.op_meaning.specs.Meaning.{exchange_meaning, linkat_meaning, mkdirat_meaning, move_meaning, renameat_meaning, unlinkat_meaning};
+ghost use Rattle.op_meaning.specs.NameChanges.{changes_meant, decision_meant};
+ghost use Rattle.op_meaning.specs.Outcomes.{answered, answer_of};
+ghost use Rattle.op_meaning.specs.Step.{changes_of};
+ghost use Rattle.trace_format.specs.Steps.{places};
+ghost use Rattle.trace_format.specs.Text.{IsSpelled};
+ghost use Rattle.world_parts.specs.World.{apply_all};
+ghost use Rattle.world_parts.specs.World as world;
+
+use crate::handles::is_directory;
+use crate::made::made_node;
+use crate::names::{NameChange, NameChanges, carry_out};
+use crate::outcome::{Outcome, finished};
+use entry_checks::PathAt;
+use file_tree::{Kind, Place};
+use sqe_codec::Errno;
+use std::alloc::{AllocError, Global};
+use trace_format::Trace;
+use world_parts::State;
+
+/// The flag of renameat2(2) that refuses a new name that is there (`RENAME_NOREPLACE`).
+const NO_REPLACE: u32 = 1;
+
+/// The flag of renameat2(2) that exchanges two names (`RENAME_EXCHANGE`).
+const EXCHANGE: u32 = 2;
+
+/// The tests of a removal of a file, or of a directory.
+fn may_remove(state: &State, removes_directory: bool, node: u32) -> Result<(), Errno>
+    ensures { result ≡ meaning.may_remove state.now removes_directory (target state.now.nodes node) }
+{
+    match (removes_directory, is_directory(node, state)) {
+        (false, true) => Err(Errno::EISDIR),
+        (true, false) => Err(Errno::ENOTDIR),
+        (true, true) if !state.is_empty(node) => Err(Errno::ENOTEMPTY),
+        _ => Ok(()),
+    }
+}
+
+/// The name that UNLINKAT takes away.
+pub(crate) fn unlinking<'a>(
+    path: PathAt<'a>,
+    removes_directory: bool,
+    state: &State,
+) -> Result<NameChanges<'a>, Errno>
+    ensures { decision_meant state.now.nodes result ≡ unlinkat_meaning state.now (path_meant path.entry) removes_directory }
+{
+    let place = state.walk(path.directory, path.text)?;
+    let Some(node) = place.node else {
+        return Err(Errno::ENOENT);
+    };
+    may_remove(state, removes_directory, node)?;
+    Ok(NameChanges::One(NameChange {
+        directory: place.parent,
+        name: place.name,
+        node: None,
+    }))
+}
+
+/// Takes a name away: that of a directory without names where it `removes_directory`, that of a file
+/// where it doesn't, after unlink(2) and rmdir(2).
+///
+/// # Errors
+///
+/// Want of memory. The outcome has the error of the first test that fails: those of the walk, ENOENT,
+/// EISDIR, ENOTDIR, ENOTEMPTY.
+pub(crate) fn unlinkat(
+    alloc: Global,
+    path: PathAt<'_>,
+    removes_directory: bool,
+    state: &mut State,
+) -> Result<Outcome, AllocError>
+    ensures answer { IfOk result (λ o. answered o ≡ answer_of (unlinkat_meaning state.old (path_meant path.entry) removes_directory)) }
+    ensures state { OnOk result (state.new ≡ apply_all (changes_of (unlinkat_meaning state.old (path_meant path.entry) removes_directory)) state.old) }
+{
+    carry_out(alloc, unlinking(path, removes_directory, state), state)
+}
+
+/// Makes a directory without names, after mkdir(2).
+///
+/// # Errors
+///
+/// Want of memory. The outcome has the error of the first test that fails: those of the walk, EEXIST.
+pub(crate) fn mkdirat(
+    alloc: Global,
+    trace: &Trace,
+    place: u32,
+    path: PathAt<'_>,
+    state: &mut State,
+) -> Result<Outcome, AllocError>
+    requires trace { IsSpelled trace.now }
+    requires place { place < places trace.now }
+    ensures answer { IfOk result (λ o. answered o ≡ answer_of (mkdirat_meaning trace.now state.old place (path_meant path.entry))) }
+    ensures state { OnOk result (state.new ≡ apply_all (changes_of (mkdirat_meaning trace.now state.old place (path_meant path.entry))) state.old) }
+{
+    let found = match state.walk(path.directory, path.text) {
+        Ok(found) => found,
+        Err(error) => return Ok(Err(error)),
+    };
+    if found.node.is_some() {
+        return Ok(Err(Errno::EEXIST));
+    }
+    let node = made_node(trace, place);
+    state.add_node(alloc, node, Kind::Directory)?;
+    state.set_name(alloc, found.parent, found.name, Some(node))?;
+    Ok(finished(alloc))
+}
+
+/// The second name that LINKAT gives a file.
+pub(crate) fn linking<'a>(
+    old: PathAt<'a>,
+    new: PathAt<'a>,
+    state: &State,
+) -> Result<NameChanges<'a>, Errno>
+    ensures { decision_meant state.now.nodes result ≡ linkat_meaning state.now (path_meant old.entry) (path_meant new.entry) }
+{
+    let from = state.walk(old.directory, old.text)?;
+    let to = state.walk(new.directory, new.text)?;
+    let Some(node) = from.node else {
+        return Err(Errno::ENOENT);
+    };
+    if to.node.is_some() {
+        return Err(Errno::EEXIST);
+    }
+    if is_directory(node, state) {
+        return Err(Errno::EPERM);
+    }
+    Ok(NameChanges::One(NameChange {
+        directory: to.parent,
+        name: to.name,
+        node: Some(node),
+    }))
+}
+
+/// Gives a file a second name, after link(2).
+///
+/// # Errors
+///
+/// Want of memory. The outcome has the error of the first test that fails: those of the walks, ENOENT,
+/// EEXIST, EPERM.
+pub(crate) fn linkat(
+    alloc: Global,
+    old: PathAt<'_>,
+    new: PathAt<'_>,
+    state: &mut State,
+) -> Result<Outcome, AllocError>
+    ensures answer { IfOk result (λ o. answered o ≡ answer_of (linkat_meaning state.old (path_meant old.entry) (path_meant new.entry))) }
+    ensures state { OnOk result (state.new ≡ apply_all (changes_of (linkat_meaning state.old (path_meant old.entry) (path_meant new.entry))) state.old) }
+{
+    carry_out(alloc, linking(old, new, state), state)
+}
+
+/// The tests of a rename onto a name that is there.
+fn may_replace(state: &State, old: u32, new: u32) -> Result<(), Errno>
+    ensures { result ≡ meaning.may_replace state.now (target state.now.nodes old) (target state.now.nodes new) }
+{
+    match (is_directory(old, state), is_directory(new, state)) {
+        (true, false) => Err(Errno::ENOTDIR),
+        (false, true) => Err(Errno::EISDIR),
+        (true, true) if !state.is_empty(new) => Err(Errno::ENOTEMPTY),
+        _ => Ok(()),
+    }
+}
+
+/// Whether a path leads below a node.
+fn goes_below(state: &State, node: u32, path: PathAt<'_>) -> bool
+    ensures { result ≡ meaning.goes_below state.now (target state.now.nodes node) (path_meant path.entry) }
+{
+    is_directory(node, state) && state.is_above(node, path.directory, path.text)
+}
+
+/// The move of a name to another, which takes the place of one that is there.
+fn moving<'a>(
+    state: &State,
+    from: Place<'a>,
+    to: Place<'a>,
+    node: u32,
+) -> Result<NameChanges<'a>, Errno>
+    ensures { decision_meant state.now.nodes result ≡ move_meaning state.now (place_meant state.now.nodes from.entry) (place_meant state.now.nodes to.entry) (target state.now.nodes node) (option_map (target state.now.nodes) to.entry.node) }
+{
+    if let Some(there) = to.node {
+        if there == node {
+            return Ok(NameChanges::Nothing);
+        }
+        may_replace(state, node, there)?;
+    }
+    Ok(NameChanges::Two(
+        NameChange {
+            directory: from.parent,
+            name: from.name,
+            node: None,
+        },
+        NameChange {
+            directory: to.parent,
+            name: to.name,
+            node: Some(node),
+        },
+    ))
+}
+
+/// The exchange of two names. Where both lead to one node nothing changes.
+fn exchanged<'a>(from: Place<'a>, to: Place<'a>, node: u32, there: u32) -> NameChanges<'a>
+    ensures { (tree : Tree) → changes_meant tree result ≡ meaning.exchanged (place_meant tree from.entry) (place_meant tree to.entry) (target tree node) (target tree there) }
+{
+    if node == there {
+        return NameChanges::Nothing;
+    }
+    NameChanges::Two(
+        NameChange {
+            directory: from.parent,
+            name: from.name,
+            node: Some(there),
+        },
+        NameChange {
+            directory: to.parent,
+            name: to.name,
+            node: Some(node),
+        },
+    )
+}
+
+/// What RENAMEAT does to two names.
+pub(crate) fn renaming<'a>(
+    old: PathAt<'a>,
+    new: PathAt<'a>,
+    flags: u32,
+    state: &State,
+) -> Result<NameChanges<'a>, Errno>
+    ensures { decision_meant state.now.nodes result ≡ renameat_meaning state.now (path_meant old.entry) (path_meant new.entry) flags }
+{
+    let from = state.walk(old.directory, old.text)?;
+    let to = state.walk(new.directory, new.text)?;
+    let Some(node) = from.node else {
+        return Err(Errno::ENOENT);
+    };
+    if flags == EXCHANGE {
+        let Some(there) = to.node else {
+            return Err(Errno::ENOENT);
+        };
+        if goes_below(state, node, new) || goes_below(state, there, old) {
+            return Err(Errno::EINVAL);
+        }
+        return Ok(exchanged(from, to, node, there));
+    }
+    if flags == NO_REPLACE && to.node.is_some() {
+        return Err(Errno::EEXIST);
+    }
+    if goes_below(state, node, new) {
+        return Err(Errno::EINVAL);
+    }
+    moving(state, from, to, node)
+}
+
+/// Moves a name, or exchanges two, after renameat2(2).
+///
+/// # Errors
+///
+/// Want of memory. The outcome has the error of the first test that fails: those of the walks, ENOENT,
+/// EEXIST, EINVAL, ENOTDIR, EISDIR, ENOTEMPTY.
+pub(crate) fn renameat(
+    alloc: Global,
+    old: PathAt<'_>,
+    new: PathAt<'_>,
+    flags: u32,
+    state: &mut State,
+) -> Result<Outcome, AllocError>
+    ensures answer { IfOk result (λ o. answered o ≡ answer_of (renameat_meaning state.old (path_meant old.entry) (path_meant new.entry) flags)) }
+    ensures state { OnOk result (state.new ≡ apply_all (changes_of (renameat_meaning state.old (path_meant old.entry) (path_meant new.entry) flags)) state.old) }
+{
+    carry_out(alloc, renaming(old, new, flags, state), state)
+}

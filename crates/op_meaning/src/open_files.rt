@@ -1,0 +1,226 @@
+//! The other operations on open files.
+ghost use Rattle.std.specs.Prelude.{◌≡◌, ◌+◌, ◌≤◌, ℕ, ℤ, [], ◌∷◌, IfOk, MatchResult, OnOk, Ok, Err, suc, zero};
+ghost use Rattle.entry_checks.specs.Meant.{file_meant};
+ghost use Rattle.entry_checks.specs.Operation.{file_limit};
+ghost use Rattle.entry_checks.specs.Operation as operation;
+ghost use Rattle.op_meaning.specs.Handles.{allocation_meant};
+ghost use Rattle.op_meaning.specs.Meaning.{allocate, close_meaning, done, extended, fallocate_meaning, ftruncate_meaning, meaning};
+ghost use Rattle.op_meaning.specs.Outcomes.{answer_of, answered};
+ghost use Rattle.op_meaning.specs.Step.{changes_of};
+ghost use Rattle.world_parts.specs.World.{apply_all, set_size};
+
+use crate::allocating::{Allocation, allocation_of};
+use crate::handles::{can_write, held, held_by_descriptor, open_file, size, slot_count, unsigned};
+use crate::outcome::{Outcome, finished};
+use entry_checks::FileNumber;
+use sqe_codec::Errno;
+use std::alloc::{AllocError, Global};
+use trace_format::Trace;
+use world_parts::State;
+
+/// The largest size of a file.
+const LARGEST: u64 = 1 << 40;
+
+/// The least size or offset that no call takes.
+const REFUSED: u64 = 1 << 63;
+
+/// FSYNC: nothing is lost here, so that there is nothing to do.
+pub(crate) fn fsync(
+    alloc: Global,
+    trace: &Trace,
+    ring: u8,
+    file: FileNumber,
+    state: &State,
+) -> Outcome
+    ensures { (k : ℕ) → answered result ≡ answer_of (meaning trace.now k ring state.now (operation.fsync (file_meant file))) }
+{
+    match held(trace, ring, file, state) {
+        Some(_) => finished(alloc),
+        None => Err(Errno::EBADF),
+    }
+}
+
+/// The node in which a range is allocated, and how, or why it is refused.
+pub fn allocatable(
+    trace: &Trace,
+    ring: u8,
+    file: FileNumber,
+    offset: u64,
+    size: u64,
+    mode: u32,
+    state: &State,
+) -> Result<(u32, Allocation), Errno>
+    ensures meaning { MatchResult result (λ x. fallocate_meaning trace.now state.now ring (file_meant file) offset size mode ≡ Ok (done (allocate state.now x.0 offset (offset + size) (allocation_meant x.1)))) (λ e. fallocate_meaning trace.now state.now ring (file_meant file) offset size mode ≡ Err e) }
+    ensures place { IfOk result (λ x. offset + size ≤ file_limit) }
+{
+    let file = open_file(trace, ring, file, state).ok_or(Errno::EBADF)?;
+    if offset >= REFUSED || size == 0 || size >= REFUSED {
+        return Err(Errno::EINVAL);
+    }
+    let allocation = allocation_of(mode).ok_or(Errno::EOPNOTSUPP)?;
+    if !can_write(file.description.access) {
+        return Err(Errno::EBADF);
+    }
+    if offset + size > LARGEST {
+        return Err(Errno::EFBIG);
+    }
+    Ok((file.description.node, allocation))
+}
+
+/// Makes a file as long as an offset at least.
+fn extend(node: u32, end: u64, state: &mut State) -> Result<(), AllocError>
+    requires { end ≤ file_limit }
+    ensures { OnOk result (state.new ≡ apply_all (extended state.old node end ∷ []) state.old) }
+{
+    let longest = size(node, state).max(end);
+    state.set_size(node, longest)
+}
+
+/// Allocates a range of a file.
+fn allocate(
+    node: u32,
+    offset: u64,
+    end: u64,
+    allocation: Allocation,
+    state: &mut State,
+) -> Result<(), AllocError>
+    requires { end ≤ file_limit }
+    ensures { OnOk result (state.new ≡ apply_all (allocate state.old node offset end (allocation_meant allocation)) state.old) }
+{
+    match allocation {
+        Allocation::Extend => extend(node, end, state),
+        Allocation::Reserve => Ok(()),
+        Allocation::Punch | Allocation::ZeroWithin => state.zero(node, offset, end),
+        Allocation::ZeroExtend => {
+            extend(node, end, state)?;
+            state.zero(node, offset, end)
+        }
+    }
+}
+
+/// FALLOCATE: makes room, a hole or zeros in a file.
+pub(crate) fn fallocate(
+    alloc: Global,
+    trace: &Trace,
+    ring: u8,
+    file: FileNumber,
+    offset: u64,
+    size: u64,
+    mode: u32,
+    state: &mut State,
+) -> Result<Outcome, AllocError>
+    ensures answer { IfOk result (λ o. answered o ≡ answer_of (fallocate_meaning trace.now state.old ring (file_meant file) offset size mode)) }
+    ensures state { OnOk result (state.new ≡ apply_all (changes_of (fallocate_meaning trace.now state.old ring (file_meant file) offset size mode)) state.old) }
+{
+    match allocatable(trace, ring, file, offset, size, mode, state) {
+        Ok((node, allocation)) => {
+            allocate(node, offset, offset + size, allocation, state)?;
+            Ok(finished(alloc))
+        }
+        Err(error) => Ok(Err(error)),
+    }
+}
+
+/// The node that is cut or extended to a size, or why it is refused.
+pub fn resizable(
+    trace: &Trace,
+    ring: u8,
+    file: FileNumber,
+    size: u64,
+    state: &State,
+) -> Result<u32, Errno>
+    ensures meaning { MatchResult result (λ node. ftruncate_meaning trace.now state.now ring (file_meant file) size ≡ Ok (done (set_size node size ∷ []))) (λ e. ftruncate_meaning trace.now state.now ring (file_meant file) size ≡ Err e) }
+    ensures place { IfOk result (λ _. size ≤ file_limit) }
+{
+    let file = open_file(trace, ring, file, state).ok_or(Errno::EBADF)?;
+    if size >= REFUSED || !can_write(file.description.access) {
+        return Err(Errno::EINVAL);
+    }
+    if size > LARGEST {
+        return Err(Errno::EFBIG);
+    }
+    Ok(file.description.node)
+}
+
+/// FTRUNCATE: cuts a file, or extends it with zeros, to a size.
+pub(crate) fn ftruncate(
+    alloc: Global,
+    trace: &Trace,
+    ring: u8,
+    file: FileNumber,
+    size: u64,
+    state: &mut State,
+) -> Result<Outcome, AllocError>
+    ensures answer { IfOk result (λ o. answered o ≡ answer_of (ftruncate_meaning trace.now state.old ring (file_meant file) size)) }
+    ensures state { OnOk result (state.new ≡ apply_all (changes_of (ftruncate_meaning trace.now state.old ring (file_meant file) size)) state.old) }
+{
+    match resizable(trace, ring, file, size, state) {
+        Ok(node) => {
+            state.set_size(node, size)?;
+            Ok(finished(alloc))
+        }
+        Err(error) => Ok(Err(error)),
+    }
+}
+
+/// Frees a descriptor of the process.
+fn close_descriptor(
+    alloc: Global,
+    trace: &Trace,
+    ring: u8,
+    number: i32,
+    state: &mut State,
+) -> Result<Outcome, AllocError>
+    ensures answer { IfOk result (λ o. answered o ≡ answer_of (close_meaning trace.now state.old ring number zero)) }
+    ensures state { OnOk result (state.new ≡ apply_all (changes_of (close_meaning trace.now state.old ring number zero)) state.old) }
+{
+    let descriptor = match unsigned(number) {
+        Some(descriptor) => descriptor,
+        None => return Ok(Err(Errno::EBADF)),
+    };
+    if held_by_descriptor(trace, descriptor, state).is_none() {
+        return Ok(Err(Errno::EBADF));
+    }
+    state.set_descriptor(descriptor, None)?;
+    Ok(finished(alloc))
+}
+
+/// Empties a registered file of a ring.
+fn close_slot(
+    alloc: Global,
+    trace: &Trace,
+    ring: u8,
+    slot: u32,
+    state: &mut State,
+) -> Result<Outcome, AllocError>
+    ensures answer { (number : ℤ) → IfOk result (λ o. answered o ≡ answer_of (close_meaning trace.now state.old ring number (suc slot))) }
+    ensures state { (number : ℤ) → OnOk result (state.new ≡ apply_all (changes_of (close_meaning trace.now state.old ring number (suc slot))) state.old) }
+{
+    if slot as usize >= slot_count(trace, ring) {
+        return Ok(Err(Errno::EINVAL));
+    }
+    if state.slot(ring, slot).is_none() {
+        return Ok(Err(Errno::EBADF));
+    }
+    state.set_slot(ring, slot, None)?;
+    Ok(finished(alloc))
+}
+
+/// CLOSE: empties the registered file that a file index names, which is one more than its number, or frees
+/// the descriptor where it names none.
+pub(crate) fn close(
+    alloc: Global,
+    trace: &Trace,
+    ring: u8,
+    number: i32,
+    file_index: u32,
+    state: &mut State,
+) -> Result<Outcome, AllocError>
+    ensures answer { IfOk result (λ o. answered o ≡ answer_of (close_meaning trace.now state.old ring number file_index)) }
+    ensures state { OnOk result (state.new ≡ apply_all (changes_of (close_meaning trace.now state.old ring number file_index)) state.old) }
+{
+    match file_index.checked_sub(1) {
+        Some(slot) => close_slot(alloc, trace, ring, slot, state),
+        None => close_descriptor(alloc, trace, ring, number, state),
+    }
+}

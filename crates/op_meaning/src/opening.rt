@@ -1,0 +1,197 @@
+//! The operation that opens files: OPENAT.
+ghost use Rattle.std.specs.Prelude.{◌≡◌, ◌<◌, ℕ, IfOk, OnOk};
+ghost use Rattle.std.specs.Option.{option_map};
+ghost use Rattle.entry_checks.specs.Meant.{flags_meant, path_meant};
+ghost use Rattle.file_tree.specs.Found.{place_meant};
+ghost use Rattle.file_tree.specs.Tree.{target};
+ghost use Rattle.op_meaning.specs.Meaning as meaning;
+ghost use Rattle.op_meaning.specs.Meaning.{found_or_made, open_changes, openat_meaning};
+ghost use Rattle.op_meaning.specs.Opening.{opening_meant, room_found, room_meant};
+ghost use Rattle.op_meaning.specs.Outcomes.{answered, answer_of};
+ghost use Rattle.op_meaning.specs.Step.{changes_of};
+ghost use Rattle.trace_format.specs.Steps.{places};
+ghost use Rattle.trace_format.specs.Text.{IsSpelled};
+ghost use Rattle.world_parts.specs.World.{apply_all};
+
+use crate::handles::{is_directory, slot_count};
+use crate::made::{descriptor_count, made_description, made_node};
+use crate::outcome::{Outcome, counted, finished};
+use entry_checks::{OpenAtFlags, PathAt};
+use file_tree::{Kind, Place};
+use sqe_codec::Errno;
+use std::alloc::{AllocError, Global};
+use trace_format::{Access, Description, Trace};
+use world_parts::State;
+
+/// Where an open file description goes: into a slot of the ring, or to a descriptor of the process.
+#[derive(Clone, Copy)]
+pub(crate) enum Room {
+    Slot(u32),
+    Descriptor(u32),
+}
+
+/// What OPENAT opens, and where the description goes.
+#[derive(Clone, Copy)]
+pub(crate) struct Opening<'a> {
+    pub place: Place<'a>,
+    pub room: Room,
+}
+
+/// The room for a description: the slot before `file_index`, or where that is 0 the lowest free descriptor.
+fn find_room(trace: &Trace, ring: u8, file_index: u32, state: &State) -> Result<Room, Errno>
+    requires { IsSpelled trace.now }
+    ensures { room_found result ≡ meaning.room trace.now state.now ring file_index }
+{
+    if file_index == 0 {
+        return match state.lowest_free(descriptor_count(trace)) {
+            Some(number) => Ok(Room::Descriptor(number)),
+            None => Err(Errno::EMFILE),
+        };
+    }
+    let slot = file_index - 1;
+    if slot as usize >= slot_count(trace, ring) {
+        return Err(Errno::EINVAL);
+    }
+    Ok(Room::Slot(slot))
+}
+
+/// The tests of an opening on a node that is there.
+fn may_open_node(state: &State, flags: OpenAtFlags, node: u32) -> Result<(), Errno>
+    ensures { result ≡ meaning.may_open (flags_meant flags) (Some (target state.now.nodes node)) }
+{
+    let is_directory = is_directory(node, state);
+    if flags.create && flags.exclusive {
+        return Err(Errno::EEXIST);
+    }
+    if is_directory && (flags.create || flags.truncate || flags.access != 0) {
+        return Err(Errno::EISDIR);
+    }
+    if !is_directory && flags.directory {
+        return Err(Errno::ENOTDIR);
+    }
+    Ok(())
+}
+
+/// The tests of an opening on what a path leads to.
+fn may_open(state: &State, flags: OpenAtFlags, node: Option<u32>) -> Result<(), Errno>
+    ensures { result ≡ meaning.may_open (flags_meant flags) (option_map (target state.now.nodes) node) }
+{
+    match node {
+        Some(node) => may_open_node(state, flags, node),
+        None if flags.create => Ok(()),
+        None => Err(Errno::ENOENT),
+    }
+}
+
+/// What OPENAT opens.
+pub(crate) fn find_opening<'a>(
+    trace: &Trace,
+    ring: u8,
+    path: PathAt<'a>,
+    flags: OpenAtFlags,
+    file_index: u32,
+    state: &State,
+) -> Result<Opening<'a>, Errno>
+    requires { IsSpelled trace.now }
+    ensures { (k : ℕ) → opening_meant state.now.nodes trace.now k ring (flags_meant flags) result ≡ openat_meaning trace.now state.now k ring (path_meant path.entry) (flags_meant flags) file_index }
+{
+    let room = find_room(trace, ring, file_index, state)?;
+    let place = state.walk(path.directory, path.text)?;
+    may_open(state, flags, place.node)?;
+    Ok(Opening { place, room })
+}
+
+/// The access that the flags of open(2) ask for: 0 to read, 1 to write, 2 for both.
+fn access_of(number: u8) -> Access
+    ensures { result ≡ meaning.access_of number }
+{
+    match number {
+        0 => Access::Read,
+        1 => Access::Write,
+        _ => Access::Both,
+    }
+}
+
+/// Makes the file that is opened where it is missing, and else cuts it to nothing where it `truncates`.
+/// Answers its node.
+fn open_node(
+    alloc: Global,
+    made: u32,
+    place: Place<'_>,
+    flags: OpenAtFlags,
+    state: &mut State,
+) -> Result<u32, AllocError>
+    ensures node { IfOk result (λ node. node ≡ (found_or_made made (option_map (target state.old.nodes) place.entry.node)).node) }
+    ensures state { OnOk result (state.new ≡ apply_all (open_changes (flags_meant flags) made (place_meant state.old.nodes place.entry) (option_map (target state.old.nodes) place.entry.node)) state.old) }
+{
+    let Some(node) = place.node else {
+        state.add_node(alloc, made, Kind::File)?;
+        state.set_name(alloc, place.parent, place.name, Some(made))?;
+        return Ok(made);
+    };
+    if flags.truncate {
+        state.set_size(node, 0)?;
+    }
+    Ok(node)
+}
+
+/// Puts a description into its room. Answers the number of the descriptor.
+pub(crate) fn fill(
+    alloc: Global,
+    ring: u8,
+    room: Room,
+    description: u32,
+    state: &mut State,
+) -> Result<Outcome, AllocError>
+    ensures answer { IfOk result (λ o. answered o ≡ answer_of (Ok (meaning.filled ring (room_meant room) description))) }
+    ensures state { OnOk result (state.new ≡ apply_all (meaning.filled ring (room_meant room) description).changes state.old) }
+{
+    match room {
+        Room::Slot(slot) => {
+            state.set_slot(ring, slot, Some(description))?;
+            Ok(finished(alloc))
+        }
+        Room::Descriptor(number) => {
+            state.set_descriptor(number, Some(description))?;
+            Ok(counted(alloc, number))
+        }
+    }
+}
+
+/// Opens a file, after open(2), into a slot of the ring before `file_index`, or where that is 0 at the lowest
+/// free descriptor, whose number it answers.
+///
+/// # Errors
+///
+/// Want of memory. The outcome has the error of the first test that fails: EMFILE, EINVAL, those of the
+/// walk, ENOENT, EEXIST, EISDIR, ENOTDIR.
+pub(crate) fn openat(
+    alloc: Global,
+    trace: &Trace,
+    place: u32,
+    ring: u8,
+    path: PathAt<'_>,
+    flags: OpenAtFlags,
+    file_index: u32,
+    state: &mut State,
+) -> Result<Outcome, AllocError>
+    requires trace { IsSpelled trace.now }
+    requires place { place < places trace.now }
+    ensures answer { IfOk result (λ o. answered o ≡ answer_of (openat_meaning trace.now state.old place ring (path_meant path.entry) (flags_meant flags) file_index)) }
+    ensures state { OnOk result (state.new ≡ apply_all (changes_of (openat_meaning trace.now state.old place ring (path_meant path.entry) (flags_meant flags) file_index)) state.old) }
+{
+    let opening = match find_opening(trace, ring, path, flags, file_index, state) {
+        Ok(opening) => opening,
+        Err(error) => return Ok(Err(error)),
+    };
+    let node = open_node(alloc, made_node(trace, place), opening.place, flags, state)?;
+    let number = made_description(trace, place);
+    let description = Description {
+        node,
+        access: access_of(flags.access),
+        append: flags.append,
+        position: 0,
+    };
+    state.add_description(number, description)?;
+    fill(alloc, ring, opening.room, number, state)
+}

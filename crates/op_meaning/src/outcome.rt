@@ -1,0 +1,34 @@
+//! What operations answer.
+ghost use Rattle.std.specs.Prelude.{◌≡◌, [], Ok};
+ghost use Rattle.op_meaning.specs.Outcomes.{answered};
+
+use sqe_codec::Errno;
+use std::alloc::Global;
+use trace_format::{Blob, Series};
+
+/// What an accepted operation answers: its count, and the bytes that it read.
+#[derive(Drop)]
+pub(crate) struct Done {
+    pub count: u32,
+    pub bytes: Blob,
+}
+
+/// What an operation answers: that it is done, or the error of the first test that fails.
+pub(crate) type Outcome = Result<Done, Errno>;
+
+/// An operation that answers a count and no bytes. It takes no memory.
+pub(crate) fn counted(alloc: Global, count: u32) -> Outcome
+    ensures { answered result ≡ Ok (count, []) }
+{
+    Ok(Done {
+        count,
+        bytes: Series::from_vec(Vec::new(alloc)),
+    })
+}
+
+/// An operation that is done and moved nothing. It takes no memory.
+pub(crate) fn finished(alloc: Global) -> Outcome
+    ensures { answered result ≡ Ok (0, []) }
+{
+    counted(alloc, 0)
+}

@@ -1,0 +1,274 @@
+//! A place of a trace, run on a part of the world.
+ghost use Rattle.std.specs.Prelude.{◌≡◌, ◌<◌, ◌≤◌, ◌^◌, [], IfOk, IfSome, OnOk, Some, false, pos, true};
+ghost use Rattle.chain_plan.specs.Chain.{role};
+ghost use Rattle.entry_checks.specs.Check.{check};
+ghost use Rattle.entry_checks.specs.Meant.{meant};
+ghost use Rattle.entry_checks.specs.Operation.{asked};
+ghost use Rattle.op_meaning.specs.Outcomes.{answered, fails_as, reply_with};
+ghost use Rattle.op_meaning.specs.Runs.{run_on};
+ghost use Rattle.op_meaning.specs.Step.{breaks, changes_in, entry_turn, error_reply, posts, reply_of, running_turn, step_reply, step_world};
+ghost use Rattle.op_meaning.specs.Step as step;
+ghost use Rattle.trace_format.specs.Sides.{is_side_of, most_moved};
+ghost use Rattle.trace_format.specs.Steps.{places};
+ghost use Rattle.trace_format.specs.Text.{IsSpelled};
+ghost use Rattle.world_parts.specs.Uses.{broken_meant};
+ghost use Rattle.world_parts.specs.World.{apply_all};
+ghost use Rattle.world_parts.specs.World as world;
+
+use crate::outcome::Outcome;
+use crate::reply::Reply;
+use crate::rows::run_operation;
+use chain_plan::Role;
+use entry_checks::{Op, check};
+use sqe_codec::{CQE_SKIP_SUCCESS, Errno, IO_HARDLINK};
+use std::alloc::{AllocError, Global};
+use trace_format::{Action, Blob, Entry, Series, Trace};
+use world_parts::{Broken, Part, State};
+
+/// The most bytes that one call moves.
+const MOST_MOVED: u32 = 0x7fff_f000;
+
+/// Runs the step at a place of a trace on a part of the world.
+///
+/// # Errors
+///
+/// Want of memory; the part can then only be dropped.
+pub fn run_entry(
+    alloc: Global,
+    place: u32,
+    trace: &Trace,
+    role_there: &Role,
+    part: &mut Part,
+) -> Result<Reply, AllocError>
+    requires trace { IsSpelled trace.now }
+    requires place { place < places trace.now }
+    requires role { role_there.now ≡ role trace.now place }
+    ensures reply { IfOk result (λ reply. Some reply ≡ step_reply trace.now place part.old.values) }
+    ensures values { OnOk result (part.new ≡ run_on trace.now place part.old) }
+{
+    run_on_state(alloc, place, trace, role_there, &mut part.state)
+}
+
+/// Runs the step at a place of a trace on the maps of a world.
+///
+/// # Errors
+///
+/// Want of memory; the state can then only be dropped.
+pub fn run_on_state(
+    alloc: Global,
+    place: u32,
+    trace: &Trace,
+    role_there: &Role,
+    state: &mut State,
+) -> Result<Reply, AllocError>
+    requires trace { IsSpelled trace.now }
+    requires place { place < places trace.now }
+    requires role { role_there.now ≡ role trace.now place }
+    ensures reply { IfOk result (λ reply. Some reply ≡ step_reply trace.now place state.old) }
+    ensures state { OnOk result (state.new ≡ step_world trace.now place state.old) }
+{
+    let step = trace.step(place);
+    match step.action {
+        Action::Submit(entry) => submit(alloc, place, trace, step.ring, entry, role_there, state),
+        Action::Fill {
+            buffer,
+            offset,
+            bytes,
+        } => {
+            state.write_buffer(
+                step.ring,
+                u32::from(buffer),
+                u64::from(offset),
+                bytes.as_slice(),
+            )?;
+            Ok(silent(alloc))
+        }
+    }
+}
+
+/// Submits an entry: it is refused where it fails its tests, or stands in a chain in which a member does.
+fn submit(
+    alloc: Global,
+    place: u32,
+    trace: &Trace,
+    ring: u8,
+    entry: &Entry,
+    role_there: &Role,
+    state: &mut State,
+) -> Result<Reply, AllocError>
+    requires trace { IsSpelled trace.now }
+    requires place { place < places trace.now }
+    requires role { role_there.now ≡ role trace.now place }
+    requires side { is_side_of entry.now.sqe entry.now.side ≡ true }
+    ensures reply { IfOk result (λ reply. reply ≡ reply_of trace.now place state.old (entry_turn ring entry.now role_there.now (world.broken state.old role_there.now.chain) (check trace.now.version entry.now))) }
+    ensures state { OnOk result (state.new ≡ apply_all (changes_in trace.now place state.old (entry_turn ring entry.now role_there.now (world.broken state.old role_there.now.chain) (check trace.now.version entry.now))) state.old) }
+{
+    let posted = role_there.member == 0 || !role_there.quiet;
+    match check(entry, trace.version) {
+        Err(error) => Ok(refused(alloc, error, posted)),
+        Ok(op) => {
+            if role_there.doomed {
+                Ok(refused(alloc, Errno::ECANCELED, posted))
+            } else {
+                execute(alloc, place, trace, ring, entry, op, role_there, state)
+            }
+        }
+    }
+}
+
+/// Executes an entry: it is canceled where its chain broke.
+fn execute(
+    alloc: Global,
+    place: u32,
+    trace: &Trace,
+    ring: u8,
+    entry: &Entry,
+    op: Op<'_>,
+    role_there: &Role,
+    state: &mut State,
+) -> Result<Reply, AllocError>
+    requires trace { IsSpelled trace.now }
+    requires place { place < places trace.now }
+    requires role { role_there.now ≡ role trace.now place }
+    requires short { IfSome (asked (meant op)) (λ n. n ≤ most_moved) }
+    ensures reply { IfOk result (λ reply. reply ≡ reply_of trace.now place state.old (running_turn ring entry.now role_there.now (world.broken state.old role_there.now.chain) (meant op.entry))) }
+    ensures state { OnOk result (state.new ≡ apply_all (changes_in trace.now place state.old (running_turn ring entry.now role_there.now (world.broken state.old role_there.now.chain) (meant op.entry))) state.old) }
+{
+    match state.broken(role_there.chain) {
+        Some(broken) if role_there.length >= 2 => {
+            Ok(refused(alloc, Errno::ECANCELED, posts(broken)))
+        }
+        _ => run(alloc, place, trace, ring, entry, op, role_there, state),
+    }
+}
+
+/// Runs an operation, and breaks its chain where it fails.
+fn run(
+    alloc: Global,
+    place: u32,
+    trace: &Trace,
+    ring: u8,
+    entry: &Entry,
+    op: Op<'_>,
+    role_there: &Role,
+    state: &mut State,
+) -> Result<Reply, AllocError>
+    requires trace { IsSpelled trace.now }
+    requires place { place < places trace.now }
+    requires role { role_there.now ≡ role trace.now place }
+    requires short { IfSome (asked (meant op)) (λ n. n ≤ most_moved) }
+    ensures reply { IfOk result (λ reply. reply ≡ reply_of trace.now place state.old (step.runs ring entry.now (meant op.entry))) }
+    ensures state { OnOk result (state.new ≡ apply_all (changes_in trace.now place state.old (step.runs ring entry.now (meant op.entry))) state.old) }
+{
+    let asked = asked(&op);
+    let outcome = run_operation(alloc, place, trace, ring, op, state)?;
+    let fails = failed(asked, &outcome);
+    break_chain(role_there, entry, fails, state)?;
+    let posted = !entry.sqe.has(CQE_SKIP_SUCCESS) || fails;
+    Ok(reply_to(alloc, outcome, posted))
+}
+
+/// How many bytes a transfer asks for; other operations ask for none.
+fn asked(op: &Op<'_>) -> Option<u64>
+    ensures { result ≡ asked (meant op.now) }
+{
+    let most = u64::from(MOST_MOVED);
+    match op {
+        Op::Readv { total, .. } => Some((*total).min(most)),
+        Op::Read { total, .. } => Some(u64::from(*total).min(most)),
+        Op::ReadFixed { span, .. } | Op::WriteFixed { span, .. } => {
+            Some(u64::from(span.length).min(most))
+        }
+        Op::Writev { bytes, .. } | Op::Write { bytes, .. } => Some(bytes.len() as u64),
+        Op::Nop
+        | Op::Fsync { .. }
+        | Op::Fallocate { .. }
+        | Op::Openat { .. }
+        | Op::Close { .. }
+        | Op::Renameat { .. }
+        | Op::Unlinkat { .. }
+        | Op::Mkdirat { .. }
+        | Op::Linkat { .. }
+        | Op::Ftruncate { .. } => None,
+    }
+}
+
+/// Whether an operation failed: a transfer where it moved other than was asked for, any other where it was
+/// refused.
+fn failed(asked: Option<u64>, outcome: &Outcome) -> bool
+    ensures { result ≡ fails_as asked (answered outcome.now) }
+{
+    match (asked, outcome) {
+        (_, Err(_)) => true,
+        (Some(asked), Ok(done)) => asked != u64::from(done.count),
+        (None, Ok(_)) => false,
+    }
+}
+
+/// Breaks the chain of an entry that fails, unless it has a hard link or stands last.
+fn break_chain(
+    role_there: &Role,
+    entry: &Entry,
+    fails: bool,
+    state: &mut State,
+) -> Result<(), AllocError>
+    ensures { OnOk result (state.new ≡ apply_all (breaks role_there.now entry.now fails) state.old) }
+{
+    let is_last = role_there.length.saturating_sub(1) <= role_there.member;
+    if !fails || entry.sqe.has(IO_HARDLINK) || is_last {
+        return Ok(());
+    }
+    let broken = if entry.sqe.has(CQE_SKIP_SUCCESS) {
+        Broken::Quiet
+    } else {
+        Broken::Loud
+    };
+    state.break_chain(role_there.chain, broken)
+}
+
+/// Whether a canceled member of a broken chain posts.
+fn posts(broken: Broken) -> bool
+    ensures { result ≡ posts (broken_meant broken) }
+{
+    match broken {
+        Broken::Loud => true,
+        Broken::Quiet => false,
+    }
+}
+
+/// The reply to an operation that ran. It takes no memory.
+fn reply_to(alloc: Global, outcome: Outcome, posted: bool) -> Reply
+    requires { IfOk outcome (λ d. d.count < 2 ^ 31) }
+    ensures { result ≡ reply_with posted (answered outcome) }
+{
+    match outcome {
+        Ok(done) => Reply {
+            res: done.count as i32,
+            bytes: done.bytes,
+            posted,
+        },
+        Err(error) => refused(alloc, error, posted),
+    }
+}
+
+/// The reply to an entry that is refused or canceled. It takes no memory.
+fn refused(alloc: Global, error: Errno, posted: bool) -> Reply
+    ensures { result ≡ error_reply error posted }
+{
+    Reply {
+        res: -error.code(),
+        bytes: Series::from_vec(Vec::new(alloc)),
+        posted,
+    }
+}
+
+/// The reply to a fill, which is not posted. It takes no memory.
+fn silent(alloc: Global) -> Reply
+    ensures { result ≡ record { res = pos 0; bytes = []; posted = false } }
+{
+    Reply {
+        res: 0,
+        bytes: Series::from_vec(Vec::new(alloc)),
+        posted: false,
+    }
+}

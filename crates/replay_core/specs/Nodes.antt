@@ -1,9 +1,0 @@
--- The nodes that a world keeps.
-use Rattle.file_tree.specs.Tree.{Node, directory, file}
-use Rattle.replay_core.specs.declared.node.Content.{Content}
-use Rattle.replay_core.specs.declared.node.Content.TheVariants.{Directory, File}
-
--- a directory with its names, or a file with its bytes
-abbrev pub node_of : Content → Node
-node_of (Directory names) = directory names
-node_of (File bytes) = file bytes.items

@@ -1,0 +1,48 @@
+-- A loop that lists the names of a tree: what it has listed, and what the pending names stand for, are all paths.
+use Rattle.std.proofs.Common.{◌≡◌, ℕ, zero, suc, ◌<◌, List, [], ◌∷◌, ◌++◌, length, Some, ap, sym, refl, ◌∙◌, arith, append_assoc}
+use Rattle.std.specs.Prelude.{None}
+use Rattle.std.specs.List.{flat_map}
+use Rattle.std.proofs.lemmas.Grind.{flat_map-append}
+use Rattle.std.proofs.lemmas.List.{append-nil}
+use Rattle.sqe_codec.specs.Answers.{each}
+use Rattle.file_tree.specs.Tree.{Tree, Names, names}
+use Rattle.world_parts.specs.Image.{paths_below}
+use Rattle.world_parts.specs.declared.imaging.Pending.{Pending}
+use Rattle.world_parts.specs.Pending.{paths_of, paths_pending}
+
+-- the paths that a name of a directory stands for
+abbrev pub paths_at : ℕ → Tree → List ℕ → List ℕ × ℕ → List (List ℕ × ℕ)
+paths_at levels tree path e = (path ++ 47 ∷ e.0, e.1) ∷ paths_below levels tree (path ++ 47 ∷ e.0) e.1
+
+pub paths_below-names : (levels below : ℕ) (tree : Tree) (path : List ℕ) (d : ℕ) (ns : Names) → levels ≡ suc below → names tree d ≡ Some ns
+    → paths_below levels tree path d ≡ flat_map (paths_at below tree path) ns.entries
+paths_below-names levels below tree path d ns e f =
+    ap (λ n. paths_below n tree path d) e ∙ ap (λ x. flat_map (paths_at below tree path) (each (λ (ns : Names). ns.entries) x)) f
+
+pub paths_below-none : (levels : ℕ) (tree : Tree) (path : List ℕ) (d : ℕ) → names tree d ≡ None → [] ≡ paths_below levels tree path d
+paths_below-none zero tree path d e = refl
+paths_below-none (suc levels) tree path d e = sym (ap (λ x. flat_map (paths_at levels tree path) (each (λ (ns : Names). ns.entries) x)) e)
+
+module _ (tree : Tree) where
+  paths_pending-push : (ps : List Pending) (p : Pending) → paths_pending tree (ps ++ p ∷ []) ≡ paths_of tree p ++ paths_pending tree ps
+  paths_pending-push [] p = sym (append-nil (paths_of tree p))
+  paths_pending-push (q ∷ ps) p = ap (λ xs. xs ++ paths_of tree q) (paths_pending-push ps p) ∙ append_assoc (paths_of tree p) (paths_pending tree ps) (paths_of tree q)
+
+  -- the last name of a directory that is left becomes the next one that is pending
+  pub one_pushed : {A : Type 0} (f : A → List (List ℕ × ℕ)) (left rest : List A) (x : A) (before after : List Pending) (p : Pending) (whole : List (List ℕ × ℕ))
+      → left ≡ rest ++ x ∷ [] → after ≡ before ++ p ∷ [] → paths_of tree p ≡ f x → flat_map f left ++ paths_pending tree before ≡ whole → flat_map f rest ++ paths_pending tree after ≡ whole
+  one_pushed f left rest x before after p whole e g h inv =
+      let last : flat_map f (rest ++ x ∷ []) ≡ flat_map f rest ++ f x = flat_map-append f rest (x ∷ []) ∙ ap (λ y. flat_map f rest ++ y) (append-nil (f x)) in
+      ap (λ ps. flat_map f rest ++ paths_pending tree ps) g
+      ∙ ap (λ y. flat_map f rest ++ y) (paths_pending-push before p ∙ ap (λ y. y ++ paths_pending tree before) h)
+      ∙ sym (append_assoc (flat_map f rest) (f x) (paths_pending tree before))
+      ∙ ap (λ y. y ++ paths_pending tree before) (sym last ∙ ap (flat_map f) (sym e))
+      ∙ inv
+
+  -- the next name that is pending gives its path, and the names below it become pending
+  pub one_listed : (old popped pushed : List Pending) (p : Pending) → old ≡ popped ++ p ∷ [] → paths_pending tree pushed ≡ paths_below p.levels tree p.path.items p.node ++ paths_pending tree popped
+      → paths_pending tree old ≡ (p.path.items, p.node) ∷ paths_pending tree pushed
+  one_listed old popped pushed p e h = ap (paths_pending tree) e ∙ paths_pending-push popped p ∙ ap (λ y. (p.path.items, p.node) ∷ y) (sym h)
+
+pub fewer : {A : Type 0} (xs ys : List A) (x : A) → xs ≡ x ∷ ys → length ys < length xs
+fewer xs ys x e = omega (arith, ap length e)

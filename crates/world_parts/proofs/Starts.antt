@@ -1,0 +1,143 @@
+-- The world that a trace starts with, a part at a time.
+use Rattle.std.proofs.Common.{◌≡◌, ℕ, zero, suc, ◌+◌, ◌-◌, ◌<◌, ◌≤◌, List, [], ◌∷◌, ◌++◌, length, take, get_or, Some, None, sym, ◌∙◌, ap, refl, arith, eqb}
+use Rattle.std.specs.Prelude.{Option, Bool, true, false, cond, replicate}
+use Rattle.std.proofs.lemmas.List.{take_more, length-take-le}
+use Rattle.std.proofs.lemmas.Bool.{eq-eqb, ne_eqb}
+use Rattle.std.specs.Ordering.{nat_cmp}
+use Rattle.trace_format.specs.declared.trace.Item.{Item}
+use Rattle.trace_format.specs.declared.trace.Ring.{Ring}
+use Rattle.trace_format.specs.declared.trace.Buffer.{Buffer}
+use Rattle.finite_maps.specs.Table.{Table, empty, insert, number_keys, pair_keys, pair_cmp}
+use Rattle.world_parts.specs.World.{World, Description}
+use Rattle.world_parts.specs.Start.{descriptions_from, descriptors_from, slots_from, buffers_from, ring_slots, ring_buffers, with_node, with_items}
+use Rattle.world_parts.proofs.Fills.{keep, filled, filled-push, rows_filled, rows_filled-push}
+
+-- what a slot or a descriptor holds
+abbrev pub held : ℕ → Option ℕ
+held zero = None
+held (suc d) = Some d
+
+pub held-full : (n d : ℕ) → 1 ≤ n → d ≡ n - 1 → held n ≡ Some d
+held-full zero d lt e = absurd (omega arith)
+held-full (suc n) d lt e = ap Some (omega arith)
+
+pub held-empty : (n : ℕ) → (1 ≤ n → ⊥) → held n ≡ None
+held-empty zero none = refl
+held-empty (suc n) none = absurd (none (omega arith))
+
+-- the bytes of a buffer that is no empty entry
+abbrev pub zeros : Buffer → Option (List ℕ)
+zeros b = cond (eqb b.len 0) None (Some (replicate b.len 0))
+
+pub zeros-full : (b : Buffer) → (b.len ≡ 0 → ⊥) → zeros b ≡ Some (replicate b.len 0)
+zeros-full b some = ap (λ (e : Bool). cond e None (Some (replicate b.len 0))) (ne_eqb b.len 0 some)
+
+pub zeros-empty : (b : Buffer) → b.len ≡ 0 → zeros b ≡ None
+zeros-empty b none = ap (λ (e : Bool). cond e None (Some (replicate b.len 0))) (eq-eqb b.len 0 none)
+
+descriptions_filled : (n : ℕ) (ds : List Description) → descriptions_from n ds ≡ filled number_keys Some (λ i. i) n ds empty
+descriptions_filled n [] = refl
+descriptions_filled n (d ∷ ds) = ap (λ (t : Table nat_cmp Description). insert number_keys.total t n d) (descriptions_filled (suc n) ds)
+
+descriptors_filled : (n : ℕ) (ds : List ℕ) → descriptors_from n ds ≡ filled number_keys held (λ i. i) n ds empty
+descriptors_filled n [] = refl
+descriptors_filled n (zero ∷ ds) = descriptors_filled (suc n) ds
+descriptors_filled n (suc d ∷ ds) = ap (λ (t : Table nat_cmp ℕ). insert number_keys.total t n d) (descriptors_filled (suc n) ds)
+
+slots_filled : (r n : ℕ) (ds : List ℕ) (m : Table pair_cmp ℕ) → slots_from r n ds m ≡ filled pair_keys held (λ i. (r, i)) n ds m
+slots_filled r n [] m = refl
+slots_filled r n (zero ∷ ds) m = slots_filled r (suc n) ds m
+slots_filled r n (suc d ∷ ds) m = ap (λ (t : Table pair_cmp ℕ). insert pair_keys.total t (r, n) d) (slots_filled r (suc n) ds m)
+
+zeros_kept : (empty_entry : Bool) (m : Table pair_cmp (List ℕ)) (k : ℕ × ℕ) (bs : List ℕ) → cond empty_entry m (insert pair_keys.total m k bs) ≡ keep pair_keys m k (cond empty_entry None (Some bs))
+zeros_kept true m k bs = refl
+zeros_kept false m k bs = refl
+
+buffers_filled : (r n : ℕ) (bs : List Buffer) (m : Table pair_cmp (List ℕ)) → buffers_from r n bs m ≡ filled pair_keys zeros (λ i. (r, i)) n bs m
+buffers_filled r n [] m = refl
+buffers_filled r n (b ∷ bs) m = zeros_kept (eqb b.len 0) (buffers_from r (suc n) bs m) (r, n) (replicate b.len 0) ∙ ap (λ (t : Table pair_cmp (List ℕ)). keep pair_keys t (r, n) (zeros b)) (buffers_filled r (suc n) bs m)
+
+ring_slots_filled : (r : ℕ) (xs : List Ring) → ring_slots r xs ≡ rows_filled pair_keys held (λ x. x.slots) r xs
+ring_slots_filled r [] = refl
+ring_slots_filled r (x ∷ xs) = slots_filled r 0 x.slots (ring_slots (suc r) xs) ∙ ap (filled pair_keys held (λ i. (r, i)) 0 x.slots) (ring_slots_filled (suc r) xs)
+
+ring_buffers_filled : (r : ℕ) (xs : List Ring) → ring_buffers r xs ≡ rows_filled pair_keys zeros (λ x. x.buffers) r xs
+ring_buffers_filled r [] = refl
+ring_buffers_filled r (x ∷ xs) = buffers_filled r 0 x.buffers (ring_buffers (suc r) xs) ∙ ap (filled pair_keys zeros (λ i. (r, i)) 0 x.buffers) (ring_buffers_filled (suc r) xs)
+
+same_number : (r i j : ℕ) → ◌≡◌ {A = ℕ × ℕ} (r, i) (r, j) → i ≡ j
+same_number r i j h = ap (λ (p : ℕ × ℕ). p.1) h
+
+-- one more of each
+
+pub descriptions-more : (ds : List Description) (i : ℕ) (d : Description) → i < length ds → descriptions_from 0 (take (i + 1) ds) ≡ insert number_keys.total (descriptions_from 0 (take i ds)) i (get_or ds i d)
+descriptions-more ds i d lt =
+    let here : 0 + length (take i ds) ≡ i = omega (arith, length-take-le i ds) in
+    ap (descriptions_from 0) (take_more ds i d lt)
+    ∙ descriptions_filled 0 (take i ds ++ get_or ds i d ∷ [])
+    ∙ filled-push number_keys Some (λ i. i) (λ i j h. h) 0 (take i ds) (get_or ds i d) empty
+    ∙ ap (λ (t : Table nat_cmp Description). insert number_keys.total t (0 + length (take i ds)) (get_or ds i d)) (sym (descriptions_filled 0 (take i ds)))
+    ∙ ap (λ (k : ℕ). insert number_keys.total (descriptions_from 0 (take i ds)) k (get_or ds i d)) here
+
+pub descriptors-more : (ds : List ℕ) (i d : ℕ) → i < length ds → descriptors_from 0 (take (i + 1) ds) ≡ keep number_keys (descriptors_from 0 (take i ds)) i (held (get_or ds i d))
+descriptors-more ds i d lt =
+    let here : 0 + length (take i ds) ≡ i = omega (arith, length-take-le i ds) in
+    ap (descriptors_from 0) (take_more ds i d lt)
+    ∙ descriptors_filled 0 (take i ds ++ get_or ds i d ∷ [])
+    ∙ filled-push number_keys held (λ i. i) (λ i j h. h) 0 (take i ds) (get_or ds i d) empty
+    ∙ ap (λ (t : Table nat_cmp ℕ). keep number_keys t (0 + length (take i ds)) (held (get_or ds i d))) (sym (descriptors_filled 0 (take i ds)))
+    ∙ ap (λ (k : ℕ). keep number_keys (descriptors_from 0 (take i ds)) k (held (get_or ds i d))) here
+
+pub slots-more : (r : ℕ) (ds : List ℕ) (m : Table pair_cmp ℕ) (i d : ℕ) → i < length ds → slots_from r 0 (take (i + 1) ds) m ≡ keep pair_keys (slots_from r 0 (take i ds) m) (r, i) (held (get_or ds i d))
+slots-more r ds m i d lt =
+    let here : 0 + length (take i ds) ≡ i = omega (arith, length-take-le i ds) in
+    ap (λ (l : List ℕ). slots_from r 0 l m) (take_more ds i d lt)
+    ∙ slots_filled r 0 (take i ds ++ get_or ds i d ∷ []) m
+    ∙ filled-push pair_keys held (λ i. (r, i)) (same_number r) 0 (take i ds) (get_or ds i d) m
+    ∙ ap (λ (t : Table pair_cmp ℕ). keep pair_keys t (r, 0 + length (take i ds)) (held (get_or ds i d))) (sym (slots_filled r 0 (take i ds) m))
+    ∙ ap (λ (k : ℕ). keep pair_keys (slots_from r 0 (take i ds) m) (r, k) (held (get_or ds i d))) here
+
+pub buffers-more : (r : ℕ) (bs : List Buffer) (m : Table pair_cmp (List ℕ)) (i : ℕ) (b : Buffer) → i < length bs → buffers_from r 0 (take (i + 1) bs) m ≡ keep pair_keys (buffers_from r 0 (take i bs) m) (r, i) (zeros (get_or bs i b))
+buffers-more r bs m i b lt =
+    let here : 0 + length (take i bs) ≡ i = omega (arith, length-take-le i bs) in
+    ap (λ (l : List Buffer). buffers_from r 0 l m) (take_more bs i b lt)
+    ∙ buffers_filled r 0 (take i bs ++ get_or bs i b ∷ []) m
+    ∙ filled-push pair_keys zeros (λ i. (r, i)) (same_number r) 0 (take i bs) (get_or bs i b) m
+    ∙ ap (λ (t : Table pair_cmp (List ℕ)). keep pair_keys t (r, 0 + length (take i bs)) (zeros (get_or bs i b))) (sym (buffers_filled r 0 (take i bs) m))
+    ∙ ap (λ (k : ℕ). keep pair_keys (buffers_from r 0 (take i bs) m) (r, k) (zeros (get_or bs i b))) here
+
+pub ring_slots-more : (xs : List Ring) (i : ℕ) (x : Ring) → i < length xs → ring_slots 0 (take (i + 1) xs) ≡ slots_from i 0 (get_or xs i x).slots (ring_slots 0 (take i xs))
+ring_slots-more xs i x lt =
+    let y = get_or xs i x in
+    let here : 0 + length (take i xs) ≡ i = omega (arith, length-take-le i xs) in
+    ap (ring_slots 0) (take_more xs i x lt)
+    ∙ ring_slots_filled 0 (take i xs ++ y ∷ [])
+    ∙ rows_filled-push pair_keys held (λ x. x.slots) 0 (take i xs) y
+    ∙ ap (filled pair_keys held (λ k. (0 + length (take i xs), k)) 0 y.slots) (sym (ring_slots_filled 0 (take i xs)))
+    ∙ sym (slots_filled (0 + length (take i xs)) 0 y.slots (ring_slots 0 (take i xs)))
+    ∙ ap (λ (r : ℕ). slots_from r 0 y.slots (ring_slots 0 (take i xs))) here
+
+pub ring_buffers-more : (xs : List Ring) (i : ℕ) (x : Ring) → i < length xs → ring_buffers 0 (take (i + 1) xs) ≡ buffers_from i 0 (get_or xs i x).buffers (ring_buffers 0 (take i xs))
+ring_buffers-more xs i x lt =
+    let y = get_or xs i x in
+    let here : 0 + length (take i xs) ≡ i = omega (arith, length-take-le i xs) in
+    ap (ring_buffers 0) (take_more xs i x lt)
+    ∙ ring_buffers_filled 0 (take i xs ++ y ∷ [])
+    ∙ rows_filled-push pair_keys zeros (λ x. x.buffers) 0 (take i xs) y
+    ∙ ap (filled pair_keys zeros (λ k. (0 + length (take i xs), k)) 0 y.buffers) (sym (ring_buffers_filled 0 (take i xs)))
+    ∙ sym (buffers_filled (0 + length (take i xs)) 0 y.buffers (ring_buffers 0 (take i xs)))
+    ∙ ap (λ (r : ℕ). buffers_from r 0 y.buffers (ring_buffers 0 (take i xs))) here
+
+with_items-push : (s : World) (n : ℕ) (xs : List Item) (x : Item) → with_items s n (xs ++ x ∷ []) ≡ with_node (with_items s n xs) (n + length xs) x.path x.node
+with_items-push s n [] x =
+    let e : n ≡ n + 0 = omega arith in
+    ap (λ (k : ℕ). with_node s k x.path x.node) e
+with_items-push s n (y ∷ ys) x =
+    let e : suc n + length ys ≡ n + length (y ∷ ys) = omega arith in
+    with_items-push (with_node s n y.path y.node) (suc n) ys x ∙ ap (λ (k : ℕ). with_node (with_items s n (y ∷ ys)) k x.path x.node) e
+
+pub with_items-more : (s : World) (xs : List Item) (i : ℕ) (x : Item) → i < length xs → with_items s 1 (take (i + 1) xs) ≡ with_node (with_items s 1 (take i xs)) (i + 1) (get_or xs i x).path (get_or xs i x).node
+with_items-more s xs i x lt =
+    let y = get_or xs i x in
+    let e : 1 + length (take i xs) ≡ i + 1 = omega (arith, length-take-le i xs) in
+    ap (with_items s 1) (take_more xs i x lt) ∙ with_items-push s 1 (take i xs) y ∙ ap (λ (k : ℕ). with_node (with_items s 1 (take i xs)) k y.path y.node) e

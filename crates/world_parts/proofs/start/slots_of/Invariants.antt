@@ -1,0 +1,7 @@
+use Rattle.std.proofs.Common.{◌≡◌, take}
+use Rattle.world_parts.specs.Start.{ring_slots}
+use Rattle.world_parts.proofs.start.slots_of.Given as goal
+
+-- the map has the slots of the rings so far
+abbrev pub invariant-loop-number : goal.invariant-loop-number
+invariant-loop-number l = l.table ≡ ring_slots 0 (take l.number l.rings)

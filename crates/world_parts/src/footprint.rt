@@ -1,0 +1,230 @@
+//! What a place reads and writes.
+ghost use Rattle.std.specs.Prelude.{◌≡◌, ◌||◌, ◌&&◌, ◌++◌, ◌∷◌, [], map, OnOk};
+ghost use Rattle.std.specs.List.{list_any};
+ghost use Rattle.world_parts.specs.Items as items;
+ghost use Rattle.world_parts.specs.Uses.{item_meant, only_read, use_meant};
+
+use std::alloc::{AllocError, Global};
+use std::marker::Model;
+
+/// A part of a world, or all parts of a sort whose numbers are below one.
+#[derive(Drop)]
+pub enum Item {
+    /// The flag of a chain.
+    Chain(u32),
+    /// The order of a ring, which keeps barriers apart.
+    Ring(u8),
+    /// A registered file of a ring.
+    Slot(u8, u32),
+    /// A descriptor of the process.
+    Descriptor(u32),
+    /// An open file description, apart from its position.
+    Description(u32),
+    /// The position of an open file description.
+    Position(u32),
+    /// The size of a file.
+    Size(u32),
+    /// The bytes of a file from one offset up to another.
+    Bytes(u32, u64, u64),
+    /// What a name of a directory leads to.
+    Name(u32, Vec<u8>),
+    /// How many names a directory has.
+    Names(u32),
+    /// The bytes of a registered buffer of a ring from one offset up to another.
+    Buffer(u8, u32, u64, u64),
+    /// The names of all directories below a number.
+    AllNames(u32),
+    /// The bytes and sizes of all files below a number.
+    AllBytesAndSizes(u32),
+    /// The positions of all open file descriptions below a number.
+    AllPositions(u32),
+    /// All open file descriptions below a number.
+    AllDescriptions(u32),
+    /// All descriptors of the process.
+    AllDescriptors,
+}
+
+/// An item that a place reads or writes.
+#[derive(Drop)]
+pub struct Use {
+    pub item: Item,
+    pub written: bool,
+}
+
+/// The items that a place reads and writes.
+#[derive(Drop)]
+pub struct Footprint {
+    pub(crate) uses: Vec<Use>,
+}
+
+impl Model for Footprint {
+    ghost use Rattle.std.specs.Prelude.{map};
+    ghost use Rattle.world_parts.specs.Items.{Footprint};
+    ghost use Rattle.world_parts.specs.Uses.{use_meant};
+
+    ghost Value = { Footprint };
+
+    ghost view = { λ f. map use_meant f.uses.items };
+}
+
+impl Footprint {
+    /// A footprint without items.
+    pub fn new(alloc: Global) -> Self
+        ensures { result ≡ [] }
+    {
+        Footprint {
+            uses: Vec::new(alloc),
+        }
+    }
+
+    /// Adds an item that is read or written.
+    ///
+    /// # Errors
+    ///
+    /// Want of memory.
+    pub fn push(&mut self, used: Use) -> Result<(), AllocError>
+        ensures { OnOk result (self.new ≡ self.old ++ use_meant used ∷ []) }
+    {
+        self.uses.push(used)?;
+        Ok(())
+    }
+
+    /// Adds an item that is read.
+    ///
+    /// # Errors
+    ///
+    /// Want of memory.
+    pub fn reads(&mut self, item: Item) -> Result<(), AllocError>
+        ensures { OnOk result (self.new ≡ self.old ++ items.reads (item_meant item) ∷ []) }
+    {
+        self.push(Use {
+            item,
+            written: false,
+        })
+    }
+
+    /// Adds an item that is written.
+    ///
+    /// # Errors
+    ///
+    /// Want of memory.
+    pub fn writes(&mut self, item: Item) -> Result<(), AllocError>
+        ensures { OnOk result (self.new ≡ self.old ++ items.writes (item_meant item) ∷ []) }
+    {
+        self.push(Use {
+            item,
+            written: true,
+        })
+    }
+
+    /// Adds the items of another footprint.
+    ///
+    /// # Errors
+    ///
+    /// Want of memory.
+    pub fn append(&mut self, mut other: Footprint) -> Result<(), AllocError>
+        ensures { OnOk result (self.new ≡ self.old ++ other) }
+    {
+        self.uses.append(&mut other.uses)
+    }
+
+    /// Makes every item one that is only read.
+    pub fn make_read_only(&mut self)
+        ensures { self.new ≡ map (λ u. items.reads u.item) self.old }
+    {
+        make_reads(self.uses.as_mut_slice());
+    }
+
+    /// What is read and written, in the order in which it was added.
+    pub fn uses(&self) -> &[Use]
+        ensures { map use_meant result.now ≡ self.now }
+    {
+        self.uses.as_slice()
+    }
+}
+
+/// Makes every use one that reads.
+fn make_reads(uses: &mut [Use])
+    ensures { uses.new ≡ map only_read uses.old }
+{
+    for used in uses.iter_mut() {
+        used.written = false;
+    }
+}
+
+/// Whether two footprints share an item, of a range a byte, that at least one of them writes. It takes no
+/// memory.
+pub fn collide(one: &Footprint, other: &Footprint) -> bool
+    ensures { result ≡ items.collide one.now other.now }
+{
+    any_meets(one.uses(), other.uses())
+}
+
+/// Whether some use collides with one of some others.
+fn any_meets(uses: &[Use], others: &[Use]) -> bool
+    ensures { result ≡ list_any (λ u. list_any (λ v. (u.written || v.written) && items.share (item_meant u.item) (item_meant v.item)) others.now) uses.now }
+{
+    uses.iter().any(|used| meets(used, others))
+}
+
+/// Whether a use collides with one of some others.
+fn meets(used: &Use, others: &[Use]) -> bool
+    ensures { result ≡ list_any (λ v. (used.now.written || v.written) && items.share (item_meant used.now.item) (item_meant v.item)) others.now }
+{
+    others.iter().any(|other| (used.written || other.written) && share(&used.item, &other.item))
+}
+
+/// Whether two items share a part of a world.
+fn share(one: &Item, other: &Item) -> bool
+    ensures { result ≡ items.share (item_meant one.now) (item_meant other.now) }
+{
+    match (one, other) {
+        (Item::Chain(chain), Item::Chain(other)) => chain == other,
+        (Item::Ring(ring), Item::Ring(other)) => ring == other,
+        (Item::Slot(ring, slot), Item::Slot(other_ring, other)) => {
+            ring == other_ring && slot == other
+        }
+        (Item::Descriptor(number), Item::Descriptor(other)) => number == other,
+        (Item::Descriptor(_), Item::AllDescriptors)
+        | (Item::AllDescriptors, Item::Descriptor(_) | Item::AllDescriptors) => true,
+        (Item::Description(number), Item::Description(other)) => number == other,
+        (Item::Description(number), Item::AllDescriptions(below))
+        | (Item::AllDescriptions(below), Item::Description(number)) => number < below,
+        (Item::AllDescriptions(below), Item::AllDescriptions(other)) => *below > 0 && *other > 0,
+        (Item::Position(description), Item::Position(other)) => description == other,
+        (Item::Position(description), Item::AllPositions(below))
+        | (Item::AllPositions(below), Item::Position(description)) => description < below,
+        (Item::AllPositions(below), Item::AllPositions(other)) => *below > 0 && *other > 0,
+        (Item::Size(node), Item::Size(other)) => node == other,
+        (Item::Size(node), Item::AllBytesAndSizes(below))
+        | (Item::AllBytesAndSizes(below), Item::Size(node)) => node < below,
+        (Item::AllBytesAndSizes(below), Item::AllBytesAndSizes(other)) => *below > 0 && *other > 0,
+        (Item::Bytes(node, low, high), Item::Bytes(other, from, to)) => {
+            node == other && ranges_meet(*low, *high, *from, *to)
+        }
+        (Item::Bytes(node, low, high), Item::AllBytesAndSizes(below))
+        | (Item::AllBytesAndSizes(below), Item::Bytes(node, low, high)) => {
+            node < below && low < high
+        }
+        (Item::Name(directory, name), Item::Name(other_directory, other)) => {
+            directory == other_directory && name.as_slice() == other.as_slice()
+        }
+        (Item::Names(directory), Item::Names(other)) => directory == other,
+        (Item::Name(directory, _) | Item::Names(directory), Item::AllNames(below))
+        | (Item::AllNames(below), Item::Name(directory, _) | Item::Names(directory)) => {
+            directory < below
+        }
+        (Item::AllNames(below), Item::AllNames(other)) => *below > 0 && *other > 0,
+        (Item::Buffer(ring, index, low, high), Item::Buffer(other_ring, other, from, to)) => {
+            ring == other_ring && index == other && ranges_meet(*low, *high, *from, *to)
+        }
+        _ => false,
+    }
+}
+
+/// Whether two ranges share an offset.
+fn ranges_meet(low: u64, high: u64, from: u64, to: u64) -> bool
+    ensures { result ≡ items.ranges_meet low high from to }
+{
+    low.max(from) < high.min(to)
+}

@@ -1,0 +1,218 @@
+//! What the report shows of a world.
+ghost use Rattle.std.specs.Prelude.{◌≡◌, ◌↔◌, [], ◌∷◌, ◌++◌, unwrap_or, IfOk, IsTrue, OnOk};
+ghost use Rattle.extent_bytes.specs.Bytes.{range_of};
+ghost use Rattle.finite_maps.specs.Table.{number_keys, text_keys};
+ghost use Rattle.finite_maps.specs.Maps.{seen_table, table_of};
+ghost use Rattle.world_parts.specs.Pending.{paths_pending};
+ghost use Rattle.world_parts.specs.Image.{all_paths, image_of, paths_below};
+ghost use Rattle.world_parts.specs.World.{buffer, bytes};
+
+use crate::broken::Flag;
+use crate::image::{BufferEntry, DescriptorEntry, Image, NameEntry, SlotEntry};
+use crate::state::State;
+use std::alloc::{AllocError, Global};
+use std::collections::BTreeMap;
+use trace_format::{Blob, Series};
+
+/// A name that is still to be listed: its full path, its node, and how many levels below it are listed
+/// too.
+#[derive(Drop)]
+struct Pending {
+    path: Vec<u8>,
+    node: u32,
+    levels: usize,
+}
+
+/// The full path of a name of a directory.
+fn joined(alloc: Global, directory: &[u8], name: &[u8]) -> Result<Vec<u8>, AllocError>
+    ensures { IfOk result (λ path. path.items ≡ directory.now ++ 47 ∷ name.now) }
+{
+    let mut path = Vec::from_slice(alloc, directory)?;
+    path.push(b'/')?;
+    path.extend_from_slice(name)?;
+    Ok(path)
+}
+
+/// Whether the same chains broke, and in the same way.
+fn same_chains(chains: &BTreeMap<u32, Flag>, others: &BTreeMap<u32, Flag>) -> bool
+    ensures { IsTrue result ↔ (table_of number_keys.total chains.now.entries ≡ table_of number_keys.total others.now.entries) }
+{
+    let mut left = others.iter();
+    for (chain, flag) in chains.iter() {
+        let Some((other_chain, other_flag)) = left.next() else {
+            return false;
+        };
+        if chain != other_chain || flag.broken != other_flag.broken {
+            return false;
+        }
+    }
+    left.next().is_none()
+}
+
+impl State {
+    /// What the report shows of the state.
+    ///
+    /// # Errors
+    ///
+    /// Want of memory.
+    pub fn image(&self, alloc: Global) -> Result<Image, AllocError>
+        ensures { IfOk result (λ image. image ≡ image_of self.now) }
+    {
+        Ok(Image {
+            names: Series::from_vec(self.name_entries(alloc)?),
+            slots: Series::from_vec(self.slot_entries(alloc)?),
+            descriptors: Series::from_vec(self.descriptor_entries(alloc)?),
+            buffers: Series::from_vec(self.buffer_entries(alloc)?),
+        })
+    }
+
+    /// The bytes of a file from one offset up to another, as far as it has them; none where the node is no
+    /// file.
+    ///
+    /// # Errors
+    ///
+    /// Want of memory.
+    pub fn file_bytes(
+        &self,
+        alloc: Global,
+        node: u32,
+        low: u64,
+        high: u64,
+    ) -> Result<Blob, AllocError>
+        ensures { IfOk result (λ taken. taken ≡ range_of (unwrap_or (bytes self.now node) []) low high) }
+    {
+        Ok(Series::from_vec(self.bytes(alloc, node, low, high)?))
+    }
+
+    /// The bytes of a registered buffer; none where there is no such buffer.
+    ///
+    /// # Errors
+    ///
+    /// Want of memory.
+    pub fn buffer_bytes(&self, alloc: Global, ring: u8, index: u32) -> Result<Blob, AllocError>
+        ensures { IfOk result (λ taken. taken ≡ unwrap_or (buffer self.now ring index) []) }
+    {
+        let Some(len) = self.buffer_len(ring, index) else {
+            return Ok(Series::from_vec(Vec::new(alloc)));
+        };
+        Ok(Series::from_vec(self.buffer(ring, index, 0, len)?))
+    }
+
+    /// Whether both are the same. It takes no memory.
+    pub fn same(&self, other: &State) -> bool
+        ensures { IsTrue result ↔ (self.now ≡ other.now) }
+    {
+        self.nodes.same(&other.nodes)
+            && self.descriptions.same(&other.descriptions)
+            && self.slots.same(&other.slots)
+            && self.descriptors.same(&other.descriptors)
+            && self.buffers.same(&other.buffers)
+            && same_chains(&self.broken, &other.broken)
+    }
+
+    /// Puts the names of a directory on top of those that are pending, the first one uppermost; none
+    /// where no levels are left.
+    fn push_names(
+        &self,
+        alloc: Global,
+        pending: &mut Vec<Pending>,
+        path: &[u8],
+        directory: u32,
+        levels: usize,
+    ) -> Result<(), AllocError>
+        ensures { OnOk result (paths_pending self.now.nodes pending.new.items ≡ paths_below levels self.now.nodes path.now directory ++ paths_pending self.now.nodes pending.old.items) }
+    {
+        let Some(below) = levels.checked_sub(1) else {
+            return Ok(());
+        };
+        let Some(names) = self.nodes.names(directory) else {
+            return Ok(());
+        };
+        for (name, node) in names.iter().rev() {
+            pending.push(Pending {
+                path: joined(alloc, path, name)?,
+                node: *node,
+                levels: below,
+            })?;
+        }
+        Ok(())
+    }
+
+    /// All names by their full paths, each with its node.
+    fn paths(&self, alloc: Global) -> Result<BTreeMap<Vec<u8>, u32>, AllocError>
+        ensures { IfOk result (λ paths. seen_table text_keys.total (λ k. k.items) paths.entries ≡ all_paths self.now.nodes) }
+    {
+        let mut paths = BTreeMap::new(alloc);
+        let mut pending = Vec::new(alloc);
+        // No path has more directories than there are nodes.
+        self.push_names(alloc, &mut pending, &[], 0, self.nodes.node_count())?;
+        while let Some(Pending { path, node, levels }) = pending.pop() {
+            self.push_names(alloc, &mut pending, &path, node, levels)?;
+            paths.insert(path, node)?;
+        }
+        Ok(paths)
+    }
+
+    fn name_entries(&self, alloc: Global) -> Result<Vec<NameEntry>, AllocError>
+        ensures { IfOk result (λ entries. entries.items ≡ (image_of self.now).names) }
+    {
+        let mut entries = Vec::new(alloc);
+        for (path, node) in self.paths(alloc)? {
+            entries.push(NameEntry {
+                path: Series::from_vec(path),
+                node,
+                size: self.size(node),
+            })?;
+        }
+        Ok(entries)
+    }
+
+    fn slot_entries(&self, alloc: Global) -> Result<Vec<SlotEntry>, AllocError>
+        ensures { IfOk result (λ entries. entries.items ≡ (image_of self.now).slots) }
+    {
+        let mut entries = Vec::new(alloc);
+        for (&(ring, slot), &description) in self.slots.iter() {
+            if let Some(opened) = self.description(description) {
+                entries.push(SlotEntry {
+                    ring,
+                    slot,
+                    description,
+                    node: opened.node,
+                    position: opened.position,
+                })?;
+            }
+        }
+        Ok(entries)
+    }
+
+    fn descriptor_entries(&self, alloc: Global) -> Result<Vec<DescriptorEntry>, AllocError>
+        ensures { IfOk result (λ entries. entries.items ≡ (image_of self.now).descriptors) }
+    {
+        let mut entries = Vec::new(alloc);
+        for (&number, &description) in self.descriptors.iter() {
+            if let Some(opened) = self.description(description) {
+                entries.push(DescriptorEntry {
+                    number,
+                    description,
+                    node: opened.node,
+                    position: opened.position,
+                })?;
+            }
+        }
+        Ok(entries)
+    }
+
+    fn buffer_entries(&self, alloc: Global) -> Result<Vec<BufferEntry>, AllocError>
+        ensures { IfOk result (λ entries. entries.items ≡ (image_of self.now).buffers) }
+    {
+        let mut entries = Vec::new(alloc);
+        for (&(ring, index), buffer) in self.buffers.iter() {
+            entries.push(BufferEntry {
+                ring,
+                index,
+                len: buffer.len(),
+            })?;
+        }
+        Ok(entries)
+    }
+}

@@ -1,0 +1,39 @@
+//! A world of which parts may be out, and its parts.
+
+use crate::footprint::Footprint;
+use crate::state::State;
+use std::collections::BTreeMap;
+use std::marker::Model;
+
+/// The world of a replay, and the footprints of the parts that are out of it, by their places.
+#[derive(Drop)]
+pub struct World {
+    pub(crate) state: State,
+    pub(crate) out: BTreeMap<u32, Footprint>,
+}
+
+impl Model for World {
+    ghost use Rattle.finite_maps.specs.Table.{number_keys};
+    ghost use Rattle.finite_maps.specs.Maps.{table_of};
+    ghost use Rattle.world_parts.specs.Part.{Divided};
+
+    ghost Value = { Divided };
+
+    ghost view = { λ w. record { world = w.state; out = table_of number_keys.total w.out.entries } };
+}
+
+/// A part of a world that was cut out for a place: a small world in which the items of the place's footprint
+/// have their values.
+#[derive(Drop)]
+pub struct Part {
+    pub place: u32,
+    pub state: State,
+}
+
+impl Model for Part {
+    ghost use Rattle.world_parts.specs.Part.{Part};
+
+    ghost Value = { Part };
+
+    ghost view = { λ p. record { place = p.place; values = p.state } };
+}

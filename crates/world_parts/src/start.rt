@@ -1,0 +1,168 @@
+//! The world that a trace starts with.
+ghost use Rattle.std.specs.Prelude.{◌≡◌, ◌≤◌, All, IfOk, OnOk, length};
+ghost use Rattle.trace_format.specs.Text.{IsSpelled};
+ghost use Rattle.trace_format.specs.declared.trace.Item.{Item};
+ghost use Rattle.trace_format.specs.declared.trace.Ring.{Ring};
+ghost use Rattle.world_parts.specs.Sized.{IsSized};
+ghost use Rattle.world_parts.specs.Start as initial;
+
+use crate::state::State;
+use file_tree::{Kind, Tree};
+use ring_tables::{Buffers, Descriptions, Descriptors, Slots};
+use std::alloc::{AllocError, Global};
+use std::collections::BTreeMap;
+use trace_format::{Buffer, Description, Item, Node, Ring, Trace};
+
+/// The directory that stands for the working directory, which is the root: `AT_FDCWD` of openat(2).
+const WORKING_DIRECTORY: i32 = -100;
+
+fn descriptions_of(alloc: Global, descriptions: &[Description]) -> Result<Descriptions, AllocError>
+    requires { length descriptions.now ≤ 65535 }
+    ensures { IfOk result (λ table. table ≡ initial.descriptions_from 0 descriptions.now) }
+{
+    let mut table = Descriptions::new(alloc);
+    for (number, description) in descriptions.iter().enumerate() {
+        table.set(number as u32, *description)?;
+    }
+    Ok(table)
+}
+
+fn descriptors_of(alloc: Global, descriptors: &[u32]) -> Result<Descriptors, AllocError>
+    requires { length descriptors.now ≤ 1024 }
+    ensures { IfOk result (λ table. table ≡ initial.descriptors_from 0 descriptors.now) }
+{
+    let mut table = Descriptors::new(alloc);
+    for (number, descriptor) in descriptors.iter().enumerate() {
+        if let Some(description) = descriptor.checked_sub(1) {
+            table.set(number as u32, Some(description))?;
+        }
+    }
+    Ok(table)
+}
+
+/// Adds the full slots of a ring.
+fn add_slots(table: &mut Slots, ring: u8, slots: &[u32]) -> Result<(), AllocError>
+    requires { length slots.now ≤ 1024 }
+    ensures { OnOk result (table.new ≡ initial.slots_from ring 0 slots.now table.old) }
+{
+    for (number, slot) in slots.iter().enumerate() {
+        if let Some(description) = slot.checked_sub(1) {
+            table.set(ring, number as u32, Some(description))?;
+        }
+    }
+    Ok(())
+}
+
+fn slots_of(alloc: Global, rings: &[Ring]) -> Result<Slots, AllocError>
+    requires rings { length rings.now ≤ 64 }
+    requires slots { All (λ (r : Ring). length r.slots ≤ 1024) rings.now }
+    ensures { IfOk result (λ table. table ≡ initial.ring_slots 0 rings.now) }
+{
+    let mut table = Slots::new(alloc);
+    for (number, ring) in rings.iter().enumerate() {
+        add_slots(&mut table, number as u8, ring.slots.as_slice())?;
+    }
+    Ok(table)
+}
+
+/// Adds the buffers of a ring, but for empty entries.
+fn add_buffers(table: &mut Buffers, ring: u8, buffers: &[Buffer]) -> Result<(), AllocError>
+    requires { length buffers.now ≤ 1024 }
+    ensures { OnOk result (table.new ≡ initial.buffers_from ring 0 buffers.now table.old) }
+{
+    for (index, buffer) in buffers.iter().enumerate() {
+        if buffer.len != 0 {
+            table.add(ring, index as u32, buffer.len)?;
+        }
+    }
+    Ok(())
+}
+
+fn buffers_of(alloc: Global, rings: &[Ring]) -> Result<Buffers, AllocError>
+    requires rings { length rings.now ≤ 64 }
+    requires buffers { All (λ (r : Ring). length r.buffers ≤ 1024) rings.now }
+    ensures { IfOk result (λ table. table ≡ initial.ring_buffers 0 rings.now) }
+{
+    let mut table = Buffers::new(alloc);
+    for (number, ring) in rings.iter().enumerate() {
+        add_buffers(&mut table, number as u8, ring.buffers.as_slice())?;
+    }
+    Ok(table)
+}
+
+impl State {
+    /// The state that a trace starts with.
+    ///
+    /// # Errors
+    ///
+    /// Want of memory.
+    pub fn of(alloc: Global, trace: &Trace) -> Result<Self, AllocError>
+        requires { IsSpelled trace.now }
+        ensures { IfOk result (λ state. state ≡ initial.start trace.now) }
+    {
+        let rings = trace.rings.as_slice();
+        let mut state = State::bare(alloc)?;
+        state.add_items(alloc, trace.items.as_slice())?;
+        state.descriptions = descriptions_of(alloc, trace.descriptions.as_slice())?;
+        state.slots = slots_of(alloc, rings)?;
+        state.descriptors = descriptors_of(alloc, trace.descriptors.as_slice())?;
+        state.buffers = buffers_of(alloc, rings)?;
+        Ok(state)
+    }
+
+    /// A state with the root alone.
+    fn bare(alloc: Global) -> Result<Self, AllocError>
+        ensures { IfOk result (λ state. state ≡ initial.bare) }
+    {
+        Ok(State {
+            nodes: Tree::new(alloc)?,
+            descriptions: Descriptions::new(alloc),
+            slots: Slots::new(alloc),
+            descriptors: Descriptors::new(alloc),
+            buffers: Buffers::new(alloc),
+            broken: BTreeMap::new(alloc),
+        })
+    }
+
+    /// Adds the items of a trace. The first one makes node 1.
+    fn add_items(&mut self, alloc: Global, items: &[Item]) -> Result<(), AllocError>
+        requires count { length items.now ≤ 65535 }
+        requires sizes { All IsSized items.now }
+        ensures { OnOk result (self.new ≡ initial.with_items self.old 1 items.now) }
+    {
+        for (index, item) in items.iter().enumerate() {
+            self.add_item(alloc, index as u32 + 1, item)?;
+        }
+        Ok(())
+    }
+
+    fn add_item(&mut self, alloc: Global, number: u32, item: &Item) -> Result<(), AllocError>
+        requires { IsSized item.now }
+        ensures { OnOk result (self.new ≡ initial.with_node self.old number item.now.path item.now.node) }
+    {
+        let path = item.path.as_slice();
+        match &item.node {
+            Node::Directory => {
+                self.add_node(alloc, number, Kind::Directory)?;
+                self.name_node(alloc, path, number)
+            }
+            Node::File { size, stored } => {
+                self.add_node(alloc, number, Kind::File)?;
+                self.write(number, 0, stored.as_slice())?;
+                self.set_size(number, *size)?;
+                self.name_node(alloc, path, number)
+            }
+            Node::OtherName { number } => self.name_node(alloc, path, *number),
+        }
+    }
+
+    /// Names a node by a path; nothing changes where the path's parent isn't there.
+    fn name_node(&mut self, alloc: Global, path: &[u8], node: u32) -> Result<(), AllocError>
+        ensures { OnOk result (self.new ≡ initial.name_at self.old path.now node) }
+    {
+        match self.walk(WORKING_DIRECTORY, path) {
+            Ok(place) => self.set_name(alloc, place.parent, place.name, Some(node)),
+            Err(_) => Ok(()),
+        }
+    }
+}
