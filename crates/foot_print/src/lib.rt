@@ -11,7 +11,5 @@ pub mod laws;
 mod of_place;
 mod path_rows;
 mod rows;
-#[cfg(test)]
-mod tests;
 
 pub use of_place::{foot, foot_in};

@@ -6,8 +6,6 @@ mod changing;
 mod copying;
 mod cutting;
 mod footprint;
-#[cfg(test)]
-mod footprint_tests;
 mod image;
 mod imaging;
 pub mod laws;
@@ -16,8 +14,6 @@ mod part;
 mod putting;
 mod start;
 mod state;
-#[cfg(test)]
-mod tests;
 mod whole;
 
 pub use broken::Broken;
