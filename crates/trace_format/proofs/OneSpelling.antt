@@ -1,6 +1,6 @@
 -- Each part of a trace is spelled in one way.
-use Rattle.std.proofs.Common.{◌≡◌, ℕ, zero, suc, min, ◌-◌, eqb, ◌+◌, ◌≤◌, ◌^◌, Bool, true, false, List, [], ◌∷◌, ◌++◌, length, append_assoc, refl, sym, ap, subst, ◌∙◌, arith, inl, inr}
-use Rattle.std.specs.Prelude.{codes, ◌&&◌, nat_le}
+use Rattle.std.proofs.Common.{◌≡◌, ℕ, zero, suc, min, ◌-◌, eqb, ◌+◌, ◌≤◌, ◌^◌, Bool, true, false, cond, List, [], ◌∷◌, ◌++◌, length, Option, None, Some, append_assoc, refl, sym, ap, subst, ◌∙◌, arith, inl, inr}
+use Rattle.std.specs.Prelude.{codes, ◌&&◌, ◌==◌, nat_le}
 use Rattle.std.specs.List.{flat_map}
 use Rattle.std.specs.Int.{w8, w16, w32, w64, to_le_bytes}
 use Rattle.std.proofs.lemmas.Bool.{eqb-true, eqb-false, leb-true}
@@ -13,14 +13,16 @@ use Rattle.trace_format.specs.declared.trace.Item.{Item}
 use Rattle.trace_format.specs.declared.trace.Node.{Node}
 use Rattle.trace_format.specs.declared.trace.Node.TheVariants.{File}
 use Rattle.trace_format.specs.Counts.{places_in}
-use Rattle.trace_format.specs.Text.{slot, buffer, ring, entry, file, other_name, node, new_path, item, description, access_of, enter, fill, one_record, header, is_read_version, latest_version, version_of, most_descriptors, Counts, trace, SpellsTrace, is_within, buffer_len}
+use Rattle.trace_format.specs.Text.{slot, buffer, ring, entry, file, other_name, node, new_path, item, description, access_of, enter, fill, one_record, header, version_of, most_descriptors, Counts, trace, SpellsTrace, is_within, buffer_len}
 use Rattle.trace_format.specs.Grammar.{Grammar, Done, Bytes, Place, Test, ◌>>=◌, number, number_to, fault}
 use Rattle.trace_format.specs.declared.fault.Kind.TheVariants.{Reference}
 use Rattle.trace_format.specs.declared.trace.Record.TheVariants.{Fill}
 use Rattle.trace_format.specs.declared.trace.Record.{Record}
 use Rattle.trace_format.specs.declared.trace.Trace.{Trace}
+use Rattle.trace_format.specs.declared.trace.Version.{Version as TraceVersion}
+use Rattle.trace_format.specs.declared.trace.Version.TheVariants.{One, Two}
 use Rattle.trace_format.specs.Spelling.{slot_bytes, buffer_bytes, ring_bytes, entry_text, kind_of, node_bytes, item_bytes, access_number, flag, description_bytes, record_bytes, version_number, header_bytes, trace_bytes}
-use Rattle.trace_format.proofs.Spelled.{Once, Spelt, Front, at_place, at_test, test_passed, at_done, then, at_bytes, at_several, cat, last, wide16, wide32, wide64, once_number, once_number_to, split, at_choice, once_u8, once_u8_to, within_limit}
+use Rattle.trace_format.proofs.Spelled.{Once, Spelt, Front, at_place, at_test, test_passed, at_known, at_done, then, at_bytes, at_several, cat, last, wide16, wide32, wide64, once_number, once_number_to, split, at_choice, once_u8, once_u8_to, within_limit}
 
 file_kind : (place : ℕ) (text : List ℕ) (y : Node) → IsBytes text → Spelt file place text y → kind_of y ≡ 2
 unfolding file
@@ -227,55 +229,59 @@ abbrev counts_bytes : Counts → List ℕ
 counts_bytes c = (codes "URINGTRC" ++ to_le_bytes w32 (version_number c.version)) ++ five_counts c
 
 -- what follows the version in the header
-unfoldable counts_tail : ℕ → Grammar Counts
+unfoldable counts_tail : TraceVersion → Grammar Counts
 counts_tail version = do
   items ← number_to w32 65535
   descriptions ← number_to w32 65535
   rings ← number_to w32 64
   records ← number_to w32 1048576
-  descriptors ← number_to w32 (most_descriptors (version_of version))
-  Done (record { version = version_of version; items = items; descriptions = descriptions; rings = rings; records = records; descriptors = descriptors })
+  descriptors ← number_to w32 (most_descriptors version)
+  Done (record { version = version; items = items; descriptions = descriptions; rings = rings; records = records; descriptors = descriptors })
 
 -- the counts after a version, and their text
-record CountsTail (number : ℕ) (text : List ℕ) (y : Counts) : Type 0 where
+record CountsTail (v : TraceVersion) (text : List ℕ) (y : Counts) : Type 0 where
   whole : text ≡ five_counts y
-  version : y.version ≡ version_of number
+  version : y.version ≡ v
 
-once_counts_tail : (version place : ℕ) (text : List ℕ) (y : Counts) → IsBytes text → Spelt (counts_tail version) place text y → CountsTail version text y
+once_counts_tail : (version : TraceVersion) (place : ℕ) (text : List ℕ) (y : Counts) → IsBytes text → Spelt (counts_tail version) place text y → CountsTail version text y
 unfolding counts_tail
 once_counts_tail version place text y fits s =
     let items = then (to_le_bytes w32) (once_number_to w32 65535 wide32) fits s in
     let descriptions = then (to_le_bytes w32) (once_number_to w32 65535 wide32) items.fits items.spelled in
     let rings = then (to_le_bytes w32) (once_number_to w32 64 wide32) descriptions.fits descriptions.spelled in
     let records = then (to_le_bytes w32) (once_number_to w32 1048576 wide32) rings.fits rings.spelled in
-    let descriptors = then (to_le_bytes w32) (once_number_to w32 (most_descriptors (version_of version)) wide32) records.fits records.spelled in
+    let descriptors = then (to_le_bytes w32) (once_number_to w32 (most_descriptors version) wide32) records.fits records.spelled in
     let e = at_done descriptors.spelled in
     record {
       whole = last (cat (cat (cat (cat items.parts descriptions.parts) rings.parts) records.parts) descriptors.parts) e.0 ∙ ap five_counts (sym e.1);
       version = ap (λ (c : Counts). c.version) e.1;
     }
 
--- a version that is served is the number that it was read from
-version_back : (version : ℕ) → is_read_version version ≡ true → version ≡ version_number (version_of version)
-version_back zero h = absurd cc
-version_back (suc zero) h = refl
-version_back (suc (suc zero)) h = refl
-version_back (suc (suc (suc n))) h =
-    let high = leb-true (suc (suc (suc n))) latest_version (and_true (nat_le 1 (suc (suc (suc n)))) (nat_le (suc (suc (suc n))) latest_version) h).1 in
-    absurd (omega (arith, high))
+some_version : (v w : TraceVersion) → Some v ≡ Some w → v ≡ w
+some_version v w h = cc
 
-header_counted : (magic text rest : List ℕ) (version : ℕ) (c : Counts) → magic ≡ codes "URINGTRC" → version ≡ version_number (version_of version) → Front text (magic ++ to_le_bytes w32 version) rest → CountsTail version rest c → text ≡ counts_bytes c
-header_counted magic text rest version c e f parts t =
-    let number : version ≡ version_number c.version = f ∙ ap version_number (sym t.version) in
+named_version : (one two : Bool) (n : ℕ) (v : TraceVersion) → (one ≡ true → n ≡ 1) → (two ≡ true → n ≡ 2) → cond one (Some One) (cond two (Some Two) None) ≡ Some v → n ≡ version_number v
+named_version true two n v is_one is_two h = is_one refl ∙ ap version_number (some_version One v h)
+named_version false true n v is_one is_two h = is_two refl ∙ ap version_number (some_version Two v h)
+named_version false false n v is_one is_two h = absurd cc
+
+-- a number that names a version is that version's number
+version_back : (n : ℕ) (v : TraceVersion) → version_of n ≡ Some v → n ≡ version_number v
+version_back n v h = named_version (n == 1) (n == 2) n v (λ e. eqb-true n 1 e) (λ e. eqb-true n 2 e) h
+
+header_counted : (magic text rest : List ℕ) (n : ℕ) (version : TraceVersion) (c : Counts) → magic ≡ codes "URINGTRC" → n ≡ version_number version → Front text (magic ++ to_le_bytes w32 n) rest → CountsTail version rest c → text ≡ counts_bytes c
+header_counted magic text rest n version c e f parts t =
+    let number : n ≡ version_number c.version = f ∙ ap version_number (sym t.version) in
     parts.whole ∙ rw (e, number, t.whole) refl
 
 once_header : Once header counts_bytes
 unfolding header counts_tail
 once_header place text y fits s =
     let magic = at_bytes fits s in
-    let version = then (to_le_bytes w32) (once_number w32 wide32) magic.fits (at_place (at_test magic.spelled)) in
-    let tail : Spelt (counts_tail version.x) version.place version.rest y = at_test version.spelled in
-    header_counted magic.x text version.rest version.x y ((bytes_eq-Decides magic.x (codes "URINGTRC")).0 (test_passed magic.spelled)) (version_back version.x (test_passed version.spelled)) (cat magic.parts version.parts) (once_counts_tail version.x version.place version.rest y version.fits tail)
+    let number = then (to_le_bytes w32) (once_number w32 wide32) magic.fits (at_place (at_test magic.spelled)) in
+    let version = at_known number.spelled in
+    let tail : Spelt (counts_tail version.x) number.place number.rest y = version.spelled in
+    header_counted magic.x text number.rest number.x version.x y ((bytes_eq-Decides magic.x (codes "URINGTRC")).0 (test_passed magic.spelled)) (version_back number.x version.x version.there) (cat magic.parts number.parts) (once_counts_tail version.x number.place number.rest y number.fits tail)
 
 counted_trace : (c : Counts) (t : Trace) → t.version ≡ c.version → length t.items ≡ c.items → length t.descriptions ≡ c.descriptions → length t.rings ≡ c.rings → length t.records ≡ c.records → length t.descriptors ≡ c.descriptors → counts_bytes c ≡ header_bytes t
 counted_trace c t v e f g h d = rw (v, e, f, g, h, d) refl

@@ -11,7 +11,7 @@ use Rattle.trace_format.specs.declared.trace.Trace.{Trace}
 use Rattle.trace_format.specs.Grammar.{Grammar, Done, Test, Then, Spells, number_to, several}
 use Rattle.trace_format.specs.declared.trace.Version.{Version as TraceVersion}
 use Rattle.trace_format.specs.declared.trace.Version.TheVariants.{One, Two}
-use Rattle.trace_format.specs.Text.{Counts, header, item, description, slot, buffer, ring, trace, version_of, most_descriptors, IsSpelled}
+use Rattle.trace_format.specs.Text.{Counts, header, item, description, slot, buffer, ring, trace, most_descriptors, IsSpelled}
 use Rattle.trace_format.specs.Sizes.{HasSizes}
 
 -- some text spells the value
@@ -103,8 +103,8 @@ count_sizes c v =
     let magic_test = parts magic.rest in
     let place = parts magic_test.rest in
     let version = parts place.rest in
-    let version_test = parts version.rest in
-    let items = parts version_test.rest in
+    let known = parts version.rest in
+    let items = parts known.rest in
     let descriptions = parts items.rest in
     let rings = parts descriptions.rest in
     let records = parts rings.rest in
@@ -113,12 +113,12 @@ count_sizes c v =
     let item_limit = limited w32 65535 items.first items.own in
     let description_limit = limited w32 65535 descriptions.first descriptions.own in
     let ring_limit = limited w32 64 rings.first rings.own in
-    let table_limit = limited w32 (most_descriptors (version_of version.first)) descriptors.first descriptors.own in
+    let table_limit = limited w32 (most_descriptors known.first) descriptors.first descriptors.own in
     record {
       items = omega (arith, item_limit, ap (λ (x : Counts). x.items) e);
       descriptions = omega (arith, description_limit, ap (λ (x : Counts). x.descriptions) e);
       rings = omega (arith, ring_limit, ap (λ (x : Counts). x.rings) e);
-      descriptors = omega (arith, table_limit, table_size (version_of version.first), ap (λ (x : Counts). x.descriptors) e);
+      descriptors = omega (arith, table_limit, table_size known.first, ap (λ (x : Counts). x.descriptors) e);
     }
 
 trace_sizes : (t : Trace) → IsValue trace t → HasSizes t

@@ -19,15 +19,15 @@ use Rattle.trace_format.specs.declared.trace.Entry.{Entry}
 use Rattle.trace_format.specs.declared.trace.Record.{Record}
 use Rattle.trace_format.specs.declared.trace.Record.TheVariants.{Enter, Fill}
 use Rattle.trace_format.specs.declared.trace.Trace.{Trace}
-use Rattle.trace_format.specs.Grammar.{Grammar, Done, Bytes, Place, Test, Choice, ◌>>=◌, Spells, Breaks, fault, number, number_to, several}
+use Rattle.trace_format.specs.Grammar.{Grammar, Done, Bytes, Place, Test, Known, Choice, ◌>>=◌, Spells, Breaks, fault, number, number_to, several}
 use Rattle.trace_format.specs.declared.fault.TraceFault.{TraceFault}
 use Rattle.trace_format.specs.Paths.{is_path, parent_of, has_name, has_directory, is_directory, is_file}
 use Rattle.trace_format.specs.Sides.{is_side_of}
 use Rattle.trace_format.specs.Counts.{places_in, places_limit}
 
--- the version of a number
-abbrev pub version_of : ℕ → TraceVersion
-version_of number = if number == 1 then One else Two
+-- the version that a number names
+abbrev pub version_of : ℕ → Option TraceVersion
+version_of number = if number == 1 then Some One else if number == 2 then Some Two else None
 
 -- how many descriptors the table has at most: the first version has no table
 abbrev pub most_descriptors : TraceVersion → ℕ
@@ -43,28 +43,20 @@ pub record Counts : Type 0 where
   pub records : ℕ
   pub descriptors : ℕ
 
--- the latest version that is read
-abbrev pub latest_version : ℕ
-latest_version = 1
-
--- versions: from the first to the latest
-abbrev pub is_read_version : ℕ → Bool
-is_read_version version = nat_le 1 version && nat_le version latest_version
-
 -- the first 32 bytes
 unfoldable pub header : Grammar Counts
 header = do
   magic ← Bytes 8
   _ ← Test (bytes_eq magic (codes "URINGTRC")) (fault Magic 0)
   place ← Place
-  version ← number w32
-  _ ← Test (is_read_version version) (fault Version place)
+  n ← number w32
+  version ← Known (version_of n) (fault Version place)
   items ← number_to w32 65535
   descriptions ← number_to w32 65535
   rings ← number_to w32 64
   records ← number_to w32 1048576
-  descriptors ← number_to w32 (most_descriptors (version_of version))
-  Done (record { version = version_of version; items = items; descriptions = descriptions; rings = rings; records = records; descriptors = descriptors })
+  descriptors ← number_to w32 (most_descriptors version)
+  Done (record { version = version; items = items; descriptions = descriptions; rings = rings; records = records; descriptors = descriptors })
 
 -- the item of a number from 1 on passes the test
 abbrev pub is_item : (Node → Bool) → List Item → ℕ → Bool

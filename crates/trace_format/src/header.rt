@@ -8,9 +8,6 @@ use crate::fault::{Kind, ReadError, refused};
 use crate::source::{Source, bytes_of, u32_of, u32_to};
 use crate::trace::Version;
 
-/// The latest version that is read.
-const LATEST_VERSION: u32 = 1;
-
 /// The version, and how many of each there are.
 #[derive(Clone, Copy)]
 pub(crate) struct Counts {
@@ -22,13 +19,14 @@ pub(crate) struct Counts {
     pub descriptors: u16,
 }
 
-fn version_of(number: u32) -> Version
+/// The version that a number names.
+fn version_of(number: u32) -> Option<Version>
     ensures { result ≡ version_of number }
 {
-    if number == 1 {
-        Version::One
-    } else {
-        Version::Two
+    match number {
+        1 => Some(Version::One),
+        2 => Some(Version::Two),
+        _ => None,
     }
 }
 
@@ -52,11 +50,10 @@ pub(crate) fn counts_of(source: Source<'_>) -> Result<(Counts, Source<'_>), Read
         return Err(refused(Kind::Magic, 0));
     }
     let place = source.place;
-    let (version, source) = u32_of(source)?;
-    if version < 1 || version > LATEST_VERSION {
+    let (number, source) = u32_of(source)?;
+    let Some(version) = version_of(number) else {
         return Err(refused(Kind::Version, place));
-    }
-    let version = version_of(version);
+    };
     let (items, source) = u32_to(source, 65_535)?;
     let (descriptions, source) = u32_to(source, 65_535)?;
     let (rings, source) = u32_to(source, 64)?;
