@@ -1,6 +1,6 @@
 -- One walk over the places of a trace finds all chains.
-use Rattle.std.proofs.Common.{◌≡◌, ℕ, zero, suc, ◌+◌, ◌-◌, ◌<◌, ◌≤◌, Bool, true, false, eqb, nat_lt, List, [], ◌∷◌, ◌++◌, length, get_or, map, Option, Some, None, refl, sym, ap, ◌∙◌, subst, ◌^◌, arith, inl, inr, length-append, add-one}
-use Rattle.std.specs.Prelude.{IfSome, ◌||◌, ◌&&◌, ◌==◌, if◌then◌else◌}
+use Rattle.std.proofs.Common.{◌≡◌, ℕ, zero, suc, ◌+◌, ◌-◌, ◌<◌, ◌≤◌, Bool, true, false, eqb, List, [], ◌∷◌, ◌++◌, length, get_or, map, Option, Some, None, refl, sym, ap, ◌∙◌, subst, ◌^◌, arith, inl, inr, length-append, add-one}
+use Rattle.std.specs.Prelude.{IfSome, ◌||◌, ◌==◌, if◌then◌else◌}
 use Rattle.std.specs.List.{list_any, filter, range_with_len, slice_get}
 use Rattle.std.proofs.Math.ListN.{set, length-set}
 use Rattle.std.proofs.lemmas.Bool.{lt-ltb, le-ltb, eq-eqb, ne_eqb, cases_eq, cases_lt, cases_Bool}
@@ -14,7 +14,7 @@ use Rattle.trace_format.specs.declared.trace.Trace.{Trace}
 use Rattle.chain_plan.specs.declared.role.Role.{Role}
 use Rattle.trace_format.specs.Steps.{Step, places, step_at}
 use Rattle.entry_checks.specs.Check.{has, io_drain, skip_success}
-use Rattle.chain_plan.specs.Chain.{action_passes, entry_passes, has_link, is_linked, same_record, chain_of, ahead, members, fails_check, role}
+use Rattle.chain_plan.specs.Chain.{action_passes, entry_passes, has_link, is_linked, chain_of, ahead, fails_check, role}
 use Rattle.chain_plan.specs.declared.plan.Member.{Member}
 use Rattle.chain_plan.specs.declared.plan.Chain.{Chain}
 use Rattle.chain_plan.specs.declared.plan.Marks.{Marks}

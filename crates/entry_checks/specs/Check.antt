@@ -1,5 +1,5 @@
 -- What an entry asks for, or the error that its submission gives: each test in the order in which it is made.
-use Rattle.std.specs.Prelude.{ℕ, ℤ, pos, negsuc, bytes_eq, unwrap_or, Bool, false, not, ◌&&◌, ◌||◌, ◌==◌, ltb, leb, nat_le, nat_lt, ◌-◌, ◌*◌, ◌/◌, ◌%◌, ◌^◌, List, [], ◌∷◌, length, take, drop, Option, None, Result, Ok, ok_or, bit_or}
+use Rattle.std.specs.Prelude.{ℕ, ℤ, pos, negsuc, bytes_eq, unwrap_or, Bool, false, not, ◌&&◌, ◌||◌, ◌==◌, ltb, leb, ◌-◌, ◌*◌, ◌%◌, ◌^◌, List, [], ◌∷◌, length, take, drop, Option, None, Result, Ok, ok_or, bit_or}
 use Rattle.std.specs.List.{list_any, last_or, find}
 use Rattle.std.specs.Option.{option_map}
 use Rattle.sqe_codec.specs.declared.errno.Errno.{Errno}

@@ -1,7 +1,7 @@
 //! The tests that the rows of the table name, and what they take from an entry.
-ghost use Rattle.std.specs.Prelude.{◌≡◌, ◌≤◌, ◌*◌, ◌==◌, ◌||◌, not, true, leb, length, drop, ℕ};
+ghost use Rattle.std.specs.Prelude.{◌≡◌, ◌≤◌, ◌*◌, ◌==◌, ◌||◌, not, leb, length, drop};
 ghost use Rattle.std.specs.Int.{cast_signed, w32};
-ghost use Rattle.sqe_codec.specs.Answers.{require, ◌>>◌};
+ghost use Rattle.sqe_codec.specs.Answers.{require};
 ghost use Rattle.sqe_codec.specs.declared.errno.Errno.TheVariants.{EINVAL};
 ghost use Rattle.trace_format.specs.Sides.{vector_len};
 ghost use Rattle.entry_checks.specs.Check.{check_transfer_flags, check_no_registered_file, are_open_flags, open_flags_of, is_zero, file_of, span_of, most_rename_flags};

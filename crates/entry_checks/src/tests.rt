@@ -1,5 +1,5 @@
 use super::*;
-use sqe_codec::{Errno, Sqe};
+use sqe_codec::Sqe;
 use std::alloc::{AllocError, Global};
 use trace_format::{Entry, Series, Version, fits};
 

@@ -1,6 +1,6 @@
 // Stored pages by their numbers. Page k holds the bytes from 4,096 * k on, and one that is not
 // stored is zeros.
-ghost use Rattle.std.specs.Prelude.{◌≡◌, ℕ, ◌+◌, ◌-◌, ◌*◌, ◌<◌, ◌≤◌, ◌^◌, ◌++◌, length, vec_len, slice_index, None, Some, IsSome, IfSome, IfNone, IfOk, OnOk, OnErr};
+ghost use Rattle.std.specs.Prelude.{◌≡◌, ℕ, ◌+◌, ◌-◌, ◌*◌, ◌<◌, ◌≤◌, ◌^◌, ◌++◌, length, vec_len, slice_index, None, Some, IsSome, IfSome, IfNone, OnOk, OnErr};
 ghost use Rattle.extent_bytes.specs.Pages.{page_of, byte_at, bytes_of, SameBytes, SameBelow, Overlaid};
 
 use crate::page::{PAGE_SIZE, Page};

@@ -199,8 +199,8 @@ module _ (t : Trace) (starts : IsWorld (start t)) where
     before_known = λ k s earlier w b e. look_bound t k s w b (task t k);
     known_same = λ k s u earlier ws wu ns nu known h. known_same_lem (replayed t) (rows t) (row_laws t all_covered) k s u earlier (ws, ns) (wu, nu) known h;
     known_thinner = λ k s earlier thin n known. known_thinner_lem (replayed t) (rows t) (row_laws t all_covered) k s earlier thin n known;
-    reach_holds_foot = λ k s u earlier ws wu ns nu ks ku d. subst (Holds (replayed t) (reach t k s earlier)) (sym (footprint_is_by_rows t k u))
-        (reach_holds_foot_lem (replayed t) (rows t) (row_laws t all_covered) k s u earlier (ws, ns) (wu, nu) ks ku d);
-    reach_holds_reach = λ k s u earlier thin ws wu ns nu ks ku d n. reach_holds_reach_lem (replayed t) (rows t) (row_laws t all_covered) k s u earlier thin (ws, ns) (wu, nu) ks ku d n;
+    reach_holds_foot = λ k s u earlier ws wu ns nu ku d. subst (Holds (replayed t) (reach t k s earlier)) (sym (footprint_is_by_rows t k u))
+        (reach_holds_foot_lem (replayed t) (rows t) (row_laws t all_covered) k s u earlier (ws, ns) (wu, nu) ku d);
+    reach_holds_reach = λ k s u earlier thin ws wu ns nu ku d n. reach_holds_reach_lem (replayed t) (rows t) (row_laws t all_covered) k s u earlier thin (ws, ns) (wu, nu) ku d n;
     reach_same = λ k s u earlier ws wu ns nu known h. reach_same_lem (replayed t) (rows t) (row_laws t all_covered) k s u earlier (ws, ns) (wu, nu) known h;
   }

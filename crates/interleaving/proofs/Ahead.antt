@@ -79,7 +79,7 @@ module _ (m : System) (laws : Laws m) where
         → DifferOnlyBy m (reaches m done s j) s (stepped m out s j) → Holds m (reach j s (reaches m done s j)) (foot j (stepped m out s j))
     holds-from out covers j d differ =
         laws.reach_holds_foot j s (stepped m out s j) (reaches m done s j) sound.world ((fine out covers j).0)
-        (sound.unused j d) (unused-ahead out covers j j (omega arith) d) (known-now j d) (sound.known j d out covers) differ
+        (sound.unused j d) (unused-ahead out covers j j (omega arith) d) (sound.known j d out covers) differ
 
     pub differ-ahead : (out : ℕ → Bool) → Covers out done → (n : ℕ) → DifferOnlyBy m (reaches m done s n) s (stepped m out s n)
     differ-ahead out covers zero a none = refl

@@ -68,19 +68,23 @@ module _ (m : System) (r : Rows m) (laws : RowLaws m r) where
       go (inl w) = runs-waits j t rs w
       go (inr w) = rw w (rw (laws.waits_thin j rs thin thinner w) at e)
 
-  -- every reach holds what every place has
-  holds_bare : (j : ℕ) (s : World) (rs : List Footprint) → known_by_rows m r j s rs → Holds m (reach_by_rows m r j s rs) (bare j)
-  holds_bare j s rs known = go (cases_Bool (runs m r j s rs)) (cases_Bool (unresolved (look j s) rs)) (cases_Bool (disturbed (row j s) rs))
+  -- every reach holds what every place has, where the place knows what it looks up in one of the worlds that differ only by the reaches
+  holds_bare_there : (j : ℕ) (s t : World) (rs : List Footprint) → known_by_rows m r j t rs → DifferOnlyBy m rs s t → Holds m (reach_by_rows m r j s rs) (bare j)
+  holds_bare_there j s t rs known differ = go (cases_Bool (runs m r j s rs)) (cases_Bool (unresolved (look j s) rs)) (cases_Bool (disturbed (row j s) rs))
     where
-      to_bare : (f : Footprint) → Holds m f (row j s) → Holds m f (bare j)
-      to_bare f h = holds_trans f (row j s) (bare j) h (laws.row_holds_bare j s)
+      to_bare : (f : Footprint) (u : World) → Holds m f (row j u) → Holds m f (bare j)
+      to_bare f u h = holds_trans f (row j u) (bare j) h (laws.row_holds_bare j u)
 
       go : (runs m r j s rs ≡ true) ⊎ (runs m r j s rs ≡ false) → (unresolved (look j s) rs ≡ true) ⊎ (unresolved (look j s) rs ≡ false)
           → (disturbed (row j s) rs ≡ true) ⊎ (disturbed (row j s) rs ≡ false) → Holds m (reach_by_rows m r j s rs) (bare j)
       go (inr e) u d = subst (λ f. Holds m f (bare j)) (sym (reach-plain j s rs e)) (holds_refl (bare j))
-      go (inl e) (inl u) d = subst (λ f. Holds m f (bare j)) (sym (reach-open j s rs e u)) (to_bare (wide j s rs) (wide_holds_row j s rs (known e)))
-      go (inl e) (inr u) (inl d) = subst (λ f. Holds m f (bare j)) (sym (reach-taken j s rs e u d)) (to_bare (accepted j s rs) (laws.accepted_holds_row j s rs))
+      go (inl e) (inl u) d = subst (λ f. Holds m f (bare j)) (sym (reach-open j s rs e u ∙ sym (laws.wide_same j s t rs differ)))
+          (to_bare (wide j t rs) t (wide_holds_row j t rs (known (runs-later j s t rs differ ∙ e))))
+      go (inl e) (inr u) (inl d) = subst (λ f. Holds m f (bare j)) (sym (reach-taken j s rs e u d)) (to_bare (accepted j s rs) s (laws.accepted_holds_row j s rs))
       go (inl e) (inr u) (inr d) = subst (λ f. Holds m f (bare j)) (sym (reach-own j s rs e u d)) (laws.row_holds_bare j s)
+
+  holds_bare : (j : ℕ) (s : World) (rs : List Footprint) → known_by_rows m r j s rs → Holds m (reach_by_rows m r j s rs) (bare j)
+  holds_bare j s rs known = holds_bare_there j s s rs known (λ a none. refl)
 
   -- a running reach holds the row as running in the other world
   holds_row : (j : ℕ) (s t : World) (rs : List Footprint) → Ready m r j s → Ready m r j t → runs m r j s rs ≡ true → Bounded j (look j t) → DifferOnlyBy m rs s t
@@ -98,23 +102,23 @@ module _ (m : System) (r : Rows m) (laws : RowLaws m r) where
           subst (λ f. Holds m f (row j t)) (sym (reach-own j s rs e u d ∙ sym same)) (holds_refl (row j t))
 
   pub reach_holds_foot_lem : (j : ℕ) (s t : World) (rs : List Footprint) → Ready m r j s → Ready m r j t
-      → known_by_rows m r j s rs → known_by_rows m r j t rs → DifferOnlyBy m rs s t → Holds m (reach_by_rows m r j s rs) (foot_by_rows m r j t)
-  reach_holds_foot_lem j s t rs fs ft ks kt differ = go (cases_Bool (cancelled j t))
+      → known_by_rows m r j t rs → DifferOnlyBy m rs s t → Holds m (reach_by_rows m r j s rs) (foot_by_rows m r j t)
+  reach_holds_foot_lem j s t rs fs ft kt differ = go (cases_Bool (cancelled j t))
     where
       go : (cancelled j t ≡ true) ⊎ (cancelled j t ≡ false) → Holds m (reach_by_rows m r j s rs) (foot_by_rows m r j t)
-      go (inl c) = subst (Holds m (reach_by_rows m r j s rs)) (sym (ap (λ b. if b then bare j else row j t) c)) (holds_bare j s rs ks)
+      go (inl c) = subst (Holds m (reach_by_rows m r j s rs)) (sym (ap (λ b. if b then bare j else row j t) c)) (holds_bare_there j s t rs kt differ)
       go (inr c) =
           let e : runs m r j t rs ≡ true = runs-free j t rs c in
           subst (Holds m (reach_by_rows m r j s rs)) (sym (ap (λ b. if b then bare j else row j t) c))
           (holds_row j s t rs fs ft (sym (runs-later j s t rs differ) ∙ e) (kt e) differ)
 
   pub reach_holds_reach_lem : (j : ℕ) (s t : World) (rs thin : List Footprint) → Ready m r j s → Ready m r j t
-      → known_by_rows m r j s rs → known_by_rows m r j t rs → DifferOnlyBy m rs s t
+      → known_by_rows m r j t rs → DifferOnlyBy m rs s t
       → Thinner m thin rs → Holds m (reach_by_rows m r j s rs) (reach_by_rows m r j t thin)
-  reach_holds_reach_lem j s t rs thin fs ft ks kt differ thinner = go (cases_Bool (runs m r j t thin))
+  reach_holds_reach_lem j s t rs thin fs ft kt differ thinner = go (cases_Bool (runs m r j t thin))
     where
       go : (runs m r j t thin ≡ true) ⊎ (runs m r j t thin ≡ false) → Holds m (reach_by_rows m r j s rs) (reach_by_rows m r j t thin)
-      go (inr e) = subst (Holds m (reach_by_rows m r j s rs)) (sym (reach-plain j t thin e)) (holds_bare j s rs ks)
+      go (inr e) = subst (Holds m (reach_by_rows m r j s rs)) (sym (reach-plain j t thin e)) (holds_bare_there j s t rs kt differ)
       go (inl e) = at (cases_Bool (unresolved (look j s) rs)) (cases_Bool (disturbed (row j s) rs))
         where
           et : runs m r j t rs ≡ true

@@ -160,7 +160,7 @@ module _ (m : System) (laws : Laws m) (done : ℕ → Bool) (s : m.World) (sound
           let thin : Thinner m qs rs = before (omega arith) in
           shown (reach n t qs ∷ qs) (reach n s rs ∷ rs) (reaches-in m (adding done k) t n o) (reaches-in m done s n d)
           (Thinner.keep (reach n t qs) (reach n s rs) qs rs
-          (laws.reach_holds_reach n s t rs qs sound.world world_after (sound.unused n d) (unused_after n o) (known-now m laws done s sound n d)
+          (laws.reach_holds_reach n s t rs qs sound.world world_after (sound.unused n d) (unused_after n o)
           (known_behind n (omega arith) d) (differ_by_reaches n (omega arith)) thin)
           thin)
 
@@ -175,7 +175,7 @@ module _ (m : System) (laws : Laws m) (done : ℕ → Bool) (s : m.World) (sound
       let uj : Unused j t = unused-ahead m laws done s sound out covers j j (omega arith) d in
       let known : Known j t rs = sound.known j d out covers in
       let holds : Holds m (reach j s rs) (reach j t rs) =
-      laws.reach_holds_reach j s t rs rs sound.world w (sound.unused j d) uj (known-now m laws done s sound j d) known
+      laws.reach_holds_reach j s t rs rs sound.world w (sound.unused j d) uj known
       (differ-ahead m laws done s sound out covers j) (thinner-refl m rs) in
       let apart : Apart m (foot k t) (reach j t rs) =
       subst (λ f. Apart m f (reach j t rs)) (sym ((passes_to out covers j (omega arith)).foot))
@@ -275,7 +275,7 @@ module _ (m : System) (laws : Laws m) (done : ℕ → Bool) (s : m.World) (sound
       held : (rs : List Footprint) → Known j t (reaches m done s j) → Thinner m rs (reaches m done s j) → DifferOnlyBy m (reaches m done s j) s t
           → Holds m (reach j s (reaches m done s j)) (reach j t rs)
       held rs known thin differ = laws.reach_holds_reach j s t (reaches m done s j) rs sound.world world_after (sound.unused j d) (unused_after j o)
-          (known-now m laws done s sound j d) known differ thin
+          known differ thin
 
       same_before : j < k → reach j t (reaches m (adding done k) t j) ≡ reach j s (reaches m done s j)
       same_before lt =

@@ -5,6 +5,7 @@ pub mod Finish
 pub mod Orders
 pub mod Together
 pub mod Members
+pub mod Onwards
 pub mod Rounding
 pub mod Prefixes
 pub mod Sets

@@ -115,7 +115,7 @@ different-snoc (x ∷ xs) y h out = (false_from_ne_true (has (xs ++ (y ∷ [])) 
     at (inl m) = let both : true ≡ false = sym m ∙ h.0 in (cc)
     at (inr e) = let both : true ≡ false = sym (has-here x xs) ∙ ap (has (x ∷ xs)) e ∙ out in (cc)
 
-pending-out : (done : ℕ → Bool) (n : ℕ) → done n ≡ true → pending done (suc n) ≡ pending done n
+pub pending-out : (done : ℕ → Bool) (n : ℕ) → done n ≡ true → pending done (suc n) ≡ pending done n
 pending-out done n e = rw e refl
 
 pub pending-in : (done : ℕ → Bool) (n : ℕ) → done n ≡ false → pending done (suc n) ≡ pending done n ++ (n ∷ [])

@@ -11,6 +11,7 @@ use Rattle.interleaving.proofs.Ahead.{adding, holds-now}
 use Rattle.interleaving.proofs.Finish.{not_added, clear_after, clear_apart, reply_ahead}
 use Rattle.interleaving.proofs.Orders.{OnCourse, on_course_at_start, on_course_next, end_of}
 use Rattle.interleaving.proofs.Members.{has-here, has-other, has-later, has-different, different-choice, first-chosen, first_open, has-cases, has-choice}
+use Rattle.interleaving.proofs.Onwards.{run-append, stays_finished}
 
 -- what is kept within a round of the places ks
 pub record InRound (m : System) (n : ℕ) (ks : List ℕ) (s : State m) : Type 0 where
@@ -76,18 +77,9 @@ module _ (m : System) (laws : Laws m) where
   pub opening_round : (n : ℕ) → InRound m n [] (opening m)
   opening_round n = record { on = on_course_at_start m laws n; begun = λ k f. (cc); free = λ k h. (cc) }
 
-  pub run-append : (s : State m) (es fs : List Event) → run m s (es ++ fs) ≡ run m (run m s es) fs
-  run-append s [] fs = refl
-  run-append s (e ∷ es) fs = run-append (happens m s e) es fs
-
   legal-append : (n : ℕ) (s : State m) (es fs : List Event) → AllLegal m n s es → AllLegal m n (run m s es) fs → AllLegal m n s (es ++ fs)
   legal-append n s [] fs h g = g
   legal-append n s (e ∷ es) fs h g = (h.0, legal-append n (happens m s e) es fs h.1 g)
-
-  pub stays_finished : (s : State m) (es : List Event) (k : ℕ) → has s.finished k ≡ true → has (run m s es).finished k ≡ true
-  stays_finished s [] k f = f
-  stays_finished s (Start j ∷ es) k f = stays_finished (happens m s (Start j)) es k f
-  stays_finished s (Finish j ∷ es) k f = stays_finished (happens m s (Finish j)) es k (has-later k j s.finished f)
 
   -- the first pending place is always chosen
   first_is_chosen : (n w : ℕ) (s : State m) (r : ℕ) → 1 ≤ w → ((k : ℕ) → k < r → has s.finished k ≡ true) → has s.finished r ≡ false → r < n
@@ -112,7 +104,7 @@ module _ (m : System) (laws : Laws m) where
   one_more n w d s es le all ends k lt less = go (cases_Bool (has s.finished k)) (cases_eq k d)
     where
       go : (has s.finished k ≡ true) ⊎ (has s.finished k ≡ false) → (k ≡ d) ⊎ (k ≢ d) → has (run m s es).finished k ≡ true
-      go (inl f) same = stays_finished s es k f
+      go (inl f) same = stays_finished m s es k f
       go (inr f) (inr ne) = let both : true ≡ false = sym (all k lt (omega arith)) ∙ f in (cc)
       go (inr f) (inl e) = ends k (first_is_chosen n w s k le (λ j l. all j (omega arith) (omega arith)) f lt)
 
@@ -124,7 +116,7 @@ module _ (m : System) (laws : Laws m) where
       let here = within_round n (chosen m n w s) s es (new_round n w ks s c) h.0.0 in
       let later = rounds_legal n w (suc d) (chosen m n w s) (run m s es) rs le here.1 (one_more n w d s es le all h.0.1) h.1 in (
         legal-append n s es (joined rs) here.0 later.0,
-        λ k lt less. ap (λ t. has t.finished k) (run-append s es (joined rs)) ∙ later.1 k lt (omega arith),
+        λ k lt less. ap (λ t. has t.finished k) (run-append m s es (joined rs)) ∙ later.1 k lt (omega arith),
       )
 
   pub rounds_legal_lem : RoundsAreLegal m
@@ -152,7 +144,7 @@ module _ (m : System) (laws : Laws m) where
 
       ends : (j : ℕ) → has (k ∷ js) j ≡ true → ((i : ℕ) → has js i ≡ true → has (run m t (in_turn js)).finished i ≡ true)
           → (j ≡ k) ⊎ (has js j ≡ true) → has (run m t (in_turn js)).finished j ≡ true
-      ends j h later (inl e) = stays_finished t (in_turn js) j (ap (has (k ∷ s.finished)) e ∙ has-here k s.finished)
+      ends j h later (inl e) = stays_finished m t (in_turn js) j (ap (has (k ∷ s.finished)) e ∙ has-here k s.finished)
       ends j h later (inr g) = later j g
 
   in_turn_settled : (js : List ℕ) (s : State m) → ((j : ℕ) → has s.started j ≡ true → has s.finished j ≡ true)
@@ -193,6 +185,10 @@ module _ (m : System) (laws : Laws m) where
   from_opening : (n w r : ℕ) → OnCourse m n (rounds m n w r (opening m)) × (1 ≤ w → (k : ℕ) → k < n → k < 0 + r → has (rounds m n w r (opening m)).finished k ≡ true)
   from_opening n w r = after_rounds n w 0 r [] (opening m) (opening_round n) (λ j st. (cc)) (λ le k lt less. absurd (omega arith))
 
+  -- after r rounds each of the first r places has finished
+  pub rounds_finish : (n w r k : ℕ) → 1 ≤ w → k < n → k < r → has (rounds m n w r (opening m)).finished k ≡ true
+  rounds_finish n w r k le lt less = (from_opening n w r).1 le k lt (omega arith)
+
   pub rounds_sequential_lem : RoundsAreSequential m
   rounds_sequential_lem n w r le many =
       let end = from_opening n w r in
@@ -217,6 +213,7 @@ module _ (m : System) (laws : Laws m) where
   rounds_gathered_lem n w r =
       let s = rounds m n w r (opening m) in
       let c = (from_opening n w r).0 in (
+        c.sound.world,
         side_by_side n w s c,
         λ j k hj hk lt.
             let fj = has-choice (is_free m s) w (has s.finished) n j hj in

@@ -7,7 +7,8 @@ use Rattle.interleaving.specs.Machine.{Event, Start, Finish, has, State, opening
 use Rattle.interleaving.specs.Gather.{AllDifferent, in_order}
 use Rattle.interleaving.specs.Rounds.{in_turn, chosen, rounds, AreOf, IsRound, AnySetsOccur}
 use Rattle.interleaving.proofs.Members.{has-here, has-other, has-later, has-different, different-choice, different-filter, filter-keeps, has-choice, has-filter}
-use Rattle.interleaving.proofs.Rounding.{run-append, stays_finished, in_turn_of, rounds_settled}
+use Rattle.interleaving.proofs.Onwards.{run-append, stays_finished}
+use Rattle.interleaving.proofs.Rounding.{in_turn_of, rounds_settled}
 
 starts : List ℕ → List Event
 starts [] = []
@@ -146,7 +147,7 @@ module _ (m : System) (laws : Laws m) (n w : ℕ) (s : State m) (settled : (j : 
       ∙ at-finished j ∙ cond-false (has ended j) true (has s.finished j) (not_ended j out) ∙ unfinished j ((in_others j h).1))
 
   at_sets_is : run m s (starts begun ++ finishes ended) ≡ at_sets
-  at_sets_is = run-append m laws s (starts begun) (finishes ended)
+  at_sets_is = run-append m s (starts begun) (finishes ended)
 
   whole : AreOf m (chosen m n w s) s ((starts begun ++ finishes ended) ++ (finishes left ++ in_turn others))
   whole = are-append m (chosen m n w s) s (starts begun ++ finishes ended) (finishes left ++ in_turn others) first_part
@@ -154,9 +155,9 @@ module _ (m : System) (laws : Laws m) (n w : ℕ) (s : State m) (settled : (j : 
       (are-append m (chosen m n w s) at_sets (finishes left) (in_turn others) left_part others_part.0))
 
   end_is : run m s ((starts begun ++ finishes ended) ++ (finishes left ++ in_turn others)) ≡ run m after_left (in_turn others)
-  end_is = run-append m laws s (starts begun ++ finishes ended) (finishes left ++ in_turn others)
+  end_is = run-append m s (starts begun ++ finishes ended) (finishes left ++ in_turn others)
       ∙ ap (λ t. run m t (finishes left ++ in_turn others)) at_sets_is
-      ∙ run-append m laws at_sets (finishes left) (in_turn others)
+      ∙ run-append m at_sets (finishes left) (in_turn others)
 
   all_end : (k : ℕ) → has (chosen m n w s) k ≡ true
       → has (run m s ((starts begun ++ finishes ended) ++ (finishes left ++ in_turn others))).finished k ≡ true
@@ -165,9 +166,9 @@ module _ (m : System) (laws : Laws m) (n w : ℕ) (s : State m) (settled : (j : 
       go : (has begun k ≡ true) ⊎ (has begun k ≡ false) → (has ended k ≡ true) ⊎ (has ended k ≡ false)
           → has (run m after_left (in_turn others)).finished k ≡ true
       go (inr out) e = others_part.1 k (filter-keeps (λ i. not (has begun i)) (chosen m n w s) k (ap not out) h)
-      go (inl inside) (inl e) = stays_finished m laws after_left (in_turn others) k
-          (stays_finished m laws at_sets (finishes left) k (at-finished k ∙ cond-true (has ended k) true (has s.finished k) e))
-      go (inl inside) (inr e) = stays_finished m laws after_left (in_turn others) k
+      go (inl inside) (inl e) = stays_finished m after_left (in_turn others) k
+          (stays_finished m at_sets (finishes left) k (at-finished k ∙ cond-true (has ended k) true (has s.finished k) e))
+      go (inl inside) (inr e) = stays_finished m after_left (in_turn others) k
           (finished_by m at_sets left k
           ∙ cond-true (has left k) true (has at_sets.finished k) (filter-keeps (λ i. not (has ended i)) begun k (ap not e) inside))
 

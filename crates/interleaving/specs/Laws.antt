@@ -40,9 +40,9 @@ pub record Laws (m : System) : Type 0 where
   pub known_thinner : (j : ℕ) (s : m.World) (rs thin : List m.Footprint) → Thinner m thin rs → m.Known j s rs → m.Known j s thin
   -- the reach holds the footprint and the reach that the place has once some of the places before it have run
   pub reach_holds_foot : (j : ℕ) (s t : m.World) (rs : List m.Footprint) → m.IsWorld s → m.IsWorld t → m.Unused j s → m.Unused j t
-      → m.Known j s rs → m.Known j t rs → DifferOnlyBy m rs s t → Holds m (m.reach j s rs) (m.foot j t)
+      → m.Known j t rs → DifferOnlyBy m rs s t → Holds m (m.reach j s rs) (m.foot j t)
   pub reach_holds_reach : (j : ℕ) (s t : m.World) (rs thin : List m.Footprint) → m.IsWorld s → m.IsWorld t → m.Unused j s → m.Unused j t
-      → m.Known j s rs → m.Known j t rs → DifferOnlyBy m rs s t → Thinner m thin rs → Holds m (m.reach j s rs) (m.reach j t thin)
+      → m.Known j t rs → DifferOnlyBy m rs s t → Thinner m thin rs → Holds m (m.reach j s rs) (m.reach j t thin)
   -- worlds that agree on the reach give the same reach
   pub reach_same : (j : ℕ) (s t : m.World) (rs : List m.Footprint) → m.IsWorld s → m.IsWorld t → m.Unused j s → m.Unused j t
       → m.Known j s rs → AgreeOn m (m.reach j s rs) s t → m.reach j t rs ≡ m.reach j s rs

@@ -57,10 +57,11 @@ module _ (m : System) where
   abbrev pub RoundsAreSequential : Type 0
   RoundsAreSequential = (n w r : ℕ) → 1 ≤ w → n ≤ r → IsSequential m n (rounds n w r (opening m))
 
-  -- each round's places may run side by side, no two collide, and their replies in its first world are those of one place at a time
+  -- each round begins in a world, its places may run side by side there, no two collide, and their replies there are those of one place at a time
   abbrev pub RoundsAreGathered : Type 0
   RoundsAreGathered = (n w r : ℕ) → let s = rounds n w r (opening m) in let ks = chosen n w s in
-      SideBySide m s.world ks
+      m.IsWorld s.world
+      × SideBySide m s.world ks
       × ((j k : ℕ) → has ks j ≡ true → has ks k ≡ true → j < k → m.collide (m.foot k s.world) (m.foot j s.world) ≡ false)
       × ((round n w s).world ≡ in_order m s.world ks)
       × ((k : ℕ) → has ks k ≡ true → m.reply k s.world ≡ m.reply k (sequential m k))

@@ -77,9 +77,9 @@ module _ (m : System) (r : Rows m) where
   -- reaches by rows hold what is to come, and they and what is known are told by what they touch
   pub record RowsForesee : Type 0 where
     pub reach_holds_foot : (j : ℕ) (s t : m.World) (rs : List m.Footprint) → Ready j s → Ready j t
-        → known_by_rows j s rs → known_by_rows j t rs → DifferOnlyBy m rs s t → Holds m (reach_by_rows j s rs) (foot_by_rows j t)
+        → known_by_rows j t rs → DifferOnlyBy m rs s t → Holds m (reach_by_rows j s rs) (foot_by_rows j t)
     pub reach_holds_reach : (j : ℕ) (s t : m.World) (rs thin : List m.Footprint) → Ready j s → Ready j t
-        → known_by_rows j s rs → known_by_rows j t rs → DifferOnlyBy m rs s t → Thinner m thin rs → Holds m (reach_by_rows j s rs) (reach_by_rows j t thin)
+        → known_by_rows j t rs → DifferOnlyBy m rs s t → Thinner m thin rs → Holds m (reach_by_rows j s rs) (reach_by_rows j t thin)
     pub reach_same : (j : ℕ) (s t : m.World) (rs : List m.Footprint) → Ready j s → Ready j t
         → known_by_rows j s rs → AgreeOn m (reach_by_rows j s rs) s t → reach_by_rows j t rs ≡ reach_by_rows j s rs
     pub known_same : (j : ℕ) (s t : m.World) (rs : List m.Footprint) → Ready j s → Ready j t

@@ -163,9 +163,9 @@ pub fn every_legal_order_is_sequential<S: Foreseen>()
 /// - `legal`: the starts and finishes of rounds are legal, whatever their order within each round,
 ///   and as many rounds as there are places run them all.
 /// - `sequential`: they give the world and the replies of one place at a time.
-/// - `gathered`: the places of a round may run side by side, no two collide, the round gives the
-///   world of running them in order, and their replies in the round's first world are those of one
-///   place at a time.
+/// - `gathered`: a round begins in a world; its places may run side by side there, no two collide,
+///   the round gives the world of running them in order, and their replies in that first world are
+///   those of one place at a time.
 /// - `go_on`: while a place is pending, a round has at least one.
 /// - `order`: a place that always collides with the reach of an earlier place runs in a later round.
 /// - `sets`: any places of a round can be those that have started, and any of these those that have

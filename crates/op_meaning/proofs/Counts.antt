@@ -1,12 +1,12 @@
 -- An operation that asks for no more than one call moves answers no greater count.
-use Rattle.std.proofs.Common.{◌≡◌, ℕ, zero, suc, ◌+◌, ◌-◌, ◌<◌, ◌≤◌, ◌^◌, Bool, true, false, not, List, [], ◌∷◌, length, take, drop, Some, None, arith, unwrap_or}
-use Rattle.std.specs.Prelude.{ℤ, pos, negsuc, Option, Result, Ok, Err, IfOk, IfSome, ok_or, min, leb, ltb, ◌&&◌, is_some, is_none, ◌==◌, if◌then◌else◌}
+use Rattle.std.proofs.Common.{ℕ, zero, suc, ◌+◌, ◌-◌, ◌<◌, ◌≤◌, ◌^◌, Bool, true, false, not, List, [], ◌∷◌, length, take, drop, Some, None, arith, unwrap_or}
+use Rattle.std.specs.Prelude.{ℤ, Option, Result, Ok, IfOk, IfSome, ok_or, min, leb, ltb, ◌&&◌, is_some, is_none, ◌==◌, if◌then◌else◌}
 use Rattle.std.specs.List.{find, range_with_len}
 use Rattle.std.specs.Option.{option_map}
 use Rattle.std.proofs.lemmas.List.{length-take}
 use Rattle.sqe_codec.specs.declared.errno.Errno.{Errno}
 use Rattle.sqe_codec.specs.declared.errno.Errno.TheVariants.{EPERM, ENOENT, EBADF, EFAULT, EEXIST, EINVAL, EMFILE, EFBIG, EOPNOTSUPP}
-use Rattle.sqe_codec.specs.Answers.{◌>>=◌, ◌>>◌, require}
+use Rattle.sqe_codec.specs.Answers.{◌>>◌, require}
 use Rattle.trace_format.specs.declared.trace.Trace.{Trace}
 use Rattle.trace_format.specs.Sides.{most_moved}
 use Rattle.trace_format.specs.Text.{IsSpelled}
@@ -16,7 +16,7 @@ use Rattle.file_tree.specs.Tree.{Target}
 use Rattle.file_tree.specs.Walk.{Place, walk, is_directory}
 use Rattle.world_parts.specs.World.{World, Change, set_name, slot, descriptor, buffer}
 use Rattle.op_meaning.proofs.Fallible.{and_then, and_so, after}
-use Rattle.op_meaning.specs.Meaning.{Effect, Handle, Destination, reply, into, Room, in_slot, at_descriptor, done, delivered, read_effect, write_effect, readable, writable, read_meaning, write_meaning, span_start, span_destination, span_bytes, write_start, held, handle, slot_count, is_bad_offset, can_write, allocation, fallocate_meaning, ftruncate_meaning, may_open, may_remove, may_replace, moved_name, goes_below, room, lowest_free, open_as, openat_meaning, close_meaning, unlinkat_meaning, mkdirat_meaning, linkat_meaning, move_meaning, exchange_meaning, rename_to, renameat_meaning, meaning}
+use Rattle.op_meaning.specs.Meaning.{Effect, Handle, Destination, reply, into, Room, in_slot, at_descriptor, done, delivered, read_effect, write_effect, readable, writable, read_meaning, write_meaning, span_start, span_destination, span_bytes, write_start, held, handle, slot_count, is_bad_offset, can_write, allocation, fallocate_meaning, ftruncate_meaning, may_open, may_remove, may_replace, moved_name, goes_below, room, lowest_free, open_as, close_meaning, move_meaning, exchange_meaning, rename_to, meaning}
 
 -- An answer whose count one call can move.
 abbrev pub Small : Effect → Type 0

@@ -7,3 +7,4 @@ pub mod Answering
 pub mod Turns
 mod SpanWrites
 mod Worked
+pub mod FileNames

@@ -1,6 +1,6 @@
 -- Parts of lists of bytes that transfers move.
-use Rattle.std.proofs.Common.{◌≡◌, ◌≢◌, ℕ, ◌+◌, ◌-◌, ◌<◌, ◌≤◌, Bool, true, false, List, [], length, take, drop, refl, sym, ap, ◌∙◌, arith, inl, inr, take_all}
-use Rattle.std.specs.Prelude.{Result, Ok, Err, Option, Some, None, option_map, unwrap_or, ◌==◌, if◌then◌else◌, min}
+use Rattle.std.proofs.Common.{◌≡◌, ◌≢◌, ℕ, ◌+◌, ◌-◌, ◌≤◌, List, [], length, take, drop, refl, sym, ap, ◌∙◌, arith, inl, inr, take_all}
+use Rattle.std.specs.Prelude.{Result, Ok, Option, Some, None, option_map, unwrap_or, ◌==◌, if◌then◌else◌, min}
 use Rattle.std.proofs.lemmas.List.{length-take, length-drop, drop_all}
 use Rattle.std.proofs.Math.Seq.{take-nil}
 use Rattle.std.proofs.lemmas.Bool.{cases_lt, ne_eqb}

@@ -1,21 +1,18 @@
 -- The turn of a place, by the step that its trace has there.
 use Rattle.std.proofs.Common.{◌≡◌, ℕ, Some, refl, sym, ap, ◌∙◌}
 use Rattle.std.specs.Borrow.{Bor}
-use Rattle.std.specs.Prelude.{List, Result, IfOk, OnOk}
+use Rattle.std.specs.Prelude.{List}
 use Rattle.std.specs.Option.{option_map}
-use Rattle.std.specs.declared.alloc.AllocError.{AllocError}
-use Rattle.std.proofs.lemmas.Result.{IfOk-weaker, on_ok_weaker}
 use Rattle.sqe_codec.specs.Answers.{each}
 use Rattle.trace_format.specs.declared.steps.Step as borrowed
 use Rattle.trace_format.specs.declared.steps.Action.TheVariants as actions
 use Rattle.trace_format.specs.declared.trace.Entry.{Entry}
 use Rattle.trace_format.specs.declared.trace.Trace.{Trace}
-use Rattle.trace_format.specs.Steps.{Step, submit, fill, step_at, step_meant, action_meant}
+use Rattle.trace_format.specs.Steps.{submit, fill, step_at, step_meant, action_meant}
 use Rattle.entry_checks.specs.Check.{check}
 use Rattle.chain_plan.specs.declared.role.Role.{Role}
 use Rattle.chain_plan.specs.Chain.{role}
 use Rattle.world_parts.specs.World.{World, broken, apply_all}
-use Rattle.op_meaning.specs.declared.reply.Reply.{Reply}
 use Rattle.op_meaning.specs.Step.{Turn, filled, entry_turn, turn, reply_of, changes_in, step_reply, step_world}
 
 -- The turn of a role, where an entry is submitted.

@@ -1,5 +1,5 @@
 -- Worked examples: the report of each, computed.
-use Rattle.std.specs.Prelude.{◌≡◌, pos, true, false, ◌^◌, ◌-◌, [], ◌∷◌, ◌++◌, replicate, refl, codes}
+use Rattle.std.specs.Prelude.{◌≡◌, pos, true, false, ◌^◌, ◌+◌, ◌-◌, [], ◌∷◌, ◌++◌, replicate, refl, codes}
 use Rattle.trace_format.specs.declared.trace.Version.TheVariants.{Two}
 use Rattle.trace_format.specs.declared.trace.Access.TheVariants.{Read, Both}
 use Rattle.trace_format.specs.declared.trace.Node.TheVariants.{Directory, File, OtherName}
@@ -171,7 +171,7 @@ fallocate_and_ftruncate_tests : report (record base {
 })
     ≡ record untouched {
       replies = posted (pos 0) [] ∷ posted (pos 0) [] ∷ posted (minus 95) [] ∷ posted (minus 22) [] ∷ posted (minus 22) [] ∷ posted (minus 27) [] ∷ posted (pos 0) [] ∷ posted (pos 0) [] ∷ [];
-      tree = file (codes "/a") 1 6 (codes "0" ++ (0 ∷ 0 ∷ (codes "3" ++ (0 ∷ 0 ∷ [])))) ∷ [];
+      tree = file (codes "/a") 1 6 (codes "0" ++ (0 ∷ 0 ∷ []) ++ codes "3" ++ (0 ∷ 0 ∷ [])) ∷ [];
     }
 unfolding overwritten resized
 fallocate_and_ftruncate_tests = refl
@@ -350,7 +350,7 @@ read_before_write_past_end_on_other_ring : report (record base {
 })
     ≡ record untouched {
       replies = posted (pos 10) (codes "0123456789") ∷ posted (pos 2) [] ∷ [];
-      tree = file (codes "/a") 1 14 (codes "0123456789" ++ (0 ∷ 0 ∷ (codes "XY"))) ∷ [];
+      tree = file (codes "/a") 1 14 (codes "0123456789" ++ (0 ∷ 0 ∷ []) ++ codes "XY") ∷ [];
       slots = slot 0 0 0 1 0 ∷ slot 1 0 1 1 0 ∷ [];
     }
 unfolding overwritten resized
@@ -622,7 +622,7 @@ vectors_short_too_many_and_written : report (record base {
       Enter 0 (
       beside (record blank { opcode = 1; flags = 1; off = 4; len = 2 }) (lengths (4 ∷ 4 ∷ []))
       ∷ alone (record blank { opcode = 1; flags = 1; len = 1025 })
-      ∷ beside (record blank { opcode = 2; flags = 1; len = 2 }) (lengths (1 ∷ 2 ∷ []) ++ (codes "uvw")) ∷ []) ∷ [];
+      ∷ beside (record blank { opcode = 2; flags = 1; len = 2 }) (lengths (1 ∷ 2 ∷ []) ++ codes "uvw") ∷ []) ∷ [];
 })
     ≡ record untouched {
       replies = posted (pos 6) (codes "456789") ∷ posted (minus 22) [] ∷ posted (pos 3) [] ∷ [];
@@ -648,34 +648,13 @@ write_past_end_then_read_on_other_ring : report (record base {
 })
     ≡ record untouched {
       replies = posted (pos 2) [] ∷ posted (pos 12) (codes "0123456789" ++ (0 ∷ 0 ∷ [])) ∷ [];
-      tree = file (codes "/a") 1 14 (codes "0123456789" ++ (0 ∷ 0 ∷ (codes "XY"))) ∷ [];
+      tree = file (codes "/a") 1 14 (codes "0123456789" ++ (0 ∷ 0 ∷ []) ++ codes "XY") ∷ [];
       slots = slot 0 0 0 1 0 ∷ slot 1 0 1 1 0 ∷ [];
     }
 unfolding overwritten resized
 write_past_end_then_read_on_other_ring = refl
 
 -- Files of the greatest size are too long to write out: the replies, slots and buffers alone.
-abbrev write_across_and_beyond_the_greatest_size : Trace
-write_across_and_beyond_the_greatest_size = record base {
-  records =
-      Enter 0 (
-      beside (record blank { opcode = 23; flags = 5; off = 2 ^ 40 - 2; len = 5 }) (codes "abcde")
-      ∷ alone blank
-      ∷ beside (record blank { opcode = 23; flags = 1; off = 2 ^ 40; len = 1 }) (codes "z") ∷ []) ∷ [];
-}
-
-write_across_and_beyond_the_greatest_size_replies : (report write_across_and_beyond_the_greatest_size).replies ≡ posted (pos 2) [] ∷ posted (minus 125) [] ∷ posted (minus 27) [] ∷ []
-unfolding overwritten resized
-write_across_and_beyond_the_greatest_size_replies = refl
-
-write_across_and_beyond_the_greatest_size_slots : (report write_across_and_beyond_the_greatest_size).slots ≡ slot 0 0 0 1 0 ∷ []
-unfolding overwritten resized
-write_across_and_beyond_the_greatest_size_slots = refl
-
-write_across_and_beyond_the_greatest_size_buffers : (report write_across_and_beyond_the_greatest_size).buffers ≡ held 0 0 16 (replicate 16 0) ∷ []
-unfolding overwritten resized
-write_across_and_beyond_the_greatest_size_buffers = refl
-
 abbrev greatest_size_without_links : Trace
 greatest_size_without_links = record base {
   records =
@@ -696,3 +675,75 @@ greatest_size_without_links_slots = refl
 greatest_size_without_links_buffers : (report greatest_size_without_links).buffers ≡ held 0 0 16 (replicate 16 0) ∷ []
 unfolding overwritten resized
 greatest_size_without_links_buffers = refl
+
+abbrev rows_without_an_example : Trace
+rows_without_an_example = record base {
+  items = item (codes "/a") (File 10 (codes "0123456789")) ∷ item (codes "/d") Directory ∷ item (codes "/d/e") Directory ∷ [];
+  descriptions = description 1 Both false 0 ∷ description 1 Read false 0 ∷ [];
+  rings = ring (1 ∷ 2 ∷ 0 ∷ 0 ∷ []) (buffer 4096 16 ∷ []) ∷ [];
+  records =
+      Fill 0 0 2 (codes "wxyz")
+      ∷ Enter 0 (
+      alone (record blank { opcode = 17; flags = 1; addr = 4; user_data = 1 })
+      ∷ alone (record blank { opcode = 22; flags = 1; len = 10; user_data = 2 }) ∷ [])
+      ∷ Enter 0 (
+      alone (record blank { opcode = 5; flags = 1; addr = 4098; len = 4; user_data = 3 })
+      ∷ alone (record blank { opcode = 22; flags = 1; len = 10; user_data = 4 }) ∷ [])
+      ∷ Enter 0 (
+      alone (record blank { opcode = 4; flags = 1; off = 2 ^ 63; len = 4; user_data = 5 })
+      ∷ alone (record blank { opcode = 17; flags = 1; fd = pos 1; addr = 1; len = 2; user_data = 6 }) ∷ [])
+      ∷ Enter 0 (
+      beside (record blank { opcode = 18; fd = minus 100; op_flags = 128; user_data = 7; file_index = 4 }) (codes "/a")
+      ∷ beside (record blank { opcode = 35; fd = minus 100; len = 2 ^ 32 - 100; op_flags = 1; user_data = 8 }) (two_paths (codes "/d") (codes "/d/e"))
+      ∷ beside (record blank { opcode = 39; fd = minus 100; len = 2 ^ 32 - 100; op_flags = 1024; user_data = 9 }) (two_paths (codes "/a") (codes "/l"))
+      ∷ beside (record blank { opcode = 39; fd = minus 100; len = 2 ^ 32 - 100; op_flags = 4096; user_data = 10 }) (two_paths (codes "/a") (codes "/m")) ∷ [])
+      ∷ Enter 0 (
+      alone (record blank { flags = 68; user_data = 11 })
+      ∷ alone (record blank { flags = 4; user_data = 12 })
+      ∷ alone (record blank { opcode = 200; user_data = 13 }) ∷ [])
+      ∷ Enter 0 (
+      alone (record blank { opcode = 22; flags = 5; off = 8; len = 9; user_data = 14 })
+      ∷ alone (record blank { flags = 8; user_data = 15 })
+      ∷ alone (record blank { user_data = 16 }) ∷ [])
+      ∷ Enter 0 (
+      alone (record blank { flags = 8; user_data = 17 })
+      ∷ alone (record blank { opcode = 200; user_data = 18 }) ∷ [])
+      ∷ Enter 0 (
+      alone (record blank { opcode = 17; flags = 1; off = 2 ^ 40 - 1; addr = 1; user_data = 19 })
+      ∷ alone (record blank { opcode = 55; flags = 1; off = 2 ^ 40; user_data = 20 })
+      ∷ alone (record blank { opcode = 55; flags = 1; off = 2 ^ 40 + 1; user_data = 21 })
+      ∷ alone (record blank { opcode = 55; flags = 1; off = 3; user_data = 22 }) ∷ []) ∷ [];
+}
+
+rows_without_an_example_replies : (report rows_without_an_example).replies ≡ silent (pos 0) [] ∷ posted (pos 0) [] ∷ posted (pos 10) (codes "0123456789") ∷ posted (pos 4) [] ∷ posted (pos 10) (codes "wxyz456789") ∷ posted (minus 14) [] ∷ posted (minus 95) [] ∷ posted (pos 0) [] ∷ posted (minus 17) [] ∷ posted (pos 0) [] ∷ posted (minus 22) [] ∷ posted (minus 125) [] ∷ silent (minus 125) [] ∷ silent (minus 22) [] ∷ posted (pos 2) (codes "89") ∷ posted (minus 125) [] ∷ posted (minus 125) [] ∷ posted (minus 125) [] ∷ posted (minus 22) [] ∷ posted (pos 0) [] ∷ posted (pos 0) [] ∷ posted (minus 27) [] ∷ posted (pos 0) [] ∷ []
+unfolding overwritten resized
+rows_without_an_example_replies = refl
+
+rows_without_an_example_slots : (report rows_without_an_example).slots ≡ slot 0 0 0 1 0 ∷ slot 0 1 1 1 0 ∷ slot 0 3 9 1 0 ∷ []
+unfolding overwritten resized
+rows_without_an_example_slots = refl
+
+rows_without_an_example_buffers : (report rows_without_an_example).buffers ≡ held 0 0 16 ((0 ∷ 0 ∷ []) ++ codes "wxyz" ++ replicate 10 0) ∷ []
+unfolding overwritten resized
+rows_without_an_example_buffers = refl
+
+abbrev write_across_and_beyond_the_greatest_size : Trace
+write_across_and_beyond_the_greatest_size = record base {
+  records =
+      Enter 0 (
+      beside (record blank { opcode = 23; flags = 5; off = 2 ^ 40 - 2; len = 5 }) (codes "abcde")
+      ∷ alone blank
+      ∷ beside (record blank { opcode = 23; flags = 1; off = 2 ^ 40; len = 1 }) (codes "z") ∷ []) ∷ [];
+}
+
+write_across_and_beyond_the_greatest_size_replies : (report write_across_and_beyond_the_greatest_size).replies ≡ posted (pos 2) [] ∷ posted (minus 125) [] ∷ posted (minus 27) [] ∷ []
+unfolding overwritten resized
+write_across_and_beyond_the_greatest_size_replies = refl
+
+write_across_and_beyond_the_greatest_size_slots : (report write_across_and_beyond_the_greatest_size).slots ≡ slot 0 0 0 1 0 ∷ []
+unfolding overwritten resized
+write_across_and_beyond_the_greatest_size_slots = refl
+
+write_across_and_beyond_the_greatest_size_buffers : (report write_across_and_beyond_the_greatest_size).buffers ≡ held 0 0 16 (replicate 16 0) ∷ []
+unfolding overwritten resized
+write_across_and_beyond_the_greatest_size_buffers = refl

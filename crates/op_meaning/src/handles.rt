@@ -180,10 +180,7 @@ pub fn transfer_start(file: &OpenFile, offset: u64, state: &State) -> u64
     if !is_at_position(offset) {
         return offset;
     }
-    match state.description(file.number) {
-        Some(description) => description.position,
-        None => 0,
-    }
+    state.position(file.number).unwrap_or(0)
 }
 
 /// A registered buffer of a ring that is no empty entry.

@@ -1,16 +1,11 @@
 //! Changes of names, decided on before they are made.
 ghost use Rattle.std.specs.Prelude.{◌≡◌, IfOk, OnOk};
-ghost use Rattle.file_tree.specs.Tree.{target};
-ghost use Rattle.file_tree.specs.Walk as walk;
-ghost use Rattle.op_meaning.specs.Meaning as meaning;
 ghost use Rattle.op_meaning.specs.NameChanges.{change_meant, changes_meant, decision_meant};
 ghost use Rattle.op_meaning.specs.Outcomes.{answered, answer_of};
 ghost use Rattle.op_meaning.specs.Step.{changes_of};
 ghost use Rattle.world_parts.specs.World.{apply, apply_all};
-ghost use Rattle.world_parts.specs.World as world;
 
 use crate::outcome::{Outcome, finished};
-use file_tree::{Kind, Place};
 use sqe_codec::Errno;
 use std::alloc::{AllocError, Global};
 use world_parts::State;

@@ -6,14 +6,13 @@ ghost use Rattle.file_tree.specs.Found.{place_meant};
 ghost use Rattle.file_tree.specs.Tree.{Tree, target};
 ghost use Rattle.file_tree.specs.Walk as walk;
 ghost use Rattle.op_meaning.specs.Meaning as meaning;
-ghost use Rattle.op_meaning.specs.Meaning.{exchange_meaning, linkat_meaning, mkdirat_meaning, move_meaning, renameat_meaning, unlinkat_meaning};
+ghost use Rattle.op_meaning.specs.Meaning.{linkat_meaning, mkdirat_meaning, move_meaning, renameat_meaning, unlinkat_meaning};
 ghost use Rattle.op_meaning.specs.NameChanges.{changes_meant, decision_meant};
 ghost use Rattle.op_meaning.specs.Outcomes.{answered, answer_of};
 ghost use Rattle.op_meaning.specs.Step.{changes_of};
 ghost use Rattle.trace_format.specs.Steps.{places};
 ghost use Rattle.trace_format.specs.Text.{IsSpelled};
 ghost use Rattle.world_parts.specs.World.{apply_all};
-ghost use Rattle.world_parts.specs.World as world;
 
 use crate::handles::is_directory;
 use crate::made::made_node;

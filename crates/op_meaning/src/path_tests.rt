@@ -8,7 +8,7 @@ use crate::outcome::Outcome;
 use entry_checks::{OpenAtFlags, PathAt};
 use file_tree::Kind;
 use sqe_codec::Errno;
-use std::alloc::{AllocError, Global};
+use std::alloc::Global;
 use std::test::Fail;
 use trace_format::{Access, Trace, read_trace};
 use world_parts::State;

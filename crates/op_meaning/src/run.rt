@@ -22,7 +22,7 @@ use chain_plan::Role;
 use entry_checks::{Op, check};
 use sqe_codec::{CQE_SKIP_SUCCESS, Errno, IO_HARDLINK};
 use std::alloc::{AllocError, Global};
-use trace_format::{Action, Blob, Entry, Series, Trace};
+use trace_format::{Action, Entry, Series, Trace};
 use world_parts::{Broken, Part, State};
 
 /// The most bytes that one call moves.

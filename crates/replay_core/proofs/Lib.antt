@@ -1,2 +1,9 @@
+pub mod Lists
+pub mod Choosing
+pub mod Cutting
+pub mod Returning
+pub mod Rounds
+pub mod Fronts
+pub mod Ending
 pub mod Places
 pub mod Parts

@@ -1,5 +1,9 @@
 mod TransferLemmas
 mod ReportLemmas
 mod SessionLemmas
+mod Comparison
+mod NumberWords
+mod OptionWalk
+mod RoundWords
 mod WordsLemmas
 mod SumLemmas

@@ -8,7 +8,13 @@ use Rattle.world_parts.specs.World.{World}
 use Rattle.op_meaning.specs.declared.reply.Reply.{Reply}
 use Rattle.op_meaning.specs.Step.{step_reply, run_world, run_replies, sequential_reply, sequential_world, sequential_replies}
 use Rattle.uring_replay.specs.Report.{report_of}
-use Rattle.uring_replay.specs.Runs.{sequential_report}
+use Rattle.std.specs.Prelude.{Option}
+use Rattle.replay_core.specs.declared.difference.Verdict.{Verdict}
+use Rattle.replay_core.specs.declared.difference.Verdict.TheVariants as verdict
+use Rattle.uring_replay.specs.Runs.{ReadsTrace, WritesPart, sequential_report, verdict_line}
+use Rattle.uring_replay.specs.Transfer.{AppendsPart}
+use Rattle.uring_replay.specs.declared.words.Options.{Options}
+use Rattle.uring_replay.specs.declared.words.Mode.TheVariants.{Compare}
 
 -- a place has one reply
 one_reply : (t : Trace) (k : ℕ) (s : World) (x : Step) → step_at t k ≡ Some x → length (each (λ (reply : Reply). reply ∷ []) (step_reply t k s)) ≡ 1
@@ -32,3 +38,8 @@ length-replies t replies e = ap length e ∙ length-run_replies t (places t) (om
 pub sequential_text : (t : Trace) (s : World) (replies : List Reply) (sums : Bool) (text : List ℕ) → s ≡ sequential_world t → replies ≡ sequential_replies t
     → text ≡ report_of t s replies sums → text ≡ sequential_report t sums
 sequential_text t s replies sums text world answers e = e ∙ ap (λ w. report_of t w replies sums) world ∙ ap (λ rs. report_of t (sequential_world t) rs sums) answers
+
+-- the line of a comparison that went out in part
+pub comparison_part : (options : Options) (left left' written written' : Option (List ℕ)) (t : Trace) (workers window : ℕ) (v : Verdict) → ReadsTrace left left' t → options.mode ≡ Compare workers window → v ≡ verdict.Equal
+    → AppendsPart written written' (verdict_line v) → WritesPart options left left' written written'
+comparison_part options left left' written written' t workers window v read mode equal part = record { t = t; read = read; wrote = rw mode (rw equal at part) }

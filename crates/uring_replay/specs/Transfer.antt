@@ -1,10 +1,14 @@
 -- What a reader has left and what a writer holds, where they tell it, around one call and around many.
-use Rattle.std.specs.Prelude.{ℕ, ◌<◌, Bool, false, nat_lt, List, length, take, Option, Result, Ok, Err}
-use Rattle.std.specs.Io.KnownBytes.{Appends}
+use Rattle.std.specs.Prelude.{ℕ, ◌<◌, ◌≤◌, Bool, false, nat_lt, List, length, take, Option, Result, Ok, Err}
+use Rattle.std.specs.Io.KnownBytes.{Appends, Consumes}
 
 -- the known bytes grew by the first bytes of the output, perhaps by none, but not by all
 abbrev pub AppendsPart : Option (List ℕ) → Option (List ℕ) → List ℕ → Type 0
 AppendsPart old new output = (n : ℕ) × (n < length output) × Appends old new (take n output)
+
+-- the known bytes lost their first bytes, at most so many
+abbrev pub ConsumesUpTo : ℕ → Option (List ℕ) → Option (List ℕ) → Type 0
+ConsumesUpTo most old new = (bytes : List ℕ) × Consumes old new bytes × (length bytes ≤ most)
 
 -- whether a write took something: an error and a write of no bytes are failures
 abbrev pub took_some : {E : Type 0} → Result ℕ E → Bool

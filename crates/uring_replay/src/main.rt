@@ -1,6 +1,10 @@
 //! Replays a recorded trace from standard input.
 #![tactic(auto)]
 
+ghost use Rattle.std.specs.Prelude.{IfOk};
+ghost use Rattle.uring_replay.specs.Words.{IsServed};
+
+mod ending;
 mod fault;
 mod report;
 mod session;
@@ -8,14 +12,17 @@ mod sums;
 mod transfer;
 mod words;
 
-use session::run_alone;
-use std::alloc::{AllocError, Global};
+use ending::{Stream, fault_ending, usage_ending, usage_text};
+use fault::RunFault;
+use session::run;
+use std::alloc::AllocError;
 use std::env;
-use std::io::{Error, ErrorKind};
+use std::env::FillError;
+use std::io::ErrorKind;
 use std::process::ExitCode;
 use std::rt::Env;
 use transfer::FromStd;
-use words::{Options, Usage, UsageKind, read_words};
+use words::{Options, Usage, no_memory, not_text, read_words};
 
 fn main(rt: HostRuntime) -> ExitCode {
     let options = match chosen(&rt) {
@@ -24,21 +31,21 @@ fn main(rt: HostRuntime) -> ExitCode {
     };
     let mut reader = FromStd::new(rt.stdin());
     let mut writer = FromStd::new(rt.stdout());
-    match run_alone(rt.alloc(), &mut reader, &mut writer, &options) {
+    match run(&rt, rt.alloc(), &mut reader, &mut writer, &options) {
         Ok(()) => ExitCode::SUCCESS,
-        Err(fault) => {
-            let _ = eprintln!(rt; "{fault}");
-            ExitCode::from(fault.status())
-        }
+        Err(fault) => failed(&rt, fault),
     }
 }
 
 /// The options that the program's arguments ask for.
-fn chosen<R: Env + AllocGlobal>(rt: &R) -> Result<Options, Usage> {
+fn chosen<R: Env + AllocGlobal>(rt: &R) -> Result<Options, Usage>
+    ensures { IfOk result (λ options. IsServed options.mode) }
+{
     let alloc = rt.alloc();
     let words = match env::args(rt) {
         Ok(words) => words,
-        Err(error) => return Err(no_words(alloc, &error)),
+        Err(error) if error.kind() == ErrorKind::OutOfMemory => return Err(no_memory(alloc)),
+        Err(_) => return Err(first_not_text(rt)),
     };
     let words: Result<Vec<String>, AllocError> = words.skip(1).collect(alloc);
     let words = words.map_err(|_| no_memory(alloc))?;
@@ -50,44 +57,58 @@ fn chosen<R: Env + AllocGlobal>(rt: &R) -> Result<Options, Usage> {
     read_words(alloc, words.as_slice())
 }
 
-/// The arguments are no text, or there is no memory for them.
-fn no_words(alloc: Global, error: &Error) -> Usage {
-    if error.kind() == ErrorKind::OutOfMemory {
+/// The most bytes of an argument: no longer one can be handed to a program.
+const LONGEST_WORD: usize = 131_072;
+
+/// The answer to the first argument that is not text.
+fn first_not_text<R: Env + AllocGlobal>(rt: &R) -> Usage {
+    let alloc = rt.alloc();
+    let Ok(mut word) = vec![in alloc; 0u8; LONGEST_WORD] else {
         return no_memory(alloc);
+    };
+    for place in 0..usize::MAX {
+        match rt.arg(place, word.as_mut_slice()) {
+            Ok(count) if str::from_utf8(&word[..count]).is_err() => {
+                return not_text(alloc, &word[..count]);
+            }
+            Ok(_) | Err(FillError::TooLong) => {}
+            Err(FillError::NotPresent) => break,
+        }
     }
-    match String::from_str(alloc, "error: an argument is not text\n") {
-        Ok(text) => Usage {
-            kind: UsageKind::Wrong,
-            text,
-        },
-        Err(_) => no_memory(alloc),
-    }
+    not_text(alloc, &[])
 }
 
-fn no_memory(alloc: Global) -> Usage {
-    Usage {
-        kind: UsageKind::Memory,
-        text: String::new(alloc),
-    }
-}
-
-/// Shows why there are no options.
+/// Shows why there are no options, and ends.
 fn shown<R: Print + Eprint>(rt: &R, usage: &Usage) -> ExitCode {
-    let text = usage.text.as_str();
-    match usage.kind {
-        UsageKind::Help => match print!(rt; "{text}") {
-            Ok(()) => ExitCode::SUCCESS,
-            Err(_) => ExitCode::from(3),
-        },
-        UsageKind::Wrong => {
+    let ending = usage_ending(usage);
+    let text = usage_text(usage);
+    match ending.stream {
+        Some(Stream::Output) => {
+            if print!(rt; "{text}").is_err() {
+                return failed(rt, RunFault::Write);
+            }
+        }
+        Some(Stream::Errors) => {
             let _ = eprint!(rt; "{text}");
-            ExitCode::from(2)
         }
-        UsageKind::Memory => {
-            let _ = eprintln!(rt; "fault: memory");
-            ExitCode::from(3)
-        }
+        None => {}
     }
+    ExitCode::from(ending.status)
+}
+
+/// Shows a fault, and ends.
+fn failed<R: Print + Eprint>(rt: &R, fault: RunFault) -> ExitCode {
+    let ending = fault_ending(fault);
+    match ending.stream {
+        Some(Stream::Output) => {
+            let _ = println!(rt; "{fault}");
+        }
+        Some(Stream::Errors) => {
+            let _ = eprintln!(rt; "{fault}");
+        }
+        None => {}
+    }
+    ExitCode::from(ending.status)
 }
 
 #[cfg(test)]

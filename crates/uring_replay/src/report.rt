@@ -1,5 +1,5 @@
 //! The report of a replay.
-ghost use Rattle.std.specs.Prelude.{◌≡◌, ◌++◌, ◌≤◌, All, IfOk, OnOk, Some, [], length, string_bytes, take, true, unwrap_or};
+ghost use Rattle.std.specs.Prelude.{◌≡◌, ◌++◌, ◌≤◌, All, IfOk, OnOk, Some, [], length, string_bytes, take, unwrap_or};
 ghost use Rattle.std.specs.List.{flat_map, range_with_len};
 ghost use Rattle.std.specs.Option.{option_map};
 ghost use Rattle.sqe_codec.specs.Answers.{each};
@@ -228,7 +228,7 @@ fn push_name(
 }
 
 /// A path with its unprintable bytes by their numbers.
-fn escaped(alloc: Global, path: &[u8]) -> Result<String, AllocError>
+pub fn escaped(alloc: Global, path: &[u8]) -> Result<String, AllocError>
     ensures { IfOk result (λ text. string_bytes text ≡ escaped path.now) }
 {
     let mut text = String::new(alloc);

@@ -1,21 +1,26 @@
 ghost use Rattle.std.specs.Prelude.{Some};
+ghost use Rattle.uring_replay.specs.Words.{IsServed};
 
 use crate::fault::RunFault;
-use crate::session::run_alone;
+use crate::session::{run, run_alone, told};
 use crate::transfer::{Failed, FromStd, Sink, Source};
 use crate::words::{Mode, Options, UsageKind, read_words};
-use replay_core::ReplayFault;
-use std::alloc::Global;
+use replay_core::{ReplayFault, Verdict};
 use std::io;
 use std::io::Read;
+use std::process::Abort;
+use std::sync::Wait;
 use std::test::Fail;
+use std::thread::Threads;
 use trace_format::{Kind, TraceFault};
 
 mod examples;
 
 use examples::{
-    BUFFER_SELECTION_PERSONALITY_AND_RW_FLAGS_OF_READ, GENERAL_TESTS_GIVE_EINVAL,
-    LONG_DATA_ODD_NAMES_AND_A_LARGE_FILE, NEIGHBOURING_WRITES_DO_NOT_COLLIDE, NO_RECORDS,
+    BUFFER_SELECTION_PERSONALITY_AND_RW_FLAGS_OF_READ, DRAIN_WAITS_FOR_EVERY_EARLIER_STEP,
+    EXCHANGE_OF_FILE_AND_DIRECTORY, FIXED_BUFFER_RANGE_FILL_AND_FIXED_WRITE,
+    GENERAL_TESTS_GIVE_EINVAL, LONG_DATA_ODD_NAMES_AND_A_LARGE_FILE,
+    NEIGHBOURING_WRITES_DO_NOT_COLLIDE, NO_RECORDS, OPEN_WRITE_CLOSE_CHAIN_THEN_EMPTY_SLOT,
     OVERLAPPING_READS_SHARE_A_ROUND, READ_BEFORE_WRITE_PAST_END_ON_OTHER_RING, READ_FOUR_BYTES,
     SUM_OF_A_SMALL_FILE, TWO_WRITTEN_RANGES_IN_ONE_PAGE, WRITE_PAST_END_THEN_READ_ON_OTHER_RING,
 };
@@ -35,11 +40,35 @@ const CHECK: Options = Options {
     sums: false,
 };
 
+fn run_with(workers: u32, window: u32, sums: bool) -> Options {
+    Options {
+        mode: Mode::Run { workers, window },
+        sums,
+    }
+}
+
+fn compare_with(workers: u32, window: u32) -> Options {
+    Options {
+        mode: Mode::Compare { workers, window },
+        sums: false,
+    }
+}
+
 #[test]
 fn reads_words(rt: HostRuntime) {
-    let cases: [(&[&str], Options); 3] = [
+    let cases: [(&[&str], Options); 7] = [
         (["serial"].as_slice(), SERIAL),
         (["serial", "--sums"].as_slice(), SUMS),
+        (["run"].as_slice(), run_with(4, 64, false)),
+        (
+            ["run", "--workers", "7", "--window", "4096", "--sums"].as_slice(),
+            run_with(7, 4096, true),
+        ),
+        (["compare"].as_slice(), compare_with(4, 64)),
+        (
+            ["compare", "--window=1", "--workers", "64"].as_slice(),
+            compare_with(64, 1),
+        ),
         (["check"].as_slice(), CHECK),
     ];
     for (words, wanted) in cases {
@@ -50,8 +79,13 @@ fn reads_words(rt: HostRuntime) {
 
 #[test]
 fn refuses_words(rt: HostRuntime) {
-    let cases: [(&[&str], UsageKind); 6] = [
+    let cases: [(&[&str], UsageKind); 11] = [
         (["serial", "--help"].as_slice(), UsageKind::Help),
+        (["run", "--workers", "0"].as_slice(), UsageKind::Wrong),
+        (["run", "--workers", "65"].as_slice(), UsageKind::Wrong),
+        (["compare", "--window", "0"].as_slice(), UsageKind::Wrong),
+        (["compare", "--window", "4097"].as_slice(), UsageKind::Wrong),
+        (["compare", "--sums"].as_slice(), UsageKind::Wrong),
         ([].as_slice(), UsageKind::Wrong),
         (["parallel"].as_slice(), UsageKind::Wrong),
         (["serial", "--sums", "trace"].as_slice(), UsageKind::Wrong),
@@ -79,8 +113,12 @@ fn statuses_and_lines(rt: HostRuntime) -> Result<(), Fail> {
         (RunFault::Trace(refused), 1, "trace refused: NoParent at 35"),
         (RunFault::Trace(no_memory), 3, "fault: memory"),
         (RunFault::Replay(ReplayFault::Memory), 3, "fault: memory"),
+        (RunFault::Replay(ReplayFault::NoThread), 3, "fault: thread"),
+        (RunFault::Replay(ReplayFault::Workers), 2, "fault: workers"),
+        (RunFault::Replay(ReplayFault::Window), 2, "fault: window"),
         (RunFault::Read, 3, "fault: read"),
         (RunFault::Write, 3, "fault: write"),
+        (RunFault::Different, 4, "different"),
     ];
     for (fault, status, line) in cases {
         assert_eq!(rt; fault.status(), status);
@@ -105,6 +143,10 @@ fn writes_reports(rt: HostRuntime) -> Result<(), Fail> {
         GENERAL_TESTS_GIVE_EINVAL,
         BUFFER_SELECTION_PERSONALITY_AND_RW_FLAGS_OF_READ,
         LONG_DATA_ODD_NAMES_AND_A_LARGE_FILE,
+        OPEN_WRITE_CLOSE_CHAIN_THEN_EMPTY_SLOT,
+        EXCHANGE_OF_FILE_AND_DIRECTORY,
+        FIXED_BUFFER_RANGE_FILL_AND_FIXED_WRITE,
+        DRAIN_WAITS_FOR_EVERY_EARLIER_STEP,
     ];
     for case in cases {
         let trace = hex::decode(alloc, case.trace).expect(&rt, "a trace");
@@ -117,6 +159,47 @@ fn writes_reports(rt: HostRuntime) -> Result<(), Fail> {
         }
     }
     Ok(())
+}
+
+/// What a run on two workers, with a window of two places, writes for two places that don't collide.
+fn output_on_workers<R: Abort + AllocGlobal + Threads + Wait + Sync>(
+    rt: &R,
+    mode: Mode,
+    output: &str,
+)
+    requires { IsServed mode }
+{
+    let alloc = rt.alloc();
+    let trace = hex::decode(alloc, NEIGHBOURING_WRITES_DO_NOT_COLLIDE.trace).expect(rt, "a trace");
+    let options = Options { mode, sums: false };
+    let mut reader = FromStd::new(trace.as_slice());
+    let mut writer = FromStd::new(Vec::new(alloc));
+    let done = run(rt, alloc, &mut reader, &mut writer, &options);
+    assert_eq!(rt; done, Ok(()));
+    assert_eq!(rt; writer.stream.as_slice(), output.as_bytes());
+}
+
+#[test]
+fn runs_on_workers(rt: HostRuntime) {
+    let run = Mode::Run {
+        workers: 2,
+        window: 2,
+    };
+    output_on_workers(&rt, run, NEIGHBOURING_WRITES_DO_NOT_COLLIDE.report);
+    let compare = Mode::Compare {
+        workers: 2,
+        window: 2,
+    };
+    output_on_workers(&rt, compare, "equal\n");
+}
+
+#[test]
+fn tells_a_difference(rt: HostRuntime) {
+    let alloc = rt.alloc();
+    let mut writer = FromStd::new(Vec::new(alloc));
+    let done = told(alloc, &mut writer, Verdict::Reply(7));
+    assert_eq!(rt; done, Err(RunFault::Different));
+    assert_eq!(rt; writer.stream.as_slice(), "different reply 7\n".as_bytes());
 }
 
 #[test]

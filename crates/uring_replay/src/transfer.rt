@@ -1,8 +1,8 @@
 //! Readers and writers whose contracts tell bytes and failures, and the two transfers of the program.
-ghost use Rattle.std.specs.Prelude.{◌≡◌, ℕ, ◌+◌, ◌-◌, ◌^◌, ◌<◌, ◌≤◌, if◌then◌else◌, is_ok, length, List, Option, vec_len, IfOk, IfErr, OnOk, OnErr};
+ghost use Rattle.std.specs.Prelude.{◌≡◌, ℕ, ◌+◌, ◌-◌, ◌^◌, ◌<◌, ◌≤◌, if◌then◌else◌, is_ok, List, Option, vec_len, IfOk, OnOk, OnErr};
 ghost use Rattle.std.specs.Io.{ReadsAtMost, WritesAtMost};
 ghost use Rattle.std.specs.Io.KnownBytes.{Appends, Consumes, IsAtEnd, ReadConsumes, WriteAppends};
-ghost use Rattle.uring_replay.specs.Transfer.{AppendsPart, took_some};
+ghost use Rattle.uring_replay.specs.Transfer.{AppendsPart, ConsumesUpTo, took_some};
 
 use std::alloc::{AllocError, Global};
 use std::io::{Read, Write};
@@ -123,7 +123,8 @@ fn empty_piece(alloc: Global) -> Result<Vec<u8>, AllocError>
 /// All that the reader has left, or its first `MOST_BYTES` bytes. The first failure ends the reading.
 pub fn read_text<S: Source>(alloc: Global, source: &mut S) -> Result<Vec<u8>, TextFault>
     requires { S.failures source.old < 2 ^ 64 - 1 }
-    ensures taken { IfOk result (λ text. Consumes (S.left source.old) (S.left source.new) text.items) }
+    ensures text { IfOk result (λ text. Consumes (S.left source.old) (S.left source.new) text.items) }
+    ensures taken { ConsumesUpTo MOST_BYTES (S.left source.old) (S.left source.new) }
     ensures bound { IfOk result (λ text. vec_len text ≤ MOST_BYTES) }
     ensures end { IfOk result (λ text. vec_len text < MOST_BYTES → IsAtEnd (S.left source.new)) }
     ensures ok { OnOk result (S.failures source.new ≡ S.failures source.old) }

@@ -1,12 +1,12 @@
 -- Which places keep their recorded order, whatever runs beside them.
-use Rattle.std.specs.Prelude.{◌≡◌, ℕ, ◌<◌, true, List, ◌∷◌, ◌++◌, ◌⊎◌}
+use Rattle.std.specs.Prelude.{◌≡◌, ℕ, ◌<◌, ◌≤◌, true, List, ◌∷◌, ◌++◌, ◌⊎◌, slice_index}
 use Rattle.interleaving.specs.Machine.{Event, Start, has, opening, run, AllLegal}
-use Rattle.interleaving.specs.Rounds.{chosen, rounds}
 use Rattle.trace_format.specs.declared.trace.Trace.{Trace}
 use Rattle.trace_format.specs.Steps.{places}
 use Rattle.chain_plan.specs.Chain.{role}
 use Rattle.op_meaning.specs.Footprint.{ring_at}
 use Rattle.foot_print.specs.Replayed.{replayed}
+use Rattle.wave_pick.specs.Rounds.{state_after, wave_after, rounds}
 
 -- Two places of one chain, or of one ring where one of them is a barrier.
 abbrev pub InOrder : Trace → ℕ → ℕ → Type 0
@@ -19,5 +19,8 @@ LinksAndDrainsHold t = (i k : ℕ) → i < k → k < places t → InOrder t i k 
 
 -- The later one runs in a later round.
 abbrev pub LinksAndDrainsPart : Trace → Type 0
-LinksAndDrainsPart t = (window r i k : ℕ) → i < k → k < places t → InOrder t i k → let s = rounds (replayed t) (places t) window r (opening (replayed t)) in
-    has (chosen (replayed t) (places t) window s) k ≡ true → has s.finished i ≡ true
+LinksAndDrainsPart t = (window r i k : ℕ) → i < k → k < places t → InOrder t i k → has (wave_after t window r) k ≡ true → has (state_after t window r).finished i ≡ true
+
+-- The later one has the higher number in the list of rounds.
+abbrev pub LinksAndDrainsRise : Trace → Type 0
+LinksAndDrainsRise t = (window i k : ℕ) → 1 ≤ window → i < k → k < places t → InOrder t i k → slice_index (rounds t window) i < slice_index (rounds t window) k

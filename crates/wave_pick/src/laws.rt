@@ -4,14 +4,18 @@
 //! and what it does to the world happens when it finishes. They are functions without effect: a call
 //! brings the law into a proof.
 ghost use Rattle.foot_print.specs.Replayed.{replayed};
-ghost use Rattle.interleaving.specs.Machine.{EveryOrder};
+ghost use Rattle.interleaving.specs.Machine.{EveryOrder, ReachesHold, ReachesShrink};
 ghost use Rattle.interleaving.specs.Rounds.{AnySetsOccur, RoundsAreGathered, RoundsAreLegal, RoundsAreSequential, RoundsGoOn};
 ghost use Rattle.trace_format.specs.Text.{IsSpelled};
 ghost use Rattle.trace_format.specs.declared.trace.Trace.{Trace};
 ghost use Rattle.wave_pick.specs.Lawful.{covered, lawful};
-ghost use Rattle.wave_pick.specs.Orders.{LinksAndDrainsHold, LinksAndDrainsPart};
+ghost use Rattle.wave_pick.specs.Orders.{LinksAndDrainsHold, LinksAndDrainsPart, LinksAndDrainsRise};
+ghost use Rattle.wave_pick.specs.Rounds.{NoneCollide, RoundsAreNumbered};
+ghost use Rattle.wave_pick.specs.Sequential.{OrdersEndAsTheModel, RoundsEndAsTheModel, RunsAsTheModel};
 
-use interleaving::{Footprinted, Foreseen, every_legal_order_is_sequential, rounds_are_sequential};
+use interleaving::{
+    Footprinted, Foreseen, every_legal_order_is_sequential, reaches_foresee, rounds_are_sequential,
+};
 
 /// The replays of traces that some bytes spell, as systems of numbered steps.
 struct Replays;
@@ -28,11 +32,28 @@ impl Foreseen for Replays {
     ghost laws = { λ x. lawful x.0 x.1 };
 }
 
+/// The run of a trace's places one at a time, with which the laws of orders and rounds compare, is the model's
+/// sequential run: it goes through the same worlds, and each place has the reply that the model keeps for it.
+pub fn sequential_run_is_the_models()
+    ensures { (t : Trace) → RunsAsTheModel t }
+{}
+
+/// Reaches foresee, in every state that legal starts and finishes lead to: the reach of an unfinished place
+/// holds its footprint in each world that some of the earlier unfinished places, or none, leave when they run;
+/// and no legal start or finish makes a reach hold what it didn't hold before.
+pub fn reaches_hold_and_shrink()
+    ensures hold { (t : Trace) → IsSpelled t → ReachesHold (replayed t) }
+    ensures shrink { (t : Trace) → IsSpelled t → ReachesShrink (replayed t) }
+{
+    reaches_foresee::<Replays>();
+}
+
 /// Every legal and complete list of starts and finishes of a trace's places gives the world and the replies
-/// of the sequential run; and the members of a chain, and a barrier and the other places of its ring, keep their
-/// order.
+/// of the sequential run, which are the model's; and the members of a chain, and a barrier and the other places
+/// of its ring, keep their order.
 pub fn legal_orders_are_sequential()
     ensures sequential { (t : Trace) → IsSpelled t → EveryOrder (replayed t) }
+    ensures model { (t : Trace) → IsSpelled t → OrdersEndAsTheModel t }
     ensures order { (t : Trace) → IsSpelled t → LinksAndDrainsHold t }
 {
     every_legal_order_is_sequential::<Replays>();
@@ -40,15 +61,25 @@ pub fn legal_orders_are_sequential()
 
 /// Rounds, in which those of the first pending places start that are free, are legal in whatever order the
 /// places of each start and finish; each round has a place, and all rounds together give the world and the
-/// replies of the sequential run, gathered from places that run side by side. Members of a chain, and a barrier
-/// and the other places of its ring, run in different rounds, in order.
+/// replies of the sequential run, which are the model's, gathered from places that run side by side and do not
+/// collide. Members of a chain, and a barrier and the other places of its ring, run in different rounds, in order.
 pub fn rounds_are_legal()
     ensures legal { (t : Trace) → IsSpelled t → RoundsAreLegal (replayed t) }
     ensures sequential { (t : Trace) → IsSpelled t → RoundsAreSequential (replayed t) }
+    ensures model { (t : Trace) → IsSpelled t → RoundsEndAsTheModel t }
     ensures gathered { (t : Trace) → IsSpelled t → RoundsAreGathered (replayed t) }
+    ensures apart { (t : Trace) → IsSpelled t → NoneCollide t }
     ensures go_on { (t : Trace) → IsSpelled t → RoundsGoOn (replayed t) }
     ensures order { (t : Trace) → IsSpelled t → LinksAndDrainsPart t }
     ensures sets { (t : Trace) → IsSpelled t → AnySetsOccur (replayed t) }
 {
     rounds_are_sequential::<Replays>();
 }
+
+/// The list of rounds has the number of each place's round: the round in which the places are chosen that this
+/// one is among. Along a chain the numbers rise; a barrier's lies behind those of all earlier places of its ring,
+/// and before those of all later ones.
+pub fn rounds_are_numbered()
+    ensures numbered { (t : Trace) → IsSpelled t → RoundsAreNumbered t }
+    ensures rise { (t : Trace) → IsSpelled t → LinksAndDrainsRise t }
+{}

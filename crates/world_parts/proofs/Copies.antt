@@ -6,8 +6,8 @@ use mathlib.Core.Path.{sym, subst, ap, ◌∙◌}
 use mathlib.Core.Logic.{inl, inr}
 use lib.Dec.{eqb→eq, eqb_refl}
 use Rattle.finite_maps.specs.Table.{get, get-insert, number_keys}
-use Rattle.file_tree.specs.Tree.{Node, Kind, a_directory, a_file, directory, file, target, kind_of_node, count_of_node, bytes_of_node}
-use Rattle.world_parts.specs.World.{World, Description, Broken, kind, opened_by, slot, descriptor, broken, set_slot, set_descriptor, break_chain, apply}
+use Rattle.file_tree.specs.Tree.{Node, Kind, directory, file, kind_of_node}
+use Rattle.world_parts.specs.World.{World, Broken, kind, slot, descriptor, broken, set_slot, set_descriptor, break_chain, apply}
 use Rattle.world_parts.specs.Items.{Atom, chain_flag, slot_at, descriptor_at, Item, one, all_descriptors, member_of, value}
 use Rattle.world_parts.specs.Part.{Shows}
 use Rattle.world_parts.specs.Copying.{nothing, outline_of_node, outline, IsShadow, IsNearer, IsCopied}

@@ -1,5 +1,5 @@
 -- A part that gets a range of the bytes of a file or of a buffer.
-use Rattle.std.specs.Prelude.{◌≡◌, ℕ, Bool, true, false, cond, ◌&&◌, ◌==◌, ◌+◌, ◌-◌, ◌<◌, ◌≤◌, min, max, T, List, [], length, take, drop, replicate, Option, Some, None, refl, ◌⊎◌, slice_index_or, unwrap_or, is_some}
+use Rattle.std.specs.Prelude.{◌≡◌, ℕ, true, false, cond, ◌&&◌, ◌==◌, ◌+◌, ◌-◌, ◌<◌, ◌≤◌, min, T, List, [], length, drop, replicate, Option, Some, None, refl, slice_index_or, unwrap_or, is_some}
 use Rattle.std.specs.List.{slice_get}
 use Rattle.std.specs.Option.{option_map, option_and_then}
 use Rattle.std.specs.Ordering.{eq_by_cmp, is_eq}
@@ -14,15 +14,15 @@ use Rattle.std.proofs.lemmas.List.{get_or-take, get_or-drop, length-take, length
 use Rattle.std.proofs.lemmas.Option.{slice_get-get_or, slice_get_past, unwrap_or-slice_get}
 use Rattle.extent_bytes.specs.Bytes.{overwritten, range_of}
 use Rattle.extent_bytes.proofs.Lengths.{length-overwritten}
-use Rattle.finite_maps.specs.Table.{Table, get, insert, assign, get-insert, get-assign, adjust_number, pair_keys, pair_cmp}
+use Rattle.finite_maps.specs.Table.{Table, get, insert, get-insert, get-assign, adjust_number, pair_keys, pair_cmp}
 use Rattle.finite_maps.proofs.TextMaps.{is_eq-true}
-use Rattle.file_tree.specs.Tree.{Node, directory, file, Kind, a_directory, a_file, bytes_of_node, rewritten_node}
+use Rattle.file_tree.specs.Tree.{Node, directory, file, a_file, bytes_of_node, rewritten_node}
 use Rattle.ring_tables.specs.Contents.{rewritten_at}
 use Rattle.world_parts.specs.World.{World, size, bytes, byte, buffer}
-use Rattle.world_parts.specs.Items.{Atom, byte_at, buffer_size, buffer_byte, Item, file_bytes, buffer_bytes, member_of, within, value}
+use Rattle.world_parts.specs.Items.{Atom, byte_at, buffer_size, buffer_byte, file_bytes, buffer_bytes, member_of, within, value}
 use Rattle.world_parts.specs.Part.{Shows}
-use Rattle.world_parts.specs.Copying.{outline_of_node, outline, IsShadow, IsNearer, IsCopied}
-use Rattle.world_parts.proofs.ByteWords.{byte-overwritten, past_end, zeros-byte}
+use Rattle.world_parts.specs.Copying.{outline, IsShadow, IsNearer, IsCopied}
+use Rattle.world_parts.proofs.ByteWords.{byte-overwritten, past_end}
 use Rattle.world_parts.proofs.Changes.{adjusted}
 use Rattle.world_parts.proofs.Collision.{both, left, right, true_of}
 use Rattle.world_parts.proofs.Copies.{shown_none, put_there, chosen, either_way, nothing_moved}

@@ -1,20 +1,20 @@
 -- A directory of a part that shows one of its other names.
 use Rattle.std.specs.Prelude.{◌≡◌, ℕ, zero, suc, Bool, true, false, cond, ◌==◌, ◌+◌, ◌-◌, ◌<◌, ◌≤◌, T, List, [], ◌∷◌, Option, Some, None, refl, ◌⊎◌, is_some, length}
-use Rattle.std.specs.Option.{option_map, option_and_then}
+use Rattle.std.specs.Option.{option_map}
 use Rattle.std.specs.Ordering.{nat_cmp, is_eq, eq_by_cmp}
 use Rattle.std.specs.declared.cmp.Ordering.{Ordering}
-use Rattle.std.specs.Cmp.{unsigned_tied, tied_itself}
+use Rattle.std.specs.Cmp.{tied_itself}
 use Rattle.std.specs.Cmp.Lexicographic.{slice_cmp}
 use Rattle.std.specs.FinMap.Entries.{find, length_without, length-put}
 use mathlib.Core.Path.{sym, subst, ap, ◌∙◌}
 use mathlib.Core.Logic.{inl, inr}
 use native.Mathlib.Omega.{arith}
 use lib.Dec.{eqb→eq, eqb_refl}
-use Rattle.finite_maps.specs.Table.{get, count, insert, remove, get-insert, get-remove, number_keys, text_keys, adjust_number}
+use Rattle.finite_maps.specs.Table.{get, count, insert, remove, get-insert, get-remove, text_keys, adjust_number}
 use Rattle.finite_maps.proofs.TextMaps.{is_eq-true}
-use Rattle.file_tree.specs.Tree.{Tree, Names, Node, directory, file, Kind, a_directory, a_file, Target, target, shown_node}
+use Rattle.file_tree.specs.Tree.{Names, Node, directory, file, Kind, a_directory, a_file, Target, target, shown_node}
 use Rattle.world_parts.specs.World.{World, kind, name}
-use Rattle.world_parts.specs.Items.{name_at, Item, one}
+use Rattle.world_parts.specs.Items.{name_at, one}
 use Rattle.world_parts.specs.Part.{Shows}
 use Rattle.world_parts.specs.Copying.{outline_of_node, outline, looked_up, IsShadow, IsNearer, IsCopied}
 use Rattle.world_parts.proofs.Changes.{adjusted}

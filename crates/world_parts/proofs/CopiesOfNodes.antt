@@ -1,5 +1,5 @@
 -- A part that gets a node's outline, and what else leads to the node.
-use Rattle.std.specs.Prelude.{is_some, ◌≡◌, ℕ, Bool, true, false, cond, ◌==◌, ◌+◌, leb, T, List, [], Option, Some, None, refl, ◌⊎◌, length}
+use Rattle.std.specs.Prelude.{is_some, ◌≡◌, ℕ, true, false, cond, ◌==◌, ◌+◌, leb, T, List, [], Option, Some, None, refl, ◌⊎◌, length}
 use Rattle.std.specs.Option.{option_map, option_and_then}
 use Rattle.std.specs.Cmp.{unsigned_tied}
 use mathlib.Core.Path.{sym, subst, ap, ◌∙◌}
@@ -8,11 +8,11 @@ use native.Mathlib.Omega.{arith}
 use lib.Dec.{eqb→eq, eqb_refl}
 use Rattle.finite_maps.specs.Table.{get, count, empty, insert, get-insert, number_keys}
 use Rattle.file_tree.specs.Tree.{Tree, Names, Node, Kind, a_directory, a_file, directory, file, Target, target, kind_of_node, names_of_node, count_of_node, bytes_of_node, byte_of}
-use Rattle.world_parts.specs.World.{World, Description, Opened, kind, names, name, name_count, size, byte, opened, opened_by, position}
-use Rattle.world_parts.specs.Items.{Atom, size_of, byte_at, name_at, names_in, description_at, position_of, Item, one, member_of, value}
+use Rattle.world_parts.specs.World.{World, Description, Opened, kind, name, name_count, size, byte, opened, opened_by, position}
+use Rattle.world_parts.specs.Items.{Atom, size_of, byte_at, name_at, names_in, description_at, position_of, Item, one, value}
 use Rattle.world_parts.specs.Part.{Shows}
 use Rattle.world_parts.specs.Copying.{outline_of_node, outline, looked_up, IsShadow, IsNearer, IsCopied}
-use Rattle.world_parts.proofs.Copies.{shown_none, chosen, either_way, one_item, nothing_moved, nearer_still, kind-outline, same_kind}
+use Rattle.world_parts.proofs.Copies.{shown_none, chosen, either_way, one_item, nothing_moved, nearer_still, same_kind}
 use Rattle.extent_bytes.specs.Bytes.{resized}
 use Rattle.extent_bytes.proofs.Lengths.{length-resized}
 use Rattle.world_parts.proofs.ByteWords.{each-resized}

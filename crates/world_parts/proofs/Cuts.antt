@@ -1,6 +1,5 @@
 -- What cutting by a footprint takes and leaves, use by use.
-use Rattle.std.specs.Prelude.{◌≡◌, ℕ, zero, suc, Bool, true, false, cond, ◌||◌, ◌+◌, ◌<◌, T, List, [], ◌∷◌, ◌++◌, map, take, drop, length, get_or, refl, ◌⊎◌, if◌then◌else◌}
-use Rattle.std.specs.List.{list_any, list_all}
+use Rattle.std.specs.Prelude.{◌≡◌, ℕ, zero, suc, Bool, true, false, ◌||◌, ◌+◌, ◌<◌, T, List, [], ◌∷◌, ◌++◌, map, take, drop, length, get_or, refl, ◌⊎◌, if◌then◌else◌}
 use mathlib.Core.Path.{sym, subst, ap, ◌∙◌}
 use mathlib.Core.Logic.{inl, inr}
 use native.Mathlib.Omega.{arith}
@@ -11,9 +10,9 @@ use Rattle.world_parts.specs.declared.footprint.Item.TheVariants.{Chain, Ring, S
 use Rattle.world_parts.specs.declared.footprint.Use as code_use
 use Rattle.world_parts.specs.Uses.{item_meant, use_meant}
 use Rattle.world_parts.specs.World.{World, Change, apply, apply_all, kind}
-use Rattle.world_parts.specs.Items.{Atom, ring_order, value, Item, member_of, Use, Footprint, has_atom, Agree}
+use Rattle.world_parts.specs.Items.{Atom, ring_order, value, member_of, Use, Footprint, has_atom, Agree}
 use Rattle.world_parts.specs.Part.{is_narrow_use, is_narrow, zeros_in, zeros, holed, Shows, IsPartOf}
-use Rattle.world_parts.specs.Copying.{outline, IsShadow, IsNearer, IsCopied}
+use Rattle.world_parts.specs.Copying.{outline, IsShadow, IsCopied}
 use Rattle.world_parts.proofs.Collision.{left, right}
 use Rattle.world_parts.proofs.Copies.{one_item, nothing_moved, kind_in, kind-outline}
 

@@ -26,3 +26,7 @@ pub mod Pasting
 pub mod PutSteps
 pub mod PutBack
 pub mod PutTables
+pub mod Members
+pub mod Ways
+pub mod Listed
+pub mod FileNames

@@ -1,16 +1,16 @@
 -- Worlds that come nearer to another one: each raw value becomes that world's or stays, and names that are shown stay so.
-use Rattle.std.specs.Prelude.{◌≡◌, ℕ, Bool, true, false, cond, List, length, Option, Some, None, refl, slice_index_or, ◌⊎◌}
+use Rattle.std.specs.Prelude.{◌≡◌, ℕ, true, false, cond, List, length, Option, refl, ◌⊎◌}
 use Rattle.std.specs.List.{slice_get}
 use Rattle.std.specs.Option.{option_map, option_and_then}
 use Rattle.std.specs.declared.cmp.Ordering.{Ordering}
 use Rattle.std.specs.declared.cmp.Ordering.TheVariants.{Less, Equal, Greater}
-use Rattle.std.specs.Ordering.{nat_cmp, is_eq}
+use Rattle.std.specs.Ordering.{is_eq}
 use Rattle.std.specs.Cmp.{tied_itself}
 use mathlib.Core.Path.{sym, subst, ap, ◌∙◌}
 use mathlib.Core.Logic.{inl, inr}
 use Rattle.finite_maps.specs.Table.{Table, IsKeyOrder, get, assign, get-assign, number_keys, pair_keys}
 use Rattle.file_tree.specs.Tree.{Node}
-use Rattle.world_parts.specs.World.{World, Description, Broken}
+use Rattle.world_parts.specs.World.{World, Description}
 use Rattle.world_parts.specs.Items.{Atom, chain_flag, slot_at, descriptor_at, description_at, position_of, size_of, byte_at, name_at, names_in, buffer_size, buffer_byte}
 use Rattle.world_parts.proofs.Raw.{head_of, long, byte_in, lists, entry, raw, ShownNode, AllShown}
 

@@ -1,13 +1,13 @@
 -- Each byte after a range was put in from another list.
-use Rattle.std.specs.Prelude.{◌≡◌, ℕ, Bool, true, false, cond, min, max, ◌+◌, ◌-◌, ◌<◌, ◌≤◌, List, length, refl, slice_index_or, ◌⊎◌, unwrap_or}
-use mathlib.Core.Path.{sym, subst, ap, ◌∙◌}
+use Rattle.std.specs.Prelude.{◌≡◌, ℕ, true, false, min, ◌-◌, ◌<◌, ◌≤◌, List, length, refl, slice_index_or, ◌⊎◌}
+use mathlib.Core.Path.{◌∙◌}
 use mathlib.Core.Logic.{inl, inr}
 use native.Mathlib.Omega.{arith}
-use Rattle.extent_bytes.specs.Bytes.{overwritten, range_of, zeroed}
+use Rattle.extent_bytes.specs.Bytes.{overwritten, range_of}
 use Rattle.extent_bytes.proofs.Lengths.{length-overwritten, length-range_of}
 use Rattle.extent_bytes.proofs.Lists.{get_or-overwritten_below, get_or-overwritten_inside, get_or-overwritten_above, get_or-part}
 use Rattle.world_parts.specs.Putting.{pasted}
-use Rattle.world_parts.proofs.ByteWords.{byte-zeroed, place_of}
+use Rattle.world_parts.proofs.ByteWords.{place_of}
 use Rattle.world_parts.specs.Items.{within}
 
 pub length-pasted : (old new : List ℕ) (low high : ℕ) → length (pasted old new low high) ≡ length old

@@ -1,6 +1,5 @@
 -- Putting back the written uses of a footprint makes the world that has the part's values there and the old ones elsewhere.
 use Rattle.std.specs.Prelude.{◌≡◌, ℕ, Bool, true, false, max, not, ◌&&◌, ◌||◌, ◌==◌, T, List, [], ◌∷◌, length, map, Option, Some, None, refl, slice_index_or, ◌⊎◌, unwrap_or, if◌then◌else◌}
-use Rattle.std.specs.List.{list_any}
 use Rattle.std.specs.Option.{option_map, is_some}
 use mathlib.Core.Path.{sym, subst, ap, ◌∙◌}
 use mathlib.Core.Logic.{inl, inr}
@@ -9,7 +8,7 @@ use Rattle.finite_maps.specs.Table.{get, assign, number_keys, pair_keys}
 use Rattle.file_tree.specs.Tree.{Node, byte_of, renamed_node, rewritten_node}
 use Rattle.extent_bytes.specs.Bytes.{zeroed}
 use Rattle.file_tree.specs.Found.{node_of}
-use Rattle.world_parts.specs.World.{World, IsWorld, Description, kind, names, bytes, byte, name, size, slot, descriptor, broken, buffer, zero_bytes, apply}
+use Rattle.world_parts.specs.World.{World, IsWorld, names, bytes, byte, name, size, slot, descriptor, broken, buffer, zero_bytes, apply}
 use Rattle.world_parts.specs.Items as items
 use Rattle.world_parts.specs.Items.{Atom, chain_flag, slot_at, descriptor_at, description_at, position_of, size_of, byte_at, name_at, names_in, buffer_size, buffer_byte, value, one, file_bytes, buffer_bytes, within, member_of, writes_atom}
 use Rattle.world_parts.specs.Part.{PutsTo, is_narrow, is_narrow_use}

@@ -1,7 +1,7 @@
 -- Each written item that is put back brings a world nearer to the one that is wanted, and its own atoms to that one's.
 use Rattle.std.specs.Prelude.{◌≡◌, ℕ, Bool, true, false, cond, leb, max, ◌<◌, ◌≤◌, T, List, [], length, Option, Some, None, refl, slice_index_or, ◌⊎◌, unwrap_or}
 use Rattle.std.specs.List.{slice_get}
-use Rattle.std.specs.Option.{option_map, option_and_then, is_some}
+use Rattle.std.specs.Option.{option_map, option_and_then}
 use Rattle.std.specs.declared.cmp.Ordering.{Ordering}
 use Rattle.std.specs.declared.cmp.Ordering.TheVariants.{Less, Equal, Greater}
 use Rattle.std.specs.Cmp.Lexicographic.{slice_cmp}
@@ -10,18 +10,18 @@ use Rattle.std.proofs.lemmas.Option.{slice_get-get_or, slice_get_past}
 use mathlib.Core.Path.{sym, subst, ap, ◌∙◌}
 use mathlib.Core.Logic.{inl, inr}
 use native.Mathlib.Omega.{arith}
-use lib.Dec.{leb→le, ltb→lt}
-use Rattle.finite_maps.specs.Table.{get, assign, get-assign, number_keys, pair_keys, text_keys}
+use lib.Dec.{leb→le}
+use Rattle.finite_maps.specs.Table.{get, assign, get-assign, text_keys}
 use Rattle.extent_bytes.specs.Bytes.{resized, zeroed}
 use Rattle.extent_bytes.proofs.Lengths.{length-resized, length-zeroed}
-use Rattle.file_tree.specs.Tree.{Node, Names, directory, file, bytes_of_node, byte_of, names_of_node, renamed_node, rewritten_node}
-use Rattle.world_parts.specs.World.{World, Description}
+use Rattle.file_tree.specs.Tree.{Node, Names, directory, file, renamed_node, rewritten_node}
+use Rattle.world_parts.specs.World.{Description}
 use Rattle.world_parts.specs.Items.{within}
 use Rattle.world_parts.specs.Putting.{sized, listed, pasted, redescribed, repositioned}
 use Rattle.world_parts.proofs.Values.{some_apart, same_some}
 use Rattle.world_parts.proofs.ByteWords.{each-resized, past_end, place_of, byte-zeroed}
 use Rattle.world_parts.proofs.Pasting.{length-pasted, byte-pasted, Past}
-use Rattle.world_parts.proofs.Raw.{Head, head_of, long, byte_in, lists, entry, same_description}
+use Rattle.world_parts.proofs.Raw.{head_of, long, byte_in, lists, entry}
 use Rattle.world_parts.proofs.Nearer.{OneOf, NodeNear, placed}
 
 -- A node that is made as long as another one is, or no file where that is none.

@@ -1,11 +1,10 @@
 -- What the calls that put a part back make of trees and buffers, in the words of their contracts.
-use Rattle.std.specs.Prelude.{◌≡◌, ℕ, Bool, true, false, cond, min, ◌+◌, ◌-◌, ◌≤◌, List, [], length, map, T, Option, Some, None, Result, IfSome, OnOk, refl, unwrap_or, ◌⊎◌}
+use Rattle.std.specs.Prelude.{◌≡◌, ℕ, Bool, true, false, cond, min, ◌+◌, ◌-◌, ◌≤◌, List, [], length, map, T, Option, Some, None, Result, IfSome, OnOk, refl, unwrap_or}
 use Rattle.std.specs.Option.{option_map, option_copied, is_some}
 use Rattle.std.specs.Borrow.{Bor}
 use Rattle.std.specs.declared.cmp.Ordering.{Ordering}
 use Rattle.std.specs.Ordering.{is_eq}
 use mathlib.Core.Path.{sym, subst, ap, ◌∙◌}
-use mathlib.Core.Logic.{inl, inr}
 use native.Mathlib.Omega.{arith}
 use Rattle.finite_maps.specs.Table.{Table, IsKeyOrder, get, insert, assign, get-assign, same_table, adjust_number, number_keys, pair_cmp, pair_keys}
 use Rattle.finite_maps.proofs.Maps.{absent-assign, present-assign}
@@ -13,7 +12,7 @@ use Rattle.extent_bytes.specs.Bytes.{overwritten, range_of, resized}
 use Rattle.extent_bytes.proofs.Lengths.{length-range_of}
 use Rattle.file_tree.specs.Tree.{Tree, Node, directory, file, new_node, a_directory, a_file, rewritten_node}
 use Rattle.file_tree.specs.Tree as tree
-use Rattle.ring_tables.specs.Contents.{bytes_at, rewritten_at}
+use Rattle.ring_tables.specs.Contents.{rewritten_at}
 use Rattle.world_parts.specs.Putting.{sized, listed, pasted, with_nodes, with_items}
 use Rattle.world_parts.proofs.Raw.{long, lists}
 use Rattle.world_parts.specs.World.{World, IsWorld}

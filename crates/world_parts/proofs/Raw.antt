@@ -1,15 +1,14 @@
 -- Worlds by what each node, description and name has itself, apart from the kind of the node that it leads to.
-use Rattle.std.specs.Prelude.{◌≡◌, ℕ, Bool, true, false, T, List, length, Option, Some, None, IfSome, refl, slice_index_or}
-use Rattle.std.specs.List.{slice_get}
+use Rattle.std.specs.Prelude.{◌≡◌, ℕ, Bool, List, length, Option, Some, None, IfSome, refl}
 use Rattle.std.specs.Option.{option_map, option_and_then, is_some}
-use mathlib.Core.Path.{sym, subst, ap, ◌∙◌}
+use mathlib.Core.Path.{sym, ap, ◌∙◌}
 use Rattle.trace_format.specs.declared.trace.Access.{Access}
 use Rattle.finite_maps.specs.Table.{get, same_table, number_keys, pair_keys, text_keys}
-use Rattle.file_tree.specs.Tree.{Node, Names, Target, target, directory, file, names_of_node, others_of_node, count_of_node, bytes_of_node, byte_of}
+use Rattle.file_tree.specs.Tree.{Node, Names, target, directory, file, names_of_node, others_of_node, count_of_node, bytes_of_node, byte_of}
 use Rattle.file_tree.specs.Found.{node_of}
 use Rattle.world_parts.specs.World.{World, Description, Opened, opened_by}
 use Rattle.world_parts.specs.Items.{Atom, chain_flag, slot_at, descriptor_at, description_at, position_of, size_of, byte_at, name_at, names_in, buffer_size, buffer_byte, Value, value}
-use Rattle.world_parts.proofs.Values.{some_apart, same_some, same_bytes, same_buffer}
+use Rattle.world_parts.proofs.Values.{same_some, same_bytes, same_buffer}
 
 -- What a description says, apart from its position.
 pub record Head : Type 0 where

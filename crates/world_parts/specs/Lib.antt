@@ -10,3 +10,4 @@ pub mod Uses
 pub mod Sized
 pub mod Pending
 pub mod Putting
+pub mod Paths

@@ -1,8 +1,8 @@
 -- Parts of a world, cut out by a footprint and put back.
-use Rattle.std.specs.Prelude.{◌≡◌, ℕ, ◌-◌, Bool, true, false, not, T, List, [], ◌∷◌, ◌++◌, replicate, Option, Some, None, ◌⊎◌, if◌then◌else◌}
+use Rattle.std.specs.Prelude.{◌≡◌, ℕ, ◌-◌, Bool, true, false, not, T, List, [], ◌∷◌, ◌++◌, replicate, Option, None, ◌⊎◌, if◌then◌else◌}
 use Rattle.std.specs.List.{list_all}
 use Rattle.std.specs.Ordering.{nat_cmp}
-use Rattle.finite_maps.specs.Table.{Table, empty, get, insert, assign, number_keys}
+use Rattle.finite_maps.specs.Table.{Table, empty, insert, number_keys}
 use Rattle.world_parts.specs.World.{World, kind, name, opened, Change, zero_bytes, write_buffer, apply_all}
 use Rattle.world_parts.specs.Items.{Atom, value, Item, file_bytes, buffer_bytes, all_names, all_bytes_and_sizes, all_positions, all_descriptions, all_descriptors, Use, Footprint, writes_atom, Agree}
 

@@ -2,7 +2,7 @@
 use Rattle.std.specs.Prelude.{ℕ, Bool, true, false, min, max, List, [], ◌∷◌, length, Option, Some, None, unwrap_or, if◌then◌else◌}
 use Rattle.std.specs.Option.{is_some}
 use Rattle.extent_bytes.specs.Bytes.{overwritten, range_of, resized, zeroed}
-use Rattle.finite_maps.specs.Table.{empty, get, assign, adjust_number, number_keys}
+use Rattle.finite_maps.specs.Table.{get, assign, adjust_number, number_keys}
 use Rattle.file_tree.specs.Tree as tree
 use Rattle.file_tree.specs.Tree.{Tree, Node, directory, file, new_node, a_directory, renamed_node, rewritten_node}
 use Rattle.file_tree.specs.Found.{node_of}

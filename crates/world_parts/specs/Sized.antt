@@ -1,5 +1,5 @@
 -- Items whose bytes fit a file.
-use Rattle.std.specs.Prelude.{ℕ, List, length, ◌≤◌}
+use Rattle.std.specs.Prelude.{length, ◌≤◌}
 use Rattle.trace_format.specs.declared.trace.Item.{Item}
 use Rattle.trace_format.specs.declared.trace.Node.{Node}
 use Rattle.trace_format.specs.declared.trace.Node.TheVariants.{Directory, File, OtherName}

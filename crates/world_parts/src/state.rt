@@ -1,5 +1,5 @@
 //! The maps of a world.
-ghost use Rattle.std.specs.Prelude.{◌≡◌, ◌==◌, ◌+◌, ◌≤◌, [], length, unwrap_or, IfNone, IfOk, IfSome, IsOk, OnOk, Some};
+ghost use Rattle.std.specs.Prelude.{◌≡◌, ◌==◌, ◌≤◌, [], length, unwrap_or, IfOk, IfSome, Some};
 ghost use Rattle.std.specs.List.{find, range_with_len};
 ghost use Rattle.std.specs.Prelude.{is_none};
 ghost use Rattle.std.specs.Option.{option_map};
@@ -9,7 +9,6 @@ ghost use Rattle.finite_maps.specs.Table.{get};
 ghost use Rattle.file_tree.specs.Found.{node_of, walk_meant};
 ghost use Rattle.file_tree.specs.Kinds.{kind_meant};
 ghost use Rattle.file_tree.specs.Walk as walk;
-ghost use Rattle.ring_tables.specs.Contents.{bytes_at};
 ghost use Rattle.world_parts.specs.Uses.{broken_meant};
 ghost use Rattle.world_parts.specs.World as world;
 
@@ -84,6 +83,13 @@ impl State {
         ensures { result ≡ get self.now.descriptions number }
     {
         self.descriptions.get(number)
+    }
+
+    /// The position of an open file description: where a transfer without an offset starts.
+    pub fn position(&self, description: u32) -> Option<u64>
+        ensures { result ≡ world.position self.now description }
+    {
+        Some(self.descriptions.get(description)?.position)
     }
 
     /// What a node is; none where there is no such node.

@@ -1,4 +1,4 @@
-use Rattle.std.proofs.Common.{◌≡◌, ℕ, suc, subst, arith}
+use Rattle.std.proofs.Common.{◌≡◌, suc, subst, arith}
 use Rattle.std.specs.Prelude.{IfOk, OnOk}
 use Rattle.world_parts.specs.World.{apply_all}
 use Rattle.op_meaning.specs.Meaning.{close_meaning}

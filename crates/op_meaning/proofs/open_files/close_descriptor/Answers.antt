@@ -1,9 +1,8 @@
 use Rattle.std.proofs.Common.{◌≡◌, ℕ, ap, sym, ◌∙◌, refl, true, false, not, None, [], ◌∷◌}
-use Rattle.std.specs.Prelude.{ℤ, pos, zero, Bool, Result, Ok, Err, is_some, if◌then◌else◌}
+use Rattle.std.specs.Prelude.{ℤ, pos, zero, Ok, Err, is_some}
 use Rattle.std.proofs.Common.{w32}
 use mir.Val.{to_z, of_z, SFits}
 use Rattle.std.proofs.Math.Facts.{to_z-of_z}
-use Rattle.sqe_codec.specs.declared.errno.Errno.{Errno}
 use Rattle.sqe_codec.specs.declared.errno.Errno.TheVariants.{EBADF}
 use Rattle.trace_format.specs.declared.trace.Trace.{Trace}
 use Rattle.world_parts.specs.World.{World, apply_all, set_descriptor}

@@ -1,4 +1,4 @@
-use Rattle.std.proofs.Common.{◌≡◌, ◌+◌, ◌≤◌, arith, length, min, take, drop, ap, ◌∙◌, [], sym, subst, unwrap_or}
+use Rattle.std.proofs.Common.{◌≡◌, ◌+◌, ◌≤◌, arith, length, min, ap, ◌∙◌, [], sym, subst, unwrap_or}
 use Rattle.std.proofs.lemmas.Result.{IfOk-weaker}
 use Rattle.world_parts.specs.World as world
 use Rattle.op_meaning.proofs.Moved.{range_within, length-taken, length-there}

@@ -1,4 +1,4 @@
-use Rattle.std.proofs.Common.{rules, ◌≡◌, ◌≢◌, ◌+◌, ◌-◌, ◌≤◌, ℕ, arith, length, min, take, ap, ◌∙◌, [], sym, refl, subst}
+use Rattle.std.proofs.Common.{rules, ◌≡◌, ◌≢◌, ◌-◌, arith, length, min, take, refl}
 use Rattle.entry_checks.specs.Meant.{file_meant}
 use Rattle.entry_checks.specs.Operation.{file_limit}
 use Rattle.std.specs.Prelude.{Ok}

@@ -6,7 +6,7 @@ use Rattle.uring_replay.proofs.words.parsed.Goals as goal
 
 pub returns-in-Ok-clause-options : goal.returns-in-Ok-clause-options
 returns-in-Ok-clause-options c =
-    λ o asked. c.options_in.ensures o
+    λ o asked. c.options_in.ensures.options o
     (options_met (app_of c.in_ok-command.command) (map (λ word. word.now) c.args.words.now) c.in-Ok.matches o c.in_ok-command.ensures asked c.in-Ok.ensures.matches)
 
 pub returns-in-Ok-clause-help : goal.returns-in-Ok-clause-help

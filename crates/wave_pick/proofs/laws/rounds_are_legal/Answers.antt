@@ -1,4 +1,7 @@
 use Rattle.trace_format.specs.Steps.{places}
+use Rattle.wave_pick.specs.Rounds.{state_after}
+use Rattle.wave_pick.proofs.Apart.{none_collide}
+use Rattle.wave_pick.proofs.Ends.{ends_as_the_model}
 use Rattle.wave_pick.proofs.Orders.{always_collide}
 use Rattle.wave_pick.proofs.laws.rounds_are_legal.Goals as goal
 
@@ -19,3 +22,9 @@ returns-clause-order c t s window r i k lt within o chosen = c.rounds_are_sequen
 
 pub returns-clause-sets : goal.returns-clause-sets
 returns-clause-sets c t s = c.rounds_are_sequential.ensures.sets (t, s)
+
+pub returns-clause-model : goal.returns-clause-model
+returns-clause-model c t s window r wide many = ends_as_the_model t (state_after t window r) (c.rounds_are_sequential.ensures.sequential (t, s) (places t) window r wide many)
+
+pub returns-clause-apart : goal.returns-clause-apart
+returns-clause-apart c = none_collide

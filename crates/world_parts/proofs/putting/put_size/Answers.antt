@@ -5,7 +5,7 @@ use Rattle.extent_bytes.specs.Bytes.{resized}
 use Rattle.finite_maps.specs.Table.{adjust_number}
 use Rattle.file_tree.specs.Tree.{rewritten_node}
 use Rattle.file_tree.specs.Tree as tree
-use Rattle.world_parts.proofs.PutTables.{sized-none, sized-gone, sized-old, sized-new}
+use Rattle.world_parts.proofs.PutTables.{sized-none, sized-old, sized-new}
 use Rattle.world_parts.proofs.putting.put_size.Goals as goal
 use Rattle.world_parts.proofs.putting.put_size.Goals.{then-is_none+in_ok-add_node, else-is_none}
 

@@ -1,4 +1,4 @@
-use Rattle.std.proofs.Common.{◌+◌, ◌≤◌, length, ap, subst, sym, ◌∙◌}
+use Rattle.std.proofs.Common.{◌+◌, ◌≤◌, length, ap, subst, sym, ◌∙◌, arith}
 use Rattle.std.proofs.lemmas.Result.{on_ok_weaker, on_err_weaker}
 use Rattle.extent_bytes.specs.Bytes.{overwritten}
 use Rattle.finite_maps.specs.Table.{pair_keys}
@@ -14,7 +14,9 @@ returns-in_default-clause-ok c =
 
 pub put_back-requires : goal.put_back-requires
 put_back-requires c =
-    subst (λ xs. c.args.lo + length c.args.part ≤ length xs) (bytes_at-found c.self.inside.entries.entries c.args.self.now c.args.ring c.args.index c.in-Some.buffer.now c.self.view_is c.in-Some.ensures.value) c.requires
+    let within : c.args.lo + length c.args.part ≤ length c.in-Some.buffer.now =
+        subst (λ xs. c.args.lo + length c.args.part ≤ length xs) (bytes_at-found c.self.inside.entries.entries c.args.self.now c.args.ring c.args.index c.in-Some.buffer.now c.self.view_is c.in-Some.ensures.value) c.requires in
+    omega arith
 
 pub returns-clause-ok : goal.returns-clause-ok
 returns-clause-ok c =

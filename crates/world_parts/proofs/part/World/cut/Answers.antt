@@ -1,4 +1,4 @@
-use Rattle.std.proofs.Common.{◌≡◌, Some, ap, ◌∙◌}
+use Rattle.std.proofs.Common.{Some, ap}
 use Rattle.finite_maps.specs.Table.{number_keys}
 use Rattle.finite_maps.proofs.Maps.{seen-assign}
 use Rattle.world_parts.specs.Part.{Divided}

@@ -1,5 +1,5 @@
-use Rattle.std.proofs.Common.{Some, ap, ◌∙◌}
-use Rattle.finite_maps.specs.Table.{insert, number_keys}
+use Rattle.std.proofs.Common.{Some, ap}
+use Rattle.finite_maps.specs.Table.{number_keys}
 use Rattle.finite_maps.proofs.Maps.{seen-assign}
 use Rattle.world_parts.specs.Uses.{broken_meant}
 use Rattle.world_parts.proofs.state.State.break_chain.Goals as goal

@@ -1,12 +1,9 @@
-use Rattle.std.proofs.Common.{◌≡◌, ℕ, List, ◌∷◌, [], ◌++◌, ap, sym, ◌∙◌, length}
+use Rattle.std.proofs.Common.{ℕ, List, ◌∷◌, [], ◌++◌, ap, ◌∙◌}
 use Rattle.std.specs.List.{flat_map}
-use Rattle.std.proofs.lemmas.List.{length-replicate}
 use Rattle.std.proofs.lemmas.List.Concat.{flat_map_single}
-use Rattle.finite_maps.specs.Table.{pair_keys}
 use Rattle.world_parts.specs.declared.image.BufferEntry.{BufferEntry}
 use Rattle.world_parts.specs.Image.{image_of, buffer_entry}
 use Rattle.world_parts.proofs.Lines.{no_lines, more_lines, all_lines}
-use Rattle.finite_maps.proofs.Ordered.{entries_of}
 use Rattle.world_parts.proofs.state.State.buffer_entries.Goals as goal
 
 abbrev line : (ℕ × ℕ) × List ℕ → List BufferEntry

@@ -1,4 +1,3 @@
-use Rattle.std.proofs.Common.{◌≡◌}
 use Rattle.std.proofs.lemmas.Result.{on_ok_weaker}
 use Rattle.world_parts.specs.Items.{one, description_at, position_of}
 use Rattle.world_parts.proofs.Copies.{copied_to}

@@ -1,4 +1,4 @@
-use Rattle.std.proofs.Common.{◌≡◌, Some, None}
+use Rattle.std.proofs.Common.{Some, None}
 use Rattle.std.proofs.lemmas.Result.{on_ok_weaker}
 use Rattle.world_parts.specs.Items.{one, name_at}
 use Rattle.world_parts.proofs.Copies.{nearer_still, outline_stays, same_kind}

@@ -1,8 +1,7 @@
-use Rattle.std.proofs.Common.{◌≡◌, Some, None, ap, sym, ◌∙◌}
+use Rattle.std.proofs.Common.{ap, sym, ◌∙◌}
 use Rattle.std.proofs.lemmas.Result.{on_ok_weaker}
 use Rattle.file_tree.specs.Kinds.{kind_meant}
 use Rattle.finite_maps.specs.Table.{get}
-use Rattle.world_parts.specs.World.{World, name_count}
 use Rattle.world_parts.specs.Copying.{outline}
 use Rattle.world_parts.proofs.Copies.{nearer_to}
 use Rattle.world_parts.proofs.CopiesOfNodes.{unkinded, file_laid, listing_laid}

@@ -1,11 +1,10 @@
-use Rattle.std.proofs.Common.{◌≡◌, [], ◌++◌, length, ap, sym, ◌∙◌, arith, refl}
+use Rattle.std.proofs.Common.{◌≡◌, [], ◌++◌, ap, sym, ◌∙◌, arith, refl}
 use Rattle.std.proofs.lemmas.List.{append-nil, nil_from_length}
 use Rattle.finite_maps.specs.Table.{count, empty, text_keys}
 use Rattle.world_parts.specs.Image.{by_path, paths_below}
 use Rattle.finite_maps.specs.Maps.{seen_table}
 use Rattle.world_parts.specs.Pending.{paths_pending}
 use Rattle.world_parts.proofs.Listing.{one_listed, fewer}
-use Rattle.finite_maps.proofs.Ordered.{entries_of}
 use Rattle.finite_maps.proofs.TextMaps.{seen-insert_entry}
 use Rattle.world_parts.proofs.state.State.paths.Goals as goal
 

@@ -1,0 +1,39 @@
+-- The places of a round don't collide.
+use Rattle.std.proofs.Common.{◌≡◌, Bool, true, false, ◌⊎◌, inl, inr, refl}
+use Rattle.std.specs.Prelude.{T}
+use Rattle.interleaving.specs.System.{Apart}
+use Rattle.interleaving.proofs.Rounding.{rounds_gathered_lem}
+use Rattle.trace_format.specs.declared.trace.Trace.{Trace}
+use Rattle.trace_format.specs.Steps.{places}
+use Rattle.trace_format.specs.Text.{IsSpelled}
+use Rattle.world_parts.specs.Items.{Atom, Footprint, has_atom, writes_atom, collide}
+use Rattle.world_parts.proofs.Collision.{true_of}
+use Rattle.world_parts.proofs.Sharing.{atom_of_collide}
+use Rattle.op_meaning.specs.Footprint.{footprint}
+use Rattle.foot_print.specs.Replayed.{replayed}
+use Rattle.wave_pick.specs.Lawful.{lawful}
+use Rattle.wave_pick.specs.Rounds.{state_after, NoneCollide}
+
+unless : (b : Bool) → (T b → ⊥) → b ≡ false
+unless true h = absurd (h tt)
+unless false h = refl
+
+-- Footprints that are apart don't collide.
+pub apart_free : (t : Trace) (f g : Footprint) → Apart (replayed t) f g → collide f g ≡ false
+apart_free t f g h = unless (collide f g) (λ c. met (atom_of_collide f g c))
+  where
+    clash : (b : Bool) → b ≡ false → T b → ⊥
+    clash true e x = (cc)
+    clash false e x = x
+
+    met : (a : Atom) × (T (has_atom f a)) × (T (has_atom g a)) × ((T (writes_atom f a)) ⊎ (T (writes_atom g a))) → ⊥
+    met m = by m.3
+      where
+        by : (T (writes_atom f m.0)) ⊎ (T (writes_atom g m.0)) → ⊥
+        by (inl w) = clash (has_atom g m.0) (h.0 m.0 (true_of _ w)) m.2
+        by (inr w) = clash (has_atom f m.0) (h.1 m.0 (true_of _ w)) m.1
+
+pub none_collide : (t : Trace) → IsSpelled t → NoneCollide t
+none_collide t spelled window r j k hj hk ne =
+    let s = (state_after t window r).world in
+    apart_free t (footprint t j s) (footprint t k s) ((rounds_gathered_lem (replayed t) (lawful t spelled) (places t) window r).1.apart j k hj hk ne)

@@ -1,0 +1,143 @@
+//! Footprints and reaches of places, and which of them collide.
+ghost use Rattle.trace_format.specs.Text.{IsSpelled};
+
+use crate::text::{Submitted, make_directory, read, remove_directory, trace_of, write};
+use chain_plan::Plan;
+use foot_print::{foot, reach};
+use std::alloc::{AllocError, Global};
+use std::test::Fail;
+use trace_format::Trace;
+use world_parts::{Footprint, Item, World, collide};
+
+/// Whether a footprint writes an item.
+fn is_written(alloc: Global, footprint: &Footprint, item: Item) -> Result<bool, AllocError> {
+    let mut reader = Footprint::new(alloc);
+    reader.reads(item)?;
+    Ok(collide(footprint, &reader))
+}
+
+/// Whether a footprint that writes one item collides with one that reads another.
+fn meet(alloc: Global, written: Item, read: Item) -> Result<bool, AllocError> {
+    let mut writer = Footprint::new(alloc);
+    writer.writes(written)?;
+    is_written(alloc, &writer, read)
+}
+
+#[test]
+fn ranges_that_share_a_byte_collide(rt: HostRuntime) -> Result<(), Fail> {
+    for (low, high, want) in [
+        (0, 10, false),
+        (20, 30, false),
+        (12, 12, false),
+        (0, 11, true),
+        (19, 30, true),
+    ] {
+        let met = meet(
+            rt.alloc(),
+            Item::Bytes(7, 10, 20),
+            Item::Bytes(7, low, high),
+        )?;
+        assert_eq!(rt; met, want);
+    }
+    Ok(())
+}
+
+/// Two entries, and whether the footprints of their places collide.
+#[derive(Clone, Copy)]
+struct Pair<'a> {
+    one: Submitted<'a>,
+    other: Submitted<'a>,
+    collide: bool,
+}
+
+/// The footprint of each place, in the world that the trace starts with.
+fn feet(alloc: Global, trace: &Trace) -> Result<Vec<Footprint>, Fail>
+    requires { IsSpelled trace.now }
+{
+    let plan = Plan::of(alloc, trace)?;
+    let world = World::of(alloc, trace)?;
+    let mut feet = Vec::new(alloc);
+    for place in 0..trace.places() {
+        feet.push(foot(alloc, place, trace, &plan, &world)?)?;
+    }
+    Ok(feet)
+}
+
+fn collides(alloc: Global, pair: &Pair<'_>) -> Result<bool, Fail> {
+    let trace = trace_of(alloc, &[pair.one, pair.other])?;
+    let feet = feet(alloc, &trace)?;
+    match feet.as_slice() {
+        [one, other] => Ok(collide(one, other)),
+        _ => Err(Fail::from("two places")),
+    }
+}
+
+/// The number of the first pair that answers otherwise.
+fn first_wrong(alloc: Global, pairs: &[Pair<'_>]) -> Result<Option<usize>, Fail> {
+    for (number, pair) in pairs.iter().enumerate() {
+        if collides(alloc, pair)? != pair.collide {
+            return Ok(Some(number));
+        }
+    }
+    Ok(None)
+}
+
+fn apart<'a>(one: Submitted<'a>, other: Submitted<'a>) -> Pair<'a> {
+    Pair {
+        one,
+        other,
+        collide: false,
+    }
+}
+
+fn together<'a>(one: Submitted<'a>, other: Submitted<'a>) -> Pair<'a> {
+    Pair {
+        one,
+        other,
+        collide: true,
+    }
+}
+
+#[test]
+fn places_collide_on_what_one_writes(rt: HostRuntime) -> Result<(), Fail> {
+    let pairs = [
+        apart(write(0, 0, b"abcd"), write(0, 4, b"efgh")),
+        together(write(0, 0, b"abcd"), read(0, 2, 4)),
+        apart(read(0, 2, 4), read(0, 0, 3)),
+        apart(read(0, 4, 4), write(0, 0, b"abcd")),
+        together(remove_directory(b"/e"), make_directory(b"/e/x")),
+        together(make_directory(b"/a"), make_directory(b"/b")),
+        apart(make_directory(b"/a"), make_directory(b"/e/x")),
+        apart(make_directory(b"/a"), write(0, 0, b"abcd")),
+    ];
+    assert_eq!(rt; first_wrong(rt.alloc(), &pairs)?, None);
+    Ok(())
+}
+
+/// The reach of a read of the empty slot, behind earlier reaches.
+fn reached(alloc: Global, earlier: &[Footprint]) -> Result<Footprint, Fail> {
+    let trace = trace_of(alloc, &[read(1, 0, 4)])?;
+    if trace.places() == 0 {
+        return Err(Fail::from("one place"));
+    }
+    let plan = Plan::of(alloc, &trace)?;
+    let world = World::of(alloc, &trace)?;
+    Ok(reach(alloc, 0, &trace, &plan, &world, earlier)?)
+}
+
+#[test]
+fn a_read_of_a_slot_that_may_be_filled_reaches_all_bytes(rt: HostRuntime) -> Result<(), Fail> {
+    let known = reached(rt.alloc(), &[])?;
+    assert_eq!(rt;
+        is_written(rt.alloc(), &known, Item::Bytes(2, 0, 1))?,
+        false
+    );
+    let mut filling = Footprint::new(rt.alloc());
+    filling.writes(Item::Slot(0, 1))?;
+    let unknown = reached(rt.alloc(), &[filling])?;
+    assert_eq!(rt;
+        is_written(rt.alloc(), &unknown, Item::Bytes(2, 0, 1))?,
+        true
+    );
+    Ok(())
+}

@@ -1,0 +1,119 @@
+//! The traces of the tests.
+ghost use Rattle.std.specs.Prelude.{IfOk};
+ghost use Rattle.trace_format.specs.Text.{IsSpelled};
+
+use sqe_codec::{FIXED_FILE, Sqe, pack};
+use std::alloc::Global;
+use std::test::Fail;
+use trace_format::{Trace, read_trace};
+
+// The opcodes and flags, as `linux/io_uring.h` and `linux/fcntl.h` have them.
+const READ: u8 = 22;
+
+const WRITE: u8 = 23;
+
+const UNLINKAT: u8 = 36;
+
+const MKDIRAT: u8 = 37;
+
+const AT_REMOVEDIR: u32 = 0x200;
+
+const AT_FDCWD: i32 = -100;
+
+/// An entry with nothing set: a NOP.
+const BLANK: Sqe = Sqe {
+    opcode: 0,
+    flags: 0,
+    ioprio: 0,
+    fd: 0,
+    off: 0,
+    addr: 0,
+    len: 0,
+    op_flags: 0,
+    user_data: 0,
+    buf_index: 0,
+    personality: 0,
+    file_index: 0,
+    addr3: 0,
+    last: 0,
+};
+
+/// A submitted entry, and the bytes beside it.
+#[derive(Clone, Copy)]
+pub(crate) struct Submitted<'a> {
+    sqe: Sqe,
+    side: &'a [u8],
+}
+
+/// A read of `len` bytes of a registered file.
+pub(crate) fn read(slot: i32, off: u64, len: u32) -> Submitted<'static> {
+    let sqe = Sqe {
+        opcode: READ,
+        flags: (FIXED_FILE & 0xff) as u8,
+        fd: slot,
+        off,
+        len,
+        ..BLANK
+    };
+    Submitted { sqe, side: &[] }
+}
+
+/// A write of four bytes into a registered file.
+pub(crate) fn write(slot: i32, off: u64, bytes: &[u8; 4]) -> Submitted<'_> {
+    let sqe = Sqe {
+        opcode: WRITE,
+        flags: (FIXED_FILE & 0xff) as u8,
+        fd: slot,
+        off,
+        len: 4,
+        ..BLANK
+    };
+    Submitted { sqe, side: bytes }
+}
+
+/// Makes a directory.
+pub(crate) fn make_directory(path: &[u8]) -> Submitted<'_> {
+    let sqe = Sqe {
+        opcode: MKDIRAT,
+        fd: AT_FDCWD,
+        ..BLANK
+    };
+    Submitted { sqe, side: path }
+}
+
+/// Removes a directory.
+pub(crate) fn remove_directory(path: &[u8]) -> Submitted<'_> {
+    let sqe = Sqe {
+        opcode: UNLINKAT,
+        fd: AT_FDCWD,
+        op_flags: AT_REMOVEDIR,
+        ..BLANK
+    };
+    Submitted { sqe, side: path }
+}
+
+/// The directory `/d`, node 1; the file `/d/f`, node 2, of ten bytes; the file `/g` and `/d.x`, node 3, which
+/// is longer than its stored bytes; the directory `/e`, node 5. A ring with the first file in slot 0, none
+/// in slot 1, the second file in slot 2, and a buffer of 16 bytes. A record with these entries.
+pub(crate) fn trace_of(alloc: Global, entries: &[Submitted<'_>]) -> Result<Trace, Fail>
+    ensures { IfOk result (λ trace. IsSpelled trace) }
+{
+    let mut text = Vec::from_slice(alloc, b"URINGTRC")?;
+    for number in [1u32, 5, 2, 1, 1, 0] {
+        text.extend_from_slice(&number.to_le_bytes())?;
+    }
+    text.extend_from_slice(b"\x01\x02\0/d")?;
+    text.extend_from_slice(b"\x02\x04\0/d/f\x0a\0\0\0\0\0\0\0\x0a\0\0\x000123456789")?;
+    text.extend_from_slice(b"\x02\x02\0/g\x06\0\0\0\0\0\0\0\x03\0\0\0xyz")?;
+    text.extend_from_slice(b"\x03\x04\0/d.x\x03\0\0\0\x01\x02\0/e")?;
+    text.extend_from_slice(b"\x02\0\0\0\x02\0\0\0\0\0\0\0\0\0\x03\0\0\0\0\0\x03\0\0\0\0\0\0\0")?;
+    text.extend_from_slice(b"\x03\0\x01\0\0\0\0\0\0\0\x02\0\0\0")?;
+    text.extend_from_slice(b"\x01\0\0\x10\0\0\0\0\0\0\x10\0\0\0\x01\0")?;
+    text.extend_from_slice(&(entries.len() as u64).to_le_bytes()[..2])?;
+    for entry in entries {
+        text.extend_from_slice(&pack(&entry.sqe))?;
+        text.extend_from_slice(&(entry.side.len() as u64).to_le_bytes()[..4])?;
+        text.extend_from_slice(entry.side)?;
+    }
+    Ok(read_trace(alloc, &text)?)
+}

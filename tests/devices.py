@@ -1,0 +1,78 @@
+"""Devices that fail: each read and each write fails, is interrupted, would block, moves one byte or none."""
+import os
+from functools import partial
+from typing import List
+
+from harness import EXAMPLES, Answer, Job, Outcome, Program, Words, fault, first, refused, shown, skipped, spoken
+from shims import Shim
+
+TRACES = ("read_four_bytes", "open_write_close_chain_then_empty_slot", "fallocate_and_ftruncate_tests", "side_bytes_of_read")
+MODES = (["serial"], ["serial", "--sums"], ["check"], ["run"], ["compare"])
+WORDS_ALONE: List[Words] = [["--help"], ["run", "--help"], ["serial", "extra"], ["run", "--workers", "65"], ["serial", b"\xff"]]
+FAILURES = ("fail", "interrupt", "block", "zero")
+INPUT, OUTPUT, ERRORS = 0, 1, 2
+# Where each call moves a byte, every call is changed in these, and each STEP-th in the others.
+WHOLE = ((["serial"], INPUT), (["serial"], OUTPUT), (["run"], INPUT), (["check"], OUTPUT), (["compare"], OUTPUT))
+STEP = 7
+
+
+def changed(calls: int, is_whole: bool) -> List[int]:
+    """Which calls are changed, of so many; one more is not met."""
+    if is_whole:
+        return list(range(1, calls + 2))
+    return sorted({*range(1, calls + 2, STEP), *range(1, min(calls, 3) + 1), *range(max(1, calls - 2), calls + 2)})
+
+
+def allowed(on: int, how: str, at: int, is_byte: bool, calls: int, is_help: bool, wanted: Answer, given: int) -> List[Answer]:
+    """What a run may answer of which the call numbered `at`, of so many, is changed; `given` is the size of the input."""
+    if at > calls or how == "short":
+        return [wanted]
+    moved = at - 1 if is_byte else 0
+    if on == INPUT and how != "zero":
+        return [fault("read")]
+    if on == INPUT:
+        # the input ends there
+        taken = moved if is_byte else given * (at > 1)
+        return [wanted if taken == given else refused("Short at {}".format(taken))]
+    if on == OUTPUT:
+        lost = Answer(3, wanted.output[:moved], b"fault: write\n")
+    else:
+        lost = wanted._replace(errors=wanted.errors[:moved])
+    # (where help and usage are printed, an interrupted call is made again)
+    return [lost, wanted] if how == "interrupt" and (is_help or on == ERRORS) else [lost]
+
+
+def swept(shim: Shim, program: Program, words: Words, trace: str, on: int, is_byte: bool) -> List[Outcome]:
+    """Calls on one descriptor changed in turn, in each way; with is_byte each call moves a byte."""
+    file = os.path.join(EXAMPLES, trace + ".trace") if trace else None
+    given = os.path.getsize(file) if file else 0
+    wanted = program.run(words, file)
+    undisturbed, (calls,) = shim.run(program, words, file, on=str(on), byte=int(is_byte))
+    faults, runs = [], 0
+    if undisturbed != wanted:
+        faults.append("undisturbed: {}".format(shown(undisturbed)))
+    is_whole = not is_byte or trace == TRACES[0] and (words, on) in WHOLE
+    for how in (*FAILURES, *([] if is_byte else ["short"])) if calls else ():
+        for at in changed(calls, is_whole):
+            got, _ = shim.run(program, words, file, on=str(on), how=how, at=at, byte=int(is_byte))
+            runs += 1
+            answers = allowed(on, how, at, is_byte, calls, "--help" in words, wanted, given)
+            # (a front of a trace that is refused may be refused for the same fault)
+            answers += [wanted] if how == "zero" and on == INPUT and wanted.status == 1 else []
+            if got not in answers:
+                faults.append("{} at call {}: {}".format(how, at, shown(got)))
+    what = ("standard input", "standard output", "standard error")[on]
+    how = "{} fails{} ({} runs of {} calls)".format(what, ", a byte a call" if is_byte else "", runs, calls)
+    return [Outcome("{}: {} {} by {}".format(how, spoken(words), trace, program.compiler), first(faults))]
+
+
+def jobs(programs: List[Program]) -> List[Job]:
+    shim = Shim("device", 1)
+    lacking = shim.lacking()
+    if lacking:
+        return [partial(skipped, "failing devices", lacking)]
+    whole, *others = programs
+    cases = [(whole, words, trace, on) for words in MODES for trace in TRACES for on in (INPUT, OUTPUT, ERRORS)]
+    cases += [(other, words, TRACES[0], on) for other in others for words in MODES for on in (INPUT, OUTPUT)]
+    cases += [(program, words, "", on) for program in programs for words in WORDS_ALONE for on in (OUTPUT, ERRORS)]
+    return [partial(swept, shim, *case, is_byte) for case in cases for is_byte in (False, True)]

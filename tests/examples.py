@@ -1,0 +1,71 @@
+"""Every trace of examples/ through the built programs, against the answers that stand beside it."""
+import os
+from functools import partial
+from typing import Iterable, List, Tuple
+
+from harness import EXAMPLES, Answer, Job, Outcome, Program, difference, read, spoken
+
+WORKERS = (1, 2, 4, 64)
+WINDOWS = (1, 2, 64, 4096)
+# What the second program is run with, beside serial, check and compare.
+FEW_PAIRS = ((2, 2), (4, 64))
+ENDINGS = (".trace", ".report", ".sums", ".check", ".rounds", ".refused")
+
+
+def names() -> List[str]:
+    """The examples, by their paths in examples/ without the ending."""
+    found = []
+    for at, folders, files in os.walk(EXAMPLES):
+        folders.sort()
+        found += [os.path.relpath(os.path.join(at, file[:-6]), EXAMPLES) for file in sorted(files) if file.endswith(".trace")]
+    return found
+
+
+def commands(is_first: bool) -> Iterable[Tuple[List[str], str]]:
+    """The words to run an example with, and the ending of the file that has the answer; for `compare` there is none."""
+    yield ["serial"], ".report"
+    yield ["serial", "--sums"], ".sums"
+    yield ["check"], ".check"
+    pairs = [(workers, window) for workers in WORKERS for window in WINDOWS] if is_first else FEW_PAIRS
+    for workers, window in pairs:
+        yield ["run", "--workers", str(workers), "--window", str(window)], ".report"
+    yield ["run", "--sums"], ".sums"
+    yield ["run"], ".report"
+    yield ["compare"], ""
+    yield ["compare", "--workers", "2", "--window", "4"], ""
+
+
+def tried(program: Program, name: str, is_first: bool) -> List[Outcome]:
+    """All runs of one example by one program."""
+    trace = os.path.join(EXAMPLES, name + ".trace")
+    is_refused = os.path.exists(os.path.join(EXAMPLES, name + ".refused"))
+    outcomes = []
+    for words, ending in commands(is_first):
+        label = "{} {} by {}".format(name, spoken(words), program.compiler)
+        try:
+            if is_refused:
+                wanted = Answer(1, b"", read(name + ".refused"))
+            else:
+                wanted = Answer(0, read(name + ending) if ending else b"equal\n", b"")
+        except FileNotFoundError:
+            outcomes.append(Outcome(label, "{}{} is missing in examples/".format(name, ending)))
+            continue
+        outcomes.append(Outcome(label, difference(program.run(words, trace), wanted)))
+    return outcomes
+
+
+def strays() -> List[Outcome]:
+    """Whether each answer in examples/ belongs to a trace."""
+    outcomes = [] if names() else [Outcome("examples", "there is no trace in examples/")]
+    for at, _, files in os.walk(EXAMPLES):
+        for file in sorted(files):
+            name, ending = os.path.splitext(os.path.join(at, file))
+            if ending in ENDINGS and not os.path.exists(name + ".trace"):
+                outcomes.append(Outcome(os.path.relpath(name + ending, EXAMPLES), "it belongs to no trace"))
+    return outcomes
+
+
+def jobs(programs: List[Program]) -> List[Job]:
+    found = names()
+    each = [partial(tried, program, name, program is programs[0]) for program in programs for name in found]
+    return [strays, *each]

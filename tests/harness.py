@@ -1,0 +1,180 @@
+"""Runs a built program, and counts what passes."""
+import os
+import subprocess
+import tempfile
+import threading
+from concurrent.futures import ThreadPoolExecutor
+from typing import Callable, Dict, List, NamedTuple, Optional, Sequence, Union
+
+TOP = os.path.dirname(os.path.dirname(os.path.abspath(__file__)))
+EXAMPLES = os.path.join(TOP, "examples")
+BUILT = os.path.join(TOP, "crates", "uring_replay", "out", "uring_replay")
+# A run that has not ended by then hangs.
+SECONDS = 120
+
+
+class Answer(NamedTuple):
+    """How a run of the program ended, and what it wrote."""
+
+    status: int
+    output: bytes
+    errors: bytes
+
+
+class Outcome(NamedTuple):
+    """A test: its name, and what is wrong, or why it was skipped."""
+
+    name: str
+    fault: Optional[str] = None
+    skipped: Optional[str] = None
+
+
+Job = Callable[[], List[Outcome]]
+Words = Sequence[Union[str, bytes]]
+Input = Union[bytes, str, None]
+
+
+class Program(NamedTuple):
+    """A built program, and which compiler built it."""
+
+    file: str
+    compiler: str
+
+    def run(self, words: Words, given: Input, environment: Optional[Dict[str, str]] = None, shell: str = "") -> Answer:
+        """Runs the program on an input: bytes, or the path of a file. `shell` is what a shell does in its place,
+        with "$@" for the program and its words."""
+        command = [self.file, *words]
+        environment = environment or {"PATH": os.environ.get("PATH", os.defpath)}
+        if shell:
+            command = ["/bin/sh", "-c", shell, "sh", *command]
+        with tempfile.TemporaryFile() as output, tempfile.TemporaryFile() as errors, opened(given) as source:
+            started = subprocess.Popen(command, stdin=source, stdout=output, stderr=errors, env=environment, close_fds=False)
+            status = ended(started)
+            output.seek(0)
+            errors.seek(0)
+            return Answer(status, output.read(), errors.read())
+
+
+RUNS = [0]
+
+
+def ended(started: subprocess.Popen) -> int:
+    """The status of a run, less than 0 where a signal ended it, as SIGKILL where it hung."""
+    RUNS[0] += 1
+    guard = threading.Timer(SECONDS, started.kill)
+    guard.start()
+    try:
+        return started.wait()
+    finally:
+        guard.cancel()
+
+
+def opened(given: Input):
+    """The input as an open file."""
+    if isinstance(given, str):
+        return open(given, "rb")
+    file = tempfile.TemporaryFile()
+    file.write(given or b"")
+    file.seek(0)
+    return file
+
+
+def spoken(words: Words) -> str:
+    return " ".join(word if isinstance(word, str) else repr(word)[2:-1] for word in words) or "(no words)"
+
+
+def shown(answer: Answer) -> str:
+    """An answer in one line."""
+    return "status {}, output {}, errors {}".format(answer.status, short(answer.output), short(answer.errors))
+
+
+def short(text: bytes) -> str:
+    return repr(text[:120])[1:] + (" and {} more bytes".format(len(text) - 120) if len(text) > 120 else "")
+
+
+def first(faults: List[str]) -> Optional[str]:
+    """The first faults of a sweep in one line, or none where there are none."""
+    return "; ".join([*faults[:3], *(["and {} more".format(len(faults) - 3)] if len(faults) > 3 else [])]) or None
+
+
+def difference(got: Answer, wanted: Answer) -> Optional[str]:
+    """What is wrong with an answer, if anything is."""
+    if got == wanted:
+        return None
+    if got.status == wanted.status and got.errors == wanted.errors:
+        pairs = zip(got.output, wanted.output)
+        at = next((at for at, (one, other) in enumerate(pairs) if one != other), min(len(got.output), len(wanted.output)))
+        line = wanted.output.count(b"\n", 0, at) + 1
+        return "the output differs at byte {}, line {}: {}, wanted {}".format(at, line, short(got.output[at:]), short(wanted.output[at:]))
+    return "{}; wanted {}".format(shown(got), shown(wanted))
+
+
+def refused(line: str) -> Answer:
+    """The answer for a trace that is refused."""
+    return Answer(1, b"", "trace refused: {}\n".format(line).encode())
+
+
+def fault(cause: str) -> Answer:
+    """The answer where something failed that is no matter of the trace."""
+    return Answer(3, b"", "fault: {}\n".format(cause).encode())
+
+
+def read(*names: str) -> bytes:
+    with open(os.path.join(EXAMPLES, *names), "rb") as file:
+        return file.read()
+
+
+def processors() -> int:
+    return len(os.sched_getaffinity(0))
+
+
+class Count:
+    """How many tests passed, failed and were skipped."""
+
+    def __init__(self) -> None:
+        self.passed = 0
+        self.failed = 0
+        self.skipped = 0
+
+    def add(self, outcome: Outcome) -> None:
+        if outcome.fault is not None:
+            self.failed += 1
+            say("FAILED: {}: {}".format(outcome.name, outcome.fault))
+        elif outcome.skipped is not None:
+            self.skipped += 1
+            say("skipped: {}: {}".format(outcome.name, outcome.skipped))
+        else:
+            self.passed += 1
+
+    def run(self, jobs: List[Job]) -> None:
+        """Runs jobs side by side, one a processor."""
+        with ThreadPoolExecutor(processors()) as pool:
+            for outcomes in pool.map(guarded, jobs):
+                for outcome in outcomes:
+                    self.add(outcome)
+
+    def join(self, other: "Count") -> None:
+        self.passed += other.passed
+        self.failed += other.failed
+        self.skipped += other.skipped
+
+    def line(self) -> str:
+        return "{} passed, {} failed".format(self.passed, self.failed) + (", {} skipped".format(self.skipped) if self.skipped else "")
+
+
+def skipped(name: str, why: str) -> List[Outcome]:
+    return [Outcome(name, skipped=why)]
+
+
+def guarded(job: Job) -> List[Outcome]:
+    """What a job gives, or that it failed."""
+    try:
+        return job()
+    except Exception as error:
+        given = getattr(job, "args", ())
+        name = getattr(getattr(job, "func", job), "__name__", "a test")
+        return [Outcome("{} {}".format(name, repr(given)[:200]), "the test itself failed: {!r}".format(error))]
+
+
+def say(text: str) -> None:
+    print(text, flush=True)

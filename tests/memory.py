@@ -1,0 +1,91 @@
+"""Want of memory: each growth is refused in turn, and each thread."""
+import os
+from functools import partial
+from typing import List
+
+from harness import EXAMPLES, Job, Outcome, Program, Words, fault, first, shown, skipped, spoken
+from shims import Shim
+
+TRACES = (
+    "read_four_bytes",
+    "open_write_close_chain_then_empty_slot",
+    "unresolved_slot_holds_back_a_later_write",
+    "two_written_ranges_in_one_page",
+    "rename_refusals_and_two_names_of_one_node",
+    "fixed_buffer_range_fill_and_fixed_write",
+    "vectors_short_too_many_and_written",
+    "fallocate_and_ftruncate_tests",
+    "read_only_description",
+    "side_bytes_of_read",
+)
+ROUNDS = ["--workers", "2", "--window", "4"]
+MODES = (["serial"], ["serial", "--sums"], ["check"], ["run", *ROUNDS], ["compare", *ROUNDS])
+WORDS_ALONE: List[Words] = [["serial", "extra"], ["run", "--workers", "65"], ["--help"], ["serial", "--help"], ["serial", b"\xff"]]
+WITH_THREADS = ("two_written_ranges_in_one_page", "unresolved_slot_holds_back_a_later_write", "thousand_disjoint_writes_in_one_round")
+# So many growths are each refused; of those behind them each STEP-th is.
+EACH = 300
+STEP = 7
+# Growths are not the same in number in each run with threads.
+SPARE = 6
+# The lists of the command line's words are made as large as they will be ahead of time; where that alone is refused, they
+# grow on their own.
+TRIED_AGAIN = 4
+
+
+def growths(count: int, spare: int) -> List[int]:
+    """Which growths are refused, of so many."""
+    last = count + spare
+    return sorted({*range(1, min(last, EACH) + 1), *range(EACH, last + 1, STEP), *range(max(1, count - STEP), last + 1)})
+
+
+def swept(shim: Shim, program: Program, words: Words, trace: str, is_from: bool) -> List[Outcome]:
+    """Each growth of one run refused, once or from then on: the fault is want of memory or of a thread, and nothing goes
+    out. A run that met no refusal, and one with ample memory, gives the answer."""
+    given = os.path.join(EXAMPLES, trace + ".trace") if trace else None
+    has_workers = bool(trace) and words[0] in ("run", "compare")
+    wanted = program.run(words, given)
+    ample, (count, _, _, before_read) = shim.run(program, words, given)
+    lacking = [fault("memory"), *([fault("thread")] if has_workers else [])]
+    faults, refusals, tried_again = [], 0, 0
+    if ample != wanted:
+        faults.append("with ample memory: {}".format(shown(ample)))
+    for at in growths(count, SPARE if has_workers else 1):
+        got, (_, refused, _, _) = shim.run(program, words, given, at=at, **{"from": int(is_from)})
+        refusals += refused > 0
+        is_early = refused > 0 and not is_from and at <= (before_read or count)
+        if is_early and got == wanted and tried_again < TRIED_AGAIN:
+            tried_again += 1
+        elif got not in (lacking if refused else [wanted]):
+            faults.append("growth {}: {}".format(at, shown(got)))
+    if not refusals:
+        faults.append("no growth was refused")
+    what = "each growth from the Nth on refused" if is_from else "the Nth growth refused"
+    return [Outcome("{} ({} of {} growths): {} {} by {}".format(what, refusals, count, spoken(words), trace, program.compiler), first(faults))]
+
+
+def threads(shim: Shim, program: Program, words: Words, trace: str) -> List[Outcome]:
+    """Each thread of one run refused: the fault is want of a thread, and nothing goes out."""
+    given = os.path.join(EXAMPLES, trace + ".trace")
+    asked = shim.run(program, words, given)[1][2]
+    faults: List[str] = [] if asked else ["no thread was asked for"]
+    for at in range(1, min(asked, EACH) + 1):
+        got = shim.run(program, words, given, thread=at)[0]
+        if got != fault("thread"):
+            faults.append("thread {}: {}".format(at, shown(got)))
+    return [Outcome("each of {} threads refused: {} {} by {}".format(asked, spoken(words), trace, program.compiler), first(faults))]
+
+
+def jobs(programs: List[Program]) -> List[Job]:
+    shim = Shim("refuse", 4)
+    lacking = shim.lacking()
+    if lacking:
+        return [partial(skipped, "want of memory", lacking)]
+    whole, *others = programs
+    made: List[Job] = []
+    for is_from in (False, True):
+        made += [partial(swept, shim, whole, words, trace, is_from) for words in MODES for trace in TRACES]
+        made += [partial(swept, shim, whole, words, "", is_from) for words in WORDS_ALONE]
+    made += [partial(swept, shim, other, words, TRACES[3], False) for other in others for words in MODES]
+    for words in (["run", *ROUNDS], ["compare", *ROUNDS], ["run", "--workers", "64"]):
+        made += [partial(threads, shim, program, words, trace) for program in programs for trace in WITH_THREADS]
+    return made
