@@ -1,5 +1,5 @@
 -- The parser's walk over options with their numbers, and over the words behind a subcommand.
-use Rattle.std.proofs.Common.{◌≡◌, ◌∙◌, ℕ, Bool, true, false, List, [], ◌∷◌, ◌++◌, Option, None, Some, refl, sym, ap, append_assoc}
+use Rattle.std.proofs.Common.{◌≡◌, ◌∙◌, true, false, List, [], ◌∷◌, ◌++◌, None, Some, refl, sym, ap, append_assoc}
 use Rattle.std.specs.Prelude.{◌&&◌, fold, is_some}
 use Rattle.std.specs.List.{list_all}
 use Rattle.std.specs.Str.{bytes_eq}

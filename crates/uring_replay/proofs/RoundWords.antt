@@ -1,8 +1,7 @@
 -- What the parser makes of the words of `run` and `compare`.
-use Rattle.std.proofs.Common.{◌≡◌, ◌∙◌, ℕ, Bool, true, false, List, [], ◌∷◌, Option, None, Some, codes, refl, ap}
+use Rattle.std.proofs.Common.{◌≡◌, ◌∙◌, ℕ, Bool, true, false, List, [], ◌∷◌, Some, codes, refl, ap}
 use Rattle.std.specs.Prelude.{◌&&◌, ⊤, find, pos, unwrap_or}
 use Rattle.std.specs.List.{list_all}
-use Rattle.std.specs.Fmt.{decimal}
 use Rattle.clap.specs.ValueTests.{accepts}
 use Rattle.clap.specs.Walk.{Held, Row, Rule, Text, answers_to, finished, nothing_held, walk, walk_from}
 use Rattle.clap.specs.Simple.{Shape, built, filled, label_of}

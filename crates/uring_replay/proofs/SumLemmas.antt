@@ -1,5 +1,5 @@
 -- Bytes that are summed a piece at a time, and the buffers that an image shows.
-use Rattle.std.proofs.Common.{◌≡◌, ℕ, zero, suc, ◌+◌, ◌-◌, ◌<◌, ◌≤◌, List, [], ◌∷◌, ◌++◌, All, length, take, drop, get_or, refl, sym, ap, ◌∙◌, arith, Some, Bool, true, false, T, ◌&&◌, cond}
+use Rattle.std.proofs.Common.{◌≡◌, ℕ, zero, suc, ◌+◌, ◌-◌, ◌<◌, ◌≤◌, List, [], ◌∷◌, ◌++◌, All, length, take, get_or, refl, sym, ap, ◌∙◌, arith, Some, Bool, true, false, T, ◌&&◌, cond}
 use Rattle.std.proofs.lemmas.List.{take-append-drop, drop-take, take-take}
 use Rattle.std.proofs.lemmas.List.Elements.{All-map}
 use Rattle.std.specs.Option.{option_map}
@@ -9,8 +9,8 @@ use Rattle.std.specs.Ordering.{is_eq, is_lt, ordering_reverse}
 use Rattle.std.specs.Cmp.{IsTotalOrder, tied_itself}
 use Rattle.std.specs.FinMap.Entries.{find, is_sorted, below_all}
 use Rattle.extent_bytes.specs.Bytes.{range_of}
-use Rattle.finite_maps.specs.Table.{pair_cmp, pair_cmp_total}
-use Rattle.world_parts.specs.World.{World, buffer}
+use Rattle.finite_maps.specs.Table.{pair_cmp_total}
+use Rattle.world_parts.specs.World.{World}
 use Rattle.world_parts.specs.Image.{image_of, buffer_entry}
 use Rattle.uring_replay.specs.Report.{IsLong}
 

@@ -25,7 +25,7 @@ use Rattle.uring_replay.specs.declared.words.Mode.TheVariants.{Serial, Run, Comp
 use Rattle.uring_replay.specs.declared.words.Options.{Options}
 use Rattle.uring_replay.specs.declared.words.UsageKind.{UsageKind}
 use Rattle.uring_replay.specs.declared.words.UsageKind.TheVariants.{Memory}
-use Rattle.uring_replay.specs.Words.{AreFound, AreRoundOptions, AskFor, AskForHelp, AskForMode, HasFlag, HasNumbers, IsNumberOption, flag_text, kind_meant, replayer, sums_words, text_in}
+use Rattle.uring_replay.specs.Words.{AreFound, AreRoundOptions, AskFor, AskForHelp, AskForMode, HasFlag, HasNumbers, flag_text, kind_meant, replayer, sums_words, text_in}
 use Rattle.uring_replay.proofs.NumberWords.{accepted, number_is_value}
 use Rattle.uring_replay.proofs.OptionWalk.{at, level_by_parts, stopped_at, stopped_passes, stopped_walk, takes_by_parts}
 use Rattle.uring_replay.proofs.RoundWords.{HasSums, IsTaken, Leaves, compare_both, compare_none, compare_window, compare_workers, leaf, run_both, run_none, run_window, run_workers}
