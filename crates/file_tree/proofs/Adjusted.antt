@@ -1,12 +1,10 @@
 -- A value of a tree of entries that is changed through what `get_mut` lent.
-use Rattle.std.proofs.Common.{◌≡◌, ℕ, Some, sym, ◌∙◌, ap, refl}
-use Rattle.std.specs.Prelude.{cond, Option, None, option_map}
+use Rattle.std.proofs.Common.{◌≡◌, ℕ, Some, sym, ◌∙◌, ap}
+use Rattle.std.specs.Prelude.{None}
 use Rattle.std.specs.Map.{lookup}
-use Rattle.std.specs.declared.cmp.Ordering.{Ordering}
-use Rattle.std.specs.declared.cmp.Ordering.TheVariants.{Less, Equal, Greater}
-use Rattle.std.specs.Ordering.{is_eq, nat_cmp}
+use Rattle.std.specs.Ordering.{nat_cmp}
 use Rattle.std.specs.BTreeMap.{BTreeMap, WritesThrough, is_at}
-use Rattle.finite_maps.specs.Table.{Table, IsKeyOrder, get, assign, adjust_number, number_keys, get-assign, same_table}
+use Rattle.finite_maps.specs.Table.{Table, adjust_number, number_keys}
 use Rattle.finite_maps.specs.Maps.{table_of}
 use Rattle.finite_maps.proofs.Maps.{absent-rewrite, rewritten_through, left_through}
 

@@ -1,4 +1,4 @@
-use Rattle.std.proofs.Common.{[], Some, ap, ◌∙◌}
+use Rattle.std.proofs.Common.{Some, ap, ◌∙◌}
 use Rattle.extent_bytes.specs.Bytes.{resized}
 use Rattle.finite_maps.specs.Table.{insert, number_keys}
 use Rattle.finite_maps.proofs.Maps.{seen-assign}

@@ -1,4 +1,4 @@
-use Rattle.std.proofs.Common.{ℕ, ap, sym, ◌∙◌, unwrap_or, ◌==◌}
+use Rattle.std.proofs.Common.{ap, sym, ◌∙◌, unwrap_or, ◌==◌}
 use Rattle.std.specs.Prelude.{Bool, Option}
 use Rattle.std.specs.Option.{option_and_then}
 use Rattle.finite_maps.specs.Table.{number_keys}

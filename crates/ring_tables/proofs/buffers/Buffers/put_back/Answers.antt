@@ -15,7 +15,7 @@ returns-in_default-clause-ok c =
 pub put_back-requires : goal.put_back-requires
 put_back-requires c =
     let within : c.args.lo + length c.args.part ≤ length c.in-Some.buffer.now =
-        subst (λ xs. c.args.lo + length c.args.part ≤ length xs) (bytes_at-found c.self.inside.entries.entries c.args.self.now c.args.ring c.args.index c.in-Some.buffer.now c.self.view_is c.in-Some.ensures.value) c.requires in
+    subst (λ xs. c.args.lo + length c.args.part ≤ length xs) (bytes_at-found c.self.inside.entries.entries c.args.self.now c.args.ring c.args.index c.in-Some.buffer.now c.self.view_is c.in-Some.ensures.value) c.requires in
     omega arith
 
 pub returns-clause-ok : goal.returns-clause-ok
