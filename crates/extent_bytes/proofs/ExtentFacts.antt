@@ -9,7 +9,7 @@ use Rattle.extent_bytes.specs.Pages.{PageMap, page_of, byte_at, bytes_of, SameBy
 use Rattle.extent_bytes.proofs.Outcomes.{some_or_none}
 use Rattle.extent_bytes.proofs.Lists.{get_or-overwritten_above, get_or-overwritten_below, get_or-overwritten_inside, get_or-part, length-overwritten_within, length-part, zeroed_within}
 use Rattle.extent_bytes.proofs.Lengths.{length-overwritten}
-use Rattle.extent_bytes.proofs.PageFacts.{byte_at-none}
+use Rattle.extent_bytes.proofs.PageFacts.{byte_at-empty, byte_at-none}
 
 pub length-bytes_of : (m : PageMap) (s n : ℕ) → length (bytes_of m s n) ≡ n
 unfolding bytes_of
@@ -72,6 +72,17 @@ bytes_of-zeroed m n s len lo hi h k o =
     (cases_lt i hi))
     (cases_lt i lo))
     ∙ sym (zeroed_within xs lo hi h (omega (arith, l)))
+
+-- all pages gone
+pub bytes_of-cleared : (m n : PageMap) (s len lo hi : ℕ) → lo ≡ 0 → hi ≡ len → n.entries ≡ [] → bytes_of n s len ≡ zeroed (bytes_of m s len) lo hi
+bytes_of-cleared m n s len lo hi z h e =
+    let bs : List ℕ = replicate (hi - lo) 0 in
+    let k : length bs ≡ hi - lo = length-replicate (hi - lo) 0 in
+    let xs : List ℕ = bytes_of m s len in
+    let l : length xs ≡ len = length-bytes_of m s len in
+    bytes_of-is n s len (overwritten xs lo bs) (length-overwritten_within xs lo bs (omega (arith, l, k)) ∙ l)
+    (λ i b. byte_at-empty n e (s + i) ∙ sym (get_or-overwritten_inside xs lo bs i (omega arith) (omega (arith, k)) ∙ get_or-replicate (hi - lo) (i - lo) 0 0 (omega arith)))
+    ∙ sym (zeroed_within xs lo hi (omega arith) (omega (arith, l)))
 
 -- a longer list
 pub bytes_of-extended : (m n : PageMap) (s len to : ℕ) → len ≤ to → Overlaid m n (s + len) (s + to) (λ _. 0) → bytes_of n s to ≡ resized (bytes_of m s len) to

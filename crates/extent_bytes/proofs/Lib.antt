@@ -1,5 +1,6 @@
 pub mod Outcomes
 pub mod Lengths
+pub mod Kept
 pub mod Lists
 pub mod Whole
 pub mod PageFacts

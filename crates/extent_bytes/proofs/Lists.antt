@@ -82,3 +82,9 @@ overwritten_none xs at bs e h =
     (λ (k : i < at). get_or-overwritten_below xs at bs i k)
     (λ (k : at ≤ i). get_or-overwritten_above xs at bs i (omega arith))
     (cases_lt i at))
+
+-- a write over the whole list
+pub overwritten_all : (xs : List ℕ) (at : ℕ) (bs : List ℕ) → at ≡ 0 → length bs ≡ length xs → overwritten xs at bs ≡ bs
+overwritten_all xs at bs z e =
+    same_number_lists (overwritten xs at bs) bs (length-overwritten_within xs at bs (omega arith) ∙ sym e)
+    (λ i l. get_or-overwritten_inside xs at bs i (omega arith) (let n = length-overwritten_within xs at bs (omega arith) in omega (arith, n)) ∙ ap (λ k. get_or bs k 0) (omega arith))

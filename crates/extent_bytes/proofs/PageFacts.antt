@@ -1,13 +1,14 @@
 -- What a change of one page does to the bytes of a map.
-use Rattle.std.proofs.Common.{◌≡◌, ℕ, ◌+◌, ◌*◌, ◌/◌, ◌%◌, ◌<◌, ◌≢◌, List, get_or, arith, sym, ◌∙◌, ap, ⊎_elim, nat_cmp, Some, None}
+use Rattle.std.proofs.Common.{◌≡◌, ℕ, ◌+◌, ◌-◌, ◌*◌, ◌/◌, ◌%◌, ◌<◌, ◌≤◌, ◌≢◌, List, length, get_or, arith, refl, sym, ◌∙◌, ap, ⊎_elim, nat_cmp, Some, None}
 use Rattle.std.specs.Prelude.{Option}
 use Rattle.std.specs.BTreeMap.{UpdatesBy, WritesThrough, is_at}
 use Rattle.std.specs.Map.{lookup}
-use Rattle.std.specs.Prelude.{[]}
+use Rattle.std.specs.Prelude.{[], All}
 use Rattle.std.proofs.lemmas.Bool.{cases_eq}
 use Rattle.std.proofs.lemmas.List.{get_or-replicate}
+use Rattle.std.proofs.lemmas.List.Elements.{All-get_or}
 use Rattle.std.proofs.lemmas.Grind.{common_steps}
-use Rattle.extent_bytes.specs.Pages.{PageMap, page_of, page_byte, byte_at, blank_page, SameBytes}
+use Rattle.extent_bytes.specs.Pages.{PageMap, page_of, page_byte, byte_at, blank_page, Overlaid, SameBytes}
 use Rattle.extent_bytes.proofs.Outcomes.{some_is}
 
 -- another number's page stays
@@ -78,3 +79,13 @@ byte_at-none m p e = ap (λ o. page_byte o (p % 4096)) e
 pub byte_at-stored : (m : PageMap) (p k : ℕ) (page : List ℕ) → page_of m k ≡ Some page → p / 4096 ≡ k → byte_at m p ≡ get_or page (p % 4096) 0
 unfolding byte_at
 byte_at-stored m p k page e d = ap (λ q. page_byte (page_of m q) (p % 4096)) d ∙ ap (λ o. page_byte o (p % 4096)) e
+
+-- zeros written where there is no page
+pub overlaid-blank : (m : PageMap) (k at : ℕ) (bs : List ℕ) → at + length bs ≤ 4096 → page_of m k ≡ None → All (λ b. b ≡ 0) bs
+    → Overlaid m m (k * 4096 + at) (k * 4096 + (at + length bs)) (λ p. get_or bs (p - (k * 4096 + at)) 0)
+overlaid-blank m k at bs bound e all = record {
+  below = λ p h. refl;
+  inside = λ p h l. let d : p / 4096 ≡ k = omega arith in
+      byte_at-none m p (ap (λ q. page_of m q) d ∙ e) ∙ sym (All-get_or (λ b. b ≡ 0) bs (p - (k * 4096 + at)) 0 (omega arith) all);
+  above = λ p h. refl;
+}

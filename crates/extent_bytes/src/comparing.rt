@@ -1,15 +1,9 @@
 // Bytes of two maps of pages compared. Only stored pages are looked at.
-ghost use Rattle.std.specs.Prelude.{◌≡◌, ◌+◌, ◌*◌, ◌/◌, ◌<◌, ◌≤◌, ◌^◌, ◌↔◌, length, IsTrue, All};
+ghost use Rattle.std.specs.Prelude.{◌+◌, ◌*◌, ◌/◌, ◌<◌, ◌≤◌, ◌^◌, ◌↔◌, length, IsTrue};
 ghost use Rattle.extent_bytes.specs.Pages.{HoldsAt, PageAgrees, StoredAgree};
 
-use crate::page::{PAGE_SIZE, Page};
+use crate::page::{PAGE_SIZE, Page, is_blank};
 use crate::page_map::{PAGE, Pages, next_stored};
-
-fn is_blank(bytes: &[u8]) -> bool
-    ensures { IsTrue result ↔ All (λ byte. byte ≡ 0) bytes.now }
-{
-    bytes.iter().all(|&byte| byte == 0)
-}
 
 // Whether the bytes are those of one page, from a place in it on.
 fn page_holds(pages: &Pages, number: u64, offset: usize, bytes: &[u8]) -> bool

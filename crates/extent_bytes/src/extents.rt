@@ -3,9 +3,9 @@ ghost use Rattle.std.specs.Prelude.{◌≡◌, ℕ, ◌+◌, ◌-◌, ◌≤◌,
 ghost use Rattle.extent_bytes.specs.Bytes.{overwritten, zeroed, resized, range_of};
 
 use crate::comparing::stored_agree;
-use crate::moving::{aligned, shared};
-use crate::overlaying::{overlay, write_range, zero_range};
-use crate::page_map::{PAGE, Pages, append_part, copy_bytes, discard};
+use crate::moving::aligned;
+use crate::page_map::{PAGE, append_part, copy_bytes};
+use crate::stored::Stored;
 use std::alloc::{AllocError, Global};
 use std::collections::BTreeMap;
 use std::marker::Model;
@@ -21,17 +21,18 @@ pub struct Extents {
     // Where the first byte lies in page 0.
     start: u64,
     len: u64,
-    pages: Pages,
+    stored: Stored,
     alloc: Global,
 }
 
 impl Model for Extents {
     ghost use Rattle.std.specs.Prelude.{ℕ, List, ◌≤◌, ◌<◌, ◌^◌};
+    ghost use Rattle.extent_bytes.specs.Kept.{pages_in};
     ghost use Rattle.extent_bytes.specs.Pages.{bytes_of};
 
     ghost Value = { List ℕ };
 
-    ghost view = { λ e. bytes_of e.pages e.start e.len };
+    ghost view = { λ e. bytes_of (pages_in e.stored) e.start e.len };
 
     ghost invariant = { λ e. (e.start < 4096) × (e.len ≤ 2 ^ 40) };
 }
@@ -44,7 +45,7 @@ impl Extents {
         Extents {
             start: 0,
             len: 0,
-            pages: BTreeMap::new(alloc),
+            stored: Stored::new(alloc),
             alloc,
         }
     }
@@ -64,6 +65,7 @@ impl Extents {
         ensures value { IfOk result (λ bytes. bytes.items ≡ range_of self.now lo hi) }
         ensures len { IfOk result (λ bytes. vec_len bytes ≡ hi - lo) }
     {
+        let pages = self.stored.pages();
         let end = self.start + hi;
         let mut bytes = Vec::with_capacity(self.alloc, (hi - lo) as usize)?;
         let mut at = self.start + lo;
@@ -72,7 +74,7 @@ impl Extents {
             let count = (PAGE - offset).min(end - at);
             append_part(
                 &mut bytes,
-                &self.pages,
+                pages,
                 at / PAGE,
                 offset as usize,
                 (offset + count) as usize,
@@ -82,7 +84,8 @@ impl Extents {
         Ok(bytes)
     }
 
-    /// Writes the bytes from `at` on. A gap past the end is zeros, which take no memory.
+    /// Writes the bytes from `at` on. A gap past the end is zeros, which take no memory; nor do zeros
+    /// that are written where no page is stored.
     pub fn write(&mut self, at: u64, bytes: &[u8]) -> Result<(), AllocError>
         requires { at + length bytes.now ≤ MAX_LEN }
         ensures ok { OnOk result (self.new ≡ overwritten self.old at bytes.now) }
@@ -91,7 +94,8 @@ impl Extents {
         ensures err { OnErr result (self.new ≡ self.old) }
     {
         let end = self.start + self.len;
-        write_range(&mut self.pages, self.alloc, end, self.start + at, bytes)?;
+        self.stored
+            .write_range(self.alloc, end, self.start + at, bytes)?;
         self.len = self.len.max(at + bytes.len() as u64);
         Ok(())
     }
@@ -104,12 +108,12 @@ impl Extents {
         ensures len { OnOk result (length self.new ≡ length self.old) }
         ensures err { OnErr result (self.new ≡ self.old) }
     {
-        zero_range(
-            &mut self.pages,
-            self.alloc,
-            self.start + lo,
-            self.start + hi,
-        )
+        if lo == 0 && hi == self.len {
+            self.stored = Stored::new(self.alloc);
+            return Ok(());
+        }
+        self.stored
+            .zero_range(self.alloc, self.start + lo, self.start + hi)
     }
 
     /// Cuts the list, or extends it with zeros, to `len` bytes.
@@ -121,16 +125,17 @@ impl Extents {
     {
         if self.len < len {
             let end = self.start + self.len;
-            zero_range(&mut self.pages, self.alloc, end, self.start + len)?;
+            self.stored.zero_range(self.alloc, end, self.start + len)?;
             self.len = len;
             return Ok(());
         }
+        self.stored.truncate((self.start + len).div_ceil(PAGE))?;
         self.len = len;
-        discard(&mut self.pages, (self.start + len).div_ceil(PAGE), u64::MAX);
         Ok(())
     }
 
-    /// The bytes from `lo` up to `hi` as a list of its own, which shares their pages.
+    /// The bytes from `lo` up to `hi` as a list of its own, which shares their pages, and the map of
+    /// them where they are all.
     pub fn share(&self, lo: u64, hi: u64) -> Result<Extents, AllocError>
         requires forward { lo ≤ hi }
         requires inside { hi ≤ length self.now }
@@ -142,7 +147,9 @@ impl Extents {
         Ok(Extents {
             start: from % PAGE,
             len: hi - lo,
-            pages: shared(&self.pages, self.alloc, from / PAGE, to.div_ceil(PAGE))?,
+            stored: self
+                .stored
+                .share(self.alloc, from / PAGE, to.div_ceil(PAGE))?,
             alloc: self.alloc,
         })
     }
@@ -166,7 +173,7 @@ impl Extents {
             &mut pages,
             self.alloc,
             0,
-            &self.pages,
+            self.stored.pages(),
             from / PAGE,
             start as usize,
             end as usize,
@@ -174,7 +181,7 @@ impl Extents {
         Ok(Extents {
             start,
             len: hi - lo,
-            pages,
+            stored: Stored::Own(pages),
             alloc: self.alloc,
         })
     }
@@ -194,7 +201,7 @@ impl Extents {
         Ok(part)
     }
 
-    /// Puts the bytes of `part` in place of those from `lo` on.
+    /// Puts the bytes of `part` in place of those from `lo` on. A part for the whole list is moved in.
     pub fn put_back(&mut self, lo: u64, part: Extents) -> Result<(), AllocError>
         requires { lo + length part ≤ length self.old }
         ensures ok { OnOk result (self.new ≡ overwritten self.old lo part) }
@@ -204,15 +211,20 @@ impl Extents {
         let Extents {
             start,
             len,
-            pages,
+            stored,
             alloc,
         } = part;
+        if lo == 0 && len == self.len {
+            self.start = start;
+            self.stored = stored;
+            return Ok(());
+        }
         if len == 0 {
             return Ok(());
         }
         let from = self.start + lo;
-        let patch = aligned(pages, alloc, start, start + len, from % PAGE)?;
-        overlay(&mut self.pages, self.alloc, patch, from, from + len)
+        let patch = aligned(stored.into_pages()?, alloc, start, start + len, from % PAGE)?;
+        self.stored.overlay(self.alloc, patch, from, from + len)
     }
 
     /// Whether both lists have the same bytes. It takes no memory, and only looks at stored pages.
@@ -224,15 +236,11 @@ impl Extents {
         }
         let end = self.start + self.len;
         let other_end = other.start + other.len;
-        if !stored_agree(&self.pages, self.start, end, &other.pages, other.start) {
+        let pages = self.stored.pages();
+        let others = other.stored.pages();
+        if !stored_agree(pages, self.start, end, others, other.start) {
             return false;
         }
-        stored_agree(
-            &other.pages,
-            other.start,
-            other_end,
-            &self.pages,
-            self.start,
-        )
+        stored_agree(others, other.start, other_end, pages, self.start)
     }
 }

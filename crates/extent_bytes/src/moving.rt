@@ -16,7 +16,7 @@ pub(crate) fn shared(pages: &Pages, alloc: Global, from: u64, to: u64) -> Result
     let mut part = BTreeMap::new(alloc);
     let mut at = from;
     while let Some((number, page)) = next_stored(pages, at, to) {
-        part.insert(number - from, page.share()?)?;
+        part.insert(number - from, page.clone()?)?;
         at = number + 1;
     }
     Ok(part)

@@ -44,7 +44,7 @@ fn reserve(pages: &mut Pages, number: u64, blank: &Page) -> Result<(), AllocErro
     ensures ok { OnOk result (IsSome (page_of pages.new number)) }
 {
     if !pages.contains_key(&number) {
-        pages.insert(number, blank.share()?)?;
+        pages.insert(number, blank.clone()?)?;
     }
     Ok(())
 }

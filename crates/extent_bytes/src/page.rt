@@ -1,5 +1,5 @@
 // A page of bytes. Several owners may share one, and each sees its own bytes.
-ghost use Rattle.std.specs.Prelude.{◌≡◌, ℕ, ◌+◌, ◌-◌, ◌≤◌, List, length, replicate, IfOk, OnOk, OnErr};
+ghost use Rattle.std.specs.Prelude.{◌≡◌, ℕ, ◌+◌, ◌-◌, ◌≤◌, ◌↔◌, List, length, replicate, IsTrue, All, IfOk, OnOk, OnErr};
 ghost use Rattle.extent_bytes.specs.Bytes.{overwritten};
 ghost use Rattle.extent_bytes.specs.Pages.{blank_page};
 
@@ -8,6 +8,13 @@ use std::marker::Model;
 use std::sync::Arc;
 
 pub(crate) const PAGE_SIZE: usize = 4096;
+
+// Whether all bytes are zeros.
+pub(crate) fn is_blank(bytes: &[u8]) -> bool
+    ensures { IsTrue result ↔ All (λ byte. byte ≡ 0) bytes.now }
+{
+    bytes.iter().all(|&byte| byte == 0)
+}
 
 // Writes the bytes at a place in a page.
 fn put(page: &mut [u8; PAGE_SIZE], at: usize, bytes: &[u8])
@@ -37,6 +44,17 @@ impl Model for Page {
     ghost view = { λ p. p.bytes.value };
 }
 
+impl Clone for Page {
+    ghost is_clone = { λ page copy. copy ≡ page };
+
+    // The same bytes, with one more owner.
+    fn clone(&self) -> Result<Page, AllocError> {
+        Ok(Page {
+            bytes: Arc::try_clone(&self.bytes)?,
+        })
+    }
+}
+
 impl Page {
     // A page of zeros.
     pub(crate) fn blank(alloc: Global) -> Result<Page, AllocError>
@@ -57,15 +75,6 @@ impl Page {
         Ok(page)
     }
 
-    // The same bytes, with one more owner.
-    pub(crate) fn share(&self) -> Result<Page, AllocError>
-        ensures { IfOk result (λ page. page ≡ self.now) }
-    {
-        Ok(Page {
-            bytes: Arc::try_clone(&self.bytes)?,
-        })
-    }
-
     pub(crate) fn as_slice(&self) -> &[u8]
         ensures bytes { result.now ≡ self.now }
         ensures len { length self.now ≡ PAGE_SIZE }
@@ -81,13 +90,24 @@ impl Page {
         ensures err { OnErr result (self.new ≡ self.old) }
     {
         match Arc::get_mut(&mut self.bytes) {
-            Some(page) => put(page, at, bytes),
-            None => {
-                let mut page = *self.bytes;
-                put(&mut page, at, bytes);
-                self.bytes = Arc::new(alloc, page)?;
+            Some(page) => {
+                put(page, at, bytes);
+                Ok(())
             }
+            None => self.write_copy(alloc, at, bytes),
         }
+    }
+
+    // Writes the bytes into a copy. It is a function of its own, so that a write in place has no room
+    // for a page to fill.
+    fn write_copy(&mut self, alloc: Global, at: usize, bytes: &[u8]) -> Result<(), AllocError>
+        requires { at + length bytes.now ≤ PAGE_SIZE }
+        ensures ok { OnOk result (self.new ≡ overwritten self.old at bytes.now) }
+        ensures err { OnErr result (self.new ≡ self.old) }
+    {
+        let mut page = *self.bytes;
+        put(&mut page, at, bytes);
+        self.bytes = Arc::new(alloc, page)?;
         Ok(())
     }
 
@@ -99,13 +119,24 @@ impl Page {
         ensures err { OnErr result (self.new ≡ self.old) }
     {
         match Arc::get_mut(&mut self.bytes) {
-            Some(page) => wipe(page, from, to),
-            None => {
-                let mut page = *self.bytes;
-                wipe(&mut page, from, to);
-                self.bytes = Arc::new(alloc, page)?;
+            Some(page) => {
+                wipe(page, from, to);
+                Ok(())
             }
+            None => self.clear_copy(alloc, from, to),
         }
+    }
+
+    // Makes a part of the page zeros, in a copy.
+    fn clear_copy(&mut self, alloc: Global, from: usize, to: usize) -> Result<(), AllocError>
+        requires forward { from ≤ to }
+        requires inside { to ≤ PAGE_SIZE }
+        ensures ok { OnOk result (self.new ≡ overwritten self.old from (replicate (to - from) 0)) }
+        ensures err { OnErr result (self.new ≡ self.old) }
+    {
+        let mut page = *self.bytes;
+        wipe(&mut page, from, to);
+        self.bytes = Arc::new(alloc, page)?;
         Ok(())
     }
 }

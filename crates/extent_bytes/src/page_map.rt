@@ -3,7 +3,7 @@
 ghost use Rattle.std.specs.Prelude.{◌≡◌, ℕ, ◌+◌, ◌-◌, ◌*◌, ◌<◌, ◌≤◌, ◌^◌, ◌++◌, length, vec_len, slice_index, None, Some, IsSome, IfSome, IfNone, OnOk, OnErr};
 ghost use Rattle.extent_bytes.specs.Pages.{page_of, byte_at, bytes_of, SameBytes, SameBelow, Overlaid};
 
-use crate::page::{PAGE_SIZE, Page};
+use crate::page::{PAGE_SIZE, Page, is_blank};
 use std::alloc::{AllocError, Global};
 use std::collections::BTreeMap;
 
@@ -56,7 +56,7 @@ pub(crate) fn discard(pages: &mut Pages, from: u64, to: u64)
     }
 }
 
-// Writes the bytes into one page.
+// Writes the bytes into one page. Zeros are not stored where there is no page.
 pub(crate) fn put_bytes(
     pages: &mut Pages,
     alloc: Global,
@@ -73,6 +73,9 @@ pub(crate) fn put_bytes(
     match pages.get_mut(&number) {
         Some(page) => page.write(alloc, at, bytes),
         None => {
+            if is_blank(bytes) {
+                return Ok(());
+            }
             pages.insert(number, Page::new(alloc, at, bytes)?)?;
             Ok(())
         }

@@ -9,7 +9,7 @@ ghost use Rattle.file_tree.specs.Tree as tree;
 
 use crate::node::{Kind, Node, within};
 use crate::tree::Tree;
-use extent_bytes::Extents;
+use extent_bytes::{Extents, ReadBytes};
 use std::alloc::{AllocError, Global};
 
 impl Tree {
@@ -57,6 +57,27 @@ impl Tree {
         };
         let (lo, hi) = within(bytes, lo, hi);
         bytes.read(lo, hi)
+    }
+
+    /// What [`Tree::read`] gives, as bytes that share the file's pages where they are many.
+    ///
+    /// # Errors
+    ///
+    /// Want of memory.
+    pub fn read_shared(
+        &self,
+        alloc: Global,
+        node: u32,
+        lo: u64,
+        hi: u64,
+    ) -> Result<ReadBytes, AllocError>
+        ensures { IfOk result (λ taken. taken ≡ range_of (unwrap_or (tree.bytes self.now node) []) lo hi) }
+    {
+        let Some(bytes) = self.bytes(node) else {
+            return Ok(ReadBytes::none(alloc));
+        };
+        let (lo, hi) = within(bytes, lo, hi);
+        ReadBytes::of(alloc, bytes, lo, hi)
     }
 
     /// What [`Tree::read`] gives, as a list that shares the file's pages.

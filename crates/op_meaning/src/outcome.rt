@@ -2,15 +2,15 @@
 ghost use Rattle.std.specs.Prelude.{◌≡◌, [], Ok};
 ghost use Rattle.op_meaning.specs.Outcomes.{answered};
 
+use extent_bytes::ReadBytes;
 use sqe_codec::Errno;
 use std::alloc::Global;
-use trace_format::{Blob, Series};
 
 /// What an accepted operation answers: its count, and the bytes that it read.
 #[derive(Drop)]
 pub(crate) struct Done {
     pub count: u32,
-    pub bytes: Blob,
+    pub bytes: ReadBytes,
 }
 
 /// What an operation answers: that it is done, or the error of the first test that fails.
@@ -22,7 +22,7 @@ pub(crate) fn counted(alloc: Global, count: u32) -> Outcome
 {
     Ok(Done {
         count,
-        bytes: Series::from_vec(Vec::new(alloc)),
+        bytes: ReadBytes::none(alloc),
     })
 }
 

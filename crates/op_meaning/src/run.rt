@@ -20,9 +20,10 @@ use crate::reply::Reply;
 use crate::rows::run_operation;
 use chain_plan::Role;
 use entry_checks::{Op, check};
+use extent_bytes::ReadBytes;
 use sqe_codec::{CQE_SKIP_SUCCESS, Errno, IO_HARDLINK};
 use std::alloc::{AllocError, Global};
-use trace_format::{Action, Entry, Series, Trace};
+use trace_format::{Action, Entry, Trace};
 use world_parts::{Broken, Part, State};
 
 /// The most bytes that one call moves.
@@ -257,7 +258,7 @@ fn refused(alloc: Global, error: Errno, posted: bool) -> Reply
 {
     Reply {
         res: -error.code(),
-        bytes: Series::from_vec(Vec::new(alloc)),
+        bytes: ReadBytes::none(alloc),
         posted,
     }
 }
@@ -268,7 +269,7 @@ fn silent(alloc: Global) -> Reply
 {
     Reply {
         res: 0,
-        bytes: Series::from_vec(Vec::new(alloc)),
+        bytes: ReadBytes::none(alloc),
         posted: false,
     }
 }

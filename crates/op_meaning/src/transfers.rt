@@ -2,6 +2,7 @@
 ghost use Rattle.std.specs.Prelude.{◌≡◌, ◌==◌, ◌+◌, ◌-◌, ◌^◌, ◌<◌, ◌≤◌, ℕ, List, IfOk, MatchResult, OnOk, Ok, Err, drop, length, min, take, unwrap_or, if◌then◌else◌, []};
 ghost use Rattle.entry_checks.specs.Meant.{file_meant, span_meant};
 ghost use Rattle.entry_checks.specs.Operation.{file_limit};
+ghost use Rattle.extent_bytes.specs.Bytes.{range_of};
 ghost use Rattle.op_meaning.specs.Handles.{handle_meant};
 ghost use Rattle.op_meaning.specs.Meaning.{advance, bytes_in, done, read_effect, read_meaning, reply, span_bytes, span_destination, transfer_start, write_effect, write_meaning, write_start};
 ghost use Rattle.op_meaning.specs.Meaning as model;
@@ -16,9 +17,10 @@ use crate::handles::{
 };
 use crate::outcome::{Done, Outcome, counted, finished};
 use entry_checks::{BufferSpan, FileNumber};
+use extent_bytes::ReadBytes;
 use sqe_codec::Errno;
 use std::alloc::{AllocError, Global};
-use trace_format::{Series, Trace};
+use trace_format::Trace;
 use world_parts::State;
 
 /// The most bytes that one call moves.
@@ -64,6 +66,16 @@ pub fn readable_into(
     Ok((file, at))
 }
 
+/// Where so many bytes of a file from an offset on end, as far as it has them.
+fn end_in_file(node: u32, start: u64, count: u32, state: &State) -> u64
+    ensures bytes { range_of (bytes_in state.now node) start result ≡ take count (drop start (bytes_in state.now node)) }
+    ensures count { result - start ≡ length (take count (drop start (bytes_in state.now node))) }
+    ensures most { result - start ≤ count }
+    ensures place { result - start ≤ file_limit - start }
+{
+    size(node, state).min(start.saturating_add(u64::from(count)))
+}
+
 /// The bytes of a file from an offset on, as many as asked for, as far as it has them.
 fn bytes_from(
     alloc: Global,
@@ -71,13 +83,12 @@ fn bytes_from(
     start: u64,
     count: u32,
     state: &State,
-) -> Result<Vec<u8>, AllocError>
-    ensures bytes { IfOk result (λ taken. taken.items ≡ take count (drop start (bytes_in state.now node))) }
-    ensures count { IfOk result (λ taken. length taken.items ≤ count) }
-    ensures place { IfOk result (λ taken. length taken.items ≤ file_limit - start) }
+) -> Result<ReadBytes, AllocError>
+    ensures bytes { IfOk result (λ taken. taken ≡ take count (drop start (bytes_in state.now node))) }
+    ensures count { IfOk result (λ taken. length taken ≤ count) }
+    ensures place { IfOk result (λ taken. length taken ≤ file_limit - start) }
 {
-    let end = size(node, state).min(start.saturating_add(u64::from(count)));
-    state.bytes(alloc, node, start, end)
+    state.read_shared(alloc, node, start, end_in_file(node, start, count, state))
 }
 
 /// Moves the position of an open file to the end of a transfer that used it.
@@ -112,10 +123,10 @@ pub(crate) fn read(
     }
     let start = transfer_start(&file, offset, state);
     let bytes = bytes_from(alloc, file.description.node, start, count, state)?;
-    advance(&file, offset, start + bytes.len() as u64, state);
+    advance(&file, offset, start + bytes.len(), state);
     Ok(Ok(Done {
         count: bytes.len() as u32,
-        bytes: Series::from_vec(bytes),
+        bytes,
     }))
 }
 
@@ -141,10 +152,12 @@ pub(crate) fn read_fixed(
         return Ok(finished(alloc));
     }
     let start = transfer_start(&file, offset, state);
-    let bytes = bytes_from(alloc, file.description.node, start, count, state)?;
-    state.write_buffer(ring, u32::from(span.index), at, &bytes)?;
-    advance(&file, offset, start + bytes.len() as u64, state);
-    Ok(counted(alloc, bytes.len() as u32))
+    let node = file.description.node;
+    let end = end_in_file(node, start, count, state);
+    let moved = end.saturating_sub(start);
+    state.fill_from_file(alloc, node, start, end, ring, u32::from(span.index), at)?;
+    advance(&file, offset, start + moved, state);
+    Ok(counted(alloc, moved as u32))
 }
 
 /// Where a write starts: at the end of a file that is open to append.
@@ -208,21 +221,56 @@ pub(crate) fn write(
     Ok(counted(alloc, count as u32))
 }
 
-/// The bytes of a registered buffer from an offset on, as many as asked for, as far as it has them.
-fn buffer_from(
-    ring: u8,
-    index: u32,
-    at: u64,
-    count: u32,
-    state: &State,
-) -> Result<Vec<u8>, AllocError>
-    requires { at < 2 ^ 63 }
-    ensures bytes { IfOk result (λ taken. taken.items ≡ take count (drop at (unwrap_or (world.buffer state.now ring index) []))) }
-    ensures count { IfOk result (λ taken. length taken.items ≤ count) }
+/// How many bytes of a span, which starts at an offset of its buffer, a transfer moves.
+fn count_in_buffer(ring: u8, span: BufferSpan, at: u64, state: &State) -> u64
+    ensures count { result ≡ length (take (min span.length most_moved) (drop at (unwrap_or (world.buffer state.now ring span.index) []))) }
+    ensures inside { 0 < result → at + result ≤ length (unwrap_or (world.buffer state.now ring span.index) []) }
+    ensures most { result ≤ most_moved }
 {
-    let len = state.buffer_len(ring, index).unwrap_or(0);
-    let end = len.min(at + u64::from(count));
-    state.buffer(ring, index, at.min(end), end)
+    let len = state.buffer_len(ring, u32::from(span.index)).unwrap_or(0);
+    len.saturating_sub(at)
+        .min(u64::from(span.length.min(MOST_MOVED)))
+}
+
+/// A write of bytes of a registered buffer: the open file and where in it they go, where in the buffer they
+/// start, and how many there are.
+struct BufferWrite {
+    file: OpenFile,
+    start: u64,
+    at: u64,
+    count: u64,
+}
+
+/// The write that a span asks for, cut at the largest size of a file, or why it is refused.
+fn writable_from(
+    trace: &Trace,
+    ring: u8,
+    file: FileNumber,
+    offset: u64,
+    span: BufferSpan,
+    state: &State,
+) -> Result<BufferWrite, Errno>
+    ensures meaning { MatchResult result (λ w. write_meaning trace.now state.now ring (file_meant file) offset (span_bytes trace.now state.now ring (span_meant span)) ≡ Ok (if w.count == 0 then done [] else write_effect (handle_meant state.now w.file) offset w.start (range_of (unwrap_or (world.buffer state.now ring span.index) []) w.at (w.at + w.count)))) (λ e. write_meaning trace.now state.now ring (file_meant file) offset (span_bytes trace.now state.now ring (span_meant span)) ≡ Err e) }
+    ensures inside { IfOk result (λ w. 0 < w.count → w.at + w.count ≤ length (unwrap_or (world.buffer state.now ring span.index) [])) }
+    ensures fits { IfOk result (λ w. 0 < w.count → w.start + w.count ≤ file_limit) }
+    ensures most { IfOk result (λ w. (w.at < 2 ^ 32) × (w.count ≤ most_moved)) }
+{
+    let file = writable(trace, ring, file, state)?;
+    let at = span_start(trace, ring, span).ok_or(Errno::EFAULT)?;
+    if is_bad_offset(offset) {
+        return Err(Errno::EINVAL);
+    }
+    let start = write_start(&file, offset, state);
+    let count = count_in_buffer(ring, span, at, state);
+    if count != 0 && start >= LARGEST {
+        return Err(Errno::EFBIG);
+    }
+    Ok(BufferWrite {
+        file,
+        start,
+        at,
+        count: count.min(LARGEST.saturating_sub(start)),
+    })
 }
 
 /// Writes bytes of a registered buffer to a file: WRITE_FIXED.
@@ -238,14 +286,20 @@ pub(crate) fn write_fixed(
     ensures answer { IfOk result (λ o. answered o ≡ answer_of (write_meaning trace.now state.old ring (file_meant file) offset (span_bytes trace.now state.old ring (span_meant span)))) }
     ensures state { OnOk result (state.new ≡ apply_all (changes_of (write_meaning trace.now state.old ring (file_meant file) offset (span_bytes trace.now state.old ring (span_meant span)))) state.old) }
 {
-    if let Err(error) = writable(trace, ring, file, state) {
-        return Ok(Err(error));
-    }
-    let at = match span_start(trace, ring, span) {
-        Some(at) => at,
-        None => return Ok(Err(Errno::EFAULT)),
+    let BufferWrite {
+        file,
+        start,
+        at,
+        count,
+    } = match writable_from(trace, ring, file, offset, span, state) {
+        Ok(found) => found,
+        Err(error) => return Ok(Err(error)),
     };
-    let count = span.length.min(MOST_MOVED);
-    let bytes = buffer_from(ring, u32::from(span.index), at, count, state)?;
-    write(alloc, trace, ring, file, offset, &bytes, state)
+    if count == 0 {
+        return Ok(finished(alloc));
+    }
+    let index = u32::from(span.index);
+    state.write_from_buffer(ring, index, at, at + count, file.description.node, start)?;
+    advance(&file, offset, start + count, state);
+    Ok(counted(alloc, count as u32))
 }

@@ -1,2 +1,2 @@
-mod BufferBytes
+pub mod BufferBytes
 mod Looked

@@ -6,8 +6,6 @@ mod buffers;
 mod descriptions;
 mod descriptors;
 mod slots;
-#[cfg(test)]
-mod tests;
 
 pub use buffers::Buffers;
 pub use descriptions::Descriptions;

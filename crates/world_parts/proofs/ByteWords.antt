@@ -21,7 +21,7 @@ padded-byte [] n p = zeros-byte n p
 padded-byte (x ∷ old) n zero = refl
 padded-byte (x ∷ old) n (suc p) = padded-byte old n p
 
-byte-resized : (old : List ℕ) (at p : ℕ) → p < at → slice_index_or (resized old at) p 0 ≡ slice_index_or old p 0
+pub byte-resized : (old : List ℕ) (at p : ℕ) → p < at → slice_index_or (resized old at) p 0 ≡ slice_index_or old p 0
 unfolding resized
 byte-resized old at p h = padded-byte (take at old) (at - length old) p ∙ get_or-take at old p 0 h
 

@@ -23,6 +23,7 @@ pub mod Holes
 pub mod Raw
 pub mod Nearer
 pub mod Pasting
+pub mod Placing
 pub mod PutSteps
 pub mod PutBack
 pub mod PutTables

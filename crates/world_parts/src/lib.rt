@@ -10,6 +10,7 @@ mod image;
 mod imaging;
 pub mod laws;
 mod laying;
+mod moving;
 mod part;
 mod putting;
 mod start;

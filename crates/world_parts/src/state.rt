@@ -13,6 +13,7 @@ ghost use Rattle.world_parts.specs.Uses.{broken_meant};
 ghost use Rattle.world_parts.specs.World as world;
 
 use crate::broken::{Broken, Flag};
+use extent_bytes::ReadBytes;
 use file_tree::{Kind, Place, Tree};
 use ring_tables::{Buffers, Descriptions, Descriptors, Slots};
 use sqe_codec::Errno;
@@ -122,6 +123,23 @@ impl State {
         ensures { IfOk result (λ taken. taken.items ≡ range_of (unwrap_or (world.bytes self.now node) []) low high) }
     {
         self.nodes.read(alloc, node, low, high)
+    }
+
+    /// What [`State::bytes`] gives, as bytes that share the file's pages where they are many.
+    ///
+    /// # Errors
+    ///
+    /// Want of memory.
+    pub fn read_shared(
+        &self,
+        alloc: Global,
+        node: u32,
+        low: u64,
+        high: u64,
+    ) -> Result<ReadBytes, AllocError>
+        ensures { IfOk result (λ taken. taken ≡ range_of (unwrap_or (world.bytes self.now node) []) low high) }
+    {
+        self.nodes.read_shared(alloc, node, low, high)
     }
 
     /// The number of the node that a name of a directory leads to.

@@ -9,5 +9,5 @@ returns-in_err-insert-clause-same c = same_entries _ _ c.in_err-insert.ensures.e
 
 pub returns-in_ok-insert-clause-same : goal.returns-in_ok-insert-clause-same
 returns-in_ok-insert-clause-same c =
-    blank_same c.args.pages.now c.insert.new.self c.args.number _ (c.in_ok-share.ensures ∙ c.requires) c.in_ok-insert.ensures.updates
+    blank_same c.args.pages.now c.insert.new.self c.args.number _ (c.in_ok-clone.ensures.cases ∙ c.requires) c.in_ok-insert.ensures.updates
     (none_of _ (sym c.contains_key.ensures ∙ c.if-not-contains_key.true))

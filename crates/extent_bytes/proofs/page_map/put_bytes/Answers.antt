@@ -1,8 +1,8 @@
-use Rattle.std.proofs.Common.{ap, sym, ◌∙◌, Some}
-use Rattle.extent_bytes.specs.Pages.{page_of, page_byte, blank_page}
+use Rattle.std.proofs.Common.{◌+◌, ◌-◌, ◌*◌, length, get_or, ap, subst, sym, ◌∙◌, Some}
+use Rattle.extent_bytes.specs.Pages.{PageMap, page_of, page_byte, blank_page, Overlaid}
 use Rattle.std.proofs.lemmas.Result.{on_err_weaker, on_ok_weaker}
 use Rattle.extent_bytes.proofs.Outcomes.{err_of}
-use Rattle.extent_bytes.proofs.PageFacts.{blank_byte, page_of-other, page_of-same, same_entries, same_through, written_through}
+use Rattle.extent_bytes.proofs.PageFacts.{blank_byte, overlaid-blank, page_of-other, page_of-same, same_entries, same_through, written_through}
 use Rattle.extent_bytes.proofs.Overlays.{one_page-overwritten}
 use Rattle.extent_bytes.proofs.page_map.put_bytes.Goals as goal
 
@@ -24,6 +24,12 @@ returns-in-Some-clause-err c =
     on_err_weaker c.write.result
     (λ w. same_through c.args.pages.now _ c.args.number c.in-Some.page.now c.write.new.self (c.get_mut.follows.holds c.write.new.self) (sym c.in-Some.ensures.value) w)
     c.write.ensures.err
+
+pub returns-then-is_blank-clause-ok : goal.returns-then-is_blank-clause-ok
+returns-then-is_blank-clause-ok c =
+    let P : PageMap → Type 0 = λ q. Overlaid c.args.pages.now q (c.args.number * 4096 + c.args.at) (c.args.number * 4096 + (c.args.at + length c.args.bytes.now)) (λ p. get_or c.args.bytes.now (p - (c.args.number * 4096 + c.args.at)) 0) in
+    subst P (sym c.get_mut.follows.holds-at-none)
+    (overlaid-blank c.args.pages.now c.args.number c.args.at c.args.bytes.now c.requires (sym c.in-None.ensures.value) (c.is_blank.ensures.0 c.if-is_blank.true))
 
 pub returns-in_err-insert-in-None-clause-err : goal.returns-in_err-insert-in-None-clause-err
 returns-in_err-insert-in-None-clause-err c =

@@ -1,5 +1,6 @@
 -- The pages are written, and the list ends where it did or where the write does.
 use Rattle.std.proofs.Common.{◌≡◌, ◌+◌, ℕ, min, max, length, arith, ap, subst, sym, ◌∙◌}
+use Rattle.extent_bytes.specs.Kept.{pages_in}
 use Rattle.extent_bytes.specs.Bytes.{overwritten}
 use Rattle.extent_bytes.specs.Pages.{bytes_of, WrittenAt}
 use Rattle.extent_bytes.proofs.Outcomes.{err_of}
@@ -8,12 +9,12 @@ use Rattle.extent_bytes.proofs.extents.Extents.write.Goals as goal
 
 pub returns-in_err-write_range-clause-err : goal.returns-in_err-write_range-clause-err
 returns-in_err-write_range-clause-err c =
-    err_of _ (bytes_of-below c.self.inside.pages c.write_range.new.pages c.self.inside.start c.self.inside.len c.in_err-write_range.ensures.err ∙ c.self.view_is)
+    err_of _ (bytes_of-below (pages_in c.self.inside.stored) (pages_in c.write_range.new.self) c.self.inside.start c.self.inside.len c.in_err-write_range.ensures.err ∙ c.self.view_is)
 
 pub returns-clause-ok : goal.returns-clause-ok
 returns-clause-ok c =
-    let m = c.self.inside.pages in
-    let n = c.write_range.new.pages in
+    let m = (pages_in c.self.inside.stored) in
+    let n = (pages_in c.write_range.new.self) in
     let s = c.self.inside.start in
     let len = c.self.inside.len in
     let bs = c.args.bytes.now in
@@ -25,5 +26,5 @@ returns-clause-ok c =
 
 pub returns-clause-len : goal.returns-clause-len
 returns-clause-len c =
-    let e = length_seen c.self.inside.pages c.self.inside.start c.self.inside.len c.args.self.now c.self.view_is in
+    let e = length_seen (pages_in c.self.inside.stored) c.self.inside.start c.self.inside.len c.args.self.now c.self.view_is in
     length-bytes_of _ _ _ ∙ c.max-self-inside.ensures ∙ ap (λ k. max k (c.args.at + length c.args.bytes.now)) (sym e)

@@ -1,0 +1,14 @@
+-- Bytes that were read, as they are kept.
+use Rattle.std.specs.Prelude.{◌≡◌, ℕ, ◌<◌, ◌≤◌, List, length, take}
+use Rattle.extent_bytes.specs.declared.reading.Kept.{Kept}
+use Rattle.extent_bytes.specs.declared.reading.Kept.TheVariants.{Plain, Shared}
+
+-- the bytes
+abbrev pub kept_bytes : Kept → List ℕ
+kept_bytes (Plain bytes) = bytes.items
+kept_bytes (Shared pages) = pages.value.list
+
+-- few are plain; more are shared, and their first 64 are plain too
+abbrev pub IsKept : Kept → Type 0
+IsKept (Plain bytes) = length bytes.items ≤ 4096
+IsKept (Shared pages) = (4096 < length pages.value.list) × (pages.value.front.items ≡ take 64 pages.value.list)

@@ -1,0 +1,132 @@
+//! Bytes that were read.
+ghost use Rattle.std.specs.Prelude.{◌≡◌, ◌-◌, ◌≤◌, ◌↔◌, [], length, take, IfOk, IsTrue};
+ghost use Rattle.extent_bytes.specs.Bytes.{range_of};
+
+use crate::extents::{Extents, MAX_LEN};
+use std::alloc::{AllocError, Global};
+use std::marker::Model;
+
+/// The most bytes that are copied. More are shared.
+const MOST_COPIED: u64 = 4_096;
+
+/// The most bytes that [`ReadBytes::front`] shows.
+pub const FRONT: usize = 64;
+
+/// Bytes that share their pages, and the first of them as plain bytes.
+#[derive(Drop)]
+pub(crate) struct SharedBytes {
+    pub list: Extents,
+    pub front: Vec<u8>,
+}
+
+/// How bytes that were read are kept.
+#[derive(Drop)]
+pub(crate) enum Kept {
+    Plain(Vec<u8>),
+    Shared(Box<SharedBytes>),
+}
+
+/// Bytes that were read. Up to 4,096 of them are a copy, and more share the pages that they were read
+/// from, so that zeros take no memory.
+#[derive(Drop)]
+pub struct ReadBytes {
+    kept: Kept,
+}
+
+impl Model for ReadBytes {
+    ghost use Rattle.std.specs.Prelude.{ℕ, List};
+
+    ghost Value = { List ℕ };
+
+    ghost use Rattle.extent_bytes.specs.Reading.{IsKept, kept_bytes};
+
+    ghost view = { λ b. kept_bytes b.kept };
+
+    ghost invariant = { λ b. IsKept b.kept };
+}
+
+impl ReadBytes {
+    /// No bytes. It takes no memory.
+    pub fn none(alloc: Global) -> Self
+        ensures { result ≡ [] }
+    {
+        ReadBytes {
+            kept: Kept::Plain(Vec::new(alloc)),
+        }
+    }
+
+    /// The bytes of a list from `lo` up to `hi`.
+    ///
+    /// # Errors
+    ///
+    /// Want of memory.
+    pub fn of(alloc: Global, list: &Extents, lo: u64, hi: u64) -> Result<Self, AllocError>
+        requires forward { lo ≤ hi }
+        requires inside { hi ≤ length list.now }
+        ensures { IfOk result (λ bytes. bytes ≡ range_of list.now lo hi) }
+    {
+        if hi - lo <= MOST_COPIED {
+            return Ok(ReadBytes {
+                kept: Kept::Plain(list.read(lo, hi)?),
+            });
+        }
+        let front = list.read(lo, lo + FRONT as u64)?;
+        let list = list.share(lo, hi)?;
+        let shared = Box::new(alloc, SharedBytes { list, front })?;
+        Ok(ReadBytes {
+            kept: Kept::Shared(shared),
+        })
+    }
+
+    /// How many bytes there are.
+    pub fn len(&self) -> u64
+        ensures value { result ≡ length self.now }
+        ensures bound { length self.now ≤ MAX_LEN }
+    {
+        match &self.kept {
+            Kept::Plain(bytes) => bytes.len() as u64,
+            Kept::Shared(shared) => shared.list.len(),
+        }
+    }
+
+    /// The first bytes, up to `count` of them. It takes no memory.
+    pub fn front(&self, count: usize) -> &[u8]
+        requires { count ≤ FRONT }
+        ensures { result.now ≡ take count self.now }
+    {
+        let bytes = match &self.kept {
+            Kept::Plain(bytes) => bytes,
+            Kept::Shared(shared) => &shared.front,
+        };
+        let end = count.min(bytes.len());
+        &bytes[..end]
+    }
+
+    /// A copy of the bytes from `lo` up to `hi`.
+    ///
+    /// # Errors
+    ///
+    /// Want of memory.
+    #[tactic(auto, unfolding(crate::specs::Bytes::range_of))]
+    pub fn read(&self, alloc: Global, lo: u64, hi: u64) -> Result<Vec<u8>, AllocError>
+        requires forward { lo ≤ hi }
+        requires inside { hi ≤ length self.now }
+        ensures { IfOk result (λ bytes. bytes.items ≡ range_of self.now lo hi) }
+    {
+        match &self.kept {
+            Kept::Plain(bytes) => Vec::from_slice(alloc, &bytes[lo as usize..hi as usize]),
+            Kept::Shared(shared) => shared.list.read(lo, hi),
+        }
+    }
+
+    /// Whether both are the same bytes. It takes no memory, and of shared ones only looks at stored pages.
+    pub fn same(&self, other: &ReadBytes) -> bool
+        ensures { IsTrue result ↔ (self.now ≡ other.now) }
+    {
+        match (&self.kept, &other.kept) {
+            (Kept::Plain(bytes), Kept::Plain(others)) => bytes.as_slice() == others.as_slice(),
+            (Kept::Shared(shared), Kept::Shared(others)) => shared.list.same(&others.list),
+            _ => false,
+        }
+    }
+}

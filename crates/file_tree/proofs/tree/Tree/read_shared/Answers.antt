@@ -1,0 +1,18 @@
+use Rattle.std.proofs.Common.{ℕ, List, [], ap, sym, ◌∙◌}
+use Rattle.std.specs.Prelude.{Option, unwrap_or}
+use Rattle.std.proofs.lemmas.Result.{IfOk-weaker}
+use Rattle.extent_bytes.specs.Bytes.{range_of}
+use Rattle.file_tree.proofs.Ranges.{range_of-none}
+use Rattle.file_tree.proofs.tree.Tree.read_shared.Goals as goal
+
+abbrev held : ℕ → ℕ → Option (List ℕ) → List ℕ
+held lo hi o = range_of (unwrap_or o []) lo hi
+
+pub returns-in_default : goal.returns-in_default
+returns-in_default c = c.none.ensures ∙ sym (ap (held c.args.lo c.args.hi) (sym c.in_default.ensures) ∙ range_of-none c.args.lo c.args.hi)
+
+pub returns : goal.returns
+returns c =
+    IfOk-weaker c.of.result _ _
+    (λ part e. e ∙ c.within-lo.ensures.taken ∙ ap (held c.args.lo c.args.hi) c.in-Some.ensures)
+    c.of.ensures

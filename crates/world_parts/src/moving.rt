@@ -1,0 +1,87 @@
+//! Bytes that go between files and registered buffers.
+ghost use Rattle.std.specs.Prelude.{◌≡◌, ◌+◌, ◌-◌, ◌≤◌, [], length, unwrap_or, OnOk};
+ghost use Rattle.entry_checks.specs.Operation.{file_limit};
+ghost use Rattle.extent_bytes.specs.Bytes.{range_of};
+ghost use Rattle.world_parts.specs.World.{apply};
+ghost use Rattle.world_parts.specs.World as world;
+
+use crate::state::State;
+use extent_bytes::Extents;
+use std::alloc::{AllocError, Global};
+
+/// The most bytes that are copied. More are shared.
+const MOST_COPIED: u64 = 4_096;
+
+impl State {
+    /// Writes the bytes of a file from `low` up to `high`, as far as it has them, over those of a registered
+    /// buffer of a ring from `at` on. Those beyond its length are dropped, and where there is no buffer
+    /// nothing changes. Many share the file's pages.
+    ///
+    /// # Errors
+    ///
+    /// Want of memory.
+    pub fn fill_from_file(
+        &mut self,
+        alloc: Global,
+        node: u32,
+        low: u64,
+        high: u64,
+        ring: u8,
+        index: u32,
+        at: u64,
+    ) -> Result<(), AllocError>
+        ensures { OnOk result (self.new ≡ apply (world.write_buffer ring index at (range_of (unwrap_or (world.bytes self.old node) []) low high)) self.old) }
+    {
+        let room = self.buffer_len(ring, index).unwrap_or(0).saturating_sub(at);
+        let end = high.min(low.saturating_add(room));
+        if end.saturating_sub(low) <= MOST_COPIED {
+            let bytes = self.bytes(alloc, node, low, end)?;
+            return self.write_buffer(ring, index, at, &bytes);
+        }
+        let part = self.nodes.share(alloc, node, low, end)?;
+        self.put_buffer_bytes(ring, index, at, part)
+    }
+
+    /// Writes the bytes of a registered buffer of a ring from `low` up to `high`, a range within it, into a
+    /// file from `at` on; a gap past its end becomes zeros. Where the node is no file nothing changes. Many
+    /// share the buffer's pages.
+    ///
+    /// # Errors
+    ///
+    /// Want of memory.
+    pub fn write_from_buffer(
+        &mut self,
+        ring: u8,
+        index: u32,
+        low: u64,
+        high: u64,
+        node: u32,
+        at: u64,
+    ) -> Result<(), AllocError>
+        requires forward { low ≤ high }
+        requires inside { high ≤ length (unwrap_or (world.buffer self.old ring index) []) }
+        requires fits { at + (high - low) ≤ file_limit }
+        ensures { OnOk result (self.new ≡ apply (world.write_bytes node at (range_of (unwrap_or (world.buffer self.old ring index) []) low high)) self.old) }
+    {
+        if high - low <= MOST_COPIED {
+            let bytes = self.buffer(ring, index, low, high)?;
+            return self.write(node, at, &bytes);
+        }
+        let part = self.buffers.share(ring, index, low, high)?;
+        self.write_part(node, at, part)
+    }
+
+    /// Writes a list of bytes into a file from `at` on, as [`State::write`] does.
+    fn write_part(&mut self, node: u32, at: u64, part: Extents) -> Result<(), AllocError>
+        requires { at + length part ≤ file_limit }
+        ensures { OnOk result (self.new ≡ apply (world.write_bytes node at part) self.old) }
+    {
+        let end = at + part.len();
+        let size = self.size(node).unwrap_or(end);
+        if size >= end {
+            return self.put_bytes(node, at, part);
+        }
+        self.set_size(node, end)?;
+        self.put_bytes(node, at, part)
+    }
+}
