@@ -6,4 +6,3 @@ pub mod Rounds
 pub mod Fronts
 pub mod Ending
 pub mod Places
-pub mod Parts

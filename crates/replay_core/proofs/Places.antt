@@ -1,4 +1,4 @@
--- A place that is cut out, run and put back.
+-- One place more of the sequential run.
 use Rattle.std.proofs.Common.{◌≡◌, ℕ, ◌+◌, List, [], ◌∷◌, ◌++◌, Some, add-one, sym, ◌∙◌, arith}
 use Rattle.std.specs.List.{range_with_len}
 use Rattle.sqe_codec.specs.Answers.{each}

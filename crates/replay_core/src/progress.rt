@@ -15,6 +15,7 @@ use crate::round::{RoundFault, run_round};
 use crate::run::Run;
 use crate::serial::Replay;
 use chain_plan::Plan;
+use extent_bytes::ReadBytes;
 use op_meaning::Reply;
 use std::alloc::{AllocError, Global};
 use std::snapshot::Snapshot;
@@ -81,7 +82,7 @@ fn blank_replies(alloc: Global, places: u32) -> Result<Vec<Reply>, AllocError>
     for _place in 0..places {
         replies.push(Reply {
             res: 0,
-            bytes: Series::from_vec(Vec::new(alloc)),
+            bytes: ReadBytes::none(alloc),
             posted: false,
         })?;
     }
