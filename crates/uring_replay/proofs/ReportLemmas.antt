@@ -1,14 +1,16 @@
 -- Texts that grow by a piece for each number or element, and the sizes that an image tells.
-use Rattle.std.proofs.Common.{◌≡◌, ℕ, zero, suc, ◌+◌, ◌<◌, List, ◌++◌, All, length, take, get_or, refl, sym, ap, ◌∙◌, arith, add-one, append_assoc, Some}
+use Rattle.std.proofs.Common.{◌≡◌, ℕ, zero, suc, ◌+◌, ◌<◌, ◌≤◌, ⊎_elim, List, ◌++◌, All, length, take, get_or, refl, sym, ap, ◌∙◌, arith, add-one, append_assoc, Some}
 use Rattle.std.specs.List.{flat_map, range_with_len, slice_get}
-use Rattle.std.proofs.lemmas.List.{append-nil, take_more, flat_map_more}
+use Rattle.std.specs.Prelude.{Bool, false, ◌==◌, nat_le}
+use Rattle.std.proofs.lemmas.Bool.{cases_lt, lt-leb, ne_eqb}
+use Rattle.std.proofs.lemmas.List.{append-nil, length-take, take_all, take-take, take_more, flat_map_more}
 use Rattle.std.proofs.lemmas.List.Elements.{All-map}
 use Rattle.trace_format.specs.declared.trace.Trace.{Trace}
 use Rattle.trace_format.specs.Steps.{Step, step_at}
 use Rattle.op_meaning.specs.declared.reply.Reply.{Reply}
 use Rattle.world_parts.specs.World.{World}
 use Rattle.world_parts.specs.Image.{image_of, name_entry, all_paths}
-use Rattle.uring_replay.specs.Report.{IsSized, place_line, step_line}
+use Rattle.uring_replay.specs.Report.{IsSized, data_text, entry_outcome, line, place_line, posting, step_line}
 
 -- one number more
 flat_map-range_suc : (f : ℕ → List ℕ) (a n j : ℕ) → a + n ≡ j → flat_map f (range_with_len a (suc n)) ≡ flat_map f (range_with_len a n) ++ f j
@@ -27,6 +29,20 @@ range_grown old now next f k so_far e =
 pub list_grown : {X : Type 0} (old now next : List ℕ) (f : X → List ℕ) (xs : List X) (i : ℕ) (d : X) → i < length xs → now ≡ old ++ flat_map f (take i xs) → next ≡ now ++ f (get_or xs i d)
     → next ≡ old ++ flat_map f (take (i + 1) xs)
 list_grown old now next f xs i d lt so_far e = rw (take_more xs i d lt) (e ∙ ap (λ text. text ++ f (get_or xs i d)) so_far ∙ flat_map_more f old (take i xs) (get_or xs i d))
+
+-- the bytes that are shown, and one more, tell how the line of an entry ends
+data_text_shown : (bytes : List ℕ) → data_text (take 33 bytes) ≡ data_text bytes
+data_text_shown bytes = ⊎_elim
+    (λ (more : 33 < length bytes).
+    let count : length (take 33 bytes) ≡ 33 = length-take 33 bytes ∙ omega arith in
+    let some : (length bytes == 0) ≡ false = ne_eqb (length bytes) 0 (λ e. absurd (omega (arith, e, more))) in
+    let many : nat_le (length bytes) 32 ≡ false = lt-leb (length bytes) 32 (omega arith) in
+    rw (count, take-take 32 33 bytes (omega arith), some, many) refl)
+    (λ (all : length bytes ≤ 33). ap data_text (take_all 33 bytes all))
+    (cases_lt 33 (length bytes))
+
+pub entry_outcome_shown : (posted : Bool) (shown bytes : List ℕ) → shown ≡ take 33 bytes → entry_outcome posted shown ≡ entry_outcome posted bytes
+entry_outcome_shown posted shown bytes e = ap (λ text. line (posting posted ++ text)) (ap data_text e ∙ data_text_shown bytes)
 
 -- the line of a place whose step and reply are there
 pub place_line-read : (t : Trace) (replies : List Reply) (ring place : ℕ) (step : Step) (reply : Reply) → step_at t place ≡ Some step → slice_get replies place ≡ Some reply

@@ -23,9 +23,11 @@ use Rattle.clap.proofs.OnLiterals.{clap_on_literals}
 use Rattle.uring_replay.specs.declared.words.Mode.{Mode}
 use Rattle.uring_replay.specs.declared.words.Mode.TheVariants.{Serial, Run, Compare, Check}
 use Rattle.uring_replay.specs.declared.words.Options.{Options}
+use Rattle.uring_replay.specs.declared.words.Task.{Task}
+use Rattle.uring_replay.specs.declared.words.Task.TheVariants.{Replay, Diff}
 use Rattle.uring_replay.specs.declared.words.UsageKind.{UsageKind}
 use Rattle.uring_replay.specs.declared.words.UsageKind.TheVariants.{Memory}
-use Rattle.uring_replay.specs.Words.{AreFound, AreRoundOptions, AskFor, AskForHelp, AskForMode, HasFlag, HasNumbers, flag_text, kind_meant, replayer, sums_words, text_in}
+use Rattle.uring_replay.specs.Words.{AreFound, AreRoundOptions, AskFor, AskForHelp, AskForMode, HasFlag, HasNumbers, IsFound, flag_text, kind_meant, replayer, sums_words, text_in}
 use Rattle.uring_replay.proofs.NumberWords.{accepted, number_is_value}
 use Rattle.uring_replay.proofs.OptionWalk.{at, level_by_parts, stopped_at, stopped_passes, stopped_walk, takes_by_parts}
 use Rattle.uring_replay.proofs.RoundWords.{HasSums, IsTaken, Leaves, compare_both, compare_none, compare_window, compare_workers, leaf, run_both, run_none, run_window, run_workers}
@@ -130,15 +132,26 @@ unfolding clap_on_literals
 help_found words (inl e) = rw e refl
 help_found words (inr e) = rw e refl
 
--- the options in the matches of the words that ask for them
-pub options_met : (a : App) (words : List (List ℕ)) (m : ArgMatches) (o : Options) → a ≡ replayer → AskFor o words → HasMatchesOf a words m
-    → AreFound o.mode o.sums (subcommand_rows_of m)
-options_met a words m o command asked h =
-    let same : subcommand_rows_of m ≡ subcommand_of replayer words = (h (ap is_simple command)).1 ∙ ap (λ x. subcommand_of x words) command in
-    subst (AreFound o.mode o.sums) (sym same) (options_found o.mode o.sums words asked)
+-- the same for each task
+task_found : (t : Task) (words : List (List ℕ)) → AskFor t words → IsFound t (subcommand_of replayer words)
+unfolding clap_on_literals
+task_found (Replay o) words e = options_found o.mode o.sums words e
+task_found Diff words e = rw e refl
 
-pub words_pass : (a : App) (words : List (List ℕ)) (o : Options) → a ≡ replayer → AskFor o words → takes a words ≡ true
-words_pass a words o command asked = ap (λ x. takes x words) command ∙ words_taken o.mode o.sums words asked
+task_taken : (t : Task) (words : List (List ℕ)) → AskFor t words → takes replayer words ≡ true
+unfolding clap_on_literals
+task_taken (Replay o) words e = words_taken o.mode o.sums words e
+task_taken Diff words e = rw e refl
+
+-- the task in the matches of the words that ask for it
+pub task_met : (a : App) (words : List (List ℕ)) (m : ArgMatches) (t : Task) → a ≡ replayer → AskFor t words → HasMatchesOf a words m
+    → IsFound t (subcommand_rows_of m)
+task_met a words m t command asked h =
+    let same : subcommand_rows_of m ≡ subcommand_of replayer words = (h (ap is_simple command)).1 ∙ ap (λ x. subcommand_of x words) command in
+    subst (IsFound t) (sym same) (task_found t words asked)
+
+pub words_pass : (a : App) (words : List (List ℕ)) (t : Task) → a ≡ replayer → AskFor t words → takes a words ≡ true
+words_pass a words t command asked = ap (λ x. takes x words) command ∙ task_taken t words asked
 
 -- words that ask for help end the parse
 pub help_ends : {T : Type 0} (a : App) (words : List (List ℕ)) (r : Result T Error) → a ≡ replayer → AskForHelp words → (is_simple_and_free a ≡ true → FailsBy (fault_of a words) r)

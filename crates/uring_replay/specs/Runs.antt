@@ -12,7 +12,7 @@ use Rattle.replay_core.specs.declared.serial.ReplayFault.TheVariants as replay_f
 use Rattle.replay_core.specs.declared.difference.Verdict.{Verdict}
 use Rattle.replay_core.specs.declared.difference.Verdict.TheVariants as verdict
 use Rattle.uring_replay.specs.declared.fault.RunFault.{RunFault}
-use Rattle.uring_replay.specs.declared.fault.RunFault.TheVariants.{Trace, Replay, Read, Write, Different}
+use Rattle.uring_replay.specs.declared.fault.RunFault.TheVariants.{Trace, Replay, Reports, Read, Write, Different}
 use Rattle.uring_replay.specs.declared.words.Options.{Options}
 use Rattle.uring_replay.specs.declared.words.Mode.{Mode}
 use Rattle.uring_replay.specs.declared.words.Mode.TheVariants.{Serial, Run, Compare, Check}
@@ -73,6 +73,7 @@ most_taken = longest + 1
 abbrev pub TellsOfReading : (left left' : Option (List ℕ)) → RunFault → Type 0
 TellsOfReading left left' (Trace f) = (f ≡ fault Memory 0) ⊎ ReadsNoTrace left left' f
 TellsOfReading left left' (Replay f) = ((f ≡ replay_fault.Memory) ⊎ (f ≡ replay_fault.NoThread)) × ((t : trace.Trace) × ReadsTrace left left' t)
+TellsOfReading left left' (Reports f) = ⊥
 TellsOfReading left left' Read = ⊤
 TellsOfReading left left' Different = ⊥
 TellsOfReading left left' Write = (t : trace.Trace) × ReadsTrace left left' t
@@ -81,6 +82,7 @@ TellsOfReading left left' Write = (t : trace.Trace) × ReadsTrace left left' t
 abbrev pub reads_failed : RunFault → ℕ
 reads_failed (Trace f) = 0
 reads_failed (Replay f) = 0
+reads_failed (Reports f) = 0
 reads_failed Read = 1
 reads_failed Write = 0
 reads_failed Different = 0
@@ -92,6 +94,7 @@ read_failures (Err f) = reads_failed f
 abbrev pub writes_failed : RunFault → ℕ
 writes_failed (Trace f) = 0
 writes_failed (Replay f) = 0
+writes_failed (Reports f) = 0
 writes_failed Read = 0
 writes_failed Write = 1
 writes_failed Different = 0

@@ -13,7 +13,8 @@ use Rattle.clap.specs.declared.error.kind.ErrorKind.{ErrorKind}
 use Rattle.clap.specs.declared.error.kind.ErrorKind.TheVariants.{DisplayHelp, OutOfMemory}
 use Rattle.uring_replay.specs.declared.words.Mode.{Mode}
 use Rattle.uring_replay.specs.declared.words.Mode.TheVariants.{Serial, Run, Compare, Check}
-use Rattle.uring_replay.specs.declared.words.Options.{Options}
+use Rattle.uring_replay.specs.declared.words.Task.{Task}
+use Rattle.uring_replay.specs.declared.words.Task.TheVariants.{Replay, Diff}
 use Rattle.uring_replay.specs.declared.words.Usage.{Usage}
 use Rattle.uring_replay.specs.declared.words.UsageKind.{UsageKind}
 use Rattle.uring_replay.specs.Report.{escaped}
@@ -29,6 +30,10 @@ IsServed Serial = ⊤
 IsServed (Run workers window) = AreServed workers window
 IsServed (Compare workers window) = AreServed workers window
 IsServed Check = ⊤
+
+abbrev pub IsServedTask : Task → Type 0
+IsServedTask (Replay options) = IsServed options.mode
+IsServedTask Diff = ⊤
 
 -- An option with its number in decimal, `--workers 7`; it may be left out where the number is the one that is taken then.
 abbrev pub IsNumberOption : List ℕ → ℕ → ℕ → List (List ℕ) → Type 0
@@ -54,23 +59,24 @@ AskForMode (Run workers window) sums words = (chosen : List (List ℕ)) × AreRo
 AskForMode (Compare workers window) sums words = (chosen : List (List ℕ)) × AreRoundOptions workers window chosen × (sums ≡ false) × (words ≡ codes "compare" ∷ chosen)
 AskForMode Check sums words = (sums ≡ false) × (words ≡ codes "check" ∷ [])
 
-abbrev pub AskFor : Options → List (List ℕ) → Type 0
-AskFor options words = AskForMode options.mode options.sums words
+abbrev pub AskFor : Task → List (List ℕ) → Type 0
+AskFor (Replay options) words = AskForMode options.mode options.sums words
+AskFor Diff words = words ≡ codes "diff" ∷ []
 
 -- The words that ask for help.
 abbrev pub AskForHelp : List (List ℕ) → Type 0
 AskForHelp words = (words ≡ codes "-h" ∷ []) ⊎ (words ≡ codes "--help" ∷ [])
 
--- The options, or want of memory.
-abbrev pub GivesOptions : Result Options Usage → Options → Type 0
-GivesOptions result options = MatchResult result (λ o. o ≡ options) (λ usage. usage.kind ≡ Memory)
+-- The task, or want of memory.
+abbrev pub GivesTask : Result Task Usage → Task → Type 0
+GivesTask result task = MatchResult result (λ given. given ≡ task) (λ usage. usage.kind ≡ Memory)
 
 -- What is said of an argument that is not text: its bytes as those of a path in a report.
 abbrev pub not_text : List ℕ → List ℕ
 not_text word = codes "error: the argument '" ++ escaped word ++ codes "' is not text\n\nFor more information, try '--help'.\n"
 
 -- Help, or want of memory.
-abbrev pub GivesHelp : Result Options Usage → Type 0
+abbrev pub GivesHelp : Result Task Usage → Type 0
 GivesHelp result = IsErrAnd result (λ usage. (usage.kind ≡ Help) ⊎ (usage.kind ≡ Memory))
 
 -- What an error of the command line's parser is for the user.
@@ -79,8 +85,8 @@ kind_meant DisplayHelp = Help
 kind_meant OutOfMemory = Memory
 kind_meant _ = Wrong
 
--- Options only where the parser finds no fault, and else the kind of one that it finds, or want of memory.
-abbrev pub FailsByRules : List ErrorKind → Result Options Usage → Type 0
+-- A task only where the parser finds no fault, and else the kind of one that it finds, or want of memory.
+abbrev pub FailsByRules : List ErrorKind → Result Task Usage → Type 0
 FailsByRules faults result = MatchResult result (λ _. faults ≡ []) (λ usage. (usage.kind ≡ Memory) ⊎ Contains (map kind_meant faults) usage.kind)
 
 -- The text that the parser has for a flag, and the one that it found for `--sums` at the subcommand.
@@ -106,6 +112,10 @@ AreFound Serial sums found = IsNamed (codes "serial") found × HasFlag sums foun
 AreFound (Run workers window) sums found = IsNamed (codes "run") found × HasFlag sums found × HasNumbers workers window found
 AreFound (Compare workers window) sums found = IsNamed (codes "compare") found × (sums ≡ false) × HasNumbers workers window found
 AreFound Check sums found = IsNamed (codes "check") found × (sums ≡ false)
+
+abbrev pub IsFound : Task → Option (List ℕ × List Row) → Type 0
+IsFound (Replay options) found = AreFound options.mode options.sums found
+IsFound Diff found = IsNamed (codes "diff") found
 
 -- The command line, as its parser sees it: a subcommand has to be named. The number of an option lies within its limits.
 abbrev pub sums_flag : Rule
@@ -133,10 +143,14 @@ compare_command = with_rule (with_rule (new_app (codes "compare")) workers_optio
 abbrev pub check_command : App
 check_command = new_app (codes "check")
 
+abbrev pub diff_command : App
+diff_command = new_app (codes "diff")
+
 abbrev pub replayer : App
 replayer =
     let top = on_top (λ s. record s { no_binary_name = true; subcommand_required = true }) (new_app (codes "uring_replay")) in
-    with_subcommand (with_subcommand (with_subcommand (with_subcommand top serial_command.top) run_command.top) compare_command.top) check_command.top
+    let runs = with_subcommand (with_subcommand top serial_command.top) run_command.top in
+    with_subcommand (with_subcommand (with_subcommand runs compare_command.top) check_command.top) diff_command.top
 
 -- What the parser sees of an argument and of a subcommand; neither is one of all levels.
 abbrev pub IsRule : Rule → Arg → Type 0

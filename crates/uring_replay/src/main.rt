@@ -2,8 +2,9 @@
 #![tactic(auto)]
 
 ghost use Rattle.std.specs.Prelude.{IfOk};
-ghost use Rattle.uring_replay.specs.Words.{IsServed};
+ghost use Rattle.uring_replay.specs.Words.{IsServedTask};
 
+mod differing;
 mod ending;
 mod fault;
 mod report;
@@ -12,6 +13,7 @@ mod sums;
 mod transfer;
 mod words;
 
+use differing::run_diff;
 use ending::{Stream, fault_ending, usage_ending, usage_text};
 use fault::RunFault;
 use session::run;
@@ -22,24 +24,28 @@ use std::io::ErrorKind;
 use std::process::ExitCode;
 use std::rt::Env;
 use transfer::FromStd;
-use words::{Options, Usage, no_memory, not_text, read_words};
+use words::{Task, Usage, no_memory, not_text, read_words};
 
 fn main(rt: HostRuntime) -> ExitCode {
-    let options = match chosen(&rt) {
-        Ok(options) => options,
+    let task = match chosen(&rt) {
+        Ok(task) => task,
         Err(usage) => return shown(&rt, &usage),
     };
     let mut reader = FromStd::new(rt.stdin());
     let mut writer = FromStd::new(rt.stdout());
-    match run(&rt, rt.alloc(), &mut reader, &mut writer, &options) {
+    let done = match task {
+        Task::Replay(options) => run(&rt, rt.alloc(), &mut reader, &mut writer, &options),
+        Task::Diff => run_diff(rt.alloc(), &mut reader, &mut writer),
+    };
+    match done {
         Ok(()) => ExitCode::SUCCESS,
         Err(fault) => failed(&rt, fault),
     }
 }
 
-/// The options that the program's arguments ask for.
-fn chosen<R: Env + AllocGlobal>(rt: &R) -> Result<Options, Usage>
-    ensures { IfOk result (λ options. IsServed options.mode) }
+/// What the program's arguments ask for.
+fn chosen<R: Env + AllocGlobal>(rt: &R) -> Result<Task, Usage>
+    ensures { IfOk result IsServedTask }
 {
     let alloc = rt.alloc();
     let words = match env::args(rt) {

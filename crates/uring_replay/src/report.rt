@@ -130,7 +130,16 @@ fn push_entry(
         ≡ string_bytes text.old ++ entry_line place user_data reply.now) }
 {
     push_head(text, place, user_data, reply.res)?;
-    push_outcome(alloc, text, reply.posted, reply.bytes.as_slice())
+    push_ending(alloc, text, reply)
+}
+
+/// How the line of an entry ends. One byte more than is shown tells whether there are more.
+fn push_ending(alloc: Global, text: &mut String, reply: &Reply) -> Result<(), AllocError>
+    ensures { OnOk result (string_bytes text.new
+        ≡ string_bytes text.old ++ entry_outcome reply.now.posted reply.now.bytes) }
+{
+    let front = reply.bytes.front(SHOWN + 1);
+    push_outcome(alloc, text, reply.posted, front)
 }
 
 fn push_head(text: &mut String, place: u32, user_data: u64, res: i32) -> Result<(), AllocError>

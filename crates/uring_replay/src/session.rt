@@ -247,7 +247,7 @@ fn serial_report(alloc: Global, trace: &Trace, sums: bool) -> Result<Vec<u8>, Re
 }
 
 /// Writes the whole output.
-fn written<W: Sink>(writer: &mut W, output: &[u8]) -> Result<(), RunFault>
+pub fn written<W: Sink>(writer: &mut W, output: &[u8]) -> Result<(), RunFault>
     requires { W.failures writer.old < 2 ^ 64 - 1 }
     ensures ok { OnOk result (Appends (W.written writer.old) (W.written writer.new) output.now) }
     ensures part { OnErr result (AppendsPart (W.written writer.old) (W.written writer.new) output.now) }

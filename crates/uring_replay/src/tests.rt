@@ -1,11 +1,13 @@
 ghost use Rattle.std.specs.Prelude.{Some};
 ghost use Rattle.uring_replay.specs.Words.{IsServed};
 
-use crate::fault::RunFault;
+use crate::differing::run_diff;
+use crate::fault::{ReportsFault, RunFault};
 use crate::session::{run, run_alone, told};
 use crate::transfer::{Failed, FromStd, Sink, Source};
-use crate::words::{Mode, Options, UsageKind, read_words};
+use crate::words::{Mode, Options, Task, UsageKind, read_words};
 use replay_core::{ReplayFault, Verdict};
+use report_diff::Refusal;
 use std::io;
 use std::io::Read;
 use std::process::Abort;
@@ -56,30 +58,31 @@ fn compare_with(workers: u32, window: u32) -> Options {
 
 #[test]
 fn reads_words(rt: HostRuntime) {
-    let cases: [(&[&str], Options); 7] = [
-        (["serial"].as_slice(), SERIAL),
-        (["serial", "--sums"].as_slice(), SUMS),
-        (["run"].as_slice(), run_with(4, 64, false)),
+    let cases: [(&[&str], Task); 8] = [
+        (["serial"].as_slice(), Task::Replay(SERIAL)),
+        (["serial", "--sums"].as_slice(), Task::Replay(SUMS)),
+        (["run"].as_slice(), Task::Replay(run_with(4, 64, false))),
         (
             ["run", "--workers", "7", "--window", "4096", "--sums"].as_slice(),
-            run_with(7, 4096, true),
+            Task::Replay(run_with(7, 4096, true)),
         ),
-        (["compare"].as_slice(), compare_with(4, 64)),
+        (["compare"].as_slice(), Task::Replay(compare_with(4, 64))),
         (
             ["compare", "--window=1", "--workers", "64"].as_slice(),
-            compare_with(64, 1),
+            Task::Replay(compare_with(64, 1)),
         ),
-        (["check"].as_slice(), CHECK),
+        (["check"].as_slice(), Task::Replay(CHECK)),
+        (["diff"].as_slice(), Task::Diff),
     ];
     for (words, wanted) in cases {
-        let options = read_words(rt.alloc(), words).expect(&rt, "options");
-        assert_eq!(rt; options, wanted);
+        let task = read_words(rt.alloc(), words).expect(&rt, "a task");
+        assert_eq!(rt; task, wanted);
     }
 }
 
 #[test]
 fn refuses_words(rt: HostRuntime) {
-    let cases: [(&[&str], UsageKind); 11] = [
+    let cases: [(&[&str], UsageKind); 13] = [
         (["serial", "--help"].as_slice(), UsageKind::Help),
         (["run", "--workers", "0"].as_slice(), UsageKind::Wrong),
         (["run", "--workers", "65"].as_slice(), UsageKind::Wrong),
@@ -91,6 +94,8 @@ fn refuses_words(rt: HostRuntime) {
         (["serial", "--sums", "trace"].as_slice(), UsageKind::Wrong),
         (["serial", "--workers", "2"].as_slice(), UsageKind::Wrong),
         (["check", "--sums"].as_slice(), UsageKind::Wrong),
+        (["diff", "--sums"].as_slice(), UsageKind::Wrong),
+        (["diff", "--help"].as_slice(), UsageKind::Help),
     ];
     for (words, kind) in cases {
         let usage = read_words(rt.alloc(), words).expect_err(&rt, "usage");
@@ -116,6 +121,17 @@ fn statuses_and_lines(rt: HostRuntime) -> Result<(), Fail> {
         (RunFault::Replay(ReplayFault::NoThread), 3, "fault: thread"),
         (RunFault::Replay(ReplayFault::Workers), 2, "fault: workers"),
         (RunFault::Replay(ReplayFault::Window), 2, "fault: window"),
+        (
+            RunFault::Reports(ReportsFault::Refused(Refusal::FirstEnd)),
+            1,
+            "reports refused: the first has no line end",
+        ),
+        (
+            RunFault::Reports(ReportsFault::TooLong),
+            1,
+            "reports refused: more than 1073741824 bytes",
+        ),
+        (RunFault::Reports(ReportsFault::Memory), 3, "fault: memory"),
         (RunFault::Read, 3, "fault: read"),
         (RunFault::Write, 3, "fault: write"),
         (RunFault::Different, 4, "different"),
@@ -200,6 +216,46 @@ fn tells_a_difference(rt: HostRuntime) {
     let done = told(alloc, &mut writer, Verdict::Reply(7));
     assert_eq!(rt; done, Err(RunFault::Different));
     assert_eq!(rt; writer.stream.as_slice(), "different reply 7\n".as_bytes());
+}
+
+#[test]
+fn compares_two_reports(rt: HostRuntime) {
+    let alloc = rt.alloc();
+    let counts = "tree 0 equal, 0 different, 0 outside\n\
+        slots 0 equal, 0 different, 0 outside\n\
+        buffers 0 equal, 0 different, 0 outside\n";
+    let reports =
+        "uring-report 1\n0 user=7 res=4 posted\nend\nuring-report 1\n0 user=7 res=4 posted op=1\nend\n";
+    let mut reader = FromStd::new(reports.as_bytes());
+    let mut writer = FromStd::new(Vec::new(alloc));
+    let done = run_diff(alloc, &mut reader, &mut writer);
+    assert_eq!(rt; done, Ok(()));
+    let text = format!(in alloc; "entries 1 equal, 0 different, 0 outside\n{counts}").expect(
+        &rt, "memory",
+    );
+    assert_eq!(rt; writer.stream.as_slice(), text.as_bytes());
+    let reports =
+        "uring-report 1\n0 user=7 res=4 posted\nend\nuring-report 1\n0 user=7 res=5 posted op=1\nend\n";
+    let mut reader = FromStd::new(reports.as_bytes());
+    let mut writer = FromStd::new(Vec::new(alloc));
+    let done = run_diff(alloc, &mut reader, &mut writer);
+    assert_eq!(rt; done, Err(RunFault::Different));
+    let text = format!(in alloc;
+        "- 0 user=7 res=4 posted\n+ 0 user=7 res=5 posted op=1\nentries 0 equal, 1 different, 0 outside\n{counts}"
+    ).expect(&rt, "memory");
+    assert_eq!(rt; writer.stream.as_slice(), text.as_bytes());
+}
+
+#[test]
+fn writes_nothing_for_one_report(rt: HostRuntime) {
+    let alloc = rt.alloc();
+    let report = "uring-report 1\nring 0\nend\n";
+    let mut reader = FromStd::new(report.as_bytes());
+    let mut writer = FromStd::new(Vec::new(alloc));
+    let done = run_diff(alloc, &mut reader, &mut writer);
+    let refused = ReportsFault::Refused(Refusal::SecondHeading);
+    assert_eq!(rt; done, Err(RunFault::Reports(refused)));
+    assert!(rt; writer.stream.is_empty());
 }
 
 #[test]

@@ -2,14 +2,14 @@
 ghost use Rattle.std.specs.Prelude.{◌≡◌, ◌≤◌, ◌⊎◌, ℕ, string_bytes, IfOk, IsErrAnd, MatchResult, Some, map};
 ghost use Rattle.std.specs.Fmt.{decimal};
 ghost use Rattle.clap.specs.Words.{FailsBy, app_of, fault_of, found_of, kind_of, one_text, subcommand_rows_of};
-ghost use Rattle.uring_replay.specs.Words.{AreFound, AskFor, AskForHelp, FailsByRules, GivesHelp, GivesOptions, HasApp, IsRule, IsServed, check_command, compare_command, kind_meant, not_text, replayer, run_command, serial_command, sums_flag, window_option, workers_option};
+ghost use Rattle.uring_replay.specs.Words.{AreFound, AskFor, AskForHelp, FailsByRules, GivesHelp, GivesTask, HasApp, IsFound, IsRule, IsServed, IsServedTask, check_command, compare_command, diff_command, kind_meant, not_text, replayer, run_command, serial_command, sums_flag, window_option, workers_option};
 
 use crate::report::escaped;
 use clap::error::ErrorKind;
 use clap::{Arg, ArgAction, ArgMatches, Command, Error, value_parser};
 use std::alloc::{AllocError, Global};
 
-/// What the program does with the trace.
+/// What the program does with a trace.
 #[derive(Clone, Copy, Debug, PartialEq, Eq)]
 pub enum Mode {
     /// A run of the places in recorded order, and its report.
@@ -22,7 +22,7 @@ pub enum Mode {
     Check,
 }
 
-/// What the words ask for.
+/// How a trace is replayed, or looked at.
 #[derive(Clone, Copy, Debug, PartialEq, Eq)]
 pub struct Options {
     pub mode: Mode,
@@ -30,13 +30,22 @@ pub struct Options {
     pub sums: bool,
 }
 
+/// What the words ask for.
+#[derive(Clone, Copy, Debug, PartialEq, Eq)]
+pub enum Task {
+    /// A mode, with a trace from standard input.
+    Replay(Options),
+    /// A comparison of two reports from standard input.
+    Diff,
+}
+
 /// What help says at its end.
 const STATUSES: &str = "Exit status:
   0  done
-  1  the trace is refused
+  1  the trace is refused, or the reports
   2  wrong words
   3  memory, a thread, reading or writing failed
-  4  `compare` found a difference";
+  4  `compare` or `diff` found a difference";
 
 /// Why the words give no options.
 #[derive(Clone, Copy, Debug, PartialEq, Eq)]
@@ -63,39 +72,50 @@ const MOST_WORKERS: u32 = 64;
 const MOST_PLACES: u32 = 4096;
 
 /// Reads the words after the program's name: `serial` and `run`, with `--sums` or without, `compare`,
-/// or `check`; `run` and `compare` with the numbers of workers and of places or without. Any other
-/// words are wrong, unless they ask for help.
-pub fn read_words<'a>(alloc: Global, words: &'a [&'a str]) -> Result<Options, Usage>
-    ensures options { (options : Options) → AskFor options (map (λ word. word.now) words.now)
-        → GivesOptions result options }
+/// `check` or `diff`; `run` and `compare` with the numbers of workers and of places or without. Any
+/// other words are wrong, unless they ask for help.
+pub fn read_words<'a>(alloc: Global, words: &'a [&'a str]) -> Result<Task, Usage>
+    ensures task { (task : Task) → AskFor task (map (λ word. word.now) words.now)
+        → GivesTask result task }
     ensures help { AskForHelp (map (λ word. word.now) words.now) → GivesHelp result }
-    ensures served { IfOk result (λ options. IsServed options.mode) }
+    ensures served { IfOk result IsServedTask }
 
     // All other words by the rules of the command line.
     ensures rules { FailsByRules (fault_of replayer (map (λ word. word.now) words.now)) result }
 {
     match parsed(alloc, words) {
-        Ok(options) => Ok(options),
+        Ok(task) => Ok(task),
         Err(error) => Err(usage_of(alloc, &error)),
     }
 }
 
-fn parsed<'a>(alloc: Global, words: &'a [&'a str]) -> Result<Options, Error>
-    ensures options { (options : Options) → AskFor options (map (λ word. word.now) words.now)
-        → MatchResult result (λ given. given ≡ options) (λ error. kind_of error ≡ ErrorKind.OutOfMemory) }
+fn parsed<'a>(alloc: Global, words: &'a [&'a str]) -> Result<Task, Error>
+    ensures task { (task : Task) → AskFor task (map (λ word. word.now) words.now)
+        → MatchResult result (λ given. given ≡ task) (λ error. kind_of error ≡ ErrorKind.OutOfMemory) }
     ensures help { AskForHelp (map (λ word. word.now) words.now) → IsErrAnd result (λ error.
         (kind_of error ≡ ErrorKind.DisplayHelp) ⊎ (kind_of error ≡ ErrorKind.OutOfMemory)) }
-    ensures served { IfOk result (λ options. IsServed options.mode) }
+    ensures served { IfOk result IsServedTask }
     ensures rules { FailsBy (fault_of replayer (map (λ word. word.now) words.now)) result }
 {
     let command = program(alloc)?;
     match command.try_get_matches_from(words) {
-        Ok(matches) => Ok(options_in(&matches)),
+        Ok(matches) => Ok(task_in(&matches)),
         Err(error) => Err(error),
     }
 }
 
-/// The options of the subcommand that was named.
+/// What the subcommand that was named asks for.
+fn task_in(matches: &ArgMatches<'_>) -> Task
+    ensures task { (task : Task) → IsFound task (subcommand_rows_of matches.now) → result ≡ task }
+    ensures served { IsServedTask result }
+{
+    match matches.subcommand() {
+        Some(("diff", _)) => Task::Diff,
+        _ => Task::Replay(options_in(matches)),
+    }
+}
+
+/// The options of the subcommand that was named, where it is one with a trace.
 fn options_in(matches: &ArgMatches<'_>) -> Options
     ensures options { (options : Options) → AreFound options.mode options.sums (subcommand_rows_of matches.now)
         → result ≡ options }
@@ -152,7 +172,8 @@ fn program<'a>(alloc: Global) -> Result<Command<'a>, AllocError>
         .subcommand(serial_command(alloc)?)?
         .subcommand(run_command(alloc)?)?
         .subcommand(compare_command(alloc)?)?
-        .subcommand(check_command(alloc))
+        .subcommand(check_command(alloc))?
+        .subcommand(diff_command(alloc))
 }
 
 fn serial_command<'a>(alloc: Global) -> Result<Command<'a>, AllocError>
@@ -186,6 +207,12 @@ fn check_command<'a>(alloc: Global) -> Command<'a>
     ensures { HasApp check_command result }
 {
     Command::new(alloc, "check").about("Reads the trace and counts its places and rings")
+}
+
+fn diff_command<'a>(alloc: Global) -> Command<'a>
+    ensures { HasApp diff_command result }
+{
+    Command::new(alloc, "diff").about("Reads two reports and tells where they differ")
 }
 
 fn sums_flag<'a>(alloc: Global) -> Arg<'a>

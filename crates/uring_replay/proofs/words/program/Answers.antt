@@ -15,4 +15,5 @@ returns c =
     let with_serial = c.in_ok-subcommand.ensures.shape c.in_ok-serial_command.ensures.1 ∙ ap₂ with_subcommand top_is (ap (λ (a : App). a.top) c.in_ok-serial_command.ensures.0) in
     let with_run = c.in_ok-subcommand-2.ensures.shape c.in_ok-run_command.ensures.1 ∙ ap₂ with_subcommand with_serial (ap (λ (a : App). a.top) c.in_ok-run_command.ensures.0) in
     let with_compare = c.in_ok-subcommand-3.ensures.shape c.in_ok-compare_command.ensures.1 ∙ ap₂ with_subcommand with_run (ap (λ (a : App). a.top) c.in_ok-compare_command.ensures.0) in
-    IfOk-weaker c.subcommand-4.result _ _ (λ command h. h.shape c.check_command.ensures.1 ∙ ap₂ with_subcommand with_compare (ap (λ (a : App). a.top) c.check_command.ensures.0)) c.subcommand-4.ensures
+    let with_check = c.in_ok-subcommand-4.ensures.shape c.check_command.ensures.1 ∙ ap₂ with_subcommand with_compare (ap (λ (a : App). a.top) c.check_command.ensures.0) in
+    IfOk-weaker c.subcommand-5.result _ _ (λ command h. h.shape c.diff_command.ensures.1 ∙ ap₂ with_subcommand with_check (ap (λ (a : App). a.top) c.diff_command.ensures.0)) c.subcommand-5.ensures

@@ -1,0 +1,4 @@
+pub mod Slices
+pub mod Words
+pub mod Known
+pub mod Reports

@@ -1,0 +1,18 @@
+//! Two reports of one trace, line by line.
+//!
+//! [`compare`] takes both reports from one input and tells where they differ. A line is about its
+//! *subject*, its first words; the other words are its *facts*. Two lines of one subject agree where
+//! no fact of one contradicts the other: what only one of them tells is no difference.
+//! `specs/Differences.antt` has the rules.
+#![tactic(auto)]
+
+mod comparing;
+mod facts;
+mod index;
+mod lines;
+mod telling;
+
+pub use comparing::{Comparison, DiffFault, Refusal, compare};
+
+#[cfg(test)]
+mod tests;
