@@ -36,8 +36,3 @@ pub use sides::{fits, vector_total};
 pub use steps::{Action, Records, Step};
 pub use trace::{Access, Buffer, Description, Entry, Item, Node, Record, Ring, Trace, Version};
 pub use writing::write_trace;
-
-#[cfg(test)]
-mod map_tests;
-#[cfg(test)]
-mod tests;

@@ -1,27 +1,27 @@
-//! The traces of the tests.
+//! Entries, and the traces that hold them.
 ghost use Rattle.std.specs.Prelude.{IfOk};
 ghost use Rattle.trace_format.specs.Text.{IsSpelled};
 
 use sqe_codec::{FIXED_FILE, Sqe, pack};
-use std::alloc::Global;
+use std::alloc::{AllocError, Global};
 use std::test::Fail;
 use trace_format::{Trace, read_trace};
 
 // The opcodes and flags, as `linux/io_uring.h` and `linux/fcntl.h` have them.
-const READ: u8 = 22;
+pub(crate) const READ: u8 = 22;
 
-const WRITE: u8 = 23;
+pub(crate) const WRITE: u8 = 23;
 
-const UNLINKAT: u8 = 36;
+pub(crate) const UNLINKAT: u8 = 36;
 
-const MKDIRAT: u8 = 37;
+pub(crate) const MKDIRAT: u8 = 37;
 
-const AT_REMOVEDIR: u32 = 0x200;
+pub(crate) const AT_REMOVEDIR: u32 = 0x200;
 
-const AT_FDCWD: i32 = -100;
+pub(crate) const AT_FDCWD: i32 = -100;
 
 /// An entry with nothing set: a NOP.
-const BLANK: Sqe = Sqe {
+pub(crate) const BLANK: Sqe = Sqe {
     opcode: 0,
     flags: 0,
     ioprio: 0,
@@ -92,6 +92,13 @@ pub(crate) fn remove_directory(path: &[u8]) -> Submitted<'_> {
     Submitted { sqe, side: path }
 }
 
+/// Adds an entry with the bytes beside it.
+pub(crate) fn push_entry(text: &mut Vec<u8>, sqe: &Sqe, side: &[u8]) -> Result<(), AllocError> {
+    text.extend_from_slice(&pack(sqe))?;
+    text.extend_from_slice(&(side.len() as u64).to_le_bytes()[..4])?;
+    text.extend_from_slice(side)
+}
+
 /// The directory `/d`, node 1; the file `/d/f`, node 2, of ten bytes; the file `/g` and `/d.x`, node 3, which
 /// is longer than its stored bytes; the directory `/e`, node 5. A ring with the first file in slot 0, none
 /// in slot 1, the second file in slot 2, and a buffer of 16 bytes. A record with these entries.
@@ -111,9 +118,7 @@ pub(crate) fn trace_of(alloc: Global, entries: &[Submitted<'_>]) -> Result<Trace
     text.extend_from_slice(b"\x01\0\0\x10\0\0\0\0\0\0\x10\0\0\0\x01\0")?;
     text.extend_from_slice(&(entries.len() as u64).to_le_bytes()[..2])?;
     for entry in entries {
-        text.extend_from_slice(&pack(&entry.sqe))?;
-        text.extend_from_slice(&(entry.side.len() as u64).to_le_bytes()[..4])?;
-        text.extend_from_slice(entry.side)?;
+        push_entry(&mut text, &entry.sqe, entry.side)?;
     }
     Ok(read_trace(alloc, &text)?)
 }

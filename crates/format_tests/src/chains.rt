@@ -1,4 +1,6 @@
-use super::*;
+//! Chains, and the roles of their members.
+
+use chain_plan::Plan;
 use std::alloc::{AllocError, Global};
 use std::test::Fail;
 use trace_format::read_trace;

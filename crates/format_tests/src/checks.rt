@@ -1,4 +1,6 @@
-use super::*;
+//! What an entry asks for, and the errors of its tests.
+
+use entry_checks::{Op, check};
 use sqe_codec::Sqe;
 use std::alloc::{AllocError, Global};
 use trace_format::{Entry, Series, Version, fits};

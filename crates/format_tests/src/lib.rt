@@ -1,0 +1,13 @@
+//! Entries, traces, checks and chains, as tests: their values are from hand.
+#![tactic(auto)]
+
+#[cfg(test)]
+mod chains;
+#[cfg(test)]
+mod checks;
+#[cfg(test)]
+mod entries;
+#[cfg(test)]
+mod so_far;
+#[cfg(test)]
+mod traces;

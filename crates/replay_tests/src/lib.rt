@@ -1,0 +1,15 @@
+//! Worlds, footprints, places and replays of small traces, as tests: their values are from hand.
+#![tactic(auto)]
+
+#[cfg(test)]
+mod footprints;
+#[cfg(test)]
+mod places;
+#[cfg(test)]
+mod rounds;
+#[cfg(test)]
+mod running;
+#[cfg(test)]
+mod text;
+#[cfg(test)]
+mod worlds;

@@ -1,0 +1,39 @@
+//! The places of a trace, run one after the other.
+ghost use Rattle.trace_format.specs.Text.{IsSpelled};
+
+use chain_plan::Plan;
+use op_meaning::{Reply, run_entry};
+use std::alloc::Global;
+use std::test::Fail;
+use trace_format::{Trace, read_trace};
+use world_parts::{Part, State};
+
+/// What the places of a trace answered, and the state that they left.
+#[derive(Drop)]
+pub(crate) struct Ran {
+    pub(crate) replies: Vec<Reply>,
+    pub(crate) state: State,
+}
+
+fn run_places(alloc: Global, trace: &Trace) -> Result<Ran, Fail>
+    requires { IsSpelled trace.now }
+{
+    let plan = Plan::of(alloc, trace)?;
+    let state = State::of(alloc, trace)?;
+    let mut part = Part { place: 0, state };
+    let mut replies = Vec::new(alloc);
+    for place in 0..trace.places() {
+        let role = plan.role(place);
+        replies.push(run_entry(alloc, place, trace, &role, &mut part)?)?;
+    }
+    Ok(Ran {
+        replies,
+        state: part.state,
+    })
+}
+
+/// Runs the places of the trace that a text spells.
+pub(crate) fn run(alloc: Global, text: &[u8]) -> Result<Ran, Fail> {
+    let trace = read_trace(alloc, text)?;
+    run_places(alloc, &trace)
+}
