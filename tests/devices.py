@@ -1,13 +1,13 @@
 """Devices that fail: each read and each write fails, is interrupted, would block, moves one byte or none."""
 import os
 from functools import partial
-from typing import List
+from typing import Callable, List
 
-from harness import EXAMPLES, Answer, Job, Outcome, Program, Words, fault, first, refused, shown, skipped, spoken
+from harness import Answer, Input, Job, Outcome, Program, Words, fault, first, input_of, refused, shown, skipped, spoken
 from shims import Shim
 
 TRACES = ("read_four_bytes", "open_write_close_chain_then_empty_slot", "fallocate_and_ftruncate_tests", "side_bytes_of_read")
-MODES = (["serial"], ["serial", "--sums"], ["check"], ["run"], ["compare"])
+MODES = (["serial"], ["serial", "--sums"], ["check"], ["run"], ["compare"], ["diff"])
 WORDS_ALONE: List[Words] = [["--help"], ["run", "--help"], ["serial", "extra"], ["run", "--workers", "65"], ["serial", b"\xff"]]
 FAILURES = ("fail", "interrupt", "block", "zero")
 INPUT, OUTPUT, ERRORS = 0, 1, 2
@@ -23,8 +23,9 @@ def changed(calls: int, is_whole: bool) -> List[int]:
     return sorted({*range(1, calls + 2, STEP), *range(1, min(calls, 3) + 1), *range(max(1, calls - 2), calls + 2)})
 
 
-def allowed(on: int, how: str, at: int, is_byte: bool, calls: int, is_help: bool, wanted: Answer, given: int) -> List[Answer]:
-    """What a run may answer of which the call numbered `at`, of so many, is changed; `given` is the size of the input."""
+def allowed(on: int, how: str, at: int, is_byte: bool, calls: int, is_help: bool, wanted: Answer, given: int, ended: Callable[[int], Answer]) -> List[Answer]:
+    """What a run may answer of which the call numbered `at`, of so many, is changed; `given` is the size of the input, and
+    `ended` gives the answer for so many of its bytes."""
     if at > calls or how == "short":
         return [wanted]
     moved = at - 1 if is_byte else 0
@@ -33,7 +34,7 @@ def allowed(on: int, how: str, at: int, is_byte: bool, calls: int, is_help: bool
     if on == INPUT:
         # the input ends there
         taken = moved if is_byte else given * (at > 1)
-        return [wanted if taken == given else refused("Short at {}".format(taken))]
+        return [wanted if taken == given else ended(taken)]
     if on == OUTPUT:
         lost = Answer(3, wanted.output[:moved], b"fault: write\n")
     else:
@@ -42,10 +43,16 @@ def allowed(on: int, how: str, at: int, is_byte: bool, calls: int, is_help: bool
     return [lost, wanted] if how == "interrupt" and (is_help or on == ERRORS) else [lost]
 
 
+def short(program: Program, words: Words, file: Input, taken: int) -> Answer:
+    """The answer for an input that ends early: a trace is refused there, reports are compared as far as they go."""
+    return program.run(words, file[:taken]) if isinstance(file, bytes) else refused("Short at {}".format(taken))
+
+
 def swept(shim: Shim, program: Program, words: Words, trace: str, on: int, is_byte: bool) -> List[Outcome]:
     """Calls on one descriptor changed in turn, in each way; with is_byte each call moves a byte."""
-    file = os.path.join(EXAMPLES, trace + ".trace") if trace else None
-    given = os.path.getsize(file) if file else 0
+    file = input_of(words, trace) if trace else None
+    given = len(file) if isinstance(file, bytes) else os.path.getsize(file) if file else 0
+    ended = partial(short, program, words, file)
     wanted = program.run(words, file)
     undisturbed, (calls,) = shim.run(program, words, file, on=str(on), byte=int(is_byte))
     faults, runs = [], 0
@@ -56,7 +63,7 @@ def swept(shim: Shim, program: Program, words: Words, trace: str, on: int, is_by
         for at in changed(calls, is_whole):
             got, _ = shim.run(program, words, file, on=str(on), how=how, at=at, byte=int(is_byte))
             runs += 1
-            answers = allowed(on, how, at, is_byte, calls, "--help" in words, wanted, given)
+            answers = allowed(on, how, at, is_byte, calls, "--help" in words, wanted, given, ended)
             # (a front of a trace that is refused may be refused for the same fault)
             answers += [wanted] if how == "zero" and on == INPUT and wanted.status == 1 else []
             if got not in answers:

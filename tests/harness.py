@@ -114,6 +114,11 @@ def refused(line: str) -> Answer:
     return Answer(1, b"", "trace refused: {}\n".format(line).encode())
 
 
+def reports_refused(line: str) -> Answer:
+    """The answer of `diff` for an input that is not two reports."""
+    return Answer(1, b"", "reports refused: {}\n".format(line).encode())
+
+
 def fault(cause: str) -> Answer:
     """The answer where something failed that is no matter of the trace."""
     return Answer(3, b"", "fault: {}\n".format(cause).encode())
@@ -122,6 +127,17 @@ def fault(cause: str) -> Answer:
 def read(*names: str) -> bytes:
     with open(os.path.join(EXAMPLES, *names), "rb") as file:
         return file.read()
+
+
+def two_reports(name: str) -> bytes:
+    """What `diff` reads, of an example: its report, and its report with sums."""
+    return read(name + ".report") + read(name + ".sums")
+
+
+def input_of(words: Words, name: str) -> Input:
+    """What the program reads of an example; of one without a report `diff` reads the trace, and refuses it."""
+    is_told = words[0] == "diff" and os.path.exists(os.path.join(EXAMPLES, name + ".report"))
+    return two_reports(name) if is_told else os.path.join(EXAMPLES, name + ".trace")
 
 
 def processors() -> int:

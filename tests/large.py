@@ -5,7 +5,7 @@ import tempfile
 from functools import partial
 from typing import List, Tuple
 
-from harness import TOP, Answer, Job, Outcome, Program, difference, read, spoken
+from harness import TOP, Answer, Job, Outcome, Program, difference, read, reports_refused, spoken
 
 MODES: Tuple[Tuple[List[str], str], ...] = ((["serial"], ".report"), (["serial", "--sums"], ".sums"), (["check"], ".check"))
 
@@ -27,5 +27,15 @@ def tried(program: Program) -> List[Outcome]:
     return outcomes or [Outcome("large traces", "examples/make --large wrote none")]
 
 
+def long_reports(program: Program) -> List[Outcome]:
+    """The longest input of `diff` is read, and one byte more is refused for its length."""
+    first, long = "the first does not begin with uring-report 1", "more than 1073741824 bytes"
+    outcomes = []
+    for size, line in ((1 << 30, first), ((1 << 30) + 1, long)):
+        got = program.run(["diff"], None, shell='head -c {} /dev/zero | "$@"'.format(size))
+        outcomes.append(Outcome("diff of {} bytes by {}".format(size, program.compiler), difference(got, reports_refused(line))))
+    return outcomes
+
+
 def jobs(programs: List[Program]) -> List[Job]:
-    return [partial(tried, programs[0])]
+    return [partial(tried, programs[0]), partial(long_reports, programs[0])]

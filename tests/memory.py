@@ -3,7 +3,7 @@ import os
 from functools import partial
 from typing import List
 
-from harness import EXAMPLES, Job, Outcome, Program, Words, fault, first, shown, skipped, spoken
+from harness import EXAMPLES, Job, Outcome, Program, Words, fault, first, input_of, shown, skipped, spoken
 from shims import Shim
 
 TRACES = (
@@ -19,7 +19,7 @@ TRACES = (
     "side_bytes_of_read",
 )
 ROUNDS = ["--workers", "2", "--window", "4"]
-MODES = (["serial"], ["serial", "--sums"], ["check"], ["run", *ROUNDS], ["compare", *ROUNDS])
+MODES = (["serial"], ["serial", "--sums"], ["check"], ["run", *ROUNDS], ["compare", *ROUNDS], ["diff"])
 WORDS_ALONE: List[Words] = [["serial", "extra"], ["run", "--workers", "65"], ["--help"], ["serial", "--help"], ["serial", b"\xff"]]
 WITH_THREADS = ("two_written_ranges_in_one_page", "unresolved_slot_holds_back_a_later_write", "thousand_disjoint_writes_in_one_round")
 # So many growths are each refused; of those behind them each STEP-th is.
@@ -28,7 +28,7 @@ STEP = 7
 # Growths are not the same in number in each run with threads.
 SPARE = 6
 # The lists of the command line's words are made as large as they will be ahead of time; where that alone is refused, they
-# grow on their own.
+# grow on their own. So are the lists of the lines of two reports, and of the words of each line.
 TRIED_AGAIN = 4
 
 
@@ -41,7 +41,7 @@ def growths(count: int, spare: int) -> List[int]:
 def swept(shim: Shim, program: Program, words: Words, trace: str, is_from: bool) -> List[Outcome]:
     """Each growth of one run refused, once or from then on: the fault is want of memory or of a thread, and nothing goes
     out. A run that met no refusal, and one with ample memory, gives the answer."""
-    given = os.path.join(EXAMPLES, trace + ".trace") if trace else None
+    given = input_of(words, trace) if trace else None
     has_workers = bool(trace) and words[0] in ("run", "compare")
     wanted = program.run(words, given)
     ample, (count, _, _, before_read) = shim.run(program, words, given)
@@ -53,6 +53,8 @@ def swept(shim: Shim, program: Program, words: Words, trace: str, is_from: bool)
         got, (_, refused, _, _) = shim.run(program, words, given, at=at, **{"from": int(is_from)})
         refusals += refused > 0
         is_early = refused > 0 and not is_from and at <= (before_read or count)
+        if words[0] == "diff" and refused and not is_from and got == wanted:
+            continue
         if is_early and got == wanted and tried_again < TRIED_AGAIN:
             tried_again += 1
         elif got not in (lacking if refused else [wanted]):

@@ -4,10 +4,10 @@ from functools import partial
 from typing import Callable, List
 
 import traces
-from harness import Answer, Job, Outcome, Program, Words, difference, fault, read, refused, shown, spoken
+from harness import Answer, Job, Outcome, Program, Words, difference, fault, read, refused, reports_refused, shown, spoken, two_reports
 
 EXAMPLE = "read_four_bytes"
-SUBCOMMANDS = ("serial", "run", "compare", "check")
+SUBCOMMANDS = ("serial", "run", "compare", "check", "diff")
 WRONG: List[Words] = [
     [], ["bogus"], [""], ["Serial"], ["serial", "serial"], ["--sums"], ["--version"],
     ["serial", "extra"], ["serial", "--workers", "2"], ["serial", "--sums", "--sums"],
@@ -18,6 +18,7 @@ WRONG: List[Words] = [
     ["run", "--window", "0"], ["run", "--window", "4097"], ["run", "--window", "18446744073709551617"],
     ["compare", "--workers", "0"], ["compare", "--workers", "65"],
     ["compare", "--window", "0"], ["compare", "--window", "4097"],
+    ["diff", "extra"], ["diff", "--sums"], ["diff", "--workers", "2"],
 ]
 GOOD: List[Words] = [
     ["serial"], ["run"], ["run", "--workers=64", "--window=4096"], ["run", "--workers", "1", "--window", "1"],
@@ -66,6 +67,32 @@ def good(program: Program, words: Words) -> List[Outcome]:
     return [Outcome("{} by {}".format(spoken(words), program.compiler), difference(got, Answer(0, read(EXAMPLE + ".report"), b"")))]
 
 
+def counted(entries: str) -> bytes:
+    """The counts of two reports of the example that differ in entries alone."""
+    return "entries {}\n{}".format(entries, "".join(it + " 1 equal, 0 different, 0 outside\n" for it in ("tree", "slots", "buffers"))).encode()
+
+
+def reports(program: Program) -> List[Outcome]:
+    """What `diff` says of two reports, and of what is not two."""
+    report, line = read(EXAMPLE + ".report"), b"0 user=7 res=4 posted data=32333435"
+    other, outside = (line.replace(b"res=4", b"res=5"), line + b" op=22 outside=late")
+    alone = b"uring-report 1\nend\n"
+    none = "".join(it + " 0 equal, 0 different, 0 outside\n" for it in ("entries", "tree", "slots", "buffers")).encode()
+    first, second = ("the {} does not begin with uring-report 1".format(it) for it in ("first", "second"))
+    cases = (
+        ("a report and the same", report * 2, Answer(0, counted("1 equal, 0 different, 0 outside"), b"")),
+        ("a report and its sums", two_reports(EXAMPLE), Answer(0, counted("1 equal, 0 different, 0 outside"), b"")),
+        ("another result", report + report.replace(line, other), Answer(4, b"- " + line + b"\n+ " + other + b"\n" + counted("0 equal, 1 different, 0 outside"), b"")),
+        ("outside", report + report.replace(line, outside), Answer(0, b"~ " + outside + b"\n" + counted("0 equal, 0 different, 1 outside"), b"")),
+        ("nothing to compare", alone + alone, Answer(0, none, b"")),
+        ("one report", report, reports_refused(second)),
+        ("a report with no end", report[:-4], reports_refused("the first has no line end")),
+        ("a trace", read(EXAMPLE + ".trace"), reports_refused(first)),
+        ("nothing", b"", reports_refused(first)),
+    )
+    return [Outcome("diff of {} by {}".format(name, program.compiler), difference(program.run(["diff"], given), wanted)) for name, given, wanted in cases]
+
+
 def asker(program: Program, outcomes: List[Outcome]) -> Callable[..., None]:
     """Gives a call that runs the program on a trace and adds what came of it to the outcomes."""
 
@@ -84,6 +111,7 @@ def outputs(program: Program) -> List[Outcome]:
         ask("a full output", fault("write"), words, 'exec "$@" > /dev/full')
         ask("a closed output", fault("write"), words, 'exec "$@" >&-')
         ask("an output that is only read", fault("write"), words, 'exec "$@" 1< /dev/null')
+    ask("a full output", fault("write"), ["diff"], 'exec "$@" > /dev/full', given=two_reports(EXAMPLE))
     for to in ("> /dev/full", ">&-"):
         ask("a lost line", Answer(2, b"", b""), ["bogus"], 'exec "$@" 2{}'.format(to))
         ask("a lost line", Answer(1, b"", b""), ["serial"], 'exec "$@" 2{}'.format(to), given=b"")
@@ -104,6 +132,7 @@ def inputs(program: Program) -> List[Outcome]:
         ask("an empty input", refused("Short at 0"), words, 'exec "$@" < /dev/null')
         ask("a pipe that ends early", refused("Short at 100"), words, 'head -c 100 | "$@"')
         ask("a refused trace and a full output", refused("Short at 100"), words, 'exec "$@" > /dev/full', given=front)
+    ask("a directory", fault("read"), ["diff"], 'exec "$@" < /')
     pieces = '{ head -c 50; sleep 0.1; head -c 60; sleep 0.1; cat; } | "$@"'
     ask("an input in three pieces", Answer(0, read(EXAMPLE + ".report"), b""), ["serial"], pieces)
     ask("help without an input", program.run(["--help"], None), ["--help"], 'exec "$@" <&-')
@@ -161,5 +190,5 @@ def jobs(programs: List[Program]) -> List[Job]:
     for program in programs:
         for test, all_words in ((wrong, WRONG), (no_text, NO_TEXT), (helped, helps), (good, GOOD)):
             made += [partial(test, program, words) for words in all_words]
-        made += [partial(several, program) for several in (statuses, outputs, inputs, broken_pipe, limits_of_the_system)]
+        made += [partial(several, program) for several in (statuses, reports, outputs, inputs, broken_pipe, limits_of_the_system)]
     return made

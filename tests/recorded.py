@@ -1,0 +1,286 @@
+"""Recorded traces of examples/recorded/, and the recorder itself: what the programs give is what the kernel gave."""
+import hashlib
+import os
+import shutil
+import subprocess
+import tempfile
+from functools import partial
+from typing import Dict, List, NamedTuple, Optional, Sequence, Tuple
+
+from harness import EXAMPLES, TOP, Answer, Job, Outcome, Program, difference, first, shown, skipped, spoken
+
+FOLDER = os.path.join(EXAMPLES, "recorded")
+SOURCES = os.path.join(TOP, "tools", "uring_record")
+# Whether a program that has no `diff` fails here; if not, the comparison in this file stands alone.
+NEEDS_DIFF = True
+# What sixteen.c ends with where the kernel lacks what it needs, and the recorder where it failed.
+UNTRIED, FAILED = 77, 125
+SECONDS = 60
+SECTIONS = {"dir": "tree", "file": "tree", "slot": "slots", "descriptor": "slots", "buffer": "buffers"}
+HEADINGS = ("uring-report", "ring", "tree", "slots", "buffers", "end")
+PARTS = ("entries", "tree", "slots", "buffers")
+RUNS: Sequence[Sequence[str]] = (["run"], ["run", "--workers", "2", "--window", "4"])
+
+
+# --- Two reports, compared ----------------------------------------------------------------------------------------
+
+class Line(NamedTuple):
+    """A line of a report: the part that it belongs to, what it is about, and what it says of it."""
+
+    part: str
+    subject: Tuple[str, ...]
+    facts: Dict[str, str]
+    text: str
+
+
+class Compared(NamedTuple):
+    """How many lines of each part are equal, different and outside, and what differs."""
+
+    counts: Dict[str, List[int]]
+    differing: List[str]
+
+    def lines(self) -> str:
+        return "".join("{} {} equal, {} different, {} outside\n".format(part, *self.counts[part]) for part in PARTS)
+
+
+def line_of(text: str) -> Line:
+    words = text.split(" ")
+    length = {"slot": 3, "buffer": 3, "ring": 2, "dir": 2, "file": 2, "descriptor": 2}.get(words[0], 1)
+    facts = {}
+    for word in words[length:]:
+        name, equals, value = word.partition("=")
+        facts[name if equals else ""] = value if equals else word
+    return Line(SECTIONS.get(words[0], "entries"), tuple(words[:length]), facts, text)
+
+
+def read_report(text: str) -> Tuple[Dict[Tuple[str, ...], Line], List[str]]:
+    """The lines of a report by their subjects, without headings, and the parts that it has."""
+    lines = [line_of(line) for line in text.split("\n")[:-1]]
+    parts = ["entries", *(it.subject[0] for it in lines if it.subject[0] in PARTS)]
+    return {it.subject: it for it in lines if it.subject[0] not in HEADINGS}, parts
+
+
+def agree(one: Line, other: Line) -> bool:
+    return all(other.facts.get(name, value) == value for name, value in one.facts.items())
+
+
+def compared(report: str, kernel: str) -> Compared:
+    """Each line of either text: equal, different, or outside."""
+    (ours, our_parts), (theirs, their_parts) = read_report(report), read_report(kernel)
+    counts = {part: [0, 0, 0] for part in PARTS}
+    differing = []
+    for subject in [*ours, *(it for it in theirs if it not in ours)]:
+        one, other = ours.get(subject), theirs.get(subject)
+        part = (one or other).part
+        if any(it and "outside" in it.facts for it in (one, other)):
+            counts[part][2] += 1
+        elif one and other and agree(one, other):
+            counts[part][0] += 1
+        elif part in our_parts and part in their_parts:
+            counts[part][1] += 1
+            differing += [sign + it.text for sign, it in (("- ", one), ("+ ", other)) if it]
+    return Compared(counts, differing)
+
+
+# --- Recorded traces ----------------------------------------------------------------------------------------------
+
+def read_file(path: str) -> bytes:
+    with open(path, "rb") as file:
+        return file.read()
+
+
+def diff(program: Program, report: bytes, kernel: bytes, wanted: str, label: str) -> Outcome:
+    """The program's own comparison: status 0 and the same counts."""
+    got = program.run(["diff"], report + kernel)
+    name = "{}: diff by {}".format(label, program.compiler)
+    if got.status == 2 and not NEEDS_DIFF:
+        return Outcome(name, skipped="the program has no diff")
+    is_well = got.status == 0 and not got.errors and got.output.decode("utf-8", "replace").endswith(wanted)
+    return Outcome(name, None if is_well else "{}; wanted status 0 and {!r}".format(shown(got), wanted))
+
+
+def replayed(program: Program, trace: bytes, kernel: bytes, wanted: Optional[str], label: str) -> List[Outcome]:
+    """A recorded trace by one program. Without counts that are wanted, nothing may differ."""
+    checked = program.run(["check"], trace)
+    is_accepted = checked.status == 0 and checked.output.startswith(b"ok ")
+    serial, sums = program.run(["serial"], trace), program.run(["serial", "--sums"], trace)
+    outcomes = [Outcome("{}: check by {}".format(label, program.compiler), None if is_accepted else shown(checked))]
+    for words, answer in ((["compare"], Answer(0, b"equal\n", b"")), (["run", "--sums"], sums), *((it, serial) for it in RUNS)):
+        got = program.run(words, trace)
+        outcomes.append(Outcome("{}: {} by {}".format(label, spoken(words), program.compiler), difference(got, answer)))
+    found = compared(sums.output.decode("utf-8", "replace"), kernel.decode("utf-8", "replace"))
+    fault = shown(sums) if sums.status else first(found.differing)
+    if not fault and wanted is not None and found.lines() != wanted:
+        fault = "it has {!r}, wanted {!r}".format(found.lines(), wanted)
+    if not fault and not found.counts["entries"][0]:
+        fault = "there is no entry to compare"
+    outcomes.append(Outcome("{}: as the kernel, by {}".format(label, program.compiler), fault))
+    outcomes.append(diff(program, sums.output, kernel, found.lines(), label))
+    return outcomes
+
+
+def recorded(program: Program, name: str) -> List[Outcome]:
+    path = os.path.join(FOLDER, name)
+    try:
+        trace, kernel, wanted = (read_file(path + ending) for ending in (".trace", ".kernel", ".diff"))
+    except FileNotFoundError as error:
+        return [Outcome("recorded/{} by {}".format(name, program.compiler), "{} is missing".format(error.filename))]
+    return replayed(program, trace, kernel, wanted.decode(), "recorded/" + name)
+
+
+# --- The recorder -------------------------------------------------------------------------------------------------
+
+class Tools:
+    """The recorder and the programs of its test, built into a folder that goes with it."""
+
+    def __init__(self) -> None:
+        self.folder = tempfile.TemporaryDirectory(prefix="uring-record-test-")
+
+    def file(self, name: str) -> str:
+        return os.path.join(self.folder.name, name)
+
+    def lacking(self) -> Optional[str]:
+        """Builds them, or says why they cannot be built."""
+        compiler = os.environ.get("CC") or next((it for it in ("cc", "gcc", "clang") if shutil.which(it)), "")
+        if not compiler:
+            return "there is no C compiler"
+        sources = [os.path.join(SOURCES, it) for it in sorted(os.listdir(SOURCES)) if it.endswith(".c")]
+        tests = {it: [os.path.join(SOURCES, "test", it + ".c")] for it in ("sixteen", "sums")}
+        tests["sums"] += [os.path.join(SOURCES, it) for it in ("sha256.c", "common.c")]
+        for name, files in {"uring_record": sources, **tests}.items():
+            words = [*compiler.split(), "-std=gnu11", "-D_GNU_SOURCE", "-O1", "-I", SOURCES, "-o", self.file(name), *files]
+            try:
+                ran = subprocess.run(words, stdin=subprocess.DEVNULL, stdout=subprocess.PIPE, stderr=subprocess.STDOUT)
+            except OSError as error:
+                return "the C compiler {} does not run: {}".format(compiler, error.strerror)
+            if ran.returncode:
+                return "the C compiler made no {}: {}".format(name, ran.stdout.decode("utf-8", "replace")[-300:])
+        return None
+
+    def record(self, words: Sequence[str], command: Sequence[str], name: str) -> Answer:
+        """Records a command in an empty directory; its trace and results are of-NAME.trace and of-NAME.kernel."""
+        root = self.file("of-" + name)
+        os.mkdir(root)
+        given = [self.file("uring_record"), "-o", root + ".trace", "-k", root + ".kernel", *words, "--", *command]
+        return ran_in(root, given)
+
+
+def ran_in(folder: str, words: Sequence[str], given: bytes = b"") -> Answer:
+    ran = subprocess.run(words, cwd=folder, input=given, stdout=subprocess.PIPE, stderr=subprocess.PIPE, timeout=SECONDS)
+    return Answer(ran.returncode, ran.stdout, ran.stderr)
+
+
+def lacking_in_system(tools: Tools) -> Optional[str]:
+    """Why nothing can be recorded here, found out by trying."""
+    os.mkdir(tools.file("tried"))
+    alone = ran_in(tools.file("tried"), [tools.file("sixteen")])
+    if alone.status == UNTRIED:
+        return "the kernel gives no io_uring, or lacks an opcode: {}".format(alone.errors.decode("utf-8", "replace").strip())
+    traced = tools.record([], ["true"], "true")
+    said = traced.errors.decode("utf-8", "replace").strip()
+    return "the command cannot be traced: {}".format(said) if traced.status == FAILED else None
+
+
+def sixteen(tools: Tools, programs: List[Program], words: Sequence[str]) -> List[Outcome]:
+    """All sixteen calls, recorded, replayed and compared."""
+    label = "the sixteen calls, {}".format(spoken(words))
+    name = "sixteen" + "".join(words)
+    got = tools.record(words, [tools.file("sixteen")], name)
+    said = got.errors.decode("utf-8", "replace")
+    if got.status:
+        return [Outcome(label, shown(got))]
+    faults = ["it lacks {!r}".format(it) for it in SAID if it not in said]
+    if (ORDER in said) == ("--drain" in words):
+        faults.append("with --drain, and only there, entries are in order: {!r}".format(said))
+    outcomes = [Outcome(label + ": the summary", first(faults))]
+    trace, kernel = (read_file(tools.file("of-" + name + it)) for it in (".trace", ".kernel"))
+    for opcode in (0, 1, 2, 3, 4, 5, 17, 18, 19, 22, 23, 35, 36, 37, 39, 55):
+        told = " op={}\n".format(opcode).encode() in kernel
+        outcomes.append(Outcome("{}: opcode {} is told".format(label, opcode), None if told else "no line has op={}".format(opcode)))
+    for program in programs:
+        outcomes += replayed(program, trace, kernel, None, label)
+    return outcomes
+
+
+# What the summary of sixteen.c has to say: an entry outside, a position that lseek(2) moved, two in flight at once.
+SAID = ("opcode 1", "a position that ordinary calls moved is made right")
+ORDER = "requests in flight at once touch the same name"
+
+
+def statuses(tools: Tools) -> List[Outcome]:
+    """The command's own status is passed on; 125 to 127 are the recorder's."""
+    plain = tools.file("plain")
+    with open(plain, "wb"):
+        pass
+    cases = (
+        ("the command's status", [], ["sh", "-c", "exit 3"], 3),
+        ("a signal that ends the command", [], ["sh", "-c", "kill -9 $$"], 137),
+        ("a command that is not there", [], ["/nonexistent/command"], 127),
+        ("a command that cannot be executed", [], [plain], 126),
+        ("no command", [], [], FAILED),
+        ("a wrong option", ["--bogus"], ["true"], FAILED),
+        ("a root that is not there", ["--root", "/nonexistent"], ["true"], FAILED),
+        ("a root that is the system's", ["--root", "/"], ["true"], FAILED),
+        ("a file that cannot be written", ["--output", "/nonexistent/a.trace"], ["true"], FAILED),
+    )
+    outcomes = []
+    for at, (label, words, command, wanted) in enumerate(cases):
+        got = tools.record(words, command, "status{}".format(at))
+        is_well = got.status == wanted and (wanted not in (FAILED, 126, 127) or b"uring_record: " in got.errors)
+        outcomes.append(Outcome("the recorder: {}".format(label), None if is_well else "{}, wanted status {}".format(shown(got), wanted)))
+    helped = ran_in(tools.folder.name, [tools.file("uring_record"), "--help"])
+    is_well = helped.status == 0 and not helped.errors and helped.output.startswith(b"Usage: uring_record ")
+    return [*outcomes, Outcome("the recorder: --help", None if is_well else shown(helped))]
+
+
+# FIPS 180-4's examples, and those of the cryptographic toolkit of NIST for it.
+VECTORS = (
+    (b"", "e3b0c44298fc1c149afbf4c8996fb92427ae41e4649b934ca495991b7852b855"),
+    (b"abc", "ba7816bf8f01cfea414140de5dae2223b00361a396177a9cb410ff61f20015ad"),
+    (b"abcdbcdecdefdefgefghfghighijhijkijkljklmklmnlmnomnopnopq", "248d6a61d20638b8e5c026930c3e6039a33ce45964ff2167f6ecedd419db06c1"),
+    (b"a" * 1000000, "cdc76e5c9914fb9281a1c7e284d73e67f1809a48a497200e046d39ccc7112cd0"),
+)
+
+
+def sha256(tools: Tools) -> List[Outcome]:
+    """The recorder's SHA-256 by the known vectors, and by Python's at each length about a block, in pieces of any size."""
+    faults = []
+    lengths = [*range(50, 70), 119, 120, 128]
+    cases = [(text, sum, piece) for text, sum in VECTORS for piece in ("64", "1000")]
+    cases += [(text, hashlib.sha256(text).hexdigest(), "7") for text in (bytes(range(it)) for it in lengths)]
+    for text, wanted, piece in cases:
+        got = ran_in(tools.folder.name, [tools.file("sums"), piece], text)
+        if got != Answer(0, wanted.encode() + b"\n", b""):
+            faults.append("{} bytes: {}, wanted {}".format(len(text), shown(got), wanted))
+    return [Outcome("the recorder: sha256", first(faults))]
+
+
+def recorder(programs: List[Program]) -> List[Outcome]:
+    """The recorder's own test."""
+    tools = Tools()
+    lacking = tools.lacking()
+    if lacking:
+        return skipped("the recorder", lacking)
+    outcomes = sha256(tools)
+    lacking = lacking_in_system(tools)
+    if lacking:
+        return outcomes + skipped("the recorder", lacking)
+    for words in ([], ["--drain"], ["--wait"]):
+        outcomes += sixteen(tools, programs, words)
+    return outcomes + statuses(tools)
+
+
+def strays() -> List[Outcome]:
+    """Whether each file beside the recorded traces belongs to one."""
+    names = sorted(os.listdir(FOLDER)) if os.path.isdir(FOLDER) else []
+    traces = [it[:-6] for it in names if it.endswith(".trace")]
+    lost = [it for it in names if it.endswith((".kernel", ".diff")) and it.rsplit(".", 1)[0] not in traces]
+    outcomes = [Outcome("recorded/" + it, "it belongs to no trace") for it in lost]
+    return outcomes if traces else [*outcomes, Outcome("recorded", "there is no trace in examples/recorded/")]
+
+
+def jobs(programs: List[Program]) -> List[Job]:
+    names = sorted(os.listdir(FOLDER)) if os.path.isdir(FOLDER) else []
+    traces = [it[:-6] for it in names if it.endswith(".trace")]
+    each = [partial(recorded, program, name) for program in programs for name in traces]
+    return [strays, partial(recorder, programs), *each]

@@ -1,0 +1,502 @@
+#include "calls.h"
+#include "completions.h"
+#include "flights.h"
+#include "made.h"
+#include "memory.h"
+#include "notes.h"
+#include "paths.h"
+#include "positions.h"
+#include "start.h"
+#include "table.h"
+
+#include <fcntl.h>
+#include <linux/openat2.h>
+#include <stdlib.h>
+#include <string.h>
+#include <sys/mman.h>
+#include <sys/syscall.h>
+#include <unistd.h>
+
+/* A call, and which of its arguments are the file that it changes, names and the directories that
+ * they start from, and flags (or none). */
+struct kind {
+	long number;
+	void (*ended)(struct call *call, i64 result);
+	signed char file, directory, path, other_directory, other, flags;
+};
+enum { NONE = -1 };
+
+static const struct kind *kind_of(long number);
+
+/* The flags that a call was given. */
+static u32 flags_of(const struct call *call)
+{
+	struct open_how how = { 0 };
+	int argument = kind_of(call->number)->flags;
+
+	if (call->number == SYS_openat2 &&
+	    fetch(call->thread, call->arguments[2], &how, sizeof how))
+		return (u32)how.flags;
+#ifdef SYS_creat
+	if (call->number == SYS_creat)
+		return O_CREAT | O_TRUNC | O_WRONLY;
+#endif
+	return argument == NONE ? 0 : (u32)call->arguments[argument];
+}
+
+/* The entry that a call becomes: it has met what met the call while it ran. */
+static void is_told_by(struct call *call, struct entry *entry)
+{
+	struct entry *stand_in = call->flight->entry;
+
+	stand_in->told_by = entry;
+	put_outside(entry, stand_in->outside);
+	counts.calls++;
+}
+
+/* Calls by a descriptor */
+
+/* The slot of the recorder's ring, opened on what a descriptor of the recorder leads to; false
+ * without a name. */
+static bool open_our_slot(int copy)
+{
+	struct opened **slot = &our_ring()->now[0];
+
+	if (*slot && is_same((*slot)->descriptor, copy))
+		return true;
+	char *name = name_of(copy);
+	if (name) {
+		make_open(our_ring(), 1, name, O_RDWR, 0);
+		release(*slot);
+		*slot = new_opened(fcntl(copy, F_DUPFD_CLOEXEC, 0), 0);
+	}
+	free(name);
+	return name != NULL;
+}
+
+/* A change of a file that no path leads to is only noted: its bytes are not told from here on. */
+static void note_nameless(const struct opened *file)
+{
+	char *target = descriptor_target(getpid(), file->descriptor);
+	char *inside = target ? inside_root(target) : NULL;
+
+	if (inside && is_deleted(target)) {
+		note("an ordinary call that changes a file without a name is left out", NULL);
+		unsettle(file, OUTSIDE_CHANGED);
+	}
+	free(target);
+	free(inside);
+}
+
+/* Adds an entry for a call on a descriptor: on the same number where the table has it, else on the
+ * recorder's slot. `moves` says that the call moved the position from the entry's offset on. */
+static void add_on_file(struct call *call, struct io_uring_sqe *sqe, bool moves, const void *side,
+			u32 length, i32 result)
+{
+	int file = kind_of(call->number)->file, copy = call->flight->used->descriptor;
+	bool has_table = file != NONE && !options.version_one && call->process == home_process();
+	struct opened *opened = has_table ? opened_at((int)call->arguments[file]) : NULL;
+	bool is_there = opened && !opened->is_unsure && is_same(opened->descriptor, copy);
+
+	if (!(is_there && trace.uses_table) && open_our_slot(copy)) {
+		sqe->fd = 0;
+		sqe->flags = FLAG_FIXED;
+	} else if (is_there) {
+		trace.uses_table = true;
+		sqe->fd = (int)call->arguments[file];
+		if (moves && opened->position == sqe->off && !opened->moving) {
+			sqe->off = AT_POSITION;
+			position_moved(opened, result);
+		}
+	} else {
+		note_nameless(call->flight->used);
+		return;
+	}
+	is_told_by(call, make(our_ring(), sqe, side, length, result));
+}
+
+/* Whether the file of a call is open for appending. */
+static bool is_append(const struct call *call)
+{
+	return call->flight->used->appends;
+}
+
+/* Whether a write is at the position. */
+static bool is_at_position(const struct call *call)
+{
+	return call->number == SYS_write || call->number == SYS_writev ||
+	       (call->number == SYS_pwritev2 && (i64)call->arguments[3] == -1);
+}
+
+/* The bytes of a write, in memory of their own. */
+static u8 *bytes_of(const struct call *call, u64 length)
+{
+	const u64 *arguments = call->arguments;
+	u8 *bytes = allocate(length);
+	bool is_plain = call->number == SYS_write || call->number == SYS_pwrite64;
+	struct iovec *vectors =
+		is_plain ? NULL : fetch_vectors(call->thread, arguments[1], arguments[2]);
+	bool is_read = is_plain ? fetch(call->thread, arguments[1], bytes, length)
+				: vectors && fetch_gathered(call->thread, vectors, arguments[2],
+							    bytes, length);
+
+	if (!is_read)
+		note("the bytes of an ordinary write cannot be read: zeros are recorded", NULL);
+	free(vectors);
+	return bytes;
+}
+
+/* write(2) and its kin. */
+static void ended_write(struct call *call, i64 result)
+{
+	u64 length = (u64)result;
+	bool moves = is_at_position(call);
+	struct io_uring_sqe sqe = { .opcode = OP_WRITE, .len = (u32)length };
+
+	if (!length)
+		return;
+	sqe.off = call->arguments[3];
+	if (moves)
+		sqe.off = (u64)lseek(call->flight->used->descriptor, 0, SEEK_CUR) - length;
+	else if (is_append(call))
+		sqe.off = size_now(call->flight->used) - length;
+	u8 *bytes = bytes_of(call, length);
+	add_on_file(call, &sqe, moves, bytes, (u32)length, (i32)length);
+	free(bytes);
+}
+
+/* ftruncate(2). */
+static void ended_ftruncate(struct call *call, i64 result)
+{
+	struct io_uring_sqe sqe = { .opcode = OP_FTRUNCATE, .off = call->arguments[1] };
+
+	add_on_file(call, &sqe, false, NULL, 0, (i32)result);
+}
+
+/* fallocate(2). */
+static void ended_fallocate(struct call *call, i64 result)
+{
+	const u64 *arguments = call->arguments;
+	struct io_uring_sqe sqe = { .opcode = OP_FALLOCATE,
+				    .off = arguments[2],
+				    .addr = arguments[3] };
+
+	sqe.len = (u32)arguments[1];
+	add_on_file(call, &sqe, false, NULL, 0, (i32)result);
+}
+
+/* copy_file_range(2), sendfile(2), splice(2): what came is read back. */
+static void ended_copy(struct call *call, i64 result)
+{
+	u64 length = (u64)result, at = call->arguments[3], after;
+	bool moves = call->number == SYS_sendfile || !at;
+	int copy = call->flight->used->descriptor;
+
+	after = (u64)lseek(copy, 0, SEEK_CUR);
+	if (!length || (!moves && !fetch(call->thread, at, &after, sizeof after)))
+		return;
+	struct io_uring_sqe sqe = { .opcode = OP_WRITE, .off = after - length, .len = (u32)length };
+	int again = open_again(copy, O_RDONLY);
+	u8 *bytes = allocate(length);
+	if (again >= 0 && pread(again, bytes, length, (off_t)sqe.off) == result)
+		add_on_file(call, &sqe, moves, bytes, (u32)length, (i32)length);
+	else
+		note("what copy_file_range, sendfile or splice moved cannot be read", NULL);
+	free(bytes);
+	if (again >= 0)
+		close(again);
+}
+
+/* What a call on a file touches. */
+static void touch_changed(struct call *call)
+{
+	const u64 *arguments = call->arguments;
+	const struct opened *file = call->flight->used;
+	u64 from = 0, length = UINT64_MAX;
+
+	if (call->number == SYS_fallocate) {
+		from = arguments[2];
+		length = arguments[3];
+	} else if (call->number == SYS_pwrite64 && !file->appends) {
+		from = arguments[3];
+		length = arguments[2];
+	} else if (call->number == SYS_write && !file->appends) {
+		from = (u64)lseek(file->descriptor, 0, SEEK_CUR);
+		length = arguments[2];
+	}
+	touch_file(call->flight, file, from, from + min64(length, UINT64_MAX - from), true);
+}
+
+/* Calls by name */
+
+/* A name of a call as the trace has it, in memory of its own, or NULL where it is not below the
+ * root. */
+static char *name_in_tree(const struct call *call, int directory, int argument)
+{
+	int from = directory == NONE ? AT_FDCWD : (int)call->arguments[directory];
+	char *path = argument == NONE ? NULL : fetch_text(call->thread, call->arguments[argument]);
+	bool is_known;
+	char *name = path ? translate(call->process, from, path, &is_known) : NULL;
+
+	free(path);
+	if (name && !has_parent(name)) {
+		free(name);
+		name = NULL;
+	}
+	return name;
+}
+
+/* unlink(2), rmdir(2), unlinkat(2). */
+static void ended_unlink(struct call *call, i64 result)
+{
+	u32 flags = call->number == SYS_unlinkat ? flags_of(call) & AT_REMOVEDIR : 0;
+
+	(void)result;
+#ifdef SYS_rmdir
+	if (call->number == SYS_rmdir)
+		flags = AT_REMOVEDIR;
+#endif
+	is_told_by(call, make_path(OP_UNLINKAT, flags, call->names[0]));
+}
+
+/* mkdir(2), mkdirat(2). */
+static void ended_mkdir(struct call *call, i64 result)
+{
+	(void)result;
+	is_told_by(call, make_path(OP_MKDIRAT, 0, call->names[0]));
+}
+
+/* Adds an entry for a call with two names, where both are below the root. */
+static void add_two_names(struct call *call, u8 opcode, u32 flags)
+{
+	if (call->names[0] && call->names[1])
+		is_told_by(call, make_paths(opcode, flags, call->names[0], call->names[1]));
+	else
+		note("a rename or link into or out of the root is left out", NULL);
+}
+
+/* rename(2), renameat(2), renameat2(2). */
+static void ended_rename(struct call *call, i64 result)
+{
+	u32 flags = flags_of(call);
+
+	(void)result;
+	if (flags & RENAME_EXCHANGE && !options.version_one)
+		trace.uses_table = true; /* (version 1 has no exchange) */
+	add_two_names(call, OP_RENAMEAT, flags);
+}
+
+/* link(2), linkat(2). */
+static void ended_link(struct call *call, i64 result)
+{
+	(void)result;
+	add_two_names(call, OP_LINKAT, 0);
+}
+
+/* symlink(2), mknod(2) and their kin: the trace has no such names. */
+static void ended_other_name(struct call *call, i64 result)
+{
+	(void)call;
+	(void)result;
+	note("a name that is neither a file nor a directory is made, and left out", NULL);
+}
+
+/* truncate(2): the file is opened here for it. */
+static void ended_truncate(struct call *call, i64 result)
+{
+	char *full = outside_path(call->names[0]);
+	int copy = open(full, O_WRONLY | O_CLOEXEC);
+	struct io_uring_sqe sqe = { .opcode = OP_FTRUNCATE, .off = call->arguments[1] };
+
+	free(full);
+	if (copy < 0)
+		return;
+	release(call->flight->used);
+	call->flight->used = new_opened(copy, 0);
+	add_on_file(call, &sqe, false, NULL, 0, (i32)result);
+}
+
+/* An open: what it makes or cuts becomes an entry, and the table learns the number while the file
+ * has its name. */
+static void ended_open(struct call *call, i64 result)
+{
+	u32 flags = flags_of(call),
+	    kept = flags & (O_ACCMODE | O_CREAT | O_EXCL | O_TRUNC | O_APPEND);
+	int copy = copy_descriptor(call->process, (int)result);
+	char *name = copy < 0 || flags & O_PATH || (flags & O_TMPFILE) == O_TMPFILE ? NULL
+										    : name_of(copy);
+
+	if (name && flags & (O_CREAT | O_TRUNC)) {
+		struct opened **slot = &our_ring()->now[0];
+		*slot = release(*slot);
+		is_told_by(call, make_open(our_ring(), 1, name, kept, 0));
+	}
+	if (name && trace.uses_table && !options.version_one && call->process == home_process()) {
+		begin_batch();
+		ensure_number(call->process, (int)result);
+	}
+	free(name);
+	if (copy >= 0)
+		close(copy);
+}
+
+/* What a call by name touches. */
+static void touch_named(struct call *call)
+{
+	bool is_open = kind_of(call->number)->ended == ended_open;
+	bool is_link = kind_of(call->number)->ended == ended_link;
+	bool cuts = kind_of(call->number)->ended == ended_truncate ||
+		    (is_open && flags_of(call) & O_TRUNC);
+
+	for (unsigned at = 0; at < 2; at++) {
+		const char *name = call->names[at];
+		if (name)
+			touch_name(call->flight, (const u8 *)name, (u32)strlen(name),
+				   !is_open && !cuts && (!is_link || at));
+	}
+	if (call->names[0] && cuts) {
+		call->flight->used = new_direct(call->names[0], O_WRONLY);
+		touch_file(call->flight, call->flight->used, 0, UINT64_MAX, true);
+	}
+}
+
+/* Each call, and its arguments: file, directory, path, the other's directory, the other path,
+ * flags. */
+static const struct kind kinds[] = {
+	{ SYS_write, ended_write, 0, NONE, NONE, NONE, NONE, NONE },
+	{ SYS_pwrite64, ended_write, 0, NONE, NONE, NONE, NONE, NONE },
+	{ SYS_writev, ended_write, 0, NONE, NONE, NONE, NONE, NONE },
+	{ SYS_pwritev, ended_write, 0, NONE, NONE, NONE, NONE, NONE },
+	{ SYS_pwritev2, ended_write, 0, NONE, NONE, NONE, NONE, NONE },
+	{ SYS_ftruncate, ended_ftruncate, 0, NONE, NONE, NONE, NONE, NONE },
+	{ SYS_fallocate, ended_fallocate, 0, NONE, NONE, NONE, NONE, NONE },
+	{ SYS_copy_file_range, ended_copy, 2, NONE, NONE, NONE, NONE, NONE },
+	{ SYS_sendfile, ended_copy, 0, NONE, NONE, NONE, NONE, NONE },
+	{ SYS_splice, ended_copy, 2, NONE, NONE, NONE, NONE, NONE },
+	{ SYS_truncate, ended_truncate, NONE, NONE, 0, NONE, NONE, NONE },
+	{ SYS_openat, ended_open, NONE, 0, 1, NONE, NONE, 2 },
+	{ SYS_openat2, ended_open, NONE, 0, 1, NONE, NONE, NONE },
+	{ SYS_unlinkat, ended_unlink, NONE, 0, 1, NONE, NONE, 2 },
+	{ SYS_mkdirat, ended_mkdir, NONE, 0, 1, NONE, NONE, NONE },
+	{ SYS_renameat2, ended_rename, NONE, 0, 1, 2, 3, 4 },
+	{ SYS_linkat, ended_link, NONE, 0, 1, 2, 3, NONE },
+	{ SYS_symlinkat, ended_other_name, NONE, 1, 2, NONE, NONE, NONE },
+	{ SYS_mknodat, ended_other_name, NONE, 0, 1, NONE, NONE, NONE },
+#ifdef SYS_open
+	{ SYS_open, ended_open, NONE, NONE, 0, NONE, NONE, 1 },
+	{ SYS_creat, ended_open, NONE, NONE, 0, NONE, NONE, NONE },
+	{ SYS_unlink, ended_unlink, NONE, NONE, 0, NONE, NONE, NONE },
+	{ SYS_rmdir, ended_unlink, NONE, NONE, 0, NONE, NONE, NONE },
+	{ SYS_mkdir, ended_mkdir, NONE, NONE, 0, NONE, NONE, NONE },
+	{ SYS_rename, ended_rename, NONE, NONE, 0, NONE, 1, NONE },
+	{ SYS_renameat, ended_rename, NONE, 0, 1, 2, 3, NONE },
+	{ SYS_link, ended_link, NONE, NONE, 0, NONE, 1, NONE },
+	{ SYS_symlink, ended_other_name, NONE, NONE, 1, NONE, NONE, NONE },
+	{ SYS_mknod, ended_other_name, NONE, NONE, 0, NONE, NONE, NONE },
+#endif
+};
+enum { KINDS = sizeof kinds / sizeof *kinds };
+
+/* What is known of a call, or NULL. */
+static const struct kind *kind_of(long number)
+{
+	for (u32 at = 0; at < KINDS; at++) {
+		if (kinds[at].number == number)
+			return &kinds[at];
+	}
+	return NULL;
+}
+
+u32 list_calls(long *numbers, u32 room)
+{
+	u32 count = 0;
+
+	for (; count < KINDS && count < room; count++)
+		numbers[count] = kinds[count].number;
+	return count;
+}
+
+/* Puts a call in flight with what it touches: entries that are submitted while it runs meet it. */
+static void launch_call(struct call *call, int copy)
+{
+	reap_all(call->process, call->thread);
+	call->flight = new_flight(call_ring(), allocate(sizeof(struct entry)), call->process);
+	if (copy >= 0) {
+		call->flight->used = new_opened(copy, 0);
+		touch_changed(call);
+	} else {
+		touch_named(call);
+	}
+	meet_others(call->flight);
+	launch(call->flight);
+}
+
+void forget_call(struct call *call)
+{
+	if (call->flight) {
+		struct entry *stand_in = call->flight->entry;
+		land(call->flight);
+		if (stand_in->outside == INSIDE)
+			free(stand_in); /* (no note has it) */
+	}
+	free(call->names[0]);
+	free(call->names[1]);
+	call->names[0] = call->names[1] = NULL;
+	call->flight = NULL;
+}
+
+bool call_begins(struct call *call)
+{
+	const struct kind *kind = kind_of(call->number);
+	struct stat status;
+
+	if (!is_started() || !kind)
+		return false;
+	if (kind->file != NONE) {
+		int copy = copy_descriptor(call->process, (int)call->arguments[kind->file]);
+		bool is_file = copy >= 0 && !fstat(copy, &status) && S_ISREG(status.st_mode);
+		if (is_file)
+			launch_call(call, copy);
+		else if (copy >= 0)
+			close(copy);
+		return is_file;
+	}
+	if (kind->ended == ended_open && !trace.uses_table &&
+	    !(flags_of(call) & (O_CREAT | O_TRUNC)))
+		return false;
+	call->names[0] = name_in_tree(call, kind->directory, kind->path);
+	call->names[1] = name_in_tree(call, kind->other_directory, kind->other);
+	if (!call->names[0] && !call->names[1])
+		return false;
+	launch_call(call, -1);
+	return true;
+}
+
+void call_ended(struct call *call, i64 result)
+{
+	const struct kind *kind = kind_of(call->number);
+
+	if (result >= 0 && kind && call->flight)
+		kind->ended(call, result);
+	forget_call(call);
+}
+
+void file_mapped(const struct call *call)
+{
+	const u64 *arguments = call->arguments;
+
+	if (!is_started() || !(arguments[2] & PROT_WRITE) || !(arguments[3] & MAP_SHARED))
+		return;
+	int copy = copy_descriptor(call->process, (int)arguments[4]);
+	if (copy < 0)
+		return;
+	struct opened *file = new_opened(copy, 0);
+	char *name = name_of(copy);
+	if (name) {
+		note_name("a file is mapped shared and for writing; stores there are not seen",
+			  name);
+		unsettle(file, OUTSIDE_MAPPED);
+	}
+	free(name);
+	release(file);
+}

@@ -1,0 +1,27 @@
+/* Ordinary calls of the command that change the tree: each becomes an entry of the recorder's ring.
+ */
+#ifndef CALLS_H
+#define CALLS_H
+
+#include "common.h"
+
+enum { ARGUMENTS = 6 };
+
+struct call {
+	long number;
+	u64 arguments[ARGUMENTS];
+	pid_t thread, process;
+	char *names[2];	       /* the paths of the trace that it names, or NULL */
+	struct flight *flight; /* while it runs, where it changes the tree: what it touches */
+};
+
+/* The numbers of these calls; gives how many there are. */
+u32 list_calls(long *numbers, u32 room);
+/* At its entry: whether its end matters. At its end, and where it has none. */
+bool call_begins(struct call *call);
+void call_ended(struct call *call, i64 result);
+void forget_call(struct call *call);
+/* A file is mapped: noted where it is one of the tree, shared and for writing. */
+void file_mapped(const struct call *call);
+
+#endif

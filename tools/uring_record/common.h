@@ -1,0 +1,55 @@
+/* What every part of the recorder uses: integer types, options, errors and memory. */
+#ifndef COMMON_H
+#define COMMON_H
+
+#include <stdbool.h>
+#include <stddef.h>
+#include <stdint.h>
+#include <sys/types.h>
+
+typedef uint8_t u8;
+typedef uint16_t u16;
+typedef uint32_t u32;
+typedef uint64_t u64;
+typedef int32_t i32;
+typedef int64_t i64;
+
+/* The exit statuses that are not the command's own, as env(1) has them. */
+enum { STATUS_FAILED = 125, STATUS_NOT_RUN = 126, STATUS_NOT_FOUND = 127 };
+
+struct options {
+	const char *trace;   /* the file of the trace */
+	const char *results; /* the file of the kernel's results, or NULL */
+	const char *root;    /* the directory that is the root of the trace's tree */
+	bool version_one;    /* ordinary descriptors are rewritten as slots */
+	bool replace;	     /* entries outside the profile are recorded as NOP */
+	bool drain;	     /* the kernel is given IO_DRAIN on each head of a chain */
+	bool wait;	     /* each call waits for what it submits */
+	bool verbose;	     /* notes are said as they come up */
+};
+extern struct options options;
+
+/* Ends the recorder (and with it the command) with a message and status 125. */
+void die(const char *format, ...) __attribute__((noreturn, format(printf, 1, 2)));
+
+/* Memory that is zero, or the end of the recorder. */
+void *allocate(size_t size);
+char *copy_text(const char *text);
+char *copy_bytes(const char *text, size_t length);
+
+/* Room for one more element behind `count`; use it through GROW. */
+void *grow(void *list, u64 count, u64 *room, size_t size);
+#define GROW(list, count, room) ((list) = grow((list), (count), &(room), sizeof *(list)))
+
+static inline u64 min64(u64 one, u64 other)
+{
+	return one < other ? one : other;
+}
+
+/* Whether two ranges share a byte; an empty one shares none. */
+static inline bool overlap(u64 from, u64 to, u64 other_from, u64 other_to)
+{
+	return from < other_to && other_from < to && from < to && other_from < other_to;
+}
+
+#endif

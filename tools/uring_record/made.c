@@ -1,0 +1,79 @@
+#include "made.h"
+
+#include <fcntl.h>
+#include <stdlib.h>
+#include <string.h>
+
+struct entry *make(struct ring *ring, const struct io_uring_sqe *sqe, const void *side, u32 length,
+		   i32 result)
+{
+	struct record *record = new_record(ring->number, 1);
+	struct entry *entry = record->entries;
+
+	record->count = 1;
+	entry->sqe = *sqe;
+	entry->sqe.user_data = UINT64_MAX;
+	entry->opcode = sqe->opcode;
+	entry->side = allocate(length);
+	if (length)
+		memcpy(entry->side, side, length);
+	entry->side_length = length;
+	entry->state = ENTRY_MADE;
+	entry->result = result;
+	ring->is_begun = true;
+	add_record(record);
+	return entry;
+}
+
+struct entry *make_open(struct ring *ring, u32 index, const char *path, u32 flags, i32 result)
+{
+	struct io_uring_sqe sqe = { .opcode = OP_OPENAT, .fd = AT_FDCWD };
+
+	sqe.open_flags = flags;
+	sqe.file_index = index;
+	return make(ring, &sqe, path, (u32)strlen(path), result);
+}
+
+void make_close(struct ring *ring, u32 index, int number)
+{
+	struct io_uring_sqe sqe = { .opcode = OP_CLOSE, .fd = number };
+
+	sqe.file_index = index;
+	make(ring, &sqe, NULL, 0, 0);
+}
+
+struct entry *make_path(u8 opcode, u32 flags, const char *path)
+{
+	struct io_uring_sqe sqe = { .opcode = opcode, .fd = AT_FDCWD };
+
+	if (opcode == OP_MKDIRAT)
+		sqe.len = 0755;
+	else
+		sqe.unlink_flags = flags;
+	return make(our_ring(), &sqe, path, (u32)strlen(path), 0);
+}
+
+struct entry *make_paths(u8 opcode, u32 flags, const char *old_path, const char *new_path)
+{
+	struct io_uring_sqe sqe = { .opcode = opcode, .fd = AT_FDCWD, .len = (u32)AT_FDCWD };
+	u16 old_length = (u16)strlen(old_path);
+	u32 length = 2 + old_length + (u32)strlen(new_path);
+	u8 *side = allocate(length);
+
+	sqe.rename_flags = flags;
+	memcpy(side, &old_length, 2);
+	memcpy(side + 2, old_path, old_length);
+	memcpy(side + 2 + old_length, new_path, length - 2 - old_length);
+	struct entry *entry = make(our_ring(), &sqe, side, length, 0);
+	free(side);
+	return entry;
+}
+
+struct opened *make_again(struct ring *ring, u32 index, const char *path, int descriptor,
+			  i32 result)
+{
+	u32 flags = (u32)fcntl(descriptor, F_GETFL) & (O_ACCMODE | O_APPEND);
+
+	make_open(ring, index, path, flags, result);
+	return new_opened(descriptor, 0);
+}

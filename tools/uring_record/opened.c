@@ -1,0 +1,154 @@
+#include "opened.h"
+#include "paths.h"
+
+#include <errno.h>
+#include <fcntl.h>
+#include <linux/kcmp.h>
+#include <stdio.h>
+#include <stdlib.h>
+#include <string.h>
+#include <sys/stat.h>
+#include <sys/syscall.h>
+#include <unistd.h>
+
+enum { HANDLES = 16 };
+
+/* A handle on a process. The last few are kept. */
+static int handle_of(pid_t process)
+{
+	static struct {
+		pid_t process;
+		int handle;
+	} kept[HANDLES];
+	static unsigned next;
+
+	for (unsigned at = 0; at < HANDLES; at++) {
+		if (kept[at].process == process)
+			return kept[at].handle;
+	}
+	unsigned at = next++ % HANDLES;
+	if (kept[at].process && kept[at].handle >= 0)
+		close(kept[at].handle);
+	kept[at].process = process;
+	kept[at].handle = (int)syscall(SYS_pidfd_open, process, 0);
+	return kept[at].handle;
+}
+
+int copy_descriptor(pid_t process, int descriptor)
+{
+	int handle = handle_of(process);
+
+	return handle < 0 || descriptor < 0 ? -1
+					    : (int)syscall(SYS_pidfd_getfd, handle, descriptor, 0);
+}
+
+bool is_open(pid_t process, int descriptor)
+{
+	return !syscall(SYS_kcmp, process, process, KCMP_FILE, descriptor, descriptor);
+}
+
+bool leads_to(pid_t process, int descriptor, const struct opened *opened)
+{
+	if (!opened || opened->descriptor < 0 || descriptor < 0)
+		return false;
+	return !syscall(SYS_kcmp, process, getpid(), KCMP_FILE, descriptor, opened->descriptor);
+}
+
+bool is_same(int one, int other)
+{
+	if (one < 0 || other < 0)
+		return false;
+	return !syscall(SYS_kcmp, getpid(), getpid(), KCMP_FILE, one, other);
+}
+
+char *name_of(int descriptor)
+{
+	struct stat status, named;
+
+	if (fstat(descriptor, &status) || !(S_ISREG(status.st_mode) || S_ISDIR(status.st_mode)))
+		return NULL;
+	char *target = descriptor_target(getpid(), descriptor), *name = NULL;
+	if (!target)
+		return NULL;
+	/* The root itself cannot be opened by a path of the trace. */
+	if (!is_deleted(target) && !stat(target, &named) && named.st_ino == status.st_ino &&
+	    named.st_dev == status.st_dev && strcmp(target, root_path()))
+		name = inside_root(target);
+	free(target);
+	return name;
+}
+
+int open_again(int descriptor, int flags)
+{
+	char path[64];
+
+	snprintf(path, sizeof path, "/proc/self/fd/%d", descriptor);
+	return open(path, flags | O_CLOEXEC);
+}
+
+struct opened *new_opened(int descriptor, u64 position)
+{
+	struct opened *opened = allocate(sizeof *opened);
+	struct stat status;
+	int flags = fcntl(descriptor, F_GETFL);
+
+	opened->holders = 1;
+	opened->descriptor = descriptor;
+	opened->position = position;
+	opened->access = flags < 0 ? 0 : (u8)(flags & O_ACCMODE);
+	opened->appends = flags >= 0 && flags & O_APPEND;
+	if (!fstat(descriptor, &status)) {
+		opened->device = status.st_dev;
+		opened->inode = status.st_ino;
+	}
+	return opened;
+}
+
+struct opened *new_direct(const char *path, u32 flags)
+{
+	struct opened *opened = allocate(sizeof *opened);
+
+	opened->holders = 1;
+	opened->descriptor = -1;
+	opened->name = outside_path(path);
+	opened->access = (u8)(flags & O_ACCMODE);
+	opened->appends = flags & O_APPEND;
+	look_at_direct(opened);
+	return opened;
+}
+
+void look_at_direct(struct opened *opened)
+{
+	struct stat status;
+
+	if (opened->name && !opened->inode && !stat(opened->name, &status)) {
+		opened->device = status.st_dev;
+		opened->inode = status.st_ino;
+	}
+}
+
+struct opened *hold(struct opened *opened)
+{
+	opened->holders++;
+	return opened;
+}
+
+struct opened *release(struct opened *opened)
+{
+	if (opened && !--opened->holders) {
+		if (opened->descriptor >= 0)
+			close(opened->descriptor);
+		free(opened->name);
+		free(opened);
+	}
+	return NULL;
+}
+
+u64 size_now(const struct opened *opened)
+{
+	struct stat status;
+	bool is_there = opened->descriptor >= 0 ? !fstat(opened->descriptor, &status)
+						: opened->name && !stat(opened->name, &status);
+
+	return is_there ? (u64)status.st_size : 0;
+}

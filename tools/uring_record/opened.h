@@ -1,0 +1,47 @@
+/* Open file descriptions of the command, and what the replay has of them. */
+#ifndef OPENED_H
+#define OPENED_H
+
+#include "common.h"
+
+/* A description that the replay has under some numbers of the table or slots. */
+struct opened {
+	u32 holders;	/* numbers and slots that lead to it */
+	int descriptor; /* one of the recorder's own on it, or -1 where none can be had */
+	char *name;	/* the file's path on this machine, where there is no descriptor */
+	u64 position;	/* the position that it has in the replay */
+	u32 moving;	/* entries in flight that move it */
+	dev_t device;	/* which file it is; 0 where that is not known */
+	ino_t inode;
+	u8 access;
+	bool appends;
+	bool is_unsure; /* it may be another one in the replay */
+};
+
+/* A descriptor of the recorder's own on what a descriptor of the command leads to, or -1. */
+int copy_descriptor(pid_t process, int descriptor);
+/* Whether a descriptor of the command is open; whether it leads to a description. */
+bool is_open(pid_t process, int descriptor);
+bool leads_to(pid_t process, int descriptor, const struct opened *opened);
+/* Whether two descriptors of the recorder lead to one description. */
+bool is_same(int one, int other);
+
+/* The name below the root of what a descriptor of the recorder leads to, in memory of its own, or
+ * NULL. */
+char *name_of(int descriptor);
+/* The path that opens anew what a descriptor of the recorder leads to. */
+int open_again(int descriptor, int flags);
+
+/* A description with one holder. The descriptor becomes its own. */
+struct opened *new_opened(int descriptor, u64 position);
+/* One that only a slot of the command leads to, by the path of the trace that it was opened by. */
+struct opened *new_direct(const char *path, u32 flags);
+struct opened *hold(struct opened *opened);
+/* Takes one holder away; gives NULL. */
+struct opened *release(struct opened *opened);
+/* Learns which file a direct one is, once it is there. */
+void look_at_direct(struct opened *opened);
+/* The size of its file now. */
+u64 size_now(const struct opened *opened);
+
+#endif

@@ -1,0 +1,167 @@
+#include "paths.h"
+
+#include <errno.h>
+#include <fcntl.h>
+#include <limits.h>
+#include <stdio.h>
+#include <stdlib.h>
+#include <string.h>
+#include <sys/stat.h>
+#include <unistd.h>
+
+enum { MOST_PATH = 4095 };
+
+static char root[PATH_MAX];
+static size_t root_length;
+
+void set_root(const char *path)
+{
+	if (!realpath(path, root))
+		die("%s: %s", path, strerror(errno));
+	root_length = strlen(root);
+	if (root_length == 1)
+		die("the root of the system cannot be the root of a trace");
+	struct stat status;
+	if (stat(root, &status) || !S_ISDIR(status.st_mode))
+		die("%s is not a directory", path);
+}
+
+const char *root_path(void)
+{
+	return root;
+}
+
+char *inside_root(const char *path)
+{
+	if (strncmp(path, root, root_length) || (path[root_length] && path[root_length] != '/'))
+		return NULL;
+	return copy_text(path[root_length] ? path + root_length : "/");
+}
+
+char *outside_path(const char *path)
+{
+	char *full = allocate(root_length + strlen(path) + 1);
+
+	memcpy(full, root, root_length);
+	strcpy(full + root_length, path);
+	return full;
+}
+
+bool has_parent(const char *path)
+{
+	if (*path != '/')
+		return false;
+	char *full = outside_path(path);
+	struct stat status;
+	*strrchr(full, '/') = 0;
+	bool is_there = strlen(full) >= root_length && !stat(full, &status);
+	free(full);
+	return is_there;
+}
+
+/* The target of a link, in memory of its own, or NULL. */
+static char *target_of(const char *link)
+{
+	char target[PATH_MAX + 1];
+	ssize_t length = readlink(link, target, PATH_MAX);
+
+	return length < 0 ? NULL : copy_bytes(target, (size_t)length);
+}
+
+char *descriptor_target(pid_t process, int descriptor)
+{
+	char link[64];
+
+	snprintf(link, sizeof link, "/proc/%d/fd/%d", process, descriptor);
+	return target_of(link);
+}
+
+char *working_directory(pid_t process)
+{
+	char link[64];
+
+	snprintf(link, sizeof link, "/proc/%d/cwd", process);
+	return target_of(link);
+}
+
+bool is_deleted(const char *target)
+{
+	static const char mark[] = " (deleted)";
+	size_t length = strlen(target), tail = sizeof mark - 1;
+
+	return length > tail && !strcmp(target + length - tail, mark);
+}
+
+/* Takes double slashes and "." out of a full path. */
+static void tidy(char *path)
+{
+	char *to = path;
+
+	for (const char *from = path; *from;) {
+		if (from[0] == '/' && from[1] == '/')
+			from++;
+		else if (from[0] == '/' && from[1] == '.' && (from[2] == '/' || !from[2]))
+			from += 2;
+		else
+			*to++ = *from++;
+	}
+	*to = 0;
+	if (!*path)
+		strcpy(path, "/");
+}
+
+/* The full path of what a call names, in memory of its own, or NULL. */
+static char *full_path(pid_t process, int directory, const char *path)
+{
+	if (*path == '/')
+		return copy_text(path);
+	char *base = directory == AT_FDCWD ? working_directory(process)
+					   : descriptor_target(process, directory);
+	if (!base)
+		return NULL;
+	size_t room = strlen(base) + strlen(path) + 2;
+	char *full = allocate(room + 1);
+	snprintf(full, room, "%s/%s", base, path);
+	free(base);
+	return full;
+}
+
+/* The same where links lead to the directory of the path. */
+static char *resolved(const char *path)
+{
+	char directory[PATH_MAX], *parent = copy_text(path), *last = strrchr(parent, '/');
+	char *found = NULL;
+
+	*last = 0;
+	if (realpath(*parent ? parent : "/", directory)) {
+		size_t room = strlen(directory) + strlen(last + 1) + 2;
+		char *full = allocate(room);
+		snprintf(full, room, "%s/%s", directory, last + 1);
+		found = inside_root(full);
+		free(full);
+	}
+	free(parent);
+	return found;
+}
+
+char *translate(pid_t process, int directory, const char *path, bool *is_known)
+{
+	*is_known = true;
+	if (!*path || strlen(path) > MOST_PATH)
+		return copy_text(path);
+	char *full = full_path(process, directory, path);
+	if (!full) {
+		*is_known = false;
+		return copy_text(path);
+	}
+	tidy(full);
+	char *found = inside_root(full);
+	if (!found)
+		found = resolved(full);
+	if (!found) {
+		*is_known = false;
+		return full;
+	}
+	free(full);
+	return found;
+}

@@ -1,0 +1,199 @@
+#include "output.h"
+#include "flights.h"
+#include "paths.h"
+#include "rings.h"
+#include "sha256.h"
+
+#include <dirent.h>
+#include <errno.h>
+#include <fcntl.h>
+#include <inttypes.h>
+#include <stdio.h>
+#include <stdlib.h>
+#include <string.h>
+#include <sys/stat.h>
+#include <unistd.h>
+
+enum { MOST_SUMMED = 16777216, CHUNK = 1 << 16 };
+
+/* A name of the tree at the end. */
+struct name {
+	char *path;
+	bool is_directory;
+	enum outside outside;
+	u64 size;
+	char sum[SHA256_TEXT];
+};
+struct final_tree {
+	struct name *names;
+	u64 count, room;
+};
+
+/* The sum of a file, read in pieces. */
+static void sum_file(const char *path, struct name *name)
+{
+	struct sha256 sum;
+	u8 *chunk = allocate(CHUNK);
+	int descriptor = open(path, O_RDONLY | O_CLOEXEC | O_NOFOLLOW);
+	ssize_t moved = -1;
+
+	sha256_begin(&sum);
+	while (descriptor >= 0 && (moved = read(descriptor, chunk, CHUNK)) > 0)
+		sha256_add(&sum, chunk, (size_t)moved);
+	if (moved < 0)
+		die("%s: %s", path, strerror(errno));
+	close(descriptor);
+	free(chunk);
+	sha256_end(&sum, name->sum);
+}
+
+static void look_below(struct final_tree *tree, const char *path);
+
+/* Adds a name of the tree, and what is below it. The path becomes its own. */
+static void look_at(struct final_tree *tree, char *path)
+{
+	char *full = outside_path(path);
+	struct stat status;
+
+	if (lstat(full, &status) || !(S_ISREG(status.st_mode) || S_ISDIR(status.st_mode))) {
+		free(path);
+		free(full);
+		return;
+	}
+	GROW(tree->names, tree->count, tree->room);
+	struct name *name = &tree->names[tree->count++];
+	*name = (struct name){ .path = path, .size = (u64)status.st_size, .sum = "large" };
+	name->is_directory = S_ISDIR(status.st_mode);
+	name->outside = unsettled_by(status.st_dev, status.st_ino);
+	if (!name->is_directory && name->size <= MOST_SUMMED)
+		sum_file(full, name);
+	if (name->is_directory)
+		look_below(tree, path);
+	free(full);
+}
+
+/* Adds what is in a directory. */
+static void look_below(struct final_tree *tree, const char *path)
+{
+	char *full = outside_path(path);
+	DIR *directory = opendir(full);
+	const struct dirent *entry;
+
+	if (!directory)
+		die("%s: %s", full, strerror(errno));
+	while ((entry = readdir(directory))) {
+		if (!strcmp(entry->d_name, ".") || !strcmp(entry->d_name, ".."))
+			continue;
+		char *inner = allocate(strlen(path) + strlen(entry->d_name) + 2);
+		sprintf(inner, "%s/%s", path, entry->d_name);
+		look_at(tree, inner);
+	}
+	closedir(directory);
+	free(full);
+}
+
+/* The order of the bytes of paths. */
+static int by_path(const void *one, const void *other)
+{
+	return strcmp(((const struct name *)one)->path, ((const struct name *)other)->path);
+}
+
+struct final_tree *read_final_tree(void)
+{
+	struct final_tree *tree = allocate(sizeof *tree);
+
+	look_below(tree, "");
+	if (tree->count)
+		qsort(tree->names, tree->count, sizeof *tree->names, by_path);
+	return tree;
+}
+
+/* A path as a report has it. */
+static void write_path(FILE *file, const char *path)
+{
+	for (const unsigned char *at = (const unsigned char *)path; *at; at++) {
+		if (*at >= 0x21 && *at <= 0x7e && *at != '\\')
+			fputc(*at, file);
+		else
+			fprintf(file, "\\x%02x", *at);
+	}
+}
+
+/* The part `tree`. */
+static void write_tree(FILE *file, const struct final_tree *tree)
+{
+	fputs("tree\n", file);
+	for (const struct name *it = tree->names; it < tree->names + tree->count; it++) {
+		fputs(it->is_directory ? "dir " : "file ", file);
+		write_path(file, it->path);
+		if (!it->is_directory)
+			fprintf(file, " size=%" PRIu64 " sum=%s", it->size, it->sum);
+		if (it->outside != INSIDE)
+			fprintf(file, " outside=%s", outside_words[it->outside]);
+		fputc('\n', file);
+	}
+}
+
+/* The line of an entry. */
+static void write_entry(FILE *file, const struct entry *entry)
+{
+	fprintf(file, "%" PRIu64 " user=%" PRIu64, entry->place, (u64)entry->sqe.user_data);
+	if (entry->state == ENTRY_SILENT)
+		fputs(" silent", file);
+	else
+		fprintf(file, " res=%d", entry->result);
+	if (entry->state == ENTRY_POSTED)
+		fputs(" posted", file);
+	if (entry->data_length) {
+		fputs(" data=", file);
+		for (u64 at = 0; at < entry->data_length && at < DATA_SHOWN; at++)
+			fprintf(file, "%02x", entry->data[at]);
+		if (entry->data_length > DATA_SHOWN)
+			fputc('+', file);
+	}
+	fprintf(file, " op=%u", entry->opcode);
+	if (entry->state == ENTRY_MADE)
+		fputs(" by=recorder", file);
+	if (entry->outside != INSIDE)
+		fprintf(file, " outside=%s", outside_words[entry->outside]);
+	fputc('\n', file);
+}
+
+/* The entries of each ring in recorded order: records are put with their rings once, not looked
+ * for. */
+static void write_entries(FILE *file)
+{
+	struct record **by_ring = allocate(trace.record_count * sizeof *by_ring);
+	u64 starts[MOST_RINGS + 1] = { 0 }, next[MOST_RINGS];
+
+	for (u64 at = 0; at < trace.record_count; at++)
+		starts[trace.records[at]->ring + 1]++;
+	for (u32 ring = 0; ring < MOST_RINGS; ring++)
+		starts[ring + 1] += starts[ring];
+	memcpy(next, starts, sizeof next);
+	for (u64 at = 0; at < trace.record_count; at++)
+		by_ring[next[trace.records[at]->ring]++] = trace.records[at];
+	for (u32 ring = 0; ring < ring_count; ring++) {
+		fprintf(file, "ring %u\n", ring);
+		for (u64 at = starts[ring]; at < starts[ring + 1]; at++) {
+			const struct record *record = by_ring[at];
+			for (u32 in = 0; in < record->count; in++)
+				write_entry(file, &record->entries[in]);
+		}
+	}
+	free(by_ring);
+}
+
+void write_results(const struct final_tree *tree)
+{
+	FILE *file = fopen(options.results, "wb");
+
+	if (!file)
+		die("%s: %s", options.results, strerror(errno));
+	fputs("uring-report 1\n", file);
+	write_entries(file);
+	write_tree(file, tree);
+	fputs("end\n", file);
+	if (ferror(file) | fclose(file))
+		die("%s: %s", options.results, strerror(errno));
+}

@@ -1,0 +1,310 @@
+#include "rings.h"
+#include "made.h"
+#include "memory.h"
+#include "notes.h"
+#include "start.h"
+
+#include <stdlib.h>
+#include <unistd.h>
+
+struct ring *rings[MOST_RINGS];
+u32 ring_count;
+
+static struct ring *ours;
+
+/* A ring with the next number. */
+static struct ring *new_ring(void)
+{
+	struct ring *ring = allocate(sizeof *ring);
+
+	ring->number = (u8)ring_count;
+	ring->descriptor = -1;
+	for (u32 at = 0; at < MOST_INDEXES; at++)
+		ring->mapped[at] = -1;
+	rings[ring_count++] = ring;
+	return ring;
+}
+
+struct ring *add_ring(void)
+{
+	/* One place is kept for the ring of ordinary calls. */
+	if (ring_count + !ours >= MOST_RINGS) {
+		note("a ring beyond the 64th is left out", NULL);
+		return NULL;
+	}
+	return new_ring();
+}
+
+struct ring *our_ring(void)
+{
+	if (!ours) {
+		ours = new_ring();
+		ours->is_ours = true;
+		ours->slot_count = 1;
+	}
+	return ours;
+}
+
+struct ring *call_ring(void)
+{
+	static struct ring *calls;
+
+	if (!calls)
+		calls = allocate(sizeof *calls);
+	return calls;
+}
+
+struct ring *find_ring(pid_t process, int descriptor)
+{
+	for (int any = 0; any < 2; any++) {
+		for (u32 at = ring_count; at--;) {
+			struct ring *ring = rings[at];
+			if (ring->descriptor == descriptor && !ring->is_ours &&
+			    (any || ring->process == process))
+				return ring;
+		}
+	}
+	return NULL;
+}
+
+/* Puts a file of the tree into a slot: at the start of the trace where that is the same, else by an
+ * entry. */
+static void fill_slot(struct ring *ring, u32 slot, int copy)
+{
+	ring->foreign[slot] = release(ring->foreign[slot]);
+	if (!is_started()) {
+		ring->now[slot] = new_opened(copy, 0);
+		return;
+	}
+	i64 known = description_of(copy, false);
+	if (known >= 0 && !ring->is_begun) {
+		ring->slots[slot] = (u32)known + 1;
+		ring->now[slot] = hold(trace.descriptions[known].opened);
+		close(copy);
+		return;
+	}
+	char *name = name_of(copy);
+	if (name) {
+		ring->now[slot] = make_again(ring, slot + 1, name, copy, 0);
+	} else {
+		note("a registered file that is no file of the root", NULL);
+		ring->foreign[slot] = new_opened(copy, 0);
+	}
+	free(name);
+}
+
+/* Empties a slot: at the start where that is the same, else by an entry. */
+static void empty_slot(struct ring *ring, u32 slot)
+{
+	if (!is_started() || !ring->is_begun)
+		ring->slots[slot] = 0;
+	else if (ring->now[slot])
+		make_close(ring, slot + 1, 0);
+	ring->now[slot] = release(ring->now[slot]);
+	ring->foreign[slot] = release(ring->foreign[slot]);
+}
+
+/* Puts what a descriptor of the command leads to into a slot. */
+static void set_slot(struct ring *ring, u32 slot, int descriptor)
+{
+	if (slot >= (options.version_one ? VERSION_ONE_SLOTS : MOST_SLOTS)) {
+		note("a slot beyond the last that can be recorded", NULL);
+		return;
+	}
+	if (descriptor == IORING_REGISTER_FILES_SKIP)
+		return;
+	int copy = copy_descriptor(ring->process, descriptor);
+	if (copy < 0) {
+		empty_slot(ring, slot);
+		return;
+	}
+	bool was_full = ring->now[slot] && is_started() && ring->is_begun;
+	ring->now[slot] = release(ring->now[slot]);
+	fill_slot(ring, slot, copy);
+	if (was_full && ring->foreign[slot])
+		make_close(ring, slot + 1, 0);
+}
+
+/* Puts a list of descriptors into slots; without a list the slots are emptied. */
+static void set_slots(struct ring *ring, pid_t thread, u32 from, u64 list, u32 count)
+{
+	for (u32 at = 0; at < count; at++)
+		set_slot(ring, from + at, list ? (int)fetch_word(thread, list + 4ULL * at) : -1);
+}
+
+/* Registers a list of descriptors, which says how many slots there are. */
+static void add_slots(struct ring *ring, pid_t thread, u64 list, u32 count)
+{
+	if (count > ring->slot_count)
+		ring->slot_count = count < MOST_SLOTS ? count : MOST_SLOTS;
+	set_slots(ring, thread, 0, list, count);
+}
+
+void start_slots(struct ring *ring)
+{
+	for (u32 slot = 0; slot < ring->slot_count; slot++) {
+		if (!ring->now[slot])
+			continue;
+		i64 known = description_of(ring->now[slot]->descriptor, true);
+		if (known < 0) {
+			note("a registered file that is no file of the root", NULL);
+			ring->foreign[slot] = ring->now[slot];
+			ring->now[slot] = NULL;
+			continue;
+		}
+		release(ring->now[slot]);
+		ring->slots[slot] = (u32)known + 1;
+		ring->now[slot] = hold(trace.descriptions[known].opened);
+	}
+}
+
+/* An index of the command whose buffer is not in the trace. */
+enum { LEFT_OUT = -2 };
+
+/* The buffer of the trace with such a range: one that is there, else a new one, or LEFT_OUT. */
+static i32 buffer_of(struct ring *ring, u32 index, u64 address, u64 length)
+{
+	for (u32 at = 0; at < ring->buffer_count; at++) {
+		const struct buffer *it = &ring->buffers[at];
+		if (it->length == length && it->address == address)
+			return (i32)at;
+		if (overlap(address, address + length, it->address, it->address + it->length)) {
+			note("a registered buffer that overlaps an earlier one is left out", NULL);
+			return LEFT_OUT;
+		}
+	}
+	u32 free_index = index;
+	if (index >= MOST_BUFFERS || ring->buffers[index].length) {
+		free_index = 0;
+		while (free_index < MOST_BUFFERS && ring->buffers[free_index].length)
+			free_index++;
+	}
+	if (free_index == MOST_BUFFERS || length > MOST_BYTES) {
+		note("a registered buffer beyond the 1,024th or 1 GiB is left out", NULL);
+		return LEFT_OUT;
+	}
+	if (ring->buffer_count <= free_index)
+		ring->buffer_count = free_index + 1;
+	ring->buffers[free_index] = (struct buffer){ .address = address, .length = length };
+	return (i32)free_index;
+}
+
+/* Puts a range of memory at an index of the command. */
+static void set_buffer(struct ring *ring, u32 index, u64 address, u64 length)
+{
+	if (index >= MOST_INDEXES)
+		return;
+	if (index >= ring->index_count)
+		ring->index_count = index + 1;
+	ring->mapped[index] = length ? buffer_of(ring, index, address, length) : -1;
+}
+
+/* Puts a list of ranges at indexes; without a list they are emptied. */
+static void set_buffers(struct ring *ring, pid_t thread, u32 from, u64 list, u32 count)
+{
+	for (u32 at = 0; at < count; at++) {
+		struct iovec vector = { NULL, 0 };
+		if (list)
+			fetch(thread, list + 16ULL * at, &vector, sizeof vector);
+		set_buffer(ring, from + at, address_of(&vector), vector.iov_len);
+	}
+}
+
+/* Puts the buffers of another ring at indexes of this one. */
+static void clone_buffers(struct ring *ring, const struct ring *from, pid_t thread, u64 argument)
+{
+	struct {
+		u32 source, flags, from, to, count;
+	} clone;
+
+	if (!from || !fetch(thread, argument, &clone, sizeof clone)) {
+		note("buffers are cloned from a ring that is not known", NULL);
+		return;
+	}
+	u32 count = clone.count ? clone.count : from->index_count;
+	for (u32 at = 0; at < count && clone.from + at < MOST_INDEXES; at++) {
+		i32 index = from->mapped[clone.from + at];
+		const struct buffer *buffer = index < 0 ? NULL : &from->buffers[index];
+		set_buffer(ring, clone.to + at, buffer ? buffer->address : 0,
+			   buffer ? buffer->length : 0);
+	}
+}
+
+/* The operations on slots. */
+static void registered_files(struct ring *ring, pid_t thread, u32 operation, u64 argument,
+			     u32 count)
+{
+	struct io_uring_rsrc_register all = { 0 };
+	struct io_uring_rsrc_update2 update = { 0 };
+
+	switch (operation) {
+	case IORING_REGISTER_FILES:
+		add_slots(ring, thread, argument, count);
+		break;
+	case IORING_UNREGISTER_FILES:
+		set_slots(ring, thread, 0, 0, ring->slot_count);
+		break;
+	case IORING_REGISTER_FILES2:
+		fetch(thread, argument, &all, sizeof all);
+		add_slots(ring, thread, all.data, all.nr);
+		break;
+	case IORING_REGISTER_FILES_UPDATE:
+		fetch(thread, argument, &update, 16);
+		set_slots(ring, thread, update.offset, update.data, count);
+		break;
+	case IORING_REGISTER_FILES_UPDATE2:
+		fetch(thread, argument, &update, sizeof update);
+		set_slots(ring, thread, update.offset, update.data, update.nr);
+		break;
+	}
+}
+
+/* The operations on buffers. */
+static void registered_buffers(struct ring *ring, pid_t thread, u32 operation, u64 argument,
+			       u32 count)
+{
+	struct io_uring_rsrc_register all = { 0 };
+	struct io_uring_rsrc_update2 update = { 0 };
+
+	switch (operation) {
+	case IORING_REGISTER_BUFFERS:
+		set_buffers(ring, thread, 0, argument, count);
+		break;
+	case IORING_UNREGISTER_BUFFERS:
+		for (u32 at = 0; at < ring->index_count; at++)
+			ring->mapped[at] = -1;
+		break;
+	case IORING_REGISTER_BUFFERS2:
+		fetch(thread, argument, &all, sizeof all);
+		set_buffers(ring, thread, 0, all.data, all.nr);
+		break;
+	case IORING_REGISTER_BUFFERS_UPDATE:
+		fetch(thread, argument, &update, sizeof update);
+		set_buffers(ring, thread, update.offset, update.data, update.nr);
+		break;
+	}
+}
+
+void registered(struct ring *ring, const struct ring *from, pid_t thread, u32 operation,
+		u64 argument, u32 count)
+{
+	registered_files(ring, thread, operation, argument, count);
+	registered_buffers(ring, thread, operation, argument, count);
+	switch (operation) {
+	case REGISTER_CLONE_BUFFERS:
+		clone_buffers(ring, from, thread, argument);
+		break;
+	case REGISTER_RESIZE_RINGS:
+		note("a ring is resized: what it submits from then on may be missed", NULL);
+		break;
+	case IORING_REGISTER_PERSONALITY:
+		note("a personality is registered", NULL);
+		break;
+	case IORING_REGISTER_RESTRICTIONS:
+		note("restrictions are registered, and the replay has none", NULL);
+		break;
+	case REGISTER_PBUF_RING:
+		note("a ring of provided buffers is registered, and the replay has none", NULL);
+		break;
+	}
+}

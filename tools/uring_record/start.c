@@ -1,0 +1,292 @@
+#include "start.h"
+#include "flights.h"
+#include "made.h"
+#include "notes.h"
+#include "opened.h"
+#include "paths.h"
+#include "rings.h"
+#include "table.h"
+
+#include <dirent.h>
+#include <errno.h>
+#include <fcntl.h>
+#include <limits.h>
+#include <stdio.h>
+#include <stdlib.h>
+#include <string.h>
+#include <sys/resource.h>
+#include <unistd.h>
+
+enum { MOST_PATH = 4095, FIRST_ROOM = 1 << 16 };
+
+static const char unlinked_name[] = "/.uring_record.unlinked.";
+static bool started;
+static pid_t home;
+
+bool is_started(void)
+{
+	return started;
+}
+
+pid_t home_process(void)
+{
+	return home;
+}
+
+/* Reads a range of a file into the bytes of its item, which grow to its end. */
+static void read_range(struct item *item, int descriptor, u64 from, u64 to, u64 *room)
+{
+	u64 wanted = *room ? *room : FIRST_ROOM;
+
+	while (wanted < to)
+		wanted *= 2;
+	if (wanted > *room) {
+		item->bytes = realloc(item->bytes, wanted);
+		if (!item->bytes)
+			die("there is no more memory");
+		memset(item->bytes + *room, 0, wanted - *room);
+		*room = wanted;
+	}
+	for (u64 at = from; at < to;) {
+		ssize_t moved = pread(descriptor, item->bytes + at, to - at, (off_t)at);
+		if (moved <= 0)
+			break;
+		at += (u64)moved;
+	}
+}
+
+/* Adds a file. What is stored ends with its last byte that is not zero; holes are not read. */
+static void add_file(int descriptor, char *path, const struct stat *status)
+{
+	struct item *item = add_item(ITEM_FILE, path);
+	u64 room = 0, stored = 0;
+
+	item->size = (u64)status->st_size;
+	for (off_t from = 0, to;; from = to) {
+		from = lseek(descriptor, from, SEEK_DATA);
+		to = from < 0 ? -1 : lseek(descriptor, from, SEEK_HOLE);
+		if (to < 0)
+			break;
+		if ((u64)to > MOST_BYTES)
+			die("%s has bytes behind its first 1,073,741,824, which no trace can have",
+			    path);
+		read_range(item, descriptor, (u64)from, (u64)to, &room);
+		stored = (u64)to;
+	}
+	stored = min64(stored, item->size);
+	while (stored && !item->bytes[stored - 1])
+		stored--;
+	item->stored = (u32)stored;
+	set_node(status, (u32)trace.item_count);
+}
+
+static void walk(const char *directory, const char *path);
+
+/* Adds one name of a directory, and what is below it. */
+static void add_name(const char *full, char *path, const struct stat *status)
+{
+	u32 known = node_of(status);
+
+	if (S_ISDIR(status->st_mode)) {
+		add_item(ITEM_DIRECTORY, path);
+		set_node(status, (u32)trace.item_count);
+		walk(full, path);
+		return;
+	}
+	if (status->st_nlink > 1 && known != NO_ITEM) {
+		add_item(ITEM_NAME, path)->of = known;
+		return;
+	}
+	int descriptor = open(full, O_RDONLY | O_CLOEXEC | O_NOFOLLOW);
+	if (descriptor < 0) {
+		note_name("a file of the start that cannot be read is left out", path);
+		return;
+	}
+	add_file(descriptor, path, status);
+	close(descriptor);
+}
+
+/* The order of the bytes of names. */
+static int by_bytes(const struct dirent **one, const struct dirent **other)
+{
+	return strcmp((*one)->d_name, (*other)->d_name);
+}
+
+/* Adds all names of a directory, in the order of their bytes. */
+static void walk(const char *directory, const char *path)
+{
+	struct dirent **names;
+	int count = scandir(directory, &names, NULL, by_bytes);
+
+	if (count < 0) {
+		note_name("a directory of the start that cannot be read", path);
+		return;
+	}
+	for (int at = 0; at < count; at++) {
+		const char *name = names[at]->d_name;
+		size_t length = strlen(path) + strlen(name) + 2;
+		char *full = allocate(strlen(directory) + strlen(name) + 2),
+		     *inner = allocate(length);
+		struct stat status;
+		sprintf(full, "%s/%s", directory, name);
+		sprintf(inner, "%s/%s", path, name);
+		bool is_dots = !strcmp(name, ".") || !strcmp(name, "..");
+		if (is_dots || length > MOST_PATH + 1 || lstat(full, &status))
+			;
+		else if (S_ISREG(status.st_mode) || S_ISDIR(status.st_mode))
+			add_name(full, inner, &status);
+		else
+			note_name("a name of the start that is neither file nor directory is left "
+				  "out",
+				  inner);
+		free(full);
+		free(names[at]);
+	}
+	free(names);
+}
+
+/* Gives an unlinked file that is open a name, which is taken away again at the start. */
+static u32 add_unlinked(int descriptor, const struct stat *status)
+{
+	char *target = descriptor_target(getpid(), descriptor);
+	char *inside = target ? inside_root(target) : NULL;
+	int again = inside ? open_again(descriptor, O_RDONLY) : -1;
+	u32 node = NO_ITEM;
+
+	free(target);
+	free(inside);
+	if (again >= 0) {
+		char *name = allocate(sizeof unlinked_name + 16);
+		sprintf(name, "%s%d", unlinked_name, (int)trace.item_count + 1);
+		add_file(again, name, status);
+		node = (u32)trace.item_count;
+		close(again);
+	}
+	return node;
+}
+
+i64 description_of(int descriptor, bool adds)
+{
+	struct stat status;
+	int flags = fcntl(descriptor, F_GETFL);
+
+	for (u64 at = 0; at < trace.description_count; at++) {
+		if (is_same(trace.descriptions[at].opened->descriptor, descriptor))
+			return (i64)at;
+	}
+	if (!adds || flags < 0 || (flags & O_PATH) || (flags & O_ACCMODE) == O_ACCMODE)
+		return -1;
+	if (fstat(descriptor, &status) || !(S_ISREG(status.st_mode) || S_ISDIR(status.st_mode)))
+		return -1;
+	u32 node = node_of(&status);
+	if (node == NO_ITEM && S_ISREG(status.st_mode) && !status.st_nlink)
+		node = add_unlinked(descriptor, &status);
+	if (node == NO_ITEM)
+		return -1;
+	bool is_file = S_ISREG(status.st_mode);
+	off_t position = is_file ? lseek(descriptor, 0, SEEK_CUR) : 0;
+	GROW(trace.descriptions, trace.description_count, trace.description_room);
+	struct description *made = &trace.descriptions[trace.description_count];
+	*made = (struct description){ .node = node, .append = !!(flags & O_APPEND) };
+	made->access = is_file ? (u8)(flags & O_ACCMODE) : 0;
+	made->position = position < 0 ? 0 : (u64)position;
+	made->opened = new_opened(fcntl(descriptor, F_DUPFD_CLOEXEC, 0), made->position);
+	return (i64)trace.description_count++;
+}
+
+/* Reads the open descriptors of the process. */
+static void start_table(pid_t process)
+{
+	char directory[64];
+	struct dirent **names;
+	struct rlimit limit = { MOST_TABLE, MOST_TABLE };
+
+	prlimit(process, RLIMIT_NOFILE, NULL, &limit);
+	trace.table_size = limit.rlim_cur < MOST_TABLE ? (u32)limit.rlim_cur : MOST_TABLE;
+	snprintf(directory, sizeof directory, "/proc/%d/fd", process);
+	int count = scandir(directory, &names, NULL, versionsort);
+	if (count < 0)
+		die("the descriptors of the command cannot be read: %s", strerror(errno));
+	for (int at = 0; at < count; at++) {
+		int number = atoi(names[at]->d_name);
+		bool is_dots = names[at]->d_name[0] == '.';
+		free(names[at]);
+		if (is_dots || (u32)number >= trace.table_size)
+			continue;
+		int copy = copy_descriptor(process, number);
+		start_place(number, description_of(copy, true));
+		if (copy >= 0)
+			close(copy);
+	}
+	free(names);
+}
+
+/* Notes a file that is mapped: its bytes are not told from the start on. */
+static void is_mapped(const char *path)
+{
+	struct opened *file = new_direct(path, O_RDWR);
+
+	note_name("a file is mapped shared and for writing at the start; stores there are not seen",
+		  path);
+	unsettle(file, OUTSIDE_MAPPED);
+	release(file);
+}
+
+/* Notes each file of the tree that a process has mapped shared and for writing: what it stores
+ * there is not seen. */
+static void look_at_mappings(pid_t process)
+{
+	char name[64], line[PATH_MAX + 256], mode[8];
+	int path_at = 0;
+
+	snprintf(name, sizeof name, "/proc/%d/maps", process);
+	FILE *maps = fopen(name, "r");
+	while (maps && fgets(line, sizeof line, maps)) {
+		line[strcspn(line, "\n")] = 0;
+		if (sscanf(line, "%*s %7s %*s %*s %*s %n", mode, &path_at) != 1 || mode[1] != 'w' ||
+		    mode[3] != 's')
+			continue;
+		char *inside = inside_root(line + path_at);
+		if (inside)
+			is_mapped(inside);
+		free(inside);
+	}
+	if (maps)
+		fclose(maps);
+}
+
+/* Reads the tree below the root. */
+static void start_tree(void)
+{
+	struct stat status;
+
+	if (stat(root_path(), &status))
+		die("%s: %s", root_path(), strerror(errno));
+	set_node(&status, 0);
+	walk(root_path(), "");
+}
+
+void start_without_submission(void)
+{
+	if (started)
+		return;
+	note("the command submitted nothing", NULL);
+	start_tree();
+}
+
+void start(pid_t process)
+{
+	if (started)
+		return;
+	started = true;
+	home = process;
+	start_tree();
+	start_table(process);
+	for (u32 at = 0; at < ring_count; at++)
+		start_slots(rings[at]);
+	for (u64 at = 0; at < trace.item_count; at++) {
+		if (!strncmp(trace.items[at].path, unlinked_name, sizeof unlinked_name - 1))
+			make_path(OP_UNLINKAT, 0, trace.items[at].path);
+	}
+	look_at_mappings(process);
+}

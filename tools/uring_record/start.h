@@ -1,0 +1,18 @@
+/* The start of the trace: the tree, the open descriptions and the descriptor table. */
+#ifndef START_H
+#define START_H
+
+#include "trace.h"
+
+/* Reads all of it, once, at the first submission: the descriptor table is that of the process. */
+void start(pid_t process);
+bool is_started(void);
+/* For a command that submitted nothing: its trace has the tree, as it is now, and nothing else. */
+void start_without_submission(void);
+/* The process whose descriptors are the table. */
+pid_t home_process(void);
+/* The description of the start that a descriptor of the recorder leads to, or -1. With `adds` it
+ * becomes one. */
+i64 description_of(int descriptor, bool adds);
+
+#endif

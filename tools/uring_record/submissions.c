@@ -1,0 +1,389 @@
+#include "submissions.h"
+#include "completions.h"
+#include "memory.h"
+#include "notes.h"
+#include "positions.h"
+#include "sides.h"
+#include "start.h"
+#include "table.h"
+
+#include <fcntl.h>
+#include <string.h>
+
+/* The flags of OPENAT that the profile knows. */
+#define KNOWN_OPEN_FLAGS 0x1fdfc3U
+
+/* The chain that entries are being taken of. */
+struct chain {
+	u64 head;
+	bool is_drained;
+	bool goes_on;
+};
+
+/* Why an entry asks for what lies outside the profile by its fields, and the replay may answer
+ * otherwise. */
+static enum outside outside_by_fields(const struct io_uring_sqe *sqe)
+{
+	u8 opcode = sqe->opcode;
+
+	if (!is_served(opcode))
+		return OUTSIDE_OPCODE;
+	if (sqe->flags & FLAG_SELECT)
+		return OUTSIDE_SELECTION;
+	if (sqe->personality || (sqe->ioprio && !moves_bytes(opcode)))
+		return OUTSIDE_FLAGS;
+	if ((moves_bytes(opcode) || opcode == OP_NOP) && sqe->rw_flags)
+		return OUTSIDE_FLAGS;
+	if (opcode == OP_FALLOCATE && sqe->len & (0x08 | 0x20 | 0x40))
+		return OUTSIDE_FLAGS;
+	if (opcode == OP_RENAMEAT && sqe->rename_flags & ~(options.version_one ? 1U : 3U))
+		return OUTSIDE_FLAGS;
+	if (opcode == OP_LINKAT && sqe->hardlink_flags & ~0x400U)
+		return OUTSIDE_FLAGS;
+	if ((opcode == OP_OPENAT || opcode == OP_CLOSE) &&
+	    sqe->file_index == IORING_FILE_INDEX_ALLOC)
+		return OUTSIDE_SLOT;
+	if (opcode == OP_OPENAT) {
+		u32 made = O_CREAT | O_DIRECTORY;
+		if (sqe->open_flags & ~KNOWN_OPEN_FLAGS ||
+		    (sqe->open_flags & O_ACCMODE) == O_ACCMODE || (sqe->open_flags & made) == made)
+			return OUTSIDE_FLAGS;
+	}
+	return INSIDE;
+}
+
+static const char *const outside_notes[OUTSIDE_COUNT] = {
+	[OUTSIDE_OPCODE] = "an entry whose opcode the profile does not serve",
+	[OUTSIDE_SELECTION] = "an entry with buffer selection",
+	[OUTSIDE_FLAGS] = "an entry with flags or fields outside the profile",
+	[OUTSIDE_SLOT] = "an entry whose slot the kernel chooses",
+};
+
+/* Counts an entry for the summary. */
+static void count_entry(const struct io_uring_sqe *sqe)
+{
+	counts.opcodes[sqe->opcode]++;
+	for (unsigned bit = 0; bit < 8; bit++)
+		counts.flags[bit] += sqe->flags >> bit & 1U;
+	if (!works_on_file(sqe->opcode))
+		return;
+	counts.by_slot += !!(sqe->flags & FLAG_FIXED);
+	counts.by_descriptor += !(sqe->flags & FLAG_FIXED);
+	counts.at_position += moves_bytes(sqe->opcode) && sqe->off == AT_POSITION;
+}
+
+/* Makes an entry a NOP with the same links and user_data. */
+static void replace_by_nop(struct entry *entry)
+{
+	struct io_uring_sqe nop = { .opcode = OP_NOP, .user_data = entry->sqe.user_data };
+
+	nop.flags = (u8)(entry->sqe.flags & ~(FLAG_FIXED | FLAG_SELECT));
+	entry->sqe = nop;
+	entry->replaced = true;
+}
+
+/* Notes and marks an entry whose descriptor is no file of the tree. */
+static void leads_elsewhere(struct entry *entry)
+{
+	note("an entry on a descriptor that is no file of the root", entry);
+	put_outside(entry, OUTSIDE_DESCRIPTOR);
+}
+
+/* What is no file of the tree, and the command has in a slot, or NULL. */
+static const struct opened *foreign_in(const struct ring *ring, u32 slot)
+{
+	return slot < ring->slot_count ? ring->foreign[slot] : NULL;
+}
+
+/* The same for a slot: what the entry writes there is not told. */
+static void slot_leads_elsewhere(struct entry *entry, const struct opened *foreign)
+{
+	leads_elsewhere(entry);
+	if (works_on_file(entry->sqe.opcode) && !reads_bytes(entry->sqe.opcode) &&
+	    entry->sqe.opcode != OP_FSYNC)
+		unsettle(foreign, OUTSIDE_CHANGED);
+}
+
+/* The same for a number. */
+static void number_leads_elsewhere(struct entry *entry, pid_t process)
+{
+	int copy = copy_descriptor(process, entry->sqe.fd);
+
+	if (copy < 0) {
+		leads_elsewhere(entry);
+		return;
+	}
+	struct opened *foreign = new_opened(copy, 0);
+	slot_leads_elsewhere(entry, foreign);
+	release(foreign);
+}
+
+/* Makes the descriptor or slot of an entry lead in the replay where it leads in the command. */
+static void ensure_place(struct ring *ring, struct entry *entry, pid_t process)
+{
+	struct io_uring_sqe *sqe = &entry->sqe;
+	bool closes = closes_in_table(sqe);
+
+	if (works_on_file(sqe->opcode) && sqe->flags & FLAG_FIXED) {
+		const struct opened *foreign = foreign_in(ring, (u32)sqe->fd);
+		if (foreign)
+			slot_leads_elsewhere(entry, foreign);
+		return;
+	}
+	if (sqe->opcode == OP_CLOSE && foreign_in(ring, sqe->file_index - 1))
+		leads_elsewhere(entry);
+	if (!works_on_file(sqe->opcode) && !closes)
+		return;
+	enum leads leads = options.version_one ? ensure_slot(ring, process, sqe->fd)
+					       : ensure_number(process, sqe->fd);
+	if (leads == LEADS_ELSEWHERE)
+		number_leads_elsewhere(entry, process);
+	if (!options.version_one || leads != LEADS_TO_FILE)
+		return;
+	if (closes) {
+		sqe->file_index = VERSION_ONE_SLOTS + (u32)sqe->fd + 1;
+		sqe->fd = 0;
+	} else {
+		sqe->fd += VERSION_ONE_SLOTS;
+		sqe->flags |= FLAG_FIXED;
+	}
+}
+
+/* What a slot or number leads to once an OPENAT or CLOSE has run; it is put back where that fails.
+ */
+static void take_place(struct flight *flight)
+{
+	const struct io_uring_sqe *sqe = &flight->entry->sqe;
+	u32 slot = sqe->file_index - 1;
+
+	if (sqe->file_index && slot < flight->ring->slot_count) {
+		flight->takes_place = true;
+		flight->before = flight->ring->now[slot];
+		flight->foreign_before = flight->ring->foreign[slot];
+		flight->ring->now[slot] = sqe->opcode == OP_OPENAT ? hold(flight->used) : NULL;
+		flight->ring->foreign[slot] = NULL;
+	} else if (closes_in_table(sqe)) {
+		flight->takes_place = true;
+		flight->before = take_number(sqe->fd, &flight->was_taken);
+	}
+}
+
+/* Finds the description that an entry works on, with its position made right, or makes one for an
+ * open. */
+static void find_description(struct flight *flight)
+{
+	struct entry *entry = flight->entry;
+	u8 opcode = entry->sqe.opcode;
+
+	if (opcode == OP_OPENAT) {
+		flight->used = new_direct((const char *)entry->side, entry->sqe.open_flags);
+		if (options.version_one && !entry->sqe.file_index) {
+			note("an OPENAT to a descriptor, which version 1 does not have", entry);
+			put_outside(entry, OUTSIDE_DESCRIPTOR);
+		}
+	}
+	if (!works_on_file(opcode))
+		return;
+	bool moves = moves_bytes(opcode) && entry->sqe.off == AT_POSITION;
+	if (moves)
+		correct_position(flight->ring, entry);
+	struct opened *opened = opened_of(flight->ring, &entry->sqe);
+	if (opened)
+		flight->used = hold(opened);
+}
+
+/* The buffer of the trace that a fixed read or write names. */
+static void find_buffer(struct flight *flight)
+{
+	struct entry *entry = flight->entry;
+	i32 index = flight->ring->mapped[entry->sqe.buf_index];
+
+	if (index < -1) {
+		note("an entry with a registered buffer that is left out", entry);
+		put_outside(entry, OUTSIDE_BUFFER);
+	}
+	flight->buffer = index < 0 ? NO_BUFFER : (u32)index;
+	entry->sqe.buf_index = (u16)flight->buffer;
+}
+
+/* Whether the kernel gives an operation to a thread of its own, which looks for its file only then.
+ */
+static bool begins_later(u8 opcode)
+{
+	return opcode == OP_FSYNC || opcode == OP_FALLOCATE || opcode == OP_FTRUNCATE;
+}
+
+/* Takes an entry: what it points to, what it works on, and what it meets. */
+static void take_entry(struct ring *ring, struct entry *entry, struct chain *chain, pid_t thread)
+{
+	struct flight *flight = new_flight(ring, entry, ring->submitter);
+	enum outside why = outside_by_fields(&entry->sqe);
+
+	flight->sequence = ring->sequence++;
+	flight->chain = chain->head;
+	flight->barrier = ring->barrier;
+	flight->is_deferred = flight->sequence != chain->head || chain->is_drained ||
+			      entry->sqe.flags & FLAG_ASYNC || begins_later(entry->opcode);
+	count_entry(&entry->sqe);
+	if (why != INSIDE) {
+		note(outside_notes[why], entry);
+		put_outside(entry, why);
+	}
+	if (why == OUTSIDE_OPCODE) {
+		if (options.replace)
+			replace_by_nop(entry);
+	} else {
+		take_side(flight, thread);
+		ensure_place(ring, entry, ring->submitter);
+		find_description(flight);
+		if (is_fixed(entry->sqe.opcode))
+			find_buffer(flight);
+		look_at_touches(flight);
+		if (entry->sqe.opcode == OP_WRITE_FIXED)
+			fill_buffer(flight, thread);
+		meet_others(flight);
+		take_place(flight);
+		if (flight->used && moves_bytes(entry->sqe.opcode) &&
+		    entry->sqe.off == AT_POSITION) {
+			flight->moves = hold(flight->used);
+			flight->moves->moving++;
+		}
+	}
+	launch(flight);
+}
+
+/* Where the entry at an index of the queue is, or 0 for none. */
+static u64 entry_address(const struct ring *ring, pid_t thread, u32 index)
+{
+	u32 at = index & (ring->sq_entries - 1);
+	unsigned shift = ring->flags & IORING_SETUP_SQE128 ? 7 : 6;
+
+	if (!(ring->flags & SETUP_NO_SQARRAY)) {
+		at = fetch_word(thread, ring->sq + ring->sq_offsets.array + 4ULL * at);
+		if (at >= ring->sq_entries) {
+			note("an index outside the queue", NULL);
+			return 0;
+		}
+	}
+	return ring->sqes + ((u64)at << shift);
+}
+
+/* Gives the kernel IO_DRAIN on an entry; it is not recorded. */
+static void drain_in_kernel(pid_t thread, u64 address, u8 flags)
+{
+	flags |= FLAG_DRAIN;
+	store(thread, address + offsetof(struct io_uring_sqe, flags), &flags, 1);
+}
+
+/* Reads the entries of the queue as they are. */
+static void read_entries(struct ring *ring, pid_t thread, struct record *record, u32 head,
+			 u32 count)
+{
+	for (u32 at = 0; at < count; at++) {
+		u64 address = entry_address(ring, thread, head + at);
+		if (!address)
+			continue;
+		struct entry *entry = &record->entries[record->count];
+		if (!fetch(thread, address, &entry->sqe, sizeof entry->sqe))
+			die("the queue of a ring cannot be read");
+		entry->opcode = entry->sqe.opcode;
+		bool is_head = !record->count || !goes_on(&entry[-1].sqe);
+		if (options.drain && is_head && !(entry->sqe.flags & (FLAG_DRAIN | FLAG_SKIP)))
+			drain_in_kernel(thread, address, entry->sqe.flags);
+		record->count++;
+	}
+}
+
+/* Whether the kernel drains a chain: any of its members asks for it, or the recorder does. */
+static bool is_drained(const struct entry *head, const struct entry *end)
+{
+	bool is_asked = options.drain && !(head->sqe.flags & FLAG_SKIP);
+
+	for (const struct entry *it = head; it < end; it++) {
+		is_asked |= it->sqe.flags & FLAG_DRAIN;
+		if (!goes_on(&it->sqe))
+			break;
+	}
+	return is_asked;
+}
+
+/* Takes the entries of a call one after another, chain by chain. */
+static void take_entries(struct ring *ring, pid_t thread, struct record *record)
+{
+	const struct entry *end = record->entries + record->count;
+	struct chain chain = { 0 };
+
+	for (struct entry *it = record->entries; it < end; it++) {
+		if (!chain.goes_on) {
+			chain.head = ring->sequence;
+			chain.is_drained = is_drained(it, end);
+			if (chain.is_drained)
+				ring->barrier = chain.head;
+		}
+		chain.goes_on = goes_on(&it->sqe);
+		take_entry(ring, it, &chain, thread);
+		if (!chain.goes_on && chain.is_drained)
+			ring->barrier = ring->sequence;
+	}
+}
+
+struct record *submission(struct ring *ring, pid_t thread, pid_t process, u32 wanted)
+{
+	ring->submitter = process;
+	u32 head = fetch_word(thread, ring->sq + ring->sq_offsets.head);
+	u32 count = fetch_word(thread, ring->sq + ring->sq_offsets.tail) - head, opens = 0;
+	if (count > wanted)
+		count = wanted;
+	if (count > MOST_IN_RECORD)
+		count = MOST_IN_RECORD;
+	if (!count)
+		return NULL;
+	start(ring->submitter);
+	begin_batch();
+	struct record *record = new_record(ring->number, count);
+	read_entries(ring, thread, record, head, count);
+	for (u32 at = 0; at < record->count; at++) {
+		const struct io_uring_sqe *sqe = &record->entries[at].sqe;
+		opens += opens_in_table(sqe);
+		trace.uses_table |=
+			!options.version_one && sqe->opcode == OP_RENAMEAT && sqe->rename_flags & 2;
+	}
+	if (opens && !options.version_one)
+		match_lowest(ring->submitter, opens, count_opens_in_flight());
+	take_entries(ring, thread, record);
+	ring->is_begun = true;
+	add_record(record);
+	return record;
+}
+
+void submitted(struct ring *ring, pid_t thread, struct record *record, u32 taken)
+{
+	while (record->count > taken) {
+		const struct entry *left = &record->entries[--record->count];
+		struct flight *flight = ring->last;
+		while (flight && flight->entry != left)
+			flight = flight->previous;
+		counts.not_taken++;
+		if (flight) {
+			put_back_place(flight);
+			land(flight);
+		}
+	}
+	reap(ring, thread, true);
+}
+
+bool may_wait(struct ring *ring, pid_t thread, u32 *completions)
+{
+	u32 count = fetch_word(thread, ring->cq + ring->cq_offsets.tail) -
+		    fetch_word(thread, ring->cq + ring->cq_offsets.head);
+
+	for (const struct flight *it = ring->first; it; it = it->next) {
+		const struct entry *entry = it->entry;
+		if (entry->outside == OUTSIDE_OPCODE || entry->outside == OUTSIDE_DESCRIPTOR ||
+		    entry->sqe.flags & FLAG_SKIP)
+			return false;
+		count++;
+	}
+	*completions = count;
+	return count <= ring->cq_entries;
+}
