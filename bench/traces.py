@@ -1,0 +1,226 @@
+#!/usr/bin/env python3
+"""Large traces for measuring, on standard output: the same words give the same bytes.
+
+    traces.py rw N SIZE FILE_MB   READs and WRITEs of about SIZE bytes at random offsets of one
+                                        file of FILE_MB stored megabytes; 4 rings
+    traces.py rings N             64 rings with a file each; 64 bytes at offsets that meet again
+                                        only after 1,024 entries of the ring: nothing near collides
+    traces.py one_file N          WRITEs of 64 bytes to one file, any two of which overlap; 4 rings
+    traces.py paths N             opens, creates, renames, unlinks in a tree of 1,000 directories
+    traces.py chains N            chains of 4 (WRITE, READ, FSYNC, READ), a drain every 100
+                                        entries, every 50th chain broken by a short READ; 4 rings
+    traces.py big N MB            transfers of MB megabytes over a file of 8 times that: WRITE_FIXED,
+                                        READ, READ_FIXED, READ, .. (a WRITE's bytes would not fit a trace)
+    traces.py position N FILE_MB  READs of 4,096 bytes at the position of a file of FILE_MB stored megabytes,
+                                  from its start again by an OPENAT at its end
+    traces.py appends N           WRITEs of 64 bytes to a file that is open to append
+
+Enter records have 64 entries (`rings`: 16), rings take turns. N is at most 1,048,576.
+"""
+import random
+import struct
+import sys
+
+FIXED_FILE, DRAIN, LINK = 1, 2, 4
+FSYNC, READ_FIXED, WRITE_FIXED, OPENAT, CLOSE, READ, WRITE = 3, 4, 5, 18, 19, 22, 23
+RENAMEAT, UNLINKAT = 35, 36
+O_CREAT, O_APPEND, O_RDWR = 0x40, 0x400, 2
+MB = 1 << 20
+
+_SQE = struct.Struct("<BBHiQQIIQHHIQQI")     # the entry and its side length
+out = sys.stdout.buffer
+
+
+def entry(op, flags, fd=0, off=0, addr=0, length=0, op_flags=0, user=0, file_index=0, side=b""):
+    return _SQE.pack(op, flags, 0, fd, off, addr, length, op_flags, user, 0, 0, file_index, 0, 0, len(side)) + side
+
+
+def directory(path):
+    return struct.pack("<BH", 1, len(path)) + path
+
+
+def file(path, size, stored=0, rnd=None):
+    """the item's bytes, in parts"""
+    yield struct.pack("<BH", 2, len(path)) + path + struct.pack("<QI", size, stored)
+    while stored > 0:
+        n = min(stored, MB)
+        yield rnd.randbytes(n)
+        stored -= n
+
+
+def start(items, n_items, descs, rings, n, per):
+    """header to rings; descs: nodes (access 2); rings: (slots, buffers)"""
+    out.write(b"URINGTRC" + struct.pack("<6I", 1, n_items, len(descs), len(rings), -(-n // per), 0))
+    for part in items:
+        out.write(part)
+    for node in descs:
+        out.write(struct.pack("<IBBQ", node, 2, 0, 0))
+    for slots, buffers in rings:
+        out.write(struct.pack("<H", len(slots)) + b"".join(struct.pack("<I", s) for s in slots))
+        out.write(struct.pack("<H", len(buffers)) + b"".join(struct.pack("<QI", a, m) for a, m in buffers))
+
+
+def records(n, per, n_rings, make):
+    """make(k, ring) is the entry at place k with its side"""
+    for first in range(0, n, per):
+        count, ring = min(per, n - first), first // per % n_rings
+        out.write(struct.pack("<BBH", 1, ring, count) + b"".join([make(k, ring) for k in range(first, first + count)]))
+
+
+def rw(n, size, file_mb):
+    r = random.Random(1)
+    total = file_mb * MB
+    start(file(b"/data", total, total, r), 1, [1, 1, 1, 1], [([i + 1], []) for i in range(4)], n, 64)
+    data = r.randbytes(65536 + 2 * size)
+    least, span = size - size // 4, 2 * (size // 4) + 1
+
+    def make(k, ring):
+        m = least + int(r.random() * span)
+        off = int(r.random() * (total - m + 1))
+        if r.random() < .5:
+            return entry(READ, FIXED_FILE, off=off, length=m, user=k)
+        at = k & 0xffff
+        return entry(WRITE, FIXED_FILE, off=off, length=m, user=k, side=data[at:at + m])
+    records(n, 64, 4, make)
+
+
+def rings(n):
+    r = random.Random(2)
+
+    def items():
+        for i in range(64):
+            yield from file(b"/file%02d" % i, 65536, 65536, r)
+    start(items(), 64, range(1, 65), [([i + 1], []) for i in range(64)], n, 16)
+    data = r.randbytes(65536 + 64)
+
+    def make(k, ring):
+        j = k // 1024 * 16 + k % 16                # the entry's number in its ring
+        off = 64 * (j * 613 % 1024)
+        if r.random() < .5:
+            return entry(READ, FIXED_FILE, off=off, length=64, user=k)
+        at = k & 0xffff
+        return entry(WRITE, FIXED_FILE, off=off, length=64, user=k, side=data[at:at + 64])
+    records(n, 16, 64, make)
+
+
+def one_file(n):
+    r = random.Random(3)
+    start(file(b"/data", 128), 1, [1, 1, 1, 1], [([i + 1], []) for i in range(4)], n, 64)
+    data = r.randbytes(65536 + 64)
+
+    def make(k, ring):
+        at = k & 0xffff
+        return entry(WRITE, FIXED_FILE, off=int(r.random() * 33), length=64, user=k, side=data[at:at + 64])
+    records(n, 64, 4, make)
+
+
+def paths(n):
+    r = random.Random(4)
+    dirs = [b"/dir%d/sub%02d" % (i // 100, i % 100) for i in range(1000)]
+    live = [b"%s/file%06d" % (d, i) for d in dirs for i in range(4)]
+
+    def items():
+        for i in range(10):
+            yield directory(b"/dir%d" % i)
+        for d in dirs:
+            yield directory(d)
+        for p in live:
+            yield from file(p, 100)
+    start(items(), 1010 + len(live), [], [([0] * 64, []) for _ in range(4)], n, 64)
+    live = live[:]
+
+    def make(k, ring):
+        x = r.random()
+        i = int(r.random() * len(live))
+        new = b"%s/name%07d" % (dirs[int(r.random() * 1000)], k)
+        slot = 1 + int(r.random() * 64)
+        if x < .25 or len(live) < 2000 and x < .8:
+            live.append(new)
+            return entry(OPENAT, 0, -100, op_flags=O_CREAT | O_RDWR, user=k, file_index=slot, side=new)
+        if x < .55:
+            return entry(OPENAT, 0, -100, op_flags=O_RDWR, user=k, file_index=slot, side=live[i])
+        if x < .75:
+            old, live[i] = live[i], new
+            return entry(RENAMEAT, 0, -100, length=0xffffff9c, user=k, side=struct.pack("<H", len(old)) + old + new)
+        if x < .95:
+            old, live[i] = live[i], live[-1]
+            live.pop()
+            return entry(UNLINKAT, 0, -100, user=k, side=old)
+        return entry(CLOSE, 0, user=k, file_index=slot)
+    records(n, 64, 4, make)
+
+
+def chains(n):
+    r = random.Random(5)
+
+    def items():
+        for i in range(4):
+            yield from file(b"/file%d" % i, MB, MB, r)
+    start(items(), 4, [1, 2, 3, 4], [([i + 1], []) for i in range(4)], n, 64)
+    data = r.randbytes(65536 + 64)
+
+    def make(k, ring):
+        fl = FIXED_FILE | (LINK if k % 4 != 3 else 0) | (DRAIN if k % 100 == 0 else 0)
+        off = 64 * int(r.random() * (MB // 64))
+        if k % 4 == 0:
+            at = k & 0xffff
+            return entry(WRITE, fl, off=off, length=64, user=k, side=data[at:at + 64])
+        if k % 4 == 2:
+            return entry(FSYNC, fl, user=k)
+        if k % 200 == 1:
+            off = MB - 32                           # short: breaks the chain
+        return entry(READ, fl, off=off, length=64, user=k)
+    records(n, 64, 4, make)
+
+
+def big(n, mb):
+    r = random.Random(6)
+    size = mb * MB
+    start(file(b"/data", 8 * size, min(8, 256 // mb) * size, r), 1, [1], [([1], [(4096, size)])], n, 64)
+
+    def make(k, ring):
+        op = (WRITE_FIXED, READ, READ_FIXED, READ)[k % 4]
+        return entry(op, FIXED_FILE, off=int(r.random() * 8) * size, addr=0 if op == READ else 4096, length=size, user=k)
+    records(n, 64, 1, make)
+
+
+def position(n, file_mb):
+    r = random.Random(7)
+    reads = file_mb * MB // 4096
+    start(file(b"/data", file_mb * MB, file_mb * MB, r), 1, [1], [([1], [])], n, 64)
+
+    def make(k, ring):
+        if k % (reads + 1) == reads:
+            return entry(OPENAT, 0, -100, op_flags=O_RDWR, user=k, file_index=1, side=b"/data")
+        return entry(READ, FIXED_FILE, off=(1 << 64) - 1, length=4096, user=k)
+    records(n, 64, 1, make)
+
+
+def appends(n):
+    r = random.Random(8)
+    start(file(b"/data", 0), 1, [], [([0], [])], n, 64)
+    data = r.randbytes(65536 + 64)
+
+    def make(k, ring):
+        if k == 0:
+            return entry(OPENAT, 0, -100, op_flags=O_RDWR | O_APPEND, user=k, file_index=1, side=b"/data")
+        at = k & 0xffff
+        return entry(WRITE, FIXED_FILE, off=0, length=64, user=k, side=data[at:at + 64])
+    records(n, 64, 1, make)
+
+
+KINDS = {"rw": (rw, 3), "rings": (rings, 1), "one_file": (one_file, 1), "paths": (paths, 1),
+         "chains": (chains, 1), "big": (big, 2), "position": (position, 2), "appends": (appends, 1)}
+
+
+def main(a):
+    if len(a) < 1 or a[0] not in KINDS or len(a) - 1 != KINDS[a[0]][1] or not all(x.isdigit() and int(x) for x in a[1:]):
+        sys.stderr.write(__doc__)
+        return 2
+    KINDS[a[0]][0](*map(int, a[1:]))
+    out.flush()
+    return 0
+
+
+if __name__ == "__main__":
+    sys.exit(main(sys.argv[1:]))
