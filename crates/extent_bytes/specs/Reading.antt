@@ -1,4 +1,4 @@
--- Bytes that were read, as they are kept.
+-- A view of code: bytes that were read, as they are kept.
 use Rattle.std.specs.Prelude.{◌≡◌, ℕ, ◌<◌, ◌≤◌, List, length, take}
 use Rattle.extent_bytes.specs.declared.reading.Kept.{Kept}
 use Rattle.extent_bytes.specs.declared.reading.Kept.TheVariants.{Plain, Shared}
@@ -10,5 +10,5 @@ kept_bytes (Shared pages) = pages.value.list
 
 -- few are plain; more are shared, and their first 64 are plain too
 abbrev pub IsKept : Kept → Type 0
-IsKept (Plain bytes) = length bytes.items ≤ 4096
-IsKept (Shared pages) = (4096 < length pages.value.list) × (pages.value.front.items ≡ take 64 pages.value.list)
+IsKept (Plain bytes) = length bytes.items ≤ 2048
+IsKept (Shared pages) = (2048 < length pages.value.list) × (pages.value.front.items ≡ take 64 pages.value.list)

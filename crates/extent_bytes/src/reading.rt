@@ -6,8 +6,9 @@ use crate::extents::{Extents, MAX_LEN};
 use std::alloc::{AllocError, Global};
 use std::marker::Model;
 
-/// The most bytes that are copied. More are shared.
-const MOST_COPIED: u64 = 4_096;
+/// The most bytes that are copied. More are shared: half a page, so that a page that is changed after it was read, and so
+/// copied then, has cost no more than twice what a copy of the bytes would have.
+const MOST_COPIED: u64 = 2_048;
 
 /// The most bytes that [`ReadBytes::front`] shows.
 pub const FRONT: usize = 64;
@@ -26,7 +27,7 @@ pub(crate) enum Kept {
     Shared(Box<SharedBytes>),
 }
 
-/// Bytes that were read. Up to 4,096 of them are a copy, and more share the pages that they were read
+/// Bytes that were read. Up to 2,048 of them are a copy, and more share the pages that they were read
 /// from, so that zeros take no memory.
 #[derive(Drop)]
 pub struct ReadBytes {
