@@ -1,10 +1,11 @@
 """Runs a built program, and counts what passes."""
+import math
 import os
 import subprocess
 import tempfile
 import threading
 from concurrent.futures import ThreadPoolExecutor
-from typing import Callable, Dict, List, NamedTuple, Optional, Sequence, Union
+from typing import Callable, Dict, List, NamedTuple, Optional, Sequence, Tuple, Union
 
 TOP = os.path.dirname(os.path.dirname(os.path.abspath(__file__)))
 EXAMPLES = os.path.join(TOP, "examples")
@@ -49,24 +50,32 @@ class Program(NamedTuple):
             command = ["/bin/sh", "-c", shell, "sh", *command]
         with tempfile.TemporaryFile() as output, tempfile.TemporaryFile() as errors, opened(given) as source:
             started = subprocess.Popen(command, stdin=source, stdout=output, stderr=errors, env=environment, close_fds=False)
-            status = ended(started)
+            status, _ = ended(started)
             output.seek(0)
             errors.seek(0)
             return Answer(status, output.read(), errors.read())
+
+    def seconds(self, words: Words, given: Input) -> float:
+        """The processor time of a run on an input, without what the system took; infinite where the run failed."""
+        with opened(given) as source:
+            status, seconds = ended(subprocess.Popen([self.file, *words], stdin=source, stdout=subprocess.DEVNULL))
+            return seconds if status == 0 else math.inf
 
 
 RUNS = [0]
 
 
-def ended(started: subprocess.Popen) -> int:
-    """The status of a run, less than 0 where a signal ended it, as SIGKILL where it hung."""
+def ended(started: subprocess.Popen) -> Tuple[int, float]:
+    """The status of a run, less than 0 where a signal ended it, as SIGKILL where it hung; and its processor time."""
     RUNS[0] += 1
     guard = threading.Timer(SECONDS, started.kill)
     guard.start()
     try:
-        return started.wait()
+        _, status, used = os.wait4(started.pid, 0)
     finally:
         guard.cancel()
+    started.returncode = os.waitstatus_to_exitcode(status)
+    return started.returncode, used.ru_utime
 
 
 def opened(given: Input):

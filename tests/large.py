@@ -1,13 +1,23 @@
-"""Traces too large for examples/, which examples/make writes when asked: the most places, the longest record, the longest input."""
+"""Traces too large for examples/, which examples/make writes when asked: the most places, the longest record, the longest
+input, and writes that are worth threads."""
+import math
 import os
 import subprocess
 import tempfile
 from functools import partial
 from typing import List, Tuple
 
-from harness import TOP, Answer, Job, Outcome, Program, difference, read, reports_refused, spoken
+from harness import TOP, Answer, Job, Outcome, Program, difference, first, read, reports_refused, spoken
+from traces import fill, head, ring
 
+MOST_PLACES = 1_048_576
+MOST_RINGS = 64
+# How many times the processor time of one ring many may take, which is 1 to 1.7 times on a busy machine.
+MOST_RATIO = 2.7
 MODES: Tuple[Tuple[List[str], str], ...] = ((["serial"], ".report"), (["serial", "--sums"], ".sums"), (["check"], ".check"))
+# How often each pair of workers and window is tried on writes that are worth threads.
+OFTEN = 4
+PAIRS = ((1, 64), (2, 2), (2, 64), (3, 8), (4, 64), (64, 64), (64, 4096))
 
 
 def tried(program: Program) -> List[Outcome]:
@@ -27,6 +37,21 @@ def tried(program: Program) -> List[Outcome]:
     return outcomes or [Outcome("large traces", "examples/make --large wrote none")]
 
 
+def on_threads(program: Program) -> List[Outcome]:
+    """Writes that are worth threads, in rounds of several widths: `tests/memory.py` counts the threads."""
+    outcomes = []
+    with tempfile.TemporaryDirectory() as folder:
+        subprocess.run([os.path.join(TOP, "examples", "make"), "--large", folder], check=True, stdout=subprocess.DEVNULL)
+        name = os.path.join(folder, "heavy_writes_side_by_side")
+        for workers, window in PAIRS:
+            for words, wanted in ((["run", "--sums"], read(name + ".sums")), (["compare"], b"equal\n")):
+                words += ["--workers", str(workers), "--window", str(window)]
+                answers = (program.run(words, name + ".trace") for _ in range(OFTEN))
+                faults = [difference(answer, Answer(0, wanted, b"")) for answer in answers]
+                outcomes.append(Outcome("{} {} times by {}".format(spoken(words), OFTEN, program.compiler), first([it for it in faults if it])))
+    return outcomes
+
+
 def long_reports(program: Program) -> List[Outcome]:
     """The longest input of `diff` is read, and one byte more is refused for its length."""
     first, long = "the first does not begin with uring-report 1", "more than 1073741824 bytes"
@@ -37,5 +62,19 @@ def long_reports(program: Program) -> List[Outcome]:
     return outcomes
 
 
+def many_rings(program: Program) -> List[Outcome]:
+    """The same steps on as many rings as there may be take no longer than on one. A walk over all places for each ring
+    would take four times that."""
+    least = []
+    for rings in (1, MOST_RINGS):
+        world = head(rings=rings, records=MOST_PLACES) + ring(buffers=[(4096, 16)]) * rings
+        trace = world + b"".join(fill(number, 0, 0, b"") for number in range(rings)) * (MOST_PLACES // rings)
+        least.append(min(program.seconds(["serial"], trace) for _ in range(5)))
+    one, many = least
+    told = None if many < MOST_RATIO * one < math.inf else "{:.3f} seconds on one, {:.3f} on {}".format(one, many, MOST_RINGS)
+    return [Outcome("a report of many rings by {}".format(program.compiler), told)]
+
+
 def jobs(programs: List[Program]) -> List[Job]:
-    return [partial(tried, programs[0]), partial(long_reports, programs[0])]
+    alone = [partial(it, programs[0]) for it in (tried, long_reports, many_rings)]
+    return [*alone, *(partial(on_threads, it) for it in programs)]

@@ -5,6 +5,7 @@ from typing import List
 
 from harness import EXAMPLES, Job, Outcome, Program, Words, fault, first, input_of, shown, skipped, spoken
 from shims import Shim
+from traces import heavy_writes
 
 TRACES = (
     "read_four_bytes",
@@ -21,7 +22,9 @@ TRACES = (
 ROUNDS = ["--workers", "2", "--window", "4"]
 MODES = (["serial"], ["serial", "--sums"], ["check"], ["run", *ROUNDS], ["compare", *ROUNDS], ["diff"])
 WORDS_ALONE: List[Words] = [["serial", "extra"], ["run", "--workers", "65"], ["--help"], ["serial", "--help"], ["serial", b"\xff"]]
-WITH_THREADS = ("two_written_ranges_in_one_page", "unresolved_slot_holds_back_a_later_write", "thousand_disjoint_writes_in_one_round")
+# So many files are written side by side, each by so much that a worker is worth its thread.
+HEAVY = (2, 8)
+HEAVY_WRITES = "two heavy writes"
 # So many growths are each refused; of those behind them each STEP-th is.
 EACH = 300
 STEP = 7
@@ -41,7 +44,7 @@ def growths(count: int, spare: int) -> List[int]:
 def swept(shim: Shim, program: Program, words: Words, trace: str, is_from: bool) -> List[Outcome]:
     """Each growth of one run refused, once or from then on: the fault is want of memory or of a thread, and nothing goes
     out. A run that met no refusal, and one with ample memory, gives the answer."""
-    given = input_of(words, trace) if trace else None
+    given = heavy_writes(HEAVY[0]) if trace == HEAVY_WRITES else input_of(words, trace) if trace else None
     has_workers = bool(trace) and words[0] in ("run", "compare")
     wanted = program.run(words, given)
     ample, (count, _, _, before_read) = shim.run(program, words, given)
@@ -65,16 +68,17 @@ def swept(shim: Shim, program: Program, words: Words, trace: str, is_from: bool)
     return [Outcome("{} ({} of {} growths): {} {} by {}".format(what, refusals, count, spoken(words), trace, program.compiler), first(faults))]
 
 
-def threads(shim: Shim, program: Program, words: Words, trace: str) -> List[Outcome]:
+def threads(shim: Shim, program: Program, words: Words, count: int) -> List[Outcome]:
     """Each thread of one run refused: the fault is want of a thread, and nothing goes out."""
-    given = os.path.join(EXAMPLES, trace + ".trace")
+    given = heavy_writes(count)
     asked = shim.run(program, words, given)[1][2]
     faults: List[str] = [] if asked else ["no thread was asked for"]
     for at in range(1, min(asked, EACH) + 1):
         got = shim.run(program, words, given, thread=at)[0]
         if got != fault("thread"):
             faults.append("thread {}: {}".format(at, shown(got)))
-    return [Outcome("each of {} threads refused: {} {} by {}".format(asked, spoken(words), trace, program.compiler), first(faults))]
+    label = "each of {} threads refused: {} {} heavy writes by {}".format(asked, spoken(words), count, program.compiler)
+    return [Outcome(label, first(faults))]
 
 
 def jobs(programs: List[Program]) -> List[Job]:
@@ -87,7 +91,8 @@ def jobs(programs: List[Program]) -> List[Job]:
     for is_from in (False, True):
         made += [partial(swept, shim, whole, words, trace, is_from) for words in MODES for trace in TRACES]
         made += [partial(swept, shim, whole, words, "", is_from) for words in WORDS_ALONE]
+        made.append(partial(swept, shim, whole, ["run", *ROUNDS], HEAVY_WRITES, is_from))
     made += [partial(swept, shim, other, words, TRACES[3], False) for other in others for words in MODES]
     for words in (["run", *ROUNDS], ["compare", *ROUNDS], ["run", "--workers", "64"]):
-        made += [partial(threads, shim, program, words, trace) for program in programs for trace in WITH_THREADS]
+        made += [partial(threads, shim, program, words, count) for program in programs for count in HEAVY]
     return made

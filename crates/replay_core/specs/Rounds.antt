@@ -1,4 +1,4 @@
--- What a replay in rounds has after so many of them, and what it gives.
+-- The model: what a replay in rounds gives. Below it, helpers: what it has after so many rounds.
 use Rattle.std.specs.Prelude.{◌≡◌, ℕ, ◌-◌, ◌<◌, ◌≤◌, ◌⊎◌, Bool, true, List, ◌++◌, map, length, Option, Some, None, slice_get, if◌then◌else◌, ◌==◌, [], ◌∷◌}
 use Rattle.std.specs.List.{range_with_len}
 use Rattle.finite_maps.specs.Table.{get}
@@ -42,11 +42,19 @@ pub record IsFront (t : Trace) (window : ℕ) (x : State (replayed t)) (front : 
   pub few : length front ≤ window
   pub full : (length front ≡ window) ⊎ (next ≡ places t)
 
+-- What a replay keeps of each place after r rounds.
+abbrev pub KeptAfter : Trace → ℕ → Progress → Type 0
+KeptAfter t r p = Keeps t p.window (state_after t p.window r) p.replies.items p.rounds.items p.done.items
+
+-- Neither the round has changed nor the places that it looks at.
+abbrev pub IsSameRound : Progress → Progress → Type 0
+IsSameRound old new = (new.window ≡ old.window) × (new.round ≡ old.round) × (new.front.items ≡ old.front.items) × (new.next ≡ old.next)
+
 -- What a replay has after its rounds so far.
 pub record Stands (t : Trace) (p : Progress) : Type 0 where
   pub window : 1 ≤ p.window
   pub world : p.world ≡ whole (state_after t p.window p.round).world
-  pub keeps : Keeps t p.window (state_after t p.window p.round) p.replies.items p.rounds.items p.done.items
+  pub keeps : KeptAfter t p.round p
   pub front : IsFront t p.window (state_after t p.window p.round) p.front.items p.next
 
 -- The parts of the jobs.

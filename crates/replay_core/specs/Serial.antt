@@ -1,4 +1,4 @@
--- What a replay in recorded order gives.
+-- The model: what a replay in recorded order gives.
 use Rattle.std.specs.Prelude.{◌≡◌}
 use Rattle.std.specs.List.{range_with_len}
 use Rattle.trace_format.specs.declared.trace.Trace.{Trace}

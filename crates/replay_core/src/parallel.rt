@@ -19,8 +19,8 @@ const MOST_WORKERS: u32 = 64;
 const WIDEST_WINDOW: u32 = 4096;
 
 /// Runs the places of a trace in rounds. Each round looks at the first `window` places that aren't done, runs
-/// those that may run now, on as many workers as it has places but no more than `workers`, and puts what they
-/// made together again in recorded order.
+/// those that may run now, on as many workers as they are worth by the gate's weights but no more than `workers`,
+/// and puts what they made together again in recorded order.
 ///
 /// It gives the world and the replies of the sequential run, and of each place the number of its round: as
 /// [`wave_pick::laws::rounds_are_numbered`] says, these rise along each chain, and a barrier's lie behind those

@@ -4,7 +4,7 @@ ghost use Rattle.std.specs.List.{range_with_len};
 ghost use Rattle.chain_plan.specs.Plan.{roles};
 ghost use Rattle.deal_desk.specs.Desks.{AreValues};
 ghost use Rattle.replay_core.specs.Jobs.{IsOutcome};
-ghost use Rattle.replay_core.specs.Rounds.{AreDealt, IsFront, IsReplay, Keeps, Stands};
+ghost use Rattle.replay_core.specs.Rounds.{AreDealt, IsFront, IsReplay, IsSameRound, KeptAfter, Stands};
 ghost use Rattle.trace_format.specs.Steps.{places};
 ghost use Rattle.trace_format.specs.Text.{IsSpelled};
 ghost use Rattle.wave_pick.specs.Rounds.{state_after};
@@ -177,12 +177,12 @@ impl Progress {
     ) -> Result<(), AllocError>
         requires trace { IsSpelled trace.now }
         requires round { self.old.round < places trace.now }
-        requires keeps { Keeps trace.now self.old.window (state_after trace.now self.old.window self.old.round) self.old.replies.items self.old.rounds.items self.old.done.items }
+        requires keeps { KeptAfter trace.now self.old.round self.old }
         requires dealt { AreDealt trace.now self.old.window self.old.round jobs.value.items self.old.world }
         requires outcomes { AreValues (λ run d. IsOutcome run.trace.value run.part d) jobs.value.items outcomes.items }
-        ensures keeps { OnOk result (Keeps trace.now self.old.window (state_after trace.now self.old.window (self.old.round + 1)) self.new.replies.items self.new.rounds.items self.new.done.items) }
+        ensures keeps { OnOk result (KeptAfter trace.now (self.old.round + 1) self.new) }
         ensures world { OnOk result (self.new.world ≡ whole (state_after trace.now self.old.window (self.old.round + 1)).world) }
-        ensures rest { OnOk result ((self.new.window ≡ self.old.window) × (self.new.round ≡ self.old.round) × (self.new.front.items ≡ self.old.front.items) × (self.new.next ≡ self.old.next)) }
+        ensures rest { OnOk result (IsSameRound self.old self.new) }
     {
         for outcome in outcomes {
             let (reply, part) = outcome?;
@@ -201,7 +201,7 @@ impl Progress {
         requires round { self.old.round < places trace.now }
         requires window { 1 ≤ self.old.window }
         requires world { self.old.world ≡ whole (state_after trace.now self.old.window (self.old.round + 1)).world }
-        requires keeps { Keeps trace.now self.old.window (state_after trace.now self.old.window (self.old.round + 1)) self.old.replies.items self.old.rounds.items self.old.done.items }
+        requires keeps { KeptAfter trace.now (self.old.round + 1) self.old }
         requires front { IsFront trace.now self.old.window (state_after trace.now self.old.window self.old.round) self.old.front.items self.old.next }
         ensures stands { OnOk result (Stands trace.now self.new) }
         ensures next { OnOk result ((self.new.window ≡ self.old.window) × (self.new.round ≡ self.old.round + 1)) }

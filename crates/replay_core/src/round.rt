@@ -18,6 +18,9 @@ use std::thread::{Promise, Scope, Threads};
 use trace_format::Trace;
 use world_parts::Part;
 
+/// How many microseconds of work a thread is worth. Starting one takes a tenth to a third of that.
+pub const WORTH_A_THREAD: u64 = 500;
+
 /// Why a round has no outcomes.
 #[derive(Clone, Copy, Debug, Drop)]
 pub(crate) enum RoundFault {
@@ -97,7 +100,22 @@ fn fan_out<'s, E, R: Threads, G: Gate + Sync>(
     all
 }
 
-/// Deals the jobs of a round to as many workers as it has jobs, but no more than `workers`, and gives their
+/// How many workers a round is worth: one for each [`WORTH_A_THREAD`] that its jobs weigh, at least one, and no more
+/// than it has jobs, nor than `workers`.
+fn workers_worth<G: Gate>(jobs: &[Run], workers: u32, trace: &Trace, gate: &G) -> u32
+    requires spelled { IsSpelled trace.now }
+    requires trace { AreOf trace.now jobs.now }
+    ensures few { result ≤ workers }
+{
+    let mut weight = 0u64;
+    for run in jobs {
+        weight = weight.saturating_add(gate.weight(trace, run.part.place));
+    }
+    let worth = (weight / WORTH_A_THREAD).min(jobs.len() as u64).max(1);
+    worth.min(u64::from(workers)) as u32
+}
+
+/// Deals the jobs of a round to as many workers as it is worth, but no more than `workers`, and gives their
 /// outcomes in order. This thread is the first of the workers, and each other one is a thread of its own.
 pub(crate) fn run_round<R: Threads + Wait + Sync, G: Gate + Sync>(
     rt: &R,
@@ -113,7 +131,7 @@ pub(crate) fn run_round<R: Threads + Wait + Sync, G: Gate + Sync>(
     requires workers { workers ≤ 64 }
     ensures { IfOk result (λ v. AreValues (λ run d. IsOutcome run.trace.value run.part d) jobs.items v.items) }
 {
-    let helpers = workers.min(jobs.len() as u32).saturating_sub(1);
+    let helpers = workers_worth(jobs.as_slice(), workers, trace, gate).saturating_sub(1);
     let (desk, mut opening) = Desk::new(alloc, jobs)?;
     if helpers == 0 {
         work(alloc, &desk, &mut opening, trace, gate);

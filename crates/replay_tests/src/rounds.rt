@@ -6,7 +6,7 @@ use chain_plan::Role;
 use op_meaning::{Reply, run_entry};
 use replay_core::comparing::verdict;
 use replay_core::parallel::replay;
-use replay_core::{Gate, NoGate, ReplayFault, Verdict, replay_serial};
+use replay_core::{Gate, NoGate, ReplayFault, Verdict, WORTH_A_THREAD, replay_serial};
 use std::alloc::{AllocError, Global};
 use std::sync::atomic::AtomicU64;
 use std::sync::atomic::Ordering::SeqCst;
@@ -58,6 +58,10 @@ impl Gate for Meeting {
         }
         run_entry(alloc, place, trace, role_there, part)
     }
+
+    fn weight(&self, _trace: &Trace, _place: u32) -> u64 {
+        WORTH_A_THREAD
+    }
 }
 
 /// Has no memory for place 1.
@@ -77,6 +81,31 @@ impl Gate for Refusing {
             return Err(AllocError);
         }
         run_entry(alloc, place, trace, role_there, part)
+    }
+
+    fn weight(&self, _trace: &Trace, _place: u32) -> u64 {
+        WORTH_A_THREAD
+    }
+}
+
+/// Runs each place on a worker of its own, as far as there are so many.
+#[derive(Drop)]
+struct Eager;
+
+impl Gate for Eager {
+    fn run(
+        &self,
+        alloc: Global,
+        place: u32,
+        trace: &Trace,
+        role_there: &Role,
+        part: &mut Part,
+    ) -> Result<Reply, AllocError> {
+        run_entry(alloc, place, trace, role_there, part)
+    }
+
+    fn weight(&self, _trace: &Trace, _place: u32) -> u64 {
+        WORTH_A_THREAD
     }
 }
 
@@ -128,8 +157,12 @@ fn both_runs_are_equal(rt: HostRuntime) -> Result<(), Fail> {
         panic!(rt; "no serial replay")
     };
     for workers in [1, 2, 64] {
-        let Ok(parallel) = replay(&rt, rt.alloc(), &trace, workers, 4096, &NoGate) else {
+        let Ok(alone) = replay(&rt, rt.alloc(), &trace, workers, 4096, &NoGate) else {
             panic!(rt; "no replay")
+        };
+        assert!(rt; matches!(verdict(&serial, &alone), Verdict::Equal));
+        let Ok(parallel) = replay(&rt, rt.alloc(), &trace, workers, 4096, &Eager) else {
+            panic!(rt; "no replay on threads")
         };
         assert!(rt; matches!(verdict(&serial, &parallel), Verdict::Equal));
     }

@@ -11,7 +11,7 @@ use Rattle.foot_print.specs.Parts as parts
 use Rattle.world_parts.specs.Part.{Part, whole}
 use Rattle.replay_core.specs.declared.run.Run.{Run}
 use Rattle.wave_pick.specs.Rounds.{state_after}
-use Rattle.replay_core.specs.Rounds.{parts_of, Keeps}
+use Rattle.replay_core.specs.Rounds.{KeptAfter, parts_of}
 use Rattle.replay_core.proofs.Lists.{drop-whole}
 use Rattle.replay_core.proofs.Returning.{Returns, HasReturned, left_is_world, part_is_out, part_is_narrow, part_fits, put_one}
 use Rattle.replay_core.proofs.Rounds.{begins, goes_on, ends, IsOutcomeAt, outcome_at}
@@ -130,8 +130,7 @@ returns-clause-keeps c =
     let d = (goal.at.returns-clause-keeps c).In-None in
     let s = c.loop-outcome.self in
     let end = (ends c.args.trace.now c.requires.trace s.window s.round s.world s.replies.items s.rounds.items s.done.items (over d)).0 in
-    subst (λ (w : ℕ). Keeps c.args.trace.now w (state_after c.args.trace.now w (c.args.self.now.round + 1)) s.replies.items s.rounds.items s.done.items) c.loop-outcome.invariant.window
-    (subst (λ (r : ℕ). Keeps c.args.trace.now s.window (state_after c.args.trace.now s.window (r + 1)) s.replies.items s.rounds.items s.done.items) c.loop-outcome.invariant.round end)
+    subst (λ (r : ℕ). KeptAfter c.args.trace.now (r + 1) s) c.loop-outcome.invariant.round end
 
 pub returns-clause-world : goal.returns-clause-world
 returns-clause-world c =
