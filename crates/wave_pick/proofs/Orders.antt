@@ -51,7 +51,7 @@ two_members t c i k lt within first second =
 in_footprint : (p : Use → Bool) (t : Trace) (k : ℕ) (s : World) → T (list_any p (order_of t k)) → T (list_any p (footprint t k s))
 in_footprint p t k s h = in_left p (order_of t k) _ h
 
-in_reach : (p : Use → Bool) (t : Trace) (k : ℕ) (s : World) (earlier : List Footprint) → T (list_any p (order_of t k)) → T (list_any p (reach t k s earlier))
+pub in_reach : (p : Use → Bool) (t : Trace) (k : ℕ) (s : World) (earlier : List Footprint) → T (list_any p (order_of t k)) → T (list_any p (reach t k s earlier))
 in_reach p t k s earlier h =
     elim (is_taken_to_run t k s earlier) as (λ b. T (list_any p (cond b (cond (is_met (look_of t k s (task t k)).deciding earlier) (wide_row t k s earlier) (cond (is_met (running_row t k s) earlier) (accepted_row t k s earlier) (running_row t k s))) (order_of t k)))) [
       | true ↦ elim (is_met (look_of t k s (task t k)).deciding earlier) as (λ b. T (list_any p (cond b (wide_row t k s earlier) (cond (is_met (running_row t k s) earlier) (accepted_row t k s earlier) (running_row t k s))))) [
@@ -69,7 +69,7 @@ chain_written true c e = either_left (c == c) false (eqb_refl c)
 chain_written false c e = absurd (cc e)
 
 -- A member of a chain of two or more writes the chain's flag.
-writes_chain : (t : Trace) (k : ℕ) → leb 2 (role t k).length ≡ true → T (writes_atom (order_of t k) (chain_flag (role t k).chain))
+pub writes_chain : (t : Trace) (k : ℕ) → leb 2 (role t k).length ≡ true → T (writes_atom (order_of t k) (chain_flag (role t k).chain))
 writes_chain t k two = either_right _ _ (chain_written (leb 2 (role t k).length) (role t k).chain two)
 
 -- Every place has the order of its ring, and a barrier writes it.

@@ -1,4 +1,4 @@
--- The replay of a trace that some bytes spell keeps the laws of footprints and reaches.
+-- A helper: the replay of a trace that some bytes spell keeps the laws of footprints and reaches.
 use Rattle.interleaving.specs.Laws.{Cover, Laws}
 use Rattle.trace_format.specs.declared.trace.Trace.{Trace}
 use Rattle.trace_format.specs.Text.{IsSpelled}

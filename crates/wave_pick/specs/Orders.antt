@@ -1,4 +1,4 @@
--- Which places keep their recorded order, whatever runs beside them.
+-- A law: which places keep their recorded order, whatever runs beside them.
 use Rattle.std.specs.Prelude.{◌≡◌, ℕ, ◌<◌, ◌≤◌, true, List, ◌∷◌, ◌++◌, ◌⊎◌, slice_index}
 use Rattle.interleaving.specs.Machine.{Event, Start, has, opening, run, AllLegal}
 use Rattle.trace_format.specs.declared.trace.Trace.{Trace}

@@ -1,4 +1,4 @@
--- Which places of a trace run in which round.
+-- The model: which places of a trace run in which round; laws of that at the end.
 use Rattle.std.specs.Prelude.{◌≡◌, ◌≢◌, ◌↔◌, ℕ, zero, suc, ◌<◌, ◌≤◌, true, false, List, [], ◌∷◌, map, length, slice_get, Some, if◌then◌else◌}
 use Rattle.std.specs.List.{range_with_len}
 use Rattle.interleaving.specs.Machine.{State, opening, has}

@@ -1,4 +1,4 @@
--- The run that orders and rounds are compared with is the model's sequential run.
+-- A law: the run that orders and rounds are compared with is the model's sequential run.
 use Rattle.std.specs.Prelude.{◌≡◌, ℕ, ◌<◌, ◌≤◌, List, Some, slice_get, length}
 use Rattle.interleaving.specs.System.{sequential}
 use Rattle.interleaving.specs.Machine.{Event, State, reply_of, opening, run, AllLegal, IsComplete}

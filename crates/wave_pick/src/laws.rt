@@ -12,6 +12,7 @@ ghost use Rattle.wave_pick.specs.Lawful.{covered, lawful};
 ghost use Rattle.wave_pick.specs.Orders.{LinksAndDrainsHold, LinksAndDrainsPart, LinksAndDrainsRise};
 ghost use Rattle.wave_pick.specs.Rounds.{NoneCollide, RoundsAreNumbered};
 ghost use Rattle.wave_pick.specs.Sequential.{OrdersEndAsTheModel, RoundsEndAsTheModel, RunsAsTheModel};
+ghost use Rattle.wave_pick.specs.Waiting.{CanceledUsesOrder, DecidedStays, DecidingBegins, DecidingInRow, OrderHolds, OthersRun, RowItems, RowStays, RowWitnessHolds, RowWitnessStays, TurnStays, WideStays, WitnessHolds};
 
 use interleaving::{
     Footprinted, Foreseen, every_legal_order_is_sequential, reaches_foresee, rounds_are_sequential,
@@ -82,4 +83,39 @@ pub fn rounds_are_legal()
 pub fn rounds_are_numbered()
     ensures numbered { (t : Trace) → IsSpelled t → RoundsAreNumbered t }
     ensures rise { (t : Trace) → IsSpelled t → LinksAndDrainsRise t }
+{}
+
+/// What is known of a place stays so while it waits, from round to round: where no reach before it writes an item
+/// of its footprint, that footprint, which is also its reach; where none writes the flag of its chain, whether it
+/// runs or is canceled; and while it may run, where none writes an item that decides its others, what it looks up.
+/// Of a place that may run, the items that decide stay up to the first one that a reach before it writes; and where
+/// it stays the same whether a reach before it writes a descriptor, so do its wide row and, once it is decided, its
+/// row as accepted.
+pub fn waiting_places_stay_known()
+    ensures row { (t : Trace) → IsSpelled t → RowStays t }
+    ensures turn { (t : Trace) → IsSpelled t → TurnStays t }
+    ensures canceled { (t : Trace) → CanceledUsesOrder t }
+    ensures look { (t : Trace) → IsSpelled t → DecidedStays t }
+    ensures deciding { (t : Trace) → IsSpelled t → DecidingBegins t }
+    ensures wide { (t : Trace) → IsSpelled t → WideStays t }
+{}
+
+/// A waiting place whose reach collides with the footprint of a later one keeps that one out of the next round: so
+/// does each earlier member of its chain, and a barrier and the other places of its ring. Of the first pending
+/// places, as many as the window has, those run in the next round that no place keeps out so.
+pub fn witnesses_hold_back()
+    ensures hold { (t : Trace) → WitnessHolds t }
+    ensures order { (t : Trace) → OrderHolds t }
+    ensures others { (t : Trace) → OthersRun t }
+{}
+
+/// With the same look, the rows of a place in two worlds meet the same reaches, apart from what the place makes. So
+/// a waiting place whose reach writes an item that decides or another one of the row of a later place keeps that one
+/// out of the next round, unless it is canceled; and while the later one looks up the same, a reach that writes an
+/// item of its row as it was writes its row.
+pub fn rows_meet_the_same()
+    ensures items { (t : Trace) → RowItems t }
+    ensures deciding { (t : Trace) → DecidingInRow t }
+    ensures hold { (t : Trace) → RowWitnessHolds t }
+    ensures stay { (t : Trace) → IsSpelled t → RowWitnessStays t }
 {}

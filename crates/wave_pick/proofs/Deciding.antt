@@ -1,0 +1,175 @@
+-- The items that decide come one after another: where a world keeps the first ones, it keeps the next one.
+use Rattle.std.specs.Prelude.{◌≡◌, ℕ, ℤ, pos, negsuc, suc, Bool, true, false, cond, ltb, length, T, List, [], ◌∷◌, ◌++◌, map, Option, Some, None, Result, Ok, Err, refl, if◌then◌else◌}
+use Rattle.std.proofs.Common.{◌⊎◌, inl, inr}
+use Rattle.std.proofs.lemmas.Bool.{cases_Bool}
+use mathlib.Core.Path.{sym, subst, ap, ◌∙◌}
+use Rattle.interleaving.proofs.Ahead.{known-now}
+use Rattle.interleaving.specs.Machine.{has}
+use Rattle.sqe_codec.specs.declared.errno.Errno.{Errno}
+use Rattle.sqe_codec.specs.Answers.{each, each_ok}
+use Rattle.trace_format.specs.declared.trace.Trace.{Trace}
+use Rattle.trace_format.specs.Paths.{components}
+use Rattle.trace_format.specs.Steps.{places}
+use Rattle.trace_format.specs.Text.{IsSpelled}
+use Rattle.entry_checks.specs.Operation.{Operation, nop, readv, writev, fsync, read_fixed, write_fixed, fallocate, openat, close, read, write, renameat, unlinkat, mkdirat, linkat, ftruncate, File, Path}
+use Rattle.file_tree.specs.Walk.{names_from, directory_at, fits_name, starts_at_root}
+use Rattle.world_parts.specs.World.{World, name, slot, descriptor}
+use Rattle.world_parts.specs.Items.{Atom, slot_at, descriptor_at, description_at, name_at, one, member_of, Use, reads, Footprint, has_atom, Agree}
+use Rattle.world_parts.proofs.Collision.{true_of}
+use Rattle.world_parts.proofs.Sharing.{holds_true}
+use Rattle.op_meaning.specs.Meaning.{slot_count, Handle, held, handle_of, is_file}
+use Rattle.op_meaning.specs.Footprint.{held_item, of_file, of_description, path_reads}
+use Rattle.op_meaning.specs.Step.{Turn, filled, refused, canceled, runs}
+use Rattle.foot_print.specs.Reach.{is_met, seen, file_seen, is_taken_to_run, look_of, task, order_of, running_row, accepted_row, wide_row}
+use Rattle.foot_print.specs.Replayed.{replayed}
+use Rattle.foot_print.proofs.Agreement.{in_left, agree_left, agree_tail, agree_head}
+use Rattle.foot_print.proofs.Cover.{all_covered}
+use Rattle.foot_print.proofs.Lawful.{row_laws}
+use Rattle.wave_pick.specs.Lawful.{lawful}
+use Rattle.wave_pick.specs.Rounds.{state_after}
+use Rattle.wave_pick.specs.Waiting.{Waits, world_after, reaches_after, reach_after, look_after, DecidingBegins}
+use Rattle.wave_pick.proofs.Looked.{append_nothing}
+use Rattle.wave_pick.proofs.Staying.{between_rounds, waited}
+use Rattle.wave_pick.proofs.Waiting.{unmet_stays, value_stays, row_in_reach}
+
+abbrev look : ℕ × List ℕ → Use
+look e = reads (one (name_at e.0 e.1))
+
+-- Where two worlds agree on the first uses of the one list, the other list begins with these and with the next one.
+record Goes (s u : World) (f g : Footprint) : Type 0 where
+  goes : (known rest : Footprint) (first : Use) → f ≡ known ++ first ∷ rest → Agree known s u → (others : Footprint) × (g ≡ known ++ first ∷ others)
+
+is_empty : Footprint → Bool
+is_empty [] = true
+is_empty (x ∷ f) = false
+
+head_or : Use → Footprint → Use
+head_or d [] = d
+head_or d (x ∷ f) = x
+
+tail_of : Footprint → Footprint
+tail_of [] = []
+tail_of (x ∷ f) = f
+
+empty_apart : (known rest : Footprint) (first : Use) → [] ≡ known ++ first ∷ rest → ⊥
+unfolding is_empty
+empty_apart [] rest first e = subst T (ap is_empty e) tt
+empty_apart (x ∷ known) rest first e = subst T (ap is_empty e) tt
+
+module _ (s u : World) where
+  goes_nothing : (g : Footprint) → Goes s u [] g
+  goes_nothing g = record { goes = λ known rest first e a. absurd (empty_apart known rest first e) }
+
+  goes_cons : (x : Use) (f g : Footprint) → (Agree (x ∷ []) s u → Goes s u f g) → Goes s u (x ∷ f) (x ∷ g)
+  unfolding head_or tail_of
+  goes_cons x f g h = record { goes = at }
+    where
+      at : (known rest : Footprint) (first : Use) → x ∷ f ≡ known ++ first ∷ rest → Agree known s u → (others : Footprint) × (x ∷ g ≡ known ++ first ∷ others)
+      at [] rest first e a = (g, ap (λ y. y ∷ g) (ap (head_or x) e))
+      at (y ∷ known) rest first e a =
+          let same : x ≡ y = ap (head_or x) e in
+          let found = (h (subst (λ z. Agree (z ∷ []) s u) (sym same) (agree_left s u (y ∷ []) known a))).goes known rest first (ap tail_of e) (agree_tail s u y known a) in
+          (found.0, λ i. same i ∷ found.1 i)
+
+  module _ (g h : Footprint) (next : Goes s u g h) where
+    goes_names : (ns : List (List ℕ)) (d : ℕ) → Goes s u (map look (names_from s.nodes d ns) ++ g) (map look (names_from u.nodes d ns) ++ h)
+    goes_names [] d = next
+    goes_names (n ∷ ns) d =
+        elim (fits_name n) as (λ b. Goes s u (map look (cond b ((d, n) ∷ each_ok (λ e. names_from s.nodes e ns) (directory_at (name s d n))) []) ++ g) (map look (cond b ((d, n) ∷ each_ok (λ e. names_from u.nodes e ns) (directory_at (name u d n))) []) ++ h)) [
+          | true ↦ goes_cons (look (d, n)) _ _ (λ a. subst (λ x. Goes s u (map look (each_ok (λ e. names_from s.nodes e ns) (directory_at (name s d n))) ++ g) (map look (each_ok (λ e. names_from u.nodes e ns) (directory_at x)) ++ h)) (agree_head s u (name_at d n) false [] a) (further (goes_names ns) (directory_at (name s d n))))
+          | false ↦ next
+        ]
+      where
+        further : ((e : ℕ) → Goes s u (map look (names_from s.nodes e ns) ++ g) (map look (names_from u.nodes e ns) ++ h)) → (x : Result ℕ Errno)
+            → Goes s u (map look (each_ok (λ e. names_from s.nodes e ns) x) ++ g) (map look (each_ok (λ e. names_from u.nodes e ns) x) ++ h)
+        further f (Ok e) = f e
+        further f (Err x) = next
+
+    goes_path : (p : Path) → Goes s u (path_reads s p ++ g) (path_reads u p ++ h)
+    goes_path p = elim (starts_at_root p) as (λ b. Goes s u (map look (cond b (names_from s.nodes 0 (components p.text)) []) ++ g) (map look (cond b (names_from u.nodes 0 (components p.text)) []) ++ h)) [ true ↦ goes_names (components p.text) 0 | false ↦ next ]
+
+  goes_one_path : (p : Path) → Goes s u (path_reads s p) (path_reads u p)
+  goes_one_path p = subst (λ f. Goes s u f (path_reads u p)) (append_nothing (path_reads s p)) (subst (λ f. Goes s u (path_reads s p ++ []) f) (append_nothing (path_reads u p)) (goes_path [] [] (goes_nothing []) p))
+
+  goes_two_paths : (old new : Path) → Goes s u (path_reads s old ++ path_reads s new) (path_reads u old ++ path_reads u new)
+  goes_two_paths old new = goes_path (path_reads s new) (path_reads u new) (goes_one_path new) old
+
+  module _ (t : Trace) (r : ℕ) where
+    no_content : (x : Option Handle) → each (of_file (λ i h. [])) x ≡ []
+    no_content None = refl
+    no_content (Some h) = elim (is_file h.opened) as (λ b. ◌≡◌ {A = Footprint} (cond b [] []) []) [ true ↦ refl | false ↦ refl ]
+
+    goes_description : (x : Option ℕ) → Goes s u (each (of_description s (λ i h. [])) x) (each (of_description u (λ i h. [])) x)
+    goes_description None = goes_nothing []
+    goes_description (Some d) = goes_cons (reads (one (description_at d))) _ _ (λ a. subst (λ f. Goes s u f (each (of_file (λ i h. [])) (handle_of u d))) (sym (no_content (handle_of s d))) (goes_nothing _))
+
+    abbrev held_goes : Bool → ℤ → Type 0
+    held_goes b n = Goes s u (map reads (held_item t r b n) ++ each (of_description s (λ i h. [])) (held t s r b n)) (map reads (held_item t r b n) ++ each (of_description u (λ i h. [])) (held t u r b n))
+
+    goes_held : (b : Bool) (n : ℤ) → held_goes b n
+    goes_held true (pos n) =
+        elim (ltb n (slot_count t r)) as (λ c. Goes s u (map reads (cond c (one (slot_at r n) ∷ []) []) ++ each (of_description s (λ i h. [])) (cond c (slot s r n) None)) (map reads (cond c (one (slot_at r n) ∷ []) []) ++ each (of_description u (λ i h. [])) (cond c (slot u r n) None))) [
+          | true ↦ goes_cons (reads (one (slot_at r n))) _ _ (λ a. subst (λ x. Goes s u (each (of_description s (λ i h. [])) (slot s r n)) (each (of_description u (λ i h. [])) x)) (agree_head s u (slot_at r n) false [] a) (goes_description (slot s r n)))
+          | false ↦ goes_nothing []
+        ]
+    goes_held false (pos n) =
+        elim (ltb n (length t.descriptors)) as (λ c. Goes s u (map reads (cond c (one (descriptor_at n) ∷ []) []) ++ each (of_description s (λ i h. [])) (cond c (descriptor s n) None)) (map reads (cond c (one (descriptor_at n) ∷ []) []) ++ each (of_description u (λ i h. [])) (cond c (descriptor u n) None))) [
+          | true ↦ goes_cons (reads (one (descriptor_at n))) _ _ (λ a. subst (λ x. Goes s u (each (of_description s (λ i h. [])) (descriptor s n)) (each (of_description u (λ i h. [])) x)) (agree_head s u (descriptor_at n) false [] a) (goes_description (descriptor s n)))
+          | false ↦ goes_nothing []
+        ]
+    goes_held b (negsuc n) = goes_nothing []
+
+    goes_file : (f : File) → Goes s u (file_seen t s r f) (file_seen t u r f)
+    goes_file f = goes_held f.registered f.number
+
+    goes_seen : (o : Operation) → Goes s u (seen t r s o) (seen t r u o)
+    goes_seen nop = goes_nothing []
+    goes_seen (readv f o n) = goes_file f
+    goes_seen (writev f o new) = goes_file f
+    goes_seen (fsync f) = goes_nothing []
+    goes_seen (read_fixed f o x) = goes_file f
+    goes_seen (write_fixed f o x) = goes_file f
+    goes_seen (fallocate f o n mode) = goes_file f
+    goes_seen (openat p g index) = goes_one_path p
+    goes_seen (close number index) = goes_nothing []
+    goes_seen (read f o n) = goes_file f
+    goes_seen (write f o new) = goes_file f
+    goes_seen (renameat old new flags) = goes_two_paths old new
+    goes_seen (unlinkat p removes) = goes_one_path p
+    goes_seen (mkdirat p) = goes_one_path p
+    goes_seen (linkat old new) = goes_two_paths old new
+    goes_seen (ftruncate f n) = goes_file f
+
+  goes_deciding : (t : Trace) (k : ℕ) (x : Option Turn) → Goes s u (look_of t k s x).deciding (look_of t k u x).deciding
+  goes_deciding t k None = goes_nothing []
+  goes_deciding t k (Some (filled r b at new)) = goes_nothing []
+  goes_deciding t k (Some (refused e p)) = goes_nothing []
+  goes_deciding t k (Some (canceled p)) = goes_nothing []
+  goes_deciding t k (Some (runs r e o)) = goes_seen t r o
+
+module _ (t : Trace) (spelled : IsSpelled t) (window r k : ℕ) (waits : Waits t window (suc r) k) (may_run : is_taken_to_run t k (world_after t window r) (reaches_after t window r k) ≡ true) where
+  abbrev s : World
+  s = world_after t window r
+
+  abbrev earlier : List Footprint
+  earlier = reaches_after t window r k
+
+  -- The reach of a place that may run has what it looks up.
+  deciding_in_reach : (a : Atom) → has_atom (look_after t window r k).deciding a ≡ true → has_atom (reach_after t window r k) a ≡ true
+  deciding_in_reach a h = go (cases_Bool (is_met (look_after t window r k).deciding earlier))
+    where
+      go : (is_met (look_after t window r k).deciding earlier ≡ true) ⊎ (is_met (look_after t window r k).deciding earlier ≡ false) → has_atom (reach_after t window r k) a ≡ true
+      go (inr e) = row_in_reach t spelled window r k waits (record { may_run = may_run; unmet = e }) a ((row_laws t all_covered).look_in_row k s a h)
+      go (inl e) =
+          let bounded = known-now (replayed t) (lawful t spelled) (has (state_after t window r).finished) s (between_rounds (replayed t) (lawful t spelled) (places t) window r).on.sound k (waited (replayed t) (lawful t spelled) (places t) window r k waits) may_run in
+          ap (λ f. has_atom f a) (λ i. if may_run i then (if e i then wide_row t k s earlier else (if is_met (running_row t k s) earlier then accepted_row t k s earlier else running_row t k s)) else order_of t k)
+          ∙ ((row_laws t all_covered).wide_holds_accepted k s earlier bounded).0 a (((row_laws t all_covered).accepted_holds_row k s earlier).0 a ((row_laws t all_covered).look_in_row k s a h))
+
+  begins : (known rest : Footprint) (first : Use) → (look_after t window r k).deciding ≡ known ++ first ∷ rest → is_met known earlier ≡ false
+      → (others : Footprint) × ((look_after t window (suc r) k).deciding ≡ known ++ first ∷ others)
+  begins known rest first e unmet =
+      let agree = value_stays t spelled window r k waits known unmet (λ a h. deciding_in_reach a (ap (λ f. has_atom f a) e ∙ true_of _ (in_left (λ (v : Use). member_of v.item a) known (first ∷ rest) (holds_true _ h)))) in
+      (goes_deciding s (world_after t window (suc r)) t k (task t k)).goes known rest first e (record { same = λ a h. agree a (true_of _ h) })
+
+pub deciding_begins : (t : Trace) → IsSpelled t → DecidingBegins t
+deciding_begins t spelled window r k known rest first waits may_run e unmet = (begins t spelled window r k waits may_run known rest first e unmet, unmet_stays t spelled window r k waits known unmet)

@@ -1,0 +1,251 @@
+-- The reach of an earlier place writes nothing that a place makes.
+use Rattle.std.specs.Prelude.{◌≡◌, ℕ, ℤ, pos, negsuc, zero, suc, Bool, true, false, cond, ◌||◌, ◌+◌, ◌<◌, ◌≤◌, ltb, leb, length, T, List, [], ◌∷◌, ◌++◌, map, Option, Some, None, refl}
+use Rattle.std.proofs.Common.{◌⊎◌, inl, inr}
+use Rattle.std.proofs.lemmas.Bool.{cases_Bool}
+use mathlib.Core.Path.{sym, subst}
+use native.Mathlib.Omega.{arith}
+use lib.Dec.{ltb→lt, lt→ltb, eqb→eq}
+use Rattle.trace_format.specs.declared.trace.Trace.{Trace}
+use Rattle.sqe_codec.specs.Answers.{each}
+use Rattle.chain_plan.specs.Chain.{role}
+use Rattle.entry_checks.specs.Operation.{Operation, nop, readv, writev, fsync, read_fixed, write_fixed, fallocate, openat, close, read, write, renameat, unlinkat, mkdirat, linkat, ftruncate, File, Span, file_limit}
+use Rattle.world_parts.specs.World.{World}
+use Rattle.world_parts.specs.Items.{Atom, chain_flag, ring_order, slot_at, descriptor_at, description_at, position_of, size_of, byte_at, name_at, names_in, buffer_byte, Item, one, file_bytes, buffer_bytes, all_names, all_bytes_and_sizes, all_positions, all_descriptions, all_descriptors, member_of, Use, reads, writes, Footprint, has_atom}
+use Rattle.world_parts.proofs.Collision.{left, true_of, writes-has, same_atom-eq}
+use Rattle.world_parts.proofs.Sharing.{holds_true}
+use Rattle.op_meaning.specs.Meaning.{made_node, made_description, slot_count, span_start, lowest_free}
+use Rattle.op_meaning.specs.Footprint.{use_of, held_item, file_reads, span_use, description_made, close_row, room_uses, ring_at}
+use Rattle.op_meaning.specs.Step.{Turn, filled, refused, canceled, runs}
+use Rattle.foot_print.specs.Reach.{written_by, is_met, node_made, makes, room_taken, all_files, any_name, unresolved_file, unresolved_row, unresolved_of, extras_of, task, look_of, order_of, running_row, accepted_row, wide_row, is_taken_to_run, reach}
+use Rattle.foot_print.specs.Replayed.{is_earlier, Known}
+use Rattle.foot_print.proofs.Cover.{all_covered}
+use Rattle.foot_print.proofs.Holding.{split, drop_false}
+use Rattle.foot_print.proofs.Lawful.{row_laws}
+use Rattle.foot_print.proofs.Writing.{is_false, atom_of_writes}
+use Rattle.wave_pick.specs.Waiting.{made_of}
+
+-- All atoms of a footprint are of no place behind k.
+record UpTo (t : Trace) (k : ℕ) (f : Footprint) : Type 0 where
+  bound : (a : Atom) → T (has_atom f a) → T (is_earlier t (suc k) a)
+
+module _ (t : Trace) where
+  -- What is of an earlier place is of one before any later place.
+  later_still : (i j : ℕ) → i ≤ j → (a : Atom) → T (is_earlier t i a) → T (is_earlier t j a)
+  later_still i j le (description_at d) h = let l = ltb→lt d (made_description t i) h in lt→ltb d (made_description t j) (omega arith)
+  later_still i j le (position_of d) h = let l = ltb→lt d (made_description t i) h in lt→ltb d (made_description t j) (omega arith)
+  later_still i j le (size_of n) h = let l = ltb→lt n (made_node t i) h in lt→ltb n (made_node t j) (omega arith)
+  later_still i j le (byte_at n p) h = let l = ltb→lt n (made_node t i) h in lt→ltb n (made_node t j) (omega arith)
+  later_still i j le (name_at d n) h = let l = ltb→lt d (made_node t i) h in lt→ltb d (made_node t j) (omega arith)
+  later_still i j le (names_in d) h = let l = ltb→lt d (made_node t i) h in lt→ltb d (made_node t j) (omega arith)
+  later_still i j le _ h = tt
+
+  module _ (k : ℕ) where
+    abbrev Bound : Footprint → Type 0
+    Bound f = UpTo t k f
+
+    node_here : T (ltb (made_node t k) (made_node t (suc k)))
+    node_here = lt→ltb (made_node t k) (made_node t (suc k)) (omega arith)
+
+    description_here : T (ltb (made_description t k) (made_description t (suc k)))
+    description_here = lt→ltb (made_description t k) (made_description t (suc k)) (omega arith)
+
+    up_to : (a : Atom) → T (is_earlier t k a) → T (is_earlier t (suc k) a)
+    up_to = later_still k (suc k) (omega arith)
+
+    nothing : Bound []
+    nothing = record { bound = λ a h. absurd h }
+
+    all : (f g : Footprint) → Bound f → Bound g → Bound (f ++ g)
+    all f g x y = record { bound = λ a h. elim (split (λ (v : Use). member_of v.item a) f g h) [ inl m ↦ x.bound a m | inr m ↦ y.bound a m ] }
+
+    atom : (b : Atom) (v : Bool) → T (is_earlier t (suc k) b) → Bound (use_of v (one b) ∷ [])
+    atom b v e = record { bound = λ a h. subst (λ c. T (is_earlier t (suc k) c)) (same_atom-eq b a (drop_false _ h)) e }
+
+    item : (x : Item) (v : Bool) → ((a : Atom) → T (member_of x a) → T (is_earlier t (suc k) a)) → Bound (use_of v x ∷ [])
+    item x v g = record { bound = λ a h. g a (drop_false _ h) }
+
+    of_buffer : (r b low high : ℕ) (a : Atom) → T (member_of (buffer_bytes r b low high) a) → T (is_earlier t (suc k) a)
+    of_buffer r b low high (buffer_byte q c p) h = tt
+    of_buffer r b low high _ h = absurd h
+
+    of_descriptors : (a : Atom) → T (member_of all_descriptors a) → T (is_earlier t (suc k) a)
+    of_descriptors (descriptor_at n) h = tt
+    of_descriptors _ h = absurd h
+
+    of_names : (a : Atom) → T (member_of (all_names (made_node t k)) a) → T (is_earlier t (suc k) a)
+    of_names (name_at d n) h = up_to (name_at d n) h
+    of_names (names_in d) h = up_to (names_in d) h
+    of_names _ h = absurd h
+
+    of_files : (a : Atom) → T (member_of (all_bytes_and_sizes (made_node t k)) a) → T (is_earlier t (suc k) a)
+    of_files (byte_at i p) h = up_to (byte_at i p) h
+    of_files (size_of i) h = up_to (size_of i) h
+    of_files _ h = absurd h
+
+    of_positions : (a : Atom) → T (member_of (all_positions (made_description t k)) a) → T (is_earlier t (suc k) a)
+    of_positions (position_of d) h = up_to (position_of d) h
+    of_positions _ h = absurd h
+
+    of_descriptions : (a : Atom) → T (member_of (all_descriptions (made_description t k)) a) → T (is_earlier t (suc k) a)
+    of_descriptions (description_at d) h = up_to (description_at d) h
+    of_descriptions _ h = absurd h
+
+    of_made_file : (a : Atom) → T (member_of (file_bytes (made_node t k) 0 file_limit) a) → T (is_earlier t (suc k) a)
+    of_made_file (byte_at j p) h = subst (λ n. T (ltb n (made_node t (suc k)))) (eqb→eq (made_node t k) j (left _ _ h)) node_here
+    of_made_file _ h = absurd h
+
+    held : (v : Bool) (r : ℕ) (b : Bool) (n : ℤ) → Bound (map (use_of v) (held_item t r b n))
+    held v r true (pos n) = elim (ltb n (slot_count t r)) as (λ c. Bound (map (use_of v) (cond c (one (slot_at r n) ∷ []) []))) [ true ↦ atom (slot_at r n) v tt | false ↦ nothing ]
+    held v r false (pos n) = elim (ltb n (length t.descriptors)) as (λ c. Bound (map (use_of v) (cond c (one (descriptor_at n) ∷ []) []))) [ true ↦ atom (descriptor_at n) v tt | false ↦ nothing ]
+    held v r b (negsuc n) = nothing
+
+    order : Bound (order_of t k)
+    order = all (use_of (role t k).barrier (one (ring_order (ring_at t k))) ∷ []) _ (atom (ring_order (ring_at t k)) (role t k).barrier tt)
+        (elim (leb 2 (role t k).length) as (λ b. Bound (cond b (writes (one (chain_flag (role t k).chain)) ∷ []) [])) [ true ↦ atom (chain_flag (role t k).chain) true tt | false ↦ nothing ])
+
+    made : Bound (node_made t k ++ description_made t k)
+    made =
+        all (writes (one (size_of (made_node t k))) ∷ []) _ (atom (size_of (made_node t k)) true node_here)
+        (all (writes (file_bytes (made_node t k) 0 file_limit) ∷ []) _ (item (file_bytes (made_node t k) 0 file_limit) true of_made_file)
+        (all (writes (one (names_in (made_node t k))) ∷ []) _ (atom (names_in (made_node t k)) true node_here)
+        (all (writes (one (description_at (made_description t k))) ∷ []) _ (atom (description_at (made_description t k)) true description_here)
+        (atom (position_of (made_description t k)) true description_here))))
+
+    makes_bound : (o : Operation) → Bound (makes t k o)
+    makes_bound (openat p g index) = made
+    makes_bound (mkdirat p) = made
+    makes_bound _ = nothing
+
+    room_bound : (s : World) (r : ℕ) (earlier : List Footprint) (o : Operation) → Bound (room_taken t s r earlier o)
+    room_bound s r earlier (openat p g zero) =
+        elim (written_by earlier all_descriptors) as (λ b. Bound (cond b (writes all_descriptors ∷ []) (room_uses t s r zero))) [
+          | true ↦ item all_descriptors true of_descriptors
+          | false ↦ all (reads all_descriptors ∷ []) _ (item all_descriptors false of_descriptors) (at (lowest_free t s))
+        ]
+      where
+        at : (x : Option ℕ) → Bound (each (λ n. writes (one (descriptor_at n)) ∷ []) x)
+        at None = nothing
+        at (Some n) = atom (descriptor_at n) true tt
+    room_bound s r earlier (openat p g (suc n)) = held true r true (pos n)
+    room_bound s r earlier _ = nothing
+
+    span_bound : (v : Bool) (r : ℕ) (x : Span) → Bound (span_use v t r x)
+    span_bound v r x = at (span_start t r x)
+      where
+        at : (y : Option ℕ) → Bound (each (λ p. use_of v (buffer_bytes r x.index p (p + x.length)) ∷ []) y)
+        at None = nothing
+        at (Some p) = item (buffer_bytes r x.index p (p + x.length)) v (of_buffer r x.index p (p + x.length))
+
+    file_bound : (r : ℕ) (f : File) → Bound (unresolved_file t k r f)
+    file_bound r f = all (file_reads t r f) (all_files t k) (held false r f.registered f.number)
+        (all (writes (all_bytes_and_sizes (made_node t k)) ∷ []) _ (item _ true of_files)
+        (all (writes (all_positions (made_description t k)) ∷ []) _ (item _ true of_positions) (item _ false of_descriptions)))
+
+    close_bound : (r : ℕ) (number : ℤ) (index : ℕ) → Bound (close_row t r number index)
+    close_bound r number zero = held true r false number
+    close_bound r number (suc n) = held true r true (pos n)
+
+    names_bound : Bound (any_name t k)
+    names_bound = item _ true of_names
+
+    unresolved_bound : (r : ℕ) (o : Operation) → Bound (unresolved_row t k r o)
+    unresolved_bound r nop = nothing
+    unresolved_bound r (readv f o n) = file_bound r f
+    unresolved_bound r (writev f o new) = file_bound r f
+    unresolved_bound r (fsync f) = held false r f.registered f.number
+    unresolved_bound r (read_fixed f o x) = all (unresolved_file t k r f) _ (file_bound r f) (span_bound true r x)
+    unresolved_bound r (write_fixed f o x) = all (unresolved_file t k r f) _ (file_bound r f) (span_bound false r x)
+    unresolved_bound r (fallocate f o n mode) = file_bound r f
+    unresolved_bound r (openat p g index) = all (any_name t k) _ names_bound
+        (elim g.truncate as (λ b. Bound (cond b (writes (all_bytes_and_sizes (made_node t k)) ∷ []) [])) [ true ↦ item _ true of_files | false ↦ nothing ])
+    unresolved_bound r (close number index) = close_bound r number index
+    unresolved_bound r (read f o n) = file_bound r f
+    unresolved_bound r (write f o new) = file_bound r f
+    unresolved_bound r (renameat old new flags) = names_bound
+    unresolved_bound r (unlinkat p removes) = names_bound
+    unresolved_bound r (mkdirat p) = names_bound
+    unresolved_bound r (linkat old new) = names_bound
+    unresolved_bound r (ftruncate f n) = file_bound r f
+
+    module _ (s : World) (earlier : List Footprint) where
+      unresolved_of_bound : (x : Option Turn) → Bound (unresolved_of t k s x)
+      unresolved_of_bound None = nothing
+      unresolved_of_bound (Some (filled r b at new)) = item _ true (of_buffer r b at (at + length new))
+      unresolved_of_bound (Some (refused e p)) = nothing
+      unresolved_of_bound (Some (canceled p)) = nothing
+      unresolved_of_bound (Some (runs r e o)) = unresolved_bound r o
+
+      extras_bound : (x : Option Turn) → Bound (extras_of t k s earlier x)
+      extras_bound None = nothing
+      extras_bound (Some (filled r b at new)) = nothing
+      extras_bound (Some (refused e p)) = nothing
+      extras_bound (Some (canceled p)) = nothing
+      extras_bound (Some (runs r e o)) = all (makes t k o) _ (makes_bound o) (room_bound s r earlier o)
+
+      wide_bound : Bound (wide_row t k s earlier)
+      wide_bound = all (order_of t k) _ order (all (unresolved_of t k s (task t k)) _ (unresolved_of_bound (task t k)) (extras_bound (task t k)))
+
+      -- A reach has nothing of later places.
+      reach_bound : Known t k s earlier → Bound (reach t k s earlier)
+      reach_bound known = go (cases_Bool (is_taken_to_run t k s earlier))
+        where
+          running : Footprint
+          running = cond (is_met (look_of t k s (task t k)).deciding earlier) (wide_row t k s earlier) (cond (is_met (running_row t k s) earlier) (accepted_row t k s earlier) (running_row t k s))
+
+          accepted_bound : is_taken_to_run t k s earlier ≡ true → Bound (accepted_row t k s earlier)
+          accepted_bound e = all (order_of t k) _ order (all (look_of t k s (task t k)).items _ (record { bound = λ a h. up_to a (holds_true _ (known e a (true_of _ h))) }) (extras_bound (task t k)))
+
+          row_bound : is_taken_to_run t k s earlier ≡ true → Bound (running_row t k s)
+          row_bound e = record { bound = λ a h. (accepted_bound e).bound a (holds_true _ (((row_laws t all_covered).accepted_holds_row k s earlier).0 a (true_of _ h))) }
+
+          go : (is_taken_to_run t k s earlier ≡ true) ⊎ (is_taken_to_run t k s earlier ≡ false) → Bound (reach t k s earlier)
+          go (inr e) = subst Bound (λ i. cond (sym e i) running (order_of t k)) order
+          go (inl e) = subst Bound (λ i. cond (sym e i) running (order_of t k))
+              (elim (is_met (look_of t k s (task t k)).deciding earlier) as (λ b. Bound (cond b (wide_row t k s earlier) (cond (is_met (running_row t k s) earlier) (accepted_row t k s earlier) (running_row t k s)))) [
+                | true ↦ wide_bound
+                | false ↦ elim (is_met (running_row t k s) earlier) as (λ b. Bound (cond b (accepted_row t k s earlier) (running_row t k s))) [ true ↦ accepted_bound e | false ↦ row_bound e ]
+              ])
+
+  -- What a place makes is of no earlier place.
+  below_itself : (n : ℕ) → T (ltb n n) → ⊥
+  below_itself n h = let l = ltb→lt n n h in omega arith
+
+  abbrev Own : ℕ → Item → Type 0
+  Own k x = (a : Atom) → T (member_of x a) → T (is_earlier t k a) → ⊥
+
+  own_atom : (k : ℕ) (b : Atom) → (T (is_earlier t k b) → ⊥) → Own k (one b)
+  own_atom k b apart a h e = apart (subst (λ c. T (is_earlier t k c)) (sym (same_atom-eq b a h)) e)
+
+  own_file : (k : ℕ) → Own k (file_bytes (made_node t k) 0 file_limit)
+  own_file k (byte_at j p) h e = below_itself (made_node t k) (subst (λ n. T (ltb n (made_node t k))) (sym (eqb→eq (made_node t k) j (left _ _ h))) e)
+  own_file k _ h e = h
+
+  module _ (k i : ℕ) (lt : i < k) (s : World) (earlier : List Footprint) (known : Known t i s earlier) where
+    unwritten_own : (x : Item) → Own k x → written_by (reach t i s earlier ∷ []) x ≡ false
+    unwritten_own x own = is_false _ (λ h.
+        let c = atom_of_writes x (reach t i s earlier) (drop_false _ h) in
+        own c.0 c.2 (later_still (suc i) k (omega arith) c.0 ((reach_bound i s earlier known).bound c.0 (writes-has _ c.0 c.1))))
+
+    own_one : (b : Atom) → (T (is_earlier t k b) → ⊥) → written_by (reach t i s earlier ∷ []) (one b) ≡ false
+    own_one b apart = unwritten_own (one b) (own_atom k b apart)
+
+    own_unmet : is_met (node_made t k ++ description_made t k) (reach t i s earlier ∷ []) ≡ false
+    own_unmet = λ j.
+        own_one (size_of (made_node t k)) (below_itself (made_node t k)) j
+        || (unwritten_own (file_bytes (made_node t k) 0 file_limit) (own_file k) j
+        || (own_one (names_in (made_node t k)) (below_itself (made_node t k)) j
+        || (own_one (description_at (made_description t k)) (below_itself (made_description t k)) j
+        || (own_one (position_of (made_description t k)) (below_itself (made_description t k)) j || false))))
+
+    makes_unmet : (o : Operation) → is_met (makes t k o) (reach t i s earlier ∷ []) ≡ false
+    makes_unmet (openat p g index) = own_unmet
+    makes_unmet (mkdirat p) = own_unmet
+    makes_unmet _ = refl
+
+    -- The reach of an earlier place writes nothing that a turn makes.
+    pub made_unmet : (x : Option Turn) → is_met (made_of t k x) (reach t i s earlier ∷ []) ≡ false
+    made_unmet None = refl
+    made_unmet (Some (filled r b at new)) = refl
+    made_unmet (Some (refused e p)) = refl
+    made_unmet (Some (canceled p)) = refl
+    made_unmet (Some (runs r e o)) = makes_unmet o

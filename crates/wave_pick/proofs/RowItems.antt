@@ -1,0 +1,197 @@
+-- With the same look, the rows of a place in two worlds have the same items, but for what it makes.
+use Rattle.std.specs.Prelude.{◌≡◌, ℕ, zero, suc, Bool, true, false, cond, ◌||◌, ◌&&◌, ◌==◌, not, ◌+◌, min, length, T, List, [], ◌∷◌, ◌++◌, Option, Some, None, Result, Ok, Err, is_ok, refl}
+use Rattle.std.proofs.Common.{◌⊎◌, inl, inr}
+use mathlib.Core.Path.{sym, subst, ap}
+use Rattle.sqe_codec.specs.declared.errno.Errno.{Errno}
+use Rattle.sqe_codec.specs.Answers.{each, each_ok}
+use Rattle.trace_format.specs.declared.trace.Trace.{Trace}
+use Rattle.trace_format.specs.Sides.{most_moved}
+use Rattle.entry_checks.specs.Operation.{Operation, nop, readv, writev, fsync, read_fixed, write_fixed, fallocate, openat, close, read, write, renameat, unlinkat, mkdirat, linkat, ftruncate, File, Path, OpenFlags, at_position}
+use Rattle.file_tree.specs.Tree.{Target}
+use Rattle.file_tree.specs.Walk.{Place, walk}
+use Rattle.world_parts.specs.World.{World}
+use Rattle.world_parts.specs.Items.{Atom, descriptor_at, description_at, size_of, names_in, one, all_descriptors, member_of, Use, reads, writes, Footprint, has_atom}
+use Rattle.world_parts.proofs.Collision.{either_left, same_atom-eq}
+use Rattle.op_meaning.specs.Meaning.{meaning, made_node, Handle, held, handle_of, is_file, allocation, Allocation, extend, reserve, punch, zero_extend, zero_within, lowest_free}
+use Rattle.op_meaning.specs.Footprint.{as_reads, use_of, transfer_range, position_written, would_extend, of_file, of_description, on_file, file_reads, position_use, span_use, write_row, allocation_uses, path_reads, name_written, made_where, room_uses, description_made, open_uses, row, row_in, turn_uses}
+use Rattle.op_meaning.specs.Step.{Turn, filled, refused, canceled, runs}
+use Rattle.foot_print.specs.Reach.{written_by, is_met, write_content, write_taken, allocated, opened_taken, taken, makes, room_taken, Look, look_of, task, order_of, running_row}
+use Rattle.foot_print.proofs.Agreement.{in_left, in_right, has_atom-as_reads}
+use Rattle.foot_print.proofs.Holding.{split, drop_false}
+use Rattle.foot_print.proofs.RowsHeld.{not_extending, accepted_over_row}
+use Rattle.foot_print.proofs.Unmet.{unmet_part}
+use Rattle.foot_print.proofs.Writing.{is_false, not_false}
+use Rattle.wave_pick.specs.Waiting.{made_of, RowItems}
+
+-- One footprint has the atoms of another.
+record Has (g f : Footprint) : Type 0 where
+  has : (a : Atom) → T (has_atom f a) → T (has_atom g a)
+
+has_all : (q f g : Footprint) → Has q f → Has q g → Has q (f ++ g)
+has_all q f g x y = record { has = λ a h. elim (split (λ (v : Use). member_of v.item a) f g h) [ inl m ↦ x.has a m | inr m ↦ y.has a m ] }
+
+has_first : (g q f : Footprint) → Has g f → Has (g ++ q) f
+has_first g q f x = record { has = λ a h. in_left (λ (v : Use). member_of v.item a) g q (x.has a h) }
+
+has_second : (g q f : Footprint) → Has q f → Has (g ++ q) f
+has_second g q f x = record { has = λ a h. in_right (λ (v : Use). member_of v.item a) g q (x.has a h) }
+
+has_both : (g q f e : Footprint) → Has g f → Has q e → Has (g ++ q) (f ++ e)
+has_both g q f e x y = has_all (g ++ q) f e (has_first g q f x) (has_second g q e y)
+
+has_self : (f : Footprint) → Has f f
+has_self f = record { has = λ a h. h }
+
+has_nothing : (f : Footprint) → Has f []
+has_nothing f = record { has = λ a h. absurd h }
+
+module _ (t : Trace) (k r : ℕ) (s : World) where
+  has_on_file : (f : File) (c d : ℕ → Handle → Footprint) → ((i : ℕ) (h : Handle) → Has (c i h) (d i h)) → Has (on_file t s r f c) (on_file t s r f d)
+  has_on_file f c d x = has_both (file_reads t r f) _ (file_reads t r f) _ (has_self (file_reads t r f)) (at (held t s r f.registered f.number))
+    where
+      of_handle : (o : Option Handle) → Has (each (of_file c) o) (each (of_file d) o)
+      of_handle None = has_nothing []
+      of_handle (Some h) = elim (is_file h.opened) as (λ b. Has (cond b (c h.opened.target.node h) []) (cond b (d h.opened.target.node h) [])) [ true ↦ x h.opened.target.node h | false ↦ has_nothing [] ]
+
+      at : (o : Option ℕ) → Has (each (of_description s c) o) (each (of_description s d) o)
+      at None = has_nothing []
+      at (Some n) = has_both (reads (one (description_at n)) ∷ []) (each (of_file c) (handle_of s n)) (reads (one (description_at n)) ∷ []) (each (of_file d) (handle_of s n)) (has_self (reads (one (description_at n)) ∷ [])) (of_handle (handle_of s n))
+
+  -- What an operation has as accepted, and its room where no reach before it writes a descriptor.
+  abbrev accepted_items : Operation → Footprint
+  accepted_items o = taken t r s o ++ room_taken t s r [] o
+
+  only : (o : Operation) (f : Footprint) → Has f (taken t r s o) → Has f (taken t r s o ++ [])
+  only o f x = has_all f (taken t r s o) [] x (has_nothing f)
+
+  abbrev write_uses : ℕ → ℕ → ℕ → Handle → Footprint
+  write_uses o n i h = use_of (h.opened.append || o == at_position || false || not (n == 0) && would_extend s i (o + n)) (one (size_of i)) ∷ writes (transfer_range i (h.opened.append || o == at_position) o n) ∷ position_written h o
+
+  write_has : (b : Bool) (f : File) (o n : ℕ) → Has (write_row t s r (not_extending b) f o n) (write_taken t s r f o n)
+  write_has b f o n = has_both _ (position_use t s r f o) _ (position_use t s r f o) (has_on_file f (write_uses o n) (write_content o n) (λ i h. record { has = λ a m. m })) (has_self (position_use t s r f o))
+
+  allocation_has : (o n i : ℕ) (x : Option Allocation) → Has (allocation_uses s false i o (o + n) x) (allocated o n i x)
+  allocation_has o n i (Some extend) = record { has = λ a m. m }
+  allocation_has o n i (Some reserve) = has_self _
+  allocation_has o n i (Some punch) = has_self _
+  allocation_has o n i (Some zero_extend) = record { has = λ a m. m }
+  allocation_has o n i (Some zero_within) = has_self _
+  allocation_has o n i None = has_self _
+
+  room_has : (p : Path) (g : OpenFlags) (index : ℕ) → Has (room_uses t s r index) (room_taken t s r [] (openat p g index))
+  room_has p g zero = has_self (room_uses t s r zero)
+  room_has p g (suc n) = has_self (room_uses t s r (suc n))
+
+  open_has : (b : Bool) (p : Path) (g : OpenFlags) (index : ℕ) → Has (row t k r s (not_extending b) (openat p g index)) (accepted_items (openat p g index))
+  open_has b p g index =
+      has_all whole (taken t r s (openat p g index)) _
+      (has_all whole (path_reads s p) _ (has_first _ _ _ (has_first _ _ _ (has_first (path_reads s p) _ _ (has_self (path_reads s p))))) (has_second (path_reads s p ++ room_uses t s r index ++ made_where (not_extending b) (description_made t k)) _ _ (at (walk s.nodes p))))
+      (has_first _ _ _ (has_first _ _ _ (has_second (path_reads s p) _ _ (room_has p g index))))
+    where
+      whole : Footprint
+      whole = row t k r s (not_extending b) (openat p g index)
+
+      placed : (q : Place) (y : Option Target) → Has (open_uses t k (not_extending b) g q y) (opened_taken g q y)
+      placed q None = elim g.create as (λ c. Has (cond c (name_written q ++ made_where (not_extending b) (writes (one (size_of (made_node t k))) ∷ [])) []) (cond c (name_written q) [])) [ true ↦ has_first (name_written q) _ _ (has_self (name_written q)) | false ↦ has_nothing [] ]
+      placed q (Some y) = has_self (opened_taken g q (Some y))
+
+      at : (w : Result Place Errno) → Has (each_ok (λ (q : Place). open_uses t k (not_extending b) g q q.target) w) (each_ok (λ (q : Place). opened_taken g q q.target) w)
+      at (Ok q) = placed q q.target
+      at (Err e) = has_nothing []
+
+  mkdir_has : (b : Bool) (p : Path) → Has (row t k r s (not_extending b) (mkdirat p)) (taken t r s (mkdirat p))
+  mkdir_has b p = has_both (path_reads s p) _ (path_reads s p) _ (has_self _) (at (walk s.nodes p))
+    where
+      at : (w : Result Place Errno) → Has (each_ok (λ (q : Place). name_written q ++ made_where (not_extending b) (writes (one (names_in (made_node t k))) ∷ [])) w) (each_ok name_written w)
+      at (Ok q) = has_first (name_written q) _ _ (has_self (name_written q))
+      at (Err e) = has_nothing []
+
+  row_has : (b : Bool) (o : Operation) → Has (row t k r s (not_extending b) o) (accepted_items o)
+  row_has b nop = has_nothing _
+  row_has b (readv f o n) = only (readv f o n) _ (has_self _)
+  row_has b (writev f o new) = only (writev f o new) _ (write_has b f o (length new))
+  row_has b (fsync f) = only (fsync f) _ (has_self _)
+  row_has b (read_fixed f o x) = only (read_fixed f o x) _ (has_self _)
+  row_has b (write_fixed f o x) = only (write_fixed f o x) _ (has_both _ (span_use false t r x) _ (span_use false t r x) (write_has b f o (min x.length most_moved)) (has_self _))
+  row_has b (fallocate f o n mode) = only (fallocate f o n mode) _ (has_on_file f _ _ (λ i h. allocation_has o n i (allocation mode)))
+  row_has b (openat p g index) = open_has b p g index
+  row_has b (close number index) = only (close number index) _ (has_self _)
+  row_has b (read f o n) = only (read f o n) _ (has_self _)
+  row_has b (write f o new) = only (write f o new) _ (write_has b f o (length new))
+  row_has b (renameat old new flags) = only (renameat old new flags) _ (has_self _)
+  row_has b (unlinkat p removes) = only (unlinkat p removes) _ (has_self _)
+  row_has b (mkdirat p) = only (mkdirat p) _ (mkdir_has b p)
+  row_has b (linkat old new) = only (linkat old new) _ (has_self _)
+  row_has b (ftruncate f n) = only (ftruncate f n) _ (has_self _)
+
+  in_row : (b : Bool) (f : Footprint) → Has (cond b f (as_reads f)) f
+  in_row true f = has_self f
+  in_row false f = record { has = has_atom-as_reads f }
+
+  -- The row of an operation in a world has them.
+  row_in_has : (o : Operation) → Has (row_in t k r s o) (accepted_items o)
+  row_in_has o = record { has = λ a h. (in_row (is_ok (meaning t k r s o)) (row t k r s (not_extending (is_ok (meaning t k r s o))) o)).has a ((row_has (is_ok (meaning t k r s o)) o).has a h) }
+
+module _ (t : Trace) (k : ℕ) (s u : World) where
+  any_room : (x : Option ℕ) (a : Atom) → T (has_atom (reads all_descriptors ∷ each (λ n. writes (one (descriptor_at n)) ∷ []) x) a) → T (member_of all_descriptors a)
+  any_room None a h = drop_false _ h
+  any_room (Some n) a h = elim (split (λ (v : Use). member_of v.item a) (reads all_descriptors ∷ []) (writes (one (descriptor_at n)) ∷ []) h) [
+    | inl m ↦ drop_false _ m
+    | inr m ↦ subst (λ (b : Atom). T (member_of all_descriptors b)) (same_atom-eq (descriptor_at n) a (drop_false _ m)) tt
+  ]
+
+  -- The room of openat has all descriptors in both worlds.
+  rooms : (r : ℕ) (o : Operation) → Has (room_taken t u r [] o) (room_taken t s r [] o)
+  rooms r (openat p g zero) = record { has = λ a h. either_left (member_of all_descriptors a) _ (any_room (lowest_free t s) a h) }
+  rooms r (openat p g (suc n)) = has_self (room_uses t s r (suc n))
+  rooms r _ = has_nothing []
+
+  operation_items : (r : ℕ) (o : Operation) → taken t r u o ≡ taken t r s o → Has (makes t k o ++ row_in t k r u o) (row_in t k r s o)
+  operation_items r o same = record { has = at }
+    where
+      from_row : (a : Atom) → T (has_atom (taken t r u o ++ room_taken t u r [] o) a) → T (has_atom (makes t k o ++ row_in t k r u o) a)
+      from_row a m = in_right (λ (v : Use). member_of v.item a) (makes t k o) (row_in t k r u o) ((row_in_has t k r u o).has a m)
+
+      at : (a : Atom) → T (has_atom (row_in t k r s o) a) → T (has_atom (makes t k o ++ row_in t k r u o) a)
+      at a h =
+          elim (split (λ (v : Use). member_of v.item a) (taken t r s o) (makes t k o ++ room_taken t s r [] o) ((accepted_over_row t k r s o []).has a tt h)) [
+            | inl m ↦ from_row a (in_left (λ (v : Use). member_of v.item a) (taken t r u o) (room_taken t u r [] o) (subst (λ f. T (has_atom f a)) (sym same) m))
+            | inr m ↦ elim (split (λ (v : Use). member_of v.item a) (makes t k o) (room_taken t s r [] o) m) [
+              | inl n ↦ in_left (λ (v : Use). member_of v.item a) (makes t k o) (row_in t k r u o) n
+              | inr n ↦ from_row a (in_right (λ (v : Use). member_of v.item a) (taken t r u o) (room_taken t u r [] o) ((rooms r o).has a n))
+            ]
+          ]
+
+  turn_items : (x : Option Turn) → look_of t k u x ≡ look_of t k s x → Has (made_of t k x ++ each (turn_uses t k u) x) (each (turn_uses t k s) x)
+  turn_items None same = has_nothing _
+  turn_items (Some (filled r b at new)) same = has_self _
+  turn_items (Some (refused e p)) same = has_nothing _
+  turn_items (Some (canceled p)) same = has_nothing _
+  turn_items (Some (runs r e o)) same = operation_items r o (ap (λ (l : Look). l.items) same)
+
+  abbrev made : Footprint
+  made = made_of t k (task t k)
+
+  row_items : look_of t k u (task t k) ≡ look_of t k s (task t k) → Has (made_of t k (task t k) ++ running_row t k u) (running_row t k s)
+  row_items same =
+      has_all (made ++ running_row t k u) (order_of t k) (each (turn_uses t k s) (task t k))
+      (has_second made (running_row t k u) _ (has_first (order_of t k) _ _ (has_self _)))
+      (record { has = λ a h. behind a (split (λ (v : Use). member_of v.item a) made (each (turn_uses t k u) (task t k)) ((turn_items (task t k) same).has a h)) })
+    where
+      behind : (a : Atom) → T (has_atom made a) ⊎ T (has_atom (each (turn_uses t k u) (task t k)) a) → T (has_atom (made ++ running_row t k u) a)
+      behind a (inl m) = in_left (λ (v : Use). member_of v.item a) made (running_row t k u) m
+      behind a (inr m) = in_right (λ (v : Use). member_of v.item a) made (running_row t k u) (in_right (λ (v : Use). member_of v.item a) (order_of t k) (each (turn_uses t k u) (task t k)) m)
+
+  -- So a row that meets nothing in one world meets nothing in the other.
+  unmet_row : (earlier : List Footprint) → look_of t k u (task t k) ≡ look_of t k s (task t k) → is_met (made_of t k (task t k)) earlier ≡ false → is_met (running_row t k u) earlier ≡ false → is_met (running_row t k s) earlier ≡ false
+  unmet_row earlier same made free = unmet_part (made_of t k (task t k) ++ running_row t k u) (running_row t k s) earlier (row_items same).has
+      (is_false _ (λ h. elim (split (λ (v : Use). written_by earlier v.item) (made_of t k (task t k)) (running_row t k u) h) [ inl m ↦ not_false _ made m | inr m ↦ not_false _ free m ]))
+
+same_by_false : (a b : Bool) → (a ≡ false → b ≡ false) → (b ≡ false → a ≡ false) → a ≡ b
+same_by_false true true f g = refl
+same_by_false false false f g = refl
+same_by_false true false f g = g refl
+same_by_false false true f g = sym (f refl)
+
+pub rows_meet_the_same : (t : Trace) → RowItems t
+rows_meet_the_same t k s u earlier same made = same_by_false _ _ (unmet_row t k s u earlier same made) (unmet_row t k u s earlier (sym same) made)

@@ -1,0 +1,128 @@
+-- The wide row of a waiting place, and its row as accepted, stay from round to round.
+use Rattle.std.specs.Prelude.{◌≡◌, ℕ, zero, suc, Bool, true, false, T, List, [], ◌∷◌, ◌++◌, Option, Some, None, refl, if◌then◌else◌}
+use mathlib.Core.Path.{sym, ap, ◌∙◌}
+use Rattle.std.proofs.lemmas.Bool.{cases_Bool}
+use Rattle.std.proofs.Common.{◌⊎◌, inl, inr}
+use Rattle.interleaving.specs.System.{AgreeOn, NoneWrites}
+use Rattle.trace_format.specs.declared.trace.Trace.{Trace}
+use Rattle.trace_format.specs.Steps.{places}
+use Rattle.trace_format.specs.Text.{IsSpelled}
+use Rattle.entry_checks.specs.Operation.{Operation, openat}
+use Rattle.world_parts.specs.World.{World}
+use Rattle.world_parts.specs.Items.{Atom, descriptor_at, value, all_descriptors, member_of, Use, writes, Footprint, has_atom}
+use Rattle.world_parts.proofs.Collision.{true_of}
+use Rattle.world_parts.proofs.Sharing.{holds_true}
+use Rattle.op_meaning.specs.Footprint.{room_uses}
+use Rattle.op_meaning.specs.Step.{Turn, filled, refused, canceled, runs}
+use Rattle.foot_print.specs.Reach.{written_by, is_met, makes, room_taken, task, look_of, extras_of, unresolved_of, order_of, running_row, accepted_row, wide_row, reach}
+use Rattle.foot_print.specs.Replayed.{replayed}
+use Rattle.foot_print.proofs.Agreement.{in_right}
+use Rattle.foot_print.proofs.Cover.{all_covered}
+use Rattle.foot_print.proofs.Lawful.{row_laws}
+use Rattle.foot_print.proofs.RowsSeen.{room_same}
+use Rattle.foot_print.proofs.Writing.{unwritten}
+use Rattle.wave_pick.specs.Lawful.{lawful}
+use Rattle.wave_pick.specs.Waiting.{Waits, world_after, reaches_after, reach_after, look_after, descriptors_wait, ReachRowsStay, WideStays}
+use Rattle.wave_pick.proofs.Staying.{keeps_value}
+use Rattle.wave_pick.proofs.Waiting.{value_stays, row_in_reach, reach_of_decided, look_next}
+
+module _ (t : Trace) (k : ℕ) where
+  -- What a turn may make and its room are told by whether a reach before it writes a descriptor, and by the descriptors.
+  extras_by_writing : (s : World) (earlier others : List Footprint) → written_by earlier all_descriptors ≡ written_by others all_descriptors → (x : Option Turn) → extras_of t k s earlier x ≡ extras_of t k s others x
+  extras_by_writing s earlier others same None = refl
+  extras_by_writing s earlier others same (Some (filled r b at new)) = refl
+  extras_by_writing s earlier others same (Some (refused e p)) = refl
+  extras_by_writing s earlier others same (Some (canceled p)) = refl
+  extras_by_writing s earlier others same (Some (runs r e o)) = ap (λ f. makes t k o ++ f) (room o)
+    where
+      room : (o : Operation) → room_taken t s r earlier o ≡ room_taken t s r others o
+      room (openat p g zero) = ap (λ b. if b then writes all_descriptors ∷ [] else room_uses t s r zero) same
+      room (openat p g (suc n)) = refl
+      room _ = refl
+
+  extras_in_world : (s u : World) (earlier : List Footprint) (x : Option Turn) → ((a : Atom) → NoneWrites (replayed t) earlier a → has_atom (extras_of t k s earlier x) a ≡ true → value s a ≡ value u a)
+      → extras_of t k u earlier x ≡ extras_of t k s earlier x
+  extras_in_world s u earlier None same = refl
+  extras_in_world s u earlier (Some (filled r b at new)) same = refl
+  extras_in_world s u earlier (Some (refused e p)) same = refl
+  extras_in_world s u earlier (Some (canceled p)) same = refl
+  extras_in_world s u earlier (Some (runs r e o)) same = ap (λ f. makes t k o ++ f) (room o same)
+    where
+      descriptors_there : (b : Bool) (n : ℕ) → T (has_atom (if b then writes all_descriptors ∷ [] else room_uses t s r zero) (descriptor_at n))
+      descriptors_there true n = tt
+      descriptors_there false n = tt
+
+      room : (o : Operation) → ((a : Atom) → NoneWrites (replayed t) earlier a → has_atom (makes t k o ++ room_taken t s r earlier o) a ≡ true → value s a ≡ value u a) → room_taken t u r earlier o ≡ room_taken t s r earlier o
+      room (openat p g zero) h = room_same t r s u earlier (openat p g zero) (λ e n. h (descriptor_at n) (unwritten t earlier all_descriptors (descriptor_at n) e tt)
+          (true_of _ (in_right (λ (v : Use). member_of v.item (descriptor_at n)) (makes t k (openat p g zero)) (room_taken t s r earlier (openat p g zero)) (descriptors_there (written_by earlier all_descriptors) n))))
+      room (openat p g (suc n)) h = refl
+      room _ h = refl
+
+  unresolved_in_world : (s u : World) (x : Option Turn) → unresolved_of t k u x ≡ unresolved_of t k s x
+  unresolved_in_world s u None = refl
+  unresolved_in_world s u (Some (filled r b at new)) = refl
+  unresolved_in_world s u (Some (refused e p)) = refl
+  unresolved_in_world s u (Some (canceled p)) = refl
+  unresolved_in_world s u (Some (runs r e o)) = refl
+
+  extras_behind : (s : World) (earlier : List Footprint) (middle : Footprint) (a : Atom) → has_atom (extras_of t k s earlier (task t k)) a ≡ true → has_atom (order_of t k ++ (middle ++ extras_of t k s earlier (task t k))) a ≡ true
+  extras_behind s earlier middle a h = true_of _ (in_right (λ (v : Use). member_of v.item a) (order_of t k) _ (in_right (λ (v : Use). member_of v.item a) middle _ (holds_true _ h)))
+
+module _ (t : Trace) (spelled : IsSpelled t) (window r k : ℕ) (waits : Waits t window (suc r) k) (may_run : Rattle.foot_print.specs.Reach.is_taken_to_run t k (world_after t window r) (reaches_after t window r k) ≡ true) where
+  abbrev s : World
+  s = world_after t window r
+
+  abbrev u : World
+  u = world_after t window (suc r)
+
+  abbrev earlier : List Footprint
+  earlier = reaches_after t window r k
+
+  abbrev later : List Footprint
+  later = reaches_after t window (suc r) k
+
+  abbrev deciding : Footprint
+  deciding = (look_after t window r k).deciding
+
+  wide_reach : is_met deciding earlier ≡ true → reach_after t window r k ≡ wide_row t k s earlier
+  wide_reach e = λ i. if may_run i then (if e i then wide_row t k s earlier else (if is_met (running_row t k s) earlier then accepted_row t k s earlier else running_row t k s)) else order_of t k
+
+  accepted_reach : is_met deciding earlier ≡ false → is_met (running_row t k s) earlier ≡ true → reach_after t window r k ≡ accepted_row t k s earlier
+  accepted_reach d e = reach_of_decided t spelled window r k waits (record { may_run = may_run; unmet = d }) ∙ ap (λ b. if b then accepted_row t k s earlier else running_row t k s) e
+
+  -- The extras where the reach has them.
+  extras_stay : ((a : Atom) → has_atom (extras_of t k s earlier (task t k)) a ≡ true → has_atom (reach_after t window r k) a ≡ true) → extras_of t k u earlier (task t k) ≡ extras_of t k s earlier (task t k)
+  extras_stay within = extras_in_world t k s u earlier (task t k) (λ a none h. sym (keeps_value (replayed t) (lawful t spelled) (places t) window r k waits a none (within a h)))
+
+  row_agrees : is_met deciding earlier ≡ false → is_met (running_row t k s) earlier ≡ false → AgreeOn (replayed t) (running_row t k s) s u
+  row_agrees d e = value_stays t spelled window r k waits (running_row t k s) e (row_in_reach t spelled window r k waits (record { may_run = may_run; unmet = d }))
+
+  wide_in_world : wide_row t k u earlier ≡ wide_row t k s earlier
+  wide_in_world = go (cases_Bool (is_met deciding earlier)) (cases_Bool (is_met (running_row t k s) earlier))
+    where
+      by_extras : extras_of t k u earlier (task t k) ≡ extras_of t k s earlier (task t k) → wide_row t k u earlier ≡ wide_row t k s earlier
+      by_extras e = λ i. order_of t k ++ (unresolved_in_world t k s u (task t k) i ++ e i)
+
+      go : (is_met deciding earlier ≡ true) ⊎ (is_met deciding earlier ≡ false) → (is_met (running_row t k s) earlier ≡ true) ⊎ (is_met (running_row t k s) earlier ≡ false) → wide_row t k u earlier ≡ wide_row t k s earlier
+      go (inl d) e = by_extras (extras_stay (λ a h. ap (λ f. has_atom f a) (wide_reach d) ∙ extras_behind t k s earlier (unresolved_of t k s (task t k)) a h))
+      go (inr d) (inl e) = by_extras (extras_stay (λ a h. ap (λ f. has_atom f a) (accepted_reach d e) ∙ extras_behind t k s earlier (look_of t k s (task t k)).items a h))
+      go (inr d) (inr e) = (row_laws t all_covered).wide_told k s u earlier (row_agrees d e)
+
+  accepted_in_world : is_met deciding earlier ≡ false → accepted_row t k u earlier ≡ accepted_row t k s earlier
+  accepted_in_world d = go (cases_Bool (is_met (running_row t k s) earlier))
+    where
+      same : look_of t k u (task t k) ≡ look_of t k s (task t k)
+      same = look_next t spelled window r k waits (record { may_run = may_run; unmet = d })
+
+      go : (is_met (running_row t k s) earlier ≡ true) ⊎ (is_met (running_row t k s) earlier ≡ false) → accepted_row t k u earlier ≡ accepted_row t k s earlier
+      go (inl e) = λ i. order_of t k ++ ((same i).items ++ extras_stay (λ a h. ap (λ f. has_atom f a) (accepted_reach d e) ∙ extras_behind t k s earlier (look_of t k s (task t k)).items a h) i)
+      go (inr e) = (row_laws t all_covered).accepted_told k s u earlier same (row_agrees d e)
+
+  rows_stay : descriptors_wait t window (suc r) k ≡ descriptors_wait t window r k → ReachRowsStay t window r k
+  rows_stay same = record {
+    wide = (λ i. order_of t k ++ (unresolved_of t k u (task t k) ++ extras_by_writing t k u later earlier same (task t k) i)) ∙ wide_in_world;
+    accepted = λ d. (λ i. order_of t k ++ ((look_of t k u (task t k)).items ++ extras_by_writing t k u later earlier same (task t k) i)) ∙ accepted_in_world d;
+  }
+
+pub wide_stays : (t : Trace) → IsSpelled t → WideStays t
+wide_stays t spelled window r k waits may_run same = rows_stay t spelled window r k waits may_run same
