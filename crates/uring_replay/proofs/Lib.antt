@@ -1,4 +1,5 @@
 mod TransferLemmas
+mod PlacesLemmas
 mod ReportLemmas
 mod SessionLemmas
 mod Comparison

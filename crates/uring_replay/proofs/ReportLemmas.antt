@@ -1,16 +1,18 @@
 -- Texts that grow by a piece for each number or element, and the sizes that an image tells.
-use Rattle.std.proofs.Common.{◌≡◌, ℕ, zero, suc, ◌+◌, ◌<◌, ◌≤◌, ⊎_elim, List, ◌++◌, All, length, take, get_or, refl, sym, ap, ◌∙◌, arith, add-one, append_assoc, Some}
+use Rattle.std.proofs.Common.{◌≡◌, ℕ, zero, suc, ◌+◌, ◌<◌, ◌≤◌, ⊎_elim, inl, inr, List, ◌++◌, All, length, take, get_or, refl, sym, ap, ◌∙◌, arith, add-one, append_assoc, Some}
 use Rattle.std.specs.List.{flat_map, range_with_len, slice_get}
-use Rattle.std.specs.Prelude.{Bool, false, ◌==◌, nat_le}
-use Rattle.std.proofs.lemmas.Bool.{cases_lt, lt-leb, ne_eqb}
+use Rattle.std.specs.Prelude.{Bool, true, false, ◌==◌, nat_le, filter, [], ◌∷◌, Option, None}
+use Rattle.std.proofs.lemmas.Bool.{cases_Bool, cases_lt, lt-leb, ne_eqb}
 use Rattle.std.proofs.lemmas.List.{append-nil, length-take, take_all, take-take, take_more, flat_map_more}
 use Rattle.std.proofs.lemmas.List.Elements.{All-map}
 use Rattle.trace_format.specs.declared.trace.Trace.{Trace}
-use Rattle.trace_format.specs.Steps.{Step, step_at}
+use Rattle.trace_format.specs.Steps.{Step, places, step_at}
 use Rattle.op_meaning.specs.declared.reply.Reply.{Reply}
 use Rattle.world_parts.specs.World.{World}
 use Rattle.world_parts.specs.Image.{image_of, name_entry, all_paths}
-use Rattle.uring_replay.specs.Report.{IsSized, data_text, entry_outcome, line, place_line, posting, step_line}
+use Rattle.sqe_codec.specs.Answers.{each}
+use Rattle.uring_replay.specs.Places.{is_step_of, places_of_ring}
+use Rattle.uring_replay.specs.Report.{IsSized, action_line, data_text, entry_outcome, line, place_line, posting, step_line}
 
 -- one number more
 flat_map-range_suc : (f : ℕ → List ℕ) (a n j : ℕ) → a + n ≡ j → flat_map f (range_with_len a (suc n)) ≡ flat_map f (range_with_len a n) ++ f j
@@ -44,10 +46,30 @@ data_text_shown bytes = ⊎_elim
 pub entry_outcome_shown : (posted : Bool) (shown bytes : List ℕ) → shown ≡ take 33 bytes → entry_outcome posted shown ≡ entry_outcome posted bytes
 entry_outcome_shown posted shown bytes e = ap (λ text. line (posting posted ++ text)) (ap data_text e ∙ data_text_shown bytes)
 
--- the line of a place whose step and reply are there
-pub place_line-read : (t : Trace) (replies : List Reply) (ring place : ℕ) (step : Step) (reply : Reply) → step_at t place ≡ Some step → slice_get replies place ≡ Some reply
-    → place_line t replies ring place ≡ step_line ring place step reply
-place_line-read t replies ring place step reply stands answered = rw (stands, answered) refl
+-- the line of a place of the ring whose step and reply are there
+pub place_line-read : (t : Trace) (replies : List Reply) (ring place : ℕ) (step : Step) (reply : Reply) → is_step_of ring (step_at t place) ≡ true → step_at t place ≡ Some step → slice_get replies place ≡ Some reply
+    → place_line t replies ring place ≡ action_line place step.action reply
+place_line-read t replies ring place step reply here stands answered =
+    let same : (step.ring == ring) ≡ true = rw stands at here in
+    rw (stands, answered, same) refl
+
+-- a place of another ring has no line
+no_line : (ring place : ℕ) (step : Option Step) (reply : Option Reply) → is_step_of ring step ≡ false → each (λ step. each (step_line ring place step) reply) step ≡ []
+no_line ring place None reply other = refl
+no_line ring place (Some step) None other = refl
+no_line ring place (Some step) (Some reply) other = rw other refl
+
+flat_map-filter : (p : ℕ → Bool) (f : ℕ → List ℕ) → ((k : ℕ) → p k ≡ false → f k ≡ []) → (ks : List ℕ) → flat_map f (filter p ks) ≡ flat_map f ks
+flat_map-filter p f none [] = refl
+flat_map-filter p f none (k ∷ ks) = elim (cases_Bool (p k)) [
+  | inl kept ↦ rw kept (ap (λ rest. f k ++ rest) (flat_map-filter p f none ks))
+  | inr left ↦ rw (left, none k left) (flat_map-filter p f none ks)
+]
+
+-- so its own places have all lines of a ring
+pub ring_lines-listed : (t : Trace) (replies : List Reply) (ring : ℕ) → flat_map (place_line t replies ring) (places_of_ring t ring) ≡ flat_map (place_line t replies ring) (range_with_len 0 (places t))
+ring_lines-listed t replies ring =
+    flat_map-filter (λ place. is_step_of ring (step_at t place)) (place_line t replies ring) (λ k other. no_line ring k (step_at t k) (slice_get replies k) other) (range_with_len 0 (places t))
 
 -- each name of an image has the size of its file
 pub image_is_sized : (s : World) → All (IsSized s) (image_of s).names

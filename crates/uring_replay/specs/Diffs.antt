@@ -1,4 +1,4 @@
--- What a comparison of two reports does to its reader and its writer.
+-- The model: what a comparison of two reports does to its reader and its writer.
 use Rattle.std.specs.Prelude.{◌≡◌, ⊤, Bool, List, Option, ℕ, None, Some, length}
 use Rattle.std.specs.Io.KnownBytes.{Appends, Consumes, IsAtEnd}
 use Rattle.report_diff.specs.Inputs.{Compares, are_alike_in, differences_in, refusal}

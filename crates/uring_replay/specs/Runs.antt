@@ -1,4 +1,4 @@
--- What a run of the program does to its reader and its writer.
+-- The model: what a run of the program does to its reader and its writer.
 use Rattle.std.specs.Prelude.{◌≡◌, ◌⊎◌, ◌≤◌, ◌+◌, ◌++◌, ⊤, codes, Bool, List, Option, ℕ, Result, Ok, Err, length}
 use Rattle.std.specs.Fmt.{decimal}
 use Rattle.std.specs.Io.KnownBytes.{Appends, Consumes, IsAtEnd}

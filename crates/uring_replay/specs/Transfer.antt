@@ -1,4 +1,4 @@
--- What a reader has left and what a writer holds, where they tell it, around one call and around many.
+-- The model: what a reader has left and what a writer holds, where they tell it, around one call and around many.
 use Rattle.std.specs.Prelude.{ℕ, ◌<◌, ◌≤◌, Bool, false, nat_lt, List, length, take, Option, Result, Ok, Err}
 use Rattle.std.specs.Io.KnownBytes.{Appends, Consumes}
 

@@ -1,4 +1,4 @@
--- The words of the command line, and the answers to them.
+-- The model: the words of the command line, and the answers to them.
 use Rattle.std.specs.Prelude.{◌≡◌, ◌⊎◌, ◌≤◌, ⊤, ℕ, pos, Bool, true, false, List, [], ◌∷◌, ◌++◌, map, Option, Some, codes, Result, MatchResult, IsErrAnd, Contains}
 use Rattle.std.specs.Option.{option_and_then, option_map}
 use Rattle.std.specs.Fmt.{decimal}

@@ -7,11 +7,13 @@ ghost use Rattle.uring_replay.specs.Words.{IsServedTask};
 mod differing;
 mod ending;
 mod fault;
+mod places;
 mod report;
 mod session;
 mod sums;
 mod transfer;
 mod words;
+mod zeros;
 
 use differing::run_diff;
 use ending::{Stream, fault_ending, usage_ending, usage_text};

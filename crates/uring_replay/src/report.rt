@@ -1,25 +1,25 @@
 //! The report of a replay.
-ghost use Rattle.std.specs.Prelude.{◌≡◌, ◌++◌, ◌≤◌, All, IfOk, OnOk, Some, [], length, string_bytes, take, unwrap_or};
+ghost use Rattle.std.specs.Prelude.{◌≡◌, ◌++◌, ◌≤◌, All, IfOk, IfSome, OnOk, Some, [], codes, is_some, length, string_bytes, take, unwrap_or};
 ghost use Rattle.std.specs.List.{flat_map, range_with_len};
 ghost use Rattle.std.specs.Option.{option_map};
+ghost use Rattle.hex.specs.Hex.{encode_lower};
 ghost use Rattle.sqe_codec.specs.Answers.{each};
 ghost use Rattle.trace_format.specs.Steps.{places, step_meant};
-ghost use Rattle.uring_replay.specs.Sums.{held};
+ghost use Rattle.uring_replay.specs.Sums.{AreSumsOf, held};
 ghost use Rattle.world_parts.specs.World.{bytes, size};
-ghost use Rattle.uring_replay.specs.Report.{IsLong, IsSized, buffer_line, check_line, data_text, description_text, descriptor_line, entry_head, entry_line, entry_outcome, escaped, escaped_byte, file_sum, name_line, posting, report_of, ring_lines, slot_line, step_line, sum_text};
+ghost use Rattle.uring_replay.specs.Report.{IsLong, IsSized, action_line, buffer_line, check_line, data_text, description_text, descriptor_line, entry_head, entry_line, entry_outcome, escaped, escaped_byte, file_sum, name_line, posting, report_of, ring_lines, slot_line, sum_text};
+ghost use Rattle.uring_replay.specs.Places.{places_of_ring};
 
-use crate::sums::{Holder, sum_of};
+use crate::places::PlacesByRing;
+use crate::sums::{Holder, MOST_SUMMED, Sums};
 use op_meaning::Reply;
 use replay_core::Replay;
 use std::alloc::{AllocError, Global};
 use trace_format::{Action, Step, Trace};
-use world_parts::{BufferEntry, DescriptorEntry, NameEntry, SlotEntry, State};
+use world_parts::{BufferEntry, DescriptorEntry, Image, NameEntry, SlotEntry, State};
 
 /// How many bytes of a reply are shown.
 const SHOWN: usize = 32;
-
-/// The most bytes of a file whose sum is told.
-const MOST_SUMMED: u64 = 16_777_216;
 
 /// The text of the report: the entries of each ring with their replies, and what the world shows at the
 /// end. With `sums`, files of up to 16,777,216 bytes and buffers have their SHA-256 sums.
@@ -35,6 +35,8 @@ pub fn report_text(
 {
     let world = replay.world.state();
     let image = world.image(alloc)?;
+    let ahead = sums_ahead(alloc, world, &image, sums)?;
+    let sums = ahead.as_ref();
     let mut text = String::from_str(alloc, "uring-report 1\n")?;
     push_rings(alloc, &mut text, trace, replay.replies.as_slice())?;
     text.push_str("tree\n")?;
@@ -46,6 +48,24 @@ pub fn report_text(
     push_buffers(alloc, &mut text, world, image.buffers.as_slice(), sums)?;
     text.push_str("end\n")?;
     Ok(text.into_bytes())
+}
+
+/// The sums that are made ahead, where sums are asked for.
+fn sums_ahead(
+    alloc: Global,
+    world: &State,
+    image: &Image,
+    asked: bool,
+) -> Result<Option<Sums>, AllocError>
+    ensures asked { IfOk result (λ sums. is_some sums ≡ asked) }
+    ensures sums { IfOk result (λ sums. IfSome sums (AreSumsOf world.now)) }
+{
+    if !asked {
+        return Ok(None);
+    }
+    let names = image.names.as_slice();
+    let buffers = image.buffers.as_slice();
+    Ok(Some(Sums::of(alloc, world, names, buffers)?))
 }
 
 /// The line of a check: how many places and rings a trace has.
@@ -62,6 +82,7 @@ pub fn check_text(alloc: Global, trace: &Trace) -> Result<Vec<u8>, AllocError>
     Ok(text.into_bytes())
 }
 
+/// The headings of all rings and the lines of their entries, in one walk over the trace.
 fn push_rings(
     alloc: Global,
     text: &mut String,
@@ -72,8 +93,9 @@ fn push_rings(
     ensures { OnOk result (string_bytes text.new ≡ string_bytes text.old
         ++ flat_map (ring_lines trace.now replies.now) (range_with_len 0 (length trace.now.rings))) }
 {
+    let by_ring = PlacesByRing::of(alloc, trace)?;
     for ring in 0..trace.rings.as_slice().len() {
-        push_ring(alloc, text, ring, trace, replies)?;
+        push_ring(alloc, text, ring, by_ring.of_ring(ring), trace, replies)?;
     }
     Ok(())
 }
@@ -83,36 +105,34 @@ fn push_ring(
     alloc: Global,
     text: &mut String,
     ring: usize,
+    ring_places: &[u32],
     trace: &Trace,
     replies: &[Reply],
 ) -> Result<(), AllocError>
-    requires { length replies.now ≡ places trace.now }
+    requires replies { length replies.now ≡ places trace.now }
+    requires places { ring_places.now ≡ places_of_ring trace.now ring }
     ensures { OnOk result (string_bytes text.new
         ≡ string_bytes text.old ++ ring_lines trace.now replies.now ring) }
 {
     writeln!(text, "ring {ring}")?;
-    for place in 0..trace.places() {
-        let reply = &replies[place as usize];
-        push_step(alloc, text, ring, place, trace.step(place), reply)?;
+    for place in ring_places {
+        let reply = &replies[*place as usize];
+        push_step(alloc, text, *place, trace.step(*place), reply)?;
     }
     Ok(())
 }
 
-/// The line of a step, where it is an entry of the ring.
+/// The line of a step, where it is an entry.
 fn push_step(
     alloc: Global,
     text: &mut String,
-    ring: usize,
     place: u32,
     step: Step<'_>,
     reply: &Reply,
 ) -> Result<(), AllocError>
     ensures { OnOk result (string_bytes text.new
-        ≡ string_bytes text.old ++ step_line ring place (step_meant step.entry) reply.now) }
+        ≡ string_bytes text.old ++ action_line place (step_meant step.entry).action reply.now) }
 {
-    if step.ring as usize != ring {
-        return Ok(());
-    }
     match step.action {
         Action::Submit(entry) => push_entry(alloc, text, place, entry.sqe.user_data, reply),
         Action::Fill { .. } => Ok(()),
@@ -146,7 +166,13 @@ fn push_head(text: &mut String, place: u32, user_data: u64, res: i32) -> Result<
     ensures { OnOk result (string_bytes text.new
         ≡ string_bytes text.old ++ entry_head place user_data res) }
 {
-    write!(text, "{place} user={user_data} res={res} ")
+    let mut digits = itoa::Buffer::new();
+    text.push_str(digits.format(place))?;
+    text.push_str(" user=")?;
+    text.push_str(digits.format(user_data))?;
+    text.push_str(" res=")?;
+    text.push_str(digits.format(res))?;
+    text.push_str(" ")
 }
 
 fn push_outcome(
@@ -181,12 +207,21 @@ fn push_data(alloc: Global, text: &mut String, bytes: &[u8]) -> Result<(), Alloc
         return Ok(());
     }
     if bytes.len() <= SHOWN {
-        let shown = hex::encode(alloc, bytes)?;
-        write!(text, " data={shown}")
+        push_hex(alloc, text, bytes)
     } else {
-        let shown = hex::encode(alloc, first_bytes(bytes))?;
-        write!(text, " data={shown}+")
+        push_hex(alloc, text, first_bytes(bytes))?;
+        text.push_str("+")
     }
+}
+
+/// Bytes in hexadecimal, with the word ahead of them.
+fn push_hex(alloc: Global, text: &mut String, bytes: &[u8]) -> Result<(), AllocError>
+    ensures { OnOk result (string_bytes text.new
+        ≡ string_bytes text.old ++ codes " data=" ++ encode_lower bytes.now) }
+{
+    let shown = hex::encode(alloc, bytes)?;
+    text.push_str(" data=")?;
+    text.push_str(shown.as_str())
 }
 
 fn first_bytes(bytes: &[u8]) -> &[u8]
@@ -201,11 +236,12 @@ fn push_names(
     text: &mut String,
     world: &State,
     names: &[NameEntry],
-    sums: bool,
+    sums: Option<&Sums>,
 ) -> Result<(), AllocError>
-    requires { All (IsSized world.now) names.now }
+    requires sums { IfSome sums (λ s. AreSumsOf world.now s.now) }
+    requires names { All (IsSized world.now) names.now }
     ensures { OnOk result (string_bytes text.new
-        ≡ string_bytes text.old ++ flat_map (name_line world.now sums) names.now) }
+        ≡ string_bytes text.old ++ flat_map (name_line world.now (is_some sums.entry)) names.now) }
 {
     for name in names {
         push_name(alloc, text, world, name, sums)?;
@@ -218,11 +254,12 @@ fn push_name(
     text: &mut String,
     world: &State,
     name: &NameEntry,
-    sums: bool,
+    sums: Option<&Sums>,
 ) -> Result<(), AllocError>
-    requires { IsSized world.now name.now }
+    requires sums { IfSome sums (λ s. AreSumsOf world.now s.now) }
+    requires name { IsSized world.now name.now }
     ensures { OnOk result (string_bytes text.new
-        ≡ string_bytes text.old ++ name_line world.now sums name.now) }
+        ≡ string_bytes text.old ++ name_line world.now (is_some sums.entry) name.now) }
 {
     let path = escaped(alloc, name.path.as_slice())?;
     let node = name.node;
@@ -265,19 +302,20 @@ fn push_file_sum(
     world: &State,
     node: u32,
     len: u64,
-    sums: bool,
+    sums: Option<&Sums>,
 ) -> Result<(), AllocError>
-    requires { size world.now node ≡ Some len }
+    requires sums { IfSome sums (λ s. AreSumsOf world.now s.now) }
+    requires len { size world.now node ≡ Some len }
     ensures { OnOk result (string_bytes text.new
-        ≡ string_bytes text.old ++ each (file_sum sums) (bytes world.now node)) }
+        ≡ string_bytes text.old ++ each (file_sum (is_some sums.entry)) (bytes world.now node)) }
 {
-    if !sums {
+    let Some(sums) = sums else {
         return Ok(());
-    }
+    };
     if len > MOST_SUMMED {
         return text.push_str(" sum=large");
     }
-    push_sum(alloc, text, world, Holder::File { node }, len)
+    push_sum(alloc, text, world, Holder::File { node }, len, sums)
 }
 
 fn push_sum(
@@ -286,12 +324,14 @@ fn push_sum(
     world: &State,
     holder: Holder,
     len: u64,
+    sums: &Sums,
 ) -> Result<(), AllocError>
-    requires { option_map length (held world.now holder) ≡ Some len }
+    requires sums { AreSumsOf world.now sums.now }
+    requires len { option_map length (held world.now holder) ≡ Some len }
     ensures { OnOk result (string_bytes text.new
         ≡ string_bytes text.old ++ sum_text (unwrap_or (held world.now holder) [])) }
 {
-    let sum = hex::encode(alloc, sum_of(alloc, world, holder, len)?)?;
+    let sum = hex::encode(alloc, sums.get(alloc, world, holder, len)?)?;
     write!(text, " sum={sum}")
 }
 
@@ -362,11 +402,12 @@ fn push_buffers(
     text: &mut String,
     world: &State,
     buffers: &[BufferEntry],
-    sums: bool,
+    sums: Option<&Sums>,
 ) -> Result<(), AllocError>
-    requires { All (IsLong world.now) buffers.now }
+    requires sums { IfSome sums (λ s. AreSumsOf world.now s.now) }
+    requires buffers { All (IsLong world.now) buffers.now }
     ensures { OnOk result (string_bytes text.new
-        ≡ string_bytes text.old ++ flat_map (buffer_line world.now sums) buffers.now) }
+        ≡ string_bytes text.old ++ flat_map (buffer_line world.now (is_some sums.entry)) buffers.now) }
 {
     for buffer in buffers {
         push_buffer(alloc, text, world, *buffer, sums)?;
@@ -379,16 +420,18 @@ fn push_buffer(
     text: &mut String,
     world: &State,
     entry: BufferEntry,
-    sums: bool,
+    sums: Option<&Sums>,
 ) -> Result<(), AllocError>
-    requires { IsLong world.now entry }
+    requires sums { IfSome sums (λ s. AreSumsOf world.now s.now) }
+    requires entry { IsLong world.now entry }
     ensures { OnOk result (string_bytes text.new
-        ≡ string_bytes text.old ++ buffer_line world.now sums entry) }
+        ≡ string_bytes text.old ++ buffer_line world.now (is_some sums.entry) entry) }
 {
     let BufferEntry { ring, index, len } = entry;
     write!(text, "buffer {ring} {index} len={len}")?;
-    if sums {
-        push_sum(alloc, text, world, Holder::Buffer { ring, index }, len)?;
+    if let Some(sums) = sums {
+        let holder = Holder::Buffer { ring, index };
+        push_sum(alloc, text, world, holder, len, sums)?;
     }
     text.push_str("\n")
 }

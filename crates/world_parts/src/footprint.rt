@@ -7,6 +7,9 @@ ghost use Rattle.world_parts.specs.Uses.{item_meant, only_read, use_meant};
 use std::alloc::{AllocError, Global};
 use std::marker::Model;
 
+/// Room for the uses of most places.
+const USUAL_USES: usize = 12;
+
 /// A part of a world, or all parts of a sort whose numbers are below one.
 #[derive(Drop)]
 pub enum Item {
@@ -85,6 +88,9 @@ impl Footprint {
     pub fn push(&mut self, used: Use) -> Result<(), AllocError>
         ensures { OnOk result (self.new ≡ self.old ++ use_meant used ∷ []) }
     {
+        if self.uses.is_empty() {
+            self.uses.reserve(USUAL_USES)?;
+        }
         self.uses.push(used)?;
         Ok(())
     }

@@ -13,7 +13,7 @@ ghost use Rattle.world_parts.specs.Uses.{broken_meant};
 ghost use Rattle.world_parts.specs.World as world;
 
 use crate::broken::{Broken, Flag};
-use extent_bytes::ReadBytes;
+use extent_bytes::{Extents, ReadBytes};
 use file_tree::{Kind, Place, Tree};
 use ring_tables::{Buffers, Descriptions, Descriptors, Slots};
 use sqe_codec::Errno;
@@ -194,6 +194,25 @@ impl State {
         ensures { IfOk result (λ taken. taken.items ≡ range_of (unwrap_or (world.buffer self.now ring index) []) low high) }
     {
         self.buffers.read(ring, index, low, high)
+    }
+
+    /// What [`State::buffer`] gives, as a list that shares the buffer's pages.
+    ///
+    /// # Errors
+    ///
+    /// Want of memory.
+    pub fn share_buffer(
+        &self,
+        ring: u8,
+        index: u32,
+        low: u64,
+        high: u64,
+    ) -> Result<Extents, AllocError>
+        requires forward { low ≤ high }
+        requires inside { high ≤ length (unwrap_or (world.buffer self.now ring index) []) }
+        ensures { IfOk result (λ part. part ≡ range_of (unwrap_or (world.buffer self.now ring index) []) low high) }
+    {
+        self.buffers.share(ring, index, low, high)
     }
 
     /// The length of a registered buffer in bytes.

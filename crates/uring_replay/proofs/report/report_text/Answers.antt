@@ -2,8 +2,8 @@ use Rattle.uring_replay.proofs.ReportLemmas.{image_is_sized}
 use Rattle.uring_replay.proofs.SumLemmas.{image_is_long}
 use Rattle.uring_replay.proofs.report.report_text.Goals as goal
 
-pub push_names-requires : goal.push_names-requires
-push_names-requires c = rw (c.as_slice-2.ensures, c.in_ok-image.ensures) (image_is_sized c.state-world.result.now)
+pub push_names-requires-clause-names : goal.push_names-requires-clause-names
+push_names-requires-clause-names c = rw (c.as_slice-2.ensures, c.in_ok-image.ensures) (image_is_sized c.state-world.result.now)
 
-pub push_buffers-requires : goal.push_buffers-requires
-push_buffers-requires c = rw (c.as_slice-5.ensures, c.in_ok-image.ensures) (image_is_long c.state-world.result.now)
+pub push_buffers-requires-clause-buffers : goal.push_buffers-requires-clause-buffers
+push_buffers-requires-clause-buffers c = rw (c.as_slice-5.ensures, c.in_ok-image.ensures) (image_is_long c.state-world.result.now)

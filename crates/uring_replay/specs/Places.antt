@@ -1,0 +1,31 @@
+-- A view of code: the places of each ring, as lists of numbers.
+use Rattle.std.specs.Prelude.{ℕ, ◌==◌, Bool, false, List, [], ◌∷◌, ◌++◌, length, map, filter, Option, Some, None, slice_set, slice_index_or, Vec}
+use Rattle.std.specs.Global.{Global}
+use Rattle.std.specs.List.{range_with_len}
+use Rattle.trace_format.specs.declared.trace.Trace.{Trace}
+use Rattle.trace_format.specs.Steps.{Step, places, step_at}
+
+-- The numbers of a vector.
+abbrev pub items : Vec ℕ Global → List ℕ
+items numbers = numbers.items
+
+-- Whether there is a step, of this ring.
+abbrev pub is_step_of : ℕ → Option Step → Bool
+is_step_of ring None = false
+is_step_of ring (Some step) = step.ring == ring
+
+-- The places below n whose steps are of a ring, in recorded order.
+abbrev pub places_below : Trace → ℕ → ℕ → List ℕ
+places_below t n ring = filter (λ place. is_step_of ring (step_at t place)) (range_with_len 0 n)
+
+-- The places of a ring.
+abbrev pub places_of_ring : Trace → ℕ → List ℕ
+places_of_ring t ring = places_below t (places t) ring
+
+-- The places of each ring.
+abbrev pub places_by_ring : Trace → List (List ℕ)
+places_by_ring t = map (places_of_ring t) (range_with_len 0 (length t.rings))
+
+-- Lists after a place is added to that of a ring; where the ring has none, the same.
+abbrev pub with_place : List (List ℕ) → ℕ → ℕ → List (List ℕ)
+with_place lists ring place = slice_set lists ring (slice_index_or lists ring [] ++ place ∷ [])
