@@ -1,4 +1,4 @@
--- The roles of a trace's places, and what a plan keeps of each step.
+-- A view of code: the roles of a trace's places, and what a plan keeps of each step.
 use Rattle.std.specs.Prelude.{ℕ, ◌+◌, ◌==◌, Bool, false, ◌||◌, nat_lt, List, [], ◌∷◌, ◌++◌, map, length, Option, Some, None, is_err, if◌then◌else◌}
 use Rattle.std.specs.List.{range_with_len}
 use Rattle.std.proofs.Common.{get_or}

@@ -1,4 +1,4 @@
--- What a clause says of a desk and of its seats.
+-- The model: what a clause says of a desk and of its seats.
 use Rattle.std.specs.Prelude.{◌≡◌, ℕ, List, length, Contains, Some, None, slice_get}
 use Rattle.deal_desk.specs.declared.hand.Hand.{Hand}
 use Rattle.deal_desk.specs.declared.job.Job.{Ghosts}

@@ -1,4 +1,4 @@
--- What a seat knows, and how that changes.
+-- The model: what a seat knows, and how that changes.
 use Rattle.std.specs.Prelude.{◌≡◌, ℕ, ◌+◌, ◌≤◌, nat_lt, true, false, ◌||◌, ◌==◌, if◌then◌else◌, List, [], ◌∷◌, ◌++◌, map, length, count_by, option_to_list, Some, None}
 use Rattle.deal_desk.specs.declared.hand.Hand.{Hand}
 

@@ -1,4 +1,4 @@
--- What holds of a desk between any two steps of its seats, in whatever threads: laws of the rule.
+-- A law: what holds of a desk between any two steps of its seats, in whatever threads.
 use Rattle.std.specs.Prelude.{◌≡◌, ◌≢◌, ℕ, ◌+◌, ◌<◌, ◌≤◌, ◌⊎◌, true, List, length, sum_by, Contains, Some, slice_get, slice_index}
 use mathlib.Core.Option.{some, none}
 use lib.ListN.{get_elem?}

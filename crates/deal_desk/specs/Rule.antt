@@ -1,4 +1,4 @@
--- The rule of the desk's table: what the words, the slots at home and the seats have to do with each other.
+-- The model: the rule of the desk's table, what the words, the slots at home and the seats have to do with each other.
 -- Word 0 is the number of draws, word 1 the number of results that came back.
 use Rattle.std.specs.Prelude.{◌≡◌, ℕ, ◌+◌, ◌<◌, ◌≤◌, ◌^◌, min, true, false, not, ◌&&◌, if◌then◌else◌, List, [], length, sum_by, Contains, Some, None, slice_get, slice_index}
 use mathlib.Core.Option.{some, none}

@@ -1,4 +1,4 @@
--- What each step tells its seat.
+-- A helper: what each step tells its seat.
 use Rattle.std.specs.Prelude.{◌≡◌, ℕ, ◌<◌, ◌≤◌, ◌⊎◌, [], ◌∷◌, length, Some, slice_get}
 use Rattle.atomic_table.specs.Table.{Me, Step}
 use Rattle.deal_desk.specs.declared.hand.Hand.{Hand}

@@ -1,4 +1,4 @@
--- What the answer of a check stands for.
+-- A view of code: the answer of a check.
 use Rattle.std.specs.Prelude.{ℕ, not, ltb, ◌==◌, List, Result, Ok, Err}
 use Rattle.sqe_codec.specs.Answers.{◌>>◌, require}
 use Rattle.sqe_codec.specs.declared.errno.Errno.{Errno}

@@ -1,4 +1,4 @@
--- What an entry asks for, or the error that its submission gives: each test in the order in which it is made.
+-- The model: what an entry asks for, or the error that its submission gives, each test in the order in which it is made.
 use Rattle.std.specs.Prelude.{ℕ, ℤ, pos, negsuc, bytes_eq, unwrap_or, Bool, false, not, ◌&&◌, ◌||◌, ◌==◌, ltb, leb, ◌-◌, ◌*◌, ◌%◌, ◌^◌, List, [], ◌∷◌, length, take, drop, Option, None, Result, Ok, ok_or, bit_or}
 use Rattle.std.specs.List.{list_any, last_or, find}
 use Rattle.std.specs.Option.{option_map}

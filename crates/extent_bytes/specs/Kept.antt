@@ -1,4 +1,4 @@
--- The stored pages of a list.
+-- A view of code: the stored pages of a list.
 use Rattle.std.specs.Arc.{arc_value}
 use Rattle.extent_bytes.specs.Pages.{PageMap}
 use Rattle.extent_bytes.specs.declared.stored.Stored.{Stored}

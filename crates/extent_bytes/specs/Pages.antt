@@ -1,4 +1,4 @@
--- What stored pages of 4,096 bytes stand for.
+-- A view of code: the bytes that stored pages of 4,096 bytes stand for.
 use Rattle.std.specs.Prelude.{◌≡◌, ℕ, ◌+◌, ◌-◌, ◌*◌, ◌/◌, ◌%◌, ◌<◌, ◌≤◌, List, Option, None, Some, IsSome, map, length, replicate, slice_index}
 use Rattle.std.specs.BTreeMap.{BTreeMap, get}
 use Rattle.std.specs.List.{range_with_len}

@@ -1,4 +1,4 @@
--- A range that is cut and put back.
+-- A law: a range that is cut and put back leaves the list as it was.
 use Rattle.std.specs.Prelude.{◌≡◌, ℕ, ◌≤◌, List, length}
 use Rattle.extent_bytes.specs.Bytes.{overwritten, zeroed, range_of}
 

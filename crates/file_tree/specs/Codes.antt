@@ -1,4 +1,4 @@
--- How the nodes of a tree are stored, for types that contracts see as a tree.
+-- A helper: how the nodes of a tree are stored, for types that contracts see as a tree.
 use Rattle.std.specs.Prelude.{◌≡◌, ℕ, List, refl, ◌⊎◌}
 use Rattle.std.specs.Coded.{Coded, code_by, coded×, coded⊎, coded_ℕ, coded_list}
 use mathlib.Core.Logic.{inl, inr}

@@ -1,4 +1,4 @@
--- What names and paths lead to, as the code has it.
+-- The model: the number of the node that a name leads to. Below it, a view of code: what a walk found.
 use Rattle.std.specs.Prelude.{ℕ, Option, Result, Ok, Err}
 use Rattle.std.specs.Option.{option_map}
 use Rattle.sqe_codec.specs.declared.errno.Errno.{Errno}

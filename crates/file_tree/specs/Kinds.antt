@@ -1,4 +1,4 @@
--- Kinds of nodes, as the code has them.
+-- A view of code: kinds of nodes.
 use Rattle.file_tree.specs.Tree.{Kind, a_directory, a_file}
 use Rattle.file_tree.specs.declared.node.Kind as code
 use Rattle.file_tree.specs.declared.node.Kind.TheVariants.{Directory, File}

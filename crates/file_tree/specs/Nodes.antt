@@ -1,4 +1,4 @@
--- The nodes that a tree keeps.
+-- A view of code: the nodes that a tree keeps.
 use Rattle.file_tree.specs.Tree.{Node, directory, file}
 use Rattle.file_tree.specs.declared.node.Content.{Content}
 use Rattle.file_tree.specs.declared.node.Content.TheVariants.{Directory, File}

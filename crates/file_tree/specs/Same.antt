@@ -1,4 +1,4 @@
--- Whether names, and nodes, are the same.
+-- A helper: whether names, and nodes, are the same.
 use Rattle.std.specs.Prelude.{◌≡◌, ℕ, Bool, true, false, ◌&&◌, List, nat_eq}
 use Rattle.std.specs.Bool.{Decides}
 use Rattle.std.specs.Cmp.{IsPartialEquivalence, unsigned_Decides, both_ways, first_so, second_so}

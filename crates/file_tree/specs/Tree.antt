@@ -1,4 +1,4 @@
--- The file tree: directories and files by number.
+-- The model: the file tree, directories and files by number.
 use Rattle.std.specs.Prelude.{◌≡◌, ℕ, ◌+◌, ◌-◌, List, [], length, Option, Some, None, IfSome, IsSome, slice_index_or}
 use Rattle.std.specs.Option.{option_map, option_and_then}
 use Rattle.std.specs.Ordering.{nat_cmp}

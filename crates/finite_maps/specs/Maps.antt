@@ -1,4 +1,4 @@
--- The finite map that the entries of a tree stand for.
+-- A view of code: the finite map that the entries of a search tree stand for.
 use Rattle.std.specs.Prelude.{List, [], ◌∷◌, map}
 use Rattle.std.specs.declared.cmp.Ordering.{Ordering}
 use Rattle.std.specs.Cmp.{IsTotalOrder}

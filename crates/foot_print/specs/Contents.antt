@@ -1,4 +1,4 @@
--- What operations use of files that are open, and of names.
+-- A helper: what operations use of files that are open, and of names.
 use Rattle.std.specs.Prelude.{ℕ, Bool, false, not, ◌&&◌, ◌||◌, ◌==◌, ◌+◌, List, [], ◌∷◌, map, if◌then◌else◌}
 use Rattle.entry_checks.specs.Operation.{at_position}
 use Rattle.file_tree.specs.Tree.{Tree}

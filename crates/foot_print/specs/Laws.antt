@@ -1,4 +1,4 @@
--- What it means that footprints cover, and that steps keep worlds and commute.
+-- A law: footprints cover their places, and steps keep worlds and commute.
 use Rattle.std.specs.Prelude.{◌≡◌, ℕ, List, not, T, None, IfSome}
 use Rattle.trace_format.specs.declared.trace.Trace.{Trace}
 use Rattle.finite_maps.specs.Table.{get}

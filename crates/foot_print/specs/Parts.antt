@@ -1,4 +1,4 @@
--- What a place does with the part of a world that its footprint cuts out, and what the parts of a round leave.
+-- A law: what a place does with the part of a world that its footprint cuts out, and what the parts of a round leave.
 use Rattle.std.specs.Prelude.{◌≡◌, ℕ, Bool, not, ◌&&◌, ◌==◌, T, List, [], ◌∷◌, map}
 use Rattle.std.specs.List.{list_all}
 use Rattle.interleaving.specs.Gather.{in_order, replies_in_order}

@@ -1,4 +1,4 @@
--- What a place may use once earlier places that haven't finished have run.
+-- The model: what a place may use once earlier places that haven't finished have run.
 use Rattle.std.specs.Prelude.{ℕ, zero, suc, Bool, true, false, not, ◌&&◌, ◌||◌, ◌==◌, ◌+◌, min, length, List, [], ◌∷◌, ◌++◌, Option, None, Some, if◌then◌else◌}
 use Rattle.std.specs.List.{list_any}
 use Rattle.trace_format.specs.declared.trace.Trace.{Trace}

@@ -1,4 +1,4 @@
--- The replay of a trace as a system of numbered steps.
+-- The model: the replay of a trace as a system of numbered steps.
 use Rattle.std.specs.Prelude.{◌≡◌, ℕ, true, ◌≤◌, ltb, Bool, List, Option, None}
 use Rattle.interleaving.specs.System.{System}
 use Rattle.interleaving.specs.Rows.{Rows}

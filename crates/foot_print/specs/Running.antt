@@ -1,4 +1,4 @@
--- Places that run an operation.
+-- A helper: places that run an operation.
 use Rattle.std.specs.Prelude.{Option, Some, None}
 use Rattle.entry_checks.specs.Operation.{Operation}
 use Rattle.op_meaning.specs.Step.{Turn, runs}

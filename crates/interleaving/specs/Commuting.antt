@@ -1,4 +1,4 @@
--- Two steps that commute.
+-- A law: steps of places that are apart commute.
 use Rattle.std.specs.Prelude.{◌≡◌, ◌≢◌, ℕ}
 use Rattle.interleaving.specs.System.{System, Apart}
 

@@ -1,4 +1,4 @@
--- Places that run side by side in one world, and the world that is gathered from what they wrote.
+-- A law: places that run side by side in one world, and the world that is gathered from what they wrote.
 use Rattle.std.specs.Prelude.{◌≡◌, ◌≢◌, ℕ, Bool, true, false, if◌then◌else◌, List, [], ◌∷◌, map}
 use Rattle.interleaving.specs.System.{System, Apart}
 use Rattle.interleaving.specs.Machine.{has}

@@ -1,4 +1,4 @@
--- What each operation of a system owes: its footprint covers it, and its reach holds every footprint to come.
+-- A law: what a system has to keep. Its footprints cover its steps, and its reaches hold every footprint to come.
 use Rattle.std.specs.Prelude.{◌≡◌, ◌≢◌, ℕ, ◌<◌, true, false, List}
 use Rattle.interleaving.specs.System.{System, AgreeOn, Apart, Holds, DifferOnlyBy, Thinner}
 

@@ -1,4 +1,4 @@
--- Places that start and finish, which orders of that are legal, and what they give.
+-- The model: places that start and finish, and which orders of that are legal; laws of what they give at the end.
 use Rattle.std.specs.Prelude.{◌≡◌, ℕ, ◌<◌, Bool, true, false, if◌then◌else◌, ◌==◌, List, [], ◌∷◌, ◌++◌, Option, Some, None}
 use Rattle.interleaving.specs.System.{System, Holds, is_clear, stepped, reaches, sequential}
 

@@ -1,4 +1,4 @@
--- Rounds of places that start together.
+-- The model: rounds of places that start together; laws of them at the end.
 use Rattle.std.specs.Prelude.{◌≡◌, ℕ, zero, suc, ◌<◌, ◌≤◌, Bool, true, false, if◌then◌else◌, List, [], ◌∷◌, ◌++◌, take, filter, length}
 use Rattle.interleaving.specs.System.{System, sequential}
 use Rattle.interleaving.specs.Machine.{Event, Start, Finish, has, State, opening, happens, run, is_free, AllLegal, IsSequential}

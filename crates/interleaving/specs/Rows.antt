@@ -1,4 +1,4 @@
--- Reaches by rows: what a place may touch, at first in full, then as the places before it settle what it looks up.
+-- A law: reaches by rows, what a place may touch at first in full, then as the places before it settle what it looks up.
 use Rattle.std.specs.Prelude.{◌≡◌, ℕ, Bool, true, false, if◌then◌else◌, List}
 use Rattle.interleaving.specs.System.{System, AgreeOn, Holds, NoneWrites, DifferOnlyBy, Thinner}
 

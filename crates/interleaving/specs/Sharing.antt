@@ -1,4 +1,4 @@
--- What footprints share.
+-- A helper: what footprints share.
 use Rattle.std.specs.Prelude.{◌≡◌, true, ◌⊎◌}
 use Rattle.interleaving.specs.System.{System}
 

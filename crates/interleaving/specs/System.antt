@@ -1,4 +1,4 @@
--- A system of numbered places, each with a step that reads and writes a few atoms of a world.
+-- The model: a system of numbered places, each with a step that reads and writes a few atoms of a world.
 use Rattle.std.specs.Prelude.{◌≡◌, ℕ, zero, suc, Bool, true, false, if◌then◌else◌, List, [], ◌∷◌}
 use Rattle.std.specs.List.{AllByRecursion}
 

@@ -1,4 +1,4 @@
--- Ranges of numbers.
+-- A view of code: ranges of numbers, as a set of them keeps them.
 use Rattle.std.specs.Prelude.{ℕ, ◌<◌, Bool, ltb, List, [], ◌∷◌}
 use Rattle.std.specs.List.{AllByRecursion, list_any}
 use Rattle.world_parts.specs.Items.{ranges_meet, within}

@@ -1,4 +1,4 @@
--- What each place reads and writes: a row of uses for each operation.
+-- The model: what each place reads and writes, a row of uses for each operation.
 use Rattle.std.specs.Prelude.{ℕ, ℤ, pos, negsuc, zero, suc, Bool, true, false, not, ◌&&◌, ◌||◌, ◌==◌, ltb, leb, ◌+◌, min, List, [], ◌∷◌, ◌++◌, map, length, Option, Some, None, is_ok, if◌then◌else◌}
 use Rattle.chain_plan.specs.declared.role.Role.{Role}
 use Rattle.trace_format.specs.declared.trace.Trace.{Trace}

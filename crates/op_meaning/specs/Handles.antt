@@ -1,4 +1,4 @@
--- Files that are open, and ways to allocate, as the code has them.
+-- A view of code: files that are open, and ways to allocate.
 use Rattle.std.specs.Prelude.{Result, Ok, Err}
 use Rattle.sqe_codec.specs.declared.errno.Errno.{Errno}
 use Rattle.world_parts.specs.World.{World, opened_by}

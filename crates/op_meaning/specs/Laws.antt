@@ -1,4 +1,4 @@
--- What holds of every world of a sequential run.
+-- A law: what holds of every world of a sequential run.
 use Rattle.std.specs.Prelude.{ℕ}
 use Rattle.trace_format.specs.declared.trace.Trace.{Trace}
 use Rattle.world_parts.specs.Paths.{HasFileNames}

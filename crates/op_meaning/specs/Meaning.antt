@@ -1,4 +1,4 @@
--- What each operation answers and changes: its tests in order, and then its effect.
+-- The model: what each operation answers and changes, its tests in order and then its effect.
 use Rattle.std.specs.Prelude.{ℕ, ℤ, pos, negsuc, zero, suc, Bool, true, false, not, ◌&&◌, ◌||◌, ◌==◌, ltb, leb, ◌+◌, ◌-◌, ◌^◌, min, max, List, [], ◌∷◌, ◌++◌, length, take, drop, Option, Some, None, Result, Ok, Err, ok_or, is_some, is_none, unwrap_or, if◌then◌else◌}
 use Rattle.std.specs.List.{slice_get, find, range_with_len}
 use Rattle.std.specs.Option.{option_and_then, option_map}

@@ -1,4 +1,4 @@
--- What an operation does to names, as the code has it.
+-- A view of code: what an operation does to names.
 use Rattle.std.specs.Prelude.{[], ◌∷◌, Result, Ok, Err}
 use Rattle.std.specs.Option.{option_map}
 use Rattle.sqe_codec.specs.declared.errno.Errno.{Errno}

@@ -1,4 +1,4 @@
--- What openat does, as the code has it.
+-- A view of code: what openat does.
 use Rattle.std.specs.Prelude.{ℕ, Result, Ok, Err}
 use Rattle.sqe_codec.specs.declared.errno.Errno.{Errno}
 use Rattle.trace_format.specs.declared.trace.Trace.{Trace}

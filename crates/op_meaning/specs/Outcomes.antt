@@ -1,4 +1,4 @@
--- What operations answer, as the code has it.
+-- A view of code: what operations answer.
 use Rattle.std.specs.Prelude.{ℕ, Bool, true, false, not, ◌==◌, List, Option, Some, None, Result, Ok, Err, pos}
 use Rattle.sqe_codec.specs.declared.errno.Errno.{Errno}
 use Rattle.op_meaning.specs.declared.outcome.Done.{Done}

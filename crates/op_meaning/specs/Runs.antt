@@ -1,4 +1,4 @@
--- A place that runs on a part.
+-- The model: a place that runs on a part.
 use Rattle.std.specs.Prelude.{ℕ}
 use Rattle.trace_format.specs.declared.trace.Trace.{Trace}
 use Rattle.world_parts.specs.Part.{Part}

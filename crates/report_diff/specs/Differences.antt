@@ -1,4 +1,4 @@
--- Two reports, compared line by line.
+-- The model: two reports, compared line by line.
 use Rattle.std.specs.Prelude.{◌≡◌, ℕ, ◌==◌, Bool, true, false, not, ◌&&◌, ◌||◌, List}
 use Rattle.std.specs.Prelude.{[], ◌∷◌, ◌++◌, length, map, codes, Option, None, Some, is_some, if◌then◌else◌}
 use Rattle.std.specs.List.{flat_map, list_all, list_any, count_by, before_first, position_or_len}

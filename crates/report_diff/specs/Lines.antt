@@ -1,4 +1,4 @@
--- The lines of a report, what each is about and what it says.
+-- The model: the lines of a report, what each is about and what it says. At the end, a view of code: the map of the lines by what they are about.
 use Rattle.std.specs.Prelude.{ℕ, ◌≡◌, ◌==◌, List, [], ◌∷◌, map, take, drop, codes, Option, None, Some, if◌then◌else◌}
 use Rattle.std.specs.List.{find, list_any, slice_split, join_with_byte}
 use Rattle.std.specs.Str.{bytes_eq}

@@ -1,4 +1,4 @@
--- The bytes of registered buffers, by ring and index.
+-- The model: the bytes of registered buffers, by ring and index, for the contracts of buffers.
 use Rattle.std.specs.Prelude.{ℕ, List, [], unwrap_or}
 use Rattle.std.specs.Option.{option_map}
 use Rattle.finite_maps.specs.Table.{Table, get, assign, pair_cmp, pair_keys}

@@ -1,4 +1,4 @@
--- The flags of an entry, as they stand in io_uring.h, and the bits of a word.
+-- The model: the flags of an entry, as they stand in io_uring.h, and the bits of a word.
 use Rattle.std.specs.Prelude.{ℕ, zero, suc, ◌/◌, ◌%◌, ◌^◌, Bool, false, ◌||◌, ◌==◌}
 
 -- Whether a word has the bit of a power of two.

@@ -1,4 +1,4 @@
--- What holds of the steps of each trace that some bytes spell.
+-- A law: what holds of the steps of each trace that some bytes spell.
 use Rattle.std.specs.Prelude.{◌≡◌, ◌<◌, ◌≤◌, ℕ, true, List, length, Some}
 use Rattle.sqe_codec.specs.Fields.{IsBytes, IsEntry}
 use Rattle.trace_format.specs.declared.trace.Entry.{Entry}

@@ -1,4 +1,4 @@
--- The names so far, as a map.
+-- A view of code: the names so far, as the map that reading keeps.
 use Rattle.std.specs.Prelude.{◌≡◌, ℕ, Bool, false, List, Option, Some, is_some, unwrap_or, if◌then◌else◌}
 use Rattle.std.specs.List.{list_any}
 use Rattle.std.specs.Ordering.{nat_cmp}

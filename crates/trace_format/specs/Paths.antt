@@ -1,4 +1,4 @@
--- Paths, and the names of the items so far.
+-- The model: which bytes are a path, and which names and directories the items so far have.
 use Rattle.std.specs.Prelude.{ℕ, ◌==◌, Bool, true, false, ◌&&◌, ◌||◌, not, List, [], ◌∷◌, length, nat_le, if◌then◌else◌, codes, filter}
 use Rattle.std.specs.List.{list_any, list_all, slice_split}
 use Rattle.std.specs.Str.{bytes_eq}

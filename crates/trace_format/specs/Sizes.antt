@@ -1,4 +1,4 @@
--- How many of each a trace has.
+-- A helper: how many of each a trace has at most.
 use Rattle.std.specs.Prelude.{◌≤◌, length, All}
 use Rattle.trace_format.specs.declared.trace.Ring.{Ring}
 use Rattle.trace_format.specs.declared.trace.Trace.{Trace}

@@ -1,4 +1,4 @@
--- What the parts of each trace that some bytes spell say of one another.
+-- A law: what the parts of each trace that some bytes spell say of one another.
 use Rattle.std.specs.Prelude.{◌≡◌, ◌≤◌, ◌^◌, true, List, ◌∷◌, ◌++◌, length, All}
 use Rattle.trace_format.specs.declared.trace.Access.TheVariants as access
 use Rattle.trace_format.specs.declared.trace.Description.{Description}

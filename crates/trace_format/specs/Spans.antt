@@ -1,4 +1,4 @@
--- The buffers so far of a ring, as a map.
+-- A view of code: the buffers so far of a ring, as the map that reading keeps.
 use Rattle.std.specs.Prelude.{◌≡◌, ◌+◌, ◌<◌, ◌≤◌, ◌==◌, ◌&&◌, ◌↔◌, ℕ, List, Some, nat_lt, if◌then◌else◌, Contains}
 use Rattle.std.specs.Ordering.{nat_cmp}
 use Rattle.std.specs.BTreeMap.{BTreeMap, get}

@@ -1,4 +1,4 @@
--- Where each step of a list of records stands: in which record, and at which place in it.
+-- A view of code: where each step of a list of records stands, in which record and at which place in it.
 use Rattle.std.specs.Prelude.{ℕ, suc, List, [], ◌∷◌, ◌++◌, map}
 use Rattle.std.specs.List.{range_with_len}
 use Rattle.trace_format.specs.declared.trace.Record.{Record}

@@ -1,4 +1,4 @@
--- The steps of a trace: its entries and its fills of registered buffers, in recorded order. A step's number is its place.
+-- The model: the steps of a trace, its entries and its fills of registered buffers, in recorded order. A step's number is its place.
 use Rattle.std.specs.Prelude.{ℕ, suc, List, [], ◌∷◌, ◌++◌, map, length, Option}
 use Rattle.std.specs.List.{slice_get}
 use Rattle.trace_format.specs.declared.trace.Entry.{Entry}

@@ -1,4 +1,4 @@
--- The text of a trace, field by field.
+-- The model: the text of a trace, field by field, and which faults a text may have; laws of that at the end.
 use Rattle.std.specs.Prelude.{◌≡◌, ℕ, ◌+◌, ◌-◌, ◌<◌, ◌≤◌, ◌⊎◌, ◌++◌, ◌==◌, ◌^◌, Bool, true, false, ◌&&◌, ◌||◌, not, List, [], length, codes, slice_get, Option, Some, None, nat_le, nat_lt, if◌then◌else◌, min}
 use Rattle.std.specs.List.{list_any}
 use Rattle.std.specs.Str.{bytes_eq}

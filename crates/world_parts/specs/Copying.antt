@@ -1,4 +1,4 @@
--- Worlds that show items of another one.
+-- A helper: worlds that show items of another one, as a part does while it is cut.
 use Rattle.std.specs.Prelude.{◌≡◌, ℕ, ◌+◌, T, List, length, Option, ◌⊎◌}
 use Rattle.std.specs.Option.{option_map, option_and_then}
 use Rattle.finite_maps.specs.Table.{empty, get, count}

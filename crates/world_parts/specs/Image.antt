@@ -1,4 +1,4 @@
--- What the report shows of a world: its names in the order of their full paths, its full slots and descriptors, its buffers.
+-- The model: what the report shows of a world, its names in the order of their full paths, its full slots and descriptors, its buffers.
 use Rattle.std.specs.Prelude.{ℕ, zero, suc, List, [], ◌∷◌, ◌++◌, map, length}
 use Rattle.std.specs.List.{flat_map}
 use Rattle.std.specs.Ordering.{nat_cmp}

@@ -1,4 +1,4 @@
--- What holds of all worlds and of all footprints.
+-- A law: what holds of all worlds and of all footprints.
 use Rattle.std.specs.Prelude.{◌≡◌, T, ◌⊎◌}
 use Rattle.world_parts.specs.World.{World}
 use Rattle.world_parts.specs.Items.{Atom, value, Footprint, has_atom, writes_atom, collide}

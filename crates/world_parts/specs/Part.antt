@@ -1,4 +1,4 @@
--- Parts of a world, cut out by a footprint and put back.
+-- The model: parts of a world, cut out by a footprint and put back.
 use Rattle.std.specs.Prelude.{◌≡◌, ℕ, ◌-◌, Bool, true, false, not, T, List, [], ◌∷◌, ◌++◌, replicate, Option, None, ◌⊎◌, if◌then◌else◌}
 use Rattle.std.specs.List.{list_all}
 use Rattle.std.specs.Ordering.{nat_cmp}

@@ -1,4 +1,4 @@
--- Which paths an image lists: those whose walks lead to a node.
+-- A law: which paths an image lists, those whose walks lead to a node.
 use Rattle.std.specs.Prelude.{◌≡◌, ℕ, negsuc, Bool, ◌&&◌, not, nat_le, T, List, [], ◌∷◌, ◌++◌, length, map, Option, Some, None, IfSome, Result, Ok, Err}
 use Rattle.std.specs.List.{Contains}
 use Rattle.std.specs.Ordering.{nat_cmp}

@@ -1,4 +1,4 @@
--- The paths that names stand for which are still to be listed.
+-- A helper: the paths that names stand for which are still to be listed.
 use Rattle.std.specs.Prelude.{ℕ, List, [], ◌∷◌, ◌++◌}
 use Rattle.file_tree.specs.Tree.{Tree}
 use Rattle.world_parts.specs.declared.imaging.Pending.{Pending}

@@ -1,4 +1,4 @@
--- What putting a part back makes of a world, use by use: first of which nodes are there and how long files are, then of all else.
+-- A helper: what putting a part back makes of a world, use by use, first of which nodes are there and how long files are, then of all else.
 use Rattle.std.specs.Prelude.{ℕ, Bool, true, false, min, max, List, [], ◌∷◌, length, Option, Some, None, unwrap_or, if◌then◌else◌}
 use Rattle.std.specs.Option.{is_some}
 use Rattle.extent_bytes.specs.Bytes.{overwritten, range_of, resized, zeroed}

@@ -1,4 +1,4 @@
--- Items whose bytes fit a file.
+-- A helper: items whose bytes fit a file.
 use Rattle.std.specs.Prelude.{length, ◌≤◌}
 use Rattle.trace_format.specs.declared.trace.Item.{Item}
 use Rattle.trace_format.specs.declared.trace.Node.{Node}

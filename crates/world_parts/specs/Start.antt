@@ -1,4 +1,4 @@
--- The world that a trace starts with.
+-- The model: the world that a trace starts with.
 use Rattle.std.specs.Prelude.{ℕ, zero, suc, ◌==◌, List, [], ◌∷◌, replicate, Some, Result, Ok, Err, if◌then◌else◌}
 use Rattle.std.specs.Ordering.{nat_cmp}
 use Rattle.sqe_codec.specs.declared.errno.Errno.{Errno}

@@ -1,4 +1,4 @@
--- Items, uses and flags of chains as the code has them.
+-- A view of code: items, uses and flags of chains.
 use Rattle.std.specs.Prelude.{false}
 use Rattle.world_parts.specs.Items as items
 use Rattle.world_parts.specs.World as world

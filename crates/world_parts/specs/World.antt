@@ -1,4 +1,4 @@
--- The state of a replay: the file tree, the open file descriptions, the registered files and buffers, the descriptors, the chains that broke.
+-- The model: the state of a replay, which is the file tree, the open file descriptions, the registered files and buffers, the descriptors, and the chains that broke.
 use Rattle.std.specs.Prelude.{◌≡◌, ℕ, Bool, ◌≤◌, List, [], ◌∷◌, Option, Some, IfSome, IsSome}
 use Rattle.std.specs.Option.{option_map}
 use Rattle.std.specs.Ordering.{nat_cmp}
