@@ -7,7 +7,8 @@ ghost use Rattle.trace_format.specs.Text.{IsSpelled};
 ghost use Rattle.trace_format.specs.declared.trace.Entry.{Entry};
 ghost use Rattle.trace_format.specs.declared.trace.Trace.{Trace};
 ghost use Rattle.chain_plan.specs.Chain.{role};
-ghost use Rattle.chain_plan.specs.Plan.{roles, marks_of, followed, member_after, with_member, counted, link_from};
+ghost use Rattle.chain_plan.specs.Plan.{roles, marks_of, followed, member_after};
+ghost use Rattle.chain_plan.specs.Plan.{with_member, counted, link_from};
 ghost use Rattle.chain_plan.specs.declared.plan.Chain.{Chain};
 
 use crate::role::Role;
@@ -68,11 +69,13 @@ impl Model for Plan {
 
     ghost view = { λ p. map (joined p.chains.items) p.members.items };
 
-    ghost invariant = { λ p. (k : ℕ) (m : Member) → slice_get p.members.items k ≡ Some m → m.chain < length p.chains.items };
+    ghost invariant = { λ p. (k : ℕ) (m : Member) → slice_get p.members.items k ≡ Some m
+        → m.chain < length p.chains.items };
 }
 
 fn marks_of(step: &Step<'_>, version: Version) -> Marks
-    requires { (e : Entry) → (step_meant step.now).action ≡ submit e → is_side_of e.sqe e.side ≡ true }
+    requires { (e : Entry) → (step_meant step.now).action ≡ submit e
+        → is_side_of e.sqe e.side ≡ true }
     ensures { result ≡ marks_of version (step_meant step.now) }
 {
     match step.action {
@@ -169,8 +172,8 @@ fn link_from(member: Member, record_number: u32, links: bool) -> Option<Linked>
 }
 
 impl Plan {
-    /// The plan of a trace, in one walk over its places. Time and memory are linear in the places and the
-    /// bytes beside their entries.
+    /// The plan of a trace, in one walk over its places. Time and memory are linear in the places
+    /// and the bytes beside their entries.
     pub fn of(alloc: Global, trace: &Trace) -> Result<Self, AllocError>
         requires { IsSpelled trace.now }
         ensures roles { IfOk result (λ p. p ≡ roles trace.now) }

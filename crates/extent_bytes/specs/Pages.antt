@@ -1,5 +1,5 @@
 -- A view of code: the bytes that stored pages of 4,096 bytes stand for.
-use Rattle.std.specs.Prelude.{◌≡◌, ℕ, ◌+◌, ◌-◌, ◌*◌, ◌/◌, ◌%◌, ◌<◌, ◌≤◌, List, Option, None, Some, IsSome, map, length, replicate, slice_index}
+use Rattle.std.specs.Prelude.{◌≡◌, ℕ, ◌+◌, ◌-◌, ◌*◌, ◌/◌, ◌%◌, ◌<◌, ◌≤◌, max, min, List, Option, None, Some, IsSome, map, length, replicate, slice_index}
 use Rattle.std.specs.BTreeMap.{BTreeMap, get}
 use Rattle.std.specs.List.{range_with_len}
 use Rattle.std.specs.Ordering.{nat_cmp}
@@ -46,6 +46,22 @@ pub record Overlaid (old new : PageMap) (lo hi : ℕ) (f : ℕ → ℕ) : Type 0
   pub below : (p : ℕ) → p < lo → byte_at new p ≡ byte_at old p
   pub inside : (p : ℕ) → lo ≤ p → p < hi → byte_at new p ≡ f p
   pub above : (p : ℕ) → hi ≤ p → byte_at new p ≡ byte_at old p
+
+-- The bytes bs are written into the page of a number, from an offset in it on.
+abbrev pub PageWritten : PageMap → PageMap → ℕ → ℕ → List ℕ → Type 0
+PageWritten old new number at bs =
+    Overlaid old new (number * 4096 + at) (number * 4096 + (at + length bs)) (λ p. slice_index bs (p - (number * 4096 + at)))
+
+-- A part of that page is the same part of a page of another map.
+abbrev pub PageCopied : PageMap → PageMap → ℕ → ℕ → ℕ → PageMap → ℕ → Type 0
+PageCopied old new number from to source source_number =
+    Overlaid old new (number * 4096 + from) (number * 4096 + to) (λ p. byte_at source (source_number * 4096 + (p - number * 4096)))
+
+-- The bytes of the page of a number that lie from start up to end are written from target on.
+abbrev pub PageMoved : PageMap → PageMap → List ℕ → ℕ → ℕ → ℕ → ℕ → Type 0
+PageMoved old new page number start end target =
+    Overlaid old new (target + (max start (number * 4096) - start)) (target + (min end (number * 4096 + 4096) - start))
+    (λ p. slice_index page (start + (p - target) - number * 4096))
 
 -- A patch, which lay over the range from lo up to hi, now has the pages from first up to end whole.
 pub record Completed (pages old new : PageMap) (first end lo hi : ℕ) : Type 0 where

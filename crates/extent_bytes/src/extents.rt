@@ -1,5 +1,6 @@
 // Lists of bytes whose stored pages alone take memory.
-ghost use Rattle.std.specs.Prelude.{◌≡◌, ℕ, ◌+◌, ◌-◌, ◌≤◌, ◌↔◌, List, [], length, vec_len, max, IsTrue, IfOk, OnOk, OnErr};
+ghost use Rattle.std.specs.Prelude.{◌≡◌, ℕ, ◌+◌, ◌-◌, ◌≤◌, ◌↔◌, List, [], length};
+ghost use Rattle.std.specs.Prelude.{vec_len, max, IsTrue, IfOk, OnOk, OnErr};
 ghost use Rattle.extent_bytes.specs.Bytes.{overwritten, zeroed, resized, range_of};
 
 use crate::comparing::stored_agree;
@@ -84,8 +85,8 @@ impl Extents {
         Ok(bytes)
     }
 
-    /// Writes the bytes from `at` on. A gap past the end is zeros, which take no memory; nor do zeros
-    /// that are written where no page is stored.
+    /// Writes the bytes from `at` on. A gap past the end is zeros, which take no memory; nor do
+    /// zeros that are written where no page is stored.
     pub fn write(&mut self, at: u64, bytes: &[u8]) -> Result<(), AllocError>
         requires { at + length bytes.now ≤ MAX_LEN }
         ensures ok { OnOk result (self.new ≡ overwritten self.old at bytes.now) }
@@ -134,8 +135,8 @@ impl Extents {
         Ok(())
     }
 
-    /// The bytes from `lo` up to `hi` as a list of its own, which shares their pages, and the map of
-    /// them where they are all.
+    /// The bytes from `lo` up to `hi` as a list of its own, which shares their pages, and the map
+    /// of them where they are all.
     pub fn share(&self, lo: u64, hi: u64) -> Result<Extents, AllocError>
         requires forward { lo ≤ hi }
         requires inside { hi ≤ length self.now }
@@ -154,8 +155,8 @@ impl Extents {
         })
     }
 
-    /// What [`Extents::share`] gives, for bytes that change next in this list. A part of one page is
-    /// copied, so that the page keeps its one owner. More than that is shared.
+    /// What [`Extents::share`] gives, for bytes that change next in this list. A part of one page
+    /// is copied, so that the page keeps its one owner. More than that is shared.
     pub fn detach(&self, lo: u64, hi: u64) -> Result<Extents, AllocError>
         requires forward { lo ≤ hi }
         requires inside { hi ≤ length self.now }
@@ -201,7 +202,8 @@ impl Extents {
         Ok(part)
     }
 
-    /// Puts the bytes of `part` in place of those from `lo` on. A part for the whole list is moved in.
+    /// Puts the bytes of `part` in place of those from `lo` on. A part for the whole list is moved
+    /// in.
     pub fn put_back(&mut self, lo: u64, part: Extents) -> Result<(), AllocError>
         requires { lo + length part ≤ length self.old }
         ensures ok { OnOk result (self.new ≡ overwritten self.old lo part) }

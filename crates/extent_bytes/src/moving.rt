@@ -1,6 +1,6 @@
 // Ranges of a map of pages as maps of their own.
-ghost use Rattle.std.specs.Prelude.{◌≡◌, ℕ, ◌+◌, ◌-◌, ◌*◌, ◌/◌, ◌<◌, ◌≤◌, ◌^◌, min, max, slice_index, IfOk, OnOk};
-ghost use Rattle.extent_bytes.specs.Pages.{page_of, SameRange, Overlaid};
+ghost use Rattle.std.specs.Prelude.{◌≡◌, ℕ, ◌+◌, ◌-◌, ◌*◌, ◌/◌, ◌<◌, ◌≤◌, ◌^◌, IfOk, OnOk};
+ghost use Rattle.extent_bytes.specs.Pages.{page_of, SameRange, PageMoved};
 
 use crate::page::Page;
 use crate::page_map::{PAGE, Pages, next_stored, put_range};
@@ -37,10 +37,7 @@ fn move_page(
     requires near { target < 4096 }
     requires first { start / 4096 ≤ number }
     requires last { number * 4096 < end }
-    ensures { OnOk result (Overlaid moved.old moved.new
-        (target + (max start (number * 4096) - start))
-        (target + (min end (number * 4096 + 4096) - start))
-        (λ p. slice_index page.now (start + (p - target) - number * 4096))) }
+    ensures { OnOk result (PageMoved moved.old moved.new page.now number start end target) }
 {
     let from = start.max(number * PAGE);
     let to = end.min(number * PAGE + PAGE);

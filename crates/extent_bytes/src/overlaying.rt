@@ -1,6 +1,8 @@
 // Bytes put over a range of a map of pages. After a refusal of memory the bytes are as they were.
-ghost use Rattle.std.specs.Prelude.{◌≡◌, ℕ, ◌+◌, ◌-◌, ◌*◌, ◌/◌, ◌<◌, ◌≤◌, ◌^◌, min, length, slice_index, IsSome, OnOk, OnErr};
-ghost use Rattle.extent_bytes.specs.Pages.{page_of, byte_at, blank_page, SameBytes, SameBelow, Overlaid, WrittenAt, Completed};
+ghost use Rattle.std.specs.Prelude.{◌≡◌, ℕ, ◌+◌, ◌-◌, ◌*◌, ◌/◌, ◌<◌, ◌≤◌, ◌^◌, min};
+ghost use Rattle.std.specs.Prelude.{length, slice_index, IsSome, OnOk, OnErr};
+ghost use Rattle.extent_bytes.specs.Pages.{page_of, byte_at, blank_page, SameBytes};
+ghost use Rattle.extent_bytes.specs.Pages.{SameBelow, Overlaid, WrittenAt, Completed};
 
 use crate::page::{PAGE_SIZE, Page};
 use crate::page_map::{PAGE, Pages, copy_bytes, next_page, put_bytes, put_range};

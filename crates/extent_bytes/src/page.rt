@@ -1,5 +1,6 @@
 // A page of bytes. Several owners may share one, and each sees its own bytes.
-ghost use Rattle.std.specs.Prelude.{◌≡◌, ℕ, ◌+◌, ◌-◌, ◌≤◌, ◌↔◌, List, length, replicate, IsTrue, All, IfOk, OnOk, OnErr};
+ghost use Rattle.std.specs.Prelude.{◌≡◌, ℕ, ◌+◌, ◌-◌, ◌≤◌, ◌↔◌, List, length};
+ghost use Rattle.std.specs.Prelude.{replicate, IsTrue, All, IfOk, OnOk, OnErr};
 ghost use Rattle.extent_bytes.specs.Bytes.{overwritten};
 ghost use Rattle.extent_bytes.specs.Pages.{blank_page};
 
@@ -98,8 +99,8 @@ impl Page {
         }
     }
 
-    // Writes the bytes into a copy. It is a function of its own, so that a write in place has no room
-    // for a page to fill.
+    // Writes the bytes into a copy. It is a function of its own, so that a write in place has no
+    // room for a page to fill.
     fn write_copy(&mut self, alloc: Global, at: usize, bytes: &[u8]) -> Result<(), AllocError>
         requires { at + length bytes.now ≤ PAGE_SIZE }
         ensures ok { OnOk result (self.new ≡ overwritten self.old at bytes.now) }

@@ -1,7 +1,9 @@
 // Stored pages by their numbers. Page k holds the bytes from 4,096 * k on, and one that is not
 // stored is zeros.
-ghost use Rattle.std.specs.Prelude.{◌≡◌, ℕ, ◌+◌, ◌-◌, ◌*◌, ◌<◌, ◌≤◌, ◌^◌, ◌++◌, length, vec_len, slice_index, None, Some, IsSome, IfSome, IfNone, OnOk, OnErr};
-ghost use Rattle.extent_bytes.specs.Pages.{page_of, byte_at, bytes_of, SameBytes, SameBelow, Overlaid};
+ghost use Rattle.std.specs.Prelude.{◌≡◌, ℕ, ◌+◌, ◌-◌, ◌*◌, ◌<◌, ◌≤◌, ◌^◌, ◌++◌, length, vec_len};
+ghost use Rattle.std.specs.Prelude.{slice_index, None, Some, IsSome, IfSome, IfNone, OnOk, OnErr};
+ghost use Rattle.extent_bytes.specs.Pages.{page_of, bytes_of, PageWritten, PageCopied};
+ghost use Rattle.extent_bytes.specs.Pages.{SameBytes, SameBelow, Overlaid};
 
 use crate::page::{PAGE_SIZE, Page, is_blank};
 use std::alloc::{AllocError, Global};
@@ -65,9 +67,8 @@ pub(crate) fn put_bytes(
     bytes: &[u8],
 ) -> Result<(), AllocError>
     requires { at + length bytes.now ≤ PAGE_SIZE }
-    ensures ok { OnOk result (Overlaid pages.old pages.new
-        (number * 4096 + at) (number * 4096 + (at + length bytes.now))
-        (λ p. slice_index bytes.now (p - (number * 4096 + at)))) }
+    ensures ok { OnOk result
+        (PageWritten pages.old pages.new number at bytes.now) }
     ensures err { OnErr result (SameBytes pages.old pages.new) }
 {
     match pages.get_mut(&number) {
@@ -114,9 +115,8 @@ pub(crate) fn copy_bytes(
 ) -> Result<(), AllocError>
     requires forward { from ≤ to }
     requires inside { to ≤ PAGE_SIZE }
-    ensures ok { OnOk result (Overlaid pages.old pages.new
-        (number * 4096 + from) (number * 4096 + to)
-        (λ p. byte_at source.now (source_number * 4096 + (p - number * 4096)))) }
+    ensures ok { OnOk result
+        (PageCopied pages.old pages.new number from to source.now source_number) }
     ensures err { OnErr result (SameBytes pages.old pages.new) }
 {
     if from == to {

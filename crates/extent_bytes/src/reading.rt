@@ -6,8 +6,9 @@ use crate::extents::{Extents, MAX_LEN};
 use std::alloc::{AllocError, Global};
 use std::marker::Model;
 
-/// The most bytes that are copied. More are shared: half a page, so that a page that is changed after it was read, and so
-/// copied then, has cost no more than twice what a copy of the bytes would have.
+/// The most bytes that are copied. More are shared: half a page, so that a page that is changed
+/// after it was read, and so copied then, has cost no more than twice what a copy of the bytes
+/// would have.
 const MOST_COPIED: u64 = 2_048;
 
 /// The most bytes that [`ReadBytes::front`] shows.
@@ -27,8 +28,8 @@ pub(crate) enum Kept {
     Shared(Box<SharedBytes>),
 }
 
-/// Bytes that were read. Up to 2,048 of them are a copy, and more share the pages that they were read
-/// from, so that zeros take no memory.
+/// Bytes that were read. Up to 2,048 of them are a copy, and more share the pages that they were
+/// read from, so that zeros take no memory.
 #[derive(Drop)]
 pub struct ReadBytes {
     kept: Kept,
@@ -120,7 +121,8 @@ impl ReadBytes {
         }
     }
 
-    /// Whether both are the same bytes. It takes no memory, and of shared ones only looks at stored pages.
+    /// Whether both are the same bytes. It takes no memory, and of shared ones only looks at stored
+    /// pages.
     pub fn same(&self, other: &ReadBytes) -> bool
         ensures { IsTrue result ↔ (self.now ≡ other.now) }
     {

@@ -1,7 +1,9 @@
 // The stored pages of a list. Lists that have the same pages share the map of them.
-ghost use Rattle.std.specs.Prelude.{◌≡◌, ℕ, ◌+◌, ◌-◌, ◌*◌, ◌/◌, ◌<◌, ◌≤◌, ◌^◌, [], min, length, IfOk, OnOk, OnErr};
+ghost use Rattle.std.specs.Prelude.{◌≡◌, ℕ, ◌+◌, ◌-◌, ◌*◌, ◌/◌, ◌<◌, ◌≤◌, ◌^◌};
+ghost use Rattle.std.specs.Prelude.{[], min, length, IfOk, OnOk, OnErr};
 ghost use Rattle.extent_bytes.specs.Kept.{pages_in};
-ghost use Rattle.extent_bytes.specs.Pages.{page_of, byte_at, SameBytes, SameBelow, Overlaid, WrittenAt};
+ghost use Rattle.extent_bytes.specs.Pages.{page_of, byte_at, SameBytes};
+ghost use Rattle.extent_bytes.specs.Pages.{SameBelow, Overlaid, WrittenAt};
 
 use crate::moving::shared;
 use crate::overlaying::{overlay, write_range, zero_range};
@@ -63,8 +65,8 @@ impl Stored {
         }
     }
 
-    // Lets a map of more than a few pages be shared from now on. Where memory is wanting it stays as
-    // it is, and is shared page by page.
+    // Lets a map of more than a few pages be shared from now on. Where memory is wanting it stays
+    // as it is, and is shared page by page.
     fn settle(&mut self, alloc: Global)
         ensures { pages_in self.new ≡ pages_in self.old }
     {
@@ -131,7 +133,8 @@ impl Stored {
         bytes: &[u8],
     ) -> Result<(), AllocError>
         requires { at + length bytes.now < 2 ^ 63 }
-        ensures ok { OnOk result (WrittenAt (pages_in self.old) (pages_in self.new) (min at end) at bytes.now) }
+        ensures ok { OnOk result
+            (WrittenAt (pages_in self.old) (pages_in self.new) (min at end) at bytes.now) }
         ensures err { OnErr result (SameBelow (pages_in self.old) (pages_in self.new) end) }
     {
         match self {

@@ -1,5 +1,6 @@
 //! The bytes of the files of a tree.
-ghost use Rattle.std.specs.Prelude.{◌≡◌, ◌+◌, ◌≤◌, [], length, unwrap_or, IfOk, IfSome, OnErr, OnOk};
+ghost use Rattle.std.specs.Prelude.{◌≡◌, ◌+◌, ◌≤◌, [], length, unwrap_or};
+ghost use Rattle.std.specs.Prelude.{IfOk, IfSome, OnErr, OnOk};
 ghost use Rattle.std.specs.Option.{option_copied};
 ghost use Rattle.entry_checks.specs.Operation.{file_limit};
 ghost use Rattle.extent_bytes.specs.Bytes.{overwritten, range_of, resized, zeroed};
@@ -35,7 +36,8 @@ impl Tree {
     /// Want of memory; the tree is as before.
     pub fn add_zeros(&mut self, alloc: Global, number: u32, size: u64) -> Result<(), AllocError>
         requires { size ≤ file_limit }
-        ensures ok { OnOk result (self.new ≡ insert number_keys.total self.old number (file (resized [] size))) }
+        ensures ok { OnOk result
+            (self.new ≡ insert number_keys.total self.old number (file (resized [] size))) }
         ensures err { OnErr result (self.new ≡ self.old) }
     {
         let mut node = Node::new(alloc, Kind::File);
@@ -44,13 +46,15 @@ impl Tree {
         Ok(())
     }
 
-    /// The bytes of a file from `lo` up to `hi`, as far as it has them; none where the node is no file.
+    /// The bytes of a file from `lo` up to `hi`, as far as it has them; none where the node is no
+    /// file.
     ///
     /// # Errors
     ///
     /// Want of memory.
     pub fn read(&self, alloc: Global, node: u32, lo: u64, hi: u64) -> Result<Vec<u8>, AllocError>
-        ensures { IfOk result (λ taken. taken.items ≡ range_of (unwrap_or (tree.bytes self.now node) []) lo hi) }
+        ensures { IfOk result
+            (λ taken. taken.items ≡ range_of (unwrap_or (tree.bytes self.now node) []) lo hi) }
     {
         let Some(bytes) = self.bytes(node) else {
             return Ok(Vec::new(alloc));
@@ -71,7 +75,8 @@ impl Tree {
         lo: u64,
         hi: u64,
     ) -> Result<ReadBytes, AllocError>
-        ensures { IfOk result (λ taken. taken ≡ range_of (unwrap_or (tree.bytes self.now node) []) lo hi) }
+        ensures { IfOk result
+            (λ taken. taken ≡ range_of (unwrap_or (tree.bytes self.now node) []) lo hi) }
     {
         let Some(bytes) = self.bytes(node) else {
             return Ok(ReadBytes::none(alloc));
@@ -86,7 +91,8 @@ impl Tree {
     ///
     /// Want of memory.
     pub fn share(&self, alloc: Global, node: u32, lo: u64, hi: u64) -> Result<Extents, AllocError>
-        ensures { IfOk result (λ part. part ≡ range_of (unwrap_or (tree.bytes self.now node) []) lo hi) }
+        ensures { IfOk result
+            (λ part. part ≡ range_of (unwrap_or (tree.bytes self.now node) []) lo hi) }
     {
         let Some(bytes) = self.bytes(node) else {
             return Ok(Extents::new(alloc));
@@ -101,7 +107,8 @@ impl Tree {
     ///
     /// Want of memory.
     pub fn detach(&self, alloc: Global, node: u32, lo: u64, hi: u64) -> Result<Extents, AllocError>
-        ensures { IfOk result (λ part. part ≡ range_of (unwrap_or (tree.bytes self.now node) []) lo hi) }
+        ensures { IfOk result
+            (λ part. part ≡ range_of (unwrap_or (tree.bytes self.now node) []) lo hi) }
     {
         let Some(bytes) = self.bytes(node) else {
             return Ok(Extents::new(alloc));
@@ -110,15 +117,16 @@ impl Tree {
         bytes.detach(lo, hi)
     }
 
-    /// Writes bytes into a file from `at` on; a gap past its end becomes zeros. Where the node is no file
-    /// nothing changes.
+    /// Writes bytes into a file from `at` on; a gap past its end becomes zeros. Where the node is
+    /// no file nothing changes.
     ///
     /// # Errors
     ///
     /// Want of memory; the tree is as before.
     pub fn write(&mut self, node: u32, at: u64, bytes: &[u8]) -> Result<(), AllocError>
         requires { at + length bytes.now ≤ file_limit }
-        ensures ok { OnOk result (self.new ≡ adjust_number (rewritten_node (λ old. overwritten old at bytes.now)) self.old node) }
+        ensures ok { OnOk result (self.new
+            ≡ adjust_number (rewritten_node (λ old. overwritten old at bytes.now)) self.old node) }
         ensures err { OnErr result (self.new ≡ self.old) }
     {
         let Some(found) = self.nodes.get_mut(&node) else {
@@ -127,14 +135,15 @@ impl Tree {
         found.write(at, bytes)
     }
 
-    /// Makes the bytes of a file from `lo` up to `hi` zeros, as far as it has them. Where the node is no
-    /// file nothing changes.
+    /// Makes the bytes of a file from `lo` up to `hi` zeros, as far as it has them. Where the node
+    /// is no file nothing changes.
     ///
     /// # Errors
     ///
     /// Want of memory; the tree is as before.
     pub fn zero(&mut self, node: u32, lo: u64, hi: u64) -> Result<(), AllocError>
-        ensures ok { OnOk result (self.new ≡ adjust_number (rewritten_node (λ old. zeroed old lo hi)) self.old node) }
+        ensures ok { OnOk result
+            (self.new ≡ adjust_number (rewritten_node (λ old. zeroed old lo hi)) self.old node) }
         ensures err { OnErr result (self.new ≡ self.old) }
     {
         let Some(found) = self.nodes.get_mut(&node) else {
@@ -150,7 +159,8 @@ impl Tree {
     /// Want of memory; the tree is as before.
     pub fn set_size(&mut self, node: u32, size: u64) -> Result<(), AllocError>
         requires { size ≤ file_limit }
-        ensures ok { OnOk result (self.new ≡ adjust_number (rewritten_node (λ old. resized old size)) self.old node) }
+        ensures ok { OnOk result
+            (self.new ≡ adjust_number (rewritten_node (λ old. resized old size)) self.old node) }
         ensures err { OnErr result (self.new ≡ self.old) }
     {
         let Some(found) = self.nodes.get_mut(&node) else {
@@ -159,15 +169,17 @@ impl Tree {
         found.set_size(size)
     }
 
-    /// Takes the bytes of a file from `lo` up to `hi` out, as far as it has them, and leaves zeros there.
-    /// Where the node is no file there are none, and nothing changes.
+    /// Takes the bytes of a file from `lo` up to `hi` out, as far as it has them, and leaves zeros
+    /// there. Where the node is no file there are none, and nothing changes.
     ///
     /// # Errors
     ///
     /// Want of memory; the tree is as before.
     pub fn cut(&mut self, alloc: Global, node: u32, lo: u64, hi: u64) -> Result<Extents, AllocError>
-        ensures part { IfOk result (λ part. part ≡ range_of (unwrap_or (tree.bytes self.old node) []) lo hi) }
-        ensures rest { OnOk result (self.new ≡ adjust_number (rewritten_node (λ old. zeroed old lo hi)) self.old node) }
+        ensures part { IfOk result
+            (λ part. part ≡ range_of (unwrap_or (tree.bytes self.old node) []) lo hi) }
+        ensures rest { OnOk result
+            (self.new ≡ adjust_number (rewritten_node (λ old. zeroed old lo hi)) self.old node) }
         ensures err { OnErr result (self.new ≡ self.old) }
     {
         let Some(found) = self.nodes.get_mut(&node) else {
@@ -176,15 +188,16 @@ impl Tree {
         found.cut(alloc, lo, hi)
     }
 
-    /// Puts the bytes of `part` in place of those of a file from `lo` on, within its size. Where the node
-    /// is no file nothing changes.
+    /// Puts the bytes of `part` in place of those of a file from `lo` on, within its size. Where
+    /// the node is no file nothing changes.
     ///
     /// # Errors
     ///
     /// Want of memory; the tree is as before.
     pub fn put_back(&mut self, node: u32, lo: u64, part: Extents) -> Result<(), AllocError>
         requires { IfSome (tree.size self.old node) (λ size. lo + length part ≤ size) }
-        ensures ok { OnOk result (self.new ≡ adjust_number (rewritten_node (λ old. overwritten old lo part)) self.old node) }
+        ensures ok { OnOk result (self.new
+            ≡ adjust_number (rewritten_node (λ old. overwritten old lo part)) self.old node) }
         ensures err { OnErr result (self.new ≡ self.old) }
     {
         let Some(found) = self.nodes.get_mut(&node) else {

@@ -1,11 +1,13 @@
 //! A node of the file tree.
-ghost use Rattle.std.specs.Prelude.{◌≡◌, ◌+◌, ◌≤◌, ◌==◌, [], length, unwrap_or, IfNone, IfOk, IfSome, IsOk, OnErr, OnOk};
+ghost use Rattle.std.specs.Prelude.{◌≡◌, ◌+◌, ◌≤◌, ◌==◌, [], length, unwrap_or};
+ghost use Rattle.std.specs.Prelude.{IfNone, IfOk, IfSome, IsOk, OnErr, OnOk};
 ghost use Rattle.std.specs.Option.{option_copied};
 ghost use Rattle.entry_checks.specs.Operation.{file_limit};
 ghost use Rattle.extent_bytes.specs.Bytes.{overwritten, range_of, resized, zeroed};
 ghost use Rattle.finite_maps.specs.Table.{empty};
 ghost use Rattle.file_tree.specs.Kinds.{kind_meant};
-ghost use Rattle.file_tree.specs.Tree.{bytes_of_node, count_of_node, directory, kind_of_node, new_node, renamed_node, rewritten_node, shown_node};
+ghost use Rattle.file_tree.specs.Tree.{bytes_of_node, count_of_node, directory, kind_of_node};
+ghost use Rattle.file_tree.specs.Tree.{new_node, renamed_node, rewritten_node, shown_node};
 
 use crate::names::Names;
 use extent_bytes::Extents;
@@ -167,7 +169,8 @@ impl Node {
     /// Writes bytes into a file; a directory stays as it is.
     pub(crate) fn write(&mut self, at: u64, bytes: &[u8]) -> Result<(), AllocError>
         requires { at + length bytes.now ≤ file_limit }
-        ensures ok { OnOk result (self.new ≡ rewritten_node (λ old. overwritten old at bytes.now) self.old) }
+        ensures ok { OnOk result
+            (self.new ≡ rewritten_node (λ old. overwritten old at bytes.now) self.old) }
         ensures err { OnErr result (self.new ≡ self.old) }
     {
         match &mut self.content {
@@ -204,7 +207,8 @@ impl Node {
 
     /// Takes a range out of a file; a directory stays as it is.
     pub(crate) fn cut(&mut self, alloc: Global, lo: u64, hi: u64) -> Result<Extents, AllocError>
-        ensures part { IfOk result (λ part. part ≡ range_of (unwrap_or (bytes_of_node self.old) []) lo hi) }
+        ensures part { IfOk result
+            (λ part. part ≡ range_of (unwrap_or (bytes_of_node self.old) []) lo hi) }
         ensures rest { OnOk result (self.new ≡ rewritten_node (λ old. zeroed old lo hi) self.old) }
         ensures err { OnErr result (self.new ≡ self.old) }
     {
@@ -220,7 +224,8 @@ impl Node {
     /// Puts a part back into a file; a directory stays as it is.
     pub(crate) fn put_back(&mut self, lo: u64, part: Extents) -> Result<(), AllocError>
         requires { IfSome (bytes_of_node self.old) (λ bytes. lo + length part ≤ length bytes) }
-        ensures ok { OnOk result (self.new ≡ rewritten_node (λ old. overwritten old lo part) self.old) }
+        ensures ok { OnOk result
+            (self.new ≡ rewritten_node (λ old. overwritten old lo part) self.old) }
         ensures err { OnErr result (self.new ≡ self.old) }
     {
         match &mut self.content {

@@ -1,5 +1,6 @@
 //! The file tree: its nodes and their names.
-ghost use Rattle.std.specs.Prelude.{◌≡◌, ◌==◌, ◌↔◌, unwrap_or, IfNone, IfOk, IsOk, IsTrue, OnErr, OnOk};
+ghost use Rattle.std.specs.Prelude.{◌≡◌, ◌==◌, ◌↔◌, unwrap_or, IfNone};
+ghost use Rattle.std.specs.Prelude.{IfOk, IsOk, IsTrue, OnErr, OnOk};
 ghost use Rattle.std.specs.Option.{option_copied, option_map};
 ghost use Rattle.finite_maps.specs.Table.{adjust_number, count, empty, insert, number_keys, remove};
 ghost use Rattle.file_tree.specs.Kinds.{kind_meant};
@@ -48,7 +49,8 @@ impl Tree {
     ///
     /// Want of memory.
     pub fn new(alloc: Global) -> Result<Self, AllocError>
-        ensures { IfOk result (λ tree. tree ≡ insert number_keys.total empty 0 (directory empty 0)) }
+        ensures { IfOk result
+            (λ tree. tree ≡ insert number_keys.total empty 0 (directory empty 0)) }
     {
         let mut nodes = BTreeMap::new(alloc);
         nodes.insert(0, Node::new(alloc, Kind::Directory))?;
@@ -123,15 +125,16 @@ impl Tree {
     ///
     /// Want of memory; the tree is as before.
     pub fn add_node(&mut self, alloc: Global, number: u32, kind: Kind) -> Result<(), AllocError>
-        ensures ok { OnOk result (self.new ≡ insert number_keys.total self.old number (new_node (kind_meant kind))) }
+        ensures ok { OnOk result
+            (self.new ≡ insert number_keys.total self.old number (new_node (kind_meant kind))) }
         ensures err { OnErr result (self.new ≡ self.old) }
     {
         self.nodes.insert(number, Node::new(alloc, kind))?;
         Ok(())
     }
 
-    /// Makes a directory that shows none of its names, `others` in number. A node that had the number
-    /// goes.
+    /// Makes a directory that shows none of its names, `others` in number. A node that had the
+    /// number goes.
     ///
     /// # Errors
     ///
@@ -142,7 +145,8 @@ impl Tree {
         number: u32,
         others: usize,
     ) -> Result<(), AllocError>
-        ensures ok { OnOk result (self.new ≡ insert number_keys.total self.old number (directory empty others)) }
+        ensures ok { OnOk result
+            (self.new ≡ insert number_keys.total self.old number (directory empty others)) }
         ensures err { OnErr result (self.new ≡ self.old) }
     {
         self.nodes.insert(number, Node::listing(alloc, others))?;
@@ -156,8 +160,8 @@ impl Tree {
         self.nodes.remove(&number);
     }
 
-    /// Lets a name of a directory lead to a node, or to none, which takes no memory. Where there is no
-    /// such directory nothing changes.
+    /// Lets a name of a directory lead to a node, or to none, which takes no memory. Where there is
+    /// no such directory nothing changes.
     ///
     /// # Errors
     ///
@@ -169,7 +173,8 @@ impl Tree {
         name: &[u8],
         node: Option<u32>,
     ) -> Result<(), AllocError>
-        ensures ok { OnOk result (self.new ≡ adjust_number (renamed_node name.now node) self.old directory) }
+        ensures ok { OnOk result
+            (self.new ≡ adjust_number (renamed_node name.now node) self.old directory) }
         ensures err { OnErr result (self.new ≡ self.old) }
         ensures removal { IfNone node (IsOk result) }
     {
@@ -179,7 +184,8 @@ impl Tree {
         found.set_name(alloc, name, node)
     }
 
-    /// Lets a directory show one of its other names. Where there is no such directory nothing changes.
+    /// Lets a directory show one of its other names. Where there is no such directory nothing
+    /// changes.
     ///
     /// # Errors
     ///
@@ -191,7 +197,8 @@ impl Tree {
         name: &[u8],
         node: u32,
     ) -> Result<(), AllocError>
-        ensures ok { OnOk result (self.new ≡ adjust_number (shown_node name.now node) self.old directory) }
+        ensures ok { OnOk result
+            (self.new ≡ adjust_number (shown_node name.now node) self.old directory) }
         ensures err { OnErr result (self.new ≡ self.old) }
     {
         let Some(listing) = self.nodes.get_mut(&directory) else {

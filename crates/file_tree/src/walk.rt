@@ -16,7 +16,8 @@ const WORKING_DIRECTORY: i32 = -100;
 /// The most bytes that a name has: `NAME_MAX` of linux/limits.h.
 pub const LONGEST_NAME: usize = 255;
 
-/// Where a path leads: the directory that has its last name, that name, and the node that it leads to.
+/// Where a path leads: the directory that has its last name, that name, and the node that it leads
+/// to.
 #[derive(Clone, Copy, Debug)]
 pub struct Place<'a> {
     pub parent: u32,
@@ -40,11 +41,12 @@ impl Tree {
     ///
     /// # Errors
     ///
-    /// EBADF for a relative path at another directory. Then name by name: ENAMETOOLONG for one of more
-    /// than 255 bytes, and but for the last one ENOENT where it is missing and ENOTDIR where it leads to
-    /// a file. ENOENT for a path without names.
+    /// EBADF for a relative path at another directory. Then name by name: ENAMETOOLONG for one of
+    /// more than 255 bytes, and but for the last one ENOENT where it is missing and ENOTDIR where
+    /// it leads to a file. ENOENT for a path without names.
     pub fn walk<'a>(&self, directory: i32, path: &'a [u8]) -> Result<Place<'a>, Errno>
-        ensures { walk_meant self.now result ≡ walk.walk self.now (record { directory = directory; text = path.now }) }
+        ensures { walk_meant self.now result
+            ≡ walk.walk self.now (record { directory = directory; text = path.now }) }
     {
         if !starts_at_root(directory, path) {
             return Err(Errno::EBADF);
@@ -52,16 +54,18 @@ impl Tree {
         self.walk_from_root(path)
     }
 
-    /// Whether a node is one of the directories in which the walk of a path looks a name up: the parent
-    /// of what the path leads to, or one above it.
+    /// Whether a node is one of the directories in which the walk of a path looks a name up: the
+    /// parent of what the path leads to, or one above it.
     pub fn is_above(&self, node: u32, directory: i32, path: &[u8]) -> bool
-        ensures { result ≡ walk.is_above self.now node (record { directory = directory; text = path.now }) }
+        ensures { result
+            ≡ walk.is_above self.now node (record { directory = directory; text = path.now }) }
     {
         starts_at_root(directory, path) && self.is_above_from_root(node, path)
     }
 
     fn is_above_from_root(&self, node: u32, path: &[u8]) -> bool
-        ensures { result ≡ list_any (λ e. e.0 == node) (walk.names_from self.now 0 (components path.now)) }
+        ensures { result
+            ≡ list_any (λ e. e.0 == node) (walk.names_from self.now 0 (components path.now)) }
     {
         let mut parent = 0;
         for name in path.split(|b| *b == b'/').filter(|run| !run.is_empty()) {

@@ -27,15 +27,17 @@
 //!
 //! # What follows
 //!
-//! | Law | What it says |
-//! |---|---|
-//! | [`apart_places_commute`] | two places that are apart give the same world and replies in either order |
-//! | [`gathering_is_in_order`] | places that are apart, run side by side from one world and gathered, give what they give in order |
-//! | [`prefix_rounds_are_sequential`] | rounds that never overtake are sequential |
-//! | [`rows_foresee`] | reaches by rows keep the laws on reaches |
-//! | [`reaches_foresee`] | while places start and finish, reaches hold what is to come, and only shrink |
-//! | [`every_legal_order_is_sequential`] | so every legal and complete list of starts and finishes is sequential |
-//! | [`rounds_are_sequential`] | rounds that overtake are legal, go on, end, and are sequential |
+//! - [`apart_places_commute`]: two places that are apart give the same world and replies in either
+//!   order;
+//! - [`gathering_is_in_order`]: places that are apart, run side by side from one world and
+//!   gathered, give what they give in order;
+//! - [`prefix_rounds_are_sequential`]: rounds that never overtake are sequential;
+//! - [`rows_foresee`]: reaches by rows keep the laws on reaches;
+//! - [`reaches_foresee`]: while places start and finish, reaches hold what is to come, and only
+//!   shrink;
+//! - [`every_legal_order_is_sequential`]: so every legal and complete list of starts and finishes
+//!   is sequential;
+//! - [`rounds_are_sequential`]: rounds that overtake are legal, go on, end, and are sequential.
 //!
 //! # An instance
 //!
@@ -49,9 +51,11 @@ ghost use Rattle.interleaving.specs.Laws.{Cover, Laws};
 ghost use Rattle.interleaving.specs.Rows.{Rows, RowLaws, RowsForesee};
 ghost use Rattle.interleaving.specs.Commuting.{ApartCommute};
 ghost use Rattle.interleaving.specs.Machine.{EveryOrder, KeepsOrder, ReachesHold, ReachesShrink};
-ghost use Rattle.interleaving.specs.Gather.{GatherIsInOrder, PutIsStep, PutFills, PutsAreInOrder, OrderIsFree};
+ghost use Rattle.interleaving.specs.Gather.{GatherIsInOrder, PutIsStep, PutFills};
+ghost use Rattle.interleaving.specs.Gather.{PutsAreInOrder, OrderIsFree};
 ghost use Rattle.interleaving.specs.Prefix.{PrefixRoundsAreSequential, PrefixesAreSideBySide};
-ghost use Rattle.interleaving.specs.Rounds.{RoundsAreLegal, RoundsAreSequential, RoundsAreGathered, RoundsGoOn, RoundsKeepOrder, AnySetsOccur};
+ghost use Rattle.interleaving.specs.Rounds.{RoundsAreLegal, RoundsAreSequential, RoundsAreGathered};
+ghost use Rattle.interleaving.specs.Rounds.{RoundsGoOn, RoundsKeepOrder, AnySetsOccur};
 
 /// Systems whose steps keep to their footprints: one system for each trace.
 ///
@@ -146,7 +150,8 @@ pub fn reaches_foresee<S: Foreseen>()
 {}
 
 /// Places may start and finish in many orders. A start is legal where the footprint of the place
-/// collides with the reach of no earlier unfinished place, and a finish where the place has started.
+/// collides with the reach of no earlier unfinished place, and a finish where the place has
+/// started.
 ///
 /// - `sequential`: a legal list of starts and finishes after which all places are finished gives
 ///   the world and the replies of one place at a time.
@@ -167,7 +172,8 @@ pub fn every_legal_order_is_sequential<S: Foreseen>()
 ///   the round gives the world of running them in order, and their replies in that first world are
 ///   those of one place at a time.
 /// - `go_on`: while a place is pending, a round has at least one.
-/// - `order`: a place that always collides with the reach of an earlier place runs in a later round.
+/// - `order`: a place that always collides with the reach of an earlier place runs in a later
+///   round.
 /// - `sets`: any places of a round can be those that have started, and any of these those that have
 ///   finished, at some point of a legal order of the round.
 pub fn rounds_are_sequential<S: Foreseen>()

@@ -9,15 +9,11 @@ use Rattle.trace_format.specs.declared.steps.Action.TheVariants as actions
 use Rattle.trace_format.specs.declared.trace.Entry.{Entry}
 use Rattle.trace_format.specs.declared.trace.Trace.{Trace}
 use Rattle.trace_format.specs.Steps.{submit, fill, step_at, step_meant, action_meant}
-use Rattle.entry_checks.specs.Check.{check}
 use Rattle.chain_plan.specs.declared.role.Role.{Role}
 use Rattle.chain_plan.specs.Chain.{role}
-use Rattle.world_parts.specs.World.{World, broken, apply_all}
-use Rattle.op_meaning.specs.Step.{Turn, filled, entry_turn, turn, reply_of, changes_in, step_reply, step_world}
-
--- The turn of a role, where an entry is submitted.
-abbrev pub turn_as : Trace → World → ℕ → Entry → Role → Turn
-turn_as t s r e c = entry_turn r e c (broken s c.chain) (check t.version e)
+use Rattle.world_parts.specs.World.{World, apply_all}
+use Rattle.op_meaning.specs.Turns.{turn_as}
+use Rattle.op_meaning.specs.Step.{Turn, filled, turn, reply_of, changes_in, step_reply, step_world}
 
 pub submitted : (t : Trace) (k : ℕ) (s : World) (x : borrowed.Step) (e : Bor Entry) (c : Role) → step_at t k ≡ Some (step_meant x) → x.action ≡ actions.Submit e → c ≡ role t k → turn t k s ≡ Some (turn_as t s x.ring e.now c)
 submitted t k s x e c at is own =

@@ -150,6 +150,16 @@ span_destination t r x = ok_or (option_map (λ at. into x.index at) (span_start 
 abbrev pub span_bytes : Trace → World → ℕ → Span → Result (List ℕ) Errno
 span_bytes t s r x = ok_or (option_map (λ at. take (min x.length most_moved) (drop at (unwrap_or (buffer s r x.index) []))) (span_start t r x)) EFAULT
 
+-- READ and READV move into the reply, READ_FIXED into a span, WRITE_FIXED from one.
+abbrev pub readv_meaning : Trace → World → ℕ → File → ℕ → ℕ → Result Effect Errno
+readv_meaning t s r f o n = read_meaning t s r f o (min n most_moved) (Ok reply)
+
+abbrev pub read_fixed_meaning : Trace → World → ℕ → File → ℕ → Span → Result Effect Errno
+read_fixed_meaning t s r f o x = read_meaning t s r f o (min x.length most_moved) (span_destination t r x)
+
+abbrev pub write_fixed_meaning : Trace → World → ℕ → File → ℕ → Span → Result Effect Errno
+write_fixed_meaning t s r f o x = write_meaning t s r f o (span_bytes t s r x)
+
 -- The modes of fallocate(2) that are served: extend; change nothing; punch a hole; zero a range and extend; zero a range.
 pub data Allocation : Type 0 where
   extend : Allocation
@@ -326,15 +336,15 @@ renameat_meaning s old new flags = do
 -- The meaning of an operation at a place of a ring.
 abbrev pub meaning : Trace → ℕ → ℕ → World → Operation → Result Effect Errno
 meaning t k r s nop = Ok (done [])
-meaning t k r s (readv f o n) = read_meaning t s r f o (min n most_moved) (Ok reply)
+meaning t k r s (readv f o n) = readv_meaning t s r f o n
 meaning t k r s (writev f o new) = write_meaning t s r f o (Ok new)
 meaning t k r s (fsync f) = require (is_some (held t s r f.registered f.number)) EBADF >> Ok (done [])
-meaning t k r s (read_fixed f o x) = read_meaning t s r f o (min x.length most_moved) (span_destination t r x)
-meaning t k r s (write_fixed f o x) = write_meaning t s r f o (span_bytes t s r x)
+meaning t k r s (read_fixed f o x) = read_fixed_meaning t s r f o x
+meaning t k r s (write_fixed f o x) = write_fixed_meaning t s r f o x
 meaning t k r s (fallocate f o n mode) = fallocate_meaning t s r f o n mode
 meaning t k r s (openat p g index) = openat_meaning t s k r p g index
 meaning t k r s (close number index) = close_meaning t s r number index
-meaning t k r s (read f o n) = read_meaning t s r f o (min n most_moved) (Ok reply)
+meaning t k r s (read f o n) = readv_meaning t s r f o n
 meaning t k r s (write f o new) = write_meaning t s r f o (Ok new)
 meaning t k r s (renameat old new flags) = renameat_meaning s old new flags
 meaning t k r s (unlinkat p removes) = unlinkat_meaning s p removes

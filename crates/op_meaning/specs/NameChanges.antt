@@ -1,10 +1,12 @@
 -- A view of code: what an operation does to names.
-use Rattle.std.specs.Prelude.{[], ◌∷◌, Result, Ok, Err}
+use Rattle.std.specs.Prelude.{ℕ, [], ◌∷◌, Result, Ok, Err}
 use Rattle.std.specs.Option.{option_map}
 use Rattle.sqe_codec.specs.declared.errno.Errno.{Errno}
 use Rattle.file_tree.specs.Tree.{Tree, target}
-use Rattle.world_parts.specs.World.{Change, set_name}
-use Rattle.op_meaning.specs.Meaning.{Effect, done}
+use Rattle.file_tree.specs.Found.{place_meant}
+use Rattle.file_tree.specs.declared.walk.Place.{Place}
+use Rattle.world_parts.specs.World.{World, Change, set_name}
+use Rattle.op_meaning.specs.Meaning.{Effect, done, exchanged, move_meaning}
 use Rattle.op_meaning.specs.declared.names.NameChange.{NameChange}
 use Rattle.op_meaning.specs.declared.names.NameChanges.{NameChanges}
 use Rattle.op_meaning.specs.declared.names.NameChanges.TheVariants.{Nothing, One, Two}
@@ -22,3 +24,10 @@ changes_meant tree (Two x y) = done (change_meant tree x ∷ change_meant tree y
 abbrev pub decision_meant : Tree → Result NameChanges Errno → Result Effect Errno
 decision_meant tree (Ok x) = Ok (changes_meant tree x)
 decision_meant tree (Err e) = Err e
+
+-- the move of a node's name to another place, and the exchange of two names
+abbrev pub move_meant : World → Place → Place → ℕ → Result Effect Errno
+move_meant s p q i = move_meaning s (place_meant s.nodes p) (place_meant s.nodes q) (target s.nodes i) (option_map (target s.nodes) q.node)
+
+abbrev pub exchange_meant : Tree → Place → Place → ℕ → ℕ → Effect
+exchange_meant tree p q i j = exchanged (place_meant tree p) (place_meant tree q) (target tree i) (target tree j)

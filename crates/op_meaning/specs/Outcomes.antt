@@ -1,10 +1,11 @@
 -- A view of code: what operations answer.
-use Rattle.std.specs.Prelude.{ℕ, Bool, true, false, not, ◌==◌, List, Option, Some, None, Result, Ok, Err, pos}
+use Rattle.std.specs.Prelude.{◌≡◌, ℕ, Bool, true, false, not, ◌==◌, List, Option, Some, None, Result, Ok, Err, pos}
 use Rattle.sqe_codec.specs.declared.errno.Errno.{Errno}
 use Rattle.op_meaning.specs.declared.outcome.Done.{Done}
 use Rattle.op_meaning.specs.declared.reply.Reply.{Reply}
 use Rattle.op_meaning.specs.Meaning.{Effect}
-use Rattle.op_meaning.specs.Step.{error_reply}
+use Rattle.op_meaning.specs.Step.{changes_of, error_reply}
+use Rattle.world_parts.specs.World.{World, apply_all}
 
 -- the count and the bytes of an accepted operation, or its error
 abbrev pub answer_of : Result Effect Errno → Result (ℕ × List ℕ) Errno
@@ -15,6 +16,14 @@ answer_of (Err e) = Err e
 abbrev pub answered : Result Done Errno → Result (ℕ × List ℕ) Errno
 answered (Ok d) = Ok (d.count, d.bytes)
 answered (Err e) = Err e
+
+-- whether an outcome answers what an operation does
+abbrev pub Answers : Result Effect Errno → Result Done Errno → Type 0
+Answers x o = answered o ≡ answer_of x
+
+-- the world that an operation leaves
+abbrev pub world_after : World → Result Effect Errno → World
+world_after s x = apply_all (changes_of x) s
 
 -- whether an operation failed that asked for so many bytes, or for none
 abbrev pub fails_as : Option ℕ → Result (ℕ × List ℕ) Errno → Bool

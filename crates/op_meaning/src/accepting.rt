@@ -1,7 +1,8 @@
 //! Whether the world accepts an operation, by look-ups alone.
 ghost use Rattle.std.specs.Prelude.{◌≡◌, ℕ, is_ok};
 ghost use Rattle.entry_checks.specs.Meant.{file_meant, meant, path_meant, span_meant};
-ghost use Rattle.op_meaning.specs.Meaning.{close_meaning, meaning, mkdirat_meaning, span_bytes, write_meaning};
+ghost use Rattle.op_meaning.specs.Meaning.{close_meaning, meaning};
+ghost use Rattle.op_meaning.specs.Meaning.{mkdirat_meaning, write_fixed_meaning};
 ghost use Rattle.trace_format.specs.declared.trace.Trace.{Trace};
 ghost use Rattle.trace_format.specs.Text.{IsSpelled};
 
@@ -17,7 +18,8 @@ use world_parts::State;
 /// The most bytes that one call moves.
 const MOST_MOVED: u32 = 0x7fff_f000;
 
-/// Whether the world accepts an operation of a ring: whether it is done without an error. It takes no memory.
+/// Whether the world accepts an operation of a ring: whether it is done without an error. It takes
+/// no memory.
 pub fn accepts(trace: &Trace, place: u32, ring: u8, op: Op<'_>, state: &State) -> bool
     requires { IsSpelled trace.now }
     ensures { result ≡ is_ok (meaning trace.now place ring state.now (meant op.entry)) }
@@ -83,7 +85,8 @@ fn accepts_span(
     span: BufferSpan,
     state: &State,
 ) -> bool
-    ensures { result ≡ is_ok (write_meaning trace.now state.now ring (file_meant file) offset (span_bytes trace.now state.now ring (span_meant span))) }
+    ensures { result ≡ is_ok
+        (write_fixed_meaning trace.now state.now ring (file_meant file) offset (span_meant span)) }
 {
     let Some(at) = span_start(trace, ring, span) else {
         return false;
@@ -96,8 +99,8 @@ fn accepts_span(
     writable_at(trace, ring, file, offset, count as usize, state).is_ok()
 }
 
-/// Whether a file is closed: there is one in the slot before `file_index`, or where that is 0 at the
-/// descriptor.
+/// Whether a file is closed: there is one in the slot before `file_index`, or where that is 0 at
+/// the descriptor.
 fn accepts_close(trace: &Trace, ring: u8, number: i32, file_index: u32, state: &State) -> bool
     ensures { result ≡ is_ok (close_meaning trace.now state.now ring number file_index) }
 {
@@ -114,7 +117,8 @@ fn accepts_close(trace: &Trace, ring: u8, number: i32, file_index: u32, state: &
 
 /// Whether a directory is made: its path leads to a name that is missing.
 fn accepts_directory(path: PathAt<'_>, state: &State) -> bool
-    ensures { (t : Trace) (k : ℕ) → result ≡ is_ok (mkdirat_meaning t state.now k (path_meant path.entry)) }
+    ensures { (t : Trace) (k : ℕ)
+        → result ≡ is_ok (mkdirat_meaning t state.now k (path_meant path.entry)) }
 {
     match state.walk(path.directory, path.text) {
         Ok(found) => found.node.is_none(),

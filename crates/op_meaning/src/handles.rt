@@ -1,11 +1,14 @@
 //! Files that are open, and ranges of registered buffers.
-ghost use Rattle.std.specs.Prelude.{◌≡◌, ◌==◌, ◌+◌, ◌<◌, ◌≤◌, ◌^◌, ◌<ℤ◌, IfSome, MatchOption, false, length, pos, true};
+ghost use Rattle.std.specs.Prelude.{◌≡◌, ◌==◌, ◌+◌, ◌<◌, ◌≤◌, ◌^◌, ◌<ℤ◌, IfSome};
+ghost use Rattle.std.specs.Prelude.{MatchOption, false, length, pos, true};
 ghost use Rattle.std.specs.Option.{option_map};
 ghost use Rattle.entry_checks.specs.Meant.{file_meant, span_meant};
 ghost use Rattle.entry_checks.specs.Operation.{at_position, file_limit};
 ghost use Rattle.file_tree.specs.Walk as walk;
 ghost use Rattle.op_meaning.specs.Handles.{found, handle_meant};
-ghost use Rattle.op_meaning.specs.Meaning.{bytes_in, can_read, can_write, handle, held, is_bad_offset, readable, registered_buffer, slot_count, span_start, transfer_start, writable};
+ghost use Rattle.op_meaning.specs.Meaning.{bytes_in, can_read, can_write, handle, held};
+ghost use Rattle.op_meaning.specs.Meaning.{is_bad_offset, readable, registered_buffer};
+ghost use Rattle.op_meaning.specs.Meaning.{slot_count, span_start, transfer_start, writable};
 ghost use Rattle.world_parts.specs.World as world;
 
 use entry_checks::{BufferSpan, FileNumber};
@@ -70,8 +73,8 @@ pub(crate) fn held_by_descriptor(trace: &Trace, descriptor: u32, state: &State) 
     }
 }
 
-/// The number of the open file description that a file number stands for: in a slot of the ring, or at a
-/// descriptor.
+/// The number of the open file description that a file number stands for: in a slot of the ring, or
+/// at a descriptor.
 pub fn held(trace: &Trace, ring: u8, file: FileNumber, state: &State) -> Option<u32>
     ensures { result ≡ held trace.now state.now ring file.registered file.number }
 {
@@ -85,7 +88,8 @@ pub fn held(trace: &Trace, ring: u8, file: FileNumber, state: &State) -> Option<
 
 /// The open file that a file number stands for.
 pub fn open_file(trace: &Trace, ring: u8, file: FileNumber, state: &State) -> Option<OpenFile>
-    ensures { option_map (handle_meant state.now) result ≡ handle trace.now state.now ring (file_meant file) }
+    ensures { option_map (handle_meant state.now) result
+        ≡ handle trace.now state.now ring (file_meant file) }
 {
     let number = held(trace, ring, file, state)?;
     let description = state.description(number)?;

@@ -1,8 +1,7 @@
 //! Changes of names, decided on before they are made.
 ghost use Rattle.std.specs.Prelude.{◌≡◌, IfOk, OnOk};
 ghost use Rattle.op_meaning.specs.NameChanges.{change_meant, changes_meant, decision_meant};
-ghost use Rattle.op_meaning.specs.Outcomes.{answered, answer_of};
-ghost use Rattle.op_meaning.specs.Step.{changes_of};
+ghost use Rattle.op_meaning.specs.Outcomes.{Answers, world_after};
 ghost use Rattle.world_parts.specs.World.{apply, apply_all};
 
 use crate::outcome::{Outcome, finished};
@@ -28,7 +27,8 @@ pub(crate) enum NameChanges<'a> {
 
 /// Makes a change of a name.
 fn change_name(alloc: Global, change: NameChange<'_>, state: &mut State) -> Result<(), AllocError>
-    ensures { OnOk result (state.new ≡ apply (change_meant state.old.nodes change.entry) state.old) }
+    ensures { OnOk result
+        (state.new ≡ apply (change_meant state.old.nodes change.entry) state.old) }
 {
     state.set_name(alloc, change.directory, change.name, change.node)
 }
@@ -39,7 +39,8 @@ fn change_names(
     changes: NameChanges<'_>,
     state: &mut State,
 ) -> Result<(), AllocError>
-    ensures { OnOk result (state.new ≡ apply_all (changes_meant state.old.nodes changes.entry).changes state.old) }
+    ensures { OnOk result
+        (state.new ≡ apply_all (changes_meant state.old.nodes changes.entry).changes state.old) }
 {
     match changes {
         NameChanges::Nothing => Ok(()),
@@ -61,8 +62,9 @@ pub(crate) fn carry_out(
     decision: Result<NameChanges<'_>, Errno>,
     state: &mut State,
 ) -> Result<Outcome, AllocError>
-    ensures answer { IfOk result (λ o. answered o ≡ answer_of (decision_meant state.old.nodes decision.entry)) }
-    ensures state { OnOk result (state.new ≡ apply_all (changes_of (decision_meant state.old.nodes decision.entry)) state.old) }
+    ensures answer { IfOk result (Answers (decision_meant state.old.nodes decision.entry)) }
+    ensures state { OnOk result
+        (state.new ≡ world_after state.old (decision_meant state.old.nodes decision.entry)) }
 {
     match decision {
         Ok(changes) => {

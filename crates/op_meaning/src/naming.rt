@@ -1,18 +1,16 @@
 //! The operations on names: UNLINKAT, MKDIRAT, LINKAT and RENAMEAT.
 ghost use Rattle.std.specs.Prelude.{◌≡◌, ◌<◌, IfOk, OnOk};
-ghost use Rattle.std.specs.Option.{option_map};
 ghost use Rattle.entry_checks.specs.Meant.{path_meant};
-ghost use Rattle.file_tree.specs.Found.{place_meant};
 ghost use Rattle.file_tree.specs.Tree.{Tree, target};
 ghost use Rattle.file_tree.specs.Walk as walk;
 ghost use Rattle.op_meaning.specs.Meaning as meaning;
-ghost use Rattle.op_meaning.specs.Meaning.{linkat_meaning, mkdirat_meaning, move_meaning, renameat_meaning, unlinkat_meaning};
+ghost use Rattle.op_meaning.specs.Meaning.{linkat_meaning, mkdirat_meaning};
+ghost use Rattle.op_meaning.specs.Meaning.{renameat_meaning, unlinkat_meaning};
 ghost use Rattle.op_meaning.specs.NameChanges.{changes_meant, decision_meant};
-ghost use Rattle.op_meaning.specs.Outcomes.{answered, answer_of};
-ghost use Rattle.op_meaning.specs.Step.{changes_of};
+ghost use Rattle.op_meaning.specs.NameChanges.{move_meant, exchange_meant};
+ghost use Rattle.op_meaning.specs.Outcomes.{Answers, world_after};
 ghost use Rattle.trace_format.specs.Steps.{places};
 ghost use Rattle.trace_format.specs.Text.{IsSpelled};
-ghost use Rattle.world_parts.specs.World.{apply_all};
 
 use crate::handles::is_directory;
 use crate::made::made_node;
@@ -33,7 +31,8 @@ const EXCHANGE: u32 = 2;
 
 /// The tests of a removal of a file, or of a directory.
 fn may_remove(state: &State, removes_directory: bool, node: u32) -> Result<(), Errno>
-    ensures { result ≡ meaning.may_remove state.now removes_directory (target state.now.nodes node) }
+    ensures { result
+        ≡ meaning.may_remove state.now removes_directory (target state.now.nodes node) }
 {
     match (removes_directory, is_directory(node, state)) {
         (false, true) => Err(Errno::EISDIR),
@@ -49,7 +48,8 @@ pub(crate) fn unlinking<'a>(
     removes_directory: bool,
     state: &State,
 ) -> Result<NameChanges<'a>, Errno>
-    ensures { decision_meant state.now.nodes result ≡ unlinkat_meaning state.now (path_meant path.entry) removes_directory }
+    ensures { decision_meant state.now.nodes result
+        ≡ unlinkat_meaning state.now (path_meant path.entry) removes_directory }
 {
     let place = state.walk(path.directory, path.text)?;
     let Some(node) = place.node else {
@@ -63,21 +63,23 @@ pub(crate) fn unlinking<'a>(
     }))
 }
 
-/// Takes a name away: that of a directory without names where it `removes_directory`, that of a file
-/// where it doesn't, after unlink(2) and rmdir(2).
+/// Takes a name away: that of a directory without names where it `removes_directory`, that of a
+/// file where it doesn't, after unlink(2) and rmdir(2).
 ///
 /// # Errors
 ///
-/// Want of memory. The outcome has the error of the first test that fails: those of the walk, ENOENT,
-/// EISDIR, ENOTDIR, ENOTEMPTY.
+/// Want of memory. The outcome has the error of the first test that fails: those of the walk,
+/// ENOENT, EISDIR, ENOTDIR, ENOTEMPTY.
 pub(crate) fn unlinkat(
     alloc: Global,
     path: PathAt<'_>,
     removes_directory: bool,
     state: &mut State,
 ) -> Result<Outcome, AllocError>
-    ensures answer { IfOk result (λ o. answered o ≡ answer_of (unlinkat_meaning state.old (path_meant path.entry) removes_directory)) }
-    ensures state { OnOk result (state.new ≡ apply_all (changes_of (unlinkat_meaning state.old (path_meant path.entry) removes_directory)) state.old) }
+    ensures answer { IfOk result
+        (Answers (unlinkat_meaning state.old (path_meant path.entry) removes_directory)) }
+    ensures state { OnOk result (state.new ≡ world_after state.old
+        (unlinkat_meaning state.old (path_meant path.entry) removes_directory)) }
 {
     carry_out(alloc, unlinking(path, removes_directory, state), state)
 }
@@ -86,7 +88,8 @@ pub(crate) fn unlinkat(
 ///
 /// # Errors
 ///
-/// Want of memory. The outcome has the error of the first test that fails: those of the walk, EEXIST.
+/// Want of memory. The outcome has the error of the first test that fails: those of the walk,
+/// EEXIST.
 pub(crate) fn mkdirat(
     alloc: Global,
     trace: &Trace,
@@ -96,8 +99,10 @@ pub(crate) fn mkdirat(
 ) -> Result<Outcome, AllocError>
     requires trace { IsSpelled trace.now }
     requires place { place < places trace.now }
-    ensures answer { IfOk result (λ o. answered o ≡ answer_of (mkdirat_meaning trace.now state.old place (path_meant path.entry))) }
-    ensures state { OnOk result (state.new ≡ apply_all (changes_of (mkdirat_meaning trace.now state.old place (path_meant path.entry))) state.old) }
+    ensures answer { IfOk result
+        (Answers (mkdirat_meaning trace.now state.old place (path_meant path.entry))) }
+    ensures state { OnOk result (state.new ≡ world_after state.old
+        (mkdirat_meaning trace.now state.old place (path_meant path.entry))) }
 {
     let found = match state.walk(path.directory, path.text) {
         Ok(found) => found,
@@ -118,7 +123,8 @@ pub(crate) fn linking<'a>(
     new: PathAt<'a>,
     state: &State,
 ) -> Result<NameChanges<'a>, Errno>
-    ensures { decision_meant state.now.nodes result ≡ linkat_meaning state.now (path_meant old.entry) (path_meant new.entry) }
+    ensures { decision_meant state.now.nodes result
+        ≡ linkat_meaning state.now (path_meant old.entry) (path_meant new.entry) }
 {
     let from = state.walk(old.directory, old.text)?;
     let to = state.walk(new.directory, new.text)?;
@@ -142,23 +148,26 @@ pub(crate) fn linking<'a>(
 ///
 /// # Errors
 ///
-/// Want of memory. The outcome has the error of the first test that fails: those of the walks, ENOENT,
-/// EEXIST, EPERM.
+/// Want of memory. The outcome has the error of the first test that fails: those of the walks,
+/// ENOENT, EEXIST, EPERM.
 pub(crate) fn linkat(
     alloc: Global,
     old: PathAt<'_>,
     new: PathAt<'_>,
     state: &mut State,
 ) -> Result<Outcome, AllocError>
-    ensures answer { IfOk result (λ o. answered o ≡ answer_of (linkat_meaning state.old (path_meant old.entry) (path_meant new.entry))) }
-    ensures state { OnOk result (state.new ≡ apply_all (changes_of (linkat_meaning state.old (path_meant old.entry) (path_meant new.entry))) state.old) }
+    ensures answer { IfOk result
+        (Answers (linkat_meaning state.old (path_meant old.entry) (path_meant new.entry))) }
+    ensures state { OnOk result (state.new ≡ world_after state.old
+        (linkat_meaning state.old (path_meant old.entry) (path_meant new.entry))) }
 {
     carry_out(alloc, linking(old, new, state), state)
 }
 
 /// The tests of a rename onto a name that is there.
 fn may_replace(state: &State, old: u32, new: u32) -> Result<(), Errno>
-    ensures { result ≡ meaning.may_replace state.now (target state.now.nodes old) (target state.now.nodes new) }
+    ensures { result
+        ≡ meaning.may_replace state.now (target state.now.nodes old) (target state.now.nodes new) }
 {
     match (is_directory(old, state), is_directory(new, state)) {
         (true, false) => Err(Errno::ENOTDIR),
@@ -170,7 +179,8 @@ fn may_replace(state: &State, old: u32, new: u32) -> Result<(), Errno>
 
 /// Whether a path leads below a node.
 fn goes_below(state: &State, node: u32, path: PathAt<'_>) -> bool
-    ensures { result ≡ meaning.goes_below state.now (target state.now.nodes node) (path_meant path.entry) }
+    ensures { result
+        ≡ meaning.goes_below state.now (target state.now.nodes node) (path_meant path.entry) }
 {
     is_directory(node, state) && state.is_above(node, path.directory, path.text)
 }
@@ -182,7 +192,8 @@ fn moving<'a>(
     to: Place<'a>,
     node: u32,
 ) -> Result<NameChanges<'a>, Errno>
-    ensures { decision_meant state.now.nodes result ≡ move_meaning state.now (place_meant state.now.nodes from.entry) (place_meant state.now.nodes to.entry) (target state.now.nodes node) (option_map (target state.now.nodes) to.entry.node) }
+    ensures { decision_meant state.now.nodes result
+        ≡ move_meant state.now from.entry to.entry node }
 {
     if let Some(there) = to.node {
         if there == node {
@@ -206,7 +217,8 @@ fn moving<'a>(
 
 /// The exchange of two names. Where both lead to one node nothing changes.
 fn exchanged<'a>(from: Place<'a>, to: Place<'a>, node: u32, there: u32) -> NameChanges<'a>
-    ensures { (tree : Tree) → changes_meant tree result ≡ meaning.exchanged (place_meant tree from.entry) (place_meant tree to.entry) (target tree node) (target tree there) }
+    ensures { (tree : Tree)
+        → changes_meant tree result ≡ exchange_meant tree from.entry to.entry node there }
 {
     if node == there {
         return NameChanges::Nothing;
@@ -232,7 +244,8 @@ pub(crate) fn renaming<'a>(
     flags: u32,
     state: &State,
 ) -> Result<NameChanges<'a>, Errno>
-    ensures { decision_meant state.now.nodes result ≡ renameat_meaning state.now (path_meant old.entry) (path_meant new.entry) flags }
+    ensures { decision_meant state.now.nodes result
+        ≡ renameat_meaning state.now (path_meant old.entry) (path_meant new.entry) flags }
 {
     let from = state.walk(old.directory, old.text)?;
     let to = state.walk(new.directory, new.text)?;
@@ -261,8 +274,8 @@ pub(crate) fn renaming<'a>(
 ///
 /// # Errors
 ///
-/// Want of memory. The outcome has the error of the first test that fails: those of the walks, ENOENT,
-/// EEXIST, EINVAL, ENOTDIR, EISDIR, ENOTEMPTY.
+/// Want of memory. The outcome has the error of the first test that fails: those of the walks,
+/// ENOENT, EEXIST, EINVAL, ENOTDIR, EISDIR, ENOTEMPTY.
 pub(crate) fn renameat(
     alloc: Global,
     old: PathAt<'_>,
@@ -270,8 +283,10 @@ pub(crate) fn renameat(
     flags: u32,
     state: &mut State,
 ) -> Result<Outcome, AllocError>
-    ensures answer { IfOk result (λ o. answered o ≡ answer_of (renameat_meaning state.old (path_meant old.entry) (path_meant new.entry) flags)) }
-    ensures state { OnOk result (state.new ≡ apply_all (changes_of (renameat_meaning state.old (path_meant old.entry) (path_meant new.entry) flags)) state.old) }
+    ensures answer { IfOk result
+        (Answers (renameat_meaning state.old (path_meant old.entry) (path_meant new.entry) flags)) }
+    ensures state { OnOk result (state.new ≡ world_after state.old
+        (renameat_meaning state.old (path_meant old.entry) (path_meant new.entry) flags)) }
 {
     carry_out(alloc, renaming(old, new, flags, state), state)
 }

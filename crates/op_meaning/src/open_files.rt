@@ -1,12 +1,13 @@
 //! The other operations on open files.
-ghost use Rattle.std.specs.Prelude.{◌≡◌, ◌+◌, ◌≤◌, ℕ, ℤ, [], ◌∷◌, IfOk, MatchResult, OnOk, Ok, Err, suc, zero};
+ghost use Rattle.std.specs.Prelude.{◌≡◌, ◌+◌, ◌≤◌, ℕ, ℤ, [], ◌∷◌, IfOk, OnOk, suc, zero};
 ghost use Rattle.entry_checks.specs.Meant.{file_meant};
 ghost use Rattle.entry_checks.specs.Operation.{file_limit};
 ghost use Rattle.entry_checks.specs.Operation as operation;
+ghost use Rattle.op_meaning.specs.Deciding.{Decides, allocating};
 ghost use Rattle.op_meaning.specs.Handles.{allocation_meant};
-ghost use Rattle.op_meaning.specs.Meaning.{allocate, close_meaning, done, extended, fallocate_meaning, ftruncate_meaning, meaning};
-ghost use Rattle.op_meaning.specs.Outcomes.{answer_of, answered};
-ghost use Rattle.op_meaning.specs.Step.{changes_of};
+ghost use Rattle.op_meaning.specs.Meaning.{allocate, close_meaning, done, extended};
+ghost use Rattle.op_meaning.specs.Meaning.{fallocate_meaning, ftruncate_meaning, meaning};
+ghost use Rattle.op_meaning.specs.Outcomes.{Answers, world_after};
 ghost use Rattle.world_parts.specs.World.{apply_all, set_size};
 
 use crate::allocating::{Allocation, allocation_of};
@@ -32,7 +33,8 @@ pub(crate) fn fsync(
     file: FileNumber,
     state: &State,
 ) -> Outcome
-    ensures { (k : ℕ) → answered result ≡ answer_of (meaning trace.now k ring state.now (operation.fsync (file_meant file))) }
+    ensures { (k : ℕ)
+        → Answers (meaning trace.now k ring state.now (operation.fsync (file_meant file))) result }
 {
     match held(trace, ring, file, state) {
         Some(_) => finished(alloc),
@@ -50,7 +52,9 @@ pub fn allocatable(
     mode: u32,
     state: &State,
 ) -> Result<(u32, Allocation), Errno>
-    ensures meaning { MatchResult result (λ x. fallocate_meaning trace.now state.now ring (file_meant file) offset size mode ≡ Ok (done (allocate state.now x.0 offset (offset + size) (allocation_meant x.1)))) (λ e. fallocate_meaning trace.now state.now ring (file_meant file) offset size mode ≡ Err e) }
+    ensures meaning { Decides
+        (fallocate_meaning trace.now state.now ring (file_meant file) offset size mode)
+        (allocating state.now offset size) result }
     ensures place { IfOk result (λ x. offset + size ≤ file_limit) }
 {
     let file = open_file(trace, ring, file, state).ok_or(Errno::EBADF)?;
@@ -85,7 +89,8 @@ fn allocate(
     state: &mut State,
 ) -> Result<(), AllocError>
     requires { end ≤ file_limit }
-    ensures { OnOk result (state.new ≡ apply_all (allocate state.old node offset end (allocation_meant allocation)) state.old) }
+    ensures { OnOk result (state.new
+        ≡ apply_all (allocate state.old node offset end (allocation_meant allocation)) state.old) }
 {
     match allocation {
         Allocation::Extend => extend(node, end, state),
@@ -109,8 +114,10 @@ pub(crate) fn fallocate(
     mode: u32,
     state: &mut State,
 ) -> Result<Outcome, AllocError>
-    ensures answer { IfOk result (λ o. answered o ≡ answer_of (fallocate_meaning trace.now state.old ring (file_meant file) offset size mode)) }
-    ensures state { OnOk result (state.new ≡ apply_all (changes_of (fallocate_meaning trace.now state.old ring (file_meant file) offset size mode)) state.old) }
+    ensures answer { IfOk result
+        (Answers (fallocate_meaning trace.now state.old ring (file_meant file) offset size mode)) }
+    ensures state { OnOk result (state.new ≡ world_after state.old
+        (fallocate_meaning trace.now state.old ring (file_meant file) offset size mode)) }
 {
     match allocatable(trace, ring, file, offset, size, mode, state) {
         Ok((node, allocation)) => {
@@ -129,7 +136,8 @@ pub fn resizable(
     size: u64,
     state: &State,
 ) -> Result<u32, Errno>
-    ensures meaning { MatchResult result (λ node. ftruncate_meaning trace.now state.now ring (file_meant file) size ≡ Ok (done (set_size node size ∷ []))) (λ e. ftruncate_meaning trace.now state.now ring (file_meant file) size ≡ Err e) }
+    ensures meaning { Decides (ftruncate_meaning trace.now state.now ring (file_meant file) size)
+        (λ node. done (set_size node size ∷ [])) result }
     ensures place { IfOk result (λ _. size ≤ file_limit) }
 {
     let file = open_file(trace, ring, file, state).ok_or(Errno::EBADF)?;
@@ -151,8 +159,10 @@ pub(crate) fn ftruncate(
     size: u64,
     state: &mut State,
 ) -> Result<Outcome, AllocError>
-    ensures answer { IfOk result (λ o. answered o ≡ answer_of (ftruncate_meaning trace.now state.old ring (file_meant file) size)) }
-    ensures state { OnOk result (state.new ≡ apply_all (changes_of (ftruncate_meaning trace.now state.old ring (file_meant file) size)) state.old) }
+    ensures answer { IfOk result
+        (Answers (ftruncate_meaning trace.now state.old ring (file_meant file) size)) }
+    ensures state { OnOk result (state.new ≡ world_after state.old
+        (ftruncate_meaning trace.now state.old ring (file_meant file) size)) }
 {
     match resizable(trace, ring, file, size, state) {
         Ok(node) => {
@@ -171,8 +181,9 @@ fn close_descriptor(
     number: i32,
     state: &mut State,
 ) -> Result<Outcome, AllocError>
-    ensures answer { IfOk result (λ o. answered o ≡ answer_of (close_meaning trace.now state.old ring number zero)) }
-    ensures state { OnOk result (state.new ≡ apply_all (changes_of (close_meaning trace.now state.old ring number zero)) state.old) }
+    ensures answer { IfOk result (Answers (close_meaning trace.now state.old ring number zero)) }
+    ensures state { OnOk result
+        (state.new ≡ world_after state.old (close_meaning trace.now state.old ring number zero)) }
 {
     let descriptor = match unsigned(number) {
         Some(descriptor) => descriptor,
@@ -193,8 +204,10 @@ fn close_slot(
     slot: u32,
     state: &mut State,
 ) -> Result<Outcome, AllocError>
-    ensures answer { (number : ℤ) → IfOk result (λ o. answered o ≡ answer_of (close_meaning trace.now state.old ring number (suc slot))) }
-    ensures state { (number : ℤ) → OnOk result (state.new ≡ apply_all (changes_of (close_meaning trace.now state.old ring number (suc slot))) state.old) }
+    ensures answer { (number : ℤ)
+        → IfOk result (Answers (close_meaning trace.now state.old ring number (suc slot))) }
+    ensures state { (number : ℤ) → OnOk result (state.new
+        ≡ world_after state.old (close_meaning trace.now state.old ring number (suc slot))) }
 {
     if slot as usize >= slot_count(trace, ring) {
         return Ok(Err(Errno::EINVAL));
@@ -206,8 +219,8 @@ fn close_slot(
     Ok(finished(alloc))
 }
 
-/// CLOSE: empties the registered file that a file index names, which is one more than its number, or frees
-/// the descriptor where it names none.
+/// CLOSE: empties the registered file that a file index names, which is one more than its number,
+/// or frees the descriptor where it names none.
 pub(crate) fn close(
     alloc: Global,
     trace: &Trace,
@@ -216,8 +229,10 @@ pub(crate) fn close(
     file_index: u32,
     state: &mut State,
 ) -> Result<Outcome, AllocError>
-    ensures answer { IfOk result (λ o. answered o ≡ answer_of (close_meaning trace.now state.old ring number file_index)) }
-    ensures state { OnOk result (state.new ≡ apply_all (changes_of (close_meaning trace.now state.old ring number file_index)) state.old) }
+    ensures answer { IfOk result
+        (Answers (close_meaning trace.now state.old ring number file_index)) }
+    ensures state { OnOk result (state.new
+        ≡ world_after state.old (close_meaning trace.now state.old ring number file_index)) }
 {
     match file_index.checked_sub(1) {
         Some(slot) => close_slot(alloc, trace, ring, slot, state),

@@ -1,14 +1,14 @@
 //! The operation that opens files: OPENAT.
-ghost use Rattle.std.specs.Prelude.{◌≡◌, ◌<◌, ℕ, IfOk, OnOk};
+ghost use Rattle.std.specs.Prelude.{◌≡◌, ◌<◌, IfOk, OnOk};
 ghost use Rattle.std.specs.Option.{option_map};
 ghost use Rattle.entry_checks.specs.Meant.{flags_meant, path_meant};
 ghost use Rattle.file_tree.specs.Found.{place_meant};
 ghost use Rattle.file_tree.specs.Tree.{target};
 ghost use Rattle.op_meaning.specs.Meaning as meaning;
-ghost use Rattle.op_meaning.specs.Meaning.{found_or_made, open_changes, openat_meaning};
-ghost use Rattle.op_meaning.specs.Opening.{opening_meant, room_found, room_meant};
-ghost use Rattle.op_meaning.specs.Outcomes.{answered, answer_of};
-ghost use Rattle.op_meaning.specs.Step.{changes_of};
+ghost use Rattle.op_meaning.specs.Meaning.{found_or_made};
+ghost use Rattle.op_meaning.specs.Opening.{room_found, room_meant, IsOpening};
+ghost use Rattle.op_meaning.specs.Opening.{changes_at, openat_meant};
+ghost use Rattle.op_meaning.specs.Outcomes.{Answers, world_after};
 ghost use Rattle.trace_format.specs.Steps.{places};
 ghost use Rattle.trace_format.specs.Text.{IsSpelled};
 ghost use Rattle.world_parts.specs.World.{apply_all};
@@ -37,7 +37,8 @@ pub(crate) struct Opening<'a> {
     pub room: Room,
 }
 
-/// The room for a description: the slot before `file_index`, or where that is 0 the lowest free descriptor.
+/// The room for a description: the slot before `file_index`, or where that is 0 the lowest free
+/// descriptor.
 fn find_room(trace: &Trace, ring: u8, file_index: u32, state: &State) -> Result<Room, Errno>
     requires { IsSpelled trace.now }
     ensures { room_found result ≡ meaning.room trace.now state.now ring file_index }
@@ -74,7 +75,8 @@ fn may_open_node(state: &State, flags: OpenAtFlags, node: u32) -> Result<(), Err
 
 /// The tests of an opening on what a path leads to.
 fn may_open(state: &State, flags: OpenAtFlags, node: Option<u32>) -> Result<(), Errno>
-    ensures { result ≡ meaning.may_open (flags_meant flags) (option_map (target state.now.nodes) node) }
+    ensures { result
+        ≡ meaning.may_open (flags_meant flags) (option_map (target state.now.nodes) node) }
 {
     match node {
         Some(node) => may_open_node(state, flags, node),
@@ -93,7 +95,8 @@ pub(crate) fn find_opening<'a>(
     state: &State,
 ) -> Result<Opening<'a>, Errno>
     requires { IsSpelled trace.now }
-    ensures { (k : ℕ) → opening_meant state.now.nodes trace.now k ring (flags_meant flags) result ≡ openat_meaning trace.now state.now k ring (path_meant path.entry) (flags_meant flags) file_index }
+    ensures { IsOpening trace.now state.now ring (path_meant path.entry)
+        (flags_meant flags) file_index result }
 {
     let room = find_room(trace, ring, file_index, state)?;
     let place = state.walk(path.directory, path.text)?;
@@ -112,8 +115,8 @@ fn access_of(number: u8) -> Access
     }
 }
 
-/// Makes the file that is opened where it is missing, and else cuts it to nothing where it `truncates`.
-/// Answers its node.
+/// Makes the file that is opened where it is missing, and else cuts it to nothing where it
+/// `truncates`. Answers its node.
 fn open_node(
     alloc: Global,
     made: u32,
@@ -121,8 +124,10 @@ fn open_node(
     flags: OpenAtFlags,
     state: &mut State,
 ) -> Result<u32, AllocError>
-    ensures node { IfOk result (λ node. node ≡ (found_or_made made (option_map (target state.old.nodes) place.entry.node)).node) }
-    ensures state { OnOk result (state.new ≡ apply_all (open_changes (flags_meant flags) made (place_meant state.old.nodes place.entry) (option_map (target state.old.nodes) place.entry.node)) state.old) }
+    ensures node { IfOk result (λ node. node
+        ≡ (found_or_made made (option_map (target state.old.nodes) place.entry.node)).node) }
+    ensures state { OnOk result (state.new ≡ apply_all
+        (changes_at (flags_meant flags) made (place_meant state.old.nodes place.entry)) state.old) }
 {
     let Some(node) = place.node else {
         state.add_node(alloc, made, Kind::File)?;
@@ -143,8 +148,10 @@ pub(crate) fn fill(
     description: u32,
     state: &mut State,
 ) -> Result<Outcome, AllocError>
-    ensures answer { IfOk result (λ o. answered o ≡ answer_of (Ok (meaning.filled ring (room_meant room) description))) }
-    ensures state { OnOk result (state.new ≡ apply_all (meaning.filled ring (room_meant room) description).changes state.old) }
+    ensures answer { IfOk result
+        (Answers (Ok (meaning.filled ring (room_meant room) description))) }
+    ensures state { OnOk result (state.new
+        ≡ apply_all (meaning.filled ring (room_meant room) description).changes state.old) }
 {
     match room {
         Room::Slot(slot) => {
@@ -158,13 +165,13 @@ pub(crate) fn fill(
     }
 }
 
-/// Opens a file, after open(2), into a slot of the ring before `file_index`, or where that is 0 at the lowest
-/// free descriptor, whose number it answers.
+/// Opens a file, after open(2), into a slot of the ring before `file_index`, or where that is 0 at
+/// the lowest free descriptor, whose number it answers.
 ///
 /// # Errors
 ///
-/// Want of memory. The outcome has the error of the first test that fails: EMFILE, EINVAL, those of the
-/// walk, ENOENT, EEXIST, EISDIR, ENOTDIR.
+/// Want of memory. The outcome has the error of the first test that fails: EMFILE, EINVAL, those of
+/// the walk, ENOENT, EEXIST, EISDIR, ENOTDIR.
 pub(crate) fn openat(
     alloc: Global,
     trace: &Trace,
@@ -177,8 +184,10 @@ pub(crate) fn openat(
 ) -> Result<Outcome, AllocError>
     requires trace { IsSpelled trace.now }
     requires place { place < places trace.now }
-    ensures answer { IfOk result (λ o. answered o ≡ answer_of (openat_meaning trace.now state.old place ring (path_meant path.entry) (flags_meant flags) file_index)) }
-    ensures state { OnOk result (state.new ≡ apply_all (changes_of (openat_meaning trace.now state.old place ring (path_meant path.entry) (flags_meant flags) file_index)) state.old) }
+    ensures answer { IfOk result
+        (Answers (openat_meant trace.now state.old place ring path.entry flags file_index)) }
+    ensures state { OnOk result (state.new ≡ world_after state.old
+        (openat_meant trace.now state.old place ring path.entry flags file_index)) }
 {
     let opening = match find_opening(trace, ring, path, flags, file_index, state) {
         Ok(opening) => opening,

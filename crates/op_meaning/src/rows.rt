@@ -3,12 +3,10 @@ ghost use Rattle.std.specs.Prelude.{◌≡◌, ◌<◌, ◌≤◌, IfOk, IfSome,
 ghost use Rattle.entry_checks.specs.Meant.{meant};
 ghost use Rattle.entry_checks.specs.Operation.{asked};
 ghost use Rattle.op_meaning.specs.Meaning.{meaning};
-ghost use Rattle.op_meaning.specs.Outcomes.{answer_of, answered};
-ghost use Rattle.op_meaning.specs.Step.{changes_of};
+ghost use Rattle.op_meaning.specs.Outcomes.{Answers, world_after};
 ghost use Rattle.trace_format.specs.Sides.{most_moved};
 ghost use Rattle.trace_format.specs.Steps.{places};
 ghost use Rattle.trace_format.specs.Text.{IsSpelled};
-ghost use Rattle.world_parts.specs.World.{apply_all};
 
 use crate::naming::{linkat, mkdirat, renameat, unlinkat};
 use crate::open_files::{close, fallocate, fsync, ftruncate};
@@ -36,8 +34,10 @@ pub(crate) fn run_operation(
     requires trace { IsSpelled trace.now }
     requires place { place < places trace.now }
     requires short { IfSome (asked (meant op)) (λ n. n ≤ most_moved) }
-    ensures answer { IfOk result (λ o. answered o ≡ answer_of (meaning trace.now place ring state.old (meant op.entry))) }
-    ensures state { OnOk result (state.new ≡ apply_all (changes_of (meaning trace.now place ring state.old (meant op.entry))) state.old) }
+    ensures answer { IfOk result
+        (Answers (meaning trace.now place ring state.old (meant op.entry))) }
+    ensures state { OnOk result (state.new
+        ≡ world_after state.old (meaning trace.now place ring state.old (meant op.entry))) }
 {
     match op {
         Op::Nop => Ok(finished(alloc)),

@@ -1,19 +1,20 @@
 //! A place of a trace, run on a part of the world.
-ghost use Rattle.std.specs.Prelude.{◌≡◌, ◌<◌, ◌≤◌, ◌^◌, [], IfOk, IfSome, OnOk, Some, false, pos, true};
+ghost use Rattle.std.specs.Prelude.{◌≡◌, ◌<◌, ◌≤◌, ◌^◌, [], IfOk, IfSome};
+ghost use Rattle.std.specs.Prelude.{OnOk, Some, false, pos, true};
 ghost use Rattle.chain_plan.specs.Chain.{role};
-ghost use Rattle.entry_checks.specs.Check.{check};
 ghost use Rattle.entry_checks.specs.Meant.{meant};
 ghost use Rattle.entry_checks.specs.Operation.{asked};
 ghost use Rattle.op_meaning.specs.Outcomes.{answered, fails_as, reply_with};
 ghost use Rattle.op_meaning.specs.Runs.{run_on};
-ghost use Rattle.op_meaning.specs.Step.{breaks, changes_in, entry_turn, error_reply, posts, reply_of, running_turn, step_reply, step_world};
+ghost use Rattle.op_meaning.specs.Step.{breaks, error_reply, posts};
+ghost use Rattle.op_meaning.specs.Step.{reply_of, step_reply, step_world};
 ghost use Rattle.op_meaning.specs.Step as step;
+ghost use Rattle.op_meaning.specs.Turns.{turn_as, running_as, turn_world};
 ghost use Rattle.trace_format.specs.Sides.{is_side_of, most_moved};
 ghost use Rattle.trace_format.specs.Steps.{places};
 ghost use Rattle.trace_format.specs.Text.{IsSpelled};
 ghost use Rattle.world_parts.specs.Uses.{broken_meant};
 ghost use Rattle.world_parts.specs.World.{apply_all};
-ghost use Rattle.world_parts.specs.World as world;
 
 use crate::outcome::Outcome;
 use crate::reply::Reply;
@@ -87,7 +88,8 @@ pub fn run_on_state(
     }
 }
 
-/// Submits an entry: it is refused where it fails its tests, or stands in a chain in which a member does.
+/// Submits an entry: it is refused where it fails its tests, or stands in a chain in which a member
+/// does.
 fn submit(
     alloc: Global,
     place: u32,
@@ -101,8 +103,10 @@ fn submit(
     requires place { place < places trace.now }
     requires role { role_there.now ≡ role trace.now place }
     requires side { is_side_of entry.now.sqe entry.now.side ≡ true }
-    ensures reply { IfOk result (λ reply. reply ≡ reply_of trace.now place state.old (entry_turn ring entry.now role_there.now (world.broken state.old role_there.now.chain) (check trace.now.version entry.now))) }
-    ensures state { OnOk result (state.new ≡ apply_all (changes_in trace.now place state.old (entry_turn ring entry.now role_there.now (world.broken state.old role_there.now.chain) (check trace.now.version entry.now))) state.old) }
+    ensures reply { IfOk result (λ reply. reply ≡ reply_of trace.now place state.old
+        (turn_as trace.now state.old ring entry.now role_there.now)) }
+    ensures state { OnOk result (state.new ≡ turn_world trace.now place state.old
+        (turn_as trace.now state.old ring entry.now role_there.now)) }
 {
     let posted = role_there.member == 0 || !role_there.quiet;
     match check(entry, trace.version) {
@@ -132,8 +136,10 @@ fn execute(
     requires place { place < places trace.now }
     requires role { role_there.now ≡ role trace.now place }
     requires short { IfSome (asked (meant op)) (λ n. n ≤ most_moved) }
-    ensures reply { IfOk result (λ reply. reply ≡ reply_of trace.now place state.old (running_turn ring entry.now role_there.now (world.broken state.old role_there.now.chain) (meant op.entry))) }
-    ensures state { OnOk result (state.new ≡ apply_all (changes_in trace.now place state.old (running_turn ring entry.now role_there.now (world.broken state.old role_there.now.chain) (meant op.entry))) state.old) }
+    ensures reply { IfOk result (λ reply. reply ≡ reply_of trace.now place state.old
+        (running_as state.old ring entry.now role_there.now (meant op.entry))) }
+    ensures state { OnOk result (state.new ≡ turn_world trace.now place state.old
+        (running_as state.old ring entry.now role_there.now (meant op.entry))) }
 {
     match state.broken(role_there.chain) {
         Some(broken) if role_there.length >= 2 => {
@@ -158,8 +164,10 @@ fn run(
     requires place { place < places trace.now }
     requires role { role_there.now ≡ role trace.now place }
     requires short { IfSome (asked (meant op)) (λ n. n ≤ most_moved) }
-    ensures reply { IfOk result (λ reply. reply ≡ reply_of trace.now place state.old (step.runs ring entry.now (meant op.entry))) }
-    ensures state { OnOk result (state.new ≡ apply_all (changes_in trace.now place state.old (step.runs ring entry.now (meant op.entry))) state.old) }
+    ensures reply { IfOk result (λ reply. reply
+        ≡ reply_of trace.now place state.old (step.runs ring entry.now (meant op.entry))) }
+    ensures state { OnOk result (state.new
+        ≡ turn_world trace.now place state.old (step.runs ring entry.now (meant op.entry))) }
 {
     let asked = asked(&op);
     let outcome = run_operation(alloc, place, trace, ring, op, state)?;
@@ -194,8 +202,8 @@ fn asked(op: &Op<'_>) -> Option<u64>
     }
 }
 
-/// Whether an operation failed: a transfer where it moved other than was asked for, any other where it was
-/// refused.
+/// Whether an operation failed: a transfer where it moved other than was asked for, any other where
+/// it was refused.
 fn failed(asked: Option<u64>, outcome: &Outcome) -> bool
     ensures { result ≡ fails_as asked (answered outcome.now) }
 {
@@ -213,7 +221,8 @@ fn break_chain(
     fails: bool,
     state: &mut State,
 ) -> Result<(), AllocError>
-    ensures { OnOk result (state.new ≡ apply_all (breaks role_there.now entry.now fails) state.old) }
+    ensures { OnOk result
+        (state.new ≡ apply_all (breaks role_there.now entry.now fails) state.old) }
 {
     let is_last = role_there.length.saturating_sub(1) <= role_there.member;
     if !fails || entry.sqe.has(IO_HARDLINK) || is_last {

@@ -1,13 +1,16 @@
 //! Reads and writes.
-ghost use Rattle.std.specs.Prelude.{◌≡◌, ◌==◌, ◌+◌, ◌-◌, ◌^◌, ◌<◌, ◌≤◌, ℕ, List, IfOk, MatchResult, OnOk, Ok, Err, drop, length, min, take, unwrap_or, if◌then◌else◌, []};
+ghost use Rattle.std.specs.Prelude.{◌≡◌, ◌+◌, ◌-◌, ◌^◌, ◌<◌, ◌≤◌, IfOk, OnOk, Ok};
+ghost use Rattle.std.specs.Prelude.{drop, length, min, take, unwrap_or, []};
 ghost use Rattle.entry_checks.specs.Meant.{file_meant, span_meant};
 ghost use Rattle.entry_checks.specs.Operation.{file_limit};
 ghost use Rattle.extent_bytes.specs.Bytes.{range_of};
+ghost use Rattle.op_meaning.specs.Deciding.{DecidesReads, DecidesFixedReads};
+ghost use Rattle.op_meaning.specs.Deciding.{DecidesWrites, DecidesFixedWrite};
 ghost use Rattle.op_meaning.specs.Handles.{handle_meant};
-ghost use Rattle.op_meaning.specs.Meaning.{advance, bytes_in, done, read_effect, read_meaning, reply, span_bytes, span_destination, transfer_start, write_effect, write_meaning, write_start};
-ghost use Rattle.op_meaning.specs.Meaning as model;
-ghost use Rattle.op_meaning.specs.Outcomes.{answer_of, answered};
-ghost use Rattle.op_meaning.specs.Step.{changes_of};
+ghost use Rattle.op_meaning.specs.Meaning.{advance, bytes_in, transfer_start};
+ghost use Rattle.op_meaning.specs.Meaning.{write_meaning, write_start, readv_meaning};
+ghost use Rattle.op_meaning.specs.Meaning.{read_fixed_meaning, write_fixed_meaning};
+ghost use Rattle.op_meaning.specs.Outcomes.{Answers, world_after};
 ghost use Rattle.trace_format.specs.Sides.{most_moved};
 ghost use Rattle.world_parts.specs.World.{apply_all};
 ghost use Rattle.world_parts.specs.World as world;
@@ -37,7 +40,7 @@ pub fn readable_at(
     offset: u64,
     state: &State,
 ) -> Result<OpenFile, Errno>
-    ensures { MatchResult result (λ x. (n : ℕ) → read_meaning trace.now state.now ring (file_meant file) offset n (Ok reply) ≡ Ok (if n == 0 then done [] else read_effect state.now ring (handle_meant state.now x) offset n reply)) (λ e. (n : ℕ) → read_meaning trace.now state.now ring (file_meant file) offset n (Ok reply) ≡ Err e) }
+    ensures { DecidesReads trace.now state.now ring (file_meant file) offset result }
 {
     let file = readable(trace, ring, file, state)?;
     if is_bad_offset(offset) {
@@ -46,8 +49,8 @@ pub fn readable_at(
     Ok(file)
 }
 
-/// The open file that a read at an offset is from, and where in the registered buffer its bytes go, or why
-/// it is refused.
+/// The open file that a read at an offset is from, and where in the registered buffer its bytes go,
+/// or why it is refused.
 pub fn readable_into(
     trace: &Trace,
     ring: u8,
@@ -56,7 +59,8 @@ pub fn readable_into(
     span: BufferSpan,
     state: &State,
 ) -> Result<(OpenFile, u64), Errno>
-    ensures { MatchResult result (λ x. (n : ℕ) → read_meaning trace.now state.now ring (file_meant file) offset n (span_destination trace.now ring (span_meant span)) ≡ Ok (if n == 0 then done [] else read_effect state.now ring (handle_meant state.now x.0) offset n (model.into span.index x.1))) (λ e. (n : ℕ) → read_meaning trace.now state.now ring (file_meant file) offset n (span_destination trace.now ring (span_meant span)) ≡ Err e) }
+    ensures { DecidesFixedReads trace.now state.now ring (file_meant file) offset
+        (span_meant span) result }
 {
     let file = readable(trace, ring, file, state)?;
     let at = span_start(trace, ring, span).ok_or(Errno::EFAULT)?;
@@ -68,7 +72,8 @@ pub fn readable_into(
 
 /// Where so many bytes of a file from an offset on end, as far as it has them.
 fn end_in_file(node: u32, start: u64, count: u32, state: &State) -> u64
-    ensures bytes { range_of (bytes_in state.now node) start result ≡ take count (drop start (bytes_in state.now node)) }
+    ensures bytes { range_of (bytes_in state.now node) start result
+        ≡ take count (drop start (bytes_in state.now node)) }
     ensures count { result - start ≡ length (take count (drop start (bytes_in state.now node))) }
     ensures most { result - start ≤ count }
     ensures place { result - start ≤ file_limit - start }
@@ -84,7 +89,8 @@ fn bytes_from(
     count: u32,
     state: &State,
 ) -> Result<ReadBytes, AllocError>
-    ensures bytes { IfOk result (λ taken. taken ≡ take count (drop start (bytes_in state.now node))) }
+    ensures bytes { IfOk result
+        (λ taken. taken ≡ take count (drop start (bytes_in state.now node))) }
     ensures count { IfOk result (λ taken. length taken ≤ count) }
     ensures place { IfOk result (λ taken. length taken ≤ file_limit - start) }
 {
@@ -93,7 +99,8 @@ fn bytes_from(
 
 /// Moves the position of an open file to the end of a transfer that used it.
 fn advance(file: &OpenFile, offset: u64, end: u64, state: &mut State)
-    ensures { state.new ≡ apply_all (advance (handle_meant state.old file.now) offset end) state.old }
+    ensures { state.new
+        ≡ apply_all (advance (handle_meant state.old file.now) offset end) state.old }
 {
     if is_at_position(offset) {
         state.set_position(file.number, end);
@@ -110,8 +117,10 @@ pub(crate) fn read(
     total: u64,
     state: &mut State,
 ) -> Result<Outcome, AllocError>
-    ensures answer { IfOk result (λ o. answered o ≡ answer_of (read_meaning trace.now state.old ring (file_meant file) offset (min total most_moved) (Ok reply))) }
-    ensures state { OnOk result (state.new ≡ apply_all (changes_of (read_meaning trace.now state.old ring (file_meant file) offset (min total most_moved) (Ok reply))) state.old) }
+    ensures answer { IfOk result
+        (Answers (readv_meaning trace.now state.old ring (file_meant file) offset total)) }
+    ensures state { OnOk result (state.new ≡ world_after state.old
+        (readv_meaning trace.now state.old ring (file_meant file) offset total)) }
 {
     let file = match readable_at(trace, ring, file, offset, state) {
         Ok(file) => file,
@@ -140,8 +149,10 @@ pub(crate) fn read_fixed(
     span: BufferSpan,
     state: &mut State,
 ) -> Result<Outcome, AllocError>
-    ensures answer { IfOk result (λ o. answered o ≡ answer_of (read_meaning trace.now state.old ring (file_meant file) offset (min span.length most_moved) (span_destination trace.now ring (span_meant span)))) }
-    ensures state { OnOk result (state.new ≡ apply_all (changes_of (read_meaning trace.now state.old ring (file_meant file) offset (min span.length most_moved) (span_destination trace.now ring (span_meant span)))) state.old) }
+    ensures answer { IfOk result (Answers
+        (read_fixed_meaning trace.now state.old ring (file_meant file) offset (span_meant span))) }
+    ensures state { OnOk result (state.new ≡ world_after state.old
+        (read_fixed_meaning trace.now state.old ring (file_meant file) offset (span_meant span))) }
 {
     let (file, at) = match readable_into(trace, ring, file, offset, span, state) {
         Ok(found) => found,
@@ -180,7 +191,7 @@ pub fn writable_at(
     count: usize,
     state: &State,
 ) -> Result<(OpenFile, u64), Errno>
-    ensures meaning { MatchResult result (λ x. (new : List ℕ) → length new ≡ count → write_meaning trace.now state.now ring (file_meant file) offset (Ok new) ≡ Ok (if length new == 0 then done [] else write_effect (handle_meant state.now x.0) offset x.1 (take (file_limit - x.1) new))) (λ e. (new : List ℕ) → length new ≡ count → write_meaning trace.now state.now ring (file_meant file) offset (Ok new) ≡ Err e) }
+    ensures meaning { DecidesWrites trace.now state.now ring (file_meant file) offset count result }
     ensures place { IfOk result (λ x. 0 < count → x.1 < file_limit) }
 {
     let file = writable(trace, ring, file, state)?;
@@ -205,8 +216,10 @@ pub(crate) fn write(
     state: &mut State,
 ) -> Result<Outcome, AllocError>
     requires { length bytes.now ≤ most_moved }
-    ensures answer { IfOk result (λ o. answered o ≡ answer_of (write_meaning trace.now state.old ring (file_meant file) offset (Ok bytes.now))) }
-    ensures state { OnOk result (state.new ≡ apply_all (changes_of (write_meaning trace.now state.old ring (file_meant file) offset (Ok bytes.now))) state.old) }
+    ensures answer { IfOk result
+        (Answers (write_meaning trace.now state.old ring (file_meant file) offset (Ok bytes.now))) }
+    ensures state { OnOk result (state.new ≡ world_after state.old
+        (write_meaning trace.now state.old ring (file_meant file) offset (Ok bytes.now))) }
 {
     let (file, start) = match writable_at(trace, ring, file, offset, bytes.len(), state) {
         Ok(found) => found,
@@ -223,8 +236,10 @@ pub(crate) fn write(
 
 /// How many bytes of a span, which starts at an offset of its buffer, a transfer moves.
 fn count_in_buffer(ring: u8, span: BufferSpan, at: u64, state: &State) -> u64
-    ensures count { result ≡ length (take (min span.length most_moved) (drop at (unwrap_or (world.buffer state.now ring span.index) []))) }
-    ensures inside { 0 < result → at + result ≤ length (unwrap_or (world.buffer state.now ring span.index) []) }
+    ensures count { result ≡ length (take (min span.length most_moved)
+        (drop at (unwrap_or (world.buffer state.now ring span.index) []))) }
+    ensures inside { 0 < result
+        → at + result ≤ length (unwrap_or (world.buffer state.now ring span.index) []) }
     ensures most { result ≤ most_moved }
 {
     let len = state.buffer_len(ring, u32::from(span.index)).unwrap_or(0);
@@ -232,8 +247,8 @@ fn count_in_buffer(ring: u8, span: BufferSpan, at: u64, state: &State) -> u64
         .min(u64::from(span.length.min(MOST_MOVED)))
 }
 
-/// A write of bytes of a registered buffer: the open file and where in it they go, where in the buffer they
-/// start, and how many there are.
+/// A write of bytes of a registered buffer: the open file and where in it they go, where in the
+/// buffer they start, and how many there are.
 struct BufferWrite {
     file: OpenFile,
     start: u64,
@@ -250,8 +265,10 @@ fn writable_from(
     span: BufferSpan,
     state: &State,
 ) -> Result<BufferWrite, Errno>
-    ensures meaning { MatchResult result (λ w. write_meaning trace.now state.now ring (file_meant file) offset (span_bytes trace.now state.now ring (span_meant span)) ≡ Ok (if w.count == 0 then done [] else write_effect (handle_meant state.now w.file) offset w.start (range_of (unwrap_or (world.buffer state.now ring span.index) []) w.at (w.at + w.count)))) (λ e. write_meaning trace.now state.now ring (file_meant file) offset (span_bytes trace.now state.now ring (span_meant span)) ≡ Err e) }
-    ensures inside { IfOk result (λ w. 0 < w.count → w.at + w.count ≤ length (unwrap_or (world.buffer state.now ring span.index) [])) }
+    ensures meaning { DecidesFixedWrite trace.now state.now ring (file_meant file) offset
+        (span_meant span) result }
+    ensures inside { IfOk result (λ w. 0 < w.count
+        → w.at + w.count ≤ length (unwrap_or (world.buffer state.now ring span.index) [])) }
     ensures fits { IfOk result (λ w. 0 < w.count → w.start + w.count ≤ file_limit) }
     ensures most { IfOk result (λ w. (w.at < 2 ^ 32) × (w.count ≤ most_moved)) }
 {
@@ -283,8 +300,10 @@ pub(crate) fn write_fixed(
     span: BufferSpan,
     state: &mut State,
 ) -> Result<Outcome, AllocError>
-    ensures answer { IfOk result (λ o. answered o ≡ answer_of (write_meaning trace.now state.old ring (file_meant file) offset (span_bytes trace.now state.old ring (span_meant span)))) }
-    ensures state { OnOk result (state.new ≡ apply_all (changes_of (write_meaning trace.now state.old ring (file_meant file) offset (span_bytes trace.now state.old ring (span_meant span)))) state.old) }
+    ensures answer { IfOk result (Answers
+        (write_fixed_meaning trace.now state.old ring (file_meant file) offset (span_meant span))) }
+    ensures state { OnOk result (state.new ≡ world_after state.old
+        (write_fixed_meaning trace.now state.old ring (file_meant file) offset (span_meant span))) }
 {
     let BufferWrite {
         file,

@@ -1,5 +1,6 @@
 //! The registered buffers of rings.
-ghost use Rattle.std.specs.Prelude.{◌≡◌, ◌+◌, ◌-◌, ◌≤◌, ◌↔◌, IfOk, IfSome, IsTrue, OnErr, OnOk, length, replicate};
+ghost use Rattle.std.specs.Prelude.{◌≡◌, ◌+◌, ◌-◌, ◌≤◌, ◌↔◌, IfOk, IfSome};
+ghost use Rattle.std.specs.Prelude.{IsTrue, OnErr, OnOk, length, replicate};
 ghost use Rattle.std.specs.Option.{option_map};
 ghost use Rattle.extent_bytes.specs.Bytes.{overlaid, overwritten, range_of, zeroed};
 ghost use Rattle.finite_maps.specs.Table.{empty, get, insert, pair_keys};
@@ -47,17 +48,19 @@ impl Buffers {
 
     /// Adds a buffer of zeros, `len` bytes long, in place of the one that was there.
     pub fn add(&mut self, ring: u8, index: u32, len: u32) -> Result<(), AllocError>
-        ensures ok { OnOk result (self.new ≡ insert pair_keys.total self.old (ring, index) (replicate len 0)) }
+        ensures ok { OnOk result
+            (self.new ≡ insert pair_keys.total self.old (ring, index) (replicate len 0)) }
         ensures err { OnErr result (self.new ≡ self.old) }
     {
         self.add_zeros(ring, index, len as u64)
     }
 
-    /// Adds a buffer of zeros, `len` bytes long, which may be more than a ring registers, in place of
-    /// the one that was there.
+    /// Adds a buffer of zeros, `len` bytes long, which may be more than a ring registers, in place
+    /// of the one that was there.
     pub fn add_zeros(&mut self, ring: u8, index: u32, len: u64) -> Result<(), AllocError>
         requires { len ≤ MAX_LEN }
-        ensures ok { OnOk result (self.new ≡ insert pair_keys.total self.old (ring, index) (replicate len 0)) }
+        ensures ok { OnOk result
+            (self.new ≡ insert pair_keys.total self.old (ring, index) (replicate len 0)) }
         ensures err { OnErr result (self.new ≡ self.old) }
     {
         let mut buffer = Extents::new(self.alloc);
@@ -79,7 +82,8 @@ impl Buffers {
     pub fn read(&self, ring: u8, index: u32, lo: u64, hi: u64) -> Result<Vec<u8>, AllocError>
         requires forward { lo ≤ hi }
         requires inside { hi ≤ length (bytes_at self.now ring index) }
-        ensures { IfOk result (λ bytes. bytes.items ≡ range_of (bytes_at self.now ring index) lo hi) }
+        ensures { IfOk result
+            (λ bytes. bytes.items ≡ range_of (bytes_at self.now ring index) lo hi) }
     {
         match self.entries.get(&(ring, index)) {
             Some(buffer) => buffer.read(lo, hi),
@@ -90,7 +94,8 @@ impl Buffers {
     /// Writes bytes over those of a buffer from `at` on. Those beyond its length are dropped, and
     /// where there is no buffer nothing changes.
     pub fn write(&mut self, ring: u8, index: u32, at: u64, bytes: &[u8]) -> Result<(), AllocError>
-        ensures ok { OnOk result (self.new ≡ rewritten_at (λ old. overlaid old at bytes.now) self.old ring index) }
+        ensures ok { OnOk result
+            (self.new ≡ rewritten_at (λ old. overlaid old at bytes.now) self.old ring index) }
         ensures err { OnErr result (self.new ≡ self.old) }
     {
         let Some(buffer) = self.entries.get_mut(&(ring, index)) else {
@@ -128,10 +133,11 @@ impl Buffers {
         }
     }
 
-    /// Makes the bytes of a buffer from `lo` up to `hi` zeros, as far as it has them. Where there is
-    /// no buffer nothing changes.
+    /// Makes the bytes of a buffer from `lo` up to `hi` zeros, as far as it has them. Where there
+    /// is no buffer nothing changes.
     pub fn zero(&mut self, ring: u8, index: u32, lo: u64, hi: u64) -> Result<(), AllocError>
-        ensures ok { OnOk result (self.new ≡ rewritten_at (λ old. overlaid old lo (replicate (hi - lo) 0)) self.old ring index) }
+        ensures ok { OnOk result (self.new
+            ≡ rewritten_at (λ old. overlaid old lo (replicate (hi - lo) 0)) self.old ring index) }
         ensures err { OnErr result (self.new ≡ self.old) }
     {
         let Some(buffer) = self.entries.get_mut(&(ring, index)) else {
@@ -148,7 +154,8 @@ impl Buffers {
         requires forward { lo ≤ hi }
         requires inside { hi ≤ length (bytes_at self.old ring index) }
         ensures part { IfOk result (λ part. part ≡ range_of (bytes_at self.old ring index) lo hi) }
-        ensures rest { OnOk result (self.new ≡ rewritten_at (λ old. zeroed old lo hi) self.old ring index) }
+        ensures rest { OnOk result
+            (self.new ≡ rewritten_at (λ old. zeroed old lo hi) self.old ring index) }
         ensures err { OnErr result (self.new ≡ self.old) }
     {
         let Some(buffer) = self.entries.get_mut(&(ring, index)) else {
@@ -166,7 +173,8 @@ impl Buffers {
         part: Extents,
     ) -> Result<(), AllocError>
         requires { lo + length part ≤ length (bytes_at self.old ring index) }
-        ensures ok { OnOk result (self.new ≡ rewritten_at (λ old. overwritten old lo part) self.old ring index) }
+        ensures ok { OnOk result
+            (self.new ≡ rewritten_at (λ old. overwritten old lo part) self.old ring index) }
         ensures err { OnErr result (self.new ≡ self.old) }
     {
         let Some(buffer) = self.entries.get_mut(&(ring, index)) else {

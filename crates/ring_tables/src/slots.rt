@@ -48,7 +48,8 @@ impl Slots {
 
     /// Fills a slot of a ring, or empties it, which takes no memory.
     pub fn set(&mut self, ring: u8, slot: u32, description: Option<u32>) -> Result<(), AllocError>
-        ensures ok { OnOk result (self.new ≡ assign pair_keys.total self.old (ring, slot) description) }
+        ensures ok { OnOk result
+            (self.new ≡ assign pair_keys.total self.old (ring, slot) description) }
         ensures err { OnErr result (self.new ≡ self.old) }
         ensures emptied { description ≡ None → IsOk result }
     {

@@ -1,5 +1,6 @@
 pub mod Grammar
 pub mod Read
+pub mod Sources
 pub mod Paths
 pub mod Sides
 pub mod Counts

@@ -1,7 +1,8 @@
 //! The header.
 ghost use Rattle.std.specs.Prelude.{◌≡◌, ◌≤◌, IfOk};
 ghost use Rattle.trace_format.specs.Counts.{places_limit};
-ghost use Rattle.trace_format.specs.Read.{Gives, reading};
+ghost use Rattle.trace_format.specs.Read.{Gives};
+ghost use Rattle.trace_format.specs.Sources.{counts_meant, reading_from, with_rest};
 ghost use Rattle.trace_format.specs.Text.{header, version_of, most_descriptors};
 
 use crate::fault::{Kind, ReadError, refused};
@@ -42,7 +43,8 @@ fn most_descriptors(version: Version) -> u32
 
 #[tactic(auto, unfolding(crate::specs::Text::header))]
 pub(crate) fn counts_of(source: Source<'_>) -> Result<(Counts, Source<'_>), ReadError>
-    ensures read { Gives (λ x. (record { version = x.0.version; items = x.0.items; descriptions = x.0.descriptions; rings = x.0.rings; records = x.0.records; descriptors = x.0.descriptors }, x.1.place, x.1.rest.now)) result (reading header source.entry.place source.entry.rest.now) }
+    ensures read { Gives (λ x. with_rest (counts_meant x.0, x.1)) result
+        (reading_from source.entry header) }
     ensures records { IfOk result (λ x. x.0.records ≤ places_limit) }
 {
     let (magic, source) = bytes_of(source, 8)?;

@@ -3,7 +3,8 @@ ghost use Rattle.std.specs.Prelude.{◌≡◌, false, [], is_some, IfOk};
 ghost use Rattle.trace_format.specs.Grammar.{several};
 ghost use Rattle.trace_format.specs.Names.{KnowsNames, kind_at};
 ghost use Rattle.trace_format.specs.Paths.{is_file};
-ghost use Rattle.trace_format.specs.Read.{Gives, reading};
+ghost use Rattle.trace_format.specs.Read.{Gives};
+ghost use Rattle.trace_format.specs.Sources.{reading_from, with_rest};
 ghost use Rattle.trace_format.specs.Text.{file, other_name, node, item, is_item};
 
 use crate::fault::{Kind, ReadError, refused};
@@ -16,7 +17,7 @@ use std::alloc::Global;
 
 #[tactic(auto, unfolding(crate::specs::Text::file))]
 fn file_of(alloc: Global, source: Source<'_>) -> Result<(Node, Source<'_>), ReadError>
-    ensures { Gives (λ x. (x.0, x.1.place, x.1.rest.now)) result (reading file source.entry.place source.entry.rest.now) }
+    ensures { Gives with_rest result (reading_from source.entry file) }
 {
     let (size, source) = u64_to(source, 1 << 40)?;
     let (stored, source) = u32_to(source, size.min(0xffff_ffff) as u32)?;
@@ -40,7 +41,7 @@ fn is_file_item(items: &[Item], number: u32) -> bool
 
 #[tactic(auto, unfolding(crate::specs::Text::other_name))]
 fn other_name_of<'a>(items: &[Item], source: Source<'a>) -> Result<(Node, Source<'a>), ReadError>
-    ensures { Gives (λ x. (x.0, x.1.place, x.1.rest.now)) result (reading (other_name items.now) source.entry.place source.entry.rest.now) }
+    ensures { Gives with_rest result (reading_from source.entry (other_name items.now)) }
 {
     let place = source.place;
     let (number, source) = u32_of(source)?;
@@ -56,7 +57,7 @@ fn node_of<'a>(
     items: &[Item],
     source: Source<'a>,
 ) -> Result<(Node, Source<'a>), ReadError>
-    ensures { Gives (λ x. (x.0, x.1.place, x.1.rest.now)) result (reading (node kind items.now) source.entry.place source.entry.rest.now) }
+    ensures { Gives with_rest result (reading_from source.entry (node kind items.now)) }
 {
     match kind {
         1 => Ok((Node::Directory, source)),
@@ -73,7 +74,8 @@ fn item_of<'a>(
     source: Source<'a>,
 ) -> Result<(Item, &'a [u8], Source<'a>), ReadError>
     requires { KnowsNames names.now items.now }
-    ensures read { Gives (λ x. (x.0, x.2.place, x.2.rest.now)) result (reading (item items.now) source.entry.place source.entry.rest.now) }
+    ensures read { Gives (λ x. with_rest (x.0, x.2)) result
+        (reading_from source.entry (item items.now)) }
     ensures path { IfOk result (λ x. x.0.path ≡ x.1.now) }
     ensures fresh { IfOk result (λ x. is_some (kind_at names.now x.1.now) ≡ false) }
 {
@@ -96,7 +98,8 @@ pub(crate) fn items_of(
     count: u32,
     source: Source<'_>,
 ) -> Result<(Vec<Item>, Source<'_>), ReadError>
-    ensures { Gives (λ x. (x.0.items, x.1.place, x.1.rest.now)) result (reading (several count item []) source.entry.place source.entry.rest.now) }
+    ensures { Gives (λ x. with_rest (x.0.items, x.1)) result
+        (reading_from source.entry (several count item [])) }
 {
     let mut items = Vec::new(alloc);
     let mut names = Names::new(alloc);

@@ -1,14 +1,15 @@
 //! Recorded traces of io_uring submissions, as bytes.
 //!
-//! A text is a header of 32 bytes (`URINGTRC`, the version, and how many items, descriptions, rings,
-//! records and descriptors follow), then the initial names and files, the open file descriptions, the
-//! table of ordinary descriptors, the rings with their slots and registered buffers, and the records in
-//! the order of the recording. All numbers are little-endian. `specs/Text.antt` has the format field by
-//! field, with the limit of each number and the fault of each test.
+//! A text is a header of 32 bytes (`URINGTRC`, the version, and how many items, descriptions,
+//! rings, records and descriptors follow), then the initial names and files, the open file
+//! descriptions, the table of ordinary descriptors, the rings with their slots and registered
+//! buffers, and the records in the order of the recording. All numbers are little-endian.
+//! `specs/Text.antt` has the format field by field, with the limit of each number and the fault of
+//! each test.
 //!
 //! [`read_trace`] gives the trace that the bytes spell, or the first fault in reading order;
-//! [`write_trace`] gives the bytes back. The entries and fills of the records are the trace's steps,
-//! numbered from 0 by their places: [`Trace::places`], [`Trace::step`].
+//! [`write_trace`] gives the bytes back. The entries and fills of the records are the trace's
+//! steps, numbered from 0 by their places: [`Trace::places`], [`Trace::step`].
 #![tactic(auto)]
 
 mod descriptions;

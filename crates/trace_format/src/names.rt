@@ -1,8 +1,10 @@
 //! The names so far.
-ghost use Rattle.std.specs.Prelude.{◌≡◌, ◌==◌, ◌||◌, OnOk, IfOk, is_some, unwrap_or, false, length, List};
+ghost use Rattle.std.specs.Prelude.{◌≡◌, ◌==◌, ◌||◌, OnOk, IfOk, is_some};
+ghost use Rattle.std.specs.Prelude.{unwrap_or, false, length, List};
 ghost use Rattle.trace_format.specs.declared.trace.Item.{Item};
 ghost use Rattle.trace_format.specs.Names.{kind_at, AddsName, KnowsNames};
-ghost use Rattle.trace_format.specs.Read.{Gives, reading};
+ghost use Rattle.trace_format.specs.Read.{Gives};
+ghost use Rattle.trace_format.specs.Sources.{reading_from, with_rest};
 ghost use Rattle.trace_format.specs.Text.{new_path};
 
 use crate::fault::{Kind, ReadError, refused};
@@ -45,7 +47,9 @@ pub(crate) fn path_of<'a>(
     names: &Names<'_>,
     source: Source<'a>,
 ) -> Result<(&'a [u8], Source<'a>), ReadError>
-    ensures read { (items : List Item) → KnowsNames names.now items → Gives (λ x. (x.0.now, x.1.place, x.1.rest.now)) result (reading (new_path items) source.entry.place source.entry.rest.now) }
+    ensures read { (items : List Item) → KnowsNames names.now items
+        → Gives (λ x. with_rest (x.0.now, x.1)) result
+        (reading_from source.entry (new_path items)) }
     ensures fresh { IfOk result (λ x. is_some (kind_at names.now x.0.now) ≡ false) }
 {
     let (len, source) = u16_of(source)?;

@@ -1,7 +1,8 @@
 //! Reading a trace.
 ghost use Rattle.std.specs.Prelude.{◌≡◌, ◌⊎◌, IfOk, IfErr};
 ghost use Rattle.trace_format.specs.Grammar.{fault};
-ghost use Rattle.trace_format.specs.Read.{Gives, reading, reading_trace, fault_of};
+ghost use Rattle.trace_format.specs.Read.{Gives, reading_trace, fault_of};
+ghost use Rattle.trace_format.specs.Sources.{reading_from, with_rest};
 ghost use Rattle.trace_format.specs.Text.{trace, SpellsTrace, IsRefusal};
 ghost use Rattle.trace_format.specs.declared.fault.Kind.TheVariants.{Memory};
 
@@ -21,7 +22,7 @@ const LONGEST: usize = 1_073_741_824;
 
 #[tactic(auto, unfolding(crate::specs::Text::trace))]
 fn trace_of(alloc: Global, source: Source<'_>) -> Result<(Trace, Source<'_>), ReadError>
-    ensures { Gives (λ x. (x.0, x.1.place, x.1.rest.now)) result (reading trace source.entry.place source.entry.rest.now) }
+    ensures { Gives with_rest result (reading_from source.entry trace) }
 {
     let (counts, source) = counts_of(source)?;
     let (items, source) = items_of(alloc, counts.items, source)?;
@@ -76,8 +77,8 @@ fn as_fault(error: ReadError) -> TraceFault
 ///
 /// # Errors
 ///
-/// The first fault in reading order, and [`Kind::Memory`] at 0 where an allocation was refused. A text of
-/// more than 1,073,741,824 bytes is [`Kind::Limit`] there before all else.
+/// The first fault in reading order, and [`Kind::Memory`] at 0 where an allocation was refused. A
+/// text of more than 1,073,741,824 bytes is [`Kind::Limit`] there before all else.
 pub fn read_trace(alloc: Global, bytes: &[u8]) -> Result<Trace, TraceFault>
     // What is read is spelled so.
     ensures trace { IfOk result (λ t. SpellsTrace bytes.now t) }

@@ -1,7 +1,8 @@
 //! The records.
 ghost use Rattle.std.specs.Prelude.{◌≡◌, ◌≤◌, ◌+◌, [], ◌∷◌, IfOk, vec_len};
 ghost use Rattle.trace_format.specs.Grammar.{several};
-ghost use Rattle.trace_format.specs.Read.{Gives, reading};
+ghost use Rattle.trace_format.specs.Read.{Gives};
+ghost use Rattle.trace_format.specs.Sources.{reading_from, with_rest};
 ghost use Rattle.trace_format.specs.Counts.{places_in, places_limit};
 ghost use Rattle.trace_format.specs.Text.{entry, enter, fill, one_record, buffer_len};
 
@@ -19,7 +20,7 @@ const PLACES: u32 = 1_048_576;
 
 #[tactic(auto, unfolding(crate::specs::Text::entry))]
 fn entry_of(alloc: Global, source: Source<'_>) -> Result<(Entry, Source<'_>), ReadError>
-    ensures { Gives (λ x. (x.0, x.1.place, x.1.rest.now)) result (reading entry source.entry.place source.entry.rest.now) }
+    ensures { Gives with_rest result (reading_from source.entry entry) }
 {
     let (bytes, source) = bytes_of(source, 64)?;
     let mut array = [0; 64];
@@ -40,7 +41,8 @@ fn entries_of(
     count: u16,
     source: Source<'_>,
 ) -> Result<(Vec<Entry>, Source<'_>), ReadError>
-    ensures read { Gives (λ x. (x.0.items, x.1.place, x.1.rest.now)) result (reading (several count (λ _. entry) []) source.entry.place source.entry.rest.now) }
+    ensures read { Gives (λ x. with_rest (x.0.items, x.1)) result
+        (reading_from source.entry (several count (λ _. entry) [])) }
     ensures len { IfOk result (λ x. vec_len x.0 ≡ count) }
 {
     let mut entries = Vec::new(alloc);
@@ -61,7 +63,7 @@ fn enter_of(
     source: Source<'_>,
 ) -> Result<(Record, Source<'_>), ReadError>
     requires { used ≤ places_limit }
-    ensures read { Gives (λ x. (x.0, x.1.place, x.1.rest.now)) result (reading (enter rings used) source.entry.place source.entry.rest.now) }
+    ensures read { Gives with_rest result (reading_from source.entry (enter rings used)) }
     ensures within { IfOk result (λ x. used + places_in (x.0 ∷ []) ≤ places_limit) }
 {
     let place = source.place;
@@ -98,7 +100,7 @@ fn fill_of<'a>(
     rings: &[Ring],
     source: Source<'a>,
 ) -> Result<(Record, Source<'a>), ReadError>
-    ensures read { Gives (λ x. (x.0, x.1.place, x.1.rest.now)) result (reading (fill rings.now) source.entry.place source.entry.rest.now) }
+    ensures read { Gives with_rest result (reading_from source.entry (fill rings.now)) }
     ensures one { IfOk result (λ x. places_in (x.0 ∷ []) ≡ 1) }
 {
     let place = source.place;
@@ -138,7 +140,7 @@ fn record_of<'a>(
     source: Source<'a>,
 ) -> Result<(Record, Source<'a>), ReadError>
     requires { used ≤ places_limit }
-    ensures read { Gives (λ x. (x.0, x.1.place, x.1.rest.now)) result (reading (one_record rings.now used) source.entry.place source.entry.rest.now) }
+    ensures read { Gives with_rest result (reading_from source.entry (one_record rings.now used)) }
     ensures within { IfOk result (λ x. used + places_in (x.0 ∷ []) ≤ places_limit) }
 {
     let place = source.place;
@@ -163,7 +165,8 @@ pub(crate) fn records_of<'a>(
     source: Source<'a>,
 ) -> Result<(Records, Source<'a>), ReadError>
     requires { count ≤ places_limit }
-    ensures { Gives (λ x. (x.0, x.1.place, x.1.rest.now)) result (reading (several count (λ earlier. one_record rings.now (places_in earlier)) []) source.entry.place source.entry.rest.now) }
+    ensures { Gives with_rest result (reading_from source.entry
+        (several count (λ earlier. one_record rings.now (places_in earlier)) [])) }
 {
     let mut records = Vec::new(alloc);
     let mut used: u32 = 0;

@@ -16,7 +16,8 @@ pub(crate) type Spans = BTreeMap<u64, u32>;
 /// only the last one that begins before its end can.
 pub(crate) fn overlaps_any(spans: &Spans, buffer: &Buffer) -> bool
     requires { buffer.now.address + buffer.now.len < 2 ^ 64 }
-    ensures { (earlier : List Buffer) → KnowsSpans spans.now earlier → result ≡ list_any (λ b. overlap b buffer.now) earlier }
+    ensures { (earlier : List Buffer) → KnowsSpans spans.now earlier
+        → result ≡ list_any (λ b. overlap b buffer.now) earlier }
 {
     if buffer.len == 0 {
         return false;

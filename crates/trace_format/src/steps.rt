@@ -59,7 +59,8 @@ impl Model for Records {
 
     ghost view = { λ a. a.items.items };
 
-    ghost invariant = { λ a. (a.spots.items ≡ spots_from 0 a.items.items) × (length a.spots.items ≤ places_limit) };
+    ghost invariant = { λ a. (a.spots.items ≡ spots_from 0 a.items.items)
+        × (length a.spots.items ≤ places_limit) };
 }
 
 /// How many steps a record has.
@@ -79,7 +80,8 @@ pub(crate) fn step_count(item: &Record) -> usize
 
 /// Adds the spots of a record.
 fn add_spots(spots: &mut Vec<Spot>, record_number: u32, count: u32) -> Result<(), AllocError>
-    ensures { IfOk result (λ _. spots.new.items ≡ spots.old.items ++ record_spots record_number count) }
+    ensures { IfOk result
+        (λ _. spots.new.items ≡ spots.old.items ++ record_spots record_number count) }
 {
     for entry in 0..count {
         spots.push(Spot {
@@ -91,8 +93,8 @@ fn add_spots(spots: &mut Vec<Spot>, record_number: u32, count: u32) -> Result<()
 }
 
 impl Records {
-    /// The records of a vector. Its time is linear in the records and their steps, and it takes memory
-    /// for the way from each place to its step.
+    /// The records of a vector. Its time is linear in the records and their steps, and it takes
+    /// memory for the way from each place to its step.
     pub fn from_vec(alloc: Global, items: Vec<Record>) -> Result<Self, AllocError>
         requires records { vec_len items ≤ places_limit }
         requires steps { places_in items.items ≤ places_limit }

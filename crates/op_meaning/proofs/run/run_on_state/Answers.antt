@@ -2,7 +2,8 @@ use Rattle.std.proofs.Common.{Some, ap, ◌∙◌}
 use Rattle.std.proofs.lemmas.Result.{IfOk-weaker, on_ok_weaker}
 use Rattle.trace_format.specs.Steps.{step_meant, action_meant}
 use Rattle.trace_format.proofs.Facts.{spelled_fits}
-use Rattle.op_meaning.proofs.Turns.{turn_as, submitted, reply_is, world_is}
+use Rattle.op_meaning.specs.Turns.{turn_as}
+use Rattle.op_meaning.proofs.Turns.{submitted, reply_is, world_is}
 use Rattle.op_meaning.proofs.run.run_on_state.Goals as goal
 
 pub submit-requires-clause-side : goal.submit-requires-clause-side
