@@ -41,8 +41,8 @@ fn has_dots(path: &[u8]) -> bool
     path.split(|b| *b == b'/').any(is_dots)
 }
 
-/// The tests of a path: ENOENT where it is empty, ENAMETOOLONG where it is too long, EINVAL where it ends
-/// in a slash or has a component `.` or `..`, which no trace has.
+/// The tests of a path: ENOENT where it is empty, ENAMETOOLONG where it is too long, EINVAL where
+/// it ends in a slash or has a component `.` or `..`, which no trace has.
 pub(crate) fn check_path(path: &[u8]) -> Result<(), Errno>
     ensures { result ≡ check_path path.now }
 {

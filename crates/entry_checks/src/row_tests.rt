@@ -4,7 +4,9 @@ ghost use Rattle.std.specs.Int.{cast_signed, w32};
 ghost use Rattle.sqe_codec.specs.Answers.{require};
 ghost use Rattle.sqe_codec.specs.declared.errno.Errno.TheVariants.{EINVAL};
 ghost use Rattle.trace_format.specs.Sides.{vector_len};
-ghost use Rattle.entry_checks.specs.Check.{check_transfer_flags, check_no_registered_file, are_open_flags, open_flags_of, is_zero, file_of, span_of, most_rename_flags};
+ghost use Rattle.entry_checks.specs.Check.{check_transfer_flags, check_no_registered_file};
+ghost use Rattle.entry_checks.specs.Check.{are_open_flags, open_flags_of, is_zero};
+ghost use Rattle.entry_checks.specs.Check.{file_of, span_of, most_rename_flags};
 ghost use Rattle.entry_checks.specs.Meant.{flags_meant, file_meant, span_meant};
 ghost use Rattle.entry_checks.specs.Answer.{check_submission, check_vector};
 
@@ -93,8 +95,9 @@ pub(crate) fn flag_or_none(sqe: &Sqe, flag: u32) -> Result<(), Errno>
     require(sqe.op_flags == 0 || sqe.op_flags == flag, Errno::EINVAL)
 }
 
-/// The flags of openat: an access, no bit that it doesn't take, no file made where a directory is asked
-/// for, no flag for an ordinary descriptor where a slot is named, and no slot that the kernel would choose.
+/// The flags of openat: an access, no bit that it doesn't take, no file made where a directory is
+/// asked for, no flag for an ordinary descriptor where a slot is named, and no slot that the kernel
+/// would choose.
 pub(crate) fn open_flags(sqe: &Sqe) -> Result<(), Errno>
     ensures { result ≡ require (are_open_flags sqe.now.op_flags sqe.now.file_index) EINVAL }
 {
@@ -122,7 +125,8 @@ pub(crate) fn numbered_slot(sqe: &Sqe) -> Result<(), Errno>
     require(sqe.file_index != ALLOCATED_SLOT, Errno::EINVAL)
 }
 
-/// The greatest flags of renameat2(2) that a version takes: `RENAME_NOREPLACE`, then `RENAME_EXCHANGE`.
+/// The greatest flags of renameat2(2) that a version takes: `RENAME_NOREPLACE`, then
+/// `RENAME_EXCHANGE`.
 pub(crate) fn most_rename_flags(version: Version) -> u32
     ensures { result ≡ most_rename_flags version }
 {

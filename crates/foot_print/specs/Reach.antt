@@ -3,7 +3,7 @@ use Rattle.std.specs.Prelude.{ℕ, zero, suc, Bool, true, false, not, ◌&&◌, 
 use Rattle.std.specs.List.{list_any}
 use Rattle.trace_format.specs.declared.trace.Trace.{Trace}
 use Rattle.sqe_codec.specs.Answers.{each, each_ok}
-use Rattle.entry_checks.specs.Operation.{Operation, nop, readv, writev, fsync, read_fixed, write_fixed, fallocate, openat, close, read, write, renameat, unlinkat, mkdirat, linkat, ftruncate, File, OpenFlags, file_limit, at_position}
+use Rattle.entry_checks.specs.Operation.{Operation, nop, readv, writev, fsync, read_fixed, write_fixed, fallocate, openat, close, read, write, renameat, unlinkat, mkdirat, linkat, ftruncate, File, Path, OpenFlags, file_limit, at_position}
 use Rattle.trace_format.specs.Sides.{most_moved}
 use Rattle.chain_plan.specs.Chain.{role}
 use Rattle.world_parts.specs.World.{World}
@@ -11,13 +11,11 @@ use Rattle.file_tree.specs.Tree.{Target}
 use Rattle.file_tree.specs.Walk.{Place, walk, is_directory}
 use Rattle.op_meaning.specs.Meaning.{made_node, made_description, Handle, allocation, Allocation, extend, reserve, punch, zero_extend, zero_within}
 use Rattle.op_meaning.specs.Step.{Turn, filled, canceled, runs, turn, turn_under}
-use Rattle.world_parts.specs.Items.{file_bytes, chain_flag, size_of, names_in, Item, one, all_names, all_bytes_and_sizes, all_positions, all_descriptions, all_descriptors, share, reads, writes, Footprint}
+use Rattle.world_parts.specs.Items.{file_bytes, chain_flag, size_of, names_in, one, all_names, all_bytes_and_sizes, all_positions, all_descriptions, all_descriptors, reads, writes, Footprint}
+pub use Rattle.item_index.specs.Touching.{written_by}
 use Rattle.op_meaning.specs.Footprint.{file_reads, on_file, position_written, position_use, range_of, transfer_range, span_use, path_reads, name_written, room_uses, description_made, read_row, close_row, ftruncate_row, unlinkat_row, linkat_row, renameat_row, order_uses, turn_uses, ring_at}
 
--- Whether one of some footprints writes an atom of an item, or of an item of a footprint.
-abbrev pub written_by : List Footprint → Item → Bool
-written_by earlier x = list_any (λ f. list_any (λ u. u.written && share u.item x) f) earlier
-
+-- Whether one of some footprints writes an atom of an item of a footprint.
 abbrev pub is_met : Footprint → List Footprint → Bool
 is_met f earlier = list_any (λ u. written_by earlier u.item) f
 
@@ -63,6 +61,16 @@ abbrev pub opened_taken : OpenFlags → Place → Option Target → Footprint
 opened_taken g q None = if g.create then name_written q else []
 opened_taken g q (Some y) = if g.truncate && not (is_directory y.kind) then writes (one (size_of y.node)) ∷ writes (range_of y.node 0 file_limit) ∷ [] else []
 
+-- What openat writes where its path leads, and what openat and mkdirat have apart from what they make.
+abbrev pub opened_at : OpenFlags → Place → Footprint
+opened_at g q = opened_taken g q q.target
+
+abbrev pub openat_taken : World → Path → OpenFlags → Footprint
+openat_taken s p g = path_reads s p ++ each_ok (opened_at g) (walk s.nodes p)
+
+abbrev pub mkdirat_taken : World → Path → Footprint
+mkdirat_taken s p = path_reads s p ++ each_ok name_written (walk s.nodes p)
+
 abbrev pub taken : Trace → ℕ → World → Operation → Footprint
 taken t r s nop = []
 taken t r s (readv f o n) = read_row t s r f o (min n most_moved)
@@ -71,13 +79,13 @@ taken t r s (fsync f) = file_reads t r f
 taken t r s (read_fixed f o span) = read_row t s r f o (min span.length most_moved) ++ span_use true t r span
 taken t r s (write_fixed f o span) = write_taken t s r f o (min span.length most_moved) ++ span_use false t r span
 taken t r s (fallocate f o n mode) = on_file t s r f (λ i h. allocated o n i (allocation mode))
-taken t r s (openat p g index) = path_reads s p ++ each_ok (λ (q : Place). opened_taken g q q.target) (walk s.nodes p)
+taken t r s (openat p g index) = openat_taken s p g
 taken t r s (close number index) = close_row t r number index
 taken t r s (read f o n) = read_row t s r f o (min n most_moved)
 taken t r s (write f o new) = write_taken t s r f o (length new)
 taken t r s (renameat old new flags) = renameat_row s old new
 taken t r s (unlinkat p removes) = unlinkat_row s p removes
-taken t r s (mkdirat p) = path_reads s p ++ each_ok name_written (walk s.nodes p)
+taken t r s (mkdirat p) = mkdirat_taken s p
 taken t r s (linkat old new) = linkat_row s old new
 taken t r s (ftruncate f n) = ftruncate_row t s r f n
 

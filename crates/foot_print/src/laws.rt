@@ -1,16 +1,18 @@
-//! Laws of footprints and reaches: that footprints suffice, that steps keep worlds, that places commute and
-//! run on parts, and that reaches hold what is to come.
+//! Laws of footprints and reaches: that footprints suffice, that steps keep worlds, that places
+//! commute and run on parts, and that reaches hold what is to come.
 //!
 //! They are functions without effect: a call brings the law into a proof.
 ghost use Rattle.foot_print.specs.Laws.{FootprintsCover, StepsCommute, StepsKeepWorlds};
-ghost use Rattle.foot_print.specs.Parts.{CutThenPut, FootprintsAreNarrow, HolesKeepWorlds, PartsAreOfTheWhole, PlacesRunOnParts, PutIsStep, RoundIsSteps};
+ghost use Rattle.foot_print.specs.Parts.{CutThenPut, FootprintsAreNarrow};
+ghost use Rattle.foot_print.specs.Parts.{HolesKeepWorlds, PartsAreOfTheWhole};
+ghost use Rattle.foot_print.specs.Parts.{PlacesRunOnParts, PutIsStep, RoundIsSteps};
 ghost use Rattle.foot_print.specs.Replayed.{replayed};
 ghost use Rattle.interleaving.specs.Laws.{Laws};
 ghost use Rattle.trace_format.specs.Text.{IsSpelled};
 ghost use Rattle.trace_format.specs.declared.trace.Trace.{Trace};
 
-/// In every world, and part of one, that agrees on a place's footprint the place has the same footprint and
-/// the same reply, gives what it writes the same values, and changes nothing else.
+/// In every world, and part of one, that agrees on a place's footprint the place has the same
+/// footprint and the same reply, gives what it writes the same values, and changes nothing else.
 pub fn footprints_cover()
     ensures { FootprintsCover }
 {}
@@ -20,7 +22,8 @@ pub fn steps_keep_worlds()
     ensures { StepsKeepWorlds }
 {}
 
-/// Two places whose footprints do not collide give the same world and the same replies in either order.
+/// Two places whose footprints do not collide give the same world and the same replies in either
+/// order.
 pub fn steps_commute()
     ensures { StepsCommute }
 {}
@@ -30,8 +33,8 @@ pub fn cut_then_put()
     ensures { CutThenPut }
 {}
 
-/// A place that runs on the part that its footprint cuts out gives the same reply as on the world, and
-/// putting the part back leaves the world that the place's step leaves, and no other.
+/// A place that runs on the part that its footprint cuts out gives the same reply as on the world,
+/// and putting the part back leaves the world that the place's step leaves, and no other.
 pub fn places_run_on_parts()
     ensures { PlacesRunOnParts }
 {}
@@ -46,26 +49,29 @@ pub fn footprints_are_narrow()
     ensures { FootprintsAreNarrow }
 {}
 
-/// A part that is cut while others are out, with none of which it collides, is a part of the world as it was.
+/// A part that is cut while others are out, with none of which it collides, is a part of the world
+/// as it was.
 pub fn parts_are_of_the_whole()
     ensures { PartsAreOfTheWhole }
 {}
 
-/// Putting one of several parts back, after its place has run on it, is that place's step: the world has the
-/// holes of the other parts left, its reply is that of the step, and the others can be put back as before.
+/// Putting one of several parts back, after its place has run on it, is that place's step: the
+/// world has the holes of the other parts left, its reply is that of the step, and the others can
+/// be put back as before.
 pub fn put_is_step()
     ensures { PutIsStep }
 {}
 
-/// The parts of places whose footprints do not collide, all cut out of one world, run, and put back one after
-/// another, leave the world and the replies of the places' steps in order.
+/// The parts of places whose footprints do not collide, all cut out of one world, run, and put back
+/// one after another, leave the world and the replies of the places' steps in order.
 pub fn round_is_steps()
     ensures { RoundIsSteps }
 {}
 
-/// The replay of a trace that some bytes spell keeps the laws of footprints and of reaches: the reach of a
-/// place holds its footprint, and its reach, in every world that differs only where earlier unfinished
-/// places may write; it is told by what it holds; and it shrinks as those places finish.
+/// The replay of a trace that some bytes spell keeps the laws of footprints and of reaches: the
+/// reach of a place holds its footprint, and its reach, in every world that differs only where
+/// earlier unfinished places may write; it is told by what it holds; and it shrinks as those places
+/// finish.
 pub fn reaches_hold()
     ensures { (t : Trace) → IsSpelled t → Laws (replayed t) }
 {}

@@ -20,7 +20,8 @@ use world_parts::{Footprint, State};
 /// The most bytes that one call moves.
 const MOST_MOVED: u64 = 0x7fff_f000;
 
-/// What an operation at a place of a ring uses in a world. Where the world refuses it, it only reads.
+/// What an operation at a place of a ring uses in a world. Where the world refuses it, it only
+/// reads.
 ///
 /// # Errors
 ///
@@ -62,7 +63,8 @@ fn push_row(
 ) -> Result<(), AllocError>
     requires trace { IsSpelled trace.now }
     requires place { attempt.place < places trace.now }
-    ensures { OnOk result (footprint.new ≡ footprint.old ++ row trace.now attempt.place attempt.ring state.now (taken attempt.accepted) (meant op.entry)) }
+    ensures { OnOk result (footprint.new ≡ footprint.old ++ row trace.now attempt.place attempt.ring
+        state.now (taken attempt.accepted) (meant op.entry)) }
 {
     let ring = attempt.ring;
     match op {

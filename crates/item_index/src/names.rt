@@ -32,7 +32,8 @@ impl Names {
 
     /// Adds a name.
     pub(crate) fn insert(&mut self, alloc: Global, name: &[u8]) -> Result<(), AllocError>
-        ensures { OnOk result ((t : List ℕ → Bool) → list_any t self.new ≡ (list_any t self.old || t name.now)) }
+        ensures { OnOk result ((t : List ℕ → Bool)
+            → list_any t self.new ≡ (list_any t self.old || t name.now)) }
     {
         self.names.insert(Vec::from_slice(alloc, name)?)?;
         Ok(())

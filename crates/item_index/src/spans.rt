@@ -1,7 +1,7 @@
 //! Sets of numbers as ranges.
-ghost use Rattle.std.specs.Prelude.{◌≡◌, ◌||◌, ◌<◌, ◌⊎◌, ℕ, List, [], ◌∷◌, ◌++◌, MatchOption, OnOk, leb, filter};
+ghost use Rattle.std.specs.Prelude.{◌≡◌, ◌||◌, ◌<◌, ◌⊎◌, ℕ, List, [], ◌∷◌, ◌++◌, MatchOption, OnOk};
 ghost use Rattle.std.specs.List.{AllByRecursion};
-ghost use Rattle.item_index.specs.Spans.{AreApart, covers, crosses, has_some};
+ghost use Rattle.item_index.specs.Spans.{AreApart, covers, crosses, has_some, begun};
 ghost use Rattle.world_parts.specs.Items.{within};
 
 use std::alloc::{AllocError, Global};
@@ -38,7 +38,8 @@ impl Spans {
     /// Adds a range that isn't empty.
     pub(crate) fn insert(&mut self, low: u64, high: u64) -> Result<(), AllocError>
         requires { low < high }
-        ensures { OnOk result ((p : ℕ) → covers self.new p ≡ (covers self.old p || within low high p)) }
+        ensures { OnOk result ((p : ℕ)
+            → covers self.new p ≡ (covers self.old p || within low high p)) }
     {
         let (start, end) = absorb(&mut self.ends, low, high);
         self.ends.insert(start, end)?;
@@ -68,7 +69,8 @@ impl Spans {
 
 /// The last piece that begins at a number or before it.
 fn last_up_to(ends: &BTreeMap<u64, u64>, limit: u64) -> Option<(u64, u64)>
-    ensures { MatchOption result (filter (λ r. leb r.0 limit) ends.now.entries ≡ []) (λ piece. (before : List (ℕ × ℕ)) × (filter (λ r. leb r.0 limit) ends.now.entries ≡ before ++ piece ∷ [])) }
+    ensures { MatchOption result (begun limit ends.now.entries ≡ []) (λ piece.
+        (before : List (ℕ × ℕ)) × (begun limit ends.now.entries ≡ before ++ piece ∷ [])) }
 {
     match ends.range(..=limit).next_back() {
         Some((first, end)) => Some((*first, *end)),
@@ -81,7 +83,8 @@ fn absorb(ends: &mut BTreeMap<u64, u64>, low: u64, high: u64) -> (u64, u64)
     requires range { low < high }
     requires pieces { AreApart ends.old.entries }
     ensures range { result.0 < result.1 }
-    ensures same { (p : ℕ) → (covers ends.new.entries p || within result.0 result.1 p) ≡ (covers ends.old.entries p || within low high p) }
+    ensures same { (p : ℕ) → (covers ends.new.entries p || within result.0 result.1 p)
+        ≡ (covers ends.old.entries p || within low high p) }
     ensures rest { AreApart ends.new.entries }
     ensures apart { AllByRecursion (λ r. (r.1 < result.0) ⊎ (result.1 < r.0)) ends.new.entries }
 {

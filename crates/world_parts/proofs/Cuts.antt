@@ -76,10 +76,7 @@ shown_kind s p i (inr e) = inr (kind-outline _ ∙ ap kind_in e ∙ sym (kind-ou
 pub is_part : (s p : World) (f : Footprint) → IsShadow s p → Agree f s p → IsPartOf s f p
 is_part s p f sh a = record { agrees = a; nodes = λ i. shown_kind s p i (sh.outlines i); descriptions = sh.descriptions; names = sh.names }
 
--- The part that was taken, and the world that is left, by the uses of a footprint.
-pub part_taken : (w s p : World) (f : Footprint) (us vs : List code_use.Use) → s ≡ w → us ≡ vs → map use_meant vs ≡ f → IsShadow s p → Agree (map use_meant us) s p → IsPartOf w f p
-part_taken w s p f us vs e g h sh a = is_part w p f (subst (λ x. IsShadow x p) e sh) (subst (λ x. Agree x w p) (ap (map use_meant) g ∙ h) (subst (λ x. Agree (map use_meant us) x p) e a))
-
+-- The world that is left, by the uses of a footprint.
 pub world_left : (w s q : World) (f : Footprint) (us vs : List code_use.Use) → s ≡ w → us ≡ vs → map use_meant vs ≡ f → q ≡ holed (map use_meant us) s → q ≡ holed f w
 world_left w s q f us vs e g h k = k ∙ (λ i. holed ((ap (map use_meant) g ∙ h) i) (e i))
 

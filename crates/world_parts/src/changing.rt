@@ -21,13 +21,14 @@ impl State {
     ///
     /// Want of memory.
     pub fn add_node(&mut self, alloc: Global, number: u32, kind: Kind) -> Result<(), AllocError>
-        ensures { OnOk result (self.new ≡ apply (change.make_node number (kind_meant kind)) self.old) }
+        ensures { OnOk result
+            (self.new ≡ apply (change.make_node number (kind_meant kind)) self.old) }
     {
         self.nodes.add_node(alloc, number, kind)
     }
 
-    /// Lets a name of a directory lead to a node, or to none. Where there is no such directory nothing
-    /// changes.
+    /// Lets a name of a directory lead to a node, or to none. Where there is no such directory
+    /// nothing changes.
     ///
     /// # Errors
     ///
@@ -39,7 +40,9 @@ impl State {
         name: &[u8],
         node: Option<u32>,
     ) -> Result<(), AllocError>
-        ensures { OnOk result (self.new ≡ record self.old { nodes = adjust_number (renamed_node name.now node) self.old.nodes directory }) }
+        ensures { OnOk result (self.new ≡ record self.old {
+          nodes = adjust_number (renamed_node name.now node) self.old.nodes directory;
+        }) }
     {
         self.nodes.set_name(alloc, directory, name, node)
     }
@@ -55,7 +58,8 @@ impl State {
         number: u32,
         description: Option<u32>,
     ) -> Result<(), AllocError>
-        ensures { OnOk result (self.new ≡ apply (change.set_slot ring number description) self.old) }
+        ensures { OnOk result
+            (self.new ≡ apply (change.set_slot ring number description) self.old) }
     {
         self.slots.set(ring, number, description)
     }
@@ -70,7 +74,8 @@ impl State {
         number: u32,
         description: Option<u32>,
     ) -> Result<(), AllocError>
-        ensures { OnOk result (self.new ≡ apply (change.set_descriptor number description) self.old) }
+        ensures { OnOk result
+            (self.new ≡ apply (change.set_descriptor number description) self.old) }
     {
         self.descriptors.set(number, description)
     }
@@ -85,7 +90,9 @@ impl State {
         number: u32,
         description: Description,
     ) -> Result<(), AllocError>
-        ensures { OnOk result (self.new ≡ record self.old { descriptions = insert number_keys.total self.old.descriptions number description }) }
+        ensures { OnOk result (self.new ≡ record self.old {
+          descriptions = insert number_keys.total self.old.descriptions number description;
+        }) }
     {
         self.descriptions.set(number, description)
     }
@@ -109,8 +116,8 @@ impl State {
         self.nodes.set_size(node, size)
     }
 
-    /// Writes bytes into a file from `at` on; a gap past its end becomes zeros. Where the node is no file
-    /// nothing changes.
+    /// Writes bytes into a file from `at` on; a gap past its end becomes zeros. Where the node is
+    /// no file nothing changes.
     ///
     /// # Errors
     ///
@@ -122,8 +129,8 @@ impl State {
         self.nodes.write(node, at, bytes)
     }
 
-    /// Makes the bytes of a file from `low` up to `high` zeros, as far as it has them. Where the node is no
-    /// file nothing changes.
+    /// Makes the bytes of a file from `low` up to `high` zeros, as far as it has them. Where the
+    /// node is no file nothing changes.
     ///
     /// # Errors
     ///
@@ -134,8 +141,8 @@ impl State {
         self.nodes.zero(node, low, high)
     }
 
-    /// Writes bytes over those of a registered buffer of a ring from `at` on. Those beyond its length are
-    /// dropped, and where there is no buffer nothing changes.
+    /// Writes bytes over those of a registered buffer of a ring from `at` on. Those beyond its
+    /// length are dropped, and where there is no buffer nothing changes.
     ///
     /// # Errors
     ///
@@ -147,7 +154,8 @@ impl State {
         at: u64,
         bytes: &[u8],
     ) -> Result<(), AllocError>
-        ensures { OnOk result (self.new ≡ apply (change.write_buffer ring index at bytes.now) self.old) }
+        ensures { OnOk result
+            (self.new ≡ apply (change.write_buffer ring index at bytes.now) self.old) }
     {
         self.buffers.write(ring, index, at, bytes)
     }
@@ -158,7 +166,8 @@ impl State {
     ///
     /// Want of memory.
     pub fn break_chain(&mut self, chain: u32, broken: Broken) -> Result<(), AllocError>
-        ensures { OnOk result (self.new ≡ apply (change.break_chain chain (broken_meant broken)) self.old) }
+        ensures { OnOk result
+            (self.new ≡ apply (change.break_chain chain (broken_meant broken)) self.old) }
     {
         self.broken.insert(chain, Flag { broken })?;
         Ok(())

@@ -2,8 +2,11 @@
 ghost use Rattle.std.specs.Prelude.{◌≡◌, ◌≤◌, [], length, map, unwrap_or, IfOk, OnOk, Some, T};
 ghost use Rattle.std.specs.Option.{option_map};
 ghost use Rattle.extent_bytes.specs.Bytes.{range_of};
-ghost use Rattle.world_parts.specs.Copying.{IsCopied, IsNearer, IsShadow, looked_up, nothing, outline};
-ghost use Rattle.world_parts.specs.Items.{Agree, all_descriptors, buffer_bytes, chain_flag, description_at, descriptor_at, file_bytes, name_at, names_in, one, position_of, size_of, slot_at};
+ghost use Rattle.world_parts.specs.Copying.{IsCopied, IsNearer, IsShadow};
+ghost use Rattle.world_parts.specs.Copying.{looked_up, nothing, outline};
+ghost use Rattle.world_parts.specs.Items.{Agree, all_descriptors, buffer_bytes, chain_flag};
+ghost use Rattle.world_parts.specs.Items.{description_at, descriptor_at, file_bytes, name_at};
+ghost use Rattle.world_parts.specs.Items.{names_in, one, position_of, size_of, slot_at};
 ghost use Rattle.world_parts.specs.Part.{is_narrow, is_narrow_use};
 ghost use Rattle.world_parts.specs.Uses.{item_meant, use_meant};
 ghost use Rattle.world_parts.specs.World as world;
@@ -68,8 +71,8 @@ impl State {
         Ok(())
     }
 
-    /// Copies what a node looks like from outside: what it is, and how many bytes or names it has. A file
-    /// gets zeros, and a directory shows none of its names.
+    /// Copies what a node looks like from outside: what it is, and how many bytes or names it has.
+    /// A file gets zeros, and a directory shows none of its names.
     fn copy_node(&mut self, alloc: Global, from: &State, node: u32) -> Result<(), AllocError>
         requires { IsShadow from.now self.old }
         ensures nearer { OnOk result (IsNearer from.now self.old self.new) }
@@ -116,8 +119,10 @@ impl State {
         number: u32,
     ) -> Result<(), AllocError>
         requires { IsShadow from.now self.old }
-        ensures opened { OnOk result (IsCopied from.now self.old self.new (one (description_at number))) }
-        ensures position { OnOk result (IsCopied from.now self.old self.new (one (position_of number))) }
+        ensures opened { OnOk result
+            (IsCopied from.now self.old self.new (one (description_at number))) }
+        ensures position { OnOk result
+            (IsCopied from.now self.old self.new (one (position_of number))) }
     {
         let Some(description) = from.description(number) else {
             return Ok(());
@@ -139,7 +144,8 @@ impl State {
         requires leads { looked_up from.now directory name.now ≡ Some node }
         requires directory { outline self.old directory ≡ outline from.now directory }
         requires node { world.kind self.old node ≡ world.kind from.now node }
-        ensures { OnOk result (IsCopied from.now self.old self.new (one (name_at directory name.now))) }
+        ensures { OnOk result
+            (IsCopied from.now self.old self.new (one (name_at directory name.now))) }
     {
         if self.name(directory, name).is_some() {
             return Ok(());
@@ -156,7 +162,8 @@ impl State {
         name: &[u8],
     ) -> Result<(), AllocError>
         requires { IsShadow from.now self.old }
-        ensures { OnOk result (IsCopied from.now self.old self.new (one (name_at directory name.now))) }
+        ensures { OnOk result
+            (IsCopied from.now self.old self.new (one (name_at directory name.now))) }
     {
         self.copy_node(alloc, from, directory)?;
         let Some(node) = from.name(directory, name) else {
@@ -166,8 +173,8 @@ impl State {
         self.show_name(alloc, from, directory, name, node)
     }
 
-    /// The bytes of a file from `low` up to `high`, as far as it has them; none where the node is no file.
-    /// They are shared, but for those of one page that are written next.
+    /// The bytes of a file from `low` up to `high`, as far as it has them; none where the node is
+    /// no file. They are shared, but for those of one page that are written next.
     fn file_part(
         &self,
         alloc: Global,
@@ -176,7 +183,8 @@ impl State {
         high: u64,
         written: bool,
     ) -> Result<Extents, AllocError>
-        ensures { IfOk result (λ part. part ≡ range_of (unwrap_or (world.bytes self.now node) []) low high) }
+        ensures { IfOk result
+            (λ part. part ≡ range_of (unwrap_or (world.bytes self.now node) []) low high) }
     {
         if written {
             return self.nodes.detach(alloc, node, low, high);
@@ -206,8 +214,8 @@ impl State {
         self.put_bytes(node, start, part)
     }
 
-    /// The bytes of a registered buffer of a ring from `low` up to `high`, a range within it. They are
-    /// shared, but for those of one page that are written next.
+    /// The bytes of a registered buffer of a ring from `low` up to `high`, a range within it. They
+    /// are shared, but for those of one page that are written next.
     fn buffer_part(
         &self,
         ring: u8,
@@ -218,7 +226,8 @@ impl State {
     ) -> Result<Extents, AllocError>
         requires forward { low ≤ high }
         requires inside { high ≤ length (unwrap_or (world.buffer self.now ring index) []) }
-        ensures { IfOk result (λ part. part ≡ range_of (unwrap_or (world.buffer self.now ring index) []) low high) }
+        ensures { IfOk result
+            (λ part. part ≡ range_of (unwrap_or (world.buffer self.now ring index) []) low high) }
     {
         if written {
             return self.buffers.detach(ring, index, low, high);
@@ -230,7 +239,8 @@ impl State {
     fn copy_buffer_len(&mut self, from: &State, ring: u8, index: u32) -> Result<(), AllocError>
         requires { IsShadow from.now self.old }
         ensures nearer { OnOk result (IsNearer from.now self.old self.new) }
-        ensures len { OnOk result (option_map length (world.buffer self.new ring index) ≡ option_map length (world.buffer from.now ring index)) }
+        ensures len { OnOk result (option_map length (world.buffer self.new ring index)
+            ≡ option_map length (world.buffer from.now ring index)) }
     {
         if self.buffer_len(ring, index).is_some() {
             return Ok(());
@@ -241,8 +251,8 @@ impl State {
         self.add_buffer(ring, index, len)
     }
 
-    /// Copies the bytes of a registered buffer of a ring from `low` up to `high`, as far as it has them,
-    /// and its length.
+    /// Copies the bytes of a registered buffer of a ring from `low` up to `high`, as far as it has
+    /// them, and its length.
     fn copy_buffer(
         &mut self,
         from: &State,
@@ -253,7 +263,8 @@ impl State {
         written: bool,
     ) -> Result<(), AllocError>
         requires { IsShadow from.now self.old }
-        ensures { OnOk result (IsCopied from.now self.old self.new (buffer_bytes ring index low high)) }
+        ensures { OnOk result
+            (IsCopied from.now self.old self.new (buffer_bytes ring index low high)) }
     {
         self.copy_buffer_len(from, ring, index)?;
         let Some(len) = from.buffer_len(ring, index) else {

@@ -12,10 +12,11 @@ use crate::state::State;
 use std::alloc::{AllocError, Global};
 
 impl State {
-    /// Makes the bytes of a registered buffer of a ring from `low` up to `high` zeros, as far as it has
-    /// them. Where there is no buffer nothing changes.
+    /// Makes the bytes of a registered buffer of a ring from `low` up to `high` zeros, as far as it
+    /// has them. Where there is no buffer nothing changes.
     fn zero_buffer(&mut self, ring: u8, index: u32, low: u64, high: u64) -> Result<(), AllocError>
-        ensures { OnOk result (self.new ≡ apply (change.write_buffer ring index low (replicate (high - low) 0)) self.old) }
+        ensures { OnOk result (self.new
+            ≡ apply (change.write_buffer ring index low (replicate (high - low) 0)) self.old) }
     {
         self.buffers.zero(ring, index, low, high)
     }
@@ -50,11 +51,31 @@ impl State {
         }
         Ok(())
     }
+
+    /// What a footprint names of another state.
+    fn copied(alloc: Global, from: &State, footprint: &Footprint) -> Result<State, AllocError>
+        requires narrow { T (is_narrow footprint.now) }
+        ensures { IfOk result (λ part. IsPartOf from.now footprint.now part) }
+    {
+        let mut state = State::nothing(alloc);
+        state.copy_uses(alloc, from, &footprint.uses)?;
+        Ok(state)
+    }
 }
 
 impl World {
-    /// Takes a part out for a place: what its footprint names. Bytes that are written leave zeros behind,
-    /// all else stays; bytes that are only read are shared.
+    /// Leaves zeros where a footprint writes ranges of bytes, and notes that the part of a place is out.
+    fn take_out(&mut self, place: u32, footprint: Footprint) -> Result<(), AllocError>
+        requires home { get self.old.out place ≡ None }
+        ensures { OnOk result (self.new ≡ cut_from self.old place footprint) }
+    {
+        self.state.clear_uses(&footprint.uses)?;
+        self.out.insert(place, footprint)?;
+        Ok(())
+    }
+
+    /// Takes a part out for a place: what its footprint names. Bytes that are written leave zeros
+    /// behind, all else stays; bytes that are only read are shared.
     ///
     /// # Errors
     ///
@@ -71,10 +92,8 @@ impl World {
         ensures part { IfOk result (λ part. IsPartOf self.old.world footprint part.values) }
         ensures rest { OnOk result (self.new ≡ cut_from self.old place footprint) }
     {
-        let mut state = State::nothing(alloc);
-        state.copy_uses(alloc, &self.state, &footprint.uses)?;
-        self.state.clear_uses(&footprint.uses)?;
-        self.out.insert(place, footprint)?;
+        let state = State::copied(alloc, &self.state, &footprint)?;
+        self.take_out(place, footprint)?;
         Ok(Part { place, state })
     }
 }

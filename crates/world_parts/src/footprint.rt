@@ -158,8 +158,8 @@ fn make_reads(uses: &mut [Use])
     }
 }
 
-/// Whether two footprints share an item, of a range a byte, that at least one of them writes. It takes no
-/// memory.
+/// Whether two footprints share an item, of a range a byte, that at least one of them writes. It
+/// takes no memory.
 pub fn collide(one: &Footprint, other: &Footprint) -> bool
     ensures { result ≡ items.collide one.now other.now }
 {
@@ -168,14 +168,16 @@ pub fn collide(one: &Footprint, other: &Footprint) -> bool
 
 /// Whether some use collides with one of some others.
 fn any_meets(uses: &[Use], others: &[Use]) -> bool
-    ensures { result ≡ list_any (λ u. list_any (λ v. (u.written || v.written) && items.share (item_meant u.item) (item_meant v.item)) others.now) uses.now }
+    ensures { result ≡ list_any (λ u. list_any (λ v. (u.written || v.written)
+        && items.share (item_meant u.item) (item_meant v.item)) others.now) uses.now }
 {
     uses.iter().any(|used| meets(used, others))
 }
 
 /// Whether a use collides with one of some others.
 fn meets(used: &Use, others: &[Use]) -> bool
-    ensures { result ≡ list_any (λ v. (used.now.written || v.written) && items.share (item_meant used.now.item) (item_meant v.item)) others.now }
+    ensures { result ≡ list_any (λ v. (used.now.written || v.written)
+        && items.share (item_meant used.now.item) (item_meant v.item)) others.now }
 {
     others.iter().any(|other| (used.written || other.written) && share(&used.item, &other.item))
 }

@@ -2,8 +2,8 @@
 
 use trace_format::{Blob, Series};
 
-/// A name of the tree, by its full path, with the node that it leads to. A file has a size in bytes, a
-/// directory none.
+/// A name of the tree, by its full path, with the node that it leads to. A file has a size in
+/// bytes, a directory none.
 #[derive(Debug, Drop)]
 pub struct NameEntry {
     pub path: Blob,
@@ -21,8 +21,8 @@ pub struct SlotEntry {
     pub position: u64,
 }
 
-/// A full number of the table of descriptors: the description there, and that description's node and
-/// position.
+/// A full number of the table of descriptors: the description there, and that description's node
+/// and position.
 #[derive(Clone, Copy, Debug)]
 pub struct DescriptorEntry {
     pub number: u32,
@@ -39,8 +39,8 @@ pub struct BufferEntry {
     pub len: u64,
 }
 
-/// The names of a world in the order of their paths, its full slots and its buffers by ring and number,
-/// and its full descriptors by number.
+/// The names of a world in the order of their paths, its full slots and its buffers by ring and
+/// number, and its full descriptors by number.
 #[derive(Debug, Drop)]
 pub struct Image {
     pub names: Series<NameEntry>,

@@ -3,8 +3,8 @@ ghost use Rattle.std.specs.Prelude.{◌≡◌, ◌↔◌, [], ◌∷◌, ◌++�
 ghost use Rattle.extent_bytes.specs.Bytes.{range_of};
 ghost use Rattle.finite_maps.specs.Table.{number_keys, text_keys};
 ghost use Rattle.finite_maps.specs.Maps.{seen_table, table_of};
-ghost use Rattle.world_parts.specs.Pending.{paths_pending};
 ghost use Rattle.world_parts.specs.Image.{all_paths, image_of, paths_below};
+ghost use Rattle.world_parts.specs.Pending.{AddsPaths};
 ghost use Rattle.world_parts.specs.World.{buffer, bytes};
 
 use crate::broken::Flag;
@@ -14,8 +14,8 @@ use std::alloc::{AllocError, Global};
 use std::collections::BTreeMap;
 use trace_format::{Blob, Series};
 
-/// A name that is still to be listed: its full path, its node, and how many levels below it are listed
-/// too.
+/// A name that is still to be listed: its full path, its node, and how many levels below it are
+/// listed too.
 #[derive(Drop)]
 struct Pending {
     path: Vec<u8>,
@@ -35,7 +35,8 @@ fn joined(alloc: Global, directory: &[u8], name: &[u8]) -> Result<Vec<u8>, Alloc
 
 /// Whether the same chains broke, and in the same way.
 fn same_chains(chains: &BTreeMap<u32, Flag>, others: &BTreeMap<u32, Flag>) -> bool
-    ensures { IsTrue result ↔ (table_of number_keys.total chains.now.entries ≡ table_of number_keys.total others.now.entries) }
+    ensures { IsTrue result ↔ (table_of number_keys.total chains.now.entries
+        ≡ table_of number_keys.total others.now.entries) }
 {
     let mut left = others.iter();
     for (chain, flag) in chains.iter() {
@@ -66,8 +67,8 @@ impl State {
         })
     }
 
-    /// The bytes of a file from one offset up to another, as far as it has them; none where the node is no
-    /// file.
+    /// The bytes of a file from one offset up to another, as far as it has them; none where the
+    /// node is no file.
     ///
     /// # Errors
     ///
@@ -79,7 +80,8 @@ impl State {
         low: u64,
         high: u64,
     ) -> Result<Blob, AllocError>
-        ensures { IfOk result (λ taken. taken ≡ range_of (unwrap_or (bytes self.now node) []) low high) }
+        ensures { IfOk result
+            (λ taken. taken ≡ range_of (unwrap_or (bytes self.now node) []) low high) }
     {
         Ok(Series::from_vec(self.bytes(alloc, node, low, high)?))
     }
@@ -110,8 +112,8 @@ impl State {
             && same_chains(&self.broken, &other.broken)
     }
 
-    /// Puts the names of a directory on top of those that are pending, the first one uppermost; none
-    /// where no levels are left.
+    /// Puts the names of a directory on top of those that are pending, the first one uppermost;
+    /// none where no levels are left.
     fn push_names(
         &self,
         alloc: Global,
@@ -120,7 +122,8 @@ impl State {
         directory: u32,
         levels: usize,
     ) -> Result<(), AllocError>
-        ensures { OnOk result (paths_pending self.now.nodes pending.new.items ≡ paths_below levels self.now.nodes path.now directory ++ paths_pending self.now.nodes pending.old.items) }
+        ensures { OnOk result (AddsPaths self.now.nodes pending.old.items pending.new.items
+            (paths_below levels self.now.nodes path.now directory)) }
     {
         let Some(below) = levels.checked_sub(1) else {
             return Ok(());
@@ -140,7 +143,8 @@ impl State {
 
     /// All names by their full paths, each with its node.
     fn paths(&self, alloc: Global) -> Result<BTreeMap<Vec<u8>, u32>, AllocError>
-        ensures { IfOk result (λ paths. seen_table text_keys.total (λ k. k.items) paths.entries ≡ all_paths self.now.nodes) }
+        ensures { IfOk result (λ paths. seen_table text_keys.total (λ k. k.items) paths.entries
+            ≡ all_paths self.now.nodes) }
     {
         let mut paths = BTreeMap::new(alloc);
         let mut pending = Vec::new(alloc);

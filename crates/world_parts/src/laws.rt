@@ -7,7 +7,8 @@ pub fn values_make_the_world()
     ensures { AtomsMakeTheWorld }
 {}
 
-/// Two footprints collide exactly where they share an item, of a range a byte, that one of them writes.
+/// Two footprints collide exactly where they share an item, of a range a byte, that one of them
+/// writes.
 pub fn collide_decides()
     ensures { CollideDecides }
 {}
@@ -17,7 +18,8 @@ pub fn paths_are_listed_once()
     ensures { ListsEachPathOnce }
 {}
 
-/// An image lists a path with a node exactly where the path is full and its walk leads to that node.
+/// An image lists a path with a node exactly where the path is full and its walk leads to that
+/// node.
 pub fn image_lists_its_paths()
     ensures { ListsItsPaths }
 {}

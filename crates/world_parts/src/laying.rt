@@ -1,5 +1,6 @@
 //! What is laid into a part of a world: nodes without their contents, and ranges of bytes.
-ghost use Rattle.std.specs.Prelude.{◌≡◌, ◌+◌, ◌≤◌, [], length, replicate, unwrap_or, IfOk, IfSome, OnOk};
+ghost use Rattle.std.specs.Prelude.{◌≡◌, ◌+◌, ◌≤◌, [], length, replicate};
+ghost use Rattle.std.specs.Prelude.{unwrap_or, IfOk, IfSome, OnOk};
 ghost use Rattle.entry_checks.specs.Operation.{file_limit};
 ghost use Rattle.extent_bytes.specs.Bytes.{overwritten, resized};
 ghost use Rattle.file_tree.specs.Tree.{directory, file, rewritten_node, shown_node};
@@ -27,7 +28,9 @@ impl State {
         size: u64,
     ) -> Result<(), AllocError>
         requires { size ≤ file_limit }
-        ensures { OnOk result (self.new ≡ record self.old { nodes = insert number_keys.total self.old.nodes node (file (resized [] size)) }) }
+        ensures { OnOk result (self.new ≡ record self.old {
+          nodes = insert number_keys.total self.old.nodes node (file (resized [] size));
+        }) }
     {
         self.nodes.add_zeros(alloc, node, size)
     }
@@ -39,12 +42,15 @@ impl State {
         node: u32,
         others: usize,
     ) -> Result<(), AllocError>
-        ensures { OnOk result (self.new ≡ record self.old { nodes = insert number_keys.total self.old.nodes node (directory empty others) }) }
+        ensures { OnOk result (self.new ≡ record self.old {
+          nodes = insert number_keys.total self.old.nodes node (directory empty others);
+        }) }
     {
         self.nodes.add_listing(alloc, node, others)
     }
 
-    /// Lets a directory show one of its other names. Where there is no such directory nothing changes.
+    /// Lets a directory show one of its other names. Where there is no such directory nothing
+    /// changes.
     pub(crate) fn show(
         &mut self,
         alloc: Global,
@@ -52,16 +58,21 @@ impl State {
         name: &[u8],
         node: u32,
     ) -> Result<(), AllocError>
-        ensures { OnOk result (self.new ≡ record self.old { nodes = adjust_number (shown_node name.now node) self.old.nodes directory }) }
+        ensures { OnOk result (self.new ≡ record self.old {
+          nodes = adjust_number (shown_node name.now node) self.old.nodes directory;
+        }) }
     {
         self.nodes.show_name(alloc, directory, name, node)
     }
 
-    /// Puts bytes in place of those of a file from `at` on, within its size. Where the node is no file
-    /// nothing changes.
+    /// Puts bytes in place of those of a file from `at` on, within its size. Where the node is no
+    /// file nothing changes.
     pub(crate) fn put_bytes(&mut self, node: u32, at: u64, part: Extents) -> Result<(), AllocError>
         requires { IfSome (world.size self.old node) (λ size. at + length part ≤ size) }
-        ensures { OnOk result (self.new ≡ record self.old { nodes = adjust_number (rewritten_node (λ old. overwritten old at part)) self.old.nodes node }) }
+        ensures { OnOk result (self.new ≡ record self.old {
+          nodes = adjust_number
+              (rewritten_node (λ old. overwritten old at part)) self.old.nodes node;
+        }) }
     {
         self.nodes.put_back(node, at, part)
     }
@@ -69,7 +80,9 @@ impl State {
     /// Makes a registered buffer of zeros. One that was there goes.
     pub(crate) fn add_buffer(&mut self, ring: u8, index: u32, len: u64) -> Result<(), AllocError>
         requires { len ≤ MAX_LEN }
-        ensures { OnOk result (self.new ≡ record self.old { buffers = insert pair_keys.total self.old.buffers (ring, index) (replicate len 0) }) }
+        ensures { OnOk result (self.new ≡ record self.old {
+          buffers = insert pair_keys.total self.old.buffers (ring, index) (replicate len 0);
+        }) }
     {
         self.buffers.add_zeros(ring, index, len)
     }
@@ -83,7 +96,9 @@ impl State {
         part: Extents,
     ) -> Result<(), AllocError>
         requires { at + length part ≤ length (unwrap_or (world.buffer self.old ring index) []) }
-        ensures { OnOk result (self.new ≡ record self.old { buffers = rewritten_at (λ old. overwritten old at part) self.old.buffers ring index }) }
+        ensures { OnOk result (self.new ≡ record self.old {
+          buffers = rewritten_at (λ old. overwritten old at part) self.old.buffers ring index;
+        }) }
     {
         self.buffers.put_back(ring, index, at, part)
     }

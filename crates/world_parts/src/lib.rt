@@ -1,4 +1,5 @@
-//! The world that a replay changes, the items of a footprint, and the parts that footprints cut out.
+//! The world that a replay changes, the items of a footprint, and the parts that footprints cut
+//! out.
 #![tactic(auto)]
 
 mod broken;

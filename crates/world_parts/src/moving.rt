@@ -13,9 +13,9 @@ use std::alloc::{AllocError, Global};
 const MOST_COPIED: u64 = 4_096;
 
 impl State {
-    /// Writes the bytes of a file from `low` up to `high`, as far as it has them, over those of a registered
-    /// buffer of a ring from `at` on. Those beyond its length are dropped, and where there is no buffer
-    /// nothing changes. Many share the file's pages.
+    /// Writes the bytes of a file from `low` up to `high`, as far as it has them, over those of a
+    /// registered buffer of a ring from `at` on. Those beyond its length are dropped, and where
+    /// there is no buffer nothing changes. Many share the file's pages.
     ///
     /// # Errors
     ///
@@ -30,7 +30,8 @@ impl State {
         index: u32,
         at: u64,
     ) -> Result<(), AllocError>
-        ensures { OnOk result (self.new ≡ apply (world.write_buffer ring index at (range_of (unwrap_or (world.bytes self.old node) []) low high)) self.old) }
+        ensures { OnOk result (self.new ≡ apply (world.write_buffer ring index at
+            (range_of (unwrap_or (world.bytes self.old node) []) low high)) self.old) }
     {
         let room = self.buffer_len(ring, index).unwrap_or(0).saturating_sub(at);
         let end = high.min(low.saturating_add(room));
@@ -42,9 +43,9 @@ impl State {
         self.put_buffer_bytes(ring, index, at, part)
     }
 
-    /// Writes the bytes of a registered buffer of a ring from `low` up to `high`, a range within it, into a
-    /// file from `at` on; a gap past its end becomes zeros. Where the node is no file nothing changes. Many
-    /// share the buffer's pages.
+    /// Writes the bytes of a registered buffer of a ring from `low` up to `high`, a range within
+    /// it, into a file from `at` on; a gap past its end becomes zeros. Where the node is no file
+    /// nothing changes. Many share the buffer's pages.
     ///
     /// # Errors
     ///
@@ -61,7 +62,8 @@ impl State {
         requires forward { low ≤ high }
         requires inside { high ≤ length (unwrap_or (world.buffer self.old ring index) []) }
         requires fits { at + (high - low) ≤ file_limit }
-        ensures { OnOk result (self.new ≡ apply (world.write_bytes node at (range_of (unwrap_or (world.buffer self.old ring index) []) low high)) self.old) }
+        ensures { OnOk result (self.new ≡ apply (world.write_bytes node at
+            (range_of (unwrap_or (world.buffer self.old ring index) []) low high)) self.old) }
     {
         if high - low <= MOST_COPIED {
             let bytes = self.buffer(ring, index, low, high)?;

@@ -19,11 +19,14 @@ impl Model for World {
 
     ghost Value = { Divided };
 
-    ghost view = { λ w. record { world = w.state; out = table_of number_keys.total w.out.entries } };
+    ghost view = { λ w. record {
+      world = w.state;
+      out = table_of number_keys.total w.out.entries;
+    } };
 }
 
-/// A part of a world that was cut out for a place: a small world in which the items of the place's footprint
-/// have their values.
+/// A part of a world that was cut out for a place: a small world in which the items of the place's
+/// footprint have their values.
 #[derive(Drop)]
 pub struct Part {
     pub place: u32,

@@ -6,7 +6,9 @@ ghost use Rattle.file_tree.specs.Tree.{rewritten_node};
 ghost use Rattle.file_tree.specs.Tree as tree;
 ghost use Rattle.ring_tables.specs.Contents.{bytes_at, rewritten_at};
 ghost use Rattle.world_parts.specs.Part.{PutsTo, is_narrow};
-ghost use Rattle.world_parts.specs.Putting.{listed, pasted, redescribed, repositioned, sized, with_bytes, with_item, with_items, with_node, with_nodes};
+ghost use Rattle.world_parts.specs.Putting.{listed, pasted, redescribed, repositioned};
+ghost use Rattle.world_parts.specs.Putting.{sized, with_bytes, with_item};
+ghost use Rattle.world_parts.specs.Putting.{with_items, with_node, with_nodes};
 ghost use Rattle.world_parts.specs.World.{IsWorld};
 ghost use Rattle.world_parts.specs.World as world;
 
@@ -20,7 +22,8 @@ use trace_format::Description;
 
 // Makes a node a file of the size that it has in a part, or none where it is none there.
 fn put_size(nodes: &mut Tree, alloc: Global, part: &Tree, node: u32) -> Result<(), AllocError>
-    ensures { OnOk result (nodes.new ≡ assign number_keys.total nodes.old node (sized (tree.size part.now node) (get nodes.old node))) }
+    ensures { OnOk result (nodes.new ≡ assign number_keys.total nodes.old node
+        (sized (tree.size part.now node) (get nodes.old node))) }
 {
     let Some(size) = part.size(node) else {
         if nodes.size(node).is_some() {
@@ -36,7 +39,8 @@ fn put_size(nodes: &mut Tree, alloc: Global, part: &Tree, node: u32) -> Result<(
 
 // Makes a node a directory where it is one in a part, or none where it is none there.
 fn put_listing(nodes: &mut Tree, alloc: Global, part: &Tree, node: u32) -> Result<(), AllocError>
-    ensures { OnOk result (nodes.new ≡ assign number_keys.total nodes.old node (listed (is_some (tree.names part.now node)) (get nodes.old node))) }
+    ensures { OnOk result (nodes.new ≡ assign number_keys.total nodes.old node
+        (listed (is_some (tree.names part.now node)) (get nodes.old node))) }
 {
     if part.names(node).is_none() {
         if nodes.names(node).is_some() {
@@ -59,7 +63,8 @@ fn paste(
     low: u64,
     high: u64,
 ) -> Result<(), AllocError>
-    ensures { OnOk result (nodes.new ≡ adjust_number (rewritten_node (λ bs. pasted bs (unwrap_or (tree.bytes part.now node) []) low high)) nodes.old node) }
+    ensures { OnOk result (nodes.new ≡ adjust_number (rewritten_node
+        (λ bs. pasted bs (unwrap_or (tree.bytes part.now node) []) low high)) nodes.old node) }
 {
     let Some(size) = nodes.size(node) else {
         return Ok(());
@@ -95,7 +100,8 @@ fn put_buffer(
     low: u64,
     high: u64,
 ) -> Result<(), AllocError>
-    ensures { OnOk result (buffers.new ≡ rewritten_at (λ bs. pasted bs (bytes_at part.now ring index) low high) buffers.old ring index) }
+    ensures { OnOk result (buffers.new ≡ rewritten_at
+        (λ bs. pasted bs (bytes_at part.now ring index) low high) buffers.old ring index) }
 {
     let Some(size) = buffers.len(ring, index) else {
         return Ok(());
@@ -106,13 +112,15 @@ fn put_buffer(
     buffers.put_back(ring, index, start, bytes)
 }
 
-// Sets all but the position of a description to what a part says; one that is new takes its position too.
+// Sets all but the position of a description to what a part says; one that is new takes its
+// position too.
 fn put_description(
     descriptions: &mut Descriptions,
     part: &Descriptions,
     number: u32,
 ) -> Result<(), AllocError>
-    ensures { OnOk result (descriptions.new ≡ assign number_keys.total descriptions.old number (redescribed (get part.now number) (get descriptions.old number))) }
+    ensures { OnOk result (descriptions.new ≡ assign number_keys.total descriptions.old number
+        (redescribed (get part.now number) (get descriptions.old number))) }
 {
     let Some(theirs) = part.get(number) else {
         descriptions.remove(number);
@@ -136,7 +144,8 @@ fn put_position(
     part: &Descriptions,
     number: u32,
 ) -> Result<(), AllocError>
-    ensures { OnOk result (descriptions.new ≡ assign number_keys.total descriptions.old number (repositioned (get part.now number) (get descriptions.old number))) }
+    ensures { OnOk result (descriptions.new ≡ assign number_keys.total descriptions.old number
+        (repositioned (get part.now number) (get descriptions.old number))) }
 {
     let Some(theirs) = part.get(number) else {
         descriptions.remove(number);
@@ -157,7 +166,9 @@ fn put_position(
 impl State {
     // Breaks a chain as it broke in a part, or lets it run.
     fn put_chain(&mut self, part: &State, chain: u32) -> Result<(), AllocError>
-        ensures { OnOk result (self.new ≡ record self.old { broken = assign number_keys.total self.old.broken chain (world.broken part.now chain) }) }
+        ensures { OnOk result (self.new ≡ record self.old {
+          broken = assign number_keys.total self.old.broken chain (world.broken part.now chain);
+        }) }
     {
         let Some(broken) = part.broken(chain) else {
             self.broken.remove(&chain);
@@ -227,11 +238,19 @@ impl State {
         }
         Ok(())
     }
+
+    // Gives all written items the values that they have in a part, and makes their nodes be there first.
+    fn put_uses(&mut self, alloc: Global, part: &State, uses: &[Use]) -> Result<(), AllocError>
+        ensures { OnOk result (self.new ≡ with_items uses.now part.now (with_nodes uses.now part.now self.old)) }
+    {
+        self.put_nodes(alloc, part, uses)?;
+        self.put_items(alloc, part, uses)
+    }
 }
 
 impl World {
-    /// Puts a part back: the world has its values where its footprint writes. It costs by the footprint and
-    /// the part, and bytes move as whole pages.
+    /// Puts a part back: the world has its values where its footprint writes. It costs by the
+    /// footprint and the part, and bytes move as whole pages.
     ///
     /// # Errors
     ///
@@ -240,14 +259,16 @@ impl World {
         requires world { IsWorld self.old.world }
         requires out { IsSome (get self.old.out part.place) }
         requires narrow { IfSome (get self.old.out part.place) (λ f. T (is_narrow f)) }
-        requires fits { IfSome (get self.old.out part.place) (λ f. (after : world.World) × IsWorld after × PutsTo f self.old.world part.values after) }
-        ensures world { IfSome (get self.old.out part.place) (λ f. (after : world.World) → PutsTo f self.old.world part.values after → OnOk result (self.new.world ≡ after)) }
-        ensures home { OnOk result (self.new.out ≡ assign number_keys.total self.old.out part.place None) }
+        requires fits { IfSome (get self.old.out part.place)
+            (λ f. (w : world.World) × IsWorld w × PutsTo f self.old.world part.values w) }
+        ensures world { IfSome (get self.old.out part.place) (λ f. (w : world.World)
+            → PutsTo f self.old.world part.values w → OnOk result (self.new.world ≡ w)) }
+        ensures home { OnOk result
+            (self.new.out ≡ assign number_keys.total self.old.out part.place None) }
     {
         let Some(footprint) = self.out.remove(&part.place) else {
             return Ok(());
         };
-        self.state.put_nodes(alloc, &part.state, &footprint.uses)?;
-        self.state.put_items(alloc, &part.state, &footprint.uses)
+        self.state.put_uses(alloc, &part.state, &footprint.uses)
     }
 }

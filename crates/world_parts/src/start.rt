@@ -100,14 +100,38 @@ impl State {
         requires { IsSpelled trace.now }
         ensures { IfOk result (λ state. state ≡ initial.start trace.now) }
     {
-        let rings = trace.rings.as_slice();
         let mut state = State::bare(alloc)?;
         state.add_items(alloc, trace.items.as_slice())?;
-        state.descriptions = descriptions_of(alloc, trace.descriptions.as_slice())?;
-        state.slots = slots_of(alloc, rings)?;
-        state.descriptors = descriptors_of(alloc, trace.descriptors.as_slice())?;
-        state.buffers = buffers_of(alloc, rings)?;
+        state.open(alloc, trace)?;
+        state.register(alloc, trace)?;
         Ok(state)
+    }
+
+    /// Adds the open file descriptions, and the descriptors that hold some.
+    fn open(&mut self, alloc: Global, trace: &Trace) -> Result<(), AllocError>
+        requires { IsSpelled trace.now }
+        ensures { OnOk result (self.new ≡ record self.old {
+          descriptions = initial.descriptions_from 0 trace.now.descriptions;
+          descriptors = initial.descriptors_from 0 trace.now.descriptors;
+        }) }
+    {
+        self.descriptions = descriptions_of(alloc, trace.descriptions.as_slice())?;
+        self.descriptors = descriptors_of(alloc, trace.descriptors.as_slice())?;
+        Ok(())
+    }
+
+    /// Adds the registered files and buffers of the rings.
+    fn register(&mut self, alloc: Global, trace: &Trace) -> Result<(), AllocError>
+        requires { IsSpelled trace.now }
+        ensures { OnOk result (self.new ≡ record self.old {
+          slots = initial.ring_slots 0 trace.now.rings;
+          buffers = initial.ring_buffers 0 trace.now.rings;
+        }) }
+    {
+        let rings = trace.rings.as_slice();
+        self.slots = slots_of(alloc, rings)?;
+        self.buffers = buffers_of(alloc, rings)?;
+        Ok(())
     }
 
     /// A state with the root alone.
@@ -138,7 +162,8 @@ impl State {
 
     fn add_item(&mut self, alloc: Global, number: u32, item: &Item) -> Result<(), AllocError>
         requires { IsSized item.now }
-        ensures { OnOk result (self.new ≡ initial.with_node self.old number item.now.path item.now.node) }
+        ensures { OnOk result
+            (self.new ≡ initial.with_node self.old number item.now.path item.now.node) }
     {
         let path = item.path.as_slice();
         match &item.node {

@@ -22,11 +22,11 @@ use std::collections::BTreeMap;
 use std::marker::Model;
 use trace_format::Description;
 
-/// The state of a replay: the file tree, the open file descriptions, the registered files and buffers of
-/// the rings, the descriptors of the process, and the chains that broke.
+/// The state of a replay: the file tree, the open file descriptions, the registered files and
+/// buffers of the rings, the descriptors of the process, and the chains that broke.
 ///
-/// A world and a part of one both hold their values so: what can be asked of the one can be asked of the
-/// other.
+/// A world and a part of one both hold their values so: what can be asked of the one can be asked
+/// of the other.
 #[derive(Drop)]
 pub struct State {
     pub(crate) nodes: Tree,
@@ -74,7 +74,8 @@ impl State {
 
     /// The lowest free descriptor of the first `count`.
     pub fn lowest_free(&self, count: u32) -> Option<u32>
-        ensures { result ≡ find (λ n. is_none (world.descriptor self.now n)) (range_with_len 0 count) }
+        ensures { result
+            ≡ find (λ n. is_none (world.descriptor self.now n)) (range_with_len 0 count) }
     {
         self.descriptors.lowest_free(count)
     }
@@ -108,7 +109,8 @@ impl State {
         self.nodes.size(node)
     }
 
-    /// The bytes of a file from `low` up to `high`, as far as it has them; none where the node is no file.
+    /// The bytes of a file from `low` up to `high`, as far as it has them; none where the node is
+    /// no file.
     ///
     /// # Errors
     ///
@@ -120,7 +122,8 @@ impl State {
         low: u64,
         high: u64,
     ) -> Result<Vec<u8>, AllocError>
-        ensures { IfOk result (λ taken. taken.items ≡ range_of (unwrap_or (world.bytes self.now node) []) low high) }
+        ensures { IfOk result
+            (λ taken. taken.items ≡ range_of (unwrap_or (world.bytes self.now node) []) low high) }
     {
         self.nodes.read(alloc, node, low, high)
     }
@@ -137,7 +140,8 @@ impl State {
         low: u64,
         high: u64,
     ) -> Result<ReadBytes, AllocError>
-        ensures { IfOk result (λ taken. taken ≡ range_of (unwrap_or (world.bytes self.now node) []) low high) }
+        ensures { IfOk result
+            (λ taken. taken ≡ range_of (unwrap_or (world.bytes self.now node) []) low high) }
     {
         self.nodes.read_shared(alloc, node, low, high)
     }
@@ -158,7 +162,8 @@ impl State {
 
     /// Where a path leads, as [`Tree::walk`] says.
     pub fn walk<'a>(&self, directory: i32, path: &'a [u8]) -> Result<Place<'a>, Errno>
-        ensures { walk_meant self.now.nodes result ≡ walk.walk self.now.nodes (record { directory = directory; text = path.now }) }
+        ensures { walk_meant self.now.nodes result
+            ≡ walk.walk self.now.nodes (record { directory = directory; text = path.now }) }
     {
         self.nodes.walk(directory, path)
     }
@@ -177,13 +182,14 @@ impl State {
     /// Whether a node is one of the directories in which the walk of a path looks a name up, as
     /// [`Tree::is_above`] says.
     pub fn is_above(&self, node: u32, directory: i32, path: &[u8]) -> bool
-        ensures { result ≡ walk.is_above self.now.nodes node (record { directory = directory; text = path.now }) }
+        ensures { result ≡ walk.is_above self.now.nodes node
+            (record { directory = directory; text = path.now }) }
     {
         self.nodes.is_above(node, directory, path)
     }
 
-    /// The bytes of a registered buffer of a ring from `low` up to `high`, a range within it. A buffer that
-    /// isn't there has none.
+    /// The bytes of a registered buffer of a ring from `low` up to `high`, a range within it. A
+    /// buffer that isn't there has none.
     ///
     /// # Errors
     ///
@@ -191,7 +197,8 @@ impl State {
     pub fn buffer(&self, ring: u8, index: u32, low: u64, high: u64) -> Result<Vec<u8>, AllocError>
         requires forward { low ≤ high }
         requires inside { high ≤ length (unwrap_or (world.buffer self.now ring index) []) }
-        ensures { IfOk result (λ taken. taken.items ≡ range_of (unwrap_or (world.buffer self.now ring index) []) low high) }
+        ensures { IfOk result (λ taken. taken.items
+            ≡ range_of (unwrap_or (world.buffer self.now ring index) []) low high) }
     {
         self.buffers.read(ring, index, low, high)
     }
@@ -210,7 +217,8 @@ impl State {
     ) -> Result<Extents, AllocError>
         requires forward { low ≤ high }
         requires inside { high ≤ length (unwrap_or (world.buffer self.now ring index) []) }
-        ensures { IfOk result (λ part. part ≡ range_of (unwrap_or (world.buffer self.now ring index) []) low high) }
+        ensures { IfOk result
+            (λ part. part ≡ range_of (unwrap_or (world.buffer self.now ring index) []) low high) }
     {
         self.buffers.share(ring, index, low, high)
     }

@@ -55,8 +55,8 @@ impl World {
         self.state.image(alloc)
     }
 
-    /// The bytes of a file from one offset up to another, as far as it has them; none where the node is no
-    /// file.
+    /// The bytes of a file from one offset up to another, as far as it has them; none where the
+    /// node is no file.
     ///
     /// # Errors
     ///
@@ -68,7 +68,8 @@ impl World {
         low: u64,
         high: u64,
     ) -> Result<Blob, AllocError>
-        ensures { IfOk result (λ taken. taken ≡ range_of (unwrap_or (bytes self.now.world node) []) low high) }
+        ensures { IfOk result
+            (λ taken. taken ≡ range_of (unwrap_or (bytes self.now.world node) []) low high) }
     {
         self.state.file_bytes(alloc, node, low, high)
     }

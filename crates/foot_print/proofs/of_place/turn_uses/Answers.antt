@@ -6,7 +6,7 @@ use Rattle.sqe_codec.specs.Answers.{each}
 use Rattle.world_parts.specs.Items.{Footprint}
 use Rattle.op_meaning.specs.Footprint.{row_in, turn_uses}
 use Rattle.op_meaning.specs.Step.{entry_turn, turn}
-use Rattle.op_meaning.proofs.Turns.{turn_as}
+use Rattle.op_meaning.specs.Turns.{turn_as}
 use Rattle.foot_print.specs.Running.{operation_of}
 use Rattle.foot_print.proofs.Placed.{submitted_uses}
 use Rattle.trace_format.specs.Steps.{step_meant, action_meant}

@@ -24,17 +24,16 @@ returns-in_default-clause-home c =
 
 pub returns-clause-home : goal.returns-clause-home
 returns-clause-home c =
-    on_ok_weaker c.put_items.result (λ made.
+    on_ok_weaker c.put_uses.result (λ made.
     seen-assign number_keys c.self.inside.out c.remove.new.self c.args.self.now.out c.part.inside.place None (ap (λ w. w.out) c.self.view_is) c.remove.ensures.updates
-    ∙ ap (λ k. assign number_keys.total c.args.self.now.out k None) (ap (λ p. p.place) c.part.view_is)) c.put_items.ensures
+    ∙ ap (λ k. assign number_keys.total c.args.self.now.out k None) (ap (λ p. p.place) c.part.view_is)) c.put_uses.ensures
 
 pub returns-clause-world : goal.returns-clause-world
 returns-clause-world c =
-    put_meets c.put_items.result c.footprint.inside.uses.items c.args.self.now.world c.args.part.values c.put_items.new.self (get c.args.self.now.out c.args.part.place)
+    put_meets c.put_uses.result c.footprint.inside.uses.items c.args.self.now.world c.args.part.values c.put_uses.new.self (get c.args.self.now.out c.args.part.place)
     (ap (λ f. Some f) c.footprint.view_is ∙ c.in-Some.ensures.value
     ∙ sym (ap (get c.args.self.now.out) (sym (ap (λ p. p.place) c.part.view_is)) ∙ get-of number_keys c.self.inside.out.entries c.args.self.now.out c.part.inside.place (ap (λ w. w.out) c.self.view_is)))
     c.requires.world c.requires.narrow c.requires.fits
-    (on_ok_weaker c.put_items.result (λ made. made
-    ∙ ap (with_items c.deref-2.result.now c.part.inside.state) c.in_ok-put_nodes.ensures
-    ∙ (λ i. with_items (c.deref-2.ensures.value i) ((c.part.view_is i).values) (with_nodes (c.deref.ensures.value i) ((c.part.view_is i).values) ((c.self.view_is i).world))))
-    c.put_items.ensures)
+    (on_ok_weaker c.put_uses.result (λ made. made
+    ∙ (λ i. with_items (c.deref.ensures.value i) ((c.part.view_is i).values) (with_nodes (c.deref.ensures.value i) ((c.part.view_is i).values) ((c.self.view_is i).world))))
+    c.put_uses.ensures)
