@@ -6,3 +6,4 @@ pub mod Rounds
 pub mod Fronts
 pub mod Ending
 pub mod Places
+pub mod Noting

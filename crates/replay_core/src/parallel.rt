@@ -16,7 +16,7 @@ use trace_format::Trace;
 /// The most workers, and the most places that a round looks at.
 const MOST_WORKERS: u32 = 64;
 
-const WIDEST_WINDOW: u32 = 4096;
+pub(crate) const WIDEST_WINDOW: u32 = 4096;
 
 /// Runs the places of a trace in rounds. Each round looks at the first `window` places that aren't done, runs
 /// those that may run now, on as many workers as they are worth by the gate's weights but no more than `workers`,

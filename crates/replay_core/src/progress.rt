@@ -1,12 +1,16 @@
 //! What a replay has after some of its rounds, and one round more.
-ghost use Rattle.std.specs.Prelude.{◌≡◌, ◌+◌, ◌-◌, ◌<◌, ◌≤◌, ◌⊎◌, ◌++◌, [], ◌↔◌, IsTrue, All, IfOk, OnOk, filter, length, not, replicate, slice_index_or, false};
+ghost use Rattle.std.specs.Prelude.{◌≡◌, ◌+◌, ◌-◌, ◌<◌, ◌≤◌, ◌⊎◌, ◌++◌, [], ◌↔◌, IsTrue, All, IfOk};
+ghost use Rattle.std.specs.Prelude.{OnOk, filter, length, map, not, replicate, slice_index_or};
+ghost use Rattle.std.specs.Prelude.{false};
 ghost use Rattle.std.specs.List.{range_with_len};
 ghost use Rattle.chain_plan.specs.Plan.{roles};
 ghost use Rattle.deal_desk.specs.Desks.{AreValues};
 ghost use Rattle.replay_core.specs.Jobs.{IsOutcome};
-ghost use Rattle.replay_core.specs.Rounds.{AreDealt, IsFront, IsReplay, IsSameRound, KeptAfter, Stands};
+ghost use Rattle.replay_core.specs.Rounds.{AreDealt, IsFront, IsReplay, IsSameRound, KeptAfter};
+ghost use Rattle.replay_core.specs.Rounds.{Stands};
 ghost use Rattle.trace_format.specs.Steps.{places};
 ghost use Rattle.trace_format.specs.Text.{IsSpelled};
+ghost use Rattle.wave_pick.specs.HeldBack.{held_among, held_meant};
 ghost use Rattle.wave_pick.specs.Rounds.{state_after};
 ghost use Rattle.world_parts.specs.Part.{whole};
 
@@ -22,7 +26,7 @@ use std::snapshot::Snapshot;
 use std::sync::Wait;
 use std::thread::Threads;
 use trace_format::{Series, Trace};
-use wave_pick::pick;
+use wave_pick::{Held, held_back, pick};
 use world_parts::{Part, World};
 
 /// What a replay has after its rounds so far.
@@ -120,13 +124,17 @@ impl Progress {
         let places = trace.places();
         let mut front = Vec::new(alloc);
         let next = filled(&mut front, 0, places, window)?;
+        let rounds = zeros(alloc, places)?;
+        let done = none_done(alloc, places)?;
+        let replies = blank_replies(alloc, places)?;
+        let world = World::of(alloc, trace)?;
         Ok(Progress {
             window,
             round: 0,
-            world: World::of(alloc, trace)?,
-            replies: blank_replies(alloc, places)?,
-            rounds: zeros(alloc, places)?,
-            done: none_done(alloc, places)?,
+            world,
+            replies,
+            rounds,
+            done,
             front,
             next,
         })
@@ -137,6 +145,30 @@ impl Progress {
         ensures { IsTrue result ↔ (self.now.front.items ≡ []) }
     {
         self.front.is_empty()
+    }
+
+    /// Of the places that the next round looks at, those that it doesn't run: each with the one
+    /// that holds it back.
+    pub(crate) fn held_back(
+        &self,
+        alloc: Global,
+        trace: &Trace,
+        plan: &Plan,
+    ) -> Result<Series<Held>, AllocError>
+        requires trace { IsSpelled trace.now }
+        requires plan { plan.now ≡ roles trace.now }
+        requires stands { Stands trace.now self.now }
+        ensures { IfOk result (λ held. map held_meant held ≡ held_among trace.now
+            (state_after trace.now self.now.window self.now.round) self.now.front.items) }
+    {
+        held_back(
+            alloc,
+            trace,
+            plan,
+            &self.world,
+            self.front.as_slice(),
+            self.window,
+        )
     }
 
     /// The jobs of the next round: its places in order, each with its part, which is cut out of the world.

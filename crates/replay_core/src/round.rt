@@ -1,5 +1,6 @@
 //! A round: its jobs dealt to workers, and their outcomes in order.
-ghost use Rattle.std.specs.Prelude.{◌≡◌, ◌+◌, ◌<◌, ◌≤◌, ◌^◌, None, true, false, length, IfOk, IfSome};
+ghost use Rattle.std.specs.Prelude.{◌≡◌, ◌+◌, ◌<◌, ◌≤◌, ◌^◌, None, true, false, length, IfOk};
+ghost use Rattle.std.specs.Prelude.{IfSome};
 ghost use Rattle.deal_desk.specs.Desks.{hand_of, jobs_of, IsSeatOf, AreValues};
 ghost use Rattle.replay_core.specs.Jobs.{AreOf, IsOutcome};
 ghost use Rattle.replay_core.specs.Seats.{IsWorked, Grew};

@@ -5,14 +5,22 @@
 //! brings the law into a proof.
 ghost use Rattle.foot_print.specs.Replayed.{replayed};
 ghost use Rattle.interleaving.specs.Machine.{EveryOrder, ReachesHold, ReachesShrink};
-ghost use Rattle.interleaving.specs.Rounds.{AnySetsOccur, RoundsAreGathered, RoundsAreLegal, RoundsAreSequential, RoundsGoOn};
+ghost use Rattle.interleaving.specs.Rounds.{AnySetsOccur, RoundsAreGathered, RoundsAreLegal};
+ghost use Rattle.interleaving.specs.Rounds.{RoundsAreSequential, RoundsGoOn};
 ghost use Rattle.trace_format.specs.Text.{IsSpelled};
 ghost use Rattle.trace_format.specs.declared.trace.Trace.{Trace};
+ghost use Rattle.wave_pick.specs.Holding.{HoldersHoldBack, NoneIsHeldBack, SharedIsBoth};
+ghost use Rattle.wave_pick.specs.Holding.{SharedWhereColliding};
 ghost use Rattle.wave_pick.specs.Lawful.{covered, lawful};
-ghost use Rattle.wave_pick.specs.Orders.{LinksAndDrainsHold, LinksAndDrainsPart, LinksAndDrainsRise};
+ghost use Rattle.wave_pick.specs.Orders.{LinksAndDrainsHold, LinksAndDrainsPart};
+ghost use Rattle.wave_pick.specs.Orders.{LinksAndDrainsRise};
 ghost use Rattle.wave_pick.specs.Rounds.{NoneCollide, RoundsAreNumbered};
-ghost use Rattle.wave_pick.specs.Sequential.{OrdersEndAsTheModel, RoundsEndAsTheModel, RunsAsTheModel};
-ghost use Rattle.wave_pick.specs.Waiting.{CanceledUsesOrder, DecidedStays, DecidingBegins, DecidingInRow, OrderHolds, OthersRun, RowItems, RowStays, RowWitnessHolds, RowWitnessStays, TurnStays, WideStays, WitnessHolds};
+ghost use Rattle.wave_pick.specs.Sequential.{OrdersEndAsTheModel, RoundsEndAsTheModel};
+ghost use Rattle.wave_pick.specs.Sequential.{RunsAsTheModel};
+ghost use Rattle.wave_pick.specs.Waiting.{CanceledUsesOrder, DecidedStays, DecidingBegins};
+ghost use Rattle.wave_pick.specs.Waiting.{DecidingInRow, OrderHolds, OthersRun, RowItems, RowStays};
+ghost use Rattle.wave_pick.specs.Waiting.{RowWitnessHolds, RowWitnessStays, TurnStays, WideStays};
+ghost use Rattle.wave_pick.specs.Waiting.{WitnessHolds};
 
 use interleaving::{
     Footprinted, Foreseen, every_legal_order_is_sequential, reaches_foresee, rounds_are_sequential,
@@ -107,6 +115,16 @@ pub fn witnesses_hold_back()
     ensures hold { (t : Trace) → WitnessHolds t }
     ensures order { (t : Trace) → OrderHolds t }
     ensures others { (t : Trace) → OthersRun t }
+{}
+
+/// What two items share has just the atoms of both, and two footprints share an item exactly where
+/// they collide. After each number of rounds, the holder of a place holds it back by such an item,
+/// and no later place does; and where it has no holder, nothing holds it back.
+pub fn holders_hold_back()
+    ensures both { SharedIsBoth }
+    ensures colliding { SharedWhereColliding }
+    ensures hold { (t : Trace) → HoldersHoldBack t }
+    ensures none { (t : Trace) → NoneIsHeldBack t }
 {}
 
 /// With the same look, the rows of a place in two worlds meet the same reaches, apart from what the place makes. So

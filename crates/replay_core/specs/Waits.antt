@@ -1,0 +1,49 @@
+-- The model: for which place, and by which item, each place of a trace waited last. Below it, a view of code: a log of that.
+use Rattle.std.specs.Prelude.{◌≡◌, ℕ, zero, suc, ◌<◌, Bool, List, [], ◌∷◌, map, take, length, slice_get, slice_set, Option, Some, None, if◌then◌else◌}
+use Rattle.std.specs.List.{range_with_len}
+use Rattle.std.specs.Option.{option_map}
+use Rattle.interleaving.specs.Machine.{has}
+use Rattle.interleaving.specs.Rounds.{pending}
+use Rattle.trace_format.specs.declared.trace.Trace.{Trace}
+use Rattle.trace_format.specs.Steps.{places}
+use Rattle.world_parts.specs.Uses.{item_meant}
+use Rattle.wave_pick.specs.Rounds.{state_after, rounds, round_of, waves}
+use Rattle.wave_pick.specs.Holding.{Holder, holder_in}
+use Rattle.replay_core.specs.declared.round_log.WaitedFor.{WaitedFor}
+use Rattle.replay_core.specs.declared.round_log.RoundLog.{RoundLog}
+
+-- Whether a place is one of the first pending ones after r rounds, as many as the window has.
+abbrev pub is_shown : Trace → ℕ → ℕ → ℕ → Bool
+is_shown t window r k = has (take window (pending (has (state_after t window r).finished) (places t))) k
+
+-- What a place waited for in the round before this one: nothing where there was none, or where the window didn't show it yet; else its holder in the state before that round.
+abbrev pub waited_before : Trace → ℕ → ℕ → ℕ → Option Holder
+waited_before t window zero k = None
+waited_before t window (suc r) k = if is_shown t window r k then holder_in t (state_after t window r) k else None
+
+-- What a place waited for last: in the round before its own.
+abbrev pub waited_for : Trace → ℕ → ℕ → Option Holder
+waited_for t window k = waited_before t window (round_of (waves t window) k) k
+
+-- The place and the item that are meant.
+abbrev pub waited_meant : WaitedFor → Holder
+waited_meant w = record { place = w.place; item = item_meant w.item }
+
+-- Of each place the number of its round, and what it waited for last.
+pub record IsRoundLog (t : Trace) (window : ℕ) (log : RoundLog) : Type 0 where
+  pub rounds : log.rounds ≡ rounds t window
+  pub waits : map (option_map waited_meant) log.waits ≡ map (waited_for t window) (range_with_len 0 (places t))
+
+-- What a place that has finished after r rounds waited for last, or what one that hasn't waited for in the last of them.
+abbrev pub noted_after : Trace → ℕ → ℕ → ℕ → Option Holder
+noted_after t window r k = waited_before t window (if has (state_after t window r).finished k then round_of (waves t window) k else r) k
+
+-- That is noted of each place.
+pub record AreNoted (t : Trace) (window r : ℕ) (waits : List (Option WaitedFor)) : Type 0 where
+  pub many : length waits ≡ places t
+  pub noted : (k : ℕ) → k < places t → slice_get (map (option_map waited_meant) waits) k ≡ Some (noted_after t window r k)
+
+-- What is noted once these places, one after another, have been noted with their holders.
+abbrev pub noted : List (Option Holder) → List (ℕ × Holder) → List (Option Holder)
+noted ws [] = ws
+noted ws (p ∷ ps) = noted (slice_set ws p.0 (Some p.1)) ps

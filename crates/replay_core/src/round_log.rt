@@ -1,0 +1,152 @@
+//! A log of rounds: in which round each place runs, and for which place it waited last.
+ghost use Rattle.std.specs.Prelude.{◌≡◌, ◌+◌, ◌≤◌, ◌<◌, ◌⊎◌, ◌↔◌, [], All, Err, IfOk, OnOk, None};
+ghost use Rattle.std.specs.Prelude.{length, map, replicate};
+ghost use Rattle.std.specs.Option.{option_map};
+ghost use Rattle.chain_plan.specs.Plan.{roles};
+ghost use Rattle.replay_core.specs.Rounds.{Stands};
+ghost use Rattle.replay_core.specs.Waits.{AreNoted, IsRoundLog, noted, waited_meant};
+ghost use Rattle.trace_format.specs.Steps.{places};
+ghost use Rattle.trace_format.specs.Text.{IsSpelled};
+ghost use Rattle.wave_pick.specs.HeldBack.{held_meant};
+
+use crate::gate::NoGate;
+use crate::parallel::WIDEST_WINDOW;
+use crate::progress::Progress;
+use crate::round::RoundFault;
+use crate::serial::ReplayFault;
+use chain_plan::Plan;
+use std::alloc::{AllocError, Global};
+use std::sync::Wait;
+use std::thread::Threads;
+use trace_format::{Series, Trace};
+use wave_pick::Held;
+use world_parts::Item;
+
+/// The place that another one waited for, and the item that both use.
+#[derive(Drop)]
+pub struct WaitedFor {
+    pub place: u32,
+    pub item: Item,
+}
+
+/// Of each place of a trace the number of its round, and what it waited for in the round before:
+/// nothing where there was none, or where the window didn't show it yet.
+#[derive(Drop)]
+pub struct RoundLog {
+    pub rounds: Series<u32>,
+    pub waits: Series<Option<WaitedFor>>,
+}
+
+/// The rounds of a trace for a window, as [`crate::parallel::replay`] runs them, and for each place
+/// the latest one that held it back in the round before its own, with the item that both use.
+///
+/// # Errors
+///
+/// Window where `window` isn't 1 to 4,096; else Memory, or NoThread. Then nothing is given.
+pub fn log_rounds<R: Threads + Wait + Sync>(
+    rt: &R,
+    alloc: Global,
+    trace: &Trace,
+    window: u32,
+) -> Result<RoundLog, ReplayFault>
+    requires { IsSpelled trace.now }
+    ensures log { IfOk result (λ log. IsRoundLog trace.now window log) }
+    ensures window { (result ≡ Err ReplayFault.Window) ↔ ((window ≡ 0) ⊎ (4096 < window)) }
+{
+    if !(1..=WIDEST_WINDOW).contains(&window) {
+        return Err(ReplayFault::Window);
+    }
+    match logged(rt, alloc, trace, window) {
+        Ok(log) => Ok(log),
+        Err(RoundFault::Memory) => Err(ReplayFault::Memory),
+        Err(RoundFault::NoThread) => Err(ReplayFault::NoThread),
+    }
+}
+
+/// Runs the places in rounds until all are done, and notes before each round for whom places wait.
+fn logged<R: Threads + Wait + Sync>(
+    rt: &R,
+    alloc: Global,
+    trace: &Trace,
+    window: u32,
+) -> Result<RoundLog, RoundFault>
+    requires trace { IsSpelled trace.now }
+    requires window { 1 ≤ window }
+    ensures { IfOk result (λ log. IsRoundLog trace.now window log) }
+{
+    let plan = Plan::of(alloc, trace)?;
+    let mut progress = Progress::new(alloc, trace, window)?;
+    let mut waits = no_waits(alloc, trace)?;
+    for _round in 0..trace.places() {
+        if progress.is_over() {
+            return Ok(finished(progress, waits, trace));
+        }
+        note(alloc, trace, &plan, &progress, &mut waits)?;
+        progress.run(rt, alloc, trace, &plan, 1, &NoGate)?;
+    }
+    Ok(finished(progress, waits, trace))
+}
+
+/// Before the first round no place has waited.
+fn no_waits(alloc: Global, trace: &Trace) -> Result<Vec<Option<WaitedFor>>, AllocError>
+    requires { IsSpelled trace.now }
+    ensures { IfOk result (λ waits. map (option_map waited_meant) waits.items
+        ≡ replicate (places trace.now) None) }
+{
+    let mut waits = Vec::new(alloc);
+    for _place in 0..trace.places() {
+        waits.push(None)?;
+    }
+    Ok(waits)
+}
+
+/// Notes for whom the places wait that the next round looks at and doesn't run.
+fn note(
+    alloc: Global,
+    trace: &Trace,
+    plan: &Plan,
+    progress: &Progress,
+    waits: &mut Vec<Option<WaitedFor>>,
+) -> Result<(), AllocError>
+    requires trace { IsSpelled trace.now }
+    requires plan { plan.now ≡ roles trace.now }
+    requires round { progress.now.round < places trace.now }
+    requires stands { Stands trace.now progress.now }
+    requires noted { AreNoted trace.now progress.now.window progress.now.round waits.old.items }
+    ensures { OnOk result
+        (AreNoted trace.now progress.now.window (progress.now.round + 1) waits.new.items) }
+{
+    let held = progress.held_back(alloc, trace, plan)?;
+    write_held(held, waits);
+    Ok(())
+}
+
+/// Writes what these places wait for over what is noted of them.
+fn write_held(held: Series<Held>, waits: &mut Vec<Option<WaitedFor>>)
+    requires { All (λ h. h.place < length waits.old.items) held }
+    ensures many { length waits.new.items ≡ length waits.old.items }
+    ensures noted { map (option_map waited_meant) waits.new.items
+        ≡ noted (map (option_map waited_meant) waits.old.items) (map held_meant held) }
+{
+    for found in held.into_vec() {
+        waits[found.place as usize] = Some(WaitedFor {
+            place: found.holder,
+            item: found.item,
+        });
+    }
+}
+
+/// What the log says once all places are done.
+fn finished(progress: Progress, waits: Vec<Option<WaitedFor>>, trace: &Trace) -> RoundLog
+    requires trace { IsSpelled trace.now }
+    requires stands { Stands trace.now progress }
+    requires over { (progress.front.items ≡ []) ⊎ (progress.round ≡ places trace.now) }
+    requires noted { AreNoted trace.now progress.window progress.round waits.items }
+    ensures { IsRoundLog trace.now progress.window result }
+{
+    let replay = progress.finish(trace);
+    RoundLog {
+        rounds: replay.rounds,
+        waits: Series::from_vec(waits),
+    }
+}
