@@ -4,6 +4,7 @@ use Rattle.deal_desk.specs.declared.hand.Hand.{Hand}
 use Rattle.deal_desk.specs.declared.job.Job.{Ghosts}
 use Rattle.deal_desk.specs.declared.desk.Desk.{Desk}
 use Rattle.deal_desk.specs.declared.desk.DeskSeat.{DeskSeat}
+use Rattle.deal_desk.specs.Hands.{HasSeats}
 
 -- the jobs that the desk was made with, by place
 abbrev pub jobs_of : {T D : Type 0} → Desk T D → List T
@@ -19,7 +20,7 @@ IsSeatOf desk seat = (seat.seat.table_id ≡ desk.table.shared.table_id) × ((ha
 
 -- the seat is one of this desk with nothing out, which has given and merged as many seats as one that knew v
 abbrev pub IsIdleSeatOf : {T D : Type 0} {g : Ghosts T D} → Desk T D → Hand T D → DeskSeat T D g → Type 0
-IsIdleSeatOf desk v seat = IsSeatOf desk seat × ((hand_of seat).out ≡ None) × ((hand_of seat).opens ≡ v.opens) × ((hand_of seat).given ≡ v.given) × ((hand_of seat).merged ≡ v.merged)
+IsIdleSeatOf desk v seat = IsSeatOf desk seat × ((hand_of seat).out ≡ None) × HasSeats v.opens v.given v.merged (hand_of seat)
 
 -- this is the value of the job at this place
 abbrev pub IsValueAt : {T D : Type 0} → (T → D → Type 0) → List T → ℕ → D → Type 0

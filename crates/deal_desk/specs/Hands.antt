@@ -1,5 +1,5 @@
 -- The model: what a seat knows, and how that changes.
-use Rattle.std.specs.Prelude.{◌≡◌, ℕ, ◌+◌, ◌≤◌, nat_lt, true, false, ◌||◌, ◌==◌, if◌then◌else◌, List, [], ◌∷◌, ◌++◌, map, length, count_by, option_to_list, Some, None}
+use Rattle.std.specs.Prelude.{◌≡◌, ℕ, Bool, ◌+◌, ◌≤◌, nat_lt, true, false, ◌||◌, ◌==◌, if◌then◌else◌, List, [], ◌∷◌, ◌++◌, map, length, count_by, option_to_list, Some, None}
 use Rattle.deal_desk.specs.declared.hand.Hand.{Hand}
 
 -- how often x stands in the list
@@ -50,6 +50,10 @@ module _ {T D : Type 0} where
   -- it has taken in the seat that knows w
   abbrev pub took_in : Hand T D → Hand T D → Hand T D
   took_in v w = record { jobs = v.jobs; opens = v.opens; live = v.live; out = v.out; back = v.back ++ w.back; dry = v.dry || w.dry; given = v.given; merged = (v.merged + w.merged) + 1 }
+
+  -- it opens the desk or not, and has given and merged so many seats
+  abbrev pub HasSeats : Bool → ℕ → ℕ → Hand T D → Type 0
+  HasSeats opens given merged v = (v.opens ≡ opens) × (v.given ≡ given) × (v.merged ≡ merged)
 
   -- the places that it has put back
   abbrev pub places_back : Hand T D → List ℕ

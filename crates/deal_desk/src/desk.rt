@@ -1,5 +1,6 @@
 //! The desk and its seats.
-ghost use Rattle.std.specs.Prelude.{◌≡◌, ℕ, ◌<◌, ◌^◌, ◌≤◌, [], Some, slice_get, vec_capacity, length, true, map, IfOk};
+ghost use Rattle.std.specs.Prelude.{◌≡◌, ℕ, ◌<◌, ◌^◌, ◌≤◌, [], Some, slice_get};
+ghost use Rattle.std.specs.Prelude.{vec_capacity, length, true, map, IfOk};
 ghost use Rattle.std.specs.Mem.Slots.{slots_items, slots_len, IsFull};
 ghost use mathlib.Core.Option.{some};
 ghost use lib.ListN.{get_elem?};
@@ -34,12 +35,14 @@ pub struct Desk<J: Job> {
 
 /// A seat at a desk, for one thread at a time. It has at most one place out: draw, put, draw, put.
 ///
-/// Where a seat is dropped with a place out, that place has no result, and the desk can never be closed.
+/// Where a seat is dropped with a place out, that place has no result, and the desk can never be
+/// closed.
 #[derive(Drop)]
 pub struct DeskSeat<J: Job> {
     seat: Seat<Slot<J, J::Done>, Hand<J, J::Done>>,
     dry: bool,
-    // No other seat has taken it in, the field says what the hand says, and the slot of the place that is out is with it.
+    // No other seat has taken it in, the field says what the hand says, and the slot of the place
+    // that is out is with it.
     ghost live: { seat.me.0.live ≡ true },
     ghost same: { dry ≡ seat.me.0.dry },
     ghost holds: { seat.me.1 ≡ held seat.me.0.out },
@@ -86,11 +89,13 @@ fn result_in<T: Drop, D: Drop>(slot: Slot<T, D>) -> D
 // The results of a closed table, in order of place.
 fn gathered<T: Drop, D: Drop>(mut closed: Closed<Slot<T, D>, Global>, mut results: Vec<D>) -> Vec<D>
     requires full { IsFull closed.words × IsFull closed.slots }
-    requires done { (k : ℕ) → k < slots_len closed.slots → (d : D) × (get_elem? (slots_items closed.slots) k ≡ some (Finished d)) }
+    requires done { (k : ℕ) → k < slots_len closed.slots
+        → (d : D) × (get_elem? (slots_items closed.slots) k ≡ some (Finished d)) }
     requires empty { results.items ≡ [] }
     requires room { slots_len closed.slots ≤ vec_capacity results }
     ensures all { length result.items ≡ slots_len closed.slots }
-    ensures each { (k : ℕ) (d : D) → slice_get result.items k ≡ Some d → get_elem? (slots_items closed.slots) k ≡ some (Finished d) }
+    ensures each { (k : ℕ) (d : D) → slice_get result.items k ≡ Some d
+        → get_elem? (slots_items closed.slots) k ≡ some (Finished d) }
 {
     for place in 0..closed.slot_count() {
         results.push_reserved(result_in(closed.take(place)));
@@ -111,9 +116,12 @@ fn laid_out<J: Job>(alloc: Global, jobs: Vec<J>) -> Result<Vec<Slot<J, J::Done>>
 }
 
 impl<J: Job> Desk<J> {
-    ghost use Rattle.std.specs.Prelude.{◌≡◌, ℕ, ◌<◌, ◌^◌, length, true, false, None, Some, IfOk, IfSome, IfNone, slice_get};
-    ghost use Rattle.deal_desk.specs.Hands.{opening_hand, further_hand, gave, drew, ran_dry, put_back, took_in, Knows, IsDeal, places_back};
-    ghost use Rattle.deal_desk.specs.Desks.{jobs_of, hand_of, IsSeatOf, IsValueAt, AreValues, WerePut};
+    ghost use Rattle.std.specs.Prelude.{◌≡◌, ℕ, ◌<◌, ◌^◌, length, true, false, None};
+    ghost use Rattle.std.specs.Prelude.{Some, IfOk, IfSome, IfNone, slice_get};
+    ghost use Rattle.deal_desk.specs.Hands.{opening_hand, further_hand, gave, drew, ran_dry};
+    ghost use Rattle.deal_desk.specs.Hands.{put_back, took_in, Knows, IsDeal, places_back};
+    ghost use Rattle.deal_desk.specs.Desks.{jobs_of, hand_of, IsSeatOf};
+    ghost use Rattle.deal_desk.specs.Desks.{IsValueAt, AreValues, WerePut};
 
     /// A desk with these jobs, fewer than 2^32 or none at all, and its opening seat.
     ///
@@ -125,7 +133,8 @@ impl<J: Job> Desk<J> {
     pub fn new(alloc: Global, jobs: Vec<J>) -> Result<(Desk<J>, DeskSeat<J>), DeskFault>
         requires { length jobs.items < 2 ^ 32 }
         ensures jobs { IfOk result (λ r. jobs_of r.0 ≡ jobs.items) }
-        ensures seat { IfOk result (λ r. IsSeatOf r.0 r.1 × (hand_of r.1 ≡ opening_hand jobs.items)) }
+        ensures seat { IfOk result
+            (λ r. IsSeatOf r.0 r.1 × (hand_of r.1 ≡ opening_hand jobs.items)) }
     {
         let snapshot = Snapshot::of(&jobs);
         let slots = laid_out(alloc, jobs)?;
@@ -148,9 +157,11 @@ impl<J: Job> Desk<J> {
         DeskSeat { seat, dry: false }
     }
 
-    /// The next job that nobody has drawn, with its place, which is then out with this seat. The seat has nothing else out.
+    /// The next job that nobody has drawn, with its place, which is then out with this seat. The
+    /// seat has nothing else out.
     ///
-    /// `None` where all have been drawn: the seat is dry from then on, and further draws take no step.
+    /// `None` where all have been drawn: the seat is dry from then on, and further draws take no
+    /// step.
     pub fn draw(&self, seat: &mut DeskSeat<J>) -> Option<(u32, J)>
         requires desk { IsSeatOf self.now seat.old }
         requires idle { (hand_of seat.old).out ≡ None }
@@ -202,9 +213,11 @@ impl<J: Job> Desk<J> {
             .fetch_add::<Finish>(&mut seat.seat, BACK, 1);
     }
 
-    /// Takes in a further seat that has nothing out: what it put back counts as put back by the first, which is dry where either was.
+    /// Takes in a further seat that has nothing out: what it put back counts as put back by the
+    /// first, which is dry where either was.
     ///
-    /// The opening seat that has merged as many seats as it gave, is dry and has nothing out then has every place, as `close` asks.
+    /// The opening seat that has merged as many seats as it gave, is dry and has nothing out then
+    /// has every place, as `close` asks.
     pub fn merge(&self, seat: &mut DeskSeat<J>, other: DeskSeat<J>)
         requires desk { IsSeatOf self.now seat.old × IsSeatOf self.now other }
         requires idle { (hand_of other).out ≡ None }
@@ -224,7 +237,8 @@ impl<J: Job> Desk<J> {
     ///
     /// # Errors
     ///
-    /// `DeskFault::Memory` where memory was refused for the list. The desk, the seat and the results are dropped.
+    /// `DeskFault::Memory` where memory was refused for the list. The desk, the seat and the
+    /// results are dropped.
     pub fn close(self, alloc: Global, seat: DeskSeat<J>) -> Result<Vec<J::Done>, DeskFault>
         requires desk { IsSeatOf self seat }
         requires all { IsDeal (length (jobs_of self)) (places_back (hand_of seat)) }

@@ -1,4 +1,5 @@
-//! The rule that the desk's table keeps, and what each kind of step tells the seat that takes it. These types are for the proofs alone.
+//! The rule that the desk's table keeps, and what each kind of step tells the seat that takes it.
+//! These types are for the proofs alone.
 ghost use Rattle.deal_desk.specs.Hands.{opening_hand, further_hand, gave, took_in, spent_hand};
 ghost use Rattle.deal_desk.specs.Steps.{draws, finishes, looks};
 
@@ -8,7 +9,8 @@ use atomic_table::{Join, Play, Split, TableRule};
 use std::marker::PhantomData;
 use std::snapshot::Snapshot;
 
-/// The rule: the places drawn are those below word 0, each with one seat, and the others have their jobs.
+/// The rule: the places drawn are those below word 0, each with one seat, and the others have their
+/// jobs.
 pub struct Dealing<J> {
     marker: PhantomData<J>,
 }

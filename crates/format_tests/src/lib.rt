@@ -1,4 +1,4 @@
-//! Entries, traces, checks and chains, as tests: their values are from hand.
+//! Entries, traces, checks, chains and compared reports, as tests: their values are from hand.
 #![tactic(auto)]
 
 #[cfg(test)]
@@ -7,6 +7,8 @@ mod chains;
 mod checks;
 #[cfg(test)]
 mod entries;
+#[cfg(test)]
+mod reports;
 #[cfg(test)]
 mod so_far;
 #[cfg(test)]

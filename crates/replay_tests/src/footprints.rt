@@ -1,4 +1,6 @@
 //! Footprints and reaches of places, and which of them collide.
+ghost use Rattle.std.specs.Prelude.{◌≡◌};
+ghost use Rattle.chain_plan.specs.Plan.{roles};
 ghost use Rattle.trace_format.specs.Text.{IsSpelled};
 
 use crate::text::{Submitted, make_directory, read, remove_directory, trace_of, write};
@@ -56,20 +58,30 @@ fn feet(alloc: Global, trace: &Trace) -> Result<Vec<Footprint>, Fail>
 {
     let plan = Plan::of(alloc, trace)?;
     let world = World::of(alloc, trace)?;
+    feet_in(alloc, trace, &plan, &world)
+}
+
+fn feet_in(alloc: Global, trace: &Trace, plan: &Plan, world: &World) -> Result<Vec<Footprint>, Fail>
+    requires trace { IsSpelled trace.now }
+    requires plan { plan.now ≡ roles trace.now }
+{
     let mut feet = Vec::new(alloc);
     for place in 0..trace.places() {
-        feet.push(foot(alloc, place, trace, &plan, &world)?)?;
+        feet.push(foot(alloc, place, trace, plan, world)?)?;
     }
     Ok(feet)
 }
 
-fn collides(alloc: Global, pair: &Pair<'_>) -> Result<bool, Fail> {
-    let trace = trace_of(alloc, &[pair.one, pair.other])?;
-    let feet = feet(alloc, &trace)?;
-    match feet.as_slice() {
+fn both_collide(feet: &[Footprint]) -> Result<bool, Fail> {
+    match feet {
         [one, other] => Ok(collide(one, other)),
         _ => Err(Fail::from("two places")),
     }
+}
+
+fn collides(alloc: Global, pair: &Pair<'_>) -> Result<bool, Fail> {
+    let trace = trace_of(alloc, &[pair.one, pair.other])?;
+    both_collide(feet(alloc, &trace)?.as_slice())
 }
 
 /// The number of the first pair that answers otherwise.
@@ -114,15 +126,22 @@ fn places_collide_on_what_one_writes(rt: HostRuntime) -> Result<(), Fail> {
     Ok(())
 }
 
-/// The reach of a read of the empty slot, behind earlier reaches.
-fn reached(alloc: Global, earlier: &[Footprint]) -> Result<Footprint, Fail> {
-    let trace = trace_of(alloc, &[read(1, 0, 4)])?;
+/// The reach of the first place, behind earlier reaches.
+fn first_reach(alloc: Global, trace: &Trace, earlier: &[Footprint]) -> Result<Footprint, Fail>
+    requires { IsSpelled trace.now }
+{
     if trace.places() == 0 {
         return Err(Fail::from("one place"));
     }
-    let plan = Plan::of(alloc, &trace)?;
-    let world = World::of(alloc, &trace)?;
-    Ok(reach(alloc, 0, &trace, &plan, &world, earlier)?)
+    let plan = Plan::of(alloc, trace)?;
+    let world = World::of(alloc, trace)?;
+    Ok(reach(alloc, 0, trace, &plan, &world, earlier)?)
+}
+
+/// The reach of a read of the empty slot, behind earlier reaches.
+fn reached(alloc: Global, earlier: &[Footprint]) -> Result<Footprint, Fail> {
+    let trace = trace_of(alloc, &[read(1, 0, 4)])?;
+    first_reach(alloc, &trace, earlier)
 }
 
 #[test]

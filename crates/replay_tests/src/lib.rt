@@ -1,6 +1,8 @@
-//! Worlds, footprints, places and replays of small traces, as tests: their values are from hand.
+//! Desks, worlds, footprints, places and replays of small traces, as tests: their values are from hand.
 #![tactic(auto)]
 
+#[cfg(test)]
+mod desks;
 #[cfg(test)]
 mod footprints;
 #[cfg(test)]
@@ -11,5 +13,7 @@ mod rounds;
 mod running;
 #[cfg(test)]
 mod text;
+#[cfg(test)]
+mod waiting;
 #[cfg(test)]
 mod worlds;

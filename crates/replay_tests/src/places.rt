@@ -163,10 +163,15 @@ fn fits(reply: &Reply, case: &Case<'_>) -> bool {
     reply.res == case.res && reply.posted == case.posted && reply.bytes.front(FRONT) == case.bytes
 }
 
-/// The number of the first case that gets another completion; the fill that comes first posts none.
+/// The number of the first case that gets another completion.
 fn first_wrong(alloc: Global, cases: &[Case<'_>]) -> Result<Option<usize>, Fail> {
     let ran = run(alloc, &text_of(alloc, cases)?)?;
-    let mut left = ran.replies.iter();
+    first_unfit(ran.replies.as_slice(), cases)
+}
+
+/// The number of the first case whose reply is another one; the fill that comes first posts none.
+fn first_unfit(replies: &[Reply], cases: &[Case<'_>]) -> Result<Option<usize>, Fail> {
+    let mut left = replies.iter();
     match left.next() {
         Some(reply) if reply.res == 0 && !reply.posted => {}
         _ => return Err(Fail::from("the fill posts")),

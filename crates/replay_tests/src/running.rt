@@ -18,18 +18,24 @@ pub(crate) struct Ran {
 fn run_places(alloc: Global, trace: &Trace) -> Result<Ran, Fail>
     requires { IsSpelled trace.now }
 {
-    let plan = Plan::of(alloc, trace)?;
     let state = State::of(alloc, trace)?;
     let mut part = Part { place: 0, state };
-    let mut replies = Vec::new(alloc);
-    for place in 0..trace.places() {
-        let role = plan.role(place);
-        replies.push(run_entry(alloc, place, trace, &role, &mut part)?)?;
-    }
+    let replies = replies_of(alloc, trace, &mut part)?;
     Ok(Ran {
         replies,
         state: part.state,
     })
+}
+
+fn replies_of(alloc: Global, trace: &Trace, part: &mut Part) -> Result<Vec<Reply>, Fail>
+    requires { IsSpelled trace.now }
+{
+    let plan = Plan::of(alloc, trace)?;
+    let mut replies = Vec::new(alloc);
+    for place in 0..trace.places() {
+        replies.push(run_entry(alloc, place, trace, &plan.role(place), part)?)?;
+    }
+    Ok(replies)
 }
 
 /// Runs the places of the trace that a text spells.

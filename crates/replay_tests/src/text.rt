@@ -71,6 +71,15 @@ pub(crate) fn write(slot: i32, off: u64, bytes: &[u8; 4]) -> Submitted<'_> {
     Submitted { sqe, side: bytes }
 }
 
+/// A NOP with flags.
+pub(crate) fn nop(flags: u32) -> Submitted<'static> {
+    let sqe = Sqe {
+        flags: (flags & 0xff) as u8,
+        ..BLANK
+    };
+    Submitted { sqe, side: &[] }
+}
+
 /// Makes a directory.
 pub(crate) fn make_directory(path: &[u8]) -> Submitted<'_> {
     let sqe = Sqe {

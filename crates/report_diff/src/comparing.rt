@@ -1,7 +1,8 @@
 //! Two reports from one input.
 ghost use Rattle.std.specs.Prelude.{◌≡◌, ◌≤◌, IfErr, IfOk, List, OnOk, length, ℕ};
 ghost use Rattle.std.specs.List.{flat_map, position_or_len};
-ghost use Rattle.report_diff.specs.Differences.{Adds, Holds, are_alike, difference_text, found, of_first, of_second};
+ghost use Rattle.report_diff.specs.Differences.{Adds, Holds, are_alike, difference_text, found};
+ghost use Rattle.report_diff.specs.Differences.{of_first, of_second};
 ghost use Rattle.report_diff.specs.Inputs.{Compares, TellsOfInput, begins, is_end};
 ghost use Rattle.report_diff.specs.declared.comparing.DiffFault.TheVariants.{Memory};
 ghost use Rattle.report_diff.specs.Lines.{IsIndex, texts};

@@ -2,7 +2,8 @@
 ghost use Rattle.std.specs.Prelude.{◌≡◌, ◌==◌, IfOk};
 ghost use Rattle.std.specs.List.{list_all, list_any, position_or_len};
 ghost use Rattle.std.specs.Str.{bytes_eq};
-ghost use Rattle.report_diff.specs.Differences.{agree, fact_name, fits, has_name, pair_outcome, lone_outcome};
+ghost use Rattle.report_diff.specs.Differences.{agree, fact_name, fits, has_name, pair_outcome};
+ghost use Rattle.report_diff.specs.Differences.{lone_outcome};
 ghost use Rattle.report_diff.specs.Lines.{texts};
 
 use crate::lines::{facts, words};

@@ -13,6 +13,3 @@ mod lines;
 mod telling;
 
 pub use comparing::{Comparison, DiffFault, Refusal, compare};
-
-#[cfg(test)]
-mod tests;

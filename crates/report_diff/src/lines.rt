@@ -2,7 +2,9 @@
 ghost use Rattle.std.specs.Prelude.{◌≡◌, ◌≤◌, IfOk};
 ghost use Rattle.std.specs.List.{list_any};
 ghost use Rattle.std.specs.Str.{bytes_eq};
-ghost use Rattle.report_diff.specs.Lines.{facts, first_words, heading_words, kind_of, lines, line_kind, section_of, subject, subject_words, texts, words};
+ghost use Rattle.report_diff.specs.Lines.{facts, first_words, heading_words, kind_of, lines};
+ghost use Rattle.report_diff.specs.Lines.{line_kind, section_of, subject, subject_words, texts};
+ghost use Rattle.report_diff.specs.Lines.{words};
 
 use std::alloc::{AllocError, Global};
 

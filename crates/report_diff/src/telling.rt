@@ -1,7 +1,9 @@
 //! What comparing lines finds, and its text.
 ghost use Rattle.std.specs.Prelude.{◌≡◌, ◌++◌, List, ℕ, OnOk, IfOk, string_bytes};
-ghost use Rattle.report_diff.specs.Differences.{Adds, count, count_line, counts_text, found_lacking, found_pair};
-ghost use Rattle.report_diff.specs.Differences.{is_of, no_difference, of_first, of_second, section_name, told};
+ghost use Rattle.report_diff.specs.Differences.{Adds, count, count_line, counts_text};
+ghost use Rattle.report_diff.specs.Differences.{found_lacking, found_pair};
+ghost use Rattle.report_diff.specs.Differences.{is_of, no_difference, of_first, of_second};
+ghost use Rattle.report_diff.specs.Differences.{section_name, told};
 ghost use Rattle.report_diff.specs.Lines.{IsIndex};
 
 use crate::facts::{lone_outcome, pair_outcome};

@@ -2,31 +2,18 @@
 #![tactic(auto)]
 
 ghost use Rattle.std.specs.Prelude.{IfOk};
-ghost use Rattle.uring_replay.specs.Words.{IsServedTask};
+ghost use Rattle.replay_program.specs.Words.{IsServedTask};
 
-mod differing;
-mod ending;
-mod fault;
-mod places;
-mod report;
-mod session;
-mod sums;
-mod transfer;
-mod words;
-mod zeros;
-
-use differing::run_diff;
-use ending::{Stream, fault_ending, usage_ending, usage_text};
-use fault::RunFault;
-use session::run;
+use replay_program::{
+    FromStd, RunFault, Stream, Task, Usage, fault_ending, no_memory, not_text, read_words, run,
+    run_diff, usage_ending, usage_text,
+};
 use std::alloc::AllocError;
 use std::env;
 use std::env::FillError;
 use std::io::ErrorKind;
 use std::process::ExitCode;
 use std::rt::Env;
-use transfer::FromStd;
-use words::{Task, Usage, no_memory, not_text, read_words};
 
 fn main(rt: HostRuntime) -> ExitCode {
     let task = match chosen(&rt) {
@@ -118,6 +105,3 @@ fn failed<R: Print + Eprint>(rt: &R, fault: RunFault) -> ExitCode {
     }
     ExitCode::from(ending.status)
 }
-
-#[cfg(test)]
-mod tests;

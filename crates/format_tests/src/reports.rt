@@ -1,0 +1,104 @@
+//! Reports of one trace, compared.
+
+use report_diff::{Comparison, DiffFault, Refusal, compare};
+use std::alloc::Global;
+use std::test::Fail;
+
+#[test]
+fn every_outcome_is_told(rt: HostRuntime) -> Result<(), Fail> {
+    let first = "uring-report 1
+ring 0
+0 user=1 res=5 posted data=6162
+1 user=2 res=-2 posted
+2 user=3 res=4 posted data=00ff
+3 user=4 res=0 posted
+4 user=5 res=0 silent
+5 user=6 res=7 posted
+6 user=7 res=1 posted
+tree
+dir /d
+file /d/a node=2 size=3 sum=aa
+file /d/b node=3 size=4
+slots
+slot 0 1 desc=0 node=2 pos=0
+end
+";
+    let second = "uring-report 1
+ring 0
+0 user=1 res=5 posted data=6162 op=22
+1 user=2 res=-9 posted op=18
+2 user=3 res=4 posted data=00fe op=22
+3 user=4 silent op=0
+4 user=5 res=0 op=5 by=recorder
+5 user=6 res=9 posted op=70 outside=opcode
+7 user=8 res=0 posted op=0
+tree
+dir /d
+file /d/a size=3
+file /d/c size=1 sum=bb
+end
+";
+    let told = "- 1 user=2 res=-2 posted
++ 1 user=2 res=-9 posted op=18
+- 2 user=3 res=4 posted data=00ff
++ 2 user=3 res=4 posted data=00fe op=22
+- 3 user=4 res=0 posted
++ 3 user=4 silent op=0
+~ 5 user=6 res=9 posted op=70 outside=opcode
+- 6 user=7 res=1 posted
+- file /d/b node=3 size=4
++ 7 user=8 res=0 posted op=0
++ file /d/c size=1 sum=bb
+entries 2 equal, 5 different, 1 outside
+tree 2 equal, 2 different, 0 outside
+slots 0 equal, 0 different, 0 outside
+buffers 0 equal, 0 different, 0 outside
+";
+    let Comparison { text, alike } = compared(rt.alloc(), first, second)?;
+    assert_eq!(rt; str::from_utf8(text.as_slice())?, told);
+    assert!(rt; !alike);
+    Ok(())
+}
+
+#[test]
+fn slots_of_their_ring_compare(rt: HostRuntime) -> Result<(), Fail> {
+    let first =
+        "uring-report 1\nslots\nslot 0 1 pos=0\ndescriptor 3 pos=4\nbuffers\nbuffer 0 1 len=2\nend\n";
+    let second =
+        "uring-report 1\nslots\nslot 0 1 pos=0\nslot 1 1 pos=0\ndescriptor 3 pos=4\nbuffers\nbuffer 0 1 len=2\nend\n";
+    let told = "+ slot 1 1 pos=0
+entries 0 equal, 0 different, 0 outside
+tree 0 equal, 0 different, 0 outside
+slots 2 equal, 1 different, 0 outside
+buffers 1 equal, 0 different, 0 outside
+";
+    let Comparison { text, alike } = compared(rt.alloc(), first, second)?;
+    assert_eq!(rt; str::from_utf8(text.as_slice())?, told);
+    assert!(rt; !alike);
+    let Comparison { alike, .. } = compared(rt.alloc(), first, first)?;
+    assert!(rt; alike);
+    Ok(())
+}
+
+#[test]
+fn one_report_is_refused(rt: HostRuntime) -> Result<(), Fail> {
+    let report = "uring-report 1\nring 0\nend\n";
+    let half = "uring-report 1\nring 0\n";
+    assert!(rt; is_refused(compared(rt.alloc(), "", report), Refusal::SecondHeading));
+    assert!(rt; is_refused(compared(rt.alloc(), "end\n", report), Refusal::FirstHeading));
+    assert!(rt; is_refused(compared(rt.alloc(), half, half), Refusal::FirstEnd));
+    assert!(rt; compared(rt.alloc(), report, half).is_ok());
+    Ok(())
+}
+
+fn compared(alloc: Global, first: &str, second: &str) -> Result<Comparison, DiffFault> {
+    let input = format!(in alloc; "{first}{second}")?;
+    compare(alloc, input.as_bytes())
+}
+
+fn is_refused(compared: Result<Comparison, DiffFault>, why: Refusal) -> bool {
+    match compared {
+        Ok(_) => false,
+        Err(fault) => fault == DiffFault::Refused(why),
+    }
+}

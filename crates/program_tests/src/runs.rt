@@ -1,0 +1,426 @@
+ghost use Rattle.std.specs.Prelude.{Some};
+ghost use Rattle.replay_program.specs.Words.{IsServed};
+
+use crate::examples::{
+    BUFFER_SELECTION_PERSONALITY_AND_RW_FLAGS_OF_READ, DRAIN_WAITS_FOR_EVERY_EARLIER_STEP,
+    EXCHANGE_OF_FILE_AND_DIRECTORY, FIXED_BUFFER_RANGE_FILL_AND_FIXED_WRITE,
+    GENERAL_TESTS_GIVE_EINVAL, LONG_DATA_ODD_NAMES_AND_A_LARGE_FILE,
+    NEIGHBOURING_WRITES_DO_NOT_COLLIDE, NO_RECORDS, OPEN_WRITE_CLOSE_CHAIN_THEN_EMPTY_SLOT,
+    OVERLAPPING_READS_SHARE_A_ROUND, READ_BEFORE_WRITE_PAST_END_ON_OTHER_RING, READ_FOUR_BYTES,
+    SUM_OF_A_SMALL_FILE, TWO_WRITTEN_RANGES_IN_ONE_PAGE, WRITE_PAST_END_THEN_READ_ON_OTHER_RING,
+};
+use replay_core::{ReplayFault, Verdict};
+use replay_program::{
+    Failed, FromStd, Mode, Options, ReportsFault, RunFault, Sink, Source, Task, UsageKind,
+    read_words, run, run_alone, run_diff, told,
+};
+use report_diff::Refusal;
+use std::io;
+use std::io::Read;
+use std::process::Abort;
+use std::sync::Wait;
+use std::test::Fail;
+use std::thread::Threads;
+use trace_format::{Kind, TraceFault};
+
+const SERIAL: Options = Options {
+    mode: Mode::Serial,
+    sums: false,
+};
+
+const SUMS: Options = Options {
+    mode: Mode::Serial,
+    sums: true,
+};
+
+const CHECK: Options = Options {
+    mode: Mode::Check,
+    sums: false,
+};
+
+fn run_with(workers: u32, window: u32, sums: bool) -> Options {
+    Options {
+        mode: Mode::Run { workers, window },
+        sums,
+    }
+}
+
+fn compare_with(workers: u32, window: u32) -> Options {
+    Options {
+        mode: Mode::Compare { workers, window },
+        sums: false,
+    }
+}
+
+#[test]
+fn reads_words(rt: HostRuntime) {
+    let cases: [(&[&str], Task); 8] = [
+        (["serial"].as_slice(), Task::Replay(SERIAL)),
+        (["serial", "--sums"].as_slice(), Task::Replay(SUMS)),
+        (["run"].as_slice(), Task::Replay(run_with(4, 64, false))),
+        (
+            ["run", "--workers", "7", "--window", "4096", "--sums"].as_slice(),
+            Task::Replay(run_with(7, 4096, true)),
+        ),
+        (["compare"].as_slice(), Task::Replay(compare_with(4, 64))),
+        (
+            ["compare", "--window=1", "--workers", "64"].as_slice(),
+            Task::Replay(compare_with(64, 1)),
+        ),
+        (["check"].as_slice(), Task::Replay(CHECK)),
+        (["diff"].as_slice(), Task::Diff),
+    ];
+    for (words, wanted) in cases {
+        let task = read_words(rt.alloc(), words).expect(&rt, "a task");
+        assert_eq!(rt; task, wanted);
+    }
+}
+
+#[test]
+fn refuses_words(rt: HostRuntime) {
+    let cases: [(&[&str], UsageKind); 13] = [
+        (["serial", "--help"].as_slice(), UsageKind::Help),
+        (["run", "--workers", "0"].as_slice(), UsageKind::Wrong),
+        (["run", "--workers", "65"].as_slice(), UsageKind::Wrong),
+        (["compare", "--window", "0"].as_slice(), UsageKind::Wrong),
+        (["compare", "--window", "4097"].as_slice(), UsageKind::Wrong),
+        (["compare", "--sums"].as_slice(), UsageKind::Wrong),
+        ([].as_slice(), UsageKind::Wrong),
+        (["parallel"].as_slice(), UsageKind::Wrong),
+        (["serial", "--sums", "trace"].as_slice(), UsageKind::Wrong),
+        (["serial", "--workers", "2"].as_slice(), UsageKind::Wrong),
+        (["check", "--sums"].as_slice(), UsageKind::Wrong),
+        (["diff", "--sums"].as_slice(), UsageKind::Wrong),
+        (["diff", "--help"].as_slice(), UsageKind::Help),
+    ];
+    for (words, kind) in cases {
+        let usage = read_words(rt.alloc(), words).expect_err(&rt, "usage");
+        assert_eq!(rt; usage.kind, kind);
+        assert!(rt; !usage.text.is_empty());
+    }
+}
+
+#[test]
+fn statuses_and_lines(rt: HostRuntime) -> Result<(), Fail> {
+    let refused = TraceFault {
+        kind: Kind::NoParent,
+        at: 35,
+    };
+    let no_memory = TraceFault {
+        kind: Kind::Memory,
+        at: 0,
+    };
+    let cases = [
+        (RunFault::Trace(refused), 1, "trace refused: NoParent at 35"),
+        (RunFault::Trace(no_memory), 3, "fault: memory"),
+        (RunFault::Replay(ReplayFault::Memory), 3, "fault: memory"),
+        (RunFault::Replay(ReplayFault::NoThread), 3, "fault: thread"),
+        (RunFault::Replay(ReplayFault::Workers), 2, "fault: workers"),
+        (RunFault::Replay(ReplayFault::Window), 2, "fault: window"),
+        (
+            RunFault::Reports(ReportsFault::Refused(Refusal::FirstEnd)),
+            1,
+            "reports refused: the first has no line end",
+        ),
+        (
+            RunFault::Reports(ReportsFault::TooLong),
+            1,
+            "reports refused: more than 1073741824 bytes",
+        ),
+        (RunFault::Reports(ReportsFault::Memory), 3, "fault: memory"),
+        (RunFault::Read, 3, "fault: read"),
+        (RunFault::Write, 3, "fault: write"),
+        (RunFault::Different, 4, "different"),
+    ];
+    for (fault, status, line) in cases {
+        assert_eq!(rt; fault.status(), status);
+        let text = fault.to_string(rt.alloc())?;
+        assert_eq!(rt; text.as_str(), line);
+    }
+    Ok(())
+}
+
+#[test]
+fn writes_reports(rt: HostRuntime) -> Result<(), Fail> {
+    let alloc = rt.alloc();
+    let cases = [
+        READ_FOUR_BYTES,
+        WRITE_PAST_END_THEN_READ_ON_OTHER_RING,
+        READ_BEFORE_WRITE_PAST_END_ON_OTHER_RING,
+        SUM_OF_A_SMALL_FILE,
+        NO_RECORDS,
+        NEIGHBOURING_WRITES_DO_NOT_COLLIDE,
+        OVERLAPPING_READS_SHARE_A_ROUND,
+        TWO_WRITTEN_RANGES_IN_ONE_PAGE,
+        GENERAL_TESTS_GIVE_EINVAL,
+        BUFFER_SELECTION_PERSONALITY_AND_RW_FLAGS_OF_READ,
+        LONG_DATA_ODD_NAMES_AND_A_LARGE_FILE,
+        OPEN_WRITE_CLOSE_CHAIN_THEN_EMPTY_SLOT,
+        EXCHANGE_OF_FILE_AND_DIRECTORY,
+        FIXED_BUFFER_RANGE_FILL_AND_FIXED_WRITE,
+        DRAIN_WAITS_FOR_EVERY_EARLIER_STEP,
+    ];
+    for case in cases {
+        let trace = hex::decode(alloc, case.trace).expect(&rt, "a trace");
+        for (options, report) in [(SERIAL, case.report), (SUMS, case.sums)] {
+            let mut reader = FromStd::new(trace.as_slice());
+            let mut writer = FromStd::new(Vec::new(alloc));
+            let done = run_alone(alloc, &mut reader, &mut writer, &options);
+            assert_eq!(rt; done, Ok(()));
+            assert_eq!(rt; writer.stream.as_slice(), report.as_bytes());
+        }
+    }
+    Ok(())
+}
+
+/// What a run on two workers, with a window of two places, writes for two places that don't collide.
+fn output_on_workers<R: Abort + AllocGlobal + Threads + Wait + Sync>(
+    rt: &R,
+    mode: Mode,
+    output: &str,
+)
+    requires { IsServed mode }
+{
+    let alloc = rt.alloc();
+    let trace = hex::decode(alloc, NEIGHBOURING_WRITES_DO_NOT_COLLIDE.trace).expect(rt, "a trace");
+    let options = Options { mode, sums: false };
+    let mut reader = FromStd::new(trace.as_slice());
+    let mut writer = FromStd::new(Vec::new(alloc));
+    let done = run(rt, alloc, &mut reader, &mut writer, &options);
+    assert_eq!(rt; done, Ok(()));
+    assert_eq!(rt; writer.stream.as_slice(), output.as_bytes());
+}
+
+#[test]
+fn runs_on_workers(rt: HostRuntime) {
+    let run = Mode::Run {
+        workers: 2,
+        window: 2,
+    };
+    output_on_workers(&rt, run, NEIGHBOURING_WRITES_DO_NOT_COLLIDE.report);
+    let compare = Mode::Compare {
+        workers: 2,
+        window: 2,
+    };
+    output_on_workers(&rt, compare, "equal\n");
+}
+
+#[test]
+fn tells_a_difference(rt: HostRuntime) {
+    let alloc = rt.alloc();
+    let mut writer = FromStd::new(Vec::new(alloc));
+    let done = told(alloc, &mut writer, Verdict::Reply(7));
+    assert_eq!(rt; done, Err(RunFault::Different));
+    assert_eq!(rt; writer.stream.as_slice(), "different reply 7\n".as_bytes());
+}
+
+#[test]
+fn compares_two_reports(rt: HostRuntime) {
+    let alloc = rt.alloc();
+    let counts = "tree 0 equal, 0 different, 0 outside\n\
+        slots 0 equal, 0 different, 0 outside\n\
+        buffers 0 equal, 0 different, 0 outside\n";
+    let reports =
+        "uring-report 1\n0 user=7 res=4 posted\nend\nuring-report 1\n0 user=7 res=4 posted op=1\nend\n";
+    let mut reader = FromStd::new(reports.as_bytes());
+    let mut writer = FromStd::new(Vec::new(alloc));
+    let done = run_diff(alloc, &mut reader, &mut writer);
+    assert_eq!(rt; done, Ok(()));
+    let text = format!(in alloc; "entries 1 equal, 0 different, 0 outside\n{counts}").expect(
+        &rt, "memory",
+    );
+    assert_eq!(rt; writer.stream.as_slice(), text.as_bytes());
+    let reports =
+        "uring-report 1\n0 user=7 res=4 posted\nend\nuring-report 1\n0 user=7 res=5 posted op=1\nend\n";
+    let mut reader = FromStd::new(reports.as_bytes());
+    let mut writer = FromStd::new(Vec::new(alloc));
+    let done = run_diff(alloc, &mut reader, &mut writer);
+    assert_eq!(rt; done, Err(RunFault::Different));
+    let text = format!(in alloc;
+        "- 0 user=7 res=4 posted\n+ 0 user=7 res=5 posted op=1\nentries 0 equal, 1 different, 0 outside\n{counts}"
+    ).expect(&rt, "memory");
+    assert_eq!(rt; writer.stream.as_slice(), text.as_bytes());
+}
+
+#[test]
+fn writes_nothing_for_one_report(rt: HostRuntime) {
+    let alloc = rt.alloc();
+    let report = "uring-report 1\nring 0\nend\n";
+    let mut reader = FromStd::new(report.as_bytes());
+    let mut writer = FromStd::new(Vec::new(alloc));
+    let done = run_diff(alloc, &mut reader, &mut writer);
+    let refused = ReportsFault::Refused(Refusal::SecondHeading);
+    assert_eq!(rt; done, Err(RunFault::Reports(refused)));
+    assert!(rt; writer.stream.is_empty());
+}
+
+#[test]
+fn writes_the_line_of_a_check(rt: HostRuntime) -> Result<(), Fail> {
+    let alloc = rt.alloc();
+    let cases = [
+        (READ_FOUR_BYTES, "ok 1 places 1 rings\n"),
+        (
+            WRITE_PAST_END_THEN_READ_ON_OTHER_RING,
+            "ok 2 places 2 rings\n",
+        ),
+        // Three places of one record.
+        (GENERAL_TESTS_GIVE_EINVAL, "ok 3 places 1 rings\n"),
+        (SUM_OF_A_SMALL_FILE, "ok 0 places 1 rings\n"),
+    ];
+    for (case, line) in cases {
+        let trace = hex::decode(alloc, case.trace).expect(&rt, "a trace");
+        let mut reader = FromStd::new(trace.as_slice());
+        let mut writer = FromStd::new(Vec::new(alloc));
+        let done = run_alone(alloc, &mut reader, &mut writer, &CHECK);
+        assert_eq!(rt; done, Ok(()));
+        assert_eq!(rt; writer.stream.as_slice(), line.as_bytes());
+    }
+    Ok(())
+}
+
+#[test]
+fn writes_nothing_for_a_refused_trace(rt: HostRuntime) -> Result<(), Fail> {
+    let alloc = rt.alloc();
+    let trace = hex::decode(alloc, READ_FOUR_BYTES.trace).expect(&rt, "a trace");
+    let mut reader = FromStd::new(trace.as_slice().get(..176).ok_or("176 bytes")?);
+    let mut writer = FromStd::new(Vec::new(alloc));
+    let done = run_alone(alloc, &mut reader, &mut writer, &SERIAL);
+    let short = TraceFault {
+        kind: Kind::Short,
+        at: 176,
+    };
+    assert_eq!(rt; done, Err(RunFault::Trace(short)));
+    assert!(rt; writer.stream.is_empty());
+    Ok(())
+}
+
+/// A reader that gives a byte a call, and fails at one call.
+#[derive(Drop)]
+struct SlowReader<'a> {
+    bytes: &'a [u8],
+    turns: u64,
+    failures: u64,
+}
+
+impl Source for SlowReader<'_> {
+    ghost left = { λ reader. Some reader.bytes.now };
+
+    ghost failures = { λ reader. reader.failures };
+
+    fn read_some(&mut self, buffer: &mut [u8]) -> Result<usize, Failed> {
+        if self.turns == 0 {
+            self.failures += 1;
+            return Err(Failed);
+        }
+        self.turns -= 1;
+        match self.bytes {
+            [first, rest @ ..] if !buffer.is_empty() => {
+                buffer[0] = *first;
+                self.bytes = rest;
+                Ok(1)
+            }
+            _ => Ok(0),
+        }
+    }
+}
+
+#[test]
+fn stops_at_a_failed_read(rt: HostRuntime) {
+    let alloc = rt.alloc();
+    let trace = hex::decode(alloc, READ_FOUR_BYTES.trace).expect(&rt, "a trace");
+    // One call for each of the 177 bytes, and one that finds the end.
+    for turns in 0..179u64 {
+        let mut reader = SlowReader {
+            bytes: trace.as_slice(),
+            turns,
+            failures: 0,
+        };
+        let mut writer = FromStd::new(Vec::new(alloc));
+        let done = run_alone(alloc, &mut reader, &mut writer, &SERIAL);
+        if turns < 178 {
+            assert_eq!(rt; done, Err(RunFault::Read));
+            assert!(rt; writer.stream.is_empty());
+        } else {
+            assert_eq!(rt; done, Ok(()));
+            assert_eq!(rt; writer.stream.as_slice(), READ_FOUR_BYTES.report.as_bytes());
+        }
+    }
+}
+
+/// A writer that takes a byte a call, and at one call fails or takes none.
+#[derive(Drop)]
+struct SlowWriter {
+    taken: Vec<u8>,
+    turns: u64,
+    takes_none: bool,
+    failures: u64,
+}
+
+impl Sink for SlowWriter {
+    ghost written = { λ writer. Some writer.taken.items };
+
+    ghost failures = { λ writer. writer.failures };
+
+    fn write_some(&mut self, bytes: &[u8]) -> Result<usize, Failed> {
+        if self.turns > 0 {
+            if let [first, ..] = bytes {
+                if self.taken.push(*first).is_ok() {
+                    self.turns -= 1;
+                    return Ok(1);
+                }
+            }
+        }
+        self.failures += 1;
+        if self.takes_none { Ok(0) } else { Err(Failed) }
+    }
+}
+
+#[test]
+fn stops_at_a_failed_write(rt: HostRuntime) -> Result<(), Fail> {
+    let alloc = rt.alloc();
+    let trace = hex::decode(alloc, READ_FOUR_BYTES.trace).expect(&rt, "a trace");
+    let report = READ_FOUR_BYTES.report.as_bytes();
+    for takes_none in [false, true] {
+        for turns in 0..report.len() + 1 {
+            let mut reader = FromStd::new(trace.as_slice());
+            let mut writer = SlowWriter {
+                taken: Vec::new(alloc),
+                turns: turns as u64,
+                takes_none,
+                failures: 0,
+            };
+            let done = run_alone(alloc, &mut reader, &mut writer, &SERIAL);
+            let front = report.get(..turns).ok_or("a front of the report")?;
+            assert_eq!(rt; writer.taken.as_slice(), front);
+            if turns < report.len() {
+                assert_eq!(rt; done, Err(RunFault::Write));
+            } else {
+                assert_eq!(rt; done, Ok(()));
+            }
+        }
+    }
+    Ok(())
+}
+
+/// A reader of std that is interrupted.
+struct Interrupted;
+
+impl Read for Interrupted {
+    fn read(&mut self, _buffer: &mut [u8]) -> io::Result<usize> {
+        Err(io::Error::from(io::ErrorKind::Interrupted))
+    }
+}
+
+#[test]
+fn takes_interrupted_for_a_failure(rt: HostRuntime) {
+    let alloc = rt.alloc();
+    let mut reader = FromStd::new(Interrupted);
+    let mut writer = FromStd::new(Vec::new(alloc));
+    let done = run_alone(alloc, &mut reader, &mut writer, &SERIAL);
+    assert_eq!(rt; done, Err(RunFault::Read));
+    assert!(rt; writer.stream.is_empty());
+    let FromStd {
+        stream: Interrupted,
+        failures: _,
+    } = reader;
+}

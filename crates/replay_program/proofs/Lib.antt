@@ -1,0 +1,7 @@
+mod TransferLemmas
+mod SessionLemmas
+mod Comparison
+mod NumberWords
+mod OptionWalk
+mod RoundWords
+mod WordsLemmas

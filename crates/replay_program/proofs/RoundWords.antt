@@ -1,0 +1,220 @@
+-- What the parser makes of the words of `run` and `compare`.
+use Rattle.std.proofs.Common.{◌≡◌, ◌∙◌, ℕ, Bool, true, false, List, [], ◌∷◌, Some, codes, refl, ap}
+use Rattle.std.specs.Prelude.{◌&&◌, ⊤, find, pos, unwrap_or}
+use Rattle.std.specs.List.{list_all}
+use Rattle.clap.specs.ValueTests.{accepts}
+use Rattle.clap.specs.Walk.{Held, Row, Rule, Text, answers_to, finished, nothing_held, walk, walk_from}
+use Rattle.clap.specs.Simple.{Shape, built, filled, label_of}
+use Rattle.clap.specs.Takes.{default_passes, is_valid, settle_passes, walk_passes}
+use Rattle.clap.specs.Words.{one_of}
+use Rattle.clap.specs.declared.builder.value_parser.ValueParser.TheVariants as vp
+use Rattle.clap.proofs.OnLiterals.{clap_on_literals}
+use Rattle.replay_program.specs.Words.{check_command, flag_text, replayer, sums_words, workers_option, window_option}
+use Rattle.replay_program.proofs.NumberWords.{IsValue}
+use Rattle.replay_program.proofs.OptionWalk.{IsOption, at, given, value_folded, value_passed}
+
+-- a subcommand as the parser has built it
+abbrev pub leaf : Text → Shape
+leaf name = unwrap_or (find (λ s. answers_to name (label_of s)) (built replayer).subs) check_command.top
+
+abbrev pub workers_rule : Rule
+workers_rule = filled workers_option
+
+abbrev pub window_rule : Rule
+window_rule = filled window_option
+
+workers_of_run : IsOption (leaf (codes "run")).rules workers_rule (codes "--workers") (codes "workers")
+workers_of_run = record { long = refl; dashes = refl; by_long = refl; by_id = refl; one = refl; same = refl }
+
+window_of_run : IsOption (leaf (codes "run")).rules window_rule (codes "--window") (codes "window")
+window_of_run = record { long = refl; dashes = refl; by_long = refl; by_id = refl; one = refl; same = refl }
+
+workers_of_compare : IsOption (leaf (codes "compare")).rules workers_rule (codes "--workers") (codes "workers")
+workers_of_compare = record { long = refl; dashes = refl; by_long = refl; by_id = refl; one = refl; same = refl }
+
+window_of_compare : IsOption (leaf (codes "compare")).rules window_rule (codes "--window") (codes "window")
+window_of_compare = record { long = refl; dashes = refl; by_long = refl; by_id = refl; one = refl; same = refl }
+
+-- the words behind a subcommand are taken, and leave these texts and rows of which P holds
+pub record Leaves (s : Shape) (workers window : Text) (P : List Row → Type 0) (words : List Text) : Type 0 where
+  pub end : Held
+  pub walked : walk s.rules [] nothing_held words ≡ at end
+  pub passes : walk_passes s [] (walk_from nothing_held) words ≡ true
+  pub rest : (settle_passes s.rules s.args_override_self end && (list_all default_passes s.rules && is_valid s (finished s.rules end) false)) ≡ true
+  pub workers_text : one_of (codes "workers") (finished s.rules end) ≡ Some workers
+  pub window_text : one_of (codes "window") (finished s.rules end) ≡ Some window
+  pub others : P (finished s.rules end)
+
+abbrev pub HasSums : Bool → List Row → Type 0
+HasSums sums rows = one_of (codes "sums") rows ≡ Some (flag_text sums)
+
+-- the text of a number that its option takes
+pub record IsTaken (most : ℕ) (t : Text) : Type 0 where
+  pub value : IsValue t
+  pub accepted : accepts false (vp.Signed (pos 1) (pos most)) t ≡ true
+
+pub run_both : (t : Text) (u : Text) (sums : Bool) → IsTaken 64 t → IsTaken 4096 u → Leaves (leaf (codes "run")) t u (HasSums sums) (codes "--workers" ∷ t ∷ codes "--window" ∷ u ∷ sums_words sums)
+unfolding clap_on_literals
+run_both t u false a b =
+    let s = leaf (codes "run") in
+    let h1 = given s.rules (codes "workers") t nothing_held in
+    let h2 = given s.rules (codes "window") u h1 in record {
+      end = h2;
+      walked = value_folded s workers_rule (codes "--workers") (codes "workers") t (codes "--window" ∷ u ∷ []) nothing_held workers_of_run a.value
+          ∙ value_folded s window_rule (codes "--window") (codes "window") u [] h1 window_of_run b.value;
+      passes = value_passed s workers_rule (codes "--workers") (codes "workers") t (codes "--window" ∷ u ∷ []) nothing_held workers_of_run a.value
+          ∙ (ap (λ x. true && x) (value_passed s window_rule (codes "--window") (codes "window") u [] h1 window_of_run b.value) ∙ rw a.accepted refl);
+      rest = rw b.accepted refl;
+      workers_text = rw a.value.plain refl;
+      window_text = rw b.value.plain refl;
+      others = refl;
+    }
+run_both t u true a b =
+    let s = leaf (codes "run") in
+    let h1 = given s.rules (codes "workers") t nothing_held in
+    let h2 = given s.rules (codes "window") u h1 in
+    let more = codes "--sums" ∷ [] in record {
+      end = _;
+      walked = value_folded s workers_rule (codes "--workers") (codes "workers") t (codes "--window" ∷ u ∷ more) nothing_held workers_of_run a.value
+          ∙ value_folded s window_rule (codes "--window") (codes "window") u more h1 window_of_run b.value;
+      passes = value_passed s workers_rule (codes "--workers") (codes "workers") t (codes "--window" ∷ u ∷ more) nothing_held workers_of_run a.value
+          ∙ (ap (λ x. true && x) (value_passed s window_rule (codes "--window") (codes "window") u more h1 window_of_run b.value) ∙ rw (a.accepted, b.accepted) refl);
+      rest = refl;
+      workers_text = rw a.value.plain refl;
+      window_text = rw b.value.plain refl;
+      others = refl;
+    }
+
+pub run_workers : (t : Text) (sums : Bool) → IsTaken 64 t → Leaves (leaf (codes "run")) t (codes "64") (HasSums sums) (codes "--workers" ∷ t ∷ sums_words sums)
+unfolding clap_on_literals
+run_workers t false a =
+    let s = leaf (codes "run") in
+    let h1 = given s.rules (codes "workers") t nothing_held in record {
+      end = h1;
+      walked = value_folded s workers_rule (codes "--workers") (codes "workers") t [] nothing_held workers_of_run a.value;
+      passes = value_passed s workers_rule (codes "--workers") (codes "workers") t [] nothing_held workers_of_run a.value ∙ refl;
+      rest = rw a.accepted refl;
+      workers_text = rw a.value.plain refl;
+      window_text = refl;
+      others = refl;
+    }
+run_workers t true a =
+    let s = leaf (codes "run") in
+    let h1 = given s.rules (codes "workers") t nothing_held in
+    let more = codes "--sums" ∷ [] in record {
+      end = _;
+      walked = value_folded s workers_rule (codes "--workers") (codes "workers") t more nothing_held workers_of_run a.value;
+      passes = value_passed s workers_rule (codes "--workers") (codes "workers") t more nothing_held workers_of_run a.value ∙ rw a.accepted refl;
+      rest = refl;
+      workers_text = rw a.value.plain refl;
+      window_text = refl;
+      others = refl;
+    }
+
+pub run_window : (u : Text) (sums : Bool) → IsTaken 4096 u → Leaves (leaf (codes "run")) (codes "4") u (HasSums sums) (codes "--window" ∷ u ∷ sums_words sums)
+unfolding clap_on_literals
+run_window u false b =
+    let s = leaf (codes "run") in
+    let h1 = given s.rules (codes "window") u nothing_held in record {
+      end = h1;
+      walked = value_folded s window_rule (codes "--window") (codes "window") u [] nothing_held window_of_run b.value;
+      passes = value_passed s window_rule (codes "--window") (codes "window") u [] nothing_held window_of_run b.value ∙ refl;
+      rest = rw b.accepted refl;
+      workers_text = refl;
+      window_text = rw b.value.plain refl;
+      others = refl;
+    }
+run_window u true b =
+    let s = leaf (codes "run") in
+    let h1 = given s.rules (codes "window") u nothing_held in
+    let more = codes "--sums" ∷ [] in record {
+      end = _;
+      walked = value_folded s window_rule (codes "--window") (codes "window") u more nothing_held window_of_run b.value;
+      passes = value_passed s window_rule (codes "--window") (codes "window") u more nothing_held window_of_run b.value ∙ rw b.accepted refl;
+      rest = refl;
+      workers_text = refl;
+      window_text = rw b.value.plain refl;
+      others = refl;
+    }
+
+pub run_none : (sums : Bool) → Leaves (leaf (codes "run")) (codes "4") (codes "64") (HasSums sums) (sums_words sums)
+unfolding clap_on_literals
+run_none false =
+    let s = leaf (codes "run") in record {
+      end = nothing_held;
+      walked = refl;
+      passes = refl;
+      rest = refl;
+      workers_text = refl;
+      window_text = refl;
+      others = refl;
+    }
+run_none true =
+    let s = leaf (codes "run") in
+    let more = codes "--sums" ∷ [] in record {
+      end = _;
+      walked = refl;
+      passes = refl;
+      rest = refl;
+      workers_text = refl;
+      window_text = refl;
+      others = refl;
+    }
+
+pub compare_both : (t : Text) (u : Text) → IsTaken 64 t → IsTaken 4096 u → Leaves (leaf (codes "compare")) t u (λ rows. ⊤) (codes "--workers" ∷ t ∷ codes "--window" ∷ u ∷ [])
+unfolding clap_on_literals
+compare_both t u a b =
+    let s = leaf (codes "compare") in
+    let h1 = given s.rules (codes "workers") t nothing_held in
+    let h2 = given s.rules (codes "window") u h1 in record {
+      end = h2;
+      walked = value_folded s workers_rule (codes "--workers") (codes "workers") t (codes "--window" ∷ u ∷ []) nothing_held workers_of_compare a.value
+          ∙ value_folded s window_rule (codes "--window") (codes "window") u [] h1 window_of_compare b.value;
+      passes = value_passed s workers_rule (codes "--workers") (codes "workers") t (codes "--window" ∷ u ∷ []) nothing_held workers_of_compare a.value
+          ∙ (ap (λ x. true && x) (value_passed s window_rule (codes "--window") (codes "window") u [] h1 window_of_compare b.value) ∙ rw a.accepted refl);
+      rest = rw b.accepted refl;
+      workers_text = rw a.value.plain refl;
+      window_text = rw b.value.plain refl;
+      others = tt;
+    }
+
+pub compare_workers : (t : Text) → IsTaken 64 t → Leaves (leaf (codes "compare")) t (codes "64") (λ rows. ⊤) (codes "--workers" ∷ t ∷ [])
+unfolding clap_on_literals
+compare_workers t a =
+    let s = leaf (codes "compare") in
+    let h1 = given s.rules (codes "workers") t nothing_held in record {
+      end = h1;
+      walked = value_folded s workers_rule (codes "--workers") (codes "workers") t [] nothing_held workers_of_compare a.value;
+      passes = value_passed s workers_rule (codes "--workers") (codes "workers") t [] nothing_held workers_of_compare a.value ∙ refl;
+      rest = rw a.accepted refl;
+      workers_text = rw a.value.plain refl;
+      window_text = refl;
+      others = tt;
+    }
+
+pub compare_window : (u : Text) → IsTaken 4096 u → Leaves (leaf (codes "compare")) (codes "4") u (λ rows. ⊤) (codes "--window" ∷ u ∷ [])
+unfolding clap_on_literals
+compare_window u b =
+    let s = leaf (codes "compare") in
+    let h1 = given s.rules (codes "window") u nothing_held in record {
+      end = h1;
+      walked = value_folded s window_rule (codes "--window") (codes "window") u [] nothing_held window_of_compare b.value;
+      passes = value_passed s window_rule (codes "--window") (codes "window") u [] nothing_held window_of_compare b.value ∙ refl;
+      rest = rw b.accepted refl;
+      workers_text = refl;
+      window_text = rw b.value.plain refl;
+      others = tt;
+    }
+
+pub compare_none : Leaves (leaf (codes "compare")) (codes "4") (codes "64") (λ rows. ⊤) ([])
+unfolding clap_on_literals
+compare_none =
+    let s = leaf (codes "compare") in record {
+      end = nothing_held;
+      walked = refl;
+      passes = refl;
+      rest = refl;
+      workers_text = refl;
+      window_text = refl;
+      others = tt;
+    }

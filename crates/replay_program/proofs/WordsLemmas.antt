@@ -1,0 +1,271 @@
+-- What the parser of the command line does with the words that are known.
+use Rattle.std.proofs.Common.{◌≡◌, ◌⊎◌, ◌≤◌, ◌<◌, ◌^◌, ℕ, Bool, true, false, List, [], ◌∷◌, ◌++◌, Option, None, Some, Ok, Err, codes, refl, sym, ap, ap₂, ◌∙◌, subst, inl, inr, suc, map, Contains, arith}
+use Rattle.std.specs.Prelude.{⊤, Result}
+use Rattle.std.specs.Option.{option_map}
+use Rattle.std.specs.Result.{MatchResult}
+use Rattle.std.specs.Fmt.{decimal}
+use Rattle.std.specs.Str.Parse.{ParsesUnsigned}
+use Rattle.std.proofs.lemmas.Fmt.{decimal_digit, decimal_is_IsNumeral, decimal_step, parse-decimal}
+use Rattle.std.proofs.lemmas.Option.{same_Some}
+use Rattle.std.proofs.lemmas.Result.{MatchResult-weaker}
+use Rattle.clap.proofs.WalkLemmas.{one_text-rows}
+use Rattle.clap.specs.Matches.{ReadsOne}
+use Rattle.clap.specs.Simple.{built, entered, names_of}
+use Rattle.clap.specs.Takes.{level_passes}
+use Rattle.clap.specs.Walk.{Walk, finished, nothing_held, walk, walk_from}
+use Rattle.clap.specs.Words.{App, FailsBy, HasKind, HasMatchesOf, IsAmong, Row, fault_of, found_of, one_of, one_text, rows_of, is_simple, is_simple_and_free, kind_of, subcommand_name_of, subcommand_of, subcommand_rows_of, takes}
+use Rattle.clap.specs.declared.error.Error.{Error}
+use Rattle.clap.specs.declared.error.kind.ErrorKind.{ErrorKind}
+use Rattle.clap.specs.declared.error.kind.ErrorKind.TheVariants.{DisplayHelp, OutOfMemory}
+use Rattle.clap.specs.declared.parser.matches.ArgMatches.{ArgMatches}
+use Rattle.clap.specs.declared.parser.matches.ArgMatches.TheViews.{out-ArgMatches}
+use Rattle.clap.proofs.OnLiterals.{clap_on_literals}
+use Rattle.replay_program.specs.declared.words.Mode.{Mode}
+use Rattle.replay_program.specs.declared.words.Mode.TheVariants.{Serial, Run, Compare, Check}
+use Rattle.replay_program.specs.declared.words.Options.{Options}
+use Rattle.replay_program.specs.declared.words.Task.{Task}
+use Rattle.replay_program.specs.declared.words.Task.TheVariants.{Replay, Diff}
+use Rattle.replay_program.specs.declared.words.UsageKind.{UsageKind}
+use Rattle.replay_program.specs.declared.words.UsageKind.TheVariants.{Memory}
+use Rattle.replay_program.specs.Words.{AreFound, AreRoundOptions, AskFor, AskForHelp, AskForMode, HasFlag, HasNumbers, IsFound, flag_text, kind_meant, replayer, sums_words, text_in}
+use Rattle.replay_program.proofs.NumberWords.{accepted, number_is_value}
+use Rattle.replay_program.proofs.OptionWalk.{at, level_by_parts, stopped_at, stopped_passes, stopped_walk, takes_by_parts}
+use Rattle.replay_program.proofs.RoundWords.{HasSums, IsTaken, Leaves, compare_both, compare_none, compare_window, compare_workers, leaf, run_both, run_none, run_window, run_workers}
+
+taken : (n most : ℕ) → 1 ≤ n → n ≤ most → most < 2 ^ 63 → IsTaken most (decimal n)
+taken n most low high small = record { value = number_is_value (decimal n) (decimal_is_IsNumeral n (omega arith)).0; accepted = accepted n most low high small }
+
+four : (n : ℕ) → n ≡ 4 → decimal n ≡ codes "4"
+four n e = ap decimal e ∙ decimal_digit 4 (omega arith)
+
+sixty_four : (n : ℕ) → n ≡ 64 → decimal n ≡ codes "64"
+sixty_four n e = ap decimal e ∙ decimal_step 64 (omega arith) (omega arith) ∙ ap (λ ds. ds ++ 52 ∷ []) (decimal_digit 6 (omega arith))
+
+-- the words of the options of a run are taken
+run_leaves : (workers window : ℕ) (sums : Bool) (chosen : List (List ℕ)) → AreRoundOptions workers window chosen
+    → Leaves (leaf (codes "run")) (decimal workers) (decimal window) (HasSums sums) (chosen ++ sums_words sums)
+run_leaves workers window sums chosen o =
+    let a = taken workers 64 o.served.0 o.served.1 (omega arith) in
+    let b = taken window 4096 o.served.2 o.served.3 (omega arith) in
+    elim o.with_workers [
+      | inl t ↦ elim o.with_window [
+        | inl u ↦ rw (o.together, t, u) (run_both (decimal workers) (decimal window) sums a b)
+        | inr u ↦ rw (o.together, t, u.1, sixty_four window u.0) (run_workers (decimal workers) sums a)
+      ]
+      | inr t ↦ elim o.with_window [
+        | inl u ↦ rw (o.together, t.1, u, four workers t.0) (run_window (decimal window) sums b)
+        | inr u ↦ rw (o.together, t.1, u.1, four workers t.0, sixty_four window u.0) (run_none sums)
+      ]
+    ]
+
+compare_leaves : (workers window : ℕ) (chosen : List (List ℕ)) → AreRoundOptions workers window chosen
+    → Leaves (leaf (codes "compare")) (decimal workers) (decimal window) (λ rows. ⊤) chosen
+compare_leaves workers window chosen o =
+    let a = taken workers 64 o.served.0 o.served.1 (omega arith) in
+    let b = taken window 4096 o.served.2 o.served.3 (omega arith) in
+    elim o.with_workers [
+      | inl t ↦ elim o.with_window [
+        | inl u ↦ rw (o.together, t, u) (compare_both (decimal workers) (decimal window) a b)
+        | inr u ↦ rw (o.together, t, u.1, sixty_four window u.0) (compare_workers (decimal workers) a)
+      ]
+      | inr t ↦ elim o.with_window [
+        | inl u ↦ rw (o.together, t.1, u, four workers t.0) (compare_window (decimal window) b)
+        | inr u ↦ rw (o.together, t.1, u.1, four workers t.0, sixty_four window u.0) compare_none
+      ]
+    ]
+
+-- at the name of a subcommand the walk over the program's own words ends
+stops_at_run : (words : List (List ℕ)) → walk (built replayer).top.rules (names_of (built replayer)) nothing_held (codes "run" ∷ words) ≡ stopped_at (codes "run") words (walk_from nothing_held)
+unfolding clap_on_literals
+stops_at_run words = stopped_walk (built replayer).top.rules (names_of (built replayer)) (walk_from nothing_held) (codes "run") [] words
+
+stops_at_compare : (words : List (List ℕ)) → walk (built replayer).top.rules (names_of (built replayer)) nothing_held (codes "compare" ∷ words) ≡ stopped_at (codes "compare") words (walk_from nothing_held)
+unfolding clap_on_literals
+stops_at_compare words = stopped_walk (built replayer).top.rules (names_of (built replayer)) (walk_from nothing_held) (codes "compare") [] words
+
+module _ (workers window : List ℕ) (P : List Row → Type 0) (words : List (List ℕ)) where
+  run_found : (l : Leaves (leaf (codes "run")) workers window P words) → subcommand_of replayer (codes "run" ∷ words) ≡ Some (codes "run", finished (leaf (codes "run")).rules l.end)
+  unfolding clap_on_literals
+  run_found l = ap (λ (w : Walk). entered (built replayer) w.stopped) (stops_at_run words) ∙ ap (λ (w : Walk). Some (codes "run", finished (leaf (codes "run")).rules w.held)) l.walked
+
+  compare_found : (l : Leaves (leaf (codes "compare")) workers window P words) → subcommand_of replayer (codes "compare" ∷ words) ≡ Some (codes "compare", finished (leaf (codes "compare")).rules l.end)
+  unfolding clap_on_literals
+  compare_found l = ap (λ (w : Walk). entered (built replayer) w.stopped) (stops_at_compare words) ∙ ap (λ (w : Walk). Some (codes "compare", finished (leaf (codes "compare")).rules w.held)) l.walked
+
+  run_taken : Leaves (leaf (codes "run")) workers window P words → takes replayer (codes "run" ∷ words) ≡ true
+  unfolding clap_on_literals
+  run_taken l =
+      let level : level_passes (leaf (codes "run")) [] nothing_held words false ≡ true = level_by_parts (leaf (codes "run")) words (at l.end) l.walked l.passes l.rest in
+      takes_by_parts (built replayer) (codes "run" ∷ words) (stopped_at (codes "run") words (walk_from nothing_held)) (stops_at_run words)
+      (stopped_passes (built replayer).top (names_of (built replayer)) (walk_from nothing_held) (codes "run") [] words) (rw level refl)
+
+  compare_taken : Leaves (leaf (codes "compare")) workers window P words → takes replayer (codes "compare" ∷ words) ≡ true
+  unfolding clap_on_literals
+  compare_taken l =
+      let level : level_passes (leaf (codes "compare")) [] nothing_held words false ≡ true = level_by_parts (leaf (codes "compare")) words (at l.end) l.walked l.passes l.rest in
+      takes_by_parts (built replayer) (codes "compare" ∷ words) (stopped_at (codes "compare") words (walk_from nothing_held)) (stops_at_compare words)
+      (stopped_passes (built replayer).top (names_of (built replayer)) (walk_from nothing_held) (codes "compare") [] words) (rw level refl)
+
+-- what is found for the words of each mode
+options_found : (m : Mode) (sums : Bool) (words : List (List ℕ)) → AskForMode m sums words → AreFound m sums (subcommand_of replayer words)
+unfolding clap_on_literals
+options_found Serial false words e = rw e (refl, refl)
+options_found Serial true words e = rw e (refl, refl)
+options_found (Run workers window) sums words e =
+    let l = run_leaves workers window sums e.0 e.1 in
+    rw (e.2, run_found (decimal workers) (decimal window) (HasSums sums) (e.0 ++ sums_words sums) l) (refl, l.others, (l.workers_text, l.window_text, e.1.served))
+options_found (Compare workers window) sums words e =
+    let l = compare_leaves workers window e.0 e.1 in
+    rw (e.3, compare_found (decimal workers) (decimal window) (λ rows. ⊤) e.0 l) (refl, e.2, (l.workers_text, l.window_text, e.1.served))
+options_found Check sums words e = rw e.1 (refl, e.0)
+
+words_taken : (m : Mode) (sums : Bool) (words : List (List ℕ)) → AskForMode m sums words → takes replayer words ≡ true
+unfolding clap_on_literals
+words_taken Serial false words e = rw e refl
+words_taken Serial true words e = rw e refl
+words_taken (Run workers window) sums words e = rw e.2 (run_taken (decimal workers) (decimal window) (HasSums sums) (e.0 ++ sums_words sums) (run_leaves workers window sums e.0 e.1))
+words_taken (Compare workers window) sums words e = rw e.3 (compare_taken (decimal workers) (decimal window) (λ rows. ⊤) e.0 (compare_leaves workers window e.0 e.1))
+words_taken Check sums words e = rw e.1 refl
+
+help_found : (words : List (List ℕ)) → AskForHelp words → fault_of replayer words ≡ DisplayHelp ∷ []
+unfolding clap_on_literals
+help_found words (inl e) = rw e refl
+help_found words (inr e) = rw e refl
+
+-- the same for each task
+task_found : (t : Task) (words : List (List ℕ)) → AskFor t words → IsFound t (subcommand_of replayer words)
+unfolding clap_on_literals
+task_found (Replay o) words e = options_found o.mode o.sums words e
+task_found Diff words e = rw e refl
+
+task_taken : (t : Task) (words : List (List ℕ)) → AskFor t words → takes replayer words ≡ true
+unfolding clap_on_literals
+task_taken (Replay o) words e = words_taken o.mode o.sums words e
+task_taken Diff words e = rw e refl
+
+-- the task in the matches of the words that ask for it
+pub task_met : (a : App) (words : List (List ℕ)) (m : ArgMatches) (t : Task) → a ≡ replayer → AskFor t words → HasMatchesOf a words m
+    → IsFound t (subcommand_rows_of m)
+task_met a words m t command asked h =
+    let same : subcommand_rows_of m ≡ subcommand_of replayer words = (h (ap is_simple command)).1 ∙ ap (λ x. subcommand_of x words) command in
+    subst (IsFound t) (sym same) (task_found t words asked)
+
+pub words_pass : (a : App) (words : List (List ℕ)) (t : Task) → a ≡ replayer → AskFor t words → takes a words ≡ true
+words_pass a words t command asked = ap (λ x. takes x words) command ∙ task_taken t words asked
+
+-- words that ask for help end the parse
+pub help_ends : {T : Type 0} (a : App) (words : List (List ℕ)) (r : Result T Error) → a ≡ replayer → AskForHelp words → (is_simple_and_free a ≡ true → FailsBy (fault_of a words) r)
+    → MatchResult r (λ _. ⊥) (λ e. (kind_of e ≡ DisplayHelp) ⊎ (kind_of e ≡ OutOfMemory))
+help_ends a words r command asked h =
+    let faults : fault_of a words ≡ DisplayHelp ∷ [] = ap (λ x. fault_of x words) command ∙ help_found words asked in
+    let fails = rw faults at (h (ap is_simple_and_free command)) in
+    MatchResult-weaker r fails (λ m none. cc none) (λ e among. elim among [ inl memory ↦ inr memory | inr kind ↦ elim kind [ inl is ↦ inl is | inr other ↦ absurd other ] ])
+
+-- an option among the rows of the subcommand
+rows_at : (id : List ℕ) (found : Option (List ℕ × List Row)) (rows : List Row) (text : List ℕ) → option_map (λ p. p.1) found ≡ Some rows → text_in id found ≡ Some text
+    → one_of id rows ≡ Some text
+rows_at id None rows text there value = cc
+rows_at id (Some p) rows text there value = let e : p.1 ≡ rows = cc in rw (← e) value
+
+abbrev pub IsChosen : ArgMatches → ArgMatches → Type 0
+IsChosen m chosen = Some (rows_of (found_of chosen)) ≡ option_map (λ p. p.1) (subcommand_rows_of m)
+
+text_is : (m chosen : ArgMatches) (id text : List ℕ) → IsChosen m chosen → text_in id (subcommand_rows_of m) ≡ Some text → one_text (found_of chosen) id ≡ Some text
+text_is m chosen id text rows found = one_text-rows (found_of chosen) id ∙ rows_at id (subcommand_rows_of m) (rows_of (found_of chosen)) text (sym rows) found
+
+read_as_flag : (flag sums : Bool) (text : Option (List ℕ)) → text ≡ Some (flag_text sums) → (text ≡ Some (codes "true") → flag ≡ true) → (text ≡ Some (codes "false") → flag ≡ false) → flag ≡ sums
+read_as_flag flag false text e set unset = unset e
+read_as_flag flag true text e set unset = set e
+
+fused : {A B C : Type 0} (f : A → B) (g : B → C) (o : Option A) → option_map g (option_map f o) ≡ option_map (λ x. g (f x)) o
+fused f g None = refl
+fused f g (Some x) = refl
+
+named : (m : ArgMatches) → option_map (λ p. p.0) (subcommand_rows_of m) ≡ subcommand_name_of m
+named m = fused _ _ (out-ArgMatches m).subcommand
+
+-- the name of the subcommand is one of the modes'
+abbrev pub name_of : Mode → List ℕ
+name_of Serial = codes "serial"
+name_of (Run workers window) = codes "run"
+name_of (Compare workers window) = codes "compare"
+name_of Check = codes "check"
+
+pub found_name : (m : ArgMatches) (mode : Mode) (sums : Bool) → AreFound mode sums (subcommand_rows_of m) → subcommand_name_of m ≡ Some (name_of mode)
+found_name m Serial sums h = sym (named m) ∙ h.0
+found_name m (Run workers window) sums h = sym (named m) ∙ h.0
+found_name m (Compare workers window) sums h = sym (named m) ∙ h.0
+found_name m Check sums h = sym (named m) ∙ h.0
+
+-- what the getters answer where an option has this text
+abbrev pub ReadsFlag : ArgMatches → Bool → Type 0
+ReadsFlag chosen flag = (one_text (found_of chosen) (codes "sums") ≡ Some (codes "true") → flag ≡ true) × (one_text (found_of chosen) (codes "sums") ≡ Some (codes "false") → flag ≡ false)
+
+abbrev pub ReadsNumber : ArgMatches → List ℕ → ℕ → ℕ → Type 0
+ReadsNumber chosen id most given = (n : ℕ) → one_text (found_of chosen) id ≡ Some (decimal n) → 1 ≤ n → n ≤ most → given ≡ n
+
+options_same : {a b : Mode} {x y : Bool} → a ≡ b → x ≡ y → ◌≡◌ {A = Options} (record { mode = a; sums = x }) (record { mode = b; sums = y })
+options_same e f = ap₂ (λ m s. record { mode = m; sums = s }) e f
+
+module _ (m chosen : ArgMatches) (rows : IsChosen m chosen) where
+  flag_is : (flag sums : Bool) → ReadsFlag chosen flag → HasFlag sums (subcommand_rows_of m) → flag ≡ sums
+  flag_is flag sums read found = read_as_flag flag sums (one_text (found_of chosen) (codes "sums")) (text_is m chosen (codes "sums") (flag_text sums) rows found) read.0 read.1
+
+  numbers_are : (workers window w v : ℕ) → ReadsNumber chosen (codes "workers") 64 workers → ReadsNumber chosen (codes "window") 4096 window → HasNumbers w v (subcommand_rows_of m)
+      → (workers ≡ w) × (window ≡ v)
+  numbers_are workers window w v a b h = (
+    a w (text_is m chosen (codes "workers") (decimal w) rows h.0) h.2.0 h.2.1,
+    b v (text_is m chosen (codes "window") (decimal v) rows h.1) h.2.2 h.2.3,
+  )
+
+  -- the options where the subcommand is `serial`
+  pub serial_chosen : (flag : Bool) (mode : Mode) (sums : Bool) → subcommand_name_of m ≡ Some (codes "serial") → ReadsFlag chosen flag
+      → AreFound mode sums (subcommand_rows_of m) → ◌≡◌ {A = Options} (record { mode = Serial; sums = flag }) (record { mode = mode; sums = sums })
+  serial_chosen flag Serial sums name read h = options_same refl (flag_is flag sums read h.1)
+  serial_chosen flag (Run w v) sums name read h = let same : codes "serial" ≡ codes "run" = same_Some _ _ (sym name ∙ found_name m (Run w v) sums h) in absurd (cc same)
+  serial_chosen flag (Compare w v) sums name read h = let same : codes "serial" ≡ codes "compare" = same_Some _ _ (sym name ∙ found_name m (Compare w v) sums h) in absurd (cc same)
+  serial_chosen flag Check sums name read h = let same : codes "serial" ≡ codes "check" = same_Some _ _ (sym name ∙ found_name m Check sums h) in absurd (cc same)
+
+  -- where it is `run`
+  pub run_chosen : (workers window : ℕ) (flag : Bool) (mode : Mode) (sums : Bool) → subcommand_name_of m ≡ Some (codes "run")
+      → ReadsNumber chosen (codes "workers") 64 workers → ReadsNumber chosen (codes "window") 4096 window → ReadsFlag chosen flag
+      → AreFound mode sums (subcommand_rows_of m) → ◌≡◌ {A = Options} (record { mode = Run workers window; sums = flag }) (record { mode = mode; sums = sums })
+  run_chosen workers window flag (Run w v) sums name a b read h =
+      let e = numbers_are workers window w v a b h.2 in
+      options_same (ap₂ Run e.0 e.1) (flag_is flag sums read h.1)
+  run_chosen workers window flag Serial sums name a b read h = let same : codes "run" ≡ codes "serial" = same_Some _ _ (sym name ∙ found_name m Serial sums h) in absurd (cc same)
+  run_chosen workers window flag (Compare w v) sums name a b read h = let same : codes "run" ≡ codes "compare" = same_Some _ _ (sym name ∙ found_name m (Compare w v) sums h) in absurd (cc same)
+  run_chosen workers window flag Check sums name a b read h = let same : codes "run" ≡ codes "check" = same_Some _ _ (sym name ∙ found_name m Check sums h) in absurd (cc same)
+
+  -- where it is `compare`
+  pub compare_chosen : (workers window : ℕ) (mode : Mode) (sums : Bool) → subcommand_name_of m ≡ Some (codes "compare")
+      → ReadsNumber chosen (codes "workers") 64 workers → ReadsNumber chosen (codes "window") 4096 window
+      → AreFound mode sums (subcommand_rows_of m) → ◌≡◌ {A = Options} (record { mode = Compare workers window; sums = false }) (record { mode = mode; sums = sums })
+  compare_chosen workers window (Compare w v) sums name a b h =
+      let e = numbers_are workers window w v a b h.2 in
+      options_same (ap₂ Compare e.0 e.1) (sym h.1)
+  compare_chosen workers window Serial sums name a b h = let same : codes "compare" ≡ codes "serial" = same_Some _ _ (sym name ∙ found_name m Serial sums h) in absurd (cc same)
+  compare_chosen workers window (Run w v) sums name a b h = let same : codes "compare" ≡ codes "run" = same_Some _ _ (sym name ∙ found_name m (Run w v) sums h) in absurd (cc same)
+  compare_chosen workers window Check sums name a b h = let same : codes "compare" ≡ codes "check" = same_Some _ _ (sym name ∙ found_name m Check sums h) in absurd (cc same)
+
+-- a number in decimal is read as that number
+pub read_number : {E : Type 0} (G : List ℕ → Result ℕ E → Type 0) (n : ℕ) (r : Option ℕ) → ReadsOne G (decimal n) r → ((u : List ℕ) (x : Result ℕ E) → G u x → ParsesUnsigned 32 10 u x) → n < 2 ^ 32 → r ≡ Some n
+read_number {E} G n (Some v) read only small = let is : ◌≡◌ {A = Result ℕ E} (Ok v) (Ok n) = parse-decimal 32 n (decimal n) (Ok v) small (omega arith) refl (only (decimal n) (Ok v) read) in cc
+read_number {E} G n None read only small = let is : ◌≡◌ {A = Result ℕ E} (Err read.0) (Ok n) = parse-decimal 32 n (decimal n) (Err read.0) small (omega arith) refl (only (decimal n) (Err read.0) read.1) in absurd (cc is)
+
+-- the parse by the rules of the program's command line
+pub same_rules : {T : Type 0} (a : App) (words : List (List ℕ)) (r : Result T Error) → a ≡ replayer → (is_simple_and_free a ≡ true → FailsBy (fault_of a words) r) → FailsBy (fault_of replayer words) r
+same_rules a words r command h =
+    let P : App → Type 0 = λ x. FailsBy (fault_of x words) r in
+    subst P command (h (ap is_simple_and_free command))
+
+-- what a kind of error among some means is among their meanings
+among_meant : (k : ErrorKind) (kinds : List ErrorKind) → IsAmong k kinds → Contains (map kind_meant kinds) (kind_meant k)
+among_meant k [] h = absurd h
+among_meant k (x ∷ kinds) (inl e) = (0, omega arith, ap kind_meant (sym e))
+among_meant k (x ∷ kinds) (inr later) = let rest = among_meant k kinds later in (suc rest.0, omega (arith, rest.1), rest.2)
+
+pub usage_meant : (kinds : List ErrorKind) (e : Error) (kind : UsageKind) → HasKind kinds e → (kind ≡ kind_meant (kind_of e)) ⊎ (kind ≡ Memory) → (kind ≡ Memory) ⊎ Contains (map kind_meant kinds) kind
+usage_meant kinds e kind h (inr none) = inl none
+usage_meant kinds e kind (inl none) (inl is) = inl (is ∙ ap kind_meant none)
+usage_meant kinds e kind (inr among) (inl is) = inr (rw is (among_meant (kind_of e) kinds among))

@@ -1,0 +1,5 @@
+pub mod Runs
+pub mod Diffs
+pub mod Status
+pub mod Transfer
+pub mod Words

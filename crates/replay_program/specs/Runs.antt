@@ -1,0 +1,118 @@
+-- The model: what a run of the program does to its reader and its writer.
+use Rattle.std.specs.Prelude.{◌≡◌, ◌⊎◌, ◌≤◌, ◌+◌, ◌++◌, ⊤, codes, Bool, List, Option, ℕ, Result, Ok, Err, length}
+use Rattle.std.specs.Fmt.{decimal}
+use Rattle.std.specs.Io.KnownBytes.{Appends, Consumes, IsAtEnd}
+use Rattle.trace_format.specs.Grammar.{fault}
+use Rattle.trace_format.specs.Text.{SpellsTrace, IsRefusal, longest}
+use Rattle.trace_format.specs.declared.trace.Trace as trace
+use Rattle.trace_format.specs.declared.fault.TraceFault.{TraceFault}
+use Rattle.trace_format.specs.declared.fault.Kind.TheVariants.{Memory}
+use Rattle.op_meaning.specs.Step.{sequential_world, sequential_replies}
+use Rattle.replay_core.specs.declared.serial.ReplayFault.TheVariants as replay_fault
+use Rattle.replay_core.specs.declared.difference.Verdict.{Verdict}
+use Rattle.replay_core.specs.declared.difference.Verdict.TheVariants as verdict
+use Rattle.replay_program.specs.declared.fault.RunFault.{RunFault}
+use Rattle.replay_program.specs.declared.fault.RunFault.TheVariants.{Trace, Replay, Reports, Read, Write, Different}
+use Rattle.replay_program.specs.declared.words.Options.{Options}
+use Rattle.replay_program.specs.declared.words.Mode.{Mode}
+use Rattle.replay_program.specs.declared.words.Mode.TheVariants.{Serial, Run, Compare, Check}
+use Rattle.replay_report.specs.Report.{check_line, line, report_of}
+use Rattle.replay_program.specs.Transfer.{AppendsPart}
+
+-- The report of the sequential run of a trace.
+abbrev pub sequential_report : trace.Trace → Bool → List ℕ
+sequential_report t sums = report_of t (sequential_world t) (sequential_replies t) sums
+
+-- What a comparison writes: that both runs give the same, or else the first place whose replies differ, or that the worlds do.
+abbrev pub verdict_line : Verdict → List ℕ
+verdict_line verdict.Equal = line (codes "equal")
+verdict_line (verdict.Reply place) = line (codes "different reply " ++ decimal place)
+verdict_line verdict.World = line (codes "different world")
+
+-- The output for a trace, by the mode.
+abbrev pub mode_output : Mode → Bool → trace.Trace → List ℕ
+mode_output Serial sums t = sequential_report t sums
+mode_output (Run workers window) sums t = sequential_report t sums
+mode_output (Compare workers window) sums t = verdict_line verdict.Equal
+mode_output Check sums t = check_line t
+
+abbrev pub output_of : Options → trace.Trace → List ℕ
+output_of options t = mode_output options.mode options.sums t
+
+-- The reader was read to its end, and what it had left spells the trace.
+pub record ReadsTrace (before after : Option (List ℕ)) (t : trace.Trace) : Type 0 where
+  pub text : List ℕ
+  pub taken : Consumes before after text
+  pub ended : IsAtEnd after
+  pub spelled : SpellsTrace text t
+
+-- The reader was read to its end, or further than a trace is long, and what was taken has the fault and spells no trace.
+pub record ReadsNoTrace (before after : Option (List ℕ)) (f : TraceFault) : Type 0 where
+  pub text : List ℕ
+  pub taken : Consumes before after text
+  pub ended : length text ≤ longest → IsAtEnd after
+  pub refused : IsRefusal text f
+
+-- The reader was read to its end, and the writer took the whole output for its trace, and nothing else.
+pub record WritesOutput (options : Options) (left left' written written' : Option (List ℕ)) : Type 0 where
+  pub t : trace.Trace
+  pub read : ReadsTrace left left' t
+  pub wrote : Appends written written' (output_of options t)
+
+-- The reader was read to its end, and the writer took the first bytes of the output for its trace, but not all.
+pub record WritesPart (options : Options) (left left' written written' : Option (List ℕ)) : Type 0 where
+  pub t : trace.Trace
+  pub read : ReadsTrace left left' t
+  pub wrote : AppendsPart written written' (output_of options t)
+
+-- The most bytes that are taken from a reader: one more than a trace may have.
+abbrev pub most_taken : ℕ
+most_taken = longest + 1
+
+-- What a fault tells of the reader: a trace is refused by the fault that the text has; memory that ran out before the trace was there is at 0.
+abbrev pub TellsOfReading : (left left' : Option (List ℕ)) → RunFault → Type 0
+TellsOfReading left left' (Trace f) = (f ≡ fault Memory 0) ⊎ ReadsNoTrace left left' f
+TellsOfReading left left' (Replay f) = ((f ≡ replay_fault.Memory) ⊎ (f ≡ replay_fault.NoThread)) × ((t : trace.Trace) × ReadsTrace left left' t)
+TellsOfReading left left' (Reports f) = ⊥
+TellsOfReading left left' Read = ⊤
+TellsOfReading left left' Different = ⊥
+TellsOfReading left left' Write = (t : trace.Trace) × ReadsTrace left left' t
+
+-- How many calls of the reader failed in a run, by how it ended; and how many of the writer.
+abbrev pub reads_failed : RunFault → ℕ
+reads_failed (Trace f) = 0
+reads_failed (Replay f) = 0
+reads_failed (Reports f) = 0
+reads_failed Read = 1
+reads_failed Write = 0
+reads_failed Different = 0
+
+abbrev pub read_failures : {T : Type 0} → Result T RunFault → ℕ
+read_failures (Ok x) = 0
+read_failures (Err f) = reads_failed f
+
+abbrev pub writes_failed : RunFault → ℕ
+writes_failed (Trace f) = 0
+writes_failed (Replay f) = 0
+writes_failed (Reports f) = 0
+writes_failed Read = 0
+writes_failed Write = 1
+writes_failed Different = 0
+
+abbrev pub write_failures : {T : Type 0} → Result T RunFault → ℕ
+write_failures (Ok x) = 0
+write_failures (Err f) = writes_failed f
+
+-- The modes that need no thread.
+abbrev pub IsAlone : Mode → Type 0
+IsAlone Serial = ⊤
+IsAlone (Run workers window) = ⊥
+IsAlone (Compare workers window) = ⊥
+IsAlone Check = ⊤
+
+-- The modes that write no verdict.
+abbrev pub IsNoComparison : Mode → Type 0
+IsNoComparison Serial = ⊤
+IsNoComparison (Run workers window) = ⊤
+IsNoComparison (Compare workers window) = ⊥
+IsNoComparison Check = ⊤

@@ -1,0 +1,165 @@
+-- The model: the words of the command line, and the answers to them.
+use Rattle.std.specs.Prelude.{◌≡◌, ◌⊎◌, ◌≤◌, ⊤, ℕ, pos, Bool, true, false, List, [], ◌∷◌, ◌++◌, map, Option, Some, codes, Result, MatchResult, IsErrAnd, Contains}
+use Rattle.std.specs.Option.{option_and_then, option_map}
+use Rattle.std.specs.Fmt.{decimal}
+use Rattle.clap.specs.Words.{App, Row, Rule, new_app, new_rule, app_of, one_of, rule_of, with_rule, with_subcommand}
+use Rattle.clap.specs.Simple.{on_top}
+use Rattle.clap.specs.declared.builder.command.Command.TheViews.{out-Command}
+use Rattle.clap.specs.declared.builder.arg.Arg.{Arg}
+use Rattle.clap.specs.declared.builder.command.Command.{Command}
+use Rattle.clap.specs.declared.builder.action.ArgAction.TheVariants.{SetTrue}
+use Rattle.clap.specs.declared.builder.value_parser.ValueParser.TheVariants.{Signed}
+use Rattle.clap.specs.declared.error.kind.ErrorKind.{ErrorKind}
+use Rattle.clap.specs.declared.error.kind.ErrorKind.TheVariants.{DisplayHelp, OutOfMemory}
+use Rattle.replay_program.specs.declared.words.Mode.{Mode}
+use Rattle.replay_program.specs.declared.words.Mode.TheVariants.{Serial, Run, Compare, Check}
+use Rattle.replay_program.specs.declared.words.Task.{Task}
+use Rattle.replay_program.specs.declared.words.Task.TheVariants.{Replay, Diff}
+use Rattle.replay_program.specs.declared.words.Usage.{Usage}
+use Rattle.replay_program.specs.declared.words.UsageKind.{UsageKind}
+use Rattle.replay_report.specs.Report.{escaped}
+use Rattle.replay_program.specs.declared.words.UsageKind.TheVariants.{Help, Wrong, Memory}
+
+-- The numbers of workers and of places are within their limits.
+abbrev pub AreServed : ℕ → ℕ → Type 0
+AreServed workers window = (1 ≤ workers) × (workers ≤ 64) × (1 ≤ window) × (window ≤ 4096)
+
+-- The numbers that a mode asks for are within their limits.
+abbrev pub IsServed : Mode → Type 0
+IsServed Serial = ⊤
+IsServed (Run workers window) = AreServed workers window
+IsServed (Compare workers window) = AreServed workers window
+IsServed Check = ⊤
+
+abbrev pub IsServedTask : Task → Type 0
+IsServedTask (Replay options) = IsServed options.mode
+IsServedTask Diff = ⊤
+
+-- An option with its number in decimal, `--workers 7`; it may be left out where the number is the one that is taken then.
+abbrev pub IsNumberOption : List ℕ → ℕ → ℕ → List (List ℕ) → Type 0
+IsNumberOption name default n words = (words ≡ name ∷ decimal n ∷ []) ⊎ ((n ≡ default) × (words ≡ []))
+
+-- The words of the options of a run in rounds: how many workers, and how many places a round looks at.
+pub record AreRoundOptions (workers window : ℕ) (words : List (List ℕ)) : Type 0 where
+  pub workers_words : List (List ℕ)
+  pub window_words : List (List ℕ)
+  pub with_workers : IsNumberOption (codes "--workers") 4 workers workers_words
+  pub with_window : IsNumberOption (codes "--window") 64 window window_words
+  pub served : AreServed workers window
+  pub together : words ≡ workers_words ++ window_words
+
+abbrev pub sums_words : Bool → List (List ℕ)
+sums_words false = []
+sums_words true = codes "--sums" ∷ []
+
+-- The words that ask for a mode, with sums or without: its name, and then its options. Only runs have sums.
+abbrev pub AskForMode : Mode → Bool → List (List ℕ) → Type 0
+AskForMode Serial sums words = words ≡ codes "serial" ∷ sums_words sums
+AskForMode (Run workers window) sums words = (chosen : List (List ℕ)) × AreRoundOptions workers window chosen × (words ≡ codes "run" ∷ (chosen ++ sums_words sums))
+AskForMode (Compare workers window) sums words = (chosen : List (List ℕ)) × AreRoundOptions workers window chosen × (sums ≡ false) × (words ≡ codes "compare" ∷ chosen)
+AskForMode Check sums words = (sums ≡ false) × (words ≡ codes "check" ∷ [])
+
+abbrev pub AskFor : Task → List (List ℕ) → Type 0
+AskFor (Replay options) words = AskForMode options.mode options.sums words
+AskFor Diff words = words ≡ codes "diff" ∷ []
+
+-- The words that ask for help.
+abbrev pub AskForHelp : List (List ℕ) → Type 0
+AskForHelp words = (words ≡ codes "-h" ∷ []) ⊎ (words ≡ codes "--help" ∷ [])
+
+-- The task, or want of memory.
+abbrev pub GivesTask : Result Task Usage → Task → Type 0
+GivesTask result task = MatchResult result (λ given. given ≡ task) (λ usage. usage.kind ≡ Memory)
+
+-- What is said of an argument that is not text: its bytes as those of a path in a report.
+abbrev pub not_text : List ℕ → List ℕ
+not_text word = codes "error: the argument '" ++ escaped word ++ codes "' is not text\n\nFor more information, try '--help'.\n"
+
+-- Help, or want of memory.
+abbrev pub GivesHelp : Result Task Usage → Type 0
+GivesHelp result = IsErrAnd result (λ usage. (usage.kind ≡ Help) ⊎ (usage.kind ≡ Memory))
+
+-- What an error of the command line's parser is for the user.
+abbrev pub kind_meant : ErrorKind → UsageKind
+kind_meant DisplayHelp = Help
+kind_meant OutOfMemory = Memory
+kind_meant _ = Wrong
+
+-- A task only where the parser finds no fault, and else the kind of one that it finds, or want of memory.
+abbrev pub FailsByRules : List ErrorKind → Result Task Usage → Type 0
+FailsByRules faults result = MatchResult result (λ _. faults ≡ []) (λ usage. (usage.kind ≡ Memory) ⊎ Contains (map kind_meant faults) usage.kind)
+
+-- The text that the parser has for a flag, and the one that it found for `--sums` at the subcommand.
+abbrev pub flag_text : Bool → List ℕ
+flag_text false = codes "false"
+flag_text true = codes "true"
+
+abbrev pub text_in : List ℕ → Option (List ℕ × List Row) → Option (List ℕ)
+text_in id found = option_and_then (λ p. one_of id p.1) found
+
+abbrev pub HasFlag : Bool → Option (List ℕ × List Row) → Type 0
+HasFlag sums found = text_in (codes "sums") found ≡ Some (flag_text sums)
+
+abbrev pub HasNumbers : ℕ → ℕ → Option (List ℕ × List Row) → Type 0
+HasNumbers workers window found = (text_in (codes "workers") found ≡ Some (decimal workers)) × (text_in (codes "window") found ≡ Some (decimal window)) × AreServed workers window
+
+abbrev pub IsNamed : List ℕ → Option (List ℕ × List Row) → Type 0
+IsNamed name found = option_map (λ p. p.0) found ≡ Some name
+
+-- What the parser finds where these options are asked for: the name of the subcommand, and its options as text.
+abbrev pub AreFound : Mode → Bool → Option (List ℕ × List Row) → Type 0
+AreFound Serial sums found = IsNamed (codes "serial") found × HasFlag sums found
+AreFound (Run workers window) sums found = IsNamed (codes "run") found × HasFlag sums found × HasNumbers workers window found
+AreFound (Compare workers window) sums found = IsNamed (codes "compare") found × (sums ≡ false) × HasNumbers workers window found
+AreFound Check sums found = IsNamed (codes "check") found × (sums ≡ false)
+
+abbrev pub IsFound : Task → Option (List ℕ × List Row) → Type 0
+IsFound (Replay options) found = AreFound options.mode options.sums found
+IsFound Diff found = IsNamed (codes "diff") found
+
+-- The command line, as its parser sees it: a subcommand has to be named. The number of an option lies within its limits.
+abbrev pub sums_flag : Rule
+sums_flag = record (new_rule (codes "sums")) { long = Some (codes "sums"); action = Some SetTrue }
+
+abbrev pub number_option : List ℕ → ℕ → List ℕ → Rule
+number_option name most default =
+    record (new_rule name) { long = Some name; value_names = 1; parser = Some (Signed (pos 1) (pos most)); defaults = default ∷ [] }
+
+abbrev pub workers_option : Rule
+workers_option = number_option (codes "workers") 64 (codes "4")
+
+abbrev pub window_option : Rule
+window_option = number_option (codes "window") 4096 (codes "64")
+
+abbrev pub serial_command : App
+serial_command = with_rule (new_app (codes "serial")) sums_flag
+
+abbrev pub run_command : App
+run_command = with_rule (with_rule (with_rule (new_app (codes "run")) workers_option) window_option) sums_flag
+
+abbrev pub compare_command : App
+compare_command = with_rule (with_rule (new_app (codes "compare")) workers_option) window_option
+
+abbrev pub check_command : App
+check_command = new_app (codes "check")
+
+abbrev pub diff_command : App
+diff_command = new_app (codes "diff")
+
+-- The command line with no subcommand, and with those that replay a trace.
+abbrev pub replayer_alone : App
+replayer_alone = on_top (λ s. record s { no_binary_name = true; subcommand_required = true }) (new_app (codes "uring_replay"))
+
+abbrev pub with_replays : App → App
+with_replays app = with_subcommand (with_subcommand (with_subcommand app serial_command.top) run_command.top) compare_command.top
+
+-- The whole command line.
+abbrev pub replayer : App
+replayer = with_subcommand (with_subcommand (with_replays replayer_alone) check_command.top) diff_command.top
+
+-- What the parser sees of an argument and of a subcommand; neither is one of all levels.
+abbrev pub IsRule : Rule → Arg → Type 0
+IsRule rule arg = (rule_of arg ≡ rule) × (arg.global ≡ false)
+
+abbrev pub HasApp : App → Command → Type 0
+HasApp app command = (app_of command ≡ app) × ((out-Command command).has_globals ≡ false)

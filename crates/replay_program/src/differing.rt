@@ -1,0 +1,77 @@
+//! A comparison of two reports, from a reader to a writer.
+ghost use Rattle.std.specs.Prelude.{◌≡◌, ◌≢◌, ◌+◌, ◌-◌, ◌^◌, ◌<◌, IfErr, IfOk, OnOk, false, true};
+ghost use Rattle.std.specs.Io.KnownBytes.{Keeps};
+ghost use Rattle.replay_program.specs.Diffs.{ComparesReports, TellsOfReports, WritesDifferences};
+ghost use Rattle.replay_program.specs.Diffs.{WritesDifferencesPart};
+ghost use Rattle.replay_program.specs.Runs.{most_taken, read_failures, write_failures};
+ghost use Rattle.replay_program.specs.Transfer.{ConsumesUpTo};
+
+use crate::fault::{ReportsFault, RunFault};
+use crate::session::written;
+use crate::transfer::{MOST_BYTES, Sink, Source, TextFault, read_text};
+use report_diff::{Comparison, DiffFault, compare};
+use std::alloc::Global;
+
+/// Reads two reports, one after another, compares them and writes where they differ. Nothing is
+/// written before the whole text is there, and the run ends at the first failure of either side.
+///
+/// # Errors
+///
+/// Different where they differ, with the whole text written; Reports where they are refused, or for
+/// want of memory; Read and Write at a call that failed.
+pub fn run_diff<R: Source, W: Sink>(
+    alloc: Global,
+    reader: &mut R,
+    writer: &mut W,
+) -> Result<(), RunFault>
+    requires reader { R.failures reader.old < 2 ^ 64 - 1 }
+    requires writer { W.failures writer.old < 2 ^ 64 - 1 }
+
+    // The text is the one of the two reports that the reader's bytes are.
+    ensures alike { OnOk result (WritesDifferences true (R.left reader.old) (R.left reader.new)
+        (W.written writer.old) (W.written writer.new)) }
+    ensures different { result ≡ Err RunFault.Different → WritesDifferences false (R.left reader.old)
+        (R.left reader.new) (W.written writer.old) (W.written writer.new) }
+    ensures part { result ≡ Err RunFault.Write → WritesDifferencesPart (R.left reader.old)
+        (R.left reader.new) (W.written writer.old) (W.written writer.new) }
+    ensures nothing { IfErr result (λ fault. fault ≢ RunFault.Write → fault ≢ RunFault.Different
+        → Keeps (W.written writer.old) (W.written writer.new)) }
+
+    ensures taken { ConsumesUpTo most_taken (R.left reader.old) (R.left reader.new) }
+    ensures reading { IfErr result (TellsOfReports (R.left reader.old) (R.left reader.new)) }
+    ensures read { R.failures reader.new ≡ R.failures reader.old + read_failures result }
+    ensures write { W.failures writer.new ≡ W.failures writer.old + write_failures result }
+{
+    let comparison = taken_comparison(alloc, reader)?;
+    written(writer, comparison.text.as_slice())?;
+    if comparison.alike {
+        Ok(())
+    } else {
+        Err(RunFault::Different)
+    }
+}
+
+/// How the two reports that the reader has left compare.
+fn taken_comparison<R: Source>(alloc: Global, reader: &mut R) -> Result<Comparison, RunFault>
+    requires { R.failures reader.old < 2 ^ 64 - 1 }
+    ensures ok { IfOk result (λ comparison. ComparesReports (R.left reader.old) (R.left reader.new) comparison) }
+    ensures taken { ConsumesUpTo most_taken (R.left reader.old) (R.left reader.new) }
+    ensures err { IfErr result (TellsOfReports (R.left reader.old) (R.left reader.new)) }
+    ensures read { R.failures reader.new ≡ R.failures reader.old + read_failures result }
+    ensures write { write_failures result ≡ 0 }
+    ensures neither { IfErr result (λ fault. (fault ≢ RunFault.Write) × (fault ≢ RunFault.Different)) }
+{
+    let input = match read_text(alloc, reader) {
+        Ok(input) => input,
+        Err(TextFault::Read) => return Err(RunFault::Read),
+        Err(TextFault::Memory) => return Err(RunFault::Reports(ReportsFault::Memory)),
+    };
+    if input.len() == MOST_BYTES {
+        return Err(RunFault::Reports(ReportsFault::TooLong));
+    }
+    match compare(alloc, input.as_slice()) {
+        Ok(comparison) => Ok(comparison),
+        Err(DiffFault::Refused(why)) => Err(RunFault::Reports(ReportsFault::Refused(why))),
+        Err(DiffFault::Memory) => Err(RunFault::Reports(ReportsFault::Memory)),
+    }
+}

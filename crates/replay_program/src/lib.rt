@@ -1,0 +1,17 @@
+//! What the program does: it reads words and a trace, runs the trace as the words ask, and writes what
+//! that gave, or what stood in the way.
+#![tactic(auto)]
+
+mod differing;
+mod ending;
+mod fault;
+mod session;
+mod transfer;
+mod words;
+
+pub use differing::run_diff;
+pub use ending::{Ending, Stream, fault_ending, usage_ending, usage_text};
+pub use fault::{ReportsFault, RunFault};
+pub use session::{run, run_alone, told};
+pub use transfer::{Failed, FromStd, MOST_BYTES, Sink, Source, TextFault, read_text, write_text};
+pub use words::{Mode, Options, Task, Usage, UsageKind, no_memory, not_text, read_words};

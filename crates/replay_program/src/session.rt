@@ -1,0 +1,277 @@
+//! A run of the program, from a reader to a writer.
+ghost use Rattle.std.specs.Prelude.{◌≡◌, ◌≢◌, ◌⊎◌, ◌≤◌, ◌+◌, ◌-◌, ◌^◌, ◌<◌, IfOk, IfErr, OnOk};
+ghost use Rattle.std.specs.Prelude.{OnErr, string_bytes};
+ghost use Rattle.std.specs.Io.KnownBytes.{Appends, Keeps};
+ghost use Rattle.trace_format.specs.Text.{IsSpelled};
+ghost use Rattle.replay_program.specs.Runs.{IsAlone, IsNoComparison, ReadsTrace, TellsOfReading};
+ghost use Rattle.replay_program.specs.Runs.{WritesOutput, WritesPart, most_taken, output_of};
+ghost use Rattle.replay_program.specs.Runs.{read_failures, sequential_report, verdict_line};
+ghost use Rattle.replay_program.specs.Runs.{write_failures};
+ghost use Rattle.replay_program.specs.Transfer.{AppendsPart, ConsumesUpTo};
+ghost use Rattle.replay_program.specs.Words.{IsServed};
+
+use crate::fault::RunFault;
+use crate::transfer::{Sink, Source, TextFault, read_text, write_text};
+use crate::words::{Mode, Options};
+use replay_core::comparing::verdict;
+use replay_core::parallel::replay;
+use replay_core::{NoGate, ReplayFault, Verdict, replay_serial};
+use replay_report::{check_text, report_text};
+use std::alloc::{AllocError, Global};
+use std::sync::Wait;
+use std::thread::Threads;
+use trace_format::{Kind, Trace, TraceFault, read_trace};
+
+/// Reads the trace, runs it as the options say and writes the output, with no thread. Nothing is
+/// written before the whole output is there, and the run ends at the first failure of either side.
+pub fn run_alone<R: Source, W: Sink>(
+    alloc: Global,
+    reader: &mut R,
+    writer: &mut W,
+    options: &Options,
+) -> Result<(), RunFault>
+    requires mode { IsAlone options.now.mode }
+    requires reader { R.failures reader.old < 2 ^ 64 - 1 }
+    requires writer { W.failures writer.old < 2 ^ 64 - 1 }
+
+    // The output is the one of the trace that the reader's bytes spell.
+    ensures done { OnOk result (WritesOutput options.now (R.left reader.old) (R.left reader.new)
+        (W.written writer.old) (W.written writer.new)) }
+    ensures part { result ≡ Err RunFault.Write → WritesPart options.now (R.left reader.old)
+        (R.left reader.new) (W.written writer.old) (W.written writer.new) }
+    ensures nothing { IfErr result (λ fault. fault ≢ RunFault.Write
+        → Keeps (W.written writer.old) (W.written writer.new)) }
+
+    ensures taken { ConsumesUpTo most_taken (R.left reader.old) (R.left reader.new) }
+    ensures reading { IfErr result (TellsOfReading (R.left reader.old) (R.left reader.new)) }
+    ensures read { R.failures reader.new ≡ R.failures reader.old + read_failures result }
+    ensures write { W.failures writer.new ≡ W.failures writer.old + write_failures result }
+{
+    let trace = taken_trace(alloc, reader)?;
+    let output = output_alone(alloc, &trace, options)?;
+    written(writer, output.as_slice())
+}
+
+/// The same in every mode: those that ask for workers run in rounds on threads.
+pub fn run<T: Threads + Wait + Sync, R: Source, W: Sink>(
+    rt: &T,
+    alloc: Global,
+    reader: &mut R,
+    writer: &mut W,
+    options: &Options,
+) -> Result<(), RunFault>
+    requires mode { IsServed options.now.mode }
+    requires reader { R.failures reader.old < 2 ^ 64 - 1 }
+    requires writer { W.failures writer.old < 2 ^ 64 - 1 }
+
+    // The output is the one of the trace that the reader's bytes spell.
+    ensures done { OnOk result (WritesOutput options.now (R.left reader.old) (R.left reader.new)
+        (W.written writer.old) (W.written writer.new)) }
+    ensures part { result ≡ Err RunFault.Write → WritesPart options.now (R.left reader.old)
+        (R.left reader.new) (W.written writer.old) (W.written writer.new) }
+    ensures nothing { IfErr result (λ fault. fault ≢ RunFault.Write → fault ≢ RunFault.Different
+        → Keeps (W.written writer.old) (W.written writer.new)) }
+
+    ensures taken { ConsumesUpTo most_taken (R.left reader.old) (R.left reader.new) }
+    ensures reading { IfErr result (TellsOfReading (R.left reader.old) (R.left reader.new)) }
+    ensures read { R.failures reader.new ≡ R.failures reader.old + read_failures result }
+    ensures write { W.failures writer.new ≡ W.failures writer.old + write_failures result }
+    ensures same { result ≢ Err RunFault.Different }
+{
+    let trace = taken_trace(alloc, reader)?;
+    if let Mode::Compare { workers, window } = options.mode {
+        let verdict = comparison(rt, alloc, &trace, workers, window)?;
+        return told(alloc, writer, verdict);
+    }
+    let output = output_in_rounds(rt, alloc, &trace, options)?;
+    written(writer, output.as_slice())
+}
+
+/// The output of any mode but a comparison.
+fn output_in_rounds<T: Threads + Wait + Sync>(
+    rt: &T,
+    alloc: Global,
+    trace: &Trace,
+    options: &Options,
+) -> Result<Vec<u8>, RunFault>
+    requires trace { IsSpelled trace.now }
+    requires mode { IsServed options.now.mode }
+    requires report { IsNoComparison options.now.mode }
+    ensures ok { IfOk result (λ output. output.items ≡ output_of options.now trace.now) }
+    ensures err { IfErr result (λ fault. (fault ≡ RunFault.Replay ReplayFault.Memory) ⊎ (fault ≡ RunFault.Replay ReplayFault.NoThread)) }
+{
+    match options.mode {
+        Mode::Run { workers, window } => {
+            parallel_report(rt, alloc, trace, workers, window, options.sums).map_err(
+                RunFault::Replay,
+            )
+        }
+        _ => output_alone(alloc, trace, options),
+    }
+}
+
+/// The report of the run in rounds.
+fn parallel_report<T: Threads + Wait + Sync>(
+    rt: &T,
+    alloc: Global,
+    trace: &Trace,
+    workers: u32,
+    window: u32,
+    sums: bool,
+) -> Result<Vec<u8>, ReplayFault>
+    requires trace { IsSpelled trace.now }
+    requires workers { (1 ≤ workers) × (workers ≤ 64) }
+    requires window { (1 ≤ window) × (window ≤ 4096) }
+    ensures ok { IfOk result (λ text. text.items ≡ sequential_report trace.now sums) }
+    ensures err { IfErr result (λ fault. (fault ≡ ReplayFault.Memory) ⊎ (fault ≡ ReplayFault.NoThread)) }
+{
+    let replay = replay(rt, alloc, trace, workers, window, &NoGate)?;
+    match report_text(
+        alloc,
+        trace,
+        replay.world.state(),
+        replay.replies.as_slice(),
+        sums,
+    ) {
+        Ok(text) => Ok(text),
+        Err(AllocError) => Err(ReplayFault::Memory),
+    }
+}
+
+/// The verdict of a comparison of both runs.
+fn comparison<T: Threads + Wait + Sync>(
+    rt: &T,
+    alloc: Global,
+    trace: &Trace,
+    workers: u32,
+    window: u32,
+) -> Result<Verdict, RunFault>
+    requires trace { IsSpelled trace.now }
+    requires workers { (1 ≤ workers) × (workers ≤ 64) }
+    requires window { (1 ≤ window) × (window ≤ 4096) }
+    ensures ok { IfOk result (λ verdict. verdict ≡ Verdict.Equal) }
+    ensures err { IfErr result (λ fault. (fault ≡ RunFault.Replay ReplayFault.Memory) ⊎ (fault ≡ RunFault.Replay ReplayFault.NoThread)) }
+{
+    match compared(rt, alloc, trace, workers, window) {
+        Ok(verdict) => Ok(verdict),
+        Err(fault) => Err(RunFault::Replay(fault)),
+    }
+}
+
+/// How the run in rounds compares with the one in recorded order.
+fn compared<T: Threads + Wait + Sync>(
+    rt: &T,
+    alloc: Global,
+    trace: &Trace,
+    workers: u32,
+    window: u32,
+) -> Result<Verdict, ReplayFault>
+    requires trace { IsSpelled trace.now }
+    requires workers { (1 ≤ workers) × (workers ≤ 64) }
+    requires window { (1 ≤ window) × (window ≤ 4096) }
+    ensures ok { IfOk result (λ verdict. verdict ≡ Verdict.Equal) }
+    ensures err { IfErr result (λ fault. (fault ≡ ReplayFault.Memory) ⊎ (fault ≡ ReplayFault.NoThread)) }
+{
+    let serial = replay_serial(alloc, trace)?;
+    let parallel = replay(rt, alloc, trace, workers, window, &NoGate)?;
+    Ok(verdict(&serial, &parallel))
+}
+
+/// Writes what a comparison found.
+pub fn told<W: Sink>(alloc: Global, writer: &mut W, verdict: Verdict) -> Result<(), RunFault>
+    requires { W.failures writer.old < 2 ^ 64 - 1 }
+    ensures equal { verdict ≡ Verdict.Equal → result ≢ Err RunFault.Different }
+    ensures different { OnOk result (verdict ≡ Verdict.Equal) }
+    ensures whole { (result ≡ Ok tt) ⊎ (result ≡ Err RunFault.Different)
+        → Appends (W.written writer.old) (W.written writer.new) (verdict_line verdict) }
+    ensures part { result ≡ Err RunFault.Write
+        → AppendsPart (W.written writer.old) (W.written writer.new) (verdict_line verdict) }
+    ensures nothing { IfErr result (λ fault. fault ≢ RunFault.Write → fault ≢ RunFault.Different
+        → (fault ≡ RunFault.Replay ReplayFault.Memory) × Keeps (W.written writer.old) (W.written writer.new)) }
+    ensures write { W.failures writer.new ≡ W.failures writer.old + write_failures result }
+{
+    let Ok(line) = told_line(alloc, verdict) else {
+        return Err(RunFault::Replay(ReplayFault::Memory));
+    };
+    written(writer, line.as_bytes())?;
+    match verdict {
+        Verdict::Equal => Ok(()),
+        Verdict::Reply(_) | Verdict::World => Err(RunFault::Different),
+    }
+}
+
+/// The line of a comparison.
+fn told_line(alloc: Global, verdict: Verdict) -> Result<String, AllocError>
+    ensures { IfOk result (λ line. string_bytes line ≡ verdict_line verdict) }
+{
+    match verdict {
+        Verdict::Equal => String::from_str(alloc, "equal\n"),
+        Verdict::Reply(place) => format!(in alloc; "different reply {place}\n"),
+        Verdict::World => String::from_str(alloc, "different world\n"),
+    }
+}
+
+/// The trace that the reader has left.
+fn taken_trace<R: Source>(alloc: Global, reader: &mut R) -> Result<Trace, RunFault>
+    requires { R.failures reader.old < 2 ^ 64 - 1 }
+    ensures ok { IfOk result (λ trace. ReadsTrace (R.left reader.old) (R.left reader.new) trace) }
+    ensures taken { ConsumesUpTo most_taken (R.left reader.old) (R.left reader.new) }
+    ensures err { IfErr result (TellsOfReading (R.left reader.old) (R.left reader.new)) }
+    ensures read { R.failures reader.new ≡ R.failures reader.old + read_failures result }
+    ensures write { write_failures result ≡ 0 }
+{
+    match read_text(alloc, reader) {
+        Ok(text) => read_trace(alloc, text.as_slice()).map_err(RunFault::Trace),
+        Err(TextFault::Read) => Err(RunFault::Read),
+        Err(TextFault::Memory) => Err(RunFault::Trace(TraceFault {
+            kind: Kind::Memory,
+            at: 0,
+        })),
+    }
+}
+
+/// The output of a mode that needs no thread.
+fn output_alone(alloc: Global, trace: &Trace, options: &Options) -> Result<Vec<u8>, RunFault>
+    requires trace { IsSpelled trace.now }
+    requires mode { IsAlone options.now.mode }
+    ensures ok { IfOk result (λ output. output.items ≡ output_of options.now trace.now) }
+    ensures err { IfErr result (λ fault. fault ≡ RunFault.Replay ReplayFault.Memory) }
+{
+    match options.mode {
+        Mode::Serial => serial_report(alloc, trace, options.sums).map_err(RunFault::Replay),
+        _ => { check_text(alloc, trace).map_err(|_| RunFault::Replay(ReplayFault::Memory)) }
+    }
+}
+
+/// The report of the run in recorded order.
+fn serial_report(alloc: Global, trace: &Trace, sums: bool) -> Result<Vec<u8>, ReplayFault>
+    requires { IsSpelled trace.now }
+    ensures ok { IfOk result (λ text. text.items ≡ sequential_report trace.now sums) }
+    ensures err { IfErr result (λ fault. fault ≡ ReplayFault.Memory) }
+{
+    let replay = replay_serial(alloc, trace)?;
+    match report_text(
+        alloc,
+        trace,
+        replay.world.state(),
+        replay.replies.as_slice(),
+        sums,
+    ) {
+        Ok(text) => Ok(text),
+        Err(AllocError) => Err(ReplayFault::Memory),
+    }
+}
+
+/// Writes the whole output.
+pub fn written<W: Sink>(writer: &mut W, output: &[u8]) -> Result<(), RunFault>
+    requires { W.failures writer.old < 2 ^ 64 - 1 }
+    ensures ok { OnOk result (Appends (W.written writer.old) (W.written writer.new) output.now) }
+    ensures part { OnErr result (AppendsPart (W.written writer.old) (W.written writer.new) output.now) }
+    ensures err { IfErr result (λ fault. fault ≡ RunFault.Write) }
+    ensures write { W.failures writer.new ≡ W.failures writer.old + write_failures result }
+{
+    match write_text(writer, output) {
+        Ok(()) => Ok(()),
+        Err(_) => Err(RunFault::Write),
+    }
+}

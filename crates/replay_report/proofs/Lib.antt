@@ -1,0 +1,3 @@
+mod PlacesLemmas
+mod ReportLemmas
+mod SumLemmas

@@ -1,0 +1,76 @@
+-- Texts that grow by a piece for each number or element, and the sizes that an image tells.
+use Rattle.std.proofs.Common.{◌≡◌, ℕ, zero, suc, ◌+◌, ◌<◌, ◌≤◌, ⊎_elim, inl, inr, List, ◌++◌, All, length, take, get_or, refl, sym, ap, ◌∙◌, arith, add-one, append_assoc, Some}
+use Rattle.std.specs.List.{flat_map, range_with_len, slice_get}
+use Rattle.std.specs.Prelude.{Bool, true, false, ◌==◌, nat_le, filter, [], ◌∷◌, Option, None}
+use Rattle.std.proofs.lemmas.Bool.{cases_Bool, cases_lt, lt-leb, ne_eqb}
+use Rattle.std.proofs.lemmas.List.{append-nil, length-take, take_all, take-take, take_more, flat_map_more}
+use Rattle.std.proofs.lemmas.List.Elements.{All-map}
+use Rattle.trace_format.specs.declared.trace.Trace.{Trace}
+use Rattle.trace_format.specs.Steps.{Step, places, step_at}
+use Rattle.op_meaning.specs.declared.reply.Reply.{Reply}
+use Rattle.world_parts.specs.World.{World}
+use Rattle.world_parts.specs.Image.{image_of, name_entry, all_paths}
+use Rattle.sqe_codec.specs.Answers.{each}
+use Rattle.replay_report.specs.Places.{is_step_of, places_of_ring}
+use Rattle.replay_report.specs.Report.{IsSized, action_line, data_text, entry_outcome, line, place_line, posting, step_line}
+
+-- one number more
+flat_map-range_suc : (f : ℕ → List ℕ) (a n j : ℕ) → a + n ≡ j → flat_map f (range_with_len a (suc n)) ≡ flat_map f (range_with_len a n) ++ f j
+flat_map-range_suc f a zero j e = let same : a ≡ j = omega arith in append-nil (f a) ∙ ap f same
+flat_map-range_suc f a (suc n) j e =
+    ap (λ rest. f a ++ rest) (flat_map-range_suc f (a + 1) n j (omega arith)) ∙ sym (append_assoc (f a) (flat_map f (range_with_len (a + 1) n)) (f j))
+
+-- a text with the pieces of the numbers below k, and then with that of k
+pub range_grown : (old now next : List ℕ) (f : ℕ → List ℕ) (k : ℕ) → now ≡ old ++ flat_map f (range_with_len 0 k) → next ≡ now ++ f k
+    → next ≡ old ++ flat_map f (range_with_len 0 (k + 1))
+range_grown old now next f k so_far e =
+    let more : flat_map f (range_with_len 0 (k + 1)) ≡ flat_map f (range_with_len 0 k) ++ f k = rw add-one (flat_map-range_suc f 0 k k (omega arith)) in
+    rw more (e ∙ ap (λ text. text ++ f k) so_far ∙ append_assoc old (flat_map f (range_with_len 0 k)) (f k))
+
+-- a text with the pieces of the first elements, and then with that of the next
+pub list_grown : {X : Type 0} (old now next : List ℕ) (f : X → List ℕ) (xs : List X) (i : ℕ) (d : X) → i < length xs → now ≡ old ++ flat_map f (take i xs) → next ≡ now ++ f (get_or xs i d)
+    → next ≡ old ++ flat_map f (take (i + 1) xs)
+list_grown old now next f xs i d lt so_far e = rw (take_more xs i d lt) (e ∙ ap (λ text. text ++ f (get_or xs i d)) so_far ∙ flat_map_more f old (take i xs) (get_or xs i d))
+
+-- the bytes that are shown, and one more, tell how the line of an entry ends
+data_text_shown : (bytes : List ℕ) → data_text (take 33 bytes) ≡ data_text bytes
+data_text_shown bytes = ⊎_elim
+    (λ (more : 33 < length bytes).
+    let count : length (take 33 bytes) ≡ 33 = length-take 33 bytes ∙ omega arith in
+    let some : (length bytes == 0) ≡ false = ne_eqb (length bytes) 0 (λ e. absurd (omega (arith, e, more))) in
+    let many : nat_le (length bytes) 32 ≡ false = lt-leb (length bytes) 32 (omega arith) in
+    rw (count, take-take 32 33 bytes (omega arith), some, many) refl)
+    (λ (all : length bytes ≤ 33). ap data_text (take_all 33 bytes all))
+    (cases_lt 33 (length bytes))
+
+pub entry_outcome_shown : (posted : Bool) (shown bytes : List ℕ) → shown ≡ take 33 bytes → entry_outcome posted shown ≡ entry_outcome posted bytes
+entry_outcome_shown posted shown bytes e = ap (λ text. line (posting posted ++ text)) (ap data_text e ∙ data_text_shown bytes)
+
+-- the line of a place of the ring whose step and reply are there
+pub place_line-read : (t : Trace) (replies : List Reply) (ring place : ℕ) (step : Step) (reply : Reply) → is_step_of ring (step_at t place) ≡ true → step_at t place ≡ Some step → slice_get replies place ≡ Some reply
+    → place_line t replies ring place ≡ action_line place step.action reply
+place_line-read t replies ring place step reply here stands answered =
+    let same : (step.ring == ring) ≡ true = rw stands at here in
+    rw (stands, answered, same) refl
+
+-- a place of another ring has no line
+no_line : (ring place : ℕ) (step : Option Step) (reply : Option Reply) → is_step_of ring step ≡ false → each (λ step. each (step_line ring place step) reply) step ≡ []
+no_line ring place None reply other = refl
+no_line ring place (Some step) None other = refl
+no_line ring place (Some step) (Some reply) other = rw other refl
+
+flat_map-filter : (p : ℕ → Bool) (f : ℕ → List ℕ) → ((k : ℕ) → p k ≡ false → f k ≡ []) → (ks : List ℕ) → flat_map f (filter p ks) ≡ flat_map f ks
+flat_map-filter p f none [] = refl
+flat_map-filter p f none (k ∷ ks) = elim (cases_Bool (p k)) [
+  | inl kept ↦ rw kept (ap (λ rest. f k ++ rest) (flat_map-filter p f none ks))
+  | inr left ↦ rw (left, none k left) (flat_map-filter p f none ks)
+]
+
+-- so its own places have all lines of a ring
+pub ring_lines-listed : (t : Trace) (replies : List Reply) (ring : ℕ) → flat_map (place_line t replies ring) (places_of_ring t ring) ≡ flat_map (place_line t replies ring) (range_with_len 0 (places t))
+ring_lines-listed t replies ring =
+    flat_map-filter (λ place. is_step_of ring (step_at t place)) (place_line t replies ring) (λ k other. no_line ring k (step_at t k) (slice_get replies k) other) (range_with_len 0 (places t))
+
+-- each name of an image has the size of its file
+pub image_is_sized : (s : World) → All (IsSized s) (image_of s).names
+image_is_sized s = All-map (IsSized s) (name_entry s.nodes) (all_paths s.nodes).entries (λ k d lt. refl)

@@ -1,0 +1,100 @@
+-- Bytes that are summed a piece at a time, zeros, sums that are known, and the buffers that an image shows.
+use Rattle.std.proofs.Common.{◌≡◌, ℕ, zero, suc, ◌+◌, ◌-◌, ◌<◌, ◌≤◌, List, [], ◌∷◌, ◌++◌, All, length, take, replicate, get_or, refl, sym, ap, subst, ◌∙◌, arith, Option, Some, None, Bool, true, false, T, ◌&&◌, cond}
+use Rattle.std.proofs.lemmas.List.{take-append-drop, drop-take, take-take, take_all}
+use Rattle.std.proofs.lemmas.List.Elements.{All-cons, All-contains, All-head, All-map, All-nil, All-tail}
+use Rattle.std.proofs.lemmas.Map.Lookups.{CmpEqualImpliesEq, exact_pairs, exact_unsigned}
+use Rattle.std.proofs.lemmas.Map.Views.{Contains-from_lookup, tells_apart}
+use Rattle.std.specs.BTreeMap.{insert_entry, is_at}
+use Rattle.std.specs.Map.{lookup}
+use Rattle.std.specs.Ordering.{match_ordering, nat_cmp}
+use Rattle.std.specs.Prelude.{unwrap_or}
+use Rattle.std.specs.Option.{option_map}
+use Rattle.std.specs.declared.cmp.Ordering.{Ordering}
+use Rattle.std.specs.declared.cmp.Ordering.TheVariants.{Less, Equal, Greater}
+use Rattle.std.specs.Ordering.{is_eq, is_lt, ordering_reverse}
+use Rattle.std.specs.Cmp.{IsTotalOrder, tied_itself}
+use Rattle.std.specs.FinMap.Entries.{find, is_sorted, below_all}
+use Rattle.extent_bytes.specs.Bytes.{range_of, resized}
+use Rattle.finite_maps.specs.Table.{pair_cmp_total}
+use Rattle.world_parts.specs.World.{World}
+use Rattle.world_parts.specs.Image.{image_of, buffer_entry}
+use Rattle.replay_report.specs.contracts.sums.HolderOrd.TheImpl.{cmp-value}
+use Rattle.replay_report.specs.declared.sums.Holder.TheVariants.{File, Buffer}
+use Rattle.replay_report.specs.Report.{IsLong}
+
+-- the first bytes and the piece after them
+pub one_piece_more : (xs : List ℕ) (low high : ℕ) → low ≤ high → take high xs ≡ take low xs ++ range_of xs low high
+unfolding range_of
+one_piece_more xs low high le =
+    let sum : low + (high - low) ≡ high = omega arith in
+    let whole = take-append-drop low (take (low + (high - low)) xs) in
+    rw sum at (sym (rw (take-take low (low + (high - low)) xs (omega arith), drop-take low (high - low) xs) at whole))
+
+-- the whole of a list
+pub whole_range : (xs : List ℕ) (n : ℕ) → length xs ≡ n → range_of xs 0 n ≡ xs
+unfolding range_of
+whole_range xs n e = let all : n - 0 ≡ n = omega arith in rw all (take_all n xs (omega arith))
+
+-- an empty list that is extended
+pub extended_nothing : (n : ℕ) → resized [] n ≡ replicate n 0
+unfolding resized
+extended_nothing n = let all : n - 0 ≡ n = omega arith in let none : List ℕ = [] in rw (take_all n none (omega arith), all) refl
+
+-- the bytes that have a length
+pub held_length : (held : Option (List ℕ)) (n : ℕ) → option_map length held ≡ Some n → length (unwrap_or held []) ≡ n
+held_length None n e = cc
+held_length (Some xs) n e = cc
+
+-- what holds of each entry holds of the one that a look-up finds
+pub entry_known : {K X : Type 0} (R : K → K → Ordering) → CmpEqualImpliesEq R → (P : K × X → Type 0) (es : List (K × X)) → All P es → (k : K) (v : X) → lookup (is_at (R k)) es ≡ Some v → P (k, v)
+entry_known R exact P es a k v e = All-contains P es (k, v) a (Contains-from_lookup (tells_apart exact) k v es e)
+
+-- and it holds of each after one more was put in
+pub entry_more : {K X : Type 0} (R : K → K → Ordering) → CmpEqualImpliesEq R → (P : K × X → Type 0) (es : List (K × X)) → All P es → (k : K) (v : X) → P (k, v) → All P (insert_entry R es k v)
+entry_more R exact P [] a k v p = All-cons P (k, v) [] p (All-nil P)
+entry_more R exact P (e ∷ es) a k v p = by (R k e.0) refl (entry_more R exact P es (All-tail P e es a) k v p)
+  where
+    by : (r : Ordering) → R k e.0 ≡ r → All P (insert_entry R es k v) → All P (match_ordering r ((k, v) ∷ e ∷ es) ((e.0, v) ∷ es) (e ∷ insert_entry R es k v))
+    by Less q h = All-cons P (k, v) (e ∷ es) p a
+    by Equal q h = All-cons P (e.0, v) es (subst (λ key. P (key, v)) (exact k e.0 q) p) (All-tail P e es a)
+    by Greater q h = All-cons P e (insert_entry R es k v) (All-head P e es a) h
+
+-- two files or buffers that compare equal are the same one
+pub same_holder : CmpEqualImpliesEq (cmp-value.it)
+same_holder (File node) (File other) e = ap File (exact_unsigned node other e)
+same_holder (File node) (Buffer ring index) e = cc
+same_holder (Buffer ring index) (File node) e = cc
+same_holder (Buffer ring index) (Buffer other number) e = ap (λ p. Buffer p.0 p.1) (exact_pairs nat_cmp nat_cmp exact_unsigned exact_unsigned (ring, index) (other, number) e)
+
+is_less : (r : Ordering) → T (is_lt r) → r ≡ Less
+is_less Less h = refl
+is_less Equal h = absurd h
+is_less Greater h = absurd h
+
+left : (a b : Bool) → T (a && b) → T a
+left true b h = tt
+left false b h = h
+
+right : (a b : Bool) → T (a && b) → T b
+right true b h = h
+right false b h = absurd h
+
+module _ {K X : Type 0} {R : K → K → Ordering} (o : IsTotalOrder R) where
+  below_at : (q : K) (es : List (K × X)) → T (below_all R q es) → (k : ℕ) (d : K × X) → k < length es → R q (get_or es k d).0 ≡ Less
+  below_at q [] h k d lt = absurd (omega arith)
+  below_at q (e ∷ es) h zero d lt = is_less (R q e.0) (left _ _ h)
+  below_at q (e ∷ es) h (suc k) d lt = below_at q es (right _ _ h) k d (omega arith)
+
+  -- an entry of a list in order is found at its key
+  entry_found : (es : List (K × X)) → T (is_sorted R es) → (k : ℕ) (d : K × X) → k < length es → find R (get_or es k d).0 es ≡ Some (get_or es k d).1
+  entry_found [] h k d lt = absurd (omega arith)
+  entry_found (e ∷ es) h zero d lt = ap (λ r. cond (is_eq r) (Some e.1) (find R e.0 es)) (tied_itself o e.0)
+  entry_found (e ∷ es) h (suc k) d lt =
+      let f : K × X = get_or es k d in
+      let above : R f.0 e.0 ≡ Greater = o.antisymm f.0 e.0 ∙ ap ordering_reverse (below_at e.0 es (left _ _ h) k d (omega arith)) in
+      ap (λ r. cond (is_eq r) (Some e.1) (find R f.0 es)) above ∙ entry_found es (right _ _ h) k d (omega arith)
+
+-- each buffer of an image has the length of its bytes
+pub image_is_long : (s : World) → All (IsLong s) (image_of s).buffers
+image_is_long s =
+    All-map (IsLong s) buffer_entry s.buffers.entries (λ k d lt. ap (option_map length) (entry_found pair_cmp_total s.buffers.entries s.buffers.sorted k d lt))

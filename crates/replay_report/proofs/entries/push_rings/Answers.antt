@@ -1,0 +1,18 @@
+use Rattle.std.proofs.Common.{◌<◌, length, string_bytes, arith}
+use Rattle.replay_report.specs.Report.{ring_lines}
+use Rattle.replay_report.proofs.PlacesLemmas.{list_read, rings_listed}
+use Rattle.replay_report.proofs.ReportLemmas.{range_grown}
+use Rattle.replay_report.proofs.entries.push_rings.Goals as goal
+
+pub of_ring-requires : goal.of_ring-requires
+of_ring-requires c =
+    let within : c.loop-ring.ring < length c.args.trace.now.rings = rw c.as_slice-ring-end.ensures at c.loop-ring-test.true in
+    omega (arith, rings_listed c.args.trace.now c.in_ok-by_ring.by_ring c.in_ok-by_ring.ensures)
+
+pub push_ring-requires-clause-places : goal.push_ring-requires-clause-places
+push_ring-requires-clause-places c =
+    list_read c.args.trace.now c.in_ok-by_ring.by_ring c.loop-ring.ring c.of_ring.result.now c.in_ok-by_ring.ensures (rw c.as_slice-ring-end.ensures at c.loop-ring-test.true) c.of_ring.ensures
+
+pub loop-ring-preserved : goal.loop-ring-preserved
+loop-ring-preserved c =
+    range_grown (string_bytes c.args.text.now) (string_bytes c.loop-ring.text) (string_bytes c.push_ring.new.text) (ring_lines c.args.trace.now c.args.replies.now) c.loop-ring.ring c.loop-ring.invariant c.in_ok-push_ring.ensures

@@ -1,0 +1,137 @@
+-- The model: the report of a replay.
+use Rattle.std.specs.Prelude.{◌≡◌, ℕ, ℤ, ◌==◌, Bool, true, false, not, ◌&&◌, nat_le, nat_lt, List, [], ◌∷◌, ◌++◌, length, take, codes, Option, Some, None, unwrap_or, if◌then◌else◌}
+use Rattle.std.specs.Option.{option_map}
+use Rattle.std.specs.List.{flat_map, slice_get, range_with_len}
+use Rattle.std.specs.Fmt.{decimal, signed_decimal}
+use Rattle.hex.specs.Hex.{encode_lower}
+use Rattle.sha2.specs.Sha256.{sha256}
+use Rattle.sqe_codec.specs.Answers.{each}
+use Rattle.trace_format.specs.declared.trace.Trace.{Trace}
+use Rattle.trace_format.specs.Steps.{Step, Action, submit, fill, places, step_at}
+use Rattle.world_parts.specs.World.{World, bytes, size, buffer}
+use Rattle.world_parts.specs.Image.{image_of}
+use Rattle.world_parts.specs.declared.image.NameEntry.{NameEntry}
+use Rattle.world_parts.specs.declared.image.SlotEntry.{SlotEntry}
+use Rattle.world_parts.specs.declared.image.DescriptorEntry.{DescriptorEntry}
+use Rattle.world_parts.specs.declared.image.BufferEntry.{BufferEntry}
+use Rattle.op_meaning.specs.declared.reply.Reply.{Reply}
+
+-- A text and a line feed.
+abbrev pub line : List ℕ → List ℕ
+line text = text ++ 10 ∷ []
+
+-- Whether a completion is posted.
+abbrev pub posting : Bool → List ℕ
+posting true = codes "posted"
+posting false = codes "silent"
+
+-- The bytes of a reply that has some; of more than 32 the first, and a sign.
+abbrev pub data_text : List ℕ → List ℕ
+data_text bytes =
+    if length bytes == 0 then []
+    else if nat_le (length bytes) 32 then codes " data=" ++ encode_lower bytes
+    else codes " data=" ++ encode_lower (take 32 bytes) ++ codes "+"
+
+-- How the line of an entry begins: its place, its name for its caller, its result.
+abbrev pub entry_head : ℕ → ℕ → ℤ → List ℕ
+entry_head place user_data res = decimal place ++ codes " user=" ++ decimal user_data ++ codes " res=" ++ signed_decimal res ++ codes " "
+
+-- How it ends: whether a completion is posted, and what was read.
+abbrev pub entry_outcome : Bool → List ℕ → List ℕ
+entry_outcome posted bytes = line (posting posted ++ data_text bytes)
+
+-- The line of an entry.
+abbrev pub entry_line : ℕ → ℕ → Reply → List ℕ
+entry_line place user_data reply = entry_head place user_data reply.res ++ entry_outcome reply.posted reply.bytes
+
+-- The line of what a step does: a fill of a buffer has none.
+abbrev pub action_line : ℕ → Action → Reply → List ℕ
+action_line place (submit entry) reply = entry_line place entry.sqe.user_data reply
+action_line place (fill buffer offset bytes) reply = []
+
+-- The line of a step, where it is one of the ring.
+abbrev pub step_line : ℕ → ℕ → Step → Reply → List ℕ
+step_line ring place step reply = if step.ring == ring then action_line place step.action reply else []
+
+abbrev pub place_line : Trace → List Reply → ℕ → ℕ → List ℕ
+place_line t replies ring place = each (λ step. each (step_line ring place step) (slice_get replies place)) (step_at t place)
+
+-- The lines of a ring: its heading, and its entries in recorded order.
+abbrev pub ring_lines : Trace → List Reply → ℕ → List ℕ
+ring_lines t replies ring = line (codes "ring " ++ decimal ring) ++ flat_map (place_line t replies ring) (range_with_len 0 (places t))
+
+-- A byte of a path: itself where it is a visible character but a backslash, else by its two digits.
+abbrev pub escaped_byte : ℕ → List ℕ
+escaped_byte byte =
+    if nat_le 33 byte && nat_le byte 126 && not (byte == 92) then byte ∷ [] else codes "\\x" ++ encode_lower (byte ∷ [])
+
+abbrev pub escaped : List ℕ → List ℕ
+escaped path = flat_map escaped_byte path
+
+-- The SHA-256 sum of some bytes.
+abbrev pub sum_text : List ℕ → List ℕ
+sum_text bytes = codes " sum=" ++ encode_lower (sha256 bytes)
+
+-- The most bytes of a file whose sum is told.
+abbrev pub most_summed : ℕ
+most_summed = 16777216
+
+-- The sum of a file, where sums are asked for.
+abbrev pub file_sum : Bool → List ℕ → List ℕ
+file_sum false bytes = []
+file_sum true bytes = if nat_lt most_summed (length bytes) then codes " sum=large" else sum_text bytes
+
+-- The sum of a buffer, where sums are asked for.
+abbrev pub buffer_sum : Bool → List ℕ → List ℕ
+buffer_sum false bytes = []
+buffer_sum true bytes = sum_text bytes
+
+-- The line of a name: a directory, or a file with its node, its size and its sum.
+abbrev pub named_line : List ℕ → ℕ → Option ℕ → List ℕ → List ℕ
+named_line path node None sum = line (codes "dir " ++ escaped path)
+named_line path node (Some size) sum =
+    line (codes "file " ++ escaped path ++ codes " node=" ++ decimal node ++ codes " size=" ++ decimal size ++ sum)
+
+-- The size that an entry of an image tells is that of its file; a directory has none.
+abbrev pub IsSized : World → NameEntry → Type 0
+IsSized s name = name.size ≡ size s name.node
+
+-- The length that an entry of an image tells is that of its buffer.
+abbrev pub IsLong : World → BufferEntry → Type 0
+IsLong s e = option_map length (buffer s e.ring e.index) ≡ Some e.len
+
+abbrev pub name_line : World → Bool → NameEntry → List ℕ
+name_line s sums name = named_line name.path name.node name.size (each (file_sum sums) (bytes s name.node))
+
+-- What a description shows: its number, its node and its position.
+abbrev pub description_text : ℕ → ℕ → ℕ → List ℕ
+description_text description node position = codes " desc=" ++ decimal description ++ codes " node=" ++ decimal node ++ codes " pos=" ++ decimal position
+
+-- The line of a full slot.
+abbrev pub slot_line : SlotEntry → List ℕ
+slot_line e = line (codes "slot " ++ decimal e.ring ++ codes " " ++ decimal e.slot ++ description_text e.description e.node e.position)
+
+-- The line of a full descriptor.
+abbrev pub descriptor_line : DescriptorEntry → List ℕ
+descriptor_line e = line (codes "descriptor " ++ decimal e.number ++ description_text e.description e.node e.position)
+
+-- The line of a buffer.
+abbrev pub buffer_line : World → Bool → BufferEntry → List ℕ
+buffer_line s sums e =
+    line (codes "buffer " ++ decimal e.ring ++ codes " " ++ decimal e.index ++ codes " len=" ++ decimal e.len ++ buffer_sum sums (unwrap_or (buffer s e.ring e.index) []))
+
+-- The line of a check: how many places and rings a trace has.
+abbrev pub check_line : Trace → List ℕ
+check_line t = line (codes "ok " ++ decimal (places t) ++ codes " places " ++ decimal (length t.rings) ++ codes " rings")
+
+-- What the world shows: its names, its full slots and descriptors, and its buffers.
+abbrev pub world_lines : World → Bool → List ℕ
+world_lines s sums =
+    line (codes "tree") ++ flat_map (name_line s sums) (image_of s).names
+    ++ line (codes "slots") ++ flat_map slot_line (image_of s).slots ++ flat_map descriptor_line (image_of s).descriptors
+    ++ line (codes "buffers") ++ flat_map (buffer_line s sums) (image_of s).buffers
+
+-- The report of a trace, of the world at its end and of the replies of its places; with sums where they are asked for.
+abbrev pub report_of : Trace → World → List Reply → Bool → List ℕ
+report_of t s replies sums =
+    line (codes "uring-report 1") ++ flat_map (ring_lines t replies) (range_with_len 0 (length t.rings)) ++ world_lines s sums ++ line (codes "end")

@@ -1,0 +1,15 @@
+//! What a replay gives, as text: the report, and the line of a check.
+//!
+//! `specs/Report.antt` has the text of a report; `specs/Sums.antt` what is summed.
+#![tactic(auto)]
+
+mod entries;
+mod escaping;
+mod places;
+mod report;
+mod sums;
+mod world_lines;
+mod zeros;
+
+pub use escaping::escaped;
+pub use report::{check_text, report_text};

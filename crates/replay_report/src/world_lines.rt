@@ -1,0 +1,245 @@
+//! The lines of what the world shows at the end.
+ghost use Rattle.std.specs.Prelude.{◌≡◌, ◌++◌, All, IfSome, OnOk, Some, [], is_some, length};
+ghost use Rattle.std.specs.Prelude.{string_bytes, unwrap_or};
+ghost use Rattle.std.specs.List.{flat_map};
+ghost use Rattle.std.specs.Option.{option_map};
+ghost use Rattle.sqe_codec.specs.Answers.{each};
+ghost use Rattle.replay_report.specs.Sums.{AreSumsOf, held};
+ghost use Rattle.world_parts.specs.World.{bytes, size};
+ghost use Rattle.replay_report.specs.Report.{IsLong, IsSized, buffer_line, description_text};
+ghost use Rattle.replay_report.specs.Report.{descriptor_line};
+ghost use Rattle.replay_report.specs.Report.{file_sum, name_line, slot_line, sum_text, world_lines};
+ghost use Rattle.world_parts.specs.Image.{image_of};
+
+use crate::escaping::escaped;
+use crate::sums::{Holder, MOST_SUMMED, Sums};
+use std::alloc::{AllocError, Global};
+use world_parts::{BufferEntry, DescriptorEntry, Image, NameEntry, SlotEntry, State};
+
+/// The lines of what the world shows.
+pub(crate) fn push_world(
+    alloc: Global,
+    text: &mut String,
+    world: &State,
+    sums: bool,
+) -> Result<(), AllocError>
+    ensures { OnOk result (string_bytes text.new
+        ≡ string_bytes text.old ++ world_lines world.now sums) }
+{
+    let image = world.image(alloc)?;
+    if !sums {
+        return push_image(alloc, text, world, &image, None);
+    }
+    let made = Sums::of(
+        alloc,
+        world,
+        image.names.as_slice(),
+        image.buffers.as_slice(),
+    )?;
+    push_image(alloc, text, world, &image, Some(&made))
+}
+
+/// The lines of the image of a world, with the sums that were made ahead where they are asked for.
+fn push_image(
+    alloc: Global,
+    text: &mut String,
+    world: &State,
+    image: &Image,
+    sums: Option<&Sums>,
+) -> Result<(), AllocError>
+    requires image { image.now ≡ image_of world.now }
+    requires sums { IfSome sums (λ s. AreSumsOf world.now s.now) }
+    ensures { OnOk result (string_bytes text.new
+        ≡ string_bytes text.old ++ world_lines world.now (is_some sums.entry)) }
+{
+    text.push_str("tree\n")?;
+    push_names(alloc, text, world, image.names.as_slice(), sums)?;
+    text.push_str("slots\n")?;
+    push_slots(text, image.slots.as_slice())?;
+    push_descriptors(text, image.descriptors.as_slice())?;
+    text.push_str("buffers\n")?;
+    push_buffers(alloc, text, world, image.buffers.as_slice(), sums)
+}
+
+fn push_names(
+    alloc: Global,
+    text: &mut String,
+    world: &State,
+    names: &[NameEntry],
+    sums: Option<&Sums>,
+) -> Result<(), AllocError>
+    requires sums { IfSome sums (λ s. AreSumsOf world.now s.now) }
+    requires names { All (IsSized world.now) names.now }
+    ensures { OnOk result (string_bytes text.new
+        ≡ string_bytes text.old ++ flat_map (name_line world.now (is_some sums.entry)) names.now) }
+{
+    for name in names {
+        push_name(alloc, text, world, name, sums)?;
+    }
+    Ok(())
+}
+
+fn push_name(
+    alloc: Global,
+    text: &mut String,
+    world: &State,
+    name: &NameEntry,
+    sums: Option<&Sums>,
+) -> Result<(), AllocError>
+    requires sums { IfSome sums (λ s. AreSumsOf world.now s.now) }
+    requires name { IsSized world.now name.now }
+    ensures { OnOk result (string_bytes text.new
+        ≡ string_bytes text.old ++ name_line world.now (is_some sums.entry) name.now) }
+{
+    let path = escaped(alloc, name.path.as_slice())?;
+    let node = name.node;
+    match name.size {
+        None => writeln!(text, "dir {path}"),
+        Some(len) => {
+            write!(text, "file {path} node={node} size={len}")?;
+            push_file_sum(alloc, text, world, node, len, sums)?;
+            text.push_str("\n")
+        }
+    }
+}
+
+/// The sum of a file of this length, where sums are asked for. A large file isn't read.
+fn push_file_sum(
+    alloc: Global,
+    text: &mut String,
+    world: &State,
+    node: u32,
+    len: u64,
+    sums: Option<&Sums>,
+) -> Result<(), AllocError>
+    requires sums { IfSome sums (λ s. AreSumsOf world.now s.now) }
+    requires len { size world.now node ≡ Some len }
+    ensures { OnOk result (string_bytes text.new
+        ≡ string_bytes text.old ++ each (file_sum (is_some sums.entry)) (bytes world.now node)) }
+{
+    let Some(sums) = sums else {
+        return Ok(());
+    };
+    if len > MOST_SUMMED {
+        return text.push_str(" sum=large");
+    }
+    push_sum(alloc, text, world, Holder::File { node }, len, sums)
+}
+
+fn push_sum(
+    alloc: Global,
+    text: &mut String,
+    world: &State,
+    holder: Holder,
+    len: u64,
+    sums: &Sums,
+) -> Result<(), AllocError>
+    requires sums { AreSumsOf world.now sums.now }
+    requires len { option_map length (held world.now holder) ≡ Some len }
+    ensures { OnOk result (string_bytes text.new
+        ≡ string_bytes text.old ++ sum_text (unwrap_or (held world.now holder) [])) }
+{
+    let sum = hex::encode(alloc, sums.get(alloc, world, holder, len)?)?;
+    write!(text, " sum={sum}")
+}
+
+fn push_slots(text: &mut String, slots: &[SlotEntry]) -> Result<(), AllocError>
+    ensures { OnOk result (string_bytes text.new
+        ≡ string_bytes text.old ++ flat_map slot_line slots.now) }
+{
+    for slot in slots {
+        push_slot(text, *slot)?;
+    }
+    Ok(())
+}
+
+fn push_slot(text: &mut String, entry: SlotEntry) -> Result<(), AllocError>
+    ensures { OnOk result (string_bytes text.new ≡ string_bytes text.old ++ slot_line entry) }
+{
+    let SlotEntry {
+        ring,
+        slot,
+        description,
+        node,
+        position,
+    } = entry;
+    write!(text, "slot {ring} {slot}")?;
+    push_description(text, description, node, position)?;
+    text.push_str("\n")
+}
+
+fn push_description(
+    text: &mut String,
+    description: u32,
+    node: u32,
+    position: u64,
+) -> Result<(), AllocError>
+    ensures { OnOk result (string_bytes text.new
+        ≡ string_bytes text.old ++ description_text description node position) }
+{
+    write!(text, " desc={description} node={node} pos={position}")
+}
+
+fn push_descriptors(text: &mut String, descriptors: &[DescriptorEntry]) -> Result<(), AllocError>
+    ensures { OnOk result (string_bytes text.new
+        ≡ string_bytes text.old ++ flat_map descriptor_line descriptors.now) }
+{
+    for descriptor in descriptors {
+        push_descriptor(text, *descriptor)?;
+    }
+    Ok(())
+}
+
+fn push_descriptor(text: &mut String, entry: DescriptorEntry) -> Result<(), AllocError>
+    ensures { OnOk result (string_bytes text.new
+        ≡ string_bytes text.old ++ descriptor_line entry) }
+{
+    let DescriptorEntry {
+        number,
+        description,
+        node,
+        position,
+    } = entry;
+    write!(text, "descriptor {number}")?;
+    push_description(text, description, node, position)?;
+    text.push_str("\n")
+}
+
+fn push_buffers(
+    alloc: Global,
+    text: &mut String,
+    world: &State,
+    buffers: &[BufferEntry],
+    sums: Option<&Sums>,
+) -> Result<(), AllocError>
+    requires sums { IfSome sums (λ s. AreSumsOf world.now s.now) }
+    requires buffers { All (IsLong world.now) buffers.now }
+    ensures { OnOk result (string_bytes text.new
+        ≡ string_bytes text.old ++ flat_map (buffer_line world.now (is_some sums.entry)) buffers.now) }
+{
+    for buffer in buffers {
+        push_buffer(alloc, text, world, *buffer, sums)?;
+    }
+    Ok(())
+}
+
+fn push_buffer(
+    alloc: Global,
+    text: &mut String,
+    world: &State,
+    entry: BufferEntry,
+    sums: Option<&Sums>,
+) -> Result<(), AllocError>
+    requires sums { IfSome sums (λ s. AreSumsOf world.now s.now) }
+    requires entry { IsLong world.now entry }
+    ensures { OnOk result (string_bytes text.new
+        ≡ string_bytes text.old ++ buffer_line world.now (is_some sums.entry) entry) }
+{
+    let BufferEntry { ring, index, len } = entry;
+    write!(text, "buffer {ring} {index} len={len}")?;
+    if let Some(sums) = sums {
+        let holder = Holder::Buffer { ring, index };
+        push_sum(alloc, text, world, holder, len, sums)?;
+    }
+    text.push_str("\n")
+}

@@ -1,0 +1,179 @@
+//! Jobs are dealt and their results gathered, by one thread and by two.
+ghost use Rattle.std.specs.Prelude.{◌≡◌, ◌*◌, IfSome, None, true, false};
+ghost use Rattle.deal_desk.specs.Desks.{hand_of, IsSeatOf, IsIdleSeatOf};
+ghost use Rattle.deal_desk.specs.Hands.{HasSeats};
+
+use deal_desk::{Desk, DeskSeat, Job};
+use std::snapshot::Snapshot;
+use std::test::Fail;
+use std::thread;
+use std::thread::Promise;
+
+/// A number to be doubled.
+#[derive(Drop)]
+struct Double {
+    number: u32,
+}
+
+impl Job for Double {
+    type Done = u64;
+
+    ghost is_value = { λ job d. d ≡ 2 * job.number };
+}
+
+impl Double {
+    fn value(&self) -> u64
+        ensures { result ≡ 2 * self.now.number }
+    {
+        2 * u64::from(self.number)
+    }
+}
+
+// One seat draws each job in order, and then none.
+#[test]
+fn desk_three(rt: HostRuntime) -> Result<(), Fail> {
+    let jobs = vec![in rt.alloc();
+        Double { number: 10 },
+        Double { number: 20 },
+        Double { number: 30 },
+    ]?;
+    let (desk, mut seat) = Desk::new(rt.alloc(), jobs)?;
+    let Some((zero, first)) = desk.draw(&mut seat) else {
+        panic!(rt; "no first job")
+    };
+    desk.put(&mut seat, zero, first.value());
+    let Some((one, second)) = desk.draw(&mut seat) else {
+        panic!(rt; "no second job")
+    };
+    desk.put(&mut seat, one, second.value());
+    let Some((two, third)) = desk.draw(&mut seat) else {
+        panic!(rt; "no third job")
+    };
+    desk.put(&mut seat, two, third.value());
+    assert_eq!(rt; [zero, one, two], [0, 1, 2]);
+    assert!(rt; desk.draw(&mut seat).is_none() && seat.is_dry());
+    let results = desk.close(rt.alloc(), seat)?;
+    assert_eq!(rt; results.as_slice(), [20, 40, 60].as_slice());
+    Ok(())
+}
+
+// The empty list has a desk too.
+#[test]
+fn desk_of_no_jobs(rt: HostRuntime) -> Result<(), Fail> {
+    let jobs: Vec<Double> = Vec::new(rt.alloc());
+    let (desk, mut seat) = Desk::new(rt.alloc(), jobs)?;
+    assert!(rt; desk.draw(&mut seat).is_none() && seat.is_dry());
+    let results = desk.close(rt.alloc(), seat)?;
+    assert!(rt; results.is_empty());
+    Ok(())
+}
+
+// Two seats of one thread, whose draws take turns.
+#[test]
+fn desk_two_seats(rt: HostRuntime) -> Result<(), Fail> {
+    let jobs = vec![in rt.alloc();
+        Double { number: 10 },
+        Double { number: 20 },
+        Double { number: 30 },
+    ]?;
+    let (desk, mut left) = Desk::new(rt.alloc(), jobs)?;
+    let mut right = desk.seat(&mut left);
+    let Some((zero, first)) = desk.draw(&mut left) else {
+        panic!(rt; "no first job")
+    };
+    let Some((one, second)) = desk.draw(&mut right) else {
+        panic!(rt; "no second job")
+    };
+    desk.put(&mut left, zero, first.value());
+    let Some((two, third)) = desk.draw(&mut left) else {
+        panic!(rt; "no third job")
+    };
+    desk.put(&mut right, one, second.value());
+    assert!(rt; desk.draw(&mut right).is_none());
+    desk.put(&mut left, two, third.value());
+    assert!(rt; desk.draw(&mut left).is_none());
+    assert_eq!(rt; [zero, one, two], [0, 1, 2]);
+    desk.merge(&mut left, right);
+    let results = desk.close(rt.alloc(), left)?;
+    assert_eq!(rt; results.as_slice(), [20, 40, 60].as_slice());
+    Ok(())
+}
+
+// Draws a job, if there is one, and puts its value back.
+fn turn(desk: &Desk<Double>, seat: &mut DeskSeat<Double>)
+    requires desk { IsSeatOf desk.now seat.old }
+    requires idle { (hand_of seat.old).out ≡ None }
+    ensures desk { IsSeatOf desk.now seat.new }
+    ensures idle { (hand_of seat.new).out ≡ None }
+    ensures same { HasSeats (hand_of seat.old).opens (hand_of seat.old).given
+        (hand_of seat.old).merged (hand_of seat.new) }
+{
+    if let Some((place, job)) = desk.draw(seat) {
+        desk.put(seat, place, job.value());
+    }
+}
+
+// Two turns, at a seat of a thread's own.
+fn two_turns(desk: &Desk<Double>, mut seat: DeskSeat<Double>) -> DeskSeat<Double>
+    requires desk { IsSeatOf desk.now seat }
+    requires idle { (hand_of seat).out ≡ None }
+    ensures { IsIdleSeatOf desk.now (hand_of seat) result }
+{
+    turn(desk, &mut seat);
+    turn(desk, &mut seat);
+    seat
+}
+
+// What comes back of a thread: the seat that it was given, with nothing out.
+#[derive(Drop)]
+struct Returned {
+    desk: Snapshot<Desk<Double>>,
+    seat: Snapshot<DeskSeat<Double>>,
+}
+
+impl Promise<DeskSeat<Double>> for Returned {
+    ghost kept_by = { λ p r. IsIdleSeatOf p.desk.value (hand_of p.seat.value) r };
+}
+
+// Each thread takes a turn or two at a seat of its own. The results stand in order, whoever was
+// first.
+#[test]
+fn two_threads(rt: HostRuntime) -> Result<(), Fail> {
+    let jobs = vec![in rt.alloc();
+        Double { number: 10 },
+        Double { number: 20 },
+        Double { number: 30 },
+    ]?;
+    let (desk, mut left) = Desk::new(rt.alloc(), jobs)?;
+    let right = desk.seat(&mut left);
+    let shared = &desk;
+    let merged = thread::scope(
+        thread::scope_env(),
+        &rt,
+        |scope| -> Option<DeskSeat<Double>>
+            requires desk { IsSeatOf shared.now left × IsSeatOf shared.now right }
+            requires idle { ((hand_of left).out ≡ None) × ((hand_of right).out ≡ None) }
+            requires seats { HasSeats true 1 0 (hand_of left)
+                × ((hand_of right).opens ≡ false) × ((hand_of right).merged ≡ 0) }
+            ensures { IfSome result (λ seat. IsSeatOf shared.entry.now seat
+                × ((hand_of seat).out ≡ None) × HasSeats true 1 1 (hand_of seat)) }
+        {
+            let mut left = left;
+            let promise = Returned {
+                desk: Snapshot::of(shared),
+                seat: Snapshot::of(&right),
+            };
+            let child = scope
+                .spawn_with(promise, move || two_turns(shared, right))
+                .ok()?;
+            turn(shared, &mut left);
+            shared.merge(&mut left, child.join(&rt));
+            Some(left)
+        },
+    );
+    let mut left = merged.ok_or("no thread")?;
+    assert!(rt; desk.draw(&mut left).is_none());
+    let results = desk.close(rt.alloc(), left)?;
+    assert_eq!(rt; results.as_slice(), [20, 40, 60].as_slice());
+    Ok(())
+}

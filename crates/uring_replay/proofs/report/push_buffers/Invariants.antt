@@ -1,8 +1,0 @@
-use Rattle.std.proofs.Common.{◌≡◌, ◌++◌, take, string_bytes}
-use Rattle.std.specs.Prelude.{is_some}
-use Rattle.std.specs.List.{flat_map}
-use Rattle.uring_replay.specs.Report.{buffer_line}
-use Rattle.uring_replay.proofs.report.push_buffers.Given as goal
-
-abbrev pub invariant-loop-buffer : goal.invariant-loop-buffer
-invariant-loop-buffer l = string_bytes l.text ≡ string_bytes l.initial.text ++ flat_map (buffer_line l.world (is_some l.sums)) (take l.buffer-index l.buffers)
