@@ -1,6 +1,7 @@
 pub mod Grammar
 pub mod Read
 pub mod Sources
+pub mod Blobs
 pub mod Paths
 pub mod Sides
 pub mod Counts

@@ -8,21 +8,19 @@ ghost use Rattle.trace_format.specs.Sources.{reading_from, with_rest};
 ghost use Rattle.trace_format.specs.Text.{file, other_name, node, item, is_item};
 
 use crate::fault::{Kind, ReadError, refused};
-use crate::list::Series;
 use crate::names::{Names, add_name, path_of};
 use crate::paths::{is_directory, is_file};
-use crate::source::{Source, bytes_of, u8_of, u32_of, u32_to, u64_to};
+use crate::source::{Source, blob_of, u8_of, u32_of, u32_to, u64_to};
 use crate::trace::{Item, Node};
 use std::alloc::Global;
 
 #[tactic(auto, unfolding(crate::specs::Text::file))]
-fn file_of(alloc: Global, source: Source<'_>) -> Result<(Node, Source<'_>), ReadError>
+fn file_of(source: Source<'_>) -> Result<(Node, Source<'_>), ReadError>
     ensures { Gives with_rest result (reading_from source.entry file) }
 {
     let (size, source) = u64_to(source, 1 << 40)?;
     let (stored, source) = u32_to(source, size.min(0xffff_ffff) as u32)?;
-    let (bytes, source) = bytes_of(source, stored as usize)?;
-    let stored = Series::from_vec(Vec::from_slice(alloc, bytes)?);
+    let (stored, source) = blob_of(source, stored as usize)?;
     Ok((Node::File { size, stored }, source))
 }
 
@@ -52,7 +50,6 @@ fn other_name_of<'a>(items: &[Item], source: Source<'a>) -> Result<(Node, Source
 }
 
 fn node_of<'a>(
-    alloc: Global,
     kind: u8,
     items: &[Item],
     source: Source<'a>,
@@ -61,14 +58,13 @@ fn node_of<'a>(
 {
     match kind {
         1 => Ok((Node::Directory, source)),
-        2 => file_of(alloc, source),
+        2 => file_of(source),
         _ => other_name_of(items, source),
     }
 }
 
 #[tactic(auto, unfolding(crate::specs::Text::item))]
 fn item_of<'a>(
-    alloc: Global,
     items: &[Item],
     names: &Names<'_>,
     source: Source<'a>,
@@ -84,13 +80,9 @@ fn item_of<'a>(
     if kind < 1 || kind > 3 {
         return Err(refused(Kind::Limit, place));
     }
-    let (path, source) = path_of(names, source)?;
-    let (node, source) = node_of(alloc, kind, items, source)?;
-    let item = Item {
-        path: Series::from_vec(Vec::from_slice(alloc, path)?),
-        node,
-    };
-    Ok((item, path, source))
+    let (path, bytes, source) = path_of(names, source)?;
+    let (node, source) = node_of(kind, items, source)?;
+    Ok((Item { path, node }, bytes, source))
 }
 
 pub(crate) fn items_of(
@@ -105,7 +97,7 @@ pub(crate) fn items_of(
     let mut names = Names::new(alloc);
     let mut source = source;
     for _ in 0..count {
-        let (item, path, after) = item_of(alloc, &items, &names, source)?;
+        let (item, path, after) = item_of(&items, &names, source)?;
         add_name(&mut names, path, is_directory(&item.node))?;
         items.push(item)?;
         source = after;

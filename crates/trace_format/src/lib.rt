@@ -12,6 +12,7 @@
 //! steps, numbered from 0 by their places: [`Trace::places`], [`Trace::step`].
 #![tactic(auto)]
 
+mod blob;
 mod descriptions;
 mod fault;
 mod header;
@@ -30,8 +31,9 @@ mod steps;
 mod trace;
 mod writing;
 
+pub use blob::Blob;
 pub use fault::{Kind, TraceFault};
-pub use list::{Blob, Series};
+pub use list::Series;
 pub use reading::read_trace;
 pub use sides::{fits, vector_total};
 pub use steps::{Action, Records, Step};

@@ -39,6 +39,3 @@ impl<T> Series<T> {
         self.values
     }
 }
-
-/// Bytes, which contracts see as a list.
-pub type Blob = Series<u8>;

@@ -7,9 +7,10 @@ ghost use Rattle.trace_format.specs.Read.{Gives};
 ghost use Rattle.trace_format.specs.Sources.{reading_from, with_rest};
 ghost use Rattle.trace_format.specs.Text.{new_path};
 
+use crate::blob::Blob;
 use crate::fault::{Kind, ReadError, refused};
 use crate::paths::{is_path, parent_of};
-use crate::source::{Source, bytes_of, u16_of};
+use crate::source::{Source, blob_of, bytes_of, u16_of};
 use std::alloc::AllocError;
 use std::collections::BTreeMap;
 
@@ -41,28 +42,30 @@ pub(crate) fn add_name<'a>(
     Ok(())
 }
 
-/// A new name in a directory that is there.
+/// A new name in a directory that is there, and its bytes in the text.
 #[tactic(auto, unfolding(crate::specs::Text::new_path))]
 pub(crate) fn path_of<'a>(
     names: &Names<'_>,
     source: Source<'a>,
-) -> Result<(&'a [u8], Source<'a>), ReadError>
+) -> Result<(Blob, &'a [u8], Source<'a>), ReadError>
     ensures read { (items : List Item) → KnowsNames names.now items
-        → Gives (λ x. with_rest (x.0.now, x.1)) result
+        → Gives (λ x. with_rest (x.0, x.2)) result
         (reading_from source.entry (new_path items)) }
-    ensures fresh { IfOk result (λ x. is_some (kind_at names.now x.0.now) ≡ false) }
+    ensures bytes { IfOk result (λ x. x.0 ≡ x.1.now) }
+    ensures fresh { IfOk result (λ x. is_some (kind_at names.now x.1.now) ≡ false) }
 {
     let (len, source) = u16_of(source)?;
     let place = source.place;
-    let (path, source) = bytes_of(source, len as usize)?;
-    if !is_path(path) {
+    let (bytes, _) = bytes_of(source, len as usize)?;
+    if !is_path(bytes) {
         return Err(refused(Kind::Path, place));
     }
-    if !has_directory(names, parent_of(path)) {
+    if !has_directory(names, parent_of(bytes)) {
         return Err(refused(Kind::NoParent, place));
     }
-    if has_name(names, path) {
+    if has_name(names, bytes) {
         return Err(refused(Kind::Exists, place));
     }
-    Ok((path, source))
+    let (path, source) = blob_of(source, len as usize)?;
+    Ok((path, bytes, source))
 }

@@ -1,11 +1,12 @@
 //! Reading a trace.
-ghost use Rattle.std.specs.Prelude.{◌≡◌, ◌⊎◌, IfOk, IfErr};
+ghost use Rattle.std.specs.Prelude.{◌≡◌, ◌⊎◌, ◌≤◌, IfOk, IfErr, length};
 ghost use Rattle.trace_format.specs.Grammar.{fault};
 ghost use Rattle.trace_format.specs.Read.{Gives, reading_trace, fault_of};
 ghost use Rattle.trace_format.specs.Sources.{reading_from, with_rest};
-ghost use Rattle.trace_format.specs.Text.{trace, SpellsTrace, IsRefusal};
+ghost use Rattle.trace_format.specs.Text.{trace, longest, SpellsTrace, IsRefusal};
 ghost use Rattle.trace_format.specs.declared.fault.Kind.TheVariants.{Memory};
 
+use crate::blob::Text;
 use crate::descriptions::descriptions_of;
 use crate::fault::{Kind, ReadError, TraceFault, refused};
 use crate::header::counts_of;
@@ -16,6 +17,7 @@ use crate::rings::{rings_of, slots_of};
 use crate::source::Source;
 use crate::trace::Trace;
 use std::alloc::Global;
+use std::sync::Arc;
 
 /// How many bytes the text of a trace has at most.
 const LONGEST: usize = 1_073_741_824;
@@ -44,14 +46,13 @@ fn trace_of(alloc: Global, source: Source<'_>) -> Result<(Trace, Source<'_>), Re
 }
 
 #[tactic(auto, unfolding(crate::specs::Read::reading_trace))]
-fn read(alloc: Global, bytes: &[u8]) -> Result<Trace, ReadError>
-    ensures { Gives (λ x. x) result (reading_trace bytes.now) }
+fn read_text(alloc: Global, text: &Text) -> Result<Trace, ReadError>
+    requires { length text.now.value.items ≤ longest }
+    ensures { Gives (λ x. x) result (reading_trace text.now.value.items) }
 {
-    if bytes.len() > LONGEST {
-        return Err(refused(Kind::Limit, LONGEST as u64));
-    }
     let source = Source {
-        rest: bytes,
+        text,
+        rest: text.as_slice(),
         place: 0,
     };
     let (trace, source) = trace_of(alloc, source)?;
@@ -59,6 +60,17 @@ fn read(alloc: Global, bytes: &[u8]) -> Result<Trace, ReadError>
         return Err(refused(Kind::Trailing, source.place));
     }
     Ok(trace)
+}
+
+#[tactic(auto, unfolding(crate::specs::Read::reading_trace))]
+fn read(alloc: Global, bytes: Vec<u8>) -> Result<Trace, ReadError>
+    ensures { Gives (λ x. x) result (reading_trace bytes.items) }
+{
+    if bytes.len() > LONGEST {
+        return Err(refused(Kind::Limit, LONGEST as u64));
+    }
+    let text = Arc::new(alloc, bytes)?;
+    read_text(alloc, &text)
 }
 
 fn as_fault(error: ReadError) -> TraceFault
@@ -73,17 +85,17 @@ fn as_fault(error: ReadError) -> TraceFault
     }
 }
 
-/// The trace that the bytes spell. It copies what it keeps, so the bytes may go.
+/// The trace that the bytes spell. It keeps the bytes, and copies none of them.
 ///
 /// # Errors
 ///
 /// The first fault in reading order, and [`Kind::Memory`] at 0 where an allocation was refused. A
 /// text of more than 1,073,741,824 bytes is [`Kind::Limit`] there before all else.
-pub fn read_trace(alloc: Global, bytes: &[u8]) -> Result<Trace, TraceFault>
+pub fn read_trace(alloc: Global, bytes: Vec<u8>) -> Result<Trace, TraceFault>
     // What is read is spelled so.
-    ensures trace { IfOk result (λ t. SpellsTrace bytes.now t) }
+    ensures trace { IfOk result (λ t. SpellsTrace bytes.items t) }
     // A fault is one of the bytes, which then spell no trace, unless memory ran out.
-    ensures fault { IfErr result (λ f. (f ≡ fault Memory 0) ⊎ IsRefusal bytes.now f) }
+    ensures fault { IfErr result (λ f. (f ≡ fault Memory 0) ⊎ IsRefusal bytes.items f) }
 {
     match read(alloc, bytes) {
         Ok(trace) => Ok(trace),

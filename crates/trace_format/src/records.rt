@@ -9,7 +9,7 @@ ghost use Rattle.trace_format.specs.Text.{entry, enter, fill, one_record, buffer
 use crate::fault::{Kind, ReadError, refused};
 use crate::list::Series;
 use crate::sides::fits;
-use crate::source::{Source, bytes_of, u8_of, u16_of, u16_to, u32_of};
+use crate::source::{Source, blob_of, bytes_of, u8_of, u16_of, u16_to, u32_of};
 use crate::steps::{Records, step_count};
 use crate::trace::{Entry, Record, Ring};
 use sqe_codec::unpack;
@@ -19,7 +19,7 @@ use std::alloc::Global;
 const PLACES: u32 = 1_048_576;
 
 #[tactic(auto, unfolding(crate::specs::Text::entry))]
-fn entry_of(alloc: Global, source: Source<'_>) -> Result<(Entry, Source<'_>), ReadError>
+fn entry_of(source: Source<'_>) -> Result<(Entry, Source<'_>), ReadError>
     ensures { Gives with_rest result (reading_from source.entry entry) }
 {
     let (bytes, source) = bytes_of(source, 64)?;
@@ -28,11 +28,11 @@ fn entry_of(alloc: Global, source: Source<'_>) -> Result<(Entry, Source<'_>), Re
     let sqe = unpack(&array);
     let place = source.place;
     let (len, source) = u32_of(source)?;
-    let (side, source) = bytes_of(source, len as usize)?;
+    let (side, _) = bytes_of(source, len as usize)?;
     if !fits(&sqe, side) {
         return Err(refused(Kind::Side, place));
     }
-    let side = Series::from_vec(Vec::from_slice(alloc, side)?);
+    let (side, source) = blob_of(source, len as usize)?;
     Ok((Entry { sqe, side }, source))
 }
 
@@ -48,7 +48,7 @@ fn entries_of(
     let mut entries = Vec::new(alloc);
     let mut source = source;
     for _ in 0..count {
-        let (entry, after) = entry_of(alloc, source)?;
+        let (entry, after) = entry_of(source)?;
         entries.push(entry)?;
         source = after;
     }
@@ -95,11 +95,7 @@ fn buffer_len(rings: &[Ring], ring: u8, number: u16) -> Option<u32>
 }
 
 #[tactic(auto, unfolding(crate::specs::Text::fill))]
-fn fill_of<'a>(
-    alloc: Global,
-    rings: &[Ring],
-    source: Source<'a>,
-) -> Result<(Record, Source<'a>), ReadError>
+fn fill_of<'a>(rings: &[Ring], source: Source<'a>) -> Result<(Record, Source<'a>), ReadError>
     ensures read { Gives with_rest result (reading_from source.entry (fill rings.now)) }
     ensures one { IfOk result (λ x. places_in (x.0 ∷ []) ≡ 1) }
 {
@@ -119,8 +115,7 @@ fn fill_of<'a>(
     if u64::from(offset) + u64::from(len) > u64::from(end) {
         return Err(refused(Kind::Reference, place));
     }
-    let (bytes, source) = bytes_of(source, len as usize)?;
-    let bytes = Series::from_vec(Vec::from_slice(alloc, bytes)?);
+    let (bytes, source) = blob_of(source, len as usize)?;
     Ok((
         Record::Fill {
             ring,
@@ -154,7 +149,7 @@ fn record_of<'a>(
     if kind == 1 {
         enter_of(alloc, rings.len(), used, source)
     } else {
-        fill_of(alloc, rings, source)
+        fill_of(rings, source)
     }
 }
 

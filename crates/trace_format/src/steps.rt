@@ -5,7 +5,7 @@ ghost use Rattle.trace_format.specs.Counts.{step_count, places_in, places_limit}
 ghost use Rattle.trace_format.specs.Spots.{record_spots};
 ghost use Rattle.trace_format.specs.Steps.{steps_from, step_meant};
 
-use crate::list::Blob;
+use crate::blob::Blob;
 use crate::trace::{Entry, Record};
 use std::alloc::{AllocError, Global};
 use std::marker::Model;

@@ -3,7 +3,8 @@ ghost use Rattle.std.specs.Prelude.{◌≡◌, ◌<◌, ◌≤◌, Some};
 ghost use Rattle.trace_format.specs.Counts.{places_limit};
 ghost use Rattle.trace_format.specs.Steps.{places, step_at, step_meant};
 
-use crate::list::{Blob, Series};
+use crate::blob::Blob;
+use crate::list::Series;
 use crate::steps::{Records, Step};
 use sqe_codec::Sqe;
 

@@ -16,6 +16,7 @@ pub mod KeepWorld
 mod FootprintCode
 pub mod Starts
 pub mod Fills
+pub mod KnownPaths
 pub mod Listing
 pub mod Lines
 pub mod Sized

@@ -105,7 +105,7 @@ leads_short (n ∷ ns) tree free d i h =
 
 -- Walks.
 
-same_number : (tree : Tree) (o : Option ℕ) → node_of (option_map (target tree) o) ≡ o
+pub same_number : (tree : Tree) (o : Option ℕ) → node_of (option_map (target tree) o) ≡ o
 same_number tree None = refl
 same_number tree (Some i) = refl
 

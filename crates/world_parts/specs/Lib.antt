@@ -1,6 +1,7 @@
 pub mod World
 pub mod Start
 pub mod Items
+pub mod Known
 pub mod Codes
 pub mod Copying
 pub mod Image

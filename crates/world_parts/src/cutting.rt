@@ -64,7 +64,8 @@ impl State {
 }
 
 impl World {
-    /// Leaves zeros where a footprint writes ranges of bytes, and notes that the part of a place is out.
+    /// Leaves zeros where a footprint writes ranges of bytes, and notes that the part of a place is
+    /// out.
     fn take_out(&mut self, place: u32, footprint: Footprint) -> Result<(), AllocError>
         requires home { get self.old.out place ≡ None }
         ensures { OnOk result (self.new ≡ cut_from self.old place footprint) }

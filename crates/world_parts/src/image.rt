@@ -1,12 +1,12 @@
 //! What the report shows of a world.
 
-use trace_format::{Blob, Series};
+use trace_format::Series;
 
 /// A name of the tree, by its full path, with the node that it leads to. A file has a size in
 /// bytes, a directory none.
 #[derive(Debug, Drop)]
 pub struct NameEntry {
-    pub path: Blob,
+    pub path: Series<u8>,
     pub node: u32,
     pub size: Option<u64>,
 }

@@ -12,7 +12,7 @@ use crate::image::{BufferEntry, DescriptorEntry, Image, NameEntry, SlotEntry};
 use crate::state::State;
 use std::alloc::{AllocError, Global};
 use std::collections::BTreeMap;
-use trace_format::{Blob, Series};
+use trace_format::Series;
 
 /// A name that is still to be listed: its full path, its node, and how many levels below it are
 /// listed too.
@@ -27,7 +27,8 @@ struct Pending {
 fn joined(alloc: Global, directory: &[u8], name: &[u8]) -> Result<Vec<u8>, AllocError>
     ensures { IfOk result (λ path. path.items ≡ directory.now ++ 47 ∷ name.now) }
 {
-    let mut path = Vec::from_slice(alloc, directory)?;
+    let mut path = Vec::with_capacity(alloc, directory.len() + 1 + name.len())?;
+    path.extend_from_slice(directory)?;
     path.push(b'/')?;
     path.extend_from_slice(name)?;
     Ok(path)
@@ -79,7 +80,7 @@ impl State {
         node: u32,
         low: u64,
         high: u64,
-    ) -> Result<Blob, AllocError>
+    ) -> Result<Series<u8>, AllocError>
         ensures { IfOk result
             (λ taken. taken ≡ range_of (unwrap_or (bytes self.now node) []) low high) }
     {
@@ -91,7 +92,12 @@ impl State {
     /// # Errors
     ///
     /// Want of memory.
-    pub fn buffer_bytes(&self, alloc: Global, ring: u8, index: u32) -> Result<Blob, AllocError>
+    pub fn buffer_bytes(
+        &self,
+        alloc: Global,
+        ring: u8,
+        index: u32,
+    ) -> Result<Series<u8>, AllocError>
         ensures { IfOk result (λ taken. taken ≡ unwrap_or (buffer self.now ring index) []) }
     {
         let Some(len) = self.buffer_len(ring, index) else {

@@ -9,6 +9,7 @@ mod cutting;
 mod footprint;
 mod image;
 mod imaging;
+mod known;
 pub mod laws;
 mod laying;
 mod moving;

@@ -8,7 +8,7 @@ use std::marker::Model;
 /// The world of a replay, and the footprints of the parts that are out of it, by their places.
 #[derive(Drop)]
 pub struct World {
-    pub(crate) state: State,
+    pub(crate) state: Box<State>,
     pub(crate) out: BTreeMap<u32, Footprint>,
 }
 
@@ -20,7 +20,7 @@ impl Model for World {
     ghost Value = { Divided };
 
     ghost view = { λ w. record {
-      world = w.state;
+      world = w.state.value;
       out = table_of number_keys.total w.out.entries;
     } };
 }

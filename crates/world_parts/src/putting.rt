@@ -239,9 +239,11 @@ impl State {
         Ok(())
     }
 
-    // Gives all written items the values that they have in a part, and makes their nodes be there first.
+    // Gives all written items the values that they have in a part, and makes their nodes be there
+    // first.
     fn put_uses(&mut self, alloc: Global, part: &State, uses: &[Use]) -> Result<(), AllocError>
-        ensures { OnOk result (self.new ≡ with_items uses.now part.now (with_nodes uses.now part.now self.old)) }
+        ensures { OnOk result (self.new
+            ≡ with_items uses.now part.now (with_nodes uses.now part.now self.old)) }
     {
         self.put_nodes(alloc, part, uses)?;
         self.put_items(alloc, part, uses)

@@ -1,20 +1,23 @@
 //! The world that a trace starts with.
-ghost use Rattle.std.specs.Prelude.{◌≡◌, ◌≤◌, All, IfOk, OnOk, length};
+ghost use Rattle.std.specs.Prelude.{◌≡◌, ◌≤◌, ◌∷◌, [], All, IfOk, OnOk, length};
+ghost use Rattle.entry_checks.specs.Operation.{file_limit};
+ghost use Rattle.file_tree.specs.Tree.{a_file};
 ghost use Rattle.trace_format.specs.Text.{IsSpelled};
 ghost use Rattle.trace_format.specs.declared.trace.Item.{Item};
 ghost use Rattle.trace_format.specs.declared.trace.Ring.{Ring};
+ghost use Rattle.world_parts.specs.Known.{Knows};
 ghost use Rattle.world_parts.specs.Sized.{IsSized};
 ghost use Rattle.world_parts.specs.Start as initial;
+ghost use Rattle.world_parts.specs.World.{apply_all};
+ghost use Rattle.world_parts.specs.World as change;
 
+use crate::known::Known;
 use crate::state::State;
 use file_tree::{Kind, Tree};
 use ring_tables::{Buffers, Descriptions, Descriptors, Slots};
 use std::alloc::{AllocError, Global};
 use std::collections::BTreeMap;
 use trace_format::{Buffer, Description, Item, Node, Ring, Trace};
-
-/// The directory that stands for the working directory, which is the root: `AT_FDCWD` of openat(2).
-const WORKING_DIRECTORY: i32 = -100;
 
 fn descriptions_of(alloc: Global, descriptions: &[Description]) -> Result<Descriptions, AllocError>
     requires { length descriptions.now ≤ 65535 }
@@ -101,10 +104,19 @@ impl State {
         ensures { IfOk result (λ state. state ≡ initial.start trace.now) }
     {
         let mut state = State::bare(alloc)?;
-        state.add_items(alloc, trace.items.as_slice())?;
-        state.open(alloc, trace)?;
-        state.register(alloc, trace)?;
+        state.fill(alloc, trace)?;
         Ok(state)
+    }
+
+    /// Adds what a trace starts with.
+    fn fill(&mut self, alloc: Global, trace: &Trace) -> Result<(), AllocError>
+        requires trace { IsSpelled trace.now }
+        requires bare { self.old ≡ initial.bare }
+        ensures { OnOk result (self.new ≡ initial.start trace.now) }
+    {
+        self.add_items(alloc, trace.items.as_slice())?;
+        self.open(alloc, trace)?;
+        self.register(alloc, trace)
     }
 
     /// Adds the open file descriptions, and the descriptors that hold some.
@@ -154,40 +166,58 @@ impl State {
         requires sizes { All IsSized items.now }
         ensures { OnOk result (self.new ≡ initial.with_items self.old 1 items.now) }
     {
+        let mut known = Known::new(alloc);
         for (index, item) in items.iter().enumerate() {
-            self.add_item(alloc, index as u32 + 1, item)?;
+            self.add_item(alloc, &mut known, index as u32 + 1, item)?;
         }
         Ok(())
     }
 
-    fn add_item(&mut self, alloc: Global, number: u32, item: &Item) -> Result<(), AllocError>
-        requires { IsSized item.now }
-        ensures { OnOk result
+    fn add_item<'a>(
+        &mut self,
+        alloc: Global,
+        known: &mut Known<'a>,
+        number: u32,
+        item: &'a Item,
+    ) -> Result<(), AllocError>
+        requires sizes { IsSized item.now }
+        requires known { Knows self.old.nodes known.old }
+        ensures named { OnOk result
             (self.new ≡ initial.with_node self.old number item.now.path item.now.node) }
+        ensures known { OnOk result (Knows self.new.nodes known.new) }
     {
         let path = item.path.as_slice();
         match &item.node {
             Node::Directory => {
-                self.add_node(alloc, number, Kind::Directory)?;
-                self.name_node(alloc, path, number)
+                self.make_node(alloc, known, number, Kind::Directory)?;
+                self.name_item(alloc, known, path, number)
             }
             Node::File { size, stored } => {
-                self.add_node(alloc, number, Kind::File)?;
-                self.write(number, 0, stored.as_slice())?;
-                self.set_size(number, *size)?;
-                self.name_node(alloc, path, number)
+                self.add_file(alloc, known, number, *size, stored.as_slice())?;
+                self.name_item(alloc, known, path, number)
             }
-            Node::OtherName { number } => self.name_node(alloc, path, *number),
+            Node::OtherName { number } => self.name_item(alloc, known, path, *number),
         }
     }
 
-    /// Names a node by a path; nothing changes where the path's parent isn't there.
-    fn name_node(&mut self, alloc: Global, path: &[u8], node: u32) -> Result<(), AllocError>
-        ensures { OnOk result (self.new ≡ initial.name_at self.old path.now node) }
+    /// Adds a file of a size, whose first bytes are stored.
+    fn add_file(
+        &mut self,
+        alloc: Global,
+        known: &mut Known<'_>,
+        number: u32,
+        size: u64,
+        stored: &[u8],
+    ) -> Result<(), AllocError>
+        requires bound { size ≤ file_limit }
+        requires stored { length stored.now ≤ size }
+        requires known { Knows self.old.nodes known.old }
+        ensures added { OnOk result (self.new ≡ apply_all (change.make_node number a_file
+            ∷ change.write_bytes number 0 stored.now ∷ change.set_size number size ∷ []) self.old) }
+        ensures known { OnOk result (Knows self.new.nodes known.new) }
     {
-        match self.walk(WORKING_DIRECTORY, path) {
-            Ok(place) => self.set_name(alloc, place.parent, place.name, Some(node)),
-            Err(_) => Ok(()),
-        }
+        self.make_node(alloc, known, number, Kind::File)?;
+        self.write(number, 0, stored)?;
+        self.set_size(number, size)
     }
 }

@@ -12,17 +12,22 @@ use crate::part::World;
 use crate::state::State;
 use std::alloc::{AllocError, Global};
 use std::collections::BTreeMap;
-use trace_format::{Blob, Trace};
+use trace_format::{Series, Trace};
 
 impl World {
     /// A world of which no part is out.
-    pub fn new(alloc: Global, state: State) -> Self
-        ensures { result ≡ whole state }
+    ///
+    /// # Errors
+    ///
+    /// Want of memory.
+    pub fn new(alloc: Global, state: State) -> Result<Self, AllocError>
+        ensures { IfOk result (λ world. world ≡ whole state) }
     {
-        World {
+        let state = Box::new(alloc, state)?;
+        Ok(World {
             state,
             out: BTreeMap::new(alloc),
-        }
+        })
     }
 
     /// The world that a trace starts with.
@@ -34,7 +39,7 @@ impl World {
         requires { IsSpelled trace.now }
         ensures { IfOk result (λ world. world ≡ whole (start trace.now)) }
     {
-        Ok(World::new(alloc, State::of(alloc, trace)?))
+        World::new(alloc, State::of(alloc, trace)?)
     }
 
     /// The maps of the world, with zeros where parts have taken bytes out.
@@ -67,7 +72,7 @@ impl World {
         node: u32,
         low: u64,
         high: u64,
-    ) -> Result<Blob, AllocError>
+    ) -> Result<Series<u8>, AllocError>
         ensures { IfOk result
             (λ taken. taken ≡ range_of (unwrap_or (bytes self.now.world node) []) low high) }
     {
@@ -79,7 +84,12 @@ impl World {
     /// # Errors
     ///
     /// Want of memory.
-    pub fn buffer_bytes(&self, alloc: Global, ring: u8, index: u32) -> Result<Blob, AllocError>
+    pub fn buffer_bytes(
+        &self,
+        alloc: Global,
+        ring: u8,
+        index: u32,
+    ) -> Result<Series<u8>, AllocError>
         ensures { IfOk result (λ taken. taken ≡ unwrap_or (buffer self.now.world ring index) []) }
     {
         self.state.buffer_bytes(alloc, ring, index)

@@ -9,7 +9,11 @@ pub loop-index-preserved : goal.loop-index-preserved
 loop-index-preserved c =
     let i = c.loop-index.index in
     let item = c.index-items-index.result in
-    c.in_ok-add_item.ensures
-    ∙ ap (λ (x : Item). with_node c.loop-index.self (i + 1) x.path x.node) c.index-items-index.is
-    ∙ ap (λ (w : World). with_node w (i + 1) (get_or c.args.items.now i item).path (get_or c.args.items.now i item).node) c.loop-index.invariant
-    ∙ sym (with_items-more c.args.self.now c.args.items.now i item c.loop-index-test.true)
+    record {
+      items =
+          c.in_ok-add_item.ensures.named
+          ∙ ap (λ (x : Item). with_node c.loop-index.self (i + 1) x.path x.node) c.index-items-index.is
+          ∙ ap (λ (w : World). with_node w (i + 1) (get_or c.args.items.now i item).path (get_or c.args.items.now i item).node) c.loop-index.invariant.items
+          ∙ sym (with_items-more c.args.self.now c.args.items.now i item c.loop-index-test.true);
+      known = c.in_ok-add_item.ensures.known;
+    }

@@ -1,0 +1,11 @@
+-- A view of code: the bytes of a blob.
+use Rattle.std.specs.Prelude.{List, ℕ, [], None, Some, take, drop}
+use Rattle.trace_format.specs.declared.blob.Blob.TheInside.{Inside}
+
+-- the bytes of the text that it shares, if it has one
+abbrev pub text_of : Inside → List ℕ
+text_of b = elim b.text [ None ↦ [] | Some text ↦ text.value.items ]
+
+-- its range of them
+abbrev pub bytes_in : Inside → List ℕ
+bytes_in b = take b.len (drop b.from (text_of b))

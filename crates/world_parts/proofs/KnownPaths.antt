@@ -1,0 +1,248 @@
+-- Names in directories that are known, and which changes leave these directories where they are.
+use Rattle.std.proofs.Common.{◌≡◌, ℕ, ◌≤◌, Bool, true, false, cond, List, [], ◌∷◌, ◌++◌, length, Option, Some, None, Result, Ok, Err, sym, ◌∙◌, ap, refl, subst, arith, eqb→eq}
+use Rattle.std.specs.Prelude.{T, IfSome, not, filter, ◌==◌, if◌then◌else◌}
+use Rattle.std.specs.List.{onto_first}
+use Rattle.std.specs.Option.{option_map, option_and_then}
+use Rattle.std.specs.Ordering.{nat_cmp, eq_by_cmp}
+use Rattle.std.specs.Cmp.{Equal-is}
+use Rattle.std.specs.Cmp.Lexicographic.{slice_cmp}
+use Rattle.std.specs.Str.{bytes_eq}
+use Rattle.std.specs.Map.{lookup, update}
+use Rattle.std.specs.Borrow.{Bor}
+use Rattle.std.specs.BTreeMap.{IsEmpty, is_at}
+use Rattle.std.proofs.lemmas.Bool.{ne_eqb, le-leb}
+use Rattle.std.proofs.lemmas.List.Elements.{filter-append}
+use Rattle.std.proofs.lemmas.List.Splits.{slice_split_none}
+use Rattle.std.proofs.lemmas.Slice.Eq.{bytes_eq-Decides}
+use Rattle.sqe_codec.specs.declared.errno.Errno.{Errno}
+use Rattle.sqe_codec.specs.declared.errno.Errno.TheVariants.{ENAMETOOLONG, ENOTDIR}
+use Rattle.sqe_codec.specs.Answers.{◌>>=◌, ◌>>◌, require}
+use Rattle.trace_format.specs.Paths.{components, runs}
+use Rattle.extent_bytes.specs.Bytes.{overwritten, resized}
+use Rattle.finite_maps.specs.Table.{get, insert, adjust_number, get-insert, number_keys, text_keys}
+use Rattle.file_tree.specs.Tree.{Tree, Node, Names, Kind, directory, file, names_of_node, kind, kind_of_node, a_directory, a_file, name, target, renamed_node, rewritten_node}
+use Rattle.file_tree.specs.Found.{node_of}
+use Rattle.file_tree.specs.Walk.{fits_name, walk_from, directory_at, is_directory}
+use Rattle.world_parts.specs.Known.{Known, known_at, directory_of, Enters, Knows, IsLastName, IsNewPlace}
+use Rattle.world_parts.specs.World.{World}
+use Rattle.world_parts.specs.Start.{name_at}
+use Rattle.world_parts.proofs.Values.{some_apart, same_some}
+use Rattle.world_parts.proofs.Changes.{adjusted}
+use Rattle.world_parts.proofs.Ways.{looked, same_number}
+
+-- The names of a path.
+
+first_run : (path : List ℕ) → (n : List ℕ) × (ns : List (List ℕ)) × (runs path ≡ n ∷ ns)
+first_run [] = ([], [], refl)
+first_run (b ∷ bs) = by (b == 47) (first_run bs)
+  where
+    by : (c : Bool) → (n : List ℕ) × (ns : List (List ℕ)) × (runs bs ≡ n ∷ ns) → (n : List ℕ) × (ns : List (List ℕ)) × (cond c ([] ∷ runs bs) (onto_first b (runs bs)) ≡ n ∷ ns)
+    by true h = ([], runs bs, refl)
+    by false h = (b ∷ h.0, h.1, ap (onto_first b) h.2)
+
+runs_over : (path n : List ℕ) → runs (path ++ 47 ∷ n) ≡ runs path ++ runs n
+runs_over [] n = refl
+runs_over (b ∷ bs) n = by (b == 47) (first_run bs) (runs_over bs n)
+  where
+    by : (c : Bool) → (n : List ℕ) × (ns : List (List ℕ)) × (runs bs ≡ n ∷ ns) → runs (bs ++ 47 ∷ n) ≡ runs bs ++ runs n
+        → cond c ([] ∷ runs (bs ++ 47 ∷ n)) (onto_first b (runs (bs ++ 47 ∷ n))) ≡ cond c ([] ∷ runs bs) (onto_first b (runs bs)) ++ runs n
+    by true h e = ap (λ (l : List (List ℕ)). [] ∷ l) e
+    by false h e =
+        ap (onto_first b) (e ∙ ap (λ (l : List (List ℕ)). l ++ runs n) h.2)
+        ∙ sym (ap (λ (l : List (List ℕ)). onto_first b l ++ runs n) h.2)
+
+filled : (n : List ℕ) → 1 ≤ length n → not (length n == 0) ≡ true
+filled n h = ap not (ne_eqb (length n) 0 (λ e. omega arith))
+
+-- a path's names are those before its last slash, and the one behind it
+pub components_over : (path n : List ℕ) → IsLastName n → components (path ++ 47 ∷ n) ≡ components path ++ n ∷ []
+components_over path n h =
+    let keep : List (List ℕ) → List (List ℕ) = filter (λ run. not (length run == 0)) in
+    ap keep (runs_over path n)
+    ∙ filter-append (λ run. not (length run == 0)) (runs path) (runs n)
+    ∙ ap (λ (l : List (List ℕ)). components path ++ keep l) (slice_split_none (λ b. b == 47) n h.0)
+    ∙ ap (λ (c : Bool). components path ++ cond c (n ∷ []) []) (filled n h.1)
+
+-- Walks.
+
+entered : (tree : Tree) (d e : ℕ) (n m : List ℕ) (ns : List (List ℕ)) → fits_name n ≡ true → directory_at (name tree d n) ≡ Ok e → walk_from tree d (n ∷ m ∷ ns) ≡ walk_from tree e (m ∷ ns)
+entered tree d e n m ns fits h =
+    ap (λ (b : Bool). require b ENAMETOOLONG >> (directory_at (name tree d n) >>= λ (i : ℕ). walk_from tree i (m ∷ ns))) fits
+    ∙ ap (λ (r : Result ℕ Errno). r >>= λ (i : ℕ). walk_from tree i (m ∷ ns)) h
+
+-- behind names that lead to a directory a walk goes on from there
+pub walk_over : (tree : Tree) (d e : ℕ) (ns : List (List ℕ)) (n : List ℕ) → Enters tree d ns e → walk_from tree d (ns ++ n ∷ []) ≡ walk_from tree e (n ∷ [])
+walk_over tree d e [] n h = ap (λ (k : ℕ). walk_from tree k (n ∷ [])) h
+walk_over tree d e (m ∷ []) n h = entered tree d h.0 m n [] h.1 h.2 ∙ walk_over tree h.0 e [] n h.3
+walk_over tree d e (m ∷ k ∷ ns) n h = entered tree d h.0 m k (ns ++ n ∷ []) h.1 h.2 ∙ walk_over tree h.0 e (k ∷ ns) n h.3
+
+enters_more : (tree : Tree) (d e f : ℕ) (ns : List (List ℕ)) (n : List ℕ) → fits_name n ≡ true → directory_at (name tree e n) ≡ Ok f → Enters tree d ns e → Enters tree d (ns ++ n ∷ []) f
+enters_more tree d e f [] n fits h g = (f, fits, subst (λ k. directory_at (name tree k n) ≡ Ok f) (sym g) h, refl)
+enters_more tree d e f (m ∷ ns) n fits h g = (g.0, g.1, g.2, enters_more tree g.0 e f ns n fits h g.3)
+
+pub new_place_walk : (tree : Tree) (path : List ℕ) (parent : ℕ) (n : List ℕ) → IsNewPlace tree path parent n → walk_from tree 0 (components path) ≡ Ok (record { parent = parent; name = n; target = name tree parent n })
+new_place_walk tree path parent n p =
+    ap (walk_from tree 0) p.names ∙ walk_over tree 0 parent p.way n p.enters
+    ∙ ap (λ (b : Bool). require b ENAMETOOLONG >> Ok (record { parent = parent; name = n; target = name tree parent n })) p.fits
+
+directory_enters : (tree : Tree) (known : Known) (path : List ℕ) (d : ℕ) → Knows tree known → Some d ≡ directory_of known path → Enters tree 0 (components path) d
+directory_enters tree known [] d knows is = sym (same_some d 0 is)
+directory_enters tree known (b ∷ bs) d knows is =
+    let known_so : Some d ≡ known_at known (b ∷ bs) = is ∙ ap (λ c. cond c (Some 0) (known_at known (b ∷ bs))) (ne_eqb (length (b ∷ bs)) 0 (λ e. omega arith)) in
+    subst (λ (o : Option ℕ). IfSome o (Enters tree 0 (components (b ∷ bs)))) (sym known_so) (knows (b ∷ bs))
+
+-- a name that a known directory hasn't
+pub new_place : (tree : Tree) (known : Known) (path before n : List ℕ) (d : ℕ) → Knows tree known → path ≡ before ++ 47 ∷ n → IsLastName n → Some d ≡ directory_of known before → node_of (name tree d n) ≡ None → IsNewPlace tree path d n
+new_place tree known path before n d knows whole last is is_new = record {
+  way = components before;
+  names = ap components whole ∙ components_over before n last;
+  enters = directory_enters tree known before d knows is;
+  fits = le-leb (length n) 255 last.2;
+  is_new = is_new;
+}
+
+-- no directory is known
+pub knows_none : (tree : Tree) (known : Known) → IsEmpty known → Knows tree known
+knows_none tree known e path = subst (λ (es : List (Bor (List ℕ) × ℕ)). IfSome (lookup (is_at (λ k. slice_cmp nat_cmp path k.now)) es) (Enters tree 0 (components path))) (sym e) tt
+
+-- What a change leaves.
+
+-- directories stay where they are
+abbrev pub Keeps : Tree → Tree → Type 0
+Keeps tree other = (d : ℕ) (n : List ℕ) (e : ℕ) → directory_at (name tree d n) ≡ Ok e → directory_at (name other d n) ≡ Ok e
+
+pub keeps_after : (tree other last : Tree) → Keeps tree other → Keeps other last → Keeps tree last
+keeps_after tree other last h g d n e k = g d n e (h d n e k)
+
+pub enters_kept : (tree other : Tree) → Keeps tree other → (d : ℕ) (ns : List (List ℕ)) (e : ℕ) → Enters tree d ns e → Enters other d ns e
+enters_kept tree other keeps d [] e h = h
+enters_kept tree other keeps d (n ∷ ns) e h = (h.0, h.1, keeps d n h.0 h.2, enters_kept tree other keeps h.0 ns e h.3)
+
+pub knows_kept : (tree other : Tree) (known : Known) → Keeps tree other → Knows tree known → Knows other known
+knows_kept tree other known keeps h path = by (known_at known path) (h path)
+  where
+    by : (o : Option ℕ) → IfSome o (Enters tree 0 (components path)) → IfSome o (Enters other 0 (components path))
+    by None k = tt
+    by (Some e) k = enters_kept tree other keeps 0 (components path) e k
+
+-- a directory more is known
+pub knows_more : (tree : Tree) (old new : Known) (path : List ℕ) (d : ℕ) → ((p : List ℕ) → known_at new p ≡ update bytes_eq (known_at old) path (Some d) p) → Enters tree 0 (components path) d → Knows tree old → Knows tree new
+knows_more tree old new path d adds enters h p = subst (λ (o : Option ℕ). IfSome o (Enters tree 0 (components p))) (sym (adds p)) (by (bytes_eq path p) refl)
+  where
+    by : (b : Bool) → bytes_eq path p ≡ b → IfSome (cond b (Some d) (known_at old p)) (Enters tree 0 (components p))
+    by true e = subst (λ (q : List ℕ). Enters tree 0 (components q) d) ((bytes_eq-Decides path p).0 e) enters
+    by false e = h p
+
+-- what is seen of a node as a directory stays
+abbrev in_node : Option Node → List ℕ → Option ℕ
+in_node o n = option_and_then (λ (ns : Names). get ns n) (option_and_then names_of_node o)
+
+abbrev pub Grows : Option Node → Option Node → Type 0
+Grows x y = ((n : List ℕ) (e : ℕ) → in_node x n ≡ Some e → in_node y n ≡ Some e) × (option_map kind_of_node x ≡ Some a_directory → option_map kind_of_node y ≡ Some a_directory)
+
+abbrev IsFound : Result ℕ Errno → Type 0
+IsFound (Ok i) = Unit {0}
+IsFound (Err x) = ⊥
+
+found : (tree : Tree) (o : Option ℕ) (e : ℕ) → directory_at (option_map (target tree) o) ≡ Ok e → (o ≡ Some e) × (kind tree e ≡ Some a_directory)
+found tree None e h = absurd (subst IsFound (sym h) tt)
+found tree (Some i) e h = by (kind tree i) refl h
+  where
+    number : Result ℕ Errno → ℕ
+    number (Ok j) = j
+    number (Err x) = i
+
+    by : (k : Option Kind) → kind tree i ≡ k → (if is_directory k then Ok i else Err ENOTDIR) ≡ Ok e → (◌≡◌ {A = Option ℕ} (Some i) (Some e)) × (kind tree e ≡ Some a_directory)
+    by None q g = absurd (subst IsFound (sym g) tt)
+    by (Some a_file) q g = absurd (subst IsFound (sym g) tt)
+    by (Some a_directory) q g = (let s : i ≡ e = ap number g in (ap (λ (j : ℕ). Some j) s, ap (kind tree) (sym s) ∙ q))
+
+lead : (tree : Tree) (o : Option ℕ) (e : ℕ) → o ≡ Some e → kind tree e ≡ Some a_directory → directory_at (option_map (target tree) o) ≡ Ok e
+lead tree o e h k = ap (λ (x : Option ℕ). directory_at (option_map (target tree) x)) h ∙ ap (λ (x : Option Kind). if is_directory x then Ok e else Err ENOTDIR) k
+
+pub keeps_grown : (tree other : Tree) → ((q : ℕ) → Grows (get tree q) (get other q)) → Keeps tree other
+keeps_grown tree other grows d n e h =
+    let f = found tree (looked tree d n) e h in
+    lead other (looked other d n) e ((grows d).0 n e f.0) ((grows e).1 f.1)
+
+-- a node that is made where there was none
+pub made_keeps : (tree : Tree) (i : ℕ) (x : Node) → get tree i ≡ None → Keeps tree (insert number_keys.total tree i x)
+made_keeps tree i x free = keeps_grown tree (insert number_keys.total tree i x) (λ q. subst (Grows (get tree q)) (sym (get-insert number_keys.total tree i x q)) (by q (eq_by_cmp nat_cmp q i) refl))
+  where
+    from_none : (o y : Option Node) → o ≡ None → Grows o y
+    from_none o y e = subst (λ (z : Option Node). Grows z y) (sym e) (λ n f h. absurd (some_apart (sym h)), λ h. absurd (some_apart (sym h)))
+
+    by : (q : ℕ) (b : Bool) → eq_by_cmp nat_cmp q i ≡ b → Grows (get tree q) (cond b (Some x) (get tree q))
+    by q true e = from_none (get tree q) (Some x) (ap (get tree) (number_keys.same q i ((Equal-is (nat_cmp q i)).0 e)) ∙ free)
+    by q false e = (λ n f h. h, λ h. h)
+
+-- a node that is adjusted
+adjusted_keeps : (f : Node → Node) (tree : Tree) (d : ℕ) → Grows (get tree d) (option_map f (get tree d)) → Keeps tree (adjust_number f tree d)
+adjusted_keeps f tree d grows = keeps_grown tree (adjust_number f tree d) (λ q. subst (Grows (get tree q)) (sym (adjusted f tree d q)) (by q (q == d) refl))
+  where
+    by : (q : ℕ) (b : Bool) → (q == d) ≡ b → Grows (get tree q) (cond b (option_map f (get tree q)) (get tree q))
+    by q true e = subst (λ (k : ℕ). Grows (get tree k) (option_map f (get tree k))) (sym (eqb→eq q d (subst T (sym e) tt))) grows
+    by q false e = (λ n g h. h, λ h. h)
+
+-- a file that is written or sized
+pub rewritten_keeps : (f : List ℕ → List ℕ) (tree : Tree) (i : ℕ) → Keeps tree (adjust_number (rewritten_node f) tree i)
+rewritten_keeps f tree i = adjusted_keeps (rewritten_node f) tree i (by (get tree i))
+  where
+    by : (o : Option Node) → Grows o (option_map (rewritten_node f) o)
+    by None = (λ n e h. h, λ h. h)
+    by (Some (directory ns k)) = (λ n e h. h, λ h. h)
+    by (Some (file bs)) = (λ n e h. h, λ h. absurd (not_file h))
+      where
+        not_file : Some a_file ≡ Some a_directory → ⊥
+        not_file e = subst IsFile e tt
+          where
+            IsFile : Option Kind → Type 0
+            IsFile (Some a_file) = Unit {0}
+            IsFile _ = ⊥
+
+-- a name that a directory hadn't
+pub named_keeps : (tree : Tree) (d : ℕ) (n : List ℕ) (i : ℕ) → node_of (name tree d n) ≡ None → Keeps tree (adjust_number (renamed_node n (Some i)) tree d)
+named_keeps tree d n i is_new = adjusted_keeps (renamed_node n (Some i)) tree d (by (get tree d) (sym (same_number tree (looked tree d n)) ∙ is_new))
+  where
+    by : (o : Option Node) → in_node o n ≡ None → Grows o (option_map (renamed_node n (Some i)) o)
+    by None none = (λ m e h. h, λ h. h)
+    by (Some (file bs)) none = (λ m e h. h, λ h. h)
+    by (Some (directory ns k)) none = (λ m e h. get-insert text_keys.total ns n i m ∙ at m e h (eq_by_cmp (slice_cmp nat_cmp) m n) refl, λ h. h)
+      where
+        at : (m : List ℕ) (e : ℕ) → get ns m ≡ Some e → (b : Bool) → eq_by_cmp (slice_cmp nat_cmp) m n ≡ b → cond b (Some i) (get ns m) ≡ Some e
+        at m e h true same = absurd (some_apart (sym h ∙ ap (get ns) (text_keys.same m n ((Equal-is (slice_cmp nat_cmp m n)).0 same)) ∙ none))
+        at m e h false same = h
+
+-- A directory's new name.
+module _ (s : World) (path : List ℕ) (parent : ℕ) (n : List ℕ) (i : ℕ) (place : IsNewPlace s.nodes path parent n) where
+  pub named_so : record s { nodes = adjust_number (renamed_node n (Some i)) s.nodes parent } ≡ name_at s path i
+  named_so = rw (new_place_walk s.nodes path parent n place) refl
+
+  module _ (known : Known) (knows : Knows s.nodes known) (w : World) (is : w ≡ record s { nodes = adjust_number (renamed_node n (Some i)) s.nodes parent }) where
+    keeps : Keeps s.nodes w.nodes
+    keeps = subst (λ (v : World). Keeps s.nodes v.nodes) (sym is) (named_keeps s.nodes parent n i place.is_new)
+
+    pub still_known : Knows w.nodes known
+    still_known = knows_kept s.nodes w.nodes known keeps knows
+
+    pub known_too : (new : Known) (d : ℕ) → ((p : List ℕ) → known_at new p ≡ update bytes_eq (known_at known) path (Some d) p) → directory_at (name w.nodes parent n) ≡ Ok d → Knows w.nodes new
+    known_too new d adds h =
+        knows_more w.nodes known new path d adds
+        (subst (λ (ns : List (List ℕ)). Enters w.nodes 0 ns d) (sym place.names) (enters_more w.nodes 0 parent d place.way n place.fits h (enters_kept s.nodes w.nodes keeps 0 place.way parent place.enters)))
+        still_known
+
+-- A node that is made, and then written.
+
+absent : (o : Option Node) → option_map kind_of_node o ≡ None → o ≡ None
+absent None h = refl
+absent (Some x) h = absurd (some_apart h)
+
+pub made_known : (tree : Tree) (known : Known) (i : ℕ) (x : Node) → Knows tree known → kind tree i ≡ None → Knows (insert number_keys.total tree i x) known
+made_known tree known i x knows free = knows_kept tree (insert number_keys.total tree i x) known (made_keeps tree i x (absent (get tree i) free)) knows
+
+pub file_known : (tree : Tree) (known : Known) (i size : ℕ) (stored : List ℕ) → Knows tree known
+    → Knows (adjust_number (rewritten_node (λ bs. resized bs size)) (adjust_number (rewritten_node (λ bs. overwritten bs 0 stored)) tree i) i) known
+file_known tree known i size stored knows =
+    let written = adjust_number (rewritten_node (λ bs. overwritten bs 0 stored)) tree i in
+    knows_kept written (adjust_number (rewritten_node (λ bs. resized bs size)) written i) known (rewritten_keeps (λ bs. resized bs size) written i)
+    (knows_kept tree written known (rewritten_keeps (λ bs. overwritten bs 0 stored) tree i) knows)

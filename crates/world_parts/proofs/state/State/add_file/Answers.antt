@@ -1,0 +1,14 @@
+use Rattle.std.proofs.Common.{ap, sym, subst, ◌∙◌}
+use Rattle.std.proofs.lemmas.Result.{on_ok_weaker}
+use Rattle.world_parts.specs.Known.{Knows}
+use Rattle.world_parts.specs.World.{World, set_size, apply}
+use Rattle.world_parts.proofs.KnownPaths.{file_known}
+use Rattle.world_parts.proofs.state.State.add_file.Goals as goal
+
+pub returns-clause-known : goal.returns-clause-known
+returns-clause-known c =
+    let i = c.args.number in
+    on_ok_weaker c.set_size.result
+    (λ e. subst (λ (w : World). Knows w.nodes c.make_node.new.known) (sym (e ∙ ap (apply (set_size i c.args.size)) c.in_ok-write.ensures))
+    (file_known c.make_node.new.self.nodes c.make_node.new.known i c.args.size c.args.stored.now c.in_ok-make_node.ensures.known))
+    c.set_size.ensures
