@@ -1,5 +1,5 @@
 //! The replay in rounds, each on worker threads.
-ghost use Rattle.std.specs.Prelude.{◌≡◌, ◌≤◌, ◌<◌, ◌⊎◌, ◌↔◌, Err, IfOk};
+ghost use Rattle.std.specs.Prelude.{◌≡◌, ◌≢◌, ◌≤◌, ◌<◌, ◌⊎◌, ◌↔◌, Err, IfOk};
 ghost use Rattle.replay_core.specs.Rounds.{IsReplay};
 ghost use Rattle.trace_format.specs.Text.{IsSpelled};
 
@@ -7,7 +7,6 @@ use crate::gate::Gate;
 use crate::progress::Progress;
 use crate::round::RoundFault;
 use crate::serial::{Replay, ReplayFault};
-use chain_plan::Plan;
 use std::alloc::Global;
 use std::sync::Wait;
 use std::thread::Threads;
@@ -18,18 +17,19 @@ const MOST_WORKERS: u32 = 64;
 
 pub(crate) const WIDEST_WINDOW: u32 = 4096;
 
-/// Runs the places of a trace in rounds. Each round looks at the first `window` places that aren't done, runs
-/// those that may run now, on as many workers as they are worth by the gate's weights but no more than `workers`,
-/// and puts what they made together again in recorded order.
+/// Runs the places of a trace in rounds. Each round looks at the first `window` places that aren't
+/// done, runs those that may run now, on as many workers as they are worth by the gate's weights
+/// but no more than `workers`, and puts what they made together again in recorded order.
 ///
-/// It gives the world and the replies of the sequential run, and of each place the number of its round: as
-/// [`wave_pick::laws::rounds_are_numbered`] says, these rise along each chain, and a barrier's lie behind those
-/// of all earlier places of its ring and before those of all later ones. So links and drains hold in its rounds.
+/// It gives the world and the replies of the sequential run, and of each place the number of its
+/// round: as [`wave_pick::laws::rounds_are_numbered`] says, these rise along each chain, and a
+/// barrier's lie behind those of all earlier places of its ring and before those of all later ones.
+/// So links and drains hold in its rounds.
 ///
 /// # Errors
 ///
-/// Workers where `workers` isn't 1 to 64; else Window where `window` isn't 1 to 4,096; else Memory, or NoThread
-/// where a thread was refused. Then nothing is given.
+/// Workers where `workers` isn't 1 to 64; else Window where `window` isn't 1 to 4,096; else Memory,
+/// or NoThread where a thread was refused: not with one worker. Then nothing is given.
 pub fn replay<R: Threads + Wait + Sync, G: Gate + Sync>(
     rt: &R,
     alloc: Global,
@@ -41,7 +41,9 @@ pub fn replay<R: Threads + Wait + Sync, G: Gate + Sync>(
     requires { IsSpelled trace.now }
     ensures replay { IfOk result (λ replay. IsReplay trace.now window replay) }
     ensures workers { (result ≡ Err ReplayFault.Workers) ↔ ((workers ≡ 0) ⊎ (64 < workers)) }
-    ensures window { (result ≡ Err ReplayFault.Window) ↔ ((1 ≤ workers) × (workers ≤ 64) × ((window ≡ 0) ⊎ (4096 < window))) }
+    ensures window { (result ≡ Err ReplayFault.Window) ↔ ((1 ≤ workers) × (workers ≤ 64)
+        × ((window ≡ 0) ⊎ (4096 < window))) }
+    ensures alone { workers ≡ 1 → result ≢ Err ReplayFault.NoThread }
 {
     if !(1..=MOST_WORKERS).contains(&workers) {
         return Err(ReplayFault::Workers);
@@ -68,15 +70,10 @@ fn in_rounds<R: Threads + Wait + Sync, G: Gate + Sync>(
     requires trace { IsSpelled trace.now }
     requires workers { workers ≤ 64 }
     requires window { 1 ≤ window }
-    ensures { IfOk result (λ replay. IsReplay trace.now window replay) }
+    ensures replay { IfOk result (λ replay. IsReplay trace.now window replay) }
+    ensures alone { workers ≤ 1 → result ≢ Err RoundFault.NoThread }
 {
-    let plan = Plan::of(alloc, trace)?;
     let mut progress = Progress::new(alloc, trace, window)?;
-    for _round in 0..trace.places() {
-        if progress.is_over() {
-            return Ok(progress.finish(trace));
-        }
-        progress.run(rt, alloc, trace, &plan, workers, gate)?;
-    }
+    progress.run_all(rt, alloc, trace, workers, gate)?;
     Ok(progress.finish(trace))
 }

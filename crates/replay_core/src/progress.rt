@@ -1,7 +1,7 @@
 //! What a replay has after some of its rounds, and one round more.
 ghost use Rattle.std.specs.Prelude.{◌≡◌, ◌+◌, ◌-◌, ◌<◌, ◌≤◌, ◌⊎◌, ◌++◌, [], ◌↔◌, IsTrue, All, IfOk};
 ghost use Rattle.std.specs.Prelude.{OnOk, filter, length, map, not, replicate, slice_index_or};
-ghost use Rattle.std.specs.Prelude.{false};
+ghost use Rattle.std.specs.Prelude.{◌≢◌, Err, false};
 ghost use Rattle.std.specs.List.{range_with_len};
 ghost use Rattle.chain_plan.specs.Plan.{roles};
 ghost use Rattle.deal_desk.specs.Desks.{AreValues};
@@ -41,7 +41,8 @@ pub(crate) struct Progress {
     replies: Vec<Reply>,
     rounds: Vec<u32>,
     done: Vec<bool>,
-    /// The first places that aren't done, as many as the window has, and the first place behind them.
+    /// The first places that aren't done, as many as the window has, and the first place behind
+    /// them.
     front: Vec<u32>,
     next: u32,
 }
@@ -49,7 +50,8 @@ pub(crate) struct Progress {
 /// Of some places those that aren't done, in order.
 fn left_of(alloc: Global, front: &[u32], done: &[bool]) -> Result<Vec<u32>, AllocError>
     requires { All (λ k. k < length done.now) front.now }
-    ensures { IfOk result (λ left. left.items ≡ filter (λ k. not (slice_index_or done.now k false)) front.now) }
+    ensures { IfOk result (λ left. left.items ≡ filter
+        (λ k. not (slice_index_or done.now k false)) front.now) }
 {
     let mut left = Vec::new(alloc);
     for place in front {
@@ -65,7 +67,8 @@ fn filled(front: &mut Vec<u32>, next: u32, places: u32, window: u32) -> Result<u
     requires next { next ≤ places }
     requires few { length front.old.items ≤ window }
     ensures within { IfOk result (λ behind. (next ≤ behind) × (behind ≤ places)) }
-    ensures more { IfOk result (λ behind. front.new.items ≡ front.old.items ++ range_with_len next (behind - next)) }
+    ensures more { IfOk result (λ behind. front.new.items ≡ front.old.items
+        ++ range_with_len next (behind - next)) }
     ensures few { OnOk result (length front.new.items ≤ window) }
     ensures full { IfOk result (λ behind. (length front.new.items ≡ window) ⊎ (behind ≡ places)) }
 {
@@ -119,7 +122,8 @@ impl Progress {
         requires trace { IsSpelled trace.now }
         requires window { 1 ≤ window }
         ensures stands { IfOk result (λ progress. Stands trace.now progress) }
-        ensures first { IfOk result (λ progress. (progress.window ≡ window) × (progress.round ≡ 0)) }
+        ensures first { IfOk result
+            (λ progress. (progress.window ≡ window) × (progress.round ≡ 0)) }
     {
         let places = trace.places();
         let mut front = Vec::new(alloc);
@@ -171,12 +175,14 @@ impl Progress {
         )
     }
 
-    /// The jobs of the next round: its places in order, each with its part, which is cut out of the world.
+    /// The jobs of the next round: its places in order, each with its part, which is cut out of the
+    /// world.
     fn deal(&mut self, alloc: Global, trace: &Trace, plan: &Plan) -> Result<Vec<Run>, AllocError>
         requires trace { IsSpelled trace.now }
         requires plan { plan.now ≡ roles trace.now }
         requires stands { Stands trace.now self.old }
-        ensures dealt { IfOk result (λ jobs. AreDealt trace.now self.old.window self.old.round jobs.items self.new.world) }
+        ensures dealt { IfOk result
+            (λ jobs. AreDealt trace.now self.old.window self.old.round jobs.items self.new.world) }
         ensures rest { OnOk result (self.new ≡ record self.old { world = self.new.world }) }
     {
         let wave = pick(
@@ -211,9 +217,11 @@ impl Progress {
         requires round { self.old.round < places trace.now }
         requires keeps { KeptAfter trace.now self.old.round self.old }
         requires dealt { AreDealt trace.now self.old.window self.old.round jobs.value.items self.old.world }
-        requires outcomes { AreValues (λ run d. IsOutcome run.trace.value run.part d) jobs.value.items outcomes.items }
+        requires outcomes { AreValues
+            (λ run d. IsOutcome run.trace.value run.part d) jobs.value.items outcomes.items }
         ensures keeps { OnOk result (KeptAfter trace.now (self.old.round + 1) self.new) }
-        ensures world { OnOk result (self.new.world ≡ whole (state_after trace.now self.old.window (self.old.round + 1)).world) }
+        ensures world { OnOk result (self.new.world
+            ≡ whole (state_after trace.now self.old.window (self.old.round + 1)).world) }
         ensures rest { OnOk result (IsSameRound self.old self.new) }
     {
         for outcome in outcomes {
@@ -232,11 +240,13 @@ impl Progress {
         requires trace { IsSpelled trace.now }
         requires round { self.old.round < places trace.now }
         requires window { 1 ≤ self.old.window }
-        requires world { self.old.world ≡ whole (state_after trace.now self.old.window (self.old.round + 1)).world }
+        requires world { self.old.world
+            ≡ whole (state_after trace.now self.old.window (self.old.round + 1)).world }
         requires keeps { KeptAfter trace.now (self.old.round + 1) self.old }
         requires front { IsFront trace.now self.old.window (state_after trace.now self.old.window self.old.round) self.old.front.items self.old.next }
         ensures stands { OnOk result (Stands trace.now self.new) }
-        ensures next { OnOk result ((self.new.window ≡ self.old.window) × (self.new.round ≡ self.old.round + 1)) }
+        ensures next { OnOk result ((self.new.window ≡ self.old.window)
+            × (self.new.round ≡ self.old.round + 1)) }
     {
         let mut front = left_of(alloc, self.front.as_slice(), self.done.as_slice())?;
         self.next = filled(&mut front, self.next, trace.places(), self.window)?;
@@ -261,13 +271,44 @@ impl Progress {
         requires round { self.old.round < places trace.now }
         requires stands { Stands trace.now self.old }
         ensures stands { OnOk result (Stands trace.now self.new) }
-        ensures next { OnOk result ((self.new.window ≡ self.old.window) × (self.new.round ≡ self.old.round + 1)) }
+        ensures next { OnOk result ((self.new.window ≡ self.old.window)
+            × (self.new.round ≡ self.old.round + 1)) }
+        ensures alone { workers ≤ 1 → result ≢ Err RoundFault.NoThread }
     {
         let jobs = self.deal(alloc, trace, plan)?;
         let dealt = Snapshot::of(&jobs);
         let outcomes = run_round(rt, alloc, jobs, workers, trace, gate)?;
         self.gather(alloc, trace, dealt, outcomes)?;
         self.advance(alloc, trace)?;
+        Ok(())
+    }
+
+    /// Runs rounds until all places are done.
+    pub(crate) fn run_all<R: Threads + Wait + Sync, G: Gate + Sync>(
+        &mut self,
+        rt: &R,
+        alloc: Global,
+        trace: &Trace,
+        workers: u32,
+        gate: &G,
+    ) -> Result<(), RoundFault>
+        requires trace { IsSpelled trace.now }
+        requires workers { workers ≤ 64 }
+        requires stands { Stands trace.now self.old }
+        requires first { self.old.round ≡ 0 }
+        ensures stands { OnOk result (Stands trace.now self.new) }
+        ensures window { OnOk result (self.new.window ≡ self.old.window) }
+        ensures over { OnOk result ((self.new.front.items ≡ [])
+            ⊎ (self.new.round ≡ places trace.now)) }
+        ensures alone { workers ≤ 1 → result ≢ Err RoundFault.NoThread }
+    {
+        let plan = Plan::of(alloc, trace)?;
+        for _round in 0..trace.places() {
+            if self.is_over() {
+                return Ok(());
+            }
+            self.run(rt, alloc, trace, &plan, workers, gate)?;
+        }
         Ok(())
     }
 

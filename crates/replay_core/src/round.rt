@@ -1,9 +1,10 @@
 //! A round: its jobs dealt to workers, and their outcomes in order.
 ghost use Rattle.std.specs.Prelude.{◌≡◌, ◌+◌, ◌<◌, ◌≤◌, ◌^◌, None, true, false, length, IfOk};
-ghost use Rattle.std.specs.Prelude.{IfSome};
+ghost use Rattle.std.specs.Prelude.{◌≢◌, Err, IfSome};
 ghost use Rattle.deal_desk.specs.Desks.{hand_of, jobs_of, IsSeatOf, AreValues};
 ghost use Rattle.replay_core.specs.Jobs.{AreOf, IsOutcome};
 ghost use Rattle.replay_core.specs.Seats.{IsWorked, Grew};
+ghost use Rattle.replay_core.specs.declared.round.RoundFault.TheVariants.{Memory};
 ghost use Rattle.trace_format.specs.Text.{IsSpelled};
 
 use crate::gate::Gate;
@@ -30,12 +31,16 @@ pub(crate) enum RoundFault {
 }
 
 impl From<DeskFault> for RoundFault {
+    ghost from_gives = { λ _ fault. fault ≡ Memory };
+
     fn from(_: DeskFault) -> RoundFault {
         RoundFault::Memory
     }
 }
 
 impl From<AllocError> for RoundFault {
+    ghost from_gives = { λ _ fault. fault ≡ Memory };
+
     fn from(_: AllocError) -> RoundFault {
         RoundFault::Memory
     }
@@ -60,15 +65,16 @@ fn worked<G: Gate>(
     requires desk { IsSeatOf desk.now seat }
     requires spelled { IsSpelled trace.now }
     requires trace { AreOf trace.now (jobs_of desk.now) }
-    requires new { ((hand_of seat).out ≡ None) × ((hand_of seat).opens ≡ false) × ((hand_of seat).merged ≡ 0) }
+    requires new { ((hand_of seat).out ≡ None) × ((hand_of seat).opens ≡ false)
+        × ((hand_of seat).merged ≡ 0) }
     ensures { IsWorked desk.now result }
 {
     work(alloc, desk, &mut seat, trace, gate);
     seat
 }
 
-// Starts a thread for each helper, works at the opening seat meanwhile, and merges the helpers' seats. False
-// where a thread was refused; those that were started have ended then too.
+// Starts a thread for each helper, works at the opening seat meanwhile, and merges the helpers'
+// seats. False where a thread was refused; those that were started have ended then too.
 fn fan_out<'s, E, R: Threads, G: Gate + Sync>(
     rt: &R,
     alloc: Global,
@@ -101,8 +107,8 @@ fn fan_out<'s, E, R: Threads, G: Gate + Sync>(
     all
 }
 
-/// How many workers a round is worth: one for each [`WORTH_A_THREAD`] that its jobs weigh, at least one, and no more
-/// than it has jobs, nor than `workers`.
+/// How many workers a round is worth: one for each [`WORTH_A_THREAD`] that its jobs weigh, at least
+/// one, and no more than it has jobs, nor than `workers`.
 fn workers_worth<G: Gate>(jobs: &[Run], workers: u32, trace: &Trace, gate: &G) -> u32
     requires spelled { IsSpelled trace.now }
     requires trace { AreOf trace.now jobs.now }
@@ -116,8 +122,9 @@ fn workers_worth<G: Gate>(jobs: &[Run], workers: u32, trace: &Trace, gate: &G) -
     worth.min(u64::from(workers)) as u32
 }
 
-/// Deals the jobs of a round to as many workers as it is worth, but no more than `workers`, and gives their
-/// outcomes in order. This thread is the first of the workers, and each other one is a thread of its own.
+/// Deals the jobs of a round to as many workers as it is worth, but no more than `workers`, and
+/// gives their outcomes in order. This thread is the first of the workers, and each other one is a
+/// thread of its own.
 pub(crate) fn run_round<R: Threads + Wait + Sync, G: Gate + Sync>(
     rt: &R,
     alloc: Global,
@@ -130,7 +137,9 @@ pub(crate) fn run_round<R: Threads + Wait + Sync, G: Gate + Sync>(
     requires trace { AreOf trace.now jobs.items }
     requires few { length jobs.items < 2 ^ 32 }
     requires workers { workers ≤ 64 }
-    ensures { IfOk result (λ v. AreValues (λ run d. IsOutcome run.trace.value run.part d) jobs.items v.items) }
+    ensures outcomes { IfOk result (λ v. AreValues
+        (λ run d. IsOutcome run.trace.value run.part d) jobs.items v.items) }
+    ensures alone { workers ≤ 1 → result ≢ Err RoundFault.NoThread }
 {
     let helpers = workers_worth(jobs.as_slice(), workers, trace, gate).saturating_sub(1);
     let (desk, mut opening) = Desk::new(alloc, jobs)?;
@@ -146,8 +155,10 @@ pub(crate) fn run_round<R: Threads + Wait + Sync, G: Gate + Sync>(
             requires desk { IsSeatOf shared.now opening }
             requires spelled { IsSpelled trace.now }
             requires trace { AreOf trace.now (jobs_of shared.now) }
-            requires opening { ((hand_of opening).opens ≡ true) × ((hand_of opening).out ≡ None) × ((hand_of opening).given + helpers ≤ 65536) }
-            ensures { IfSome result (λ seat. IsSeatOf shared.entry.now seat × Grew (hand_of opening) (hand_of seat) helpers) }
+            requires opening { ((hand_of opening).opens ≡ true) × ((hand_of opening).out ≡ None)
+                × ((hand_of opening).given + helpers ≤ 65536) }
+            ensures { IfSome result (λ seat. IsSeatOf shared.entry.now seat
+                × Grew (hand_of opening) (hand_of seat) helpers) }
         {
             let mut opening = opening;
             fan_out(rt, alloc, scope, shared, &mut opening, trace, gate, helpers).then_some(opening)

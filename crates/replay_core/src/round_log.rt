@@ -1,5 +1,5 @@
 //! A log of rounds: in which round each place runs, and for which place it waited last.
-ghost use Rattle.std.specs.Prelude.{◌≡◌, ◌+◌, ◌≤◌, ◌<◌, ◌⊎◌, ◌↔◌, [], All, Err, IfOk, OnOk, None};
+ghost use Rattle.std.specs.Prelude.{◌≡◌, ◌≢◌, ◌+◌, ◌≤◌, ◌<◌, ◌⊎◌, ◌↔◌, [], All, Err, IfOk, OnOk, None};
 ghost use Rattle.std.specs.Prelude.{length, map, replicate};
 ghost use Rattle.std.specs.Option.{option_map};
 ghost use Rattle.chain_plan.specs.Plan.{roles};
@@ -42,7 +42,7 @@ pub struct RoundLog {
 ///
 /// # Errors
 ///
-/// Window where `window` isn't 1 to 4,096; else Memory, or NoThread. Then nothing is given.
+/// Window where `window` isn't 1 to 4,096; else Memory. Then nothing is given.
 pub fn log_rounds<R: Threads + Wait + Sync>(
     rt: &R,
     alloc: Global,
@@ -52,6 +52,8 @@ pub fn log_rounds<R: Threads + Wait + Sync>(
     requires { IsSpelled trace.now }
     ensures log { IfOk result (λ log. IsRoundLog trace.now window log) }
     ensures window { (result ≡ Err ReplayFault.Window) ↔ ((window ≡ 0) ⊎ (4096 < window)) }
+    ensures others { result ≢ Err ReplayFault.Workers }
+    ensures alone { result ≢ Err ReplayFault.NoThread }
 {
     if !(1..=WIDEST_WINDOW).contains(&window) {
         return Err(ReplayFault::Window);
@@ -63,7 +65,7 @@ pub fn log_rounds<R: Threads + Wait + Sync>(
     }
 }
 
-/// Runs the places in rounds until all are done, and notes before each round for whom places wait.
+/// Runs the places in rounds until all are done, and gives their log.
 fn logged<R: Threads + Wait + Sync>(
     rt: &R,
     alloc: Global,
@@ -72,19 +74,44 @@ fn logged<R: Threads + Wait + Sync>(
 ) -> Result<RoundLog, RoundFault>
     requires trace { IsSpelled trace.now }
     requires window { 1 ≤ window }
-    ensures { IfOk result (λ log. IsRoundLog trace.now window log) }
+    ensures log { IfOk result (λ log. IsRoundLog trace.now window log) }
+    ensures alone { result ≢ Err RoundFault.NoThread }
+{
+    let mut waits = no_waits(alloc, trace)?;
+    let mut progress = Progress::new(alloc, trace, window)?;
+    run_noting(rt, alloc, trace, &mut progress, &mut waits)?;
+    Ok(finished(progress, waits, trace))
+}
+
+/// Runs rounds until all places are done, and notes before each round for whom places wait.
+fn run_noting<R: Threads + Wait + Sync>(
+    rt: &R,
+    alloc: Global,
+    trace: &Trace,
+    progress: &mut Progress,
+    waits: &mut Vec<Option<WaitedFor>>,
+) -> Result<(), RoundFault>
+    requires trace { IsSpelled trace.now }
+    requires stands { Stands trace.now progress.old }
+    requires first { progress.old.round ≡ 0 }
+    requires noted { AreNoted trace.now progress.old.window 0 waits.old.items }
+    ensures stands { OnOk result (Stands trace.now progress.new) }
+    ensures window { OnOk result (progress.new.window ≡ progress.old.window) }
+    ensures over { OnOk result
+        ((progress.new.front.items ≡ []) ⊎ (progress.new.round ≡ places trace.now)) }
+    ensures noted { OnOk result
+        (AreNoted trace.now progress.new.window progress.new.round waits.new.items) }
+    ensures alone { result ≢ Err RoundFault.NoThread }
 {
     let plan = Plan::of(alloc, trace)?;
-    let mut progress = Progress::new(alloc, trace, window)?;
-    let mut waits = no_waits(alloc, trace)?;
     for _round in 0..trace.places() {
         if progress.is_over() {
-            return Ok(finished(progress, waits, trace));
+            return Ok(());
         }
-        note(alloc, trace, &plan, &progress, &mut waits)?;
+        note(alloc, trace, &plan, progress, waits)?;
         progress.run(rt, alloc, trace, &plan, 1, &NoGate)?;
     }
-    Ok(finished(progress, waits, trace))
+    Ok(())
 }
 
 /// Before the first round no place has waited.

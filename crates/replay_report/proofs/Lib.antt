@@ -1,3 +1,3 @@
 mod PlacesLemmas
-mod ReportLemmas
+pub mod ReportLemmas
 mod SumLemmas

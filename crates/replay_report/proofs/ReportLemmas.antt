@@ -28,7 +28,7 @@ range_grown old now next f k so_far e =
     rw more (e ∙ ap (λ text. text ++ f k) so_far ∙ append_assoc old (flat_map f (range_with_len 0 k)) (f k))
 
 -- a text with the pieces of the first elements, and then with that of the next
-pub list_grown : {X : Type 0} (old now next : List ℕ) (f : X → List ℕ) (xs : List X) (i : ℕ) (d : X) → i < length xs → now ≡ old ++ flat_map f (take i xs) → next ≡ now ++ f (get_or xs i d)
+pub list_grown : {X Y : Type 0} (old now next : List Y) (f : X → List Y) (xs : List X) (i : ℕ) (d : X) → i < length xs → now ≡ old ++ flat_map f (take i xs) → next ≡ now ++ f (get_or xs i d)
     → next ≡ old ++ flat_map f (take (i + 1) xs)
 list_grown old now next f xs i d lt so_far e = rw (take_more xs i d lt) (e ∙ ap (λ text. text ++ f (get_or xs i d)) so_far ∙ flat_map_more f old (take i xs) (get_or xs i d))
 

@@ -1,17 +1,19 @@
 -- Bytes that are summed a piece at a time, zeros, sums that are known, and the buffers that an image shows.
 use Rattle.std.proofs.Common.{◌≡◌, ℕ, zero, suc, ◌+◌, ◌-◌, ◌<◌, ◌≤◌, List, [], ◌∷◌, ◌++◌, All, length, take, replicate, get_or, refl, sym, ap, subst, ◌∙◌, arith, Option, Some, None, Bool, true, false, T, ◌&&◌, cond}
-use Rattle.std.proofs.lemmas.List.{take-append-drop, drop-take, take-take, take_all}
-use Rattle.std.proofs.lemmas.List.Elements.{All-cons, All-contains, All-head, All-map, All-nil, All-tail}
+use Rattle.std.proofs.lemmas.List.{append-nil, append_assoc, take_more, take-append-drop, drop-take, take-take, take_all}
+use Rattle.std.proofs.lemmas.List.Elements.{All-cons, All-contains, All-contains_itself, All-head, All-map, All-nil, All-push, All-tail, All-weaker, Contains-append_left, Contains-append_right, Contains-push, filter_map-append}
 use Rattle.std.proofs.lemmas.Map.Lookups.{CmpEqualImpliesEq, exact_pairs, exact_unsigned}
-use Rattle.std.proofs.lemmas.Map.Views.{Contains-from_lookup, tells_apart}
+use Rattle.std.proofs.lemmas.Map.Views.{All-insert_key, Contains-from_lookup, tells_apart}
 use Rattle.std.specs.BTreeMap.{insert_entry, is_at}
+use Rattle.std.specs.BTreeSet.{insert_key}
+use Rattle.std.specs.List.{Contains, cons_option, filter_map, flat_map}
 use Rattle.std.specs.Map.{lookup}
 use Rattle.std.specs.Ordering.{match_ordering, nat_cmp}
 use Rattle.std.specs.Prelude.{unwrap_or}
 use Rattle.std.specs.Option.{option_map}
 use Rattle.std.specs.declared.cmp.Ordering.{Ordering}
 use Rattle.std.specs.declared.cmp.Ordering.TheVariants.{Less, Equal, Greater}
-use Rattle.std.specs.Ordering.{is_eq, is_lt, ordering_reverse}
+use Rattle.std.specs.Ordering.{is_eq, is_lt, ordering_reverse, ordering_then}
 use Rattle.std.specs.Cmp.{IsTotalOrder, tied_itself}
 use Rattle.std.specs.FinMap.Entries.{find, is_sorted, below_all}
 use Rattle.extent_bytes.specs.Bytes.{range_of, resized}
@@ -21,6 +23,9 @@ use Rattle.world_parts.specs.Image.{image_of, buffer_entry}
 use Rattle.replay_report.specs.contracts.sums.HolderOrd.TheImpl.{cmp-value}
 use Rattle.replay_report.specs.declared.sums.Holder.TheVariants.{File, Buffer}
 use Rattle.replay_report.specs.Report.{IsLong}
+use Rattle.replay_report.specs.declared.sums.Holder.{Holder}
+use Rattle.replay_report.specs.Sums.{HaveSame}
+use Rattle.replay_report.proofs.ReportLemmas.{list_grown}
 
 -- the first bytes and the piece after them
 pub one_piece_more : (xs : List ℕ) (low high : ℕ) → low ≤ high → take high xs ≡ take low xs ++ range_of xs low high
@@ -98,3 +103,47 @@ module _ {K X : Type 0} {R : K → K → Ordering} (o : IsTotalOrder R) where
 pub image_is_long : (s : World) → All (IsLong s) (image_of s).buffers
 image_is_long s =
     All-map (IsLong s) buffer_entry s.buffers.entries (λ k d lt. ap (option_map length) (entry_found pair_cmp_total s.buffers.entries s.buffers.sorted k d lt))
+
+-- a list has the same elements as itself
+pub same_itself : {K : Type 0} (ks : List K) → HaveSame ks (ks ++ [])
+same_itself ks = rw (append-nil ks) (All-contains_itself ks, All-contains_itself ks)
+
+module _ {K : Type 0} (R : K → K → Ordering) (exact : CmpEqualImpliesEq R) (k : K) where
+  -- a set has the key that was put in, and those that it had
+  kept : (ks : List K) → All (Contains (insert_key R ks k)) (k ∷ ks)
+  kept [] = All-contains_itself (k ∷ [])
+  kept (x ∷ xs) = by (R k x) refl (kept xs)
+    where
+      by : (r : Ordering) → R k x ≡ r → All (Contains (insert_key R xs k)) (k ∷ xs) → All (Contains (match_ordering r (k ∷ x ∷ xs) (x ∷ xs) (x ∷ insert_key R xs k))) (k ∷ x ∷ xs)
+      by Less q h = All-contains_itself (k ∷ x ∷ xs)
+      by Equal q h =
+          let all = All-contains_itself (x ∷ xs) in
+          All-cons (Contains (x ∷ xs)) k (x ∷ xs) (subst (Contains (x ∷ xs)) (sym (exact k x q)) (All-head (Contains (x ∷ xs)) x xs all)) all
+      by Greater q h =
+          let ys = insert_key R xs k in
+          let P = Contains (x ∷ ys) in
+          let more = All-weaker (Contains ys) P (λ y c. Contains-append_right (x ∷ []) ys y c) (k ∷ xs) h in
+          All-cons P k (x ∷ xs) (All-head P k xs more) (All-cons P x xs (All-head P x ys (All-contains_itself (x ∷ ys))) (All-tail P k xs more))
+
+  -- a key more in a set is an element more
+  pub same_more : (ks xs : List K) → HaveSame ks xs → HaveSame (insert_key R ks k) (xs ++ k ∷ [])
+  same_more ks xs h =
+      let ys = insert_key R ks k in
+      let all = kept ks in
+      let old = All-weaker (Contains ks) (Contains ys) (λ x c. All-contains (Contains ys) ks x (All-tail (Contains ys) k ks all) c) xs h.1 in
+      let new = All-weaker (Contains xs) (Contains (xs ++ k ∷ [])) (λ x c. Contains-append_left xs (k ∷ []) x c) ks h.0 in
+      (All-insert_key R k (Contains (xs ++ k ∷ [])) ks new (Contains-push xs k), All-push (Contains ys) xs k old (All-head (Contains ys) k ks all))
+
+-- the files and buffers that are shown, with the next one
+pub same_grown : {X K : Type 0} (ks old now : List K) (f : X → List K) (xs : List X) (i : ℕ) (d : X) → i < length xs → now ≡ old ++ flat_map f (take i xs) → HaveSame ks (now ++ f (get_or xs i d)) → HaveSame ks (old ++ flat_map f (take (i + 1) xs))
+same_grown ks old now f xs i d lt so_far h = subst (HaveSame ks) (list_grown old now (now ++ f (get_or xs i d)) f xs i d lt so_far refl) h
+
+-- a holder behind its size or length is known by how it compares
+pub exact_shown : CmpEqualImpliesEq (λ (x y : ℕ × Holder). ordering_then (nat_cmp x.0 y.0) (cmp-value.it x.1 y.1))
+exact_shown = exact_pairs nat_cmp cmp-value.it exact_unsigned same_holder
+
+-- the same of the files that have sums
+pub same_filtered : {X K : Type 0} (ks old : List K) (h : X → Option K) (xs : List X) (i : ℕ) (d : X) → i < length xs → HaveSame ks (old ++ filter_map h (take i xs) ++ cons_option (h (get_or xs i d)) []) → HaveSame ks (old ++ filter_map h (take (i + 1) xs))
+same_filtered ks old h xs i d lt same =
+    let next = filter_map-append h (take i xs) (get_or xs i d ∷ []) in
+    rw (take_more xs i d lt, next, sym (append_assoc old (filter_map h (take i xs)) (cons_option (h (get_or xs i d)) []))) same

@@ -1,8 +1,11 @@
 -- The model: what has a sum.
-use Rattle.std.specs.Prelude.{◌≡◌, ℕ, List, [], Option, unwrap_or}
-use Rattle.std.specs.List.{All}
+use Rattle.std.specs.Prelude.{◌≡◌, ℕ, List, [], ◌∷◌, Option, None, Some, nat_lt, unwrap_or, if◌then◌else◌}
+use Rattle.std.specs.List.{All, Contains}
 use Rattle.sha2.specs.Sha256.{sha256}
 use Rattle.world_parts.specs.World.{World, bytes, buffer}
+use Rattle.world_parts.specs.declared.image.NameEntry.{NameEntry}
+use Rattle.world_parts.specs.declared.image.BufferEntry.{BufferEntry}
+use Rattle.replay_report.specs.Report.{most_summed}
 use Rattle.replay_report.specs.declared.sums.Holder.{Holder}
 use Rattle.replay_report.specs.declared.sums.Holder.TheVariants.{File, Buffer}
 use Rattle.replay_report.specs.declared.sums.Sums.{Sums}
@@ -15,3 +18,20 @@ held s (Buffer ring index) = buffer s ring index
 -- Each sum that is known is that of the bytes of its file or buffer.
 abbrev pub AreSumsOf : World → Sums → Type 0
 AreSumsOf s sums = All (λ e. e.1 ≡ sha256 (unwrap_or (held s e.0) [])) sums.known.entries
+
+-- A file behind its size; none where it is too large for a sum, or is no file.
+abbrev pub sized_file : ℕ → Option ℕ → Option (ℕ × Holder)
+sized_file node None = None
+sized_file node (Some size) = if nat_lt most_summed size then None else Some (size, File node)
+
+-- The file of a name that has a sum.
+abbrev pub file_to_sum : NameEntry → Option (ℕ × Holder)
+file_to_sum name = sized_file name.node name.size
+
+-- A buffer, behind its length.
+abbrev pub buffer_to_sum : BufferEntry → List (ℕ × Holder)
+buffer_to_sum b = (b.len, Buffer b.ring b.index) ∷ []
+
+-- Two lists have the same elements.
+abbrev pub HaveSame : {X : Type 0} → List X → List X → Type 0
+HaveSame xs ys = All (Contains ys) xs × All (Contains xs) ys

@@ -10,8 +10,9 @@ use std::alloc::{AllocError, Global};
 use trace_format::Trace;
 use world_parts::State;
 
-/// The text of the report: the entries of each ring with their replies, and what the maps of the world show
-/// at the end. With `sums`, files of up to 16,777,216 bytes and buffers have their SHA-256 sums.
+/// The text of the report: the entries of each ring with their replies, and what the maps of the
+/// world show at the end. With `sums`, files of up to 16,777,216 bytes and buffers have their
+/// SHA-256 sums.
 ///
 /// # Errors
 ///

@@ -1,10 +1,11 @@
 //! The SHA-256 sums of what a world holds.
 ghost use Rattle.std.specs.Prelude.{◌≡◌, ◌≤◌, [], IfOk, IfSome, IsSome, IsTrue, OnOk, Some, length};
-ghost use Rattle.std.specs.Prelude.{replicate, unwrap_or};
+ghost use Rattle.std.specs.Prelude.{◌++◌, replicate, unwrap_or};
+ghost use Rattle.std.specs.List.{filter_map, flat_map};
 ghost use Rattle.std.specs.Option.{option_map};
 ghost use Rattle.extent_bytes.specs.Bytes.{range_of};
 ghost use Rattle.sha2.specs.Sha256.{sha256};
-ghost use Rattle.replay_report.specs.Sums.{AreSumsOf, held};
+ghost use Rattle.replay_report.specs.Sums.{AreSumsOf, HaveSame, buffer_to_sum, file_to_sum, held};
 
 use crate::zeros::Zeros;
 use extent_bytes::{Extents, MAX_LEN, ReadBytes};
@@ -26,8 +27,8 @@ pub enum Holder {
     Buffer { ring: u8, index: u32 },
 }
 
-/// The sums that are made before the report is written: those of the files, each made once however many
-/// names the file has, and those of all zeros, made in one pass.
+/// The sums that are made before the report is written: those of the files, each made once however
+/// many names the file has, and those of all zeros, made in one pass.
 #[derive(Drop)]
 pub struct Sums {
     known: BTreeMap<Holder, [u8; 32]>,
@@ -60,8 +61,8 @@ impl Sums {
         Ok(sums)
     }
 
-    /// Adds the sum of a file, or of a buffer of zeros. Any other buffer is summed where it is told, which
-    /// is once.
+    /// Adds the sum of a file, or of a buffer of zeros. Any other buffer is summed where it is
+    /// told, which is once.
     fn add(
         &mut self,
         alloc: Global,
@@ -109,13 +110,24 @@ impl Sums {
     }
 }
 
+/// The file of a name that has a sum, behind its size.
+fn file_to_sum(name: &NameEntry) -> Option<(u64, Holder)>
+    ensures { result ≡ file_to_sum name.now }
+{
+    match name.size {
+        Some(len) if len <= MOST_SUMMED => Some((len, Holder::File { node: name.node })),
+        _ => None,
+    }
+}
+
 /// Adds the files that have sums, by their sizes.
-fn add_files(shown: &mut BTreeSet<(u64, Holder)>, names: &[NameEntry]) -> Result<(), AllocError> {
+fn add_files(shown: &mut BTreeSet<(u64, Holder)>, names: &[NameEntry]) -> Result<(), AllocError>
+    ensures { OnOk result
+        (HaveSame shown.new.keys (shown.old.keys ++ filter_map file_to_sum names.now)) }
+{
     for name in names {
-        if let Some(len) = name.size
-            && len <= MOST_SUMMED
-        {
-            shown.insert((len, Holder::File { node: name.node }))?;
+        if let Some(file) = file_to_sum(name) {
+            shown.insert(file)?;
         }
     }
     Ok(())
@@ -125,7 +137,10 @@ fn add_files(shown: &mut BTreeSet<(u64, Holder)>, names: &[NameEntry]) -> Result
 fn add_buffers(
     shown: &mut BTreeSet<(u64, Holder)>,
     buffers: &[BufferEntry],
-) -> Result<(), AllocError> {
+) -> Result<(), AllocError>
+    ensures { OnOk result
+        (HaveSame shown.new.keys (shown.old.keys ++ flat_map buffer_to_sum buffers.now)) }
+{
     for buffer in buffers {
         let BufferEntry { ring, index, len } = *buffer;
         shown.insert((len, Holder::Buffer { ring, index }))?;
@@ -155,8 +170,8 @@ fn is_blank(alloc: Global, world: &State, holder: Holder, len: u64) -> Result<bo
     }
 }
 
-/// Whether the bytes of a file are `len` zeros. Only stored pages are looked at, up to the first that has
-/// another byte.
+/// Whether the bytes of a file are `len` zeros. Only stored pages are looked at, up to the first
+/// that has another byte.
 fn is_blank_file(alloc: Global, world: &State, node: u32, len: u64) -> Result<bool, AllocError>
     requires { option_map length (held world.now (Holder.File node)) ≡ Some len }
     ensures { IfOk result (λ blank. IsTrue blank
@@ -193,7 +208,8 @@ fn is_blank_buffer(
     Ok(bytes.same(&zeros))
 }
 
-/// The SHA-256 sum of the bytes of a file or a buffer, `len` of them. They are read a piece at a time.
+/// The SHA-256 sum of the bytes of a file or a buffer, `len` of them. They are read a piece at a
+/// time.
 ///
 /// # Errors
 ///
@@ -229,7 +245,8 @@ fn piece_of(
     requires there { IsSome (held world.now holder) }
     requires forward { low ≤ high }
     requires inside { IfSome (held world.now holder) (λ all. high ≤ length all) }
-    ensures { IfOk result (λ piece. piece.items ≡ range_of (unwrap_or (held world.now holder) []) low high) }
+    ensures { IfOk result (λ piece. piece.items
+        ≡ range_of (unwrap_or (held world.now holder) []) low high) }
 {
     match holder {
         Holder::File { node } => world.bytes(alloc, node, low, high),

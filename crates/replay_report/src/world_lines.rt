@@ -215,7 +215,8 @@ fn push_buffers(
     requires sums { IfSome sums (λ s. AreSumsOf world.now s.now) }
     requires buffers { All (IsLong world.now) buffers.now }
     ensures { OnOk result (string_bytes text.new
-        ≡ string_bytes text.old ++ flat_map (buffer_line world.now (is_some sums.entry)) buffers.now) }
+        ≡ string_bytes text.old
+        ++ flat_map (buffer_line world.now (is_some sums.entry)) buffers.now) }
 {
     for buffer in buffers {
         push_buffer(alloc, text, world, *buffer, sums)?;

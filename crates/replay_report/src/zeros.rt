@@ -9,8 +9,8 @@ use std::marker::Model;
 /// The most zeros that are hashed at once.
 const PIECE: usize = 4_096;
 
-/// A hasher of so many zeros. Sums that are asked for in the order of their lengths take one pass, over the
-/// longest.
+/// A hasher of so many zeros. Sums that are asked for in the order of their lengths take one pass,
+/// over the longest.
 #[derive(Drop)]
 pub struct Zeros {
     hasher: Sha256,

@@ -39,7 +39,8 @@ impl<'a> Index<'a> {
     /// Whether the text has a section, by its heading. Each has entries.
     #[tactic(auto, unfolding(crate::specs::Differences::has_section))]
     pub(crate) fn has_section(&self, section: Section) -> bool
-        ensures { (text : List (List ℕ)) → IsIndex self.now text → result ≡ has_section text section }
+        ensures { (text : List (List ℕ)) → IsIndex self.now text → result
+            ≡ has_section text section }
     {
         match section {
             Section::Entries => true,

@@ -34,7 +34,8 @@ pub(crate) struct Told {
     pub(crate) text: Vec<u8>,
 }
 
-/// The signs before the lines of the first text, of the second, and before those that are not compared.
+/// The signs before the lines of the first text, of the second, and before those that are not
+/// compared.
 const MINUS: u8 = b'-';
 
 const PLUS: u8 = b'+';
@@ -44,7 +45,8 @@ const TILDE: u8 = b'~';
 impl Told {
     /// One line behind a sign.
     fn tell(&mut self, sign: u8, line: &[u8]) -> Result<(), AllocError>
-        ensures text { OnOk result (self.new.text.items ≡ self.old.text.items ++ told sign line.now) }
+        ensures text { OnOk result (self.new.text.items ≡ self.old.text.items
+            ++ told sign line.now) }
         ensures findings { self.new.findings ≡ self.old.findings }
     {
         self.text.push(sign)?;
@@ -188,7 +190,8 @@ fn section_name(section: Section) -> &'static str
 /// The line of a section's counts.
 #[tactic(auto, unfolding(crate::specs::Differences::count_line))]
 fn push_counts(text: &mut String, findings: &[Finding], section: Section) -> Result<(), AllocError>
-    ensures { OnOk result (string_bytes text.new ≡ string_bytes text.old ++ count_line findings.now section) }
+    ensures { OnOk result (string_bytes text.new ≡ string_bytes text.old
+        ++ count_line findings.now section) }
 {
     let name = section_name(section);
     let equal = count(findings, section, Outcome::Equal);

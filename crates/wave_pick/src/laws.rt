@@ -1,8 +1,8 @@
 //! Laws of running places out of order.
 //!
-//! A place starts when its footprint collides with the reach of no earlier place that has not finished,
-//! and what it does to the world happens when it finishes. They are functions without effect: a call
-//! brings the law into a proof.
+//! A place starts when its footprint collides with the reach of no earlier place that has not
+//! finished, and what it does to the world happens when it finishes. They are functions without
+//! effect: a call brings the law into a proof.
 ghost use Rattle.foot_print.specs.Replayed.{replayed};
 ghost use Rattle.interleaving.specs.Machine.{EveryOrder, ReachesHold, ReachesShrink};
 ghost use Rattle.interleaving.specs.Rounds.{AnySetsOccur, RoundsAreGathered, RoundsAreLegal};
@@ -41,15 +41,17 @@ impl Foreseen for Replays {
     ghost laws = { λ x. lawful x.0 x.1 };
 }
 
-/// The run of a trace's places one at a time, with which the laws of orders and rounds compare, is the model's
-/// sequential run: it goes through the same worlds, and each place has the reply that the model keeps for it.
+/// The run of a trace's places one at a time, with which the laws of orders and rounds compare, is
+/// the model's sequential run: it goes through the same worlds, and each place has the reply that
+/// the model keeps for it.
 pub fn sequential_run_is_the_models()
     ensures { (t : Trace) → RunsAsTheModel t }
 {}
 
-/// Reaches foresee, in every state that legal starts and finishes lead to: the reach of an unfinished place
-/// holds its footprint in each world that some of the earlier unfinished places, or none, leave when they run;
-/// and no legal start or finish makes a reach hold what it didn't hold before.
+/// Reaches foresee, in every state that legal starts and finishes lead to: the reach of an
+/// unfinished place holds its footprint in each world that some of the earlier unfinished places,
+/// or none, leave when they run; and no legal start or finish makes a reach hold what it didn't
+/// hold before.
 pub fn reaches_hold_and_shrink()
     ensures hold { (t : Trace) → IsSpelled t → ReachesHold (replayed t) }
     ensures shrink { (t : Trace) → IsSpelled t → ReachesShrink (replayed t) }
@@ -57,9 +59,9 @@ pub fn reaches_hold_and_shrink()
     reaches_foresee::<Replays>();
 }
 
-/// Every legal and complete list of starts and finishes of a trace's places gives the world and the replies
-/// of the sequential run, which are the model's; and the members of a chain, and a barrier and the other places
-/// of its ring, keep their order.
+/// Every legal and complete list of starts and finishes of a trace's places gives the world and the
+/// replies of the sequential run, which are the model's; and the members of a chain, and a barrier
+/// and the other places of its ring, keep their order.
 pub fn legal_orders_are_sequential()
     ensures sequential { (t : Trace) → IsSpelled t → EveryOrder (replayed t) }
     ensures model { (t : Trace) → IsSpelled t → OrdersEndAsTheModel t }
@@ -68,10 +70,11 @@ pub fn legal_orders_are_sequential()
     every_legal_order_is_sequential::<Replays>();
 }
 
-/// Rounds, in which those of the first pending places start that are free, are legal in whatever order the
-/// places of each start and finish; each round has a place, and all rounds together give the world and the
-/// replies of the sequential run, which are the model's, gathered from places that run side by side and do not
-/// collide. Members of a chain, and a barrier and the other places of its ring, run in different rounds, in order.
+/// Rounds, in which those of the first pending places start that are free, are legal in whatever
+/// order the places of each start and finish; each round has a place, and all rounds together give
+/// the world and the replies of the sequential run, which are the model's, gathered from places
+/// that run side by side and do not collide. Members of a chain, and a barrier and the other places
+/// of its ring, run in different rounds, in order.
 pub fn rounds_are_legal()
     ensures legal { (t : Trace) → IsSpelled t → RoundsAreLegal (replayed t) }
     ensures sequential { (t : Trace) → IsSpelled t → RoundsAreSequential (replayed t) }
@@ -85,20 +88,21 @@ pub fn rounds_are_legal()
     rounds_are_sequential::<Replays>();
 }
 
-/// The list of rounds has the number of each place's round: the round in which the places are chosen that this
-/// one is among. Along a chain the numbers rise; a barrier's lies behind those of all earlier places of its ring,
-/// and before those of all later ones.
+/// The list of rounds has the number of each place's round: the round in which the places are
+/// chosen that this one is among. Along a chain the numbers rise; a barrier's lies behind those of
+/// all earlier places of its ring, and before those of all later ones.
 pub fn rounds_are_numbered()
     ensures numbered { (t : Trace) → IsSpelled t → RoundsAreNumbered t }
     ensures rise { (t : Trace) → IsSpelled t → LinksAndDrainsRise t }
 {}
 
-/// What is known of a place stays so while it waits, from round to round: where no reach before it writes an item
-/// of its footprint, that footprint, which is also its reach; where none writes the flag of its chain, whether it
-/// runs or is canceled; and while it may run, where none writes an item that decides its others, what it looks up.
-/// Of a place that may run, the items that decide stay up to the first one that a reach before it writes; and where
-/// it stays the same whether a reach before it writes a descriptor, so do its wide row and, once it is decided, its
-/// row as accepted.
+/// What is known of a place stays so while it waits, from round to round: where no reach before it
+/// writes an item of its footprint, that footprint, which is also its reach; where none writes the
+/// flag of its chain, whether it runs or is canceled; and while it may run, where none writes an
+/// item that decides its others, what it looks up. Of a place that may run, the items that decide
+/// stay up to the first one that a reach before it writes; and where it stays the same whether a
+/// reach before it writes a descriptor, so do its wide row and, once it is decided, its row as
+/// accepted.
 pub fn waiting_places_stay_known()
     ensures row { (t : Trace) → IsSpelled t → RowStays t }
     ensures turn { (t : Trace) → IsSpelled t → TurnStays t }
@@ -108,9 +112,10 @@ pub fn waiting_places_stay_known()
     ensures wide { (t : Trace) → IsSpelled t → WideStays t }
 {}
 
-/// A waiting place whose reach collides with the footprint of a later one keeps that one out of the next round: so
-/// does each earlier member of its chain, and a barrier and the other places of its ring. Of the first pending
-/// places, as many as the window has, those run in the next round that no place keeps out so.
+/// A waiting place whose reach collides with the footprint of a later one keeps that one out of the
+/// next round: so does each earlier member of its chain, and a barrier and the other places of its
+/// ring. Of the first pending places, as many as the window has, those run in the next round that
+/// no place keeps out so.
 pub fn witnesses_hold_back()
     ensures hold { (t : Trace) → WitnessHolds t }
     ensures order { (t : Trace) → OrderHolds t }
@@ -127,10 +132,10 @@ pub fn holders_hold_back()
     ensures none { (t : Trace) → NoneIsHeldBack t }
 {}
 
-/// With the same look, the rows of a place in two worlds meet the same reaches, apart from what the place makes. So
-/// a waiting place whose reach writes an item that decides or another one of the row of a later place keeps that one
-/// out of the next round, unless it is canceled; and while the later one looks up the same, a reach that writes an
-/// item of its row as it was writes its row.
+/// With the same look, the rows of a place in two worlds meet the same reaches, apart from what the
+/// place makes. So a waiting place whose reach writes an item that decides or another one of the
+/// row of a later place keeps that one out of the next round, unless it is canceled; and while the
+/// later one looks up the same, a reach that writes an item of its row as it was writes its row.
 pub fn rows_meet_the_same()
     ensures items { (t : Trace) → RowItems t }
     ensures deciding { (t : Trace) → DecidingInRow t }

@@ -1,12 +1,12 @@
 use Rattle.std.proofs.Common.{◌≡◌}
 use Rattle.replay_core.specs.Rounds.{Stands}
 use Rattle.replay_core.specs.Waits.{AreNoted}
-use Rattle.replay_core.proofs.round_log.logged.Given as goal
+use Rattle.replay_core.proofs.round_log.run_noting.Given as goal
 
 abbrev pub invariant-loop-round : goal.invariant-loop-round
 invariant-loop-round g l = record {
   stands : Stands l.trace l.progress;
-  window : l.progress.window ≡ l.window;
+  window : l.progress.window ≡ l.fn.progress.window;
   round : l.progress.round ≡ l._round;
   noted : AreNoted l.trace l.progress.window l.progress.round l.waits.items;
 }
