@@ -52,9 +52,16 @@ fn compare_with(workers: u32, window: u32) -> Options {
     }
 }
 
+fn rounds_with(window: u32, dot: bool) -> Options {
+    Options {
+        mode: Mode::Rounds { window, dot },
+        sums: false,
+    }
+}
+
 #[test]
 fn reads_words(rt: HostRuntime) {
-    let cases: [(&[&str], Task); 8] = [
+    let cases: [(&[&str], Task); 10] = [
         (["serial"].as_slice(), Task::Replay(SERIAL)),
         (["serial", "--sums"].as_slice(), Task::Replay(SUMS)),
         (["run"].as_slice(), Task::Replay(run_with(4, 64, false))),
@@ -67,6 +74,11 @@ fn reads_words(rt: HostRuntime) {
             ["compare", "--window=1", "--workers", "64"].as_slice(),
             Task::Replay(compare_with(64, 1)),
         ),
+        (["rounds"].as_slice(), Task::Replay(rounds_with(64, false))),
+        (
+            ["rounds", "--dot", "--window", "2"].as_slice(),
+            Task::Replay(rounds_with(2, true)),
+        ),
         (["check"].as_slice(), Task::Replay(CHECK)),
         (["diff"].as_slice(), Task::Diff),
     ];
@@ -78,7 +90,7 @@ fn reads_words(rt: HostRuntime) {
 
 #[test]
 fn refuses_words(rt: HostRuntime) {
-    let cases: [(&[&str], UsageKind); 13] = [
+    let cases: [(&[&str], UsageKind); 14] = [
         (["serial", "--help"].as_slice(), UsageKind::Help),
         (["run", "--workers", "0"].as_slice(), UsageKind::Wrong),
         (["run", "--workers", "65"].as_slice(), UsageKind::Wrong),
@@ -89,6 +101,7 @@ fn refuses_words(rt: HostRuntime) {
         (["parallel"].as_slice(), UsageKind::Wrong),
         (["serial", "--sums", "trace"].as_slice(), UsageKind::Wrong),
         (["serial", "--workers", "2"].as_slice(), UsageKind::Wrong),
+        (["rounds", "--window", "0"].as_slice(), UsageKind::Wrong),
         (["check", "--sums"].as_slice(), UsageKind::Wrong),
         (["diff", "--sums"].as_slice(), UsageKind::Wrong),
         (["diff", "--help"].as_slice(), UsageKind::Help),
@@ -173,7 +186,8 @@ fn writes_reports(rt: HostRuntime) -> Result<(), Fail> {
     Ok(())
 }
 
-/// What a run on two workers, with a window of two places, writes for two places that don't collide.
+/// What a run on two workers, with a window of two places, writes for two places that don't
+/// collide.
 fn output_on_workers<R: Abort + AllocGlobal + Threads + Wait + Sync>(
     rt: &R,
     mode: Mode,
@@ -203,6 +217,31 @@ fn runs_on_workers(rt: HostRuntime) {
         window: 2,
     };
     output_on_workers(&rt, compare, "equal\n");
+}
+
+/// The second write doesn't wait for the first, which is the first place of a longest path of one.
+#[test]
+fn tells_rounds(rt: HostRuntime) {
+    let lines = Mode::Rounds {
+        window: 2,
+        dot: false,
+    };
+    let text = "uring-rounds 1\n\
+        0 round=0\n\
+        1 round=0\n\
+        rounds 1\n\
+        widest 2\n\
+        mean 2.00\n\
+        longest 1 to place 0\n\
+        end\n";
+    output_on_workers(&rt, lines, text);
+    let graph = Mode::Rounds {
+        window: 2,
+        dot: true,
+    };
+    let text =
+        "digraph rounds {\n  0 [label=\"0 in round 0\"];\n  1 [label=\"1 in round 0\"];\n}\n";
+    output_on_workers(&rt, graph, text);
 }
 
 #[test]

@@ -1,4 +1,4 @@
--- What the parser makes of the words of `run` and `compare`.
+-- What the parser makes of the words of `run`, `compare` and `rounds`.
 use Rattle.std.proofs.Common.{◌≡◌, ◌∙◌, ℕ, Bool, true, false, List, [], ◌∷◌, Some, codes, refl, ap}
 use Rattle.std.specs.Prelude.{◌&&◌, ⊤, find, pos, unwrap_or}
 use Rattle.std.specs.List.{list_all}
@@ -9,7 +9,7 @@ use Rattle.clap.specs.Takes.{default_passes, is_valid, settle_passes, walk_passe
 use Rattle.clap.specs.Words.{one_of}
 use Rattle.clap.specs.declared.builder.value_parser.ValueParser.TheVariants as vp
 use Rattle.clap.proofs.OnLiterals.{clap_on_literals}
-use Rattle.replay_program.specs.Words.{check_command, flag_text, replayer, sums_words, workers_option, window_option}
+use Rattle.replay_program.specs.Words.{check_command, dot_words, flag_text, replayer, sums_words, workers_option, window_option}
 use Rattle.replay_program.proofs.NumberWords.{IsValue}
 use Rattle.replay_program.proofs.OptionWalk.{IsOption, at, given, value_folded, value_passed}
 
@@ -35,6 +35,9 @@ workers_of_compare = record { long = refl; dashes = refl; by_long = refl; by_id 
 window_of_compare : IsOption (leaf (codes "compare")).rules window_rule (codes "--window") (codes "window")
 window_of_compare = record { long = refl; dashes = refl; by_long = refl; by_id = refl; one = refl; same = refl }
 
+window_of_rounds : IsOption (leaf (codes "rounds")).rules window_rule (codes "--window") (codes "window")
+window_of_rounds = record { long = refl; dashes = refl; by_long = refl; by_id = refl; one = refl; same = refl }
+
 -- the words behind a subcommand are taken, and leave these texts and rows of which P holds
 pub record Leaves (s : Shape) (workers window : Text) (P : List Row → Type 0) (words : List Text) : Type 0 where
   pub end : Held
@@ -47,6 +50,15 @@ pub record Leaves (s : Shape) (workers window : Text) (P : List Row → Type 0) 
 
 abbrev pub HasSums : Bool → List Row → Type 0
 HasSums sums rows = one_of (codes "sums") rows ≡ Some (flag_text sums)
+
+-- the same where workers are not asked for
+pub record LeavesWindow (s : Shape) (window : Text) (dot : Bool) (words : List Text) : Type 0 where
+  pub end : Held
+  pub walked : walk s.rules [] nothing_held words ≡ at end
+  pub passes : walk_passes s [] (walk_from nothing_held) words ≡ true
+  pub rest : (settle_passes s.rules s.args_override_self end && (list_all default_passes s.rules && is_valid s (finished s.rules end) false)) ≡ true
+  pub window_text : one_of (codes "window") (finished s.rules end) ≡ Some window
+  pub dot_text : one_of (codes "dot") (finished s.rules end) ≡ Some (flag_text dot)
 
 -- the text of a number that its option takes
 pub record IsTaken (most : ℕ) (t : Text) : Type 0 where
@@ -218,3 +230,33 @@ compare_none =
       window_text = refl;
       others = tt;
     }
+
+pub rounds_window : (u : Text) (dot : Bool) → IsTaken 4096 u → LeavesWindow (leaf (codes "rounds")) u dot (codes "--window" ∷ u ∷ dot_words dot)
+unfolding clap_on_literals
+rounds_window u false b =
+    let s = leaf (codes "rounds") in
+    let h1 = given s.rules (codes "window") u nothing_held in record {
+      end = h1;
+      walked = value_folded s window_rule (codes "--window") (codes "window") u [] nothing_held window_of_rounds b.value;
+      passes = value_passed s window_rule (codes "--window") (codes "window") u [] nothing_held window_of_rounds b.value ∙ refl;
+      rest = rw b.accepted refl;
+      window_text = rw b.value.plain refl;
+      dot_text = refl;
+    }
+rounds_window u true b =
+    let s = leaf (codes "rounds") in
+    let more = codes "--dot" ∷ [] in record {
+      end = _;
+      walked = value_folded s window_rule (codes "--window") (codes "window") u more nothing_held window_of_rounds b.value;
+      passes = value_passed s window_rule (codes "--window") (codes "window") u more nothing_held window_of_rounds b.value ∙ rw b.accepted refl;
+      rest = refl;
+      window_text = rw b.value.plain refl;
+      dot_text = refl;
+    }
+
+pub rounds_none : (dot : Bool) → LeavesWindow (leaf (codes "rounds")) (codes "64") dot (dot_words dot)
+unfolding clap_on_literals
+rounds_none false =
+    record { end = nothing_held; walked = refl; passes = refl; rest = refl; window_text = refl; dot_text = refl }
+rounds_none true =
+    record { end = _; walked = refl; passes = refl; rest = refl; window_text = refl; dot_text = refl }

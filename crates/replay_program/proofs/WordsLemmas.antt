@@ -1,6 +1,6 @@
 -- What the parser of the command line does with the words that are known.
 use Rattle.std.proofs.Common.{◌≡◌, ◌⊎◌, ◌≤◌, ◌<◌, ◌^◌, ℕ, Bool, true, false, List, [], ◌∷◌, ◌++◌, Option, None, Some, Ok, Err, codes, refl, sym, ap, ap₂, ◌∙◌, subst, inl, inr, suc, map, Contains, arith}
-use Rattle.std.specs.Prelude.{⊤, Result}
+use Rattle.std.specs.Prelude.{⊤, Result, slice_index}
 use Rattle.std.specs.Option.{option_map}
 use Rattle.std.specs.Result.{MatchResult}
 use Rattle.std.specs.Fmt.{decimal}
@@ -21,16 +21,16 @@ use Rattle.clap.specs.declared.parser.matches.ArgMatches.{ArgMatches}
 use Rattle.clap.specs.declared.parser.matches.ArgMatches.TheViews.{out-ArgMatches}
 use Rattle.clap.proofs.OnLiterals.{clap_on_literals}
 use Rattle.replay_program.specs.declared.words.Mode.{Mode}
-use Rattle.replay_program.specs.declared.words.Mode.TheVariants.{Serial, Run, Compare, Check}
+use Rattle.replay_program.specs.declared.words.Mode.TheVariants.{Serial, Run, Compare, Rounds, Check}
 use Rattle.replay_program.specs.declared.words.Options.{Options}
 use Rattle.replay_program.specs.declared.words.Task.{Task}
 use Rattle.replay_program.specs.declared.words.Task.TheVariants.{Replay, Diff}
 use Rattle.replay_program.specs.declared.words.UsageKind.{UsageKind}
 use Rattle.replay_program.specs.declared.words.UsageKind.TheVariants.{Memory}
-use Rattle.replay_program.specs.Words.{AreFound, AreRoundOptions, AskFor, AskForHelp, AskForMode, HasFlag, HasNumbers, IsFound, flag_text, kind_meant, replayer, sums_words, text_in}
+use Rattle.replay_program.specs.Words.{AreFound, AreRoundOptions, AskFor, AskForHelp, AskForMode, HasNumbers, IsFound, IsNumberOption, IsWindow, dot_words, flag_text, kind_meant, replayer, sums_words, text_in}
 use Rattle.replay_program.proofs.NumberWords.{accepted, number_is_value}
 use Rattle.replay_program.proofs.OptionWalk.{at, level_by_parts, stopped_at, stopped_passes, stopped_walk, takes_by_parts}
-use Rattle.replay_program.proofs.RoundWords.{HasSums, IsTaken, Leaves, compare_both, compare_none, compare_window, compare_workers, leaf, run_both, run_none, run_window, run_workers}
+use Rattle.replay_program.proofs.RoundWords.{HasSums, IsTaken, Leaves, LeavesWindow, compare_both, compare_none, compare_window, compare_workers, leaf, rounds_none, rounds_window, run_both, run_none, run_window, run_workers}
 
 taken : (n most : ℕ) → 1 ≤ n → n ≤ most → most < 2 ^ 63 → IsTaken most (decimal n)
 taken n most low high small = record { value = number_is_value (decimal n) (decimal_is_IsNumeral n (omega arith)).0; accepted = accepted n most low high small }
@@ -74,6 +74,13 @@ compare_leaves workers window chosen o =
       ]
     ]
 
+rounds_leaves : (window : ℕ) (dot : Bool) (chosen : List (List ℕ)) → IsNumberOption (codes "--window") 64 window chosen → IsWindow window
+    → LeavesWindow (leaf (codes "rounds")) (decimal window) dot (chosen ++ dot_words dot)
+rounds_leaves window dot chosen option served = elim option [
+  | inl u ↦ rw u (rounds_window (decimal window) dot (taken window 4096 served.0 served.1 (omega arith)))
+  | inr u ↦ rw (u.1, sixty_four window u.0) (rounds_none dot)
+]
+
 -- at the name of a subcommand the walk over the program's own words ends
 stops_at_run : (words : List (List ℕ)) → walk (built replayer).top.rules (names_of (built replayer)) nothing_held (codes "run" ∷ words) ≡ stopped_at (codes "run") words (walk_from nothing_held)
 unfolding clap_on_literals
@@ -82,6 +89,22 @@ stops_at_run words = stopped_walk (built replayer).top.rules (names_of (built re
 stops_at_compare : (words : List (List ℕ)) → walk (built replayer).top.rules (names_of (built replayer)) nothing_held (codes "compare" ∷ words) ≡ stopped_at (codes "compare") words (walk_from nothing_held)
 unfolding clap_on_literals
 stops_at_compare words = stopped_walk (built replayer).top.rules (names_of (built replayer)) (walk_from nothing_held) (codes "compare") [] words
+
+stops_at_rounds : (words : List (List ℕ)) → walk (built replayer).top.rules (names_of (built replayer)) nothing_held (codes "rounds" ∷ words) ≡ stopped_at (codes "rounds") words (walk_from nothing_held)
+unfolding clap_on_literals
+stops_at_rounds words = stopped_walk (built replayer).top.rules (names_of (built replayer)) (walk_from nothing_held) (codes "rounds") [] words
+
+module _ (window : List ℕ) (dot : Bool) (words : List (List ℕ)) (l : LeavesWindow (leaf (codes "rounds")) window dot words) where
+  rounds_found : subcommand_of replayer (codes "rounds" ∷ words) ≡ Some (codes "rounds", finished (leaf (codes "rounds")).rules l.end)
+  unfolding clap_on_literals
+  rounds_found = ap (λ (w : Walk). entered (built replayer) w.stopped) (stops_at_rounds words) ∙ ap (λ (w : Walk). Some (codes "rounds", finished (leaf (codes "rounds")).rules w.held)) l.walked
+
+  rounds_taken : takes replayer (codes "rounds" ∷ words) ≡ true
+  unfolding clap_on_literals
+  rounds_taken =
+      let level : level_passes (leaf (codes "rounds")) [] nothing_held words false ≡ true = level_by_parts (leaf (codes "rounds")) words (at l.end) l.walked l.passes l.rest in
+      takes_by_parts (built replayer) (codes "rounds" ∷ words) (stopped_at (codes "rounds") words (walk_from nothing_held)) (stops_at_rounds words)
+      (stopped_passes (built replayer).top (names_of (built replayer)) (walk_from nothing_held) (codes "rounds") [] words) (rw level refl)
 
 module _ (workers window : List ℕ) (P : List Row → Type 0) (words : List (List ℕ)) where
   run_found : (l : Leaves (leaf (codes "run")) workers window P words) → subcommand_of replayer (codes "run" ∷ words) ≡ Some (codes "run", finished (leaf (codes "run")).rules l.end)
@@ -117,6 +140,9 @@ options_found (Run workers window) sums words e =
 options_found (Compare workers window) sums words e =
     let l = compare_leaves workers window e.0 e.1 in
     rw (e.3, compare_found (decimal workers) (decimal window) (λ rows. ⊤) e.0 l) (refl, e.2, (l.workers_text, l.window_text, e.1.served))
+options_found (Rounds window dot) sums words e =
+    let l = rounds_leaves window dot e.0 e.1 e.2 in
+    rw (e.4, rounds_found (decimal window) dot (e.0 ++ dot_words dot) l) (refl, e.3, l.dot_text, (l.window_text, e.2))
 options_found Check sums words e = rw e.1 (refl, e.0)
 
 words_taken : (m : Mode) (sums : Bool) (words : List (List ℕ)) → AskForMode m sums words → takes replayer words ≡ true
@@ -125,6 +151,7 @@ words_taken Serial false words e = rw e refl
 words_taken Serial true words e = rw e refl
 words_taken (Run workers window) sums words e = rw e.2 (run_taken (decimal workers) (decimal window) (HasSums sums) (e.0 ++ sums_words sums) (run_leaves workers window sums e.0 e.1))
 words_taken (Compare workers window) sums words e = rw e.3 (compare_taken (decimal workers) (decimal window) (λ rows. ⊤) e.0 (compare_leaves workers window e.0 e.1))
+words_taken (Rounds window dot) sums words e = rw e.4 (rounds_taken (decimal window) dot (e.0 ++ dot_words dot) (rounds_leaves window dot e.0 e.1 e.2))
 words_taken Check sums words e = rw e.1 refl
 
 help_found : (words : List (List ℕ)) → AskForHelp words → fault_of replayer words ≡ DisplayHelp ∷ []
@@ -189,17 +216,19 @@ abbrev pub name_of : Mode → List ℕ
 name_of Serial = codes "serial"
 name_of (Run workers window) = codes "run"
 name_of (Compare workers window) = codes "compare"
+name_of (Rounds window dot) = codes "rounds"
 name_of Check = codes "check"
 
 pub found_name : (m : ArgMatches) (mode : Mode) (sums : Bool) → AreFound mode sums (subcommand_rows_of m) → subcommand_name_of m ≡ Some (name_of mode)
 found_name m Serial sums h = sym (named m) ∙ h.0
 found_name m (Run workers window) sums h = sym (named m) ∙ h.0
 found_name m (Compare workers window) sums h = sym (named m) ∙ h.0
+found_name m (Rounds window dot) sums h = sym (named m) ∙ h.0
 found_name m Check sums h = sym (named m) ∙ h.0
 
 -- what the getters answer where an option has this text
-abbrev pub ReadsFlag : ArgMatches → Bool → Type 0
-ReadsFlag chosen flag = (one_text (found_of chosen) (codes "sums") ≡ Some (codes "true") → flag ≡ true) × (one_text (found_of chosen) (codes "sums") ≡ Some (codes "false") → flag ≡ false)
+abbrev pub ReadsFlag : ArgMatches → List ℕ → Bool → Type 0
+ReadsFlag chosen id flag = (one_text (found_of chosen) id ≡ Some (codes "true") → flag ≡ true) × (one_text (found_of chosen) id ≡ Some (codes "false") → flag ≡ false)
 
 abbrev pub ReadsNumber : ArgMatches → List ℕ → ℕ → ℕ → Type 0
 ReadsNumber chosen id most given = (n : ℕ) → one_text (found_of chosen) id ≡ Some (decimal n) → 1 ≤ n → n ≤ most → given ≡ n
@@ -207,9 +236,13 @@ ReadsNumber chosen id most given = (n : ℕ) → one_text (found_of chosen) id �
 options_same : {a b : Mode} {x y : Bool} → a ≡ b → x ≡ y → ◌≡◌ {A = Options} (record { mode = a; sums = x }) (record { mode = b; sums = y })
 options_same e f = ap₂ (λ m s. record { mode = m; sums = s }) e f
 
+-- two names of one length
+other_names : codes "serial" ≡ codes "rounds" → ⊥
+other_names e = let first : 115 ≡ 114 = ap (λ (xs : List ℕ). slice_index xs 0) e in omega (arith, first)
+
 module _ (m chosen : ArgMatches) (rows : IsChosen m chosen) where
-  flag_is : (flag sums : Bool) → ReadsFlag chosen flag → HasFlag sums (subcommand_rows_of m) → flag ≡ sums
-  flag_is flag sums read found = read_as_flag flag sums (one_text (found_of chosen) (codes "sums")) (text_is m chosen (codes "sums") (flag_text sums) rows found) read.0 read.1
+  flag_is : (id : List ℕ) (flag sums : Bool) → ReadsFlag chosen id flag → text_in id (subcommand_rows_of m) ≡ Some (flag_text sums) → flag ≡ sums
+  flag_is id flag sums read found = read_as_flag flag sums (one_text (found_of chosen) id) (text_is m chosen id (flag_text sums) rows found) read.0 read.1
 
   numbers_are : (workers window w v : ℕ) → ReadsNumber chosen (codes "workers") 64 workers → ReadsNumber chosen (codes "window") 4096 window → HasNumbers w v (subcommand_rows_of m)
       → (workers ≡ w) × (window ≡ v)
@@ -219,22 +252,24 @@ module _ (m chosen : ArgMatches) (rows : IsChosen m chosen) where
   )
 
   -- the options where the subcommand is `serial`
-  pub serial_chosen : (flag : Bool) (mode : Mode) (sums : Bool) → subcommand_name_of m ≡ Some (codes "serial") → ReadsFlag chosen flag
+  pub serial_chosen : (flag : Bool) (mode : Mode) (sums : Bool) → subcommand_name_of m ≡ Some (codes "serial") → ReadsFlag chosen (codes "sums") flag
       → AreFound mode sums (subcommand_rows_of m) → ◌≡◌ {A = Options} (record { mode = Serial; sums = flag }) (record { mode = mode; sums = sums })
-  serial_chosen flag Serial sums name read h = options_same refl (flag_is flag sums read h.1)
+  serial_chosen flag Serial sums name read h = options_same refl (flag_is (codes "sums") flag sums read h.1)
   serial_chosen flag (Run w v) sums name read h = let same : codes "serial" ≡ codes "run" = same_Some _ _ (sym name ∙ found_name m (Run w v) sums h) in absurd (cc same)
   serial_chosen flag (Compare w v) sums name read h = let same : codes "serial" ≡ codes "compare" = same_Some _ _ (sym name ∙ found_name m (Compare w v) sums h) in absurd (cc same)
+  serial_chosen flag (Rounds v dot) sums name read h = absurd (other_names (same_Some _ _ (sym name ∙ found_name m (Rounds v dot) sums h)))
   serial_chosen flag Check sums name read h = let same : codes "serial" ≡ codes "check" = same_Some _ _ (sym name ∙ found_name m Check sums h) in absurd (cc same)
 
   -- where it is `run`
   pub run_chosen : (workers window : ℕ) (flag : Bool) (mode : Mode) (sums : Bool) → subcommand_name_of m ≡ Some (codes "run")
-      → ReadsNumber chosen (codes "workers") 64 workers → ReadsNumber chosen (codes "window") 4096 window → ReadsFlag chosen flag
+      → ReadsNumber chosen (codes "workers") 64 workers → ReadsNumber chosen (codes "window") 4096 window → ReadsFlag chosen (codes "sums") flag
       → AreFound mode sums (subcommand_rows_of m) → ◌≡◌ {A = Options} (record { mode = Run workers window; sums = flag }) (record { mode = mode; sums = sums })
   run_chosen workers window flag (Run w v) sums name a b read h =
       let e = numbers_are workers window w v a b h.2 in
-      options_same (ap₂ Run e.0 e.1) (flag_is flag sums read h.1)
+      options_same (ap₂ Run e.0 e.1) (flag_is (codes "sums") flag sums read h.1)
   run_chosen workers window flag Serial sums name a b read h = let same : codes "run" ≡ codes "serial" = same_Some _ _ (sym name ∙ found_name m Serial sums h) in absurd (cc same)
   run_chosen workers window flag (Compare w v) sums name a b read h = let same : codes "run" ≡ codes "compare" = same_Some _ _ (sym name ∙ found_name m (Compare w v) sums h) in absurd (cc same)
+  run_chosen workers window flag (Rounds v dot) sums name a b read h = let same : codes "run" ≡ codes "rounds" = same_Some _ _ (sym name ∙ found_name m (Rounds v dot) sums h) in absurd (cc same)
   run_chosen workers window flag Check sums name a b read h = let same : codes "run" ≡ codes "check" = same_Some _ _ (sym name ∙ found_name m Check sums h) in absurd (cc same)
 
   -- where it is `compare`
@@ -246,7 +281,20 @@ module _ (m chosen : ArgMatches) (rows : IsChosen m chosen) where
       options_same (ap₂ Compare e.0 e.1) (sym h.1)
   compare_chosen workers window Serial sums name a b h = let same : codes "compare" ≡ codes "serial" = same_Some _ _ (sym name ∙ found_name m Serial sums h) in absurd (cc same)
   compare_chosen workers window (Run w v) sums name a b h = let same : codes "compare" ≡ codes "run" = same_Some _ _ (sym name ∙ found_name m (Run w v) sums h) in absurd (cc same)
+  compare_chosen workers window (Rounds v dot) sums name a b h = let same : codes "compare" ≡ codes "rounds" = same_Some _ _ (sym name ∙ found_name m (Rounds v dot) sums h) in absurd (cc same)
   compare_chosen workers window Check sums name a b h = let same : codes "compare" ≡ codes "check" = same_Some _ _ (sym name ∙ found_name m Check sums h) in absurd (cc same)
+
+  -- where it is `rounds`
+  pub rounds_chosen : (window : ℕ) (flag : Bool) (mode : Mode) (sums : Bool) → subcommand_name_of m ≡ Some (codes "rounds")
+      → ReadsNumber chosen (codes "window") 4096 window → ReadsFlag chosen (codes "dot") flag
+      → AreFound mode sums (subcommand_rows_of m) → ◌≡◌ {A = Options} (record { mode = Rounds window flag; sums = false }) (record { mode = mode; sums = sums })
+  rounds_chosen window flag (Rounds v dot) sums name b read h =
+      let same = b v (text_is m chosen (codes "window") (decimal v) rows h.3.0) h.3.1.0 h.3.1.1 in
+      options_same (ap₂ Rounds same (flag_is (codes "dot") flag dot read h.2)) (sym h.1)
+  rounds_chosen window flag Serial sums name b read h = absurd (other_names (sym (same_Some _ _ (sym name ∙ found_name m Serial sums h))))
+  rounds_chosen window flag (Run w v) sums name b read h = let same : codes "rounds" ≡ codes "run" = same_Some _ _ (sym name ∙ found_name m (Run w v) sums h) in absurd (cc same)
+  rounds_chosen window flag (Compare w v) sums name b read h = let same : codes "rounds" ≡ codes "compare" = same_Some _ _ (sym name ∙ found_name m (Compare w v) sums h) in absurd (cc same)
+  rounds_chosen window flag Check sums name b read h = let same : codes "rounds" ≡ codes "check" = same_Some _ _ (sym name ∙ found_name m Check sums h) in absurd (cc same)
 
 -- a number in decimal is read as that number
 pub read_number : {E : Type 0} (G : List ℕ → Result ℕ E → Type 0) (n : ℕ) (r : Option ℕ) → ReadsOne G (decimal n) r → ((u : List ℕ) (x : Result ℕ E) → G u x → ParsesUnsigned 32 10 u x) → n < 2 ^ 32 → r ≡ Some n

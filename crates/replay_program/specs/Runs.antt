@@ -1,5 +1,5 @@
 -- The model: what a run of the program does to its reader and its writer.
-use Rattle.std.specs.Prelude.{◌≡◌, ◌⊎◌, ◌≤◌, ◌+◌, ◌++◌, ⊤, codes, Bool, List, Option, ℕ, Result, Ok, Err, length}
+use Rattle.std.specs.Prelude.{◌≡◌, ◌⊎◌, ◌≤◌, ◌+◌, ◌++◌, ⊤, codes, Bool, true, false, List, Option, ℕ, Result, Ok, Err, length}
 use Rattle.std.specs.Fmt.{decimal}
 use Rattle.std.specs.Io.KnownBytes.{Appends, Consumes, IsAtEnd}
 use Rattle.trace_format.specs.Grammar.{fault}
@@ -8,6 +8,7 @@ use Rattle.trace_format.specs.declared.trace.Trace as trace
 use Rattle.trace_format.specs.declared.fault.TraceFault.{TraceFault}
 use Rattle.trace_format.specs.declared.fault.Kind.TheVariants.{Memory}
 use Rattle.op_meaning.specs.Step.{sequential_world, sequential_replies}
+use Rattle.replay_core.specs.declared.serial.ReplayFault.{ReplayFault}
 use Rattle.replay_core.specs.declared.serial.ReplayFault.TheVariants as replay_fault
 use Rattle.replay_core.specs.declared.difference.Verdict.{Verdict}
 use Rattle.replay_core.specs.declared.difference.Verdict.TheVariants as verdict
@@ -15,8 +16,9 @@ use Rattle.replay_program.specs.declared.fault.RunFault.{RunFault}
 use Rattle.replay_program.specs.declared.fault.RunFault.TheVariants.{Trace, Replay, Reports, Read, Write, Different}
 use Rattle.replay_program.specs.declared.words.Options.{Options}
 use Rattle.replay_program.specs.declared.words.Mode.{Mode}
-use Rattle.replay_program.specs.declared.words.Mode.TheVariants.{Serial, Run, Compare, Check}
+use Rattle.replay_program.specs.declared.words.Mode.TheVariants.{Serial, Run, Compare, Rounds, Check}
 use Rattle.replay_report.specs.Report.{check_line, line, report_of}
+use Rattle.round_report.specs.Rounds.{graph_text, log_of, rounds_text}
 use Rattle.replay_program.specs.Transfer.{AppendsPart}
 
 -- The report of the sequential run of a trace.
@@ -29,11 +31,17 @@ verdict_line verdict.Equal = line (codes "equal")
 verdict_line (verdict.Reply place) = line (codes "different reply " ++ decimal place)
 verdict_line verdict.World = line (codes "different world")
 
+-- What the rounds of a trace give: lines, or a graph.
+abbrev pub rounds_output : Bool → trace.Trace → ℕ → List ℕ
+rounds_output false t window = rounds_text t (log_of t window)
+rounds_output true t window = graph_text t (log_of t window)
+
 -- The output for a trace, by the mode.
 abbrev pub mode_output : Mode → Bool → trace.Trace → List ℕ
 mode_output Serial sums t = sequential_report t sums
 mode_output (Run workers window) sums t = sequential_report t sums
 mode_output (Compare workers window) sums t = verdict_line verdict.Equal
+mode_output (Rounds window dot) sums t = rounds_output dot t window
 mode_output Check sums t = check_line t
 
 abbrev pub output_of : Options → trace.Trace → List ℕ
@@ -69,10 +77,17 @@ pub record WritesPart (options : Options) (left left' written written' : Option 
 abbrev pub most_taken : ℕ
 most_taken = longest + 1
 
+-- A replay, and a run with one, that was refused memory or a thread.
+abbrev pub WantsMemoryOrThread : ReplayFault → Type 0
+WantsMemoryOrThread f = (f ≡ replay_fault.Memory) ⊎ (f ≡ replay_fault.NoThread)
+
+abbrev pub ReplayWantsMemoryOrThread : RunFault → Type 0
+ReplayWantsMemoryOrThread f = (f ≡ Replay replay_fault.Memory) ⊎ (f ≡ Replay replay_fault.NoThread)
+
 -- What a fault tells of the reader: a trace is refused by the fault that the text has; memory that ran out before the trace was there is at 0.
 abbrev pub TellsOfReading : (left left' : Option (List ℕ)) → RunFault → Type 0
 TellsOfReading left left' (Trace f) = (f ≡ fault Memory 0) ⊎ ReadsNoTrace left left' f
-TellsOfReading left left' (Replay f) = ((f ≡ replay_fault.Memory) ⊎ (f ≡ replay_fault.NoThread)) × ((t : trace.Trace) × ReadsTrace left left' t)
+TellsOfReading left left' (Replay f) = WantsMemoryOrThread f × ((t : trace.Trace) × ReadsTrace left left' t)
 TellsOfReading left left' (Reports f) = ⊥
 TellsOfReading left left' Read = ⊤
 TellsOfReading left left' Different = ⊥
@@ -108,6 +123,7 @@ abbrev pub IsAlone : Mode → Type 0
 IsAlone Serial = ⊤
 IsAlone (Run workers window) = ⊥
 IsAlone (Compare workers window) = ⊥
+IsAlone (Rounds window dot) = ⊥
 IsAlone Check = ⊤
 
 -- The modes that write no verdict.
@@ -115,4 +131,5 @@ abbrev pub IsNoComparison : Mode → Type 0
 IsNoComparison Serial = ⊤
 IsNoComparison (Run workers window) = ⊤
 IsNoComparison (Compare workers window) = ⊥
+IsNoComparison (Rounds window dot) = ⊤
 IsNoComparison Check = ⊤

@@ -12,7 +12,7 @@ use Rattle.clap.specs.declared.builder.value_parser.ValueParser.TheVariants.{Sig
 use Rattle.clap.specs.declared.error.kind.ErrorKind.{ErrorKind}
 use Rattle.clap.specs.declared.error.kind.ErrorKind.TheVariants.{DisplayHelp, OutOfMemory}
 use Rattle.replay_program.specs.declared.words.Mode.{Mode}
-use Rattle.replay_program.specs.declared.words.Mode.TheVariants.{Serial, Run, Compare, Check}
+use Rattle.replay_program.specs.declared.words.Mode.TheVariants.{Serial, Run, Compare, Rounds, Check}
 use Rattle.replay_program.specs.declared.words.Task.{Task}
 use Rattle.replay_program.specs.declared.words.Task.TheVariants.{Replay, Diff}
 use Rattle.replay_program.specs.declared.words.Usage.{Usage}
@@ -21,6 +21,9 @@ use Rattle.replay_report.specs.Report.{escaped}
 use Rattle.replay_program.specs.declared.words.UsageKind.TheVariants.{Help, Wrong, Memory}
 
 -- The numbers of workers and of places are within their limits.
+abbrev pub IsWindow : ℕ → Type 0
+IsWindow window = (1 ≤ window) × (window ≤ 4096)
+
 abbrev pub AreServed : ℕ → ℕ → Type 0
 AreServed workers window = (1 ≤ workers) × (workers ≤ 64) × (1 ≤ window) × (window ≤ 4096)
 
@@ -29,6 +32,7 @@ abbrev pub IsServed : Mode → Type 0
 IsServed Serial = ⊤
 IsServed (Run workers window) = AreServed workers window
 IsServed (Compare workers window) = AreServed workers window
+IsServed (Rounds window dot) = IsWindow window
 IsServed Check = ⊤
 
 abbrev pub IsServedTask : Task → Type 0
@@ -52,11 +56,16 @@ abbrev pub sums_words : Bool → List (List ℕ)
 sums_words false = []
 sums_words true = codes "--sums" ∷ []
 
+abbrev pub dot_words : Bool → List (List ℕ)
+dot_words false = []
+dot_words true = codes "--dot" ∷ []
+
 -- The words that ask for a mode, with sums or without: its name, and then its options. Only runs have sums.
 abbrev pub AskForMode : Mode → Bool → List (List ℕ) → Type 0
 AskForMode Serial sums words = words ≡ codes "serial" ∷ sums_words sums
 AskForMode (Run workers window) sums words = (chosen : List (List ℕ)) × AreRoundOptions workers window chosen × (words ≡ codes "run" ∷ (chosen ++ sums_words sums))
 AskForMode (Compare workers window) sums words = (chosen : List (List ℕ)) × AreRoundOptions workers window chosen × (sums ≡ false) × (words ≡ codes "compare" ∷ chosen)
+AskForMode (Rounds window dot) sums words = (chosen : List (List ℕ)) × IsNumberOption (codes "--window") 64 window chosen × IsWindow window × (sums ≡ false) × (words ≡ codes "rounds" ∷ (chosen ++ dot_words dot))
 AskForMode Check sums words = (sums ≡ false) × (words ≡ codes "check" ∷ [])
 
 abbrev pub AskFor : Task → List (List ℕ) → Type 0
@@ -100,6 +109,12 @@ text_in id found = option_and_then (λ p. one_of id p.1) found
 abbrev pub HasFlag : Bool → Option (List ℕ × List Row) → Type 0
 HasFlag sums found = text_in (codes "sums") found ≡ Some (flag_text sums)
 
+abbrev pub HasDot : Bool → Option (List ℕ × List Row) → Type 0
+HasDot dot found = text_in (codes "dot") found ≡ Some (flag_text dot)
+
+abbrev pub HasWindow : ℕ → Option (List ℕ × List Row) → Type 0
+HasWindow window found = (text_in (codes "window") found ≡ Some (decimal window)) × IsWindow window
+
 abbrev pub HasNumbers : ℕ → ℕ → Option (List ℕ × List Row) → Type 0
 HasNumbers workers window found = (text_in (codes "workers") found ≡ Some (decimal workers)) × (text_in (codes "window") found ≡ Some (decimal window)) × AreServed workers window
 
@@ -111,6 +126,7 @@ abbrev pub AreFound : Mode → Bool → Option (List ℕ × List Row) → Type 0
 AreFound Serial sums found = IsNamed (codes "serial") found × HasFlag sums found
 AreFound (Run workers window) sums found = IsNamed (codes "run") found × HasFlag sums found × HasNumbers workers window found
 AreFound (Compare workers window) sums found = IsNamed (codes "compare") found × (sums ≡ false) × HasNumbers workers window found
+AreFound (Rounds window dot) sums found = IsNamed (codes "rounds") found × (sums ≡ false) × HasDot dot found × HasWindow window found
 AreFound Check sums found = IsNamed (codes "check") found × (sums ≡ false)
 
 abbrev pub IsFound : Task → Option (List ℕ × List Row) → Type 0
@@ -120,6 +136,9 @@ IsFound Diff found = IsNamed (codes "diff") found
 -- The command line, as its parser sees it: a subcommand has to be named. The number of an option lies within its limits.
 abbrev pub sums_flag : Rule
 sums_flag = record (new_rule (codes "sums")) { long = Some (codes "sums"); action = Some SetTrue }
+
+abbrev pub dot_flag : Rule
+dot_flag = record (new_rule (codes "dot")) { long = Some (codes "dot"); action = Some SetTrue }
 
 abbrev pub number_option : List ℕ → ℕ → List ℕ → Rule
 number_option name most default =
@@ -140,6 +159,9 @@ run_command = with_rule (with_rule (with_rule (new_app (codes "run")) workers_op
 abbrev pub compare_command : App
 compare_command = with_rule (with_rule (new_app (codes "compare")) workers_option) window_option
 
+abbrev pub rounds_command : App
+rounds_command = with_rule (with_rule (new_app (codes "rounds")) window_option) dot_flag
+
 abbrev pub check_command : App
 check_command = new_app (codes "check")
 
@@ -155,7 +177,7 @@ with_replays app = with_subcommand (with_subcommand (with_subcommand app serial_
 
 -- The whole command line.
 abbrev pub replayer : App
-replayer = with_subcommand (with_subcommand (with_replays replayer_alone) check_command.top) diff_command.top
+replayer = with_subcommand (with_subcommand (with_subcommand (with_replays replayer_alone) rounds_command.top) check_command.top) diff_command.top
 
 -- What the parser sees of an argument and of a subcommand; neither is one of all levels.
 abbrev pub IsRule : Rule → Arg → Type 0

@@ -30,7 +30,8 @@ pub fn run_diff<R: Source, W: Sink>(
     // The text is the one of the two reports that the reader's bytes are.
     ensures alike { OnOk result (WritesDifferences true (R.left reader.old) (R.left reader.new)
         (W.written writer.old) (W.written writer.new)) }
-    ensures different { result ≡ Err RunFault.Different → WritesDifferences false (R.left reader.old)
+    ensures different { result ≡ Err RunFault.Different
+        → WritesDifferences false (R.left reader.old)
         (R.left reader.new) (W.written writer.old) (W.written writer.new) }
     ensures part { result ≡ Err RunFault.Write → WritesDifferencesPart (R.left reader.old)
         (R.left reader.new) (W.written writer.old) (W.written writer.new) }
@@ -54,12 +55,14 @@ pub fn run_diff<R: Source, W: Sink>(
 /// How the two reports that the reader has left compare.
 fn taken_comparison<R: Source>(alloc: Global, reader: &mut R) -> Result<Comparison, RunFault>
     requires { R.failures reader.old < 2 ^ 64 - 1 }
-    ensures ok { IfOk result (λ comparison. ComparesReports (R.left reader.old) (R.left reader.new) comparison) }
+    ensures ok { IfOk result
+        (λ comparison. ComparesReports (R.left reader.old) (R.left reader.new) comparison) }
     ensures taken { ConsumesUpTo most_taken (R.left reader.old) (R.left reader.new) }
     ensures err { IfErr result (TellsOfReports (R.left reader.old) (R.left reader.new)) }
     ensures read { R.failures reader.new ≡ R.failures reader.old + read_failures result }
     ensures write { write_failures result ≡ 0 }
-    ensures neither { IfErr result (λ fault. (fault ≢ RunFault.Write) × (fault ≢ RunFault.Different)) }
+    ensures neither { IfErr result
+        (λ fault. (fault ≢ RunFault.Write) × (fault ≢ RunFault.Different)) }
 {
     let input = match read_text(alloc, reader) {
         Ok(input) => input,

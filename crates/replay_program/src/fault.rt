@@ -8,8 +8,8 @@ use std::fmt;
 use thiserror::Error;
 use trace_format::{Kind, TraceFault};
 
-/// Why a run gives no output, or not all of it. Its text is the line for standard error, without the
-/// line feed.
+/// Why a run gives no output, or not all of it. Its text is the line for standard error, without
+/// the line feed.
 #[derive(Clone, Copy, Debug, PartialEq, Eq, Error)]
 pub enum RunFault {
     /// The trace is refused, or memory ran out before it was read.

@@ -1,5 +1,5 @@
-//! What the program does: it reads words and a trace, runs the trace as the words ask, and writes what
-//! that gave, or what stood in the way.
+//! What the program does: it reads words and a trace, runs the trace as the words ask, and writes
+//! what that gave, or what stood in the way.
 #![tactic(auto)]
 
 mod differing;

@@ -2,21 +2,30 @@
 ghost use Rattle.std.specs.Prelude.{◌≡◌, ◌≢◌, ◌⊎◌, ◌≤◌, ◌+◌, ◌-◌, ◌^◌, ◌<◌, IfOk, IfErr, OnOk};
 ghost use Rattle.std.specs.Prelude.{OnErr, string_bytes};
 ghost use Rattle.std.specs.Io.KnownBytes.{Appends, Keeps};
-ghost use Rattle.trace_format.specs.Text.{IsSpelled};
-ghost use Rattle.replay_program.specs.Runs.{IsAlone, IsNoComparison, ReadsTrace, TellsOfReading};
+ghost use Rattle.op_meaning.specs.Step.{sequential_replies, sequential_world};
+ghost use Rattle.replay_core.specs.Serial.{IsSequential};
+ghost use Rattle.trace_format.specs.Grammar.{fault};
+ghost use Rattle.trace_format.specs.Text.{IsRefusal, IsSpelled, SpellsTrace};
+ghost use Rattle.trace_format.specs.declared.fault.Kind.TheVariants.{Memory};
+ghost use Rattle.world_parts.specs.Part.{whole};
+ghost use Rattle.replay_program.specs.Runs.{IsAlone, IsNoComparison, ReadsTrace};
+ghost use Rattle.replay_program.specs.Runs.{ReplayWantsMemoryOrThread, TellsOfReading};
+ghost use Rattle.replay_program.specs.Runs.{WantsMemoryOrThread};
 ghost use Rattle.replay_program.specs.Runs.{WritesOutput, WritesPart, most_taken, output_of};
-ghost use Rattle.replay_program.specs.Runs.{read_failures, sequential_report, verdict_line};
-ghost use Rattle.replay_program.specs.Runs.{write_failures};
+ghost use Rattle.replay_program.specs.Runs.{read_failures, rounds_output, sequential_report};
+ghost use Rattle.replay_program.specs.Runs.{verdict_line, write_failures};
 ghost use Rattle.replay_program.specs.Transfer.{AppendsPart, ConsumesUpTo};
-ghost use Rattle.replay_program.specs.Words.{IsServed};
+ghost use Rattle.replay_program.specs.Words.{IsServed, IsWindow};
 
 use crate::fault::RunFault;
 use crate::transfer::{Sink, Source, TextFault, read_text, write_text};
 use crate::words::{Mode, Options};
 use replay_core::comparing::verdict;
 use replay_core::parallel::replay;
-use replay_core::{NoGate, ReplayFault, Verdict, replay_serial};
+use replay_core::round_log::log_rounds;
+use replay_core::{NoGate, Replay, ReplayFault, Verdict, replay_serial};
 use replay_report::{check_text, report_text};
+use round_report::{graph_text, rounds_text};
 use std::alloc::{AllocError, Global};
 use std::sync::Wait;
 use std::thread::Threads;
@@ -98,7 +107,7 @@ fn output_in_rounds<T: Threads + Wait + Sync>(
     requires mode { IsServed options.now.mode }
     requires report { IsNoComparison options.now.mode }
     ensures ok { IfOk result (λ output. output.items ≡ output_of options.now trace.now) }
-    ensures err { IfErr result (λ fault. (fault ≡ RunFault.Replay ReplayFault.Memory) ⊎ (fault ≡ RunFault.Replay ReplayFault.NoThread)) }
+    ensures err { IfErr result ReplayWantsMemoryOrThread }
 {
     match options.mode {
         Mode::Run { workers, window } => {
@@ -106,7 +115,35 @@ fn output_in_rounds<T: Threads + Wait + Sync>(
                 RunFault::Replay,
             )
         }
+        Mode::Rounds { window, dot } => {
+            rounds_output(rt, alloc, trace, window, dot).map_err(RunFault::Replay)
+        }
         _ => output_alone(alloc, trace, options),
+    }
+}
+
+/// The rounds of a trace and what its places wait for, as lines or as a graph.
+fn rounds_output<T: Threads + Wait + Sync>(
+    rt: &T,
+    alloc: Global,
+    trace: &Trace,
+    window: u32,
+    dot: bool,
+) -> Result<Vec<u8>, ReplayFault>
+    requires trace { IsSpelled trace.now }
+    requires window { IsWindow window }
+    ensures ok { IfOk result (λ text. text.items ≡ rounds_output dot trace.now window) }
+    ensures err { IfErr result WantsMemoryOrThread }
+{
+    let log = log_rounds(rt, alloc, trace, window)?;
+    let text = if dot {
+        graph_text(alloc, trace, &log)
+    } else {
+        rounds_text(alloc, trace, &log)
+    };
+    match text {
+        Ok(text) => Ok(text),
+        Err(AllocError) => Err(ReplayFault::Memory),
     }
 }
 
@@ -123,19 +160,10 @@ fn parallel_report<T: Threads + Wait + Sync>(
     requires workers { (1 ≤ workers) × (workers ≤ 64) }
     requires window { (1 ≤ window) × (window ≤ 4096) }
     ensures ok { IfOk result (λ text. text.items ≡ sequential_report trace.now sums) }
-    ensures err { IfErr result (λ fault. (fault ≡ ReplayFault.Memory) ⊎ (fault ≡ ReplayFault.NoThread)) }
+    ensures err { IfErr result WantsMemoryOrThread }
 {
     let replay = replay(rt, alloc, trace, workers, window, &NoGate)?;
-    match report_text(
-        alloc,
-        trace,
-        replay.world.state(),
-        replay.replies.as_slice(),
-        sums,
-    ) {
-        Ok(text) => Ok(text),
-        Err(AllocError) => Err(ReplayFault::Memory),
-    }
+    report(alloc, trace, &replay, sums)
 }
 
 /// The verdict of a comparison of both runs.
@@ -150,7 +178,7 @@ fn comparison<T: Threads + Wait + Sync>(
     requires workers { (1 ≤ workers) × (workers ≤ 64) }
     requires window { (1 ≤ window) × (window ≤ 4096) }
     ensures ok { IfOk result (λ verdict. verdict ≡ Verdict.Equal) }
-    ensures err { IfErr result (λ fault. (fault ≡ RunFault.Replay ReplayFault.Memory) ⊎ (fault ≡ RunFault.Replay ReplayFault.NoThread)) }
+    ensures err { IfErr result ReplayWantsMemoryOrThread }
 {
     match compared(rt, alloc, trace, workers, window) {
         Ok(verdict) => Ok(verdict),
@@ -170,11 +198,30 @@ fn compared<T: Threads + Wait + Sync>(
     requires workers { (1 ≤ workers) × (workers ≤ 64) }
     requires window { (1 ≤ window) × (window ≤ 4096) }
     ensures ok { IfOk result (λ verdict. verdict ≡ Verdict.Equal) }
-    ensures err { IfErr result (λ fault. (fault ≡ ReplayFault.Memory) ⊎ (fault ≡ ReplayFault.NoThread)) }
+    ensures err { IfErr result WantsMemoryOrThread }
 {
     let serial = replay_serial(alloc, trace)?;
+    compared_with(rt, alloc, trace, workers, window, &serial)
+}
+
+/// How the run in rounds compares with another replay, that in recorded order.
+fn compared_with<T: Threads + Wait + Sync>(
+    rt: &T,
+    alloc: Global,
+    trace: &Trace,
+    workers: u32,
+    window: u32,
+    serial: &Replay,
+) -> Result<Verdict, ReplayFault>
+    requires trace { IsSpelled trace.now }
+    requires workers { (1 ≤ workers) × (workers ≤ 64) }
+    requires window { (1 ≤ window) × (window ≤ 4096) }
+    requires serial { IsSequential trace.now serial.now }
+    ensures ok { IfOk result (λ verdict. verdict ≡ Verdict.Equal) }
+    ensures err { IfErr result WantsMemoryOrThread }
+{
     let parallel = replay(rt, alloc, trace, workers, window, &NoGate)?;
-    Ok(verdict(&serial, &parallel))
+    Ok(verdict(serial, &parallel))
 }
 
 /// Writes what a comparison found.
@@ -187,7 +234,8 @@ pub fn told<W: Sink>(alloc: Global, writer: &mut W, verdict: Verdict) -> Result<
     ensures part { result ≡ Err RunFault.Write
         → AppendsPart (W.written writer.old) (W.written writer.new) (verdict_line verdict) }
     ensures nothing { IfErr result (λ fault. fault ≢ RunFault.Write → fault ≢ RunFault.Different
-        → (fault ≡ RunFault.Replay ReplayFault.Memory) × Keeps (W.written writer.old) (W.written writer.new)) }
+        → (fault ≡ RunFault.Replay ReplayFault.Memory)
+        × Keeps (W.written writer.old) (W.written writer.new)) }
     ensures write { W.failures writer.new ≡ W.failures writer.old + write_failures result }
 {
     let Ok(line) = told_line(alloc, verdict) else {
@@ -212,21 +260,39 @@ fn told_line(alloc: Global, verdict: Verdict) -> Result<String, AllocError>
 }
 
 /// The trace that the reader has left.
-fn taken_trace<R: Source>(alloc: Global, reader: &mut R) -> Result<Trace, RunFault>
+fn taken_trace<R: Source>(alloc: Global, reader: &mut R) -> Result<Box<Trace>, RunFault>
     requires { R.failures reader.old < 2 ^ 64 - 1 }
-    ensures ok { IfOk result (λ trace. ReadsTrace (R.left reader.old) (R.left reader.new) trace) }
+    ensures ok { IfOk result (λ trace. ReadsTrace (R.left reader.old) (R.left reader.new) trace.value) }
     ensures taken { ConsumesUpTo most_taken (R.left reader.old) (R.left reader.new) }
     ensures err { IfErr result (TellsOfReading (R.left reader.old) (R.left reader.new)) }
     ensures read { R.failures reader.new ≡ R.failures reader.old + read_failures result }
     ensures write { write_failures result ≡ 0 }
 {
     match read_text(alloc, reader) {
-        Ok(text) => read_trace(alloc, text.as_slice()).map_err(RunFault::Trace),
+        Ok(text) => trace_in(alloc, text).map_err(RunFault::Trace),
         Err(TextFault::Read) => Err(RunFault::Read),
-        Err(TextFault::Memory) => Err(RunFault::Trace(TraceFault {
-            kind: Kind::Memory,
-            at: 0,
-        })),
+        Err(TextFault::Memory) => Err(RunFault::Trace(no_memory())),
+    }
+}
+
+/// Memory ran out before the trace was there.
+fn no_memory() -> TraceFault
+    ensures { result ≡ fault Memory 0 }
+{
+    TraceFault {
+        kind: Kind::Memory,
+        at: 0,
+    }
+}
+
+/// The trace of a text, in a box: its owners let it go in one step.
+fn trace_in(alloc: Global, text: Vec<u8>) -> Result<Box<Trace>, TraceFault>
+    ensures trace { IfOk result (λ t. SpellsTrace text.items t.value) }
+    ensures fault { IfErr result (λ f. (f ≡ fault Memory 0) ⊎ IsRefusal text.items f) }
+{
+    match Box::new(alloc, read_trace(alloc, text)?) {
+        Ok(trace) => Ok(trace),
+        Err(_) => Err(no_memory()),
     }
 }
 
@@ -250,13 +316,19 @@ fn serial_report(alloc: Global, trace: &Trace, sums: bool) -> Result<Vec<u8>, Re
     ensures err { IfErr result (λ fault. fault ≡ ReplayFault.Memory) }
 {
     let replay = replay_serial(alloc, trace)?;
-    match report_text(
-        alloc,
-        trace,
-        replay.world.state(),
-        replay.replies.as_slice(),
-        sums,
-    ) {
+    report(alloc, trace, &replay, sums)
+}
+
+/// The report of what the run in recorded order gives.
+fn report(alloc: Global, trace: &Trace, replay: &Replay, sums: bool) -> Result<Vec<u8>, ReplayFault>
+    requires trace { IsSpelled trace.now }
+    requires world { replay.now.world ≡ whole (sequential_world trace.now) }
+    requires replies { replay.now.replies ≡ sequential_replies trace.now }
+    ensures ok { IfOk result (λ text. text.items ≡ sequential_report trace.now sums) }
+    ensures err { IfErr result (λ fault. fault ≡ ReplayFault.Memory) }
+{
+    let state = replay.world.state();
+    match report_text(alloc, trace, state, replay.replies.as_slice(), sums) {
         Ok(text) => Ok(text),
         Err(AllocError) => Err(ReplayFault::Memory),
     }

@@ -1,4 +1,5 @@
-//! Readers and writers whose contracts tell bytes and failures, and the two transfers of the program.
+//! Readers and writers whose contracts tell bytes and failures, and the two transfers of the
+//! program.
 ghost use Rattle.std.specs.Prelude.{◌≡◌, ℕ, ◌+◌, ◌-◌, ◌^◌, ◌<◌, ◌≤◌, if◌then◌else◌, is_ok, List};
 ghost use Rattle.std.specs.Prelude.{Option, vec_len, IfOk, OnOk, OnErr};
 ghost use Rattle.std.specs.Io.{ReadsAtMost, WritesAtMost};
@@ -36,7 +37,8 @@ pub trait Sink {
     // How many of its calls have failed. Writing no bytes is a failure.
     ghost failures: { Self → ℕ };
 
-    /// Takes bytes from the front and tells how many. As with write(2), these may be fewer than all.
+    /// Takes bytes from the front and tells how many. As with write(2), these may be fewer than
+    /// all.
     fn write_some(&mut self, bytes: &[u8]) -> Result<usize, Failed>
         requires { failures self.old < 2 ^ 64 - 1 }
         ensures bound { WritesAtMost result bytes.now }
@@ -121,10 +123,12 @@ fn empty_piece(alloc: Global) -> Result<Vec<u8>, AllocError>
     vec![in alloc; 0u8; PIECE]
 }
 
-/// All that the reader has left, or its first `MOST_BYTES` bytes. The first failure ends the reading.
+/// All that the reader has left, or its first `MOST_BYTES` bytes. The first failure ends the
+/// reading.
 pub fn read_text<S: Source>(alloc: Global, source: &mut S) -> Result<Vec<u8>, TextFault>
     requires { S.failures source.old < 2 ^ 64 - 1 }
-    ensures text { IfOk result (λ text. Consumes (S.left source.old) (S.left source.new) text.items) }
+    ensures text { IfOk result
+        (λ text. Consumes (S.left source.old) (S.left source.new) text.items) }
     ensures taken { ConsumesUpTo MOST_BYTES (S.left source.old) (S.left source.new) }
     ensures bound { IfOk result (λ text. vec_len text ≤ MOST_BYTES) }
     ensures end { IfOk result (λ text. vec_len text < MOST_BYTES → IsAtEnd (S.left source.new)) }

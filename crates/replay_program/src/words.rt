@@ -7,8 +7,9 @@ ghost use Rattle.clap.specs.Words.{subcommand_rows_of};
 ghost use Rattle.replay_program.specs.Words.{AreFound, AskFor, AskForHelp, FailsByRules, GivesHelp};
 ghost use Rattle.replay_program.specs.Words.{GivesTask, HasApp, IsFound, IsRule, IsServed};
 ghost use Rattle.replay_program.specs.Words.{IsServedTask, check_command, compare_command};
-ghost use Rattle.replay_program.specs.Words.{diff_command, kind_meant, not_text, replayer};
-ghost use Rattle.replay_program.specs.Words.{replayer_alone, run_command, serial_command};
+ghost use Rattle.replay_program.specs.Words.{diff_command, dot_flag, kind_meant, not_text};
+ghost use Rattle.replay_program.specs.Words.{replayer, replayer_alone, rounds_command, run_command};
+ghost use Rattle.replay_program.specs.Words.{serial_command};
 ghost use Rattle.replay_program.specs.Words.{sums_flag, window_option, with_replays};
 ghost use Rattle.replay_program.specs.Words.{workers_option};
 
@@ -26,6 +27,9 @@ pub enum Mode {
     Run { workers: u32, window: u32 },
     /// Both runs, and whether they gave the same, in one line.
     Compare { workers: u32, window: u32 },
+    /// In which round each place runs and for which one it waited, as lines or, with `dot`, as a
+    /// graph.
+    Rounds { window: u32, dot: bool },
     /// How many places and rings the trace has, in one line. Nothing is run.
     Check,
 }
@@ -79,9 +83,10 @@ const MOST_WORKERS: u32 = 64;
 /// The most pending places that a round looks at.
 const MOST_PLACES: u32 = 4096;
 
-/// Reads the words after the program's name: `serial` and `run`, with `--sums` or without, `compare`,
-/// `check` or `diff`; `run` and `compare` with the numbers of workers and of places or without. Any
-/// other words are wrong, unless they ask for help.
+/// Reads the words after the program's name: `serial` and `run`, with `--sums` or without,
+/// `compare`, `rounds`, with `--dot` or without, `check` or `diff`; `run` and `compare` with the
+/// numbers of workers and of places or without, `rounds` with that of places. Any other words are
+/// wrong, unless they ask for help.
 pub fn read_words<'a>(alloc: Global, words: &'a [&'a str]) -> Result<Task, Usage>
     ensures task { (task : Task) → AskFor task (map (λ word. word.now) words.now)
         → GivesTask result task }
@@ -99,7 +104,8 @@ pub fn read_words<'a>(alloc: Global, words: &'a [&'a str]) -> Result<Task, Usage
 
 fn parsed<'a>(alloc: Global, words: &'a [&'a str]) -> Result<Task, Error>
     ensures task { (task : Task) → AskFor task (map (λ word. word.now) words.now)
-        → MatchResult result (λ given. given ≡ task) (λ error. kind_of error ≡ ErrorKind.OutOfMemory) }
+        → MatchResult result (λ given. given ≡ task)
+        (λ error. kind_of error ≡ ErrorKind.OutOfMemory) }
     ensures help { AskForHelp (map (λ word. word.now) words.now) → IsErrAnd result (λ error.
         (kind_of error ≡ ErrorKind.DisplayHelp) ⊎ (kind_of error ≡ ErrorKind.OutOfMemory)) }
     ensures served { IfOk result IsServedTask }
@@ -125,7 +131,8 @@ fn task_in(matches: &ArgMatches<'_>) -> Task
 
 /// The options of the subcommand that was named, where it is one with a trace.
 fn options_in(matches: &ArgMatches<'_>) -> Options
-    ensures options { (options : Options) → AreFound options.mode options.sums (subcommand_rows_of matches.now)
+    ensures options { (options : Options)
+        → AreFound options.mode options.sums (subcommand_rows_of matches.now)
         → result ≡ options }
     ensures served { IsServed result.mode }
 {
@@ -148,6 +155,13 @@ fn options_in(matches: &ArgMatches<'_>) -> Options
             },
             sums: false,
         },
+        Some(("rounds", chosen)) => Options {
+            mode: Mode::Rounds {
+                window: number_in(chosen, "window", MOST_PLACES),
+                dot: chosen.get_flag("dot"),
+            },
+            sums: false,
+        },
         _ => Options {
             mode: Mode::Check,
             sums: false,
@@ -159,11 +173,12 @@ fn options_in(matches: &ArgMatches<'_>) -> Options
 fn number_in(matches: &ArgMatches<'_>, id: &str, most: u32) -> u32
     requires { 1 ≤ most }
     ensures limits { (1 ≤ result) × (result ≤ most) }
-    ensures number { (n : ℕ) → one_text (found_of matches.now) id.now ≡ Some (decimal n) → 1 ≤ n → n ≤ most → result ≡ n }
+    ensures number { (n : ℕ) → one_text (found_of matches.now) id.now ≡ Some (decimal n)
+        → 1 ≤ n → n ≤ most → result ≡ n }
 {
     let number = matches.get_one::<u32>(id).unwrap_or(1);
-    // The option's parser refuses any other number, but what `clap` promises of the values that have
-    // passed speaks of a command's own options, not of those of a subcommand.
+    // The option's parser refuses any other number, but what `clap` promises of the values that
+    // have passed speaks of a command's own options, not of those of a subcommand.
     number.clamp(1, most)
 }
 
@@ -172,6 +187,7 @@ fn program<'a>(alloc: Global) -> Result<Command<'a>, AllocError>
     ensures { IfOk result (λ command. app_of command ≡ replayer) }
 {
     with_replays(alloc, program_alone(alloc)?)?
+        .subcommand(rounds_command(alloc)?)?
         .subcommand(check_command(alloc))?
         .subcommand(diff_command(alloc))
 }
@@ -226,6 +242,15 @@ fn compare_command<'a>(alloc: Global) -> Result<Command<'a>, AllocError>
         .arg(window_option(alloc))
 }
 
+fn rounds_command<'a>(alloc: Global) -> Result<Command<'a>, AllocError>
+    ensures { IfOk result (λ command. HasApp rounds_command command) }
+{
+    Command::new(alloc, "rounds")
+        .about("Tells in which round each place runs, and for which one it waited")
+        .arg(window_option(alloc))?
+        .arg(dot_flag(alloc))
+}
+
 fn check_command<'a>(alloc: Global) -> Command<'a>
     ensures { HasApp check_command result }
 {
@@ -245,6 +270,15 @@ fn sums_flag<'a>(alloc: Global) -> Arg<'a>
         .long("sums")
         .action(ArgAction::SetTrue)
         .help("Print SHA-256 sums of files and buffers")
+}
+
+fn dot_flag<'a>(alloc: Global) -> Arg<'a>
+    ensures { IsRule dot_flag result }
+{
+    Arg::new(alloc, "dot")
+        .long("dot")
+        .action(ArgAction::SetTrue)
+        .help("Print a graph for graphviz")
 }
 
 fn workers_option<'a>(alloc: Global) -> Arg<'a>

@@ -1,5 +1,5 @@
 use Rattle.std.proofs.Common.{sym, ap, ◌∙◌, Some}
-use Rattle.replay_program.proofs.WordsLemmas.{serial_chosen, run_chosen, compare_chosen}
+use Rattle.replay_program.proofs.WordsLemmas.{serial_chosen, run_chosen, compare_chosen, rounds_chosen}
 use Rattle.replay_program.proofs.words.options_in.Goals as goal
 
 pub returns-in-Some-serial-default-clause-options : goal.returns-in-Some-serial-default-clause-options
@@ -20,3 +20,10 @@ returns-in-Some-compare-default-clause-options c =
     let found = c.in-Some-compare-default.ensures in
     λ options asked. compare_chosen c.args.matches.now c.in-Some-compare-default.chosen.now found.rows c.number_in-in-Some-compare-default.result c.number_in-in-Some-compare-default-2.result options.mode options.sums
     (sym found.name ∙ ap Some c.in-Some-compare-default.is-compare) c.number_in-in-Some-compare-default.ensures.number c.number_in-in-Some-compare-default-2.ensures.number asked
+
+pub returns-in-Some-rounds-default-clause-options : goal.returns-in-Some-rounds-default-clause-options
+returns-in-Some-rounds-default-clause-options c =
+    let found = c.in-Some-rounds-default.ensures in
+    λ options asked. rounds_chosen c.args.matches.now c.in-Some-rounds-default.chosen.now found.rows c.number_in-in-Some-rounds-default.result c.get_flag-in-Some-rounds-default.result options.mode options.sums
+    (sym found.name ∙ ap Some c.in-Some-rounds-default.is-rounds) c.number_in-in-Some-rounds-default.ensures.number
+    (c.get_flag-in-Some-rounds-default.ensures.value, c.get_flag-in-Some-rounds-default.ensures.other) asked

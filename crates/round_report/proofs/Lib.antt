@@ -1,0 +1,2 @@
+mod SummaryLemmas
+mod TextLemmas
