@@ -1,9 +1,11 @@
 //! Chains, and the roles of their members.
+ghost use Rattle.std.specs.Prelude.{◌≤◌, length};
+ghost use Rattle.trace_format.specs.Text.{IsSpelled};
 
 use chain_plan::Plan;
 use std::alloc::{AllocError, Global};
 use std::test::Fail;
-use trace_format::read_trace;
+use trace_format::{Trace, read_trace};
 
 const NOP: u8 = 0;
 
@@ -20,10 +22,12 @@ fn push_record(text: &mut Vec<u8>, opcode: u8, count: u16) -> Result<(), AllocEr
     Ok(())
 }
 
-/// The text of a trace of one ring without files and buffers; each record is an opcode and how often.
+/// The text of a trace of one ring without files and buffers; each record is an opcode and how
+/// often.
 fn text_of(alloc: Global, records: &[(u8, u16)]) -> Result<Vec<u8>, AllocError> {
     let mut text = Vec::from_slice(alloc, b"URINGTRC\x01\0\0\0\0\0\0\0\0\0\0\0\x01\0\0\0")?;
-    // The number of records, and an empty table of descriptors; then a ring without slots and buffers.
+    // The number of records, and an empty table of descriptors; then a ring without slots and
+    // buffers.
     text.extend_from_slice(&(records.len() as u64).to_le_bytes())?;
     text.extend_from_slice(&[0; 4])?;
     for (opcode, count) in records {
@@ -32,24 +36,46 @@ fn text_of(alloc: Global, records: &[(u8, u16)]) -> Result<Vec<u8>, AllocError> 
     Ok(text)
 }
 
+/// Whether each of the first places is a chain of its own, those from one on doomed.
+fn all_stand_alone(plan: &Plan, places: u32, first_doomed: u32) -> bool
+    requires { places ≤ length plan.now }
+{
+    for place in 0..places {
+        let role = plan.role(place);
+        let alone = role.chain == place && role.member == 0 && role.length == 1;
+        if !alone || role.quiet || role.barrier || role.doomed != (place >= first_doomed) {
+            return false;
+        }
+    }
+    true
+}
+
 /// Whether there are so many places, each a chain of its own, those from one on doomed.
+fn plan_stands_alone(
+    alloc: Global,
+    trace: &Trace,
+    places: u32,
+    first_doomed: u32,
+) -> Result<bool, AllocError>
+    requires { IsSpelled trace.now }
+{
+    let plan = Plan::of(alloc, trace)?;
+    let alone = all_stand_alone(&plan, trace.places(), first_doomed);
+    Ok(alone && trace.places() == places)
+}
+
+/// The same of a trace of these records.
 fn stand_alone(
     alloc: Global,
     records: &[(u8, u16)],
     places: u32,
     first_doomed: u32,
-) -> Result<bool, Fail> {
+) -> Result<bool, AllocError> {
     let text = text_of(alloc, records)?;
-    let trace = read_trace(alloc, &text).ok().ok_or("refused")?;
-    let plan = Plan::of(alloc, &trace)?;
-    for place in 0..trace.places() {
-        let role = plan.role(place);
-        let alone = role.chain == place && role.member == 0 && role.length == 1;
-        if !alone || role.quiet || role.barrier || role.doomed != (place >= first_doomed) {
-            return Ok(false);
-        }
+    match read_trace(alloc, text) {
+        Ok(trace) => plan_stands_alone(alloc, &trace, places, first_doomed),
+        Err(_) => Ok(false),
     }
-    Ok(trace.places() == places)
 }
 
 #[test]

@@ -3,7 +3,7 @@
 use entry_checks::{Op, check};
 use sqe_codec::Sqe;
 use std::alloc::{AllocError, Global};
-use trace_format::{Entry, Series, Version, fits};
+use trace_format::{Blob, Entry, Version, fits};
 
 /// An entry of an opcode, with all other fields zero.
 fn entry_of(opcode: u8) -> Sqe {
@@ -75,7 +75,7 @@ fn tried(alloc: Global, sqe: Sqe, side: &[u8], version: Version) -> Result<Outco
     }
     let entry = Entry {
         sqe,
-        side: Series::from_vec(Vec::from_slice(alloc, side)?),
+        side: Blob::from_vec(alloc, Vec::from_slice(alloc, side)?)?,
     };
     match check(&entry, version) {
         Ok(_) => Ok(Outcome::Accepted),
@@ -260,7 +260,7 @@ fn link_is_read(alloc: Global) -> Result<bool, AllocError> {
             len: 0xffff_ff9c,
             ..entry_of(LINKAT)
         },
-        side: Series::from_vec(Vec::from_slice(alloc, b"\x02\x00/a/bc")?),
+        side: Blob::from_vec(alloc, Vec::from_slice(alloc, b"\x02\x00/a/bc")?)?,
     };
     if !fits(&entry.sqe, entry.side.as_slice()) {
         return Ok(false);

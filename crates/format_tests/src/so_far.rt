@@ -31,28 +31,26 @@ fn refusal_of(
     text.push(1)?;
     text.extend_from_slice(&(path.len() as u64).to_le_bytes()[..2])?;
     text.extend_from_slice(path.as_bytes())?;
-    Ok(read_trace(alloc, &text).err().map(|fault| fault.kind))
+    Ok(read_trace(alloc, text).err().map(|fault| fault.kind))
 }
 
 #[test]
 fn names_so_far(rt: HostRuntime) -> Result<(), Fail> {
     let alloc = rt.alloc();
-    for (path, refusal) in [("/d", None), ("/d/f", Some(Kind::NoParent))] {
-        assert_eq!(rt; refusal_of(alloc, 0, b"", path)?, refusal, "{path}");
-    }
-    for (path, refusal) in [("/d", Some(Kind::Exists)), ("/d/f", None)] {
-        assert_eq!(rt; refusal_of(alloc, 1, DIRECTORY, path)?, refusal, "{path}");
-    }
-    for (path, refusal) in [
-        ("/d/f", Some(Kind::Exists)),
-        ("/d/f/g", Some(Kind::NoParent)),
-        ("/d/g", None),
-        ("/x/y", Some(Kind::NoParent)),
+    for (count, items, path, refusal) in [
+        (0, b"".as_slice(), "/d", None),
+        (0, b"".as_slice(), "/d/f", Some(Kind::NoParent)),
+        (1, DIRECTORY, "/d", Some(Kind::Exists)),
+        (1, DIRECTORY, "/d/f", None),
+        (2, DIRECTORY_AND_FILE, "/d/f", Some(Kind::Exists)),
+        (2, DIRECTORY_AND_FILE, "/d/f/g", Some(Kind::NoParent)),
+        (2, DIRECTORY_AND_FILE, "/d/g", None),
+        (2, DIRECTORY_AND_FILE, "/x/y", Some(Kind::NoParent)),
     ] {
         assert_eq!(rt;
-            refusal_of(alloc, 2, DIRECTORY_AND_FILE, path)?,
+            refusal_of(alloc, count, items, path)?,
             refusal,
-            "{path}"
+            "{path} after {count}"
         );
     }
     Ok(())
@@ -67,7 +65,7 @@ fn fault_of(alloc: Global, buffers: &[(u64, u32)]) -> Result<Option<TraceFault>,
         text.extend_from_slice(&address.to_le_bytes())?;
         text.extend_from_slice(&len.to_le_bytes())?;
     }
-    Ok(read_trace(alloc, &text).err())
+    Ok(read_trace(alloc, text).err())
 }
 
 fn overlap(at: u64) -> Option<TraceFault> {

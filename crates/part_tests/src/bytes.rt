@@ -5,54 +5,95 @@ use extent_bytes::{Extents, MAX_LEN, ReadBytes};
 use std::alloc::{AllocError, Global};
 use std::test::Fail;
 
-fn digits(alloc: Global) -> Result<Extents, AllocError>
-    ensures { IfOk result (λ list. length list ≡ 10) }
+/// The ten digits, in a box: a test that owns one is proved in less time.
+fn digits(alloc: Global) -> Result<Box<Extents>, AllocError>
+    ensures { IfOk result (λ list. length list.value ≡ 10) }
 {
     let mut list = Extents::new(alloc);
     list.write(0, b"0123456789")?;
-    Ok(list)
+    Ok(Box::new(alloc, list)?)
+}
+
+/// Whether a list has these bytes from a place on.
+fn shows(list: &Extents, at: u64, bytes: &[u8]) -> Result<bool, AllocError> {
+    let end = at.saturating_add(bytes.len() as u64);
+    if end > list.len() {
+        return Ok(false);
+    }
+    Ok(list.read(at, end)?.as_slice() == bytes)
+}
+
+/// Whether the digits 2 to 4, cut out and put back, are those digits, and zeros between.
+fn cut_and_put_back(list: &mut Extents) -> Result<bool, AllocError>
+    requires { length list.old ≡ 10 }
+{
+    let part = list.cut(2, 5)?;
+    let was_cut = shows(&part, 0, b"234")? && shows(list, 0, b"01\0\0\056789")?;
+    list.put_back(2, part)?;
+    Ok(was_cut && shows(list, 0, b"0123456789")?)
 }
 
 #[test]
 fn puts_back_what_was_cut(rt: HostRuntime) -> Result<(), Fail> {
     let mut list = digits(rt.alloc())?;
-    let part = list.cut(2, 5)?;
-    assert_eq!(rt; part.read(0, 3)?.as_slice(), b"234".as_slice());
-    assert_eq!(rt; list.read(0, 10)?.as_slice(), b"01\0\0\056789".as_slice());
-    list.put_back(2, part)?;
-    assert_eq!(rt; list.read(0, 10)?.as_slice(), b"0123456789".as_slice());
+    assert!(rt; cut_and_put_back(&mut list)?);
     Ok(())
+}
+
+/// Whether the digits 2 to 4, shared, stay what they were where the list is written to.
+fn share_and_write(list: &mut Extents) -> Result<bool, AllocError>
+    requires { length list.old ≡ 10 }
+{
+    let part = list.share(2, 5)?;
+    list.write(2, b"x")?;
+    Ok(shows(&part, 0, b"234")? && shows(list, 0, b"01x3456789")?)
 }
 
 #[test]
 fn keeps_what_was_shared(rt: HostRuntime) -> Result<(), Fail> {
     let mut list = digits(rt.alloc())?;
-    let part = list.share(2, 5)?;
-    list.write(2, b"x")?;
-    assert_eq!(rt; part.read(0, 3)?.as_slice(), b"234".as_slice());
-    assert_eq!(rt; list.read(0, 10)?.as_slice(), b"01x3456789".as_slice());
+    assert!(rt; share_and_write(&mut list)?);
     Ok(())
 }
 
-// A list of many pages and one that shares its map: neither sees what the other writes.
+/// Whether a list of many pages, cut out whole, written to and put back, has what was written.
+fn cut_and_write(list: &mut Extents) -> Result<bool, AllocError>
+    requires { length list.old ≡ 20003 }
+    ensures { IfOk result (λ _. length list.new ≡ 20003) }
+{
+    let mut part = list.cut(0, 20_003)?;
+    part.write(9_000, b"y")?;
+    let zeros_left = shows(list, 9_000, b"\0\0")?;
+    list.put_back(0, part)?;
+    Ok(zeros_left && shows(list, 9_000, b"y\0")?)
+}
+
+/// Whether a list that shares what was written keeps it when the other is shortened.
+fn share_and_shorten(list: &mut Extents) -> Result<bool, AllocError>
+    requires { length list.old ≡ 20003 }
+{
+    let shared = list.share(0, 20_003)?;
+    list.set_len(9_000)?;
+    list.set_len(20_003)?;
+    Ok(shows(list, 9_000, b"\0\0")? && shows(&shared, 9_000, b"y\0")?)
+}
+
+/// Whether a list that shares the whole of another, of many pages, keeps what that loses.
+fn keeps_all(list: &mut Extents) -> Result<bool, AllocError>
+    requires { length list.old ≡ 20003 }
+{
+    let shared = list.share(0, 20_003)?;
+    let moved = cut_and_write(list)? && share_and_shorten(list)?;
+    Ok(moved && shows(&shared, 9_000, b"x\0")? && shows(&shared, 20_000, b"abc")?)
+}
+
+// A list of many pages and two that share its map: none sees what another writes.
 #[test]
 fn moves_whole_lists(rt: HostRuntime) -> Result<(), Fail> {
     let mut list = digits(rt.alloc())?;
     list.write(9_000, b"x")?;
     list.write(20_000, b"abc")?;
-    let shared = list.share(0, 20_003)?;
-    let mut part = list.cut(0, 20_003)?;
-    part.write(9_000, b"y")?;
-    assert_eq!(rt; list.read(9_000, 9_002)?.as_slice(), b"\0\0".as_slice());
-    list.put_back(0, part)?;
-    assert_eq!(rt; list.read(9_000, 9_002)?.as_slice(), b"y\0".as_slice());
-    let again = list.share(0, 20_003)?;
-    list.set_len(9_000)?;
-    list.set_len(20_003)?;
-    assert_eq!(rt; list.read(9_000, 9_002)?.as_slice(), b"\0\0".as_slice());
-    assert_eq!(rt; again.read(9_000, 9_002)?.as_slice(), b"y\0".as_slice());
-    assert_eq!(rt; shared.read(9_000, 9_002)?.as_slice(), b"x\0".as_slice());
-    assert_eq!(rt; shared.read(20_000, 20_003)?.as_slice(), b"abc".as_slice());
+    assert!(rt; keeps_all(&mut list)?);
     Ok(())
 }
 
@@ -63,8 +104,21 @@ fn shows_no_old_bytes(rt: HostRuntime) -> Result<(), Fail> {
     list.zero(1, 3)?;
     list.set_len(4)?;
     list.set_len(6)?;
-    assert_eq!(rt; list.read(0, 6)?.as_slice(), b"0\0\03\0\0".as_slice());
+    assert!(rt; shows(&list, 0, b"0\0\03\0\0")?);
     Ok(())
+}
+
+/// Whether a list of the greatest length, cut in two, written to at its end and put back, has just
+/// those bytes that are written last.
+fn cut_and_zero(list: &mut Extents) -> Result<bool, AllocError>
+    requires { length list.old ≡ MAX_LEN }
+    ensures { IfOk result (λ _. length list.new ≡ MAX_LEN) }
+{
+    let mut part = list.cut(4, MAX_LEN)?;
+    part.write(1_099_511_627_770, b"xy")?;
+    list.zero(1, MAX_LEN)?;
+    list.put_back(4, part)?;
+    shows(list, 0, b"0\0\0\0456789\0")
 }
 
 // Were zeros stored, these lists would not fit into any memory.
@@ -72,14 +126,9 @@ fn shows_no_old_bytes(rt: HostRuntime) -> Result<(), Fail> {
 fn stores_no_zeros(rt: HostRuntime) -> Result<(), Fail> {
     let mut list = digits(rt.alloc())?;
     list.set_len(MAX_LEN)?;
-    let mut part = list.cut(4, MAX_LEN)?;
-    part.write(1_099_511_627_770, b"xy")?;
-    list.zero(1, MAX_LEN)?;
-    list.put_back(4, part)?;
+    assert!(rt; cut_and_zero(&mut list)?);
     assert_eq!(rt; list.len(), 1_099_511_627_776);
-    assert_eq!(rt; list.read(0, 11)?.as_slice(), b"0\0\0\0456789\0".as_slice());
-    let end = list.read(1_099_511_627_772, MAX_LEN)?;
-    assert_eq!(rt; end.as_slice(), b"\0\0xy".as_slice());
+    assert!(rt; shows(&list, 1_099_511_627_772, b"\0\0xy")?);
     Ok(())
 }
 
@@ -89,8 +138,8 @@ fn writes_zeros_over_bytes(rt: HostRuntime) -> Result<(), Fail> {
     list.write(4, b"\0\0\0")?;
     list.write(5_000, b"\0\0")?;
     list.write(5_001, b"x")?;
-    assert_eq!(rt; list.read(0, 10)?.as_slice(), b"0123\0\0\0789".as_slice());
-    assert_eq!(rt; list.read(4_998, 5_002)?.as_slice(), b"\0\0\0x".as_slice());
+    assert!(rt; shows(&list, 0, b"0123\0\0\0789")?);
+    assert!(rt; shows(&list, 4_998, b"\0\0\0x")?);
     Ok(())
 }
 
@@ -99,44 +148,85 @@ fn ends_at_the_greatest_size(rt: HostRuntime) -> Result<(), Fail> {
     let mut list = digits(rt.alloc())?;
     list.write(1_099_511_627_774, b"xy")?;
     assert_eq!(rt; list.len(), 1_099_511_627_776);
-    let end = list.read(1_099_511_627_773, MAX_LEN)?;
-    assert_eq!(rt; end.as_slice(), b"\0xy".as_slice());
+    assert!(rt; shows(&list, 1_099_511_627_773, b"\0xy")?);
     Ok(())
+}
+
+/// Whether two lists are equal just where their lengths and bytes are.
+fn lengths_and_bytes_tell(list: &mut Extents, other: &mut Extents) -> Result<bool, AllocError> {
+    list.set_len(MAX_LEN)?;
+    list.write(4_090, b"0123456789")?;
+    other.write(4_089, b"00123456789")?;
+    let unlike_lengths = !list.same(other);
+    other.set_len(MAX_LEN)?;
+    let unlike_bytes = !list.same(other) && !other.same(list);
+    other.zero(4_089, 4_090)?;
+    Ok(unlike_lengths && unlike_bytes && list.same(other) && other.same(list))
 }
 
 #[test]
 fn compares_bytes(rt: HostRuntime) -> Result<(), Fail> {
     let mut list = Extents::new(rt.alloc());
-    list.set_len(MAX_LEN)?;
-    list.write(4_090, b"0123456789")?;
     let mut other = Extents::new(rt.alloc());
-    other.write(4_089, b"00123456789")?;
-    assert!(rt; !list.same(&other));
-    other.set_len(MAX_LEN)?;
-    assert!(rt; !list.same(&other) && !other.same(&list));
-    other.zero(4_089, 4_090)?;
-    assert!(rt; list.same(&other) && other.same(&list));
-    assert!(rt; list.share(4_090, 4_100)?.same(&digits(rt.alloc())?));
+    assert!(rt; lengths_and_bytes_tell(&mut list, &mut other)?);
     Ok(())
 }
 
 #[test]
-fn keeps_what_was_read(rt: HostRuntime) -> Result<(), Fail> {
+fn compares_parts(rt: HostRuntime) -> Result<(), Fail> {
+    let list = digits(rt.alloc())?;
+    let mut other = Extents::new(rt.alloc());
+    other.write(4_090, b"0123456789")?;
+    assert!(rt; other.share(4_090, 4_100)?.same(&list));
+    Ok(())
+}
+
+/// Whether bytes that were read have these from a place on.
+fn gives(alloc: Global, read: &ReadBytes, at: u64, bytes: &[u8]) -> Result<bool, AllocError> {
+    let end = at.saturating_add(bytes.len() as u64);
+    if end > read.len() {
+        return Ok(false);
+    }
+    Ok(read.read(alloc, at, end)?.as_slice() == bytes)
+}
+
+#[test]
+fn keeps_few_bytes_that_were_read(rt: HostRuntime) -> Result<(), Fail> {
+    let mut list = digits(rt.alloc())?;
+    let few = ReadBytes::of(rt.alloc(), &list, 2, 6)?;
+    list.write(3, b"x")?;
+    assert!(rt; few.front(64) == b"2345".as_slice());
+    assert!(rt; gives(rt.alloc(), &few, 1, b"34")?);
+    Ok(())
+}
+
+#[test]
+fn keeps_many_bytes_that_were_read(rt: HostRuntime) -> Result<(), Fail> {
     let mut list = digits(rt.alloc())?;
     list.set_len(MAX_LEN)?;
-    let few = ReadBytes::of(rt.alloc(), &list, 2, 6)?;
     let many = ReadBytes::of(rt.alloc(), &list, 2, MAX_LEN)?;
     list.write(9, b"x")?;
-    assert_eq!(rt; few.front(64), b"2345".as_slice());
-    assert_eq!(rt; few.read(rt.alloc(), 1, 3)?.as_slice(), b"34".as_slice());
-    assert_eq!(rt; many.len(), 1_099_511_627_774);
-    assert_eq!(rt; many.front(3), b"234".as_slice());
-    assert_eq!(rt;
-        many.read(rt.alloc(), 6, 10)?.as_slice(),
-        b"89\0\0".as_slice()
-    );
-    let later = ReadBytes::of(rt.alloc(), &list, 2, MAX_LEN)?;
-    assert!(rt; many.same(&many) && few.same(&few));
-    assert!(rt; !many.same(&later) && !many.same(&few));
+    assert!(rt; many.len() == 1_099_511_627_774 && many.front(3) == b"234".as_slice());
+    assert!(rt; gives(rt.alloc(), &many, 6, b"89\0\0")?);
+    Ok(())
+}
+
+/// Whether bytes that were read are equal to themselves, and to no others.
+fn reads_differ(alloc: Global, list: &mut Extents) -> Result<bool, AllocError>
+    requires { length list.old ≡ MAX_LEN }
+{
+    let few = ReadBytes::of(alloc, list, 2, 6)?;
+    let many = ReadBytes::of(alloc, list, 2, MAX_LEN)?;
+    list.write(9, b"x")?;
+    let later = ReadBytes::of(alloc, list, 2, MAX_LEN)?;
+    let alike = many.same(&many) && few.same(&few);
+    Ok(alike && !many.same(&later) && !many.same(&few))
+}
+
+#[test]
+fn compares_bytes_that_were_read(rt: HostRuntime) -> Result<(), Fail> {
+    let mut list = digits(rt.alloc())?;
+    list.set_len(MAX_LEN)?;
+    assert!(rt; reads_differ(rt.alloc(), &mut list)?);
     Ok(())
 }

@@ -1,9 +1,10 @@
 //! Jobs are dealt and their results gathered, by one thread and by two.
-ghost use Rattle.std.specs.Prelude.{◌≡◌, ◌*◌, IfSome, None, true, false};
+ghost use Rattle.std.specs.Prelude.{◌≡◌, ◌*◌, length, IfOk, IfSome, None, true, false};
 ghost use Rattle.deal_desk.specs.Desks.{hand_of, IsSeatOf, IsIdleSeatOf};
 ghost use Rattle.deal_desk.specs.Hands.{HasSeats};
 
 use deal_desk::{Desk, DeskSeat, Job};
+use std::alloc::{AllocError, Global};
 use std::snapshot::Snapshot;
 use std::test::Fail;
 use std::thread;
@@ -29,28 +30,39 @@ impl Double {
     }
 }
 
-// One seat draws each job in order, and then none.
-#[test]
-fn desk_three(rt: HostRuntime) -> Result<(), Fail> {
-    let jobs = vec![in rt.alloc();
+// Jobs to double 10, 20 and 30.
+fn three(alloc: Global) -> Result<Vec<Double>, AllocError>
+    ensures { IfOk result (λ jobs. length jobs.items ≡ 3) }
+{
+    Ok(vec![in alloc;
         Double { number: 10 },
         Double { number: 20 },
         Double { number: 30 },
-    ]?;
-    let (desk, mut seat) = Desk::new(rt.alloc(), jobs)?;
-    let Some((zero, first)) = desk.draw(&mut seat) else {
-        panic!(rt; "no first job")
-    };
-    desk.put(&mut seat, zero, first.value());
-    let Some((one, second)) = desk.draw(&mut seat) else {
-        panic!(rt; "no second job")
-    };
-    desk.put(&mut seat, one, second.value());
-    let Some((two, third)) = desk.draw(&mut seat) else {
-        panic!(rt; "no third job")
-    };
-    desk.put(&mut seat, two, third.value());
-    assert_eq!(rt; [zero, one, two], [0, 1, 2]);
+    ]?)
+}
+
+// Draws a job, if there is one, puts its value back, and gives its place.
+fn turn(desk: &Desk<Double>, seat: &mut DeskSeat<Double>) -> Option<u32>
+    requires desk { IsSeatOf desk.now seat.old }
+    requires idle { (hand_of seat.old).out ≡ None }
+    ensures desk { IsSeatOf desk.now seat.new }
+    ensures idle { (hand_of seat.new).out ≡ None }
+    ensures same { HasSeats (hand_of seat.old).opens (hand_of seat.old).given
+        (hand_of seat.old).merged (hand_of seat.new) }
+{
+    let (place, job) = desk.draw(seat)?;
+    desk.put(seat, place, job.value());
+    Some(place)
+}
+
+// One seat draws each job in order, and then none.
+#[test]
+fn desk_three(rt: HostRuntime) -> Result<(), Fail> {
+    let (desk, mut seat) = Desk::new(rt.alloc(), three(rt.alloc())?)?;
+    let zero = turn(&desk, &mut seat);
+    let one = turn(&desk, &mut seat);
+    let two = turn(&desk, &mut seat);
+    assert_eq!(rt; [zero, one, two], [Some(0), Some(1), Some(2)]);
     assert!(rt; desk.draw(&mut seat).is_none() && seat.is_dry());
     let results = desk.close(rt.alloc(), seat)?;
     assert_eq!(rt; results.as_slice(), [20, 40, 60].as_slice());
@@ -71,12 +83,7 @@ fn desk_of_no_jobs(rt: HostRuntime) -> Result<(), Fail> {
 // Two seats of one thread, whose draws take turns.
 #[test]
 fn desk_two_seats(rt: HostRuntime) -> Result<(), Fail> {
-    let jobs = vec![in rt.alloc();
-        Double { number: 10 },
-        Double { number: 20 },
-        Double { number: 30 },
-    ]?;
-    let (desk, mut left) = Desk::new(rt.alloc(), jobs)?;
+    let (desk, mut left) = Desk::new(rt.alloc(), three(rt.alloc())?)?;
     let mut right = desk.seat(&mut left);
     let Some((zero, first)) = desk.draw(&mut left) else {
         panic!(rt; "no first job")
@@ -97,20 +104,6 @@ fn desk_two_seats(rt: HostRuntime) -> Result<(), Fail> {
     let results = desk.close(rt.alloc(), left)?;
     assert_eq!(rt; results.as_slice(), [20, 40, 60].as_slice());
     Ok(())
-}
-
-// Draws a job, if there is one, and puts its value back.
-fn turn(desk: &Desk<Double>, seat: &mut DeskSeat<Double>)
-    requires desk { IsSeatOf desk.now seat.old }
-    requires idle { (hand_of seat.old).out ≡ None }
-    ensures desk { IsSeatOf desk.now seat.new }
-    ensures idle { (hand_of seat.new).out ≡ None }
-    ensures same { HasSeats (hand_of seat.old).opens (hand_of seat.old).given
-        (hand_of seat.old).merged (hand_of seat.new) }
-{
-    if let Some((place, job)) = desk.draw(seat) {
-        desk.put(seat, place, job.value());
-    }
 }
 
 // Two turns, at a seat of a thread's own.
@@ -139,12 +132,7 @@ impl Promise<DeskSeat<Double>> for Returned {
 // first.
 #[test]
 fn two_threads(rt: HostRuntime) -> Result<(), Fail> {
-    let jobs = vec![in rt.alloc();
-        Double { number: 10 },
-        Double { number: 20 },
-        Double { number: 30 },
-    ]?;
-    let (desk, mut left) = Desk::new(rt.alloc(), jobs)?;
+    let (desk, mut left) = Desk::new(rt.alloc(), three(rt.alloc())?)?;
     let right = desk.seat(&mut left);
     let shared = &desk;
     let merged = thread::scope(

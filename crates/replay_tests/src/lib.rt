@@ -1,4 +1,5 @@
-//! Desks, worlds, footprints, places and replays of small traces, as tests: their values are from hand.
+//! Desks, worlds, footprints, places and replays of small traces, as tests: their values are from
+//! hand.
 #![tactic(auto)]
 
 #[cfg(test)]

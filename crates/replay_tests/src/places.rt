@@ -27,8 +27,8 @@ const FTRUNCATE: u8 = 55;
 
 const UNKNOWN: u8 = 200;
 
-// The slots of the ring: the file `/a` of ten bytes, open to read and write, to write alone, to read alone
-// at position 4 and to append; the root directory; an empty slot.
+// The slots of the ring: the file `/a` of ten bytes, open to read and write, to write alone, to
+// read alone at position 4 and to append; the root directory; an empty slot.
 const BOTH: i32 = 0;
 
 const TO_WRITE: i32 = 1;
@@ -123,8 +123,8 @@ fn answers(sqe: Sqe, res: i32, posted: bool) -> Case<'static> {
     }
 }
 
-/// The text of a trace up to its entries: the file, its open file descriptions, the ring, and a record that
-/// fills four bytes of the first buffer from its eighth on.
+/// The text of a trace up to its entries: the file, its open file descriptions, the ring, and a
+/// record that fills four bytes of the first buffer from its eighth on.
 fn head(alloc: Global) -> Result<Vec<u8>, Fail> {
     let mut text = Vec::from_slice(alloc, b"URINGTRC")?;
     for number in [1u32, 1, 5, 1, 2, 0] {
@@ -165,7 +165,7 @@ fn fits(reply: &Reply, case: &Case<'_>) -> bool {
 
 /// The number of the first case that gets another completion.
 fn first_wrong(alloc: Global, cases: &[Case<'_>]) -> Result<Option<usize>, Fail> {
-    let ran = run(alloc, &text_of(alloc, cases)?)?;
+    let ran = run(alloc, text_of(alloc, cases)?)?;
     first_unfit(ran.replies.as_slice(), cases)
 }
 

@@ -6,17 +6,19 @@ use chain_plan::Role;
 use op_meaning::{Reply, run_entry};
 use replay_core::comparing::verdict;
 use replay_core::parallel::replay;
-use replay_core::{Gate, NoGate, ReplayFault, Verdict, WORTH_A_THREAD, replay_serial};
+use replay_core::{Gate, NoGate, Replay, ReplayFault, Verdict, WORTH_A_THREAD, replay_serial};
 use std::alloc::{AllocError, Global};
+use std::sync::Wait;
 use std::sync::atomic::AtomicU64;
 use std::sync::atomic::Ordering::SeqCst;
 use std::test::Fail;
-use trace_format::{Trace, TraceFault, read_trace};
+use std::thread::Threads;
+use trace_format::{Series, Trace, read_trace};
 use world_parts::Part;
 
 /// One ring without slots and buffers, and a record of two NOPs.
-fn two_nops(alloc: Global) -> Result<Trace, TraceFault>
-    ensures { IfOk result (λ trace. IsSpelled trace) }
+fn two_nops(alloc: Global) -> Result<Box<Trace>, Fail>
+    ensures { IfOk result (λ trace. IsSpelled trace.value) }
 {
     let mut text = [0u8; 176];
     text[..8].copy_from_slice(b"URINGTRC");
@@ -25,7 +27,8 @@ fn two_nops(alloc: Global) -> Result<Trace, TraceFault>
     text[24] = 1;
     text[36] = 1;
     text[38] = 2;
-    read_trace(alloc, &text)
+    let text = Vec::from_slice(alloc, &text)?;
+    Ok(Box::new(alloc, read_trace(alloc, text)?)?)
 }
 
 /// Counts the runs of each place, and holds place 0 until place 1 has begun, for a number of turns.
@@ -109,6 +112,71 @@ impl Gate for Eager {
     }
 }
 
+/// The rounds in which places run on two workers by a gate.
+fn rounds_by<R: Threads + Wait + Sync, G: Gate + Sync>(
+    rt: &R,
+    alloc: Global,
+    trace: &Trace,
+    gate: &G,
+) -> Result<Series<u32>, ReplayFault>
+    requires { IsSpelled trace.now }
+{
+    let replay = replay(rt, alloc, trace, 2, 2, gate)?;
+    Ok(replay.rounds)
+}
+
+/// Why there is no replay by a gate; none where there is one.
+fn fault_by<R: Threads + Wait + Sync, G: Gate + Sync>(
+    rt: &R,
+    alloc: Global,
+    trace: &Trace,
+    workers: u32,
+    window: u32,
+    gate: &G,
+) -> Option<ReplayFault>
+    requires { IsSpelled trace.now }
+{
+    replay(rt, alloc, trace, workers, window, gate).err()
+}
+
+/// How a replay by a gate compares with another one.
+fn compared_with<R: Threads + Wait + Sync, G: Gate + Sync>(
+    rt: &R,
+    alloc: Global,
+    trace: &Trace,
+    workers: u32,
+    gate: &G,
+    serial: &Replay,
+) -> Result<Verdict, ReplayFault>
+    requires { IsSpelled trace.now }
+{
+    let parallel = replay(rt, alloc, trace, workers, 4096, gate)?;
+    Ok(verdict(serial, &parallel))
+}
+
+/// How a replay by a gate compares with the serial one.
+fn compared<R: Threads + Wait + Sync, G: Gate + Sync>(
+    rt: &R,
+    alloc: Global,
+    trace: &Trace,
+    workers: u32,
+    gate: &G,
+) -> Result<Verdict, ReplayFault>
+    requires { IsSpelled trace.now }
+{
+    let serial = replay_serial(alloc, trace)?;
+    compared_with(rt, alloc, trace, workers, gate, &serial)
+}
+
+/// What a gate has counted.
+fn counts(gate: &Meeting) -> [u64; 3] {
+    [
+        gate.first.load(SeqCst),
+        gate.second.load(SeqCst),
+        gate.met.load(SeqCst),
+    ]
+}
+
 #[test]
 fn two_at_once(rt: HostRuntime) -> Result<(), Fail> {
     let trace = two_nops(rt.alloc())?;
@@ -117,22 +185,21 @@ fn two_at_once(rt: HostRuntime) -> Result<(), Fail> {
         second: AtomicU64::new(0),
         met: AtomicU64::new(0),
     };
-    let Ok(met) = replay(&rt, rt.alloc(), &trace, 2, 2, &gate) else {
+    let Ok(rounds) = rounds_by(&rt, rt.alloc(), &trace, &gate) else {
         panic!(rt; "no replay")
     };
-    assert_eq!(rt;
-        [
-            gate.first.load(SeqCst),
-            gate.second.load(SeqCst),
-            gate.met.load(SeqCst)
-        ],
-        [1, 1, 1]
-    );
-    assert_eq!(rt; met.rounds.as_slice(), [0, 0].as_slice());
-    let refused = replay(&rt, rt.alloc(), &trace, 2, 2, &Refusing);
-    assert!(rt; matches!(refused, Err(ReplayFault::Memory)));
-    let refused_alone = replay(&rt, rt.alloc(), &trace, 1, 1, &Refusing);
-    assert!(rt; matches!(refused_alone, Err(ReplayFault::Memory)));
+    assert_eq!(rt; counts(&gate), [1, 1, 1]);
+    assert_eq!(rt; rounds.as_slice(), [0, 0].as_slice());
+    Ok(())
+}
+
+#[test]
+fn refused_memory_leaves_no_replay(rt: HostRuntime) -> Result<(), Fail> {
+    let trace = two_nops(rt.alloc())?;
+    for workers in [1, 2] {
+        let fault = fault_by(&rt, rt.alloc(), &trace, workers, workers, &Refusing);
+        assert_eq!(rt; fault, Some(ReplayFault::Memory));
+    }
     Ok(())
 }
 
@@ -140,12 +207,12 @@ fn two_at_once(rt: HostRuntime) -> Result<(), Fail> {
 fn limits_are_tested_in_order(rt: HostRuntime) -> Result<(), Fail> {
     let trace = two_nops(rt.alloc())?;
     for (workers, window) in [(0, 0), (65, 0), (0, 1)] {
-        let fault = replay(&rt, rt.alloc(), &trace, workers, window, &NoGate);
-        assert!(rt; matches!(fault, Err(ReplayFault::Workers)));
+        let fault = fault_by(&rt, rt.alloc(), &trace, workers, window, &NoGate);
+        assert_eq!(rt; fault, Some(ReplayFault::Workers));
     }
     for window in [0, 4097] {
-        let fault = replay(&rt, rt.alloc(), &trace, 1, window, &NoGate);
-        assert!(rt; matches!(fault, Err(ReplayFault::Window)));
+        let fault = fault_by(&rt, rt.alloc(), &trace, 1, window, &NoGate);
+        assert_eq!(rt; fault, Some(ReplayFault::Window));
     }
     Ok(())
 }
@@ -153,18 +220,11 @@ fn limits_are_tested_in_order(rt: HostRuntime) -> Result<(), Fail> {
 #[test]
 fn both_runs_are_equal(rt: HostRuntime) -> Result<(), Fail> {
     let trace = two_nops(rt.alloc())?;
-    let Ok(serial) = replay_serial(rt.alloc(), &trace) else {
-        panic!(rt; "no serial replay")
-    };
     for workers in [1, 2, 64] {
-        let Ok(alone) = replay(&rt, rt.alloc(), &trace, workers, 4096, &NoGate) else {
-            panic!(rt; "no replay")
-        };
-        assert!(rt; matches!(verdict(&serial, &alone), Verdict::Equal));
-        let Ok(parallel) = replay(&rt, rt.alloc(), &trace, workers, 4096, &Eager) else {
-            panic!(rt; "no replay on threads")
-        };
-        assert!(rt; matches!(verdict(&serial, &parallel), Verdict::Equal));
+        let alone = compared(&rt, rt.alloc(), &trace, workers, &NoGate);
+        assert!(rt; matches!(alone, Ok(Verdict::Equal)));
+        let parallel = compared(&rt, rt.alloc(), &trace, workers, &Eager);
+        assert!(rt; matches!(parallel, Ok(Verdict::Equal)));
     }
     Ok(())
 }

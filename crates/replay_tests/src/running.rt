@@ -39,7 +39,7 @@ fn replies_of(alloc: Global, trace: &Trace, part: &mut Part) -> Result<Vec<Reply
 }
 
 /// Runs the places of the trace that a text spells.
-pub(crate) fn run(alloc: Global, text: &[u8]) -> Result<Ran, Fail> {
+pub(crate) fn run(alloc: Global, text: Vec<u8>) -> Result<Ran, Fail> {
     let trace = read_trace(alloc, text)?;
     run_places(alloc, &trace)
 }

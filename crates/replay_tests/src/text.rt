@@ -108,12 +108,11 @@ pub(crate) fn push_entry(text: &mut Vec<u8>, sqe: &Sqe, side: &[u8]) -> Result<(
     text.extend_from_slice(side)
 }
 
-/// The directory `/d`, node 1; the file `/d/f`, node 2, of ten bytes; the file `/g` and `/d.x`, node 3, which
-/// is longer than its stored bytes; the directory `/e`, node 5. A ring with the first file in slot 0, none
-/// in slot 1, the second file in slot 2, and a buffer of 16 bytes. A record with these entries.
-pub(crate) fn trace_of(alloc: Global, entries: &[Submitted<'_>]) -> Result<Trace, Fail>
-    ensures { IfOk result (λ trace. IsSpelled trace) }
-{
+/// The text of a trace up to its entries: the directory `/d`, node 1; the file `/d/f`, node 2, of
+/// ten bytes; the file `/g` and `/d.x`, node 3, which is longer than its stored bytes; the
+/// directory `/e`, node 5. A ring with the first file in slot 0, none in slot 1, the second file in
+/// slot 2, and a buffer of 16 bytes.
+fn head(alloc: Global) -> Result<Vec<u8>, AllocError> {
     let mut text = Vec::from_slice(alloc, b"URINGTRC")?;
     for number in [1u32, 5, 2, 1, 1, 0] {
         text.extend_from_slice(&number.to_le_bytes())?;
@@ -125,9 +124,17 @@ pub(crate) fn trace_of(alloc: Global, entries: &[Submitted<'_>]) -> Result<Trace
     text.extend_from_slice(b"\x02\0\0\0\x02\0\0\0\0\0\0\0\0\0\x03\0\0\0\0\0\x03\0\0\0\0\0\0\0")?;
     text.extend_from_slice(b"\x03\0\x01\0\0\0\0\0\0\0\x02\0\0\0")?;
     text.extend_from_slice(b"\x01\0\0\x10\0\0\0\0\0\0\x10\0\0\0\x01\0")?;
+    Ok(text)
+}
+
+/// The trace of that head with a record of these entries.
+pub(crate) fn trace_of(alloc: Global, entries: &[Submitted<'_>]) -> Result<Box<Trace>, Fail>
+    ensures { IfOk result (λ trace. IsSpelled trace.value) }
+{
+    let mut text = head(alloc)?;
     text.extend_from_slice(&(entries.len() as u64).to_le_bytes()[..2])?;
     for entry in entries {
         push_entry(&mut text, &entry.sqe, entry.side)?;
     }
-    Ok(read_trace(alloc, &text)?)
+    Ok(Box::new(alloc, read_trace(alloc, text)?)?)
 }

@@ -4,17 +4,19 @@ ghost use Rattle.trace_format.specs.Text.{IsSpelled};
 
 use crate::text::{nop, trace_of, write};
 use replay_core::ReplayFault;
-use replay_core::round_log::{WaitedFor, log_rounds};
+use replay_core::round_log::{RoundLog, WaitedFor, log_rounds};
 use sqe_codec::{IO_DRAIN, IO_LINK};
 use std::alloc::Global;
+use std::sync::Wait;
 use std::test::Fail;
+use std::thread::Threads;
 use trace_format::Trace;
 use world_parts::Item;
 
 /// Two writes that share bytes 2 and 3 of a file, a chain of two NOPs, a NOP, and one that drains
 /// its ring.
-fn six_places(alloc: Global) -> Result<Trace, Fail>
-    ensures { IfOk result (λ trace. IsSpelled trace) }
+fn six_places(alloc: Global) -> Result<Box<Trace>, Fail>
+    ensures { IfOk result (λ trace. IsSpelled trace.value) }
 {
     let entries = [
         write(0, 0, b"abcd"),
@@ -66,50 +68,83 @@ fn is_for_ring(wait: &Option<WaitedFor>, place: u32) -> bool {
     }
 }
 
-/// The first round runs places 0, 2 and 4. Before it the second write waits for the first one, by
-/// the two bytes; the second member for the head of its chain, the third chain, by its flag; and the
-/// last place, by the order of the ring, for the latest that is pending, place 4. That one has run
-/// before the second round, and the latest is place 3.
+/// The log of those places with a window.
+fn log_of<R: Threads + Wait + Sync>(rt: &R, alloc: Global, window: u32) -> Result<RoundLog, Fail> {
+    let trace = six_places(alloc)?;
+    match log_rounds(rt, alloc, &trace, window) {
+        Ok(log) => Ok(log),
+        Err(_) => Err(Fail::from("no log")),
+    }
+}
+
+/// Whether the second write waits for the first one, by the two bytes; the second member for the
+/// head of its chain, the third chain, by its flag; the last place, by the order of the ring, for
+/// place 3; and no other for any.
+fn are_for_latest(waits: &[Option<WaitedFor>]) -> bool {
+    match waits {
+        [None, second, None, member, None, drain] => {
+            is_for_bytes(second, 0, 2, 4) && is_for_chain(member, 2, 2) && is_for_ring(drain, 3)
+        }
+        _ => false,
+    }
+}
+
+/// The first round runs places 0, 2 and 4. Before it the last place waits for the latest that is
+/// pending, place 4. That one has run before the second round, and the latest is place 3.
 #[test]
 fn places_wait_for_the_latest_that_holds_them(rt: HostRuntime) -> Result<(), Fail> {
-    let trace = six_places(rt.alloc())?;
-    let Ok(log) = log_rounds(&rt, rt.alloc(), &trace, 64) else {
-        panic!(rt; "no log")
-    };
+    let log = log_of(&rt, rt.alloc(), 64)?;
     assert_eq!(rt; log.rounds.as_slice(), [0, 1, 0, 1, 0, 2].as_slice());
-    let [first, second, head, member, alone, drain] = log.waits.as_slice() else {
-        panic!(rt; "not six places")
-    };
-    assert!(rt; first.is_none() && head.is_none() && alone.is_none());
-    assert!(rt; is_for_bytes(second, 0, 2, 4));
-    assert!(rt; is_for_chain(member, 2, 2));
-    assert!(rt; is_for_ring(drain, 3));
+    assert!(rt; are_for_latest(log.waits.as_slice()));
     Ok(())
 }
 
-/// With a window of 2 only the second write is seen in the round before its own; with a window of 1
-/// no place is.
+/// Whether the second write waits for the first one, and no other place for any.
+fn is_one_for_bytes(waits: &[Option<WaitedFor>]) -> bool {
+    match waits {
+        [None, second, None, None, None, None] => is_for_bytes(second, 0, 2, 4),
+        _ => false,
+    }
+}
+
+/// With a window of 2 only the second write is seen in the round before its own.
 #[test]
 fn places_wait_where_the_window_shows_them(rt: HostRuntime) -> Result<(), Fail> {
-    let trace = six_places(rt.alloc())?;
-    let Ok(two) = log_rounds(&rt, rt.alloc(), &trace, 2) else {
-        panic!(rt; "no log for two")
-    };
+    let two = log_of(&rt, rt.alloc(), 2)?;
     assert_eq!(rt; two.rounds.as_slice(), [0, 1, 1, 2, 2, 3].as_slice());
-    let [first, second, others @ ..] = two.waits.as_slice() else {
-        panic!(rt; "not two places")
-    };
-    assert!(rt; first.is_none() && is_for_bytes(second, 0, 2, 4));
-    assert!(rt; others.iter().all(|wait| wait.is_none()));
-    let Ok(one) = log_rounds(&rt, rt.alloc(), &trace, 1) else {
-        panic!(rt; "no log for one")
-    };
+    assert!(rt; is_one_for_bytes(two.waits.as_slice()));
+    Ok(())
+}
+
+/// With a window of 1 no place is.
+#[test]
+fn no_place_waits_where_the_window_shows_one(rt: HostRuntime) -> Result<(), Fail> {
+    let one = log_of(&rt, rt.alloc(), 1)?;
     assert_eq!(rt; one.rounds.as_slice(), [0, 1, 2, 3, 4, 5].as_slice());
-    assert_eq!(rt; one.waits.as_slice().len(), 6);
-    assert!(rt; one.waits.as_slice().iter().all(|wait| wait.is_none()));
+    assert!(rt; matches!(one.waits.as_slice(), [None, None, None, None, None, None]));
+    Ok(())
+}
+
+/// Why there is no log of a trace with a window; none where there is one.
+fn fault_of<R: Threads + Wait + Sync>(
+    rt: &R,
+    alloc: Global,
+    trace: &Trace,
+    window: u32,
+) -> Option<ReplayFault>
+    requires { IsSpelled trace.now }
+{
+    log_rounds(rt, alloc, trace, window).err()
+}
+
+#[test]
+fn windows_past_the_limits_have_no_log(rt: HostRuntime) -> Result<(), Fail> {
+    let trace = six_places(rt.alloc())?;
     for window in [0, 4097] {
-        let fault = log_rounds(&rt, rt.alloc(), &trace, window);
-        assert!(rt; matches!(fault, Err(ReplayFault::Window)));
+        assert_eq!(rt;
+            fault_of(&rt, rt.alloc(), &trace, window),
+            Some(ReplayFault::Window)
+        );
     }
     Ok(())
 }

@@ -7,7 +7,7 @@ use crate::text::trace_of;
 use std::alloc::Global;
 use std::test::Fail;
 use trace_format::Trace;
-use world_parts::{Broken, Footprint, Image, Item, State, World};
+use world_parts::{Broken, Footprint, Image, Item, Part, State, World};
 
 /// A name that an image shows, with its node and the size of a file.
 #[derive(Clone, Copy)]
@@ -42,10 +42,9 @@ fn start(alloc: Global) -> Result<World, Fail>
     Ok(World::of(alloc, &trace)?)
 }
 
-#[test]
-fn an_image_has_paths_in_order(rt: HostRuntime) -> Result<(), Fail> {
-    let image = start(rt.alloc())?.image(rt.alloc())?;
-    let names = [
+/// The names of that world.
+fn start_names() -> [Shown<'static>; 5] {
+    [
         Shown {
             path: b"/d",
             node: 1,
@@ -71,11 +70,23 @@ fn an_image_has_paths_in_order(rt: HostRuntime) -> Result<(), Fail> {
             node: 3,
             size: Some(6),
         },
-    ];
-    assert!(rt; shows(&image, &names));
-    assert_eq!(rt; image.slots.as_slice().len(), 2);
-    assert_eq!(rt; image.descriptors.as_slice().len(), 0);
-    assert_eq!(rt; image.buffers.as_slice().len(), 1);
+    ]
+}
+
+/// How many slots, descriptors and buffers an image shows.
+fn counts(image: &Image) -> [usize; 3] {
+    [
+        image.slots.as_slice().len(),
+        image.descriptors.as_slice().len(),
+        image.buffers.as_slice().len(),
+    ]
+}
+
+#[test]
+fn an_image_has_paths_in_order(rt: HostRuntime) -> Result<(), Fail> {
+    let image = start(rt.alloc())?.image(rt.alloc())?;
+    assert!(rt; shows(&image, &start_names()));
+    assert_eq!(rt; counts(&image), [2, 0, 1]);
     Ok(())
 }
 
@@ -89,35 +100,59 @@ fn bytes_are_taken_from_files_and_buffers(rt: HostRuntime) -> Result<(), Fail> {
     Ok(())
 }
 
+/// A part with bytes 3, 4 and 5 of node 2, taken out of a world of which no part is out.
+fn taken_out(alloc: Global, world: &mut World) -> Result<Part, Fail>
+    requires { world.old.out ≡ empty }
+{
+    let mut footprint = Footprint::new(alloc);
+    footprint.writes(Item::Bytes(2, 3, 6))?;
+    Ok(world.cut(alloc, 7, footprint)?)
+}
+
+/// The bytes of that part.
+fn taken_bytes(alloc: Global, world: &mut World) -> Result<Vec<u8>, Fail>
+    requires { world.old.out ≡ empty }
+{
+    let part = taken_out(alloc, world)?;
+    Ok(part.state.bytes(alloc, 2, 3, 6)?)
+}
+
 #[test]
 fn a_part_has_the_bytes_that_it_takes_out(rt: HostRuntime) -> Result<(), Fail> {
     let mut world = start(rt.alloc())?;
-    let mut footprint = Footprint::new(rt.alloc());
-    footprint.writes(Item::Bytes(2, 3, 6))?;
-    let part = world.cut(rt.alloc(), 7, footprint)?;
-    let taken = part.state.bytes(rt.alloc(), 2, 3, 6)?;
+    let taken = taken_bytes(rt.alloc(), &mut world)?;
     assert_eq!(rt; taken.as_slice(), b"345".as_slice());
     let left = world.file_bytes(rt.alloc(), 2, 0, 10)?;
     assert_eq!(rt; left.as_slice(), b"012\0\0\x006789".as_slice());
     Ok(())
 }
 
-/// The world of the trace in which a chain broke.
-fn broken(alloc: Global, trace: &Trace) -> Result<World, Fail>
+/// The state that a trace starts with, with a chain that broke.
+fn broken_state(alloc: Global, trace: &Trace) -> Result<State, Fail>
     requires { IsSpelled trace.now }
 {
     let mut state = State::of(alloc, trace)?;
     state.break_chain(7, Broken::Quiet)?;
-    Ok(World::new(alloc, state))
+    Ok(state)
+}
+
+/// The world of the trace in which a chain broke.
+fn broken(alloc: Global) -> Result<World, Fail> {
+    let trace = trace_of(alloc, &[])?;
+    Ok(World::new(alloc, broken_state(alloc, &trace)?)?)
+}
+
+#[test]
+fn a_broken_chain_is_in_the_world(rt: HostRuntime) -> Result<(), Fail> {
+    let world = broken(rt.alloc())?;
+    assert_eq!(rt; world.state().broken(7), Some(Broken::Quiet));
+    Ok(())
 }
 
 #[test]
 fn a_broken_chain_tells_worlds_apart(rt: HostRuntime) -> Result<(), Fail> {
-    let trace = trace_of(rt.alloc(), &[])?;
-    let world = broken(rt.alloc(), &trace)?;
     let other = start(rt.alloc())?;
-    assert_eq!(rt; world.state().broken(7), Some(Broken::Quiet));
-    assert!(rt; !world.same(&other));
+    assert!(rt; !other.same(&broken(rt.alloc())?));
     assert!(rt; other.same(&start(rt.alloc())?));
     Ok(())
 }
