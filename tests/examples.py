@@ -1,15 +1,16 @@
 """Every trace of examples/ through the built programs, against the answers that stand beside it."""
 import os
+import re
 from functools import partial
 from typing import Iterable, List, Tuple
 
-from harness import EXAMPLES, Answer, Job, Outcome, Program, difference, read, spoken
+from harness import EXAMPLES, Answer, Job, Outcome, Program, difference, read, shown, spoken
 
 WORKERS = (1, 2, 4, 64)
 WINDOWS = (1, 2, 64, 4096)
 # What the second program is run with, beside serial, check and compare.
 FEW_PAIRS = ((2, 2), (4, 64))
-ENDINGS = (".trace", ".report", ".sums", ".check", ".rounds", ".refused")
+ENDINGS = (".trace", ".report", ".sums", ".check", ".rounds", ".waits", ".dot", ".refused")
 
 
 def names() -> List[str]:
@@ -35,12 +36,19 @@ def commands(is_first: bool) -> Iterable[Tuple[List[str], str]]:
     yield ["compare", "--workers", "2", "--window", "4"], ""
 
 
+def of_rounds(name: str) -> Iterable[Tuple[List[str], str]]:
+    """The same for `rounds`, which has an answer beside few examples; what is refused is refused there too."""
+    for words, ending in ((["rounds"], ".waits"), (["rounds", "--window", "64", "--dot"], ".dot")):
+        if any(os.path.exists(os.path.join(EXAMPLES, name + it)) for it in (ending, ".refused")):
+            yield words, ending
+
+
 def tried(program: Program, name: str, is_first: bool) -> List[Outcome]:
     """All runs of one example by one program."""
     trace = os.path.join(EXAMPLES, name + ".trace")
     is_refused = os.path.exists(os.path.join(EXAMPLES, name + ".refused"))
     outcomes = []
-    for words, ending in commands(is_first):
+    for words, ending in [*commands(is_first), *of_rounds(name)]:
         label = "{} {} by {}".format(name, spoken(words), program.compiler)
         try:
             if is_refused:
@@ -51,6 +59,18 @@ def tried(program: Program, name: str, is_first: bool) -> List[Outcome]:
             outcomes.append(Outcome(label, "{}{} is missing in examples/".format(name, ending)))
             continue
         outcomes.append(Outcome(label, difference(program.run(words, trace), wanted)))
+    return outcomes
+
+
+def numbered(program: Program, name: str) -> List[Outcome]:
+    """Whether `rounds` gives each place the round that stands beside the example, at each window that does."""
+    outcomes = []
+    for line in read(name + ".rounds").decode().splitlines():
+        window, wanted = line.removeprefix("window ").split(":")
+        got = program.run(["rounds", "--window", window], os.path.join(EXAMPLES, name + ".trace"))
+        numbers = re.findall(r"^\d+ round=(\d+)", got.output.decode("utf-8", "replace"), re.M)
+        label = "{} rounds --window {} by {}".format(name, window, program.compiler)
+        outcomes.append(Outcome(label, None if got.status == 0 and numbers == wanted.split() else shown(got)))
     return outcomes
 
 
@@ -68,4 +88,5 @@ def strays() -> List[Outcome]:
 def jobs(programs: List[Program]) -> List[Job]:
     found = names()
     each = [partial(tried, program, name, program is programs[0]) for program in programs for name in found]
-    return [strays, *each]
+    in_rounds = [it for it in found if os.path.exists(os.path.join(EXAMPLES, it + ".rounds"))]
+    return [strays, *each, *(partial(numbered, program, name) for program in programs for name in in_rounds)]

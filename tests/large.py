@@ -8,12 +8,16 @@ from functools import partial
 from typing import List, Tuple
 
 from harness import TOP, Answer, Job, Outcome, Program, difference, first, read, reports_refused, spoken
-from traces import fill, head, ring
+from traces import directory, fill, head, ring
 
 MOST_PLACES = 1_048_576
 MOST_RINGS = 64
 # How many times the processor time of one ring many may take, which is 1 to 1.7 times on a busy machine.
 MOST_RATIO = 2.7
+# How deep directories lie, one in another and then side by side, and how many times the processor time of `check` it may take
+# to make a world of them and to tell it, which is 1.4 to 2 times.
+DEPTH, BESIDE = 2_000, 10_000
+MOST_DEEP = 4.0
 MODES: Tuple[Tuple[List[str], str], ...] = ((["serial"], ".report"), (["serial", "--sums"], ".sums"), (["check"], ".check"))
 # How often each pair of workers and window is tried on writes that are worth threads.
 OFTEN = 4
@@ -75,6 +79,16 @@ def many_rings(program: Program) -> List[Outcome]:
     return [Outcome("a report of many rings by {}".format(program.compiler), told)]
 
 
+def deep_tree(program: Program) -> List[Outcome]:
+    """A tree of deep directories is made with one look-up for each, and not with one for each name of its path."""
+    above = b"/a" * DEPTH
+    paths = [above[:2 * depth] for depth in range(1, DEPTH + 1)] + [above + b"/%d" % at for at in range(BESIDE)]
+    trace = head(items=len(paths)) + b"".join(directory(path) for path in paths)
+    read_alone, whole = (min(program.seconds(words, trace) for _ in range(3)) for words in (["check"], ["serial"]))
+    told = None if whole < MOST_DEEP * read_alone < math.inf else "{:.3f} seconds, {:.3f} of them to read it".format(whole, read_alone)
+    return [Outcome("a tree of depth {} by {}".format(DEPTH, program.compiler), told)]
+
+
 def jobs(programs: List[Program]) -> List[Job]:
-    alone = [partial(it, programs[0]) for it in (tried, long_reports, many_rings)]
+    alone = [partial(it, programs[0]) for it in (tried, long_reports, many_rings, deep_tree)]
     return [*alone, *(partial(on_threads, it) for it in programs)]

@@ -7,7 +7,7 @@ import traces
 from harness import Answer, Job, Outcome, Program, Words, difference, fault, read, refused, reports_refused, shown, spoken, two_reports
 
 EXAMPLE = "read_four_bytes"
-SUBCOMMANDS = ("serial", "run", "compare", "check", "diff")
+SUBCOMMANDS = ("serial", "run", "compare", "rounds", "check", "diff")
 WRONG: List[Words] = [
     [], ["bogus"], [""], ["Serial"], ["serial", "serial"], ["--sums"], ["--version"],
     ["serial", "extra"], ["serial", "--workers", "2"], ["serial", "--sums", "--sums"],
@@ -18,6 +18,8 @@ WRONG: List[Words] = [
     ["run", "--window", "0"], ["run", "--window", "4097"], ["run", "--window", "18446744073709551617"],
     ["compare", "--workers", "0"], ["compare", "--workers", "65"],
     ["compare", "--window", "0"], ["compare", "--window", "4097"],
+    ["rounds", "extra"], ["rounds", "--sums"], ["rounds", "--workers", "2"], ["rounds", "--window", "0"], ["rounds", "--window", "4097"],
+    ["rounds", "--dot", "--dot"],
     ["diff", "extra"], ["diff", "--sums"], ["diff", "--workers", "2"],
 ]
 GOOD: List[Words] = [
@@ -107,7 +109,7 @@ def outputs(program: Program) -> List[Outcome]:
     """Outputs that are closed, full, or cannot be written."""
     outcomes: List[Outcome] = []
     ask = asker(program, outcomes)
-    for words in (["serial"], ["serial", "--sums"], ["run"], ["compare"], ["check"], ["--help"], ["serial", "--help"]):
+    for words in (["serial"], ["serial", "--sums"], ["run"], ["compare"], ["rounds"], ["rounds", "--dot"], ["check"], ["--help"], ["serial", "--help"]):
         ask("a full output", fault("write"), words, 'exec "$@" > /dev/full')
         ask("a closed output", fault("write"), words, 'exec "$@" >&-')
         ask("an output that is only read", fault("write"), words, 'exec "$@" 1< /dev/null')
@@ -124,7 +126,7 @@ def inputs(program: Program) -> List[Outcome]:
     outcomes: List[Outcome] = []
     ask = asker(program, outcomes)
     front = read(EXAMPLE + ".trace")[:100]
-    for words in (["serial"], ["run"], ["compare"], ["check"]):
+    for words in (["serial"], ["run"], ["compare"], ["rounds"], ["check"]):
         ask("a directory", fault("read"), words, 'exec "$@" < /')
         ask("a closed input", fault("read"), words, 'exec "$@" <&-')
         ask("an input that is only written", fault("read"), words, 'exec "$@" 0> /dev/null')
