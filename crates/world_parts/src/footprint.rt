@@ -1,5 +1,5 @@
 //! What a place reads and writes.
-ghost use Rattle.std.specs.Prelude.{◌≡◌, ◌||◌, ◌&&◌, ◌++◌, ◌∷◌, [], map, OnOk};
+ghost use Rattle.std.specs.Prelude.{◌≡◌, ◌||◌, ◌&&◌, ◌++◌, ◌∷◌, [], length, map, take, true, OnOk};
 ghost use Rattle.std.specs.List.{list_any};
 ghost use Rattle.world_parts.specs.Items as items;
 ghost use Rattle.world_parts.specs.Uses.{item_meant, only_read, use_meant};
@@ -141,6 +141,13 @@ impl Footprint {
         make_reads(self.uses.as_mut_slice());
     }
 
+    /// Drops all items but the first ones, as many as a number.
+    pub fn truncate(&mut self, count: usize)
+        ensures { self.new ≡ take count self.old }
+    {
+        self.uses.truncate(count);
+    }
+
     /// What is read and written, in the order in which it was added.
     pub fn uses(&self) -> &[Use]
         ensures { map use_meant result.now ≡ self.now }
@@ -180,6 +187,98 @@ fn meets(used: &Use, others: &[Use]) -> bool
         && items.share (item_meant used.now.item) (item_meant v.item)) others.now }
 {
     others.iter().any(|other| (used.written || other.written) && share(&used.item, &other.item))
+}
+
+/// Whether a footprint writes a part of an item. It takes no memory.
+pub fn writes_item(footprint: &Footprint, item: &Item) -> bool
+    ensures { result ≡ list_any (λ u. u.written && items.share u.item (item_meant item.now))
+        footprint.now }
+{
+    any_writes(footprint.uses(), item)
+}
+
+fn any_writes(uses: &[Use], item: &Item) -> bool
+    ensures { result ≡ list_any (λ u. u.written
+        && items.share (item_meant u.item) (item_meant item.now)) uses.now }
+{
+    uses.iter()
+        .any(|used| used.written && share(&used.item, item))
+}
+
+/// Whether a footprint has a part of an item. It takes no memory.
+pub fn touches_item(footprint: &Footprint, item: &Item) -> bool
+    ensures { result ≡ list_any (λ u. items.share u.item (item_meant item.now)) footprint.now }
+{
+    any_touches(footprint.uses(), item)
+}
+
+fn any_touches(uses: &[Use], item: &Item) -> bool
+    ensures { result ≡ list_any (λ u. items.share (item_meant u.item) (item_meant item.now))
+        uses.now }
+{
+    uses.iter().any(|used| share(&used.item, item))
+}
+
+/// Whether two footprints have the same uses in the same order. It takes no memory.
+pub fn same_uses(one: &Footprint, other: &Footprint) -> bool
+    ensures { result ≡ true → one.now ≡ other.now }
+{
+    let uses = one.uses();
+    let others = other.uses();
+    uses.len() == others.len() && are_same(uses, others)
+}
+
+/// Whether some uses are those at the start of some others.
+fn are_same(uses: &[Use], others: &[Use]) -> bool
+    requires { length uses.now ≡ length others.now }
+    ensures { result ≡ true → map use_meant uses.now ≡ map use_meant others.now }
+{
+    for index in 0..uses.len() {
+        if !is_same_use(&uses[index], &others[index]) {
+            return false;
+        }
+    }
+    true
+}
+
+/// Whether two uses are one.
+fn is_same_use(one: &Use, other: &Use) -> bool
+    ensures { result ≡ true → use_meant one.now ≡ use_meant other.now }
+{
+    one.written == other.written && is_same(&one.item, &other.item)
+}
+
+/// Whether two items are one.
+fn is_same(one: &Item, other: &Item) -> bool
+    ensures { result ≡ true → item_meant one.now ≡ item_meant other.now }
+{
+    match (one, other) {
+        (Item::Chain(one), Item::Chain(other)) => one == other,
+        (Item::Ring(one), Item::Ring(other)) => one == other,
+        (Item::Slot(ring, one), Item::Slot(other_ring, other)) => {
+            ring == other_ring && one == other
+        }
+        (Item::Descriptor(one), Item::Descriptor(other)) => one == other,
+        (Item::Description(one), Item::Description(other)) => one == other,
+        (Item::Position(one), Item::Position(other)) => one == other,
+        (Item::Size(one), Item::Size(other)) => one == other,
+        (Item::Bytes(one, low, high), Item::Bytes(other, from, to)) => {
+            one == other && low == from && high == to
+        }
+        (Item::Name(directory, one), Item::Name(other_directory, other)) => {
+            directory == other_directory && one.as_slice() == other.as_slice()
+        }
+        (Item::Names(one), Item::Names(other)) => one == other,
+        (Item::Buffer(ring, one, low, high), Item::Buffer(other_ring, other, from, to)) => {
+            ring == other_ring && one == other && low == from && high == to
+        }
+        (Item::AllNames(one), Item::AllNames(other)) => one == other,
+        (Item::AllBytesAndSizes(one), Item::AllBytesAndSizes(other)) => one == other,
+        (Item::AllPositions(one), Item::AllPositions(other)) => one == other,
+        (Item::AllDescriptions(one), Item::AllDescriptions(other)) => one == other,
+        (Item::AllDescriptors, Item::AllDescriptors) => true,
+        _ => false,
+    }
 }
 
 /// Whether two items share a part of a world.

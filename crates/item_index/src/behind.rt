@@ -1,0 +1,144 @@
+//! The reaches that come before a place, of those that an index has.
+ghost use Rattle.std.specs.Prelude.{◌≡◌, ◌<◌, ◌&&◌, IfSome, if◌then◌else◌};
+ghost use Rattle.std.specs.List.{list_any, position_from};
+ghost use Rattle.item_index.specs.Ahead.{touched, touched_before, written, written_before};
+ghost use Rattle.item_index.specs.Touching.{touched_by, written_by};
+ghost use Rattle.world_parts.specs.Items as items;
+ghost use Rattle.world_parts.specs.Uses.{item_meant};
+
+use crate::ahead::Ahead;
+use world_parts::{Footprint, Item, Use, touches_item, writes_item};
+
+/// The reaches that a place is behind.
+#[derive(Clone, Copy)]
+pub struct Behind<'a> {
+    pub(crate) ahead: &'a Ahead,
+    /// Those of the reaches in the index that are meant; with none, all of them.
+    pub(crate) among: Option<&'a [Footprint]>,
+}
+
+impl<'a> Behind<'a> {
+    /// All that were added.
+    #[tactic(auto, unfolding(crate::specs::Ahead::written_before, crate::specs::Ahead::touched_before))]
+    pub fn all(ahead: &'a Ahead) -> Self
+        ensures written { (x : items.Item) → written_before result x ≡ written ahead.now x }
+        ensures touched { (x : items.Item) → touched_before result x ≡ touched ahead.now x }
+    {
+        Behind { ahead, among: None }
+    }
+
+    /// Of those that were added, these.
+    #[tactic(auto, unfolding(crate::specs::Ahead::written_before, crate::specs::Ahead::touched_before))]
+    pub fn among(ahead: &'a Ahead, reaches: &'a [Footprint]) -> Self
+        ensures written { (x : items.Item)
+            → written_before result x ≡ (written ahead.now x && written_by reaches.now x) }
+        ensures touched { (x : items.Item)
+            → touched_before result x ≡ (touched ahead.now x && touched_by reaches.now x) }
+    {
+        Behind {
+            ahead,
+            among: Some(reaches),
+        }
+    }
+
+    /// Whether one of the reaches writes a part of an item.
+    #[tactic(auto, unfolding(crate::specs::Ahead::written_before))]
+    pub fn writes(&self, item: &Item) -> bool
+        ensures { result ≡ written_before self.now (item_meant item.now) }
+    {
+        if !self.ahead.writes(item) {
+            return false;
+        }
+        match self.among {
+            Some(reaches) => one_writes(reaches, item),
+            None => true,
+        }
+    }
+
+    /// Whether one of the reaches has a part of an item.
+    #[tactic(auto, unfolding(crate::specs::Ahead::touched_before))]
+    fn touches(&self, item: &Item) -> bool
+        ensures { result ≡ touched_before self.now (item_meant item.now) }
+    {
+        if !self.ahead.touches(item) {
+            return false;
+        }
+        match self.among {
+            Some(reaches) => one_touches(reaches, item),
+            None => true,
+        }
+    }
+
+    /// Whether one of the reaches writes a part of some item of a footprint.
+    pub fn meets(&self, footprint: &Footprint) -> bool
+        ensures { result ≡ list_any (λ u. written_before self.now u.item) footprint.now }
+    {
+        self.meets_one(footprint.uses())
+    }
+
+    fn meets_one(&self, uses: &[Use]) -> bool
+        ensures { result ≡ list_any (λ u. written_before self.now (item_meant u.item)) uses.now }
+    {
+        uses.iter().any(|used| self.writes(&used.item))
+    }
+
+    /// How many uses of a footprint come before the first whose item one of the reaches writes, if
+    /// there is one.
+    pub fn first_met(&self, footprint: &Footprint) -> Option<usize>
+        ensures first { result
+            ≡ position_from (λ u. written_before self.now u.item) 0 footprint.now }
+        ensures fits { IfSome result (λ n. n < usize.MAX) }
+    {
+        self.first_of(footprint.uses())
+    }
+
+    fn first_of(&self, uses: &[Use]) -> Option<usize>
+        ensures first { result
+            ≡ position_from (λ u. written_before self.now (item_meant u.item)) 0 uses.now }
+        ensures fits { IfSome result (λ n. n < usize.MAX) }
+    {
+        uses.iter().position(|used| self.writes(&used.item))
+    }
+
+    /// Whether a footprint collides with one of the reaches.
+    pub fn collides(&self, footprint: &Footprint) -> bool
+        ensures { result ≡ list_any (λ u. if u.written then touched_before self.now u.item
+            else written_before self.now u.item) footprint.now }
+    {
+        self.collides_one(footprint.uses())
+    }
+
+    fn collides_one(&self, uses: &[Use]) -> bool
+        ensures { result ≡ list_any (λ u. if u.written
+            then touched_before self.now (item_meant u.item)
+            else written_before self.now (item_meant u.item)) uses.now }
+    {
+        uses.iter().any(|used| self.collides_at(used))
+    }
+
+    fn collides_at(&self, used: &Use) -> bool
+        ensures { result ≡ (if used.now.written
+            then touched_before self.now (item_meant used.now.item)
+            else written_before self.now (item_meant used.now.item)) }
+    {
+        if used.written {
+            self.touches(&used.item)
+        } else {
+            self.writes(&used.item)
+        }
+    }
+}
+
+/// Whether one of some reaches writes a part of an item: most often the latest does.
+fn one_writes(reaches: &[Footprint], item: &Item) -> bool
+    ensures { result ≡ written_by reaches.now (item_meant item.now) }
+{
+    reaches.iter().rev().any(|reach| writes_item(reach, item))
+}
+
+/// Whether one of some reaches has a part of an item: most often the latest does.
+fn one_touches(reaches: &[Footprint], item: &Item) -> bool
+    ensures { result ≡ touched_by reaches.now (item_meant item.now) }
+{
+    reaches.iter().rev().any(|reach| touches_item(reach, item))
+}
