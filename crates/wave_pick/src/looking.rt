@@ -7,7 +7,7 @@ ghost use Rattle.wave_pick.specs.Picking.{LooksOn};
 
 use chain_plan::Plan;
 use foot_print::{foot_in, reach_in};
-use item_index::Ahead;
+use item_index::{Ahead, Behind};
 use std::alloc::{AllocError, Global};
 use trace_format::Trace;
 use world_parts::{Footprint, World};
@@ -50,7 +50,8 @@ pub(crate) fn look_at(
     let role = plan.role(place);
     let footprint = foot_in(alloc, place, trace, &role, world.state())?;
     if ahead.meets(&footprint) {
-        let reach = reach_in(alloc, place, trace, &role, world.state(), ahead)?;
+        let behind = Behind::all(ahead);
+        let reach = reach_in(alloc, place, trace, &role, world.state(), &behind)?;
         ahead.add(alloc, &reach)?;
         return Ok(Seen {
             footprint,
