@@ -14,6 +14,8 @@ ghost use Rattle.wave_pick.specs.Holding.{SharedWhereColliding};
 ghost use Rattle.wave_pick.specs.Lawful.{covered, lawful};
 ghost use Rattle.wave_pick.specs.Orders.{LinksAndDrainsHold, LinksAndDrainsPart};
 ghost use Rattle.wave_pick.specs.Orders.{LinksAndDrainsRise};
+ghost use Rattle.wave_pick.specs.Resting.{RestsByItems, RestsDecided, RestsOnStays};
+ghost use Rattle.wave_pick.specs.Resting.{RestsUndecided, RestsUnmet};
 ghost use Rattle.wave_pick.specs.Rounds.{NoneCollide, RoundsAreNumbered};
 ghost use Rattle.wave_pick.specs.Sequential.{OrdersEndAsTheModel, RoundsEndAsTheModel};
 ghost use Rattle.wave_pick.specs.Sequential.{RunsAsTheModel};
@@ -141,4 +143,19 @@ pub fn rows_meet_the_same()
     ensures deciding { (t : Trace) → DecidingInRow t }
     ensures hold { (t : Trace) → RowWitnessHolds t }
     ensures stay { (t : Trace) → IsSpelled t → RowWitnessStays t }
+{}
+
+/// A waiting place may rest on one earlier place: while that one waits with the same reach, it
+/// holds back the other, whose reach stays the same, so that the other needn't be looked at. One
+/// whose footprint no reach before it writes rests on any that holds it back. One that may run
+/// rests on a place whose reach writes one of the items by which it waits: those of its row where
+/// it is decided, else those that decide, up to the first one that is written. That place's reach
+/// must also write the flag of its chain and, where it takes the lowest free descriptor, some
+/// descriptor, if any reach before it does. What rests so in one round rests so in the next.
+pub fn waiting_places_rest()
+    ensures unmet { (t : Trace) → IsSpelled t → RestsUnmet t }
+    ensures decided { (t : Trace) → IsSpelled t → RestsDecided t }
+    ensures undecided { (t : Trace) → IsSpelled t → RestsUndecided t }
+    ensures items { (t : Trace) → IsSpelled t → RestsByItems t }
+    ensures stay { (t : Trace) → RestsOnStays t }
 {}

@@ -1,0 +1,177 @@
+-- What a place keeps that rests on one whose reach writes for all: whether it may run, whether a descriptor is written, and its rows.
+use Rattle.std.proofs.Common.{◌≡◌, ℕ, zero, suc, ◌<◌, ◌≤◌, Bool, true, false, if◌then◌else◌, List, [], ◌∷◌, ◌++◌, inl, inr, refl, sym, ap, subst, ◌∙◌, arith}
+use Rattle.std.specs.Prelude.{T, ◌&&◌, leb, Option, Some, None, Result, Ok, Err}
+use Rattle.std.specs.Option.{option_map}
+use Rattle.std.proofs.lemmas.Bool.{cases_Bool}
+use Rattle.sqe_codec.specs.declared.errno.Errno.{Errno}
+use Rattle.trace_format.specs.declared.trace.Entry.{Entry}
+use Rattle.trace_format.specs.declared.trace.Trace.{Trace}
+use Rattle.trace_format.specs.Steps.{Step, Action, submit, fill, places, step_at}
+use Rattle.trace_format.specs.Text.{IsSpelled}
+use Rattle.chain_plan.specs.declared.role.Role.{Role}
+use Rattle.chain_plan.specs.Chain.{role}
+use Rattle.entry_checks.specs.Check.{check}
+use Rattle.entry_checks.specs.Operation.{Operation, openat}
+use Rattle.world_parts.specs.World.{World, Broken, broken}
+use Rattle.world_parts.specs.Items.{Atom, Item, chain_flag, one, all_descriptors, member_of, Use, Footprint, has_atom, collide}
+use Rattle.world_parts.proofs.Collision.{true_of, same_atom-eq, first_writes-collide, writes-has}
+use Rattle.world_parts.proofs.Sharing.{holds_true}
+use Rattle.op_meaning.specs.Step.{Turn, filled, refused, canceled, runs, posts, doomed_turn, running_turn, entry_turn, turn}
+use Rattle.foot_print.specs.Outlook.{takes_lowest, turn_takes_lowest}
+use Rattle.foot_print.specs.Reach.{written_by, makes, room_taken, task, is_canceled, is_taken_to_run, extras_of, unresolved_of, order_of}
+use Rattle.foot_print.specs.Replayed.{replayed}
+use Rattle.foot_print.proofs.Agreement.{in_left}
+use Rattle.foot_print.proofs.Holding.{drop_false}
+use Rattle.foot_print.proofs.Writing.{is_false, not_false, atom_of_writes, written_thin}
+use Rattle.wave_pick.specs.Lawful.{lawful}
+use Rattle.wave_pick.specs.Waiting.{Waits, world_after, footprint_after, reaches_after, reach_after, HoldsBack, WritesRow, ChainIsSettled, descriptors_wait, ReachRowsStay}
+use Rattle.wave_pick.specs.Resting.{StaysAsIs, WritesForAll}
+use Rattle.wave_pick.proofs.Orders.{writes_chain}
+use Rattle.wave_pick.proofs.Resting.{written_before, stays_before, same_reach}
+use Rattle.wave_pick.proofs.Staying.{waited, keeps_round}
+use Rattle.wave_pick.proofs.Waiting.{until, turn_stays, look_next}
+use Rattle.wave_pick.proofs.Wide.{wide_stays}
+use Rattle.wave_pick.proofs.Witness.{row_witness_holds}
+
+-- Only a member of a chain of two or more is canceled.
+entry_linked : (c : Role) (r : ℕ) (e : Entry) (b : Option Broken) (v : Result Operation Errno) → is_canceled (Some (entry_turn r e c b v)) ≡ true → leb 2 c.length ≡ true
+entry_linked c r e b (Err x) = λ h. (cc)
+entry_linked c r e b (Ok o) =
+    elim c.doomed as (λ d. is_canceled (Some (if d then doomed_turn c (Ok o) else running_turn r e c b o)) ≡ true → leb 2 c.length ≡ true) [ true ↦ λ h. (cc) | false ↦ running b ]
+  where
+    running : (f : Option Broken) → is_canceled (Some (running_turn r e c f o)) ≡ true → leb 2 c.length ≡ true
+    running None = λ h. (cc)
+    running (Some f) = elim (leb 2 c.length) as (λ l. is_canceled (Some (if l then canceled (posts f) else runs r e o)) ≡ true → l ≡ true) [ true ↦ λ h. refl | false ↦ λ h. h ]
+
+canceled_linked : (t : Trace) (k : ℕ) (s : World) → is_canceled (turn t k s) ≡ true → leb 2 (role t k).length ≡ true
+canceled_linked t k s = at (step_at t k)
+  where
+    of : ℕ → Action → Turn
+    of r (fill buffer p new) = filled r buffer p new
+    of r (submit e) = entry_turn r e (role t k) (broken s (role t k).chain) (check t.version e)
+
+    act : (r : ℕ) (x : Action) → is_canceled (Some (of r x)) ≡ true → leb 2 (role t k).length ≡ true
+    act r (fill buffer p new) = λ h. (cc)
+    act r (submit e) = entry_linked (role t k) r e (broken s (role t k).chain) (check t.version e)
+
+    at : (x : Option Step) → is_canceled (option_map (λ (y : Step). of y.ring y.action) x) ≡ true → leb 2 (role t k).length ≡ true
+    at None = λ h. (cc)
+    at (Some y) = act y.ring y.action
+
+runs_unless : (b : Bool) → (if b then false else true) ≡ true → b ≡ false
+runs_unless true h = (cc)
+runs_unless false h = refl
+
+-- Where no reach before it writes its chain's flag, a place may run unless it is canceled.
+settled_runs : (t : Trace) (window r k : ℕ) → ChainIsSettled t window r k → is_taken_to_run t k (world_after t window r) (reaches_after t window r k) ≡ (if is_canceled (turn t k (world_after t window r)) then false else true)
+settled_runs t window r k e = λ j. if e j then true else (if is_canceled (turn t k (world_after t window r)) then false else true)
+
+-- A place whose reach writes the row of a later one holds that one back where its reach writes the flag of that one's chain, or nothing before that one does and it may run.
+module _ (t : Trace) (window r i k : ℕ) where
+  abbrev flag : Atom
+  flag = chain_flag (role t k).chain
+
+  flag_collides : written_by (reach_after t window r i ∷ []) (one flag) ≡ true → leb 2 (role t k).length ≡ true → collide (footprint_after t window r k) (reach_after t window r i) ≡ true
+  flag_collides h two =
+      let c = atom_of_writes (one flag) (reach_after t window r i) (drop_false _ (holds_true _ h)) in
+      let there = subst (λ (a : Atom). T (has_atom (reach_after t window r i) a)) (sym (same_atom-eq flag c.0 c.2)) (writes-has (reach_after t window r i) c.0 c.1) in
+      true_of _ (first_writes-collide (footprint_after t window r k) (reach_after t window r i) flag (in_left (λ (u : Use). u.written && member_of u.item flag) (order_of t k) _ (writes_chain t k two)) there)
+
+  pub holds_by_row : is_taken_to_run t k (world_after t window r) (reaches_after t window r k) ≡ true → WritesForAll t window r i k → WritesRow t window r i k → HoldsBack t window r i k
+  holds_by_row run h w = elim h.chain [
+    | inl settled ↦ (row_witness_holds t window r i k w).1 (runs_unless (is_canceled (turn t k (world_after t window r))) (sym (settled_runs t window r k settled) ∙ run))
+    | inr writes ↦ elim (cases_Bool (is_canceled (turn t k (world_after t window r)))) [
+      | inl off ↦ record { is_before = w.is_before; waits = w.waits; collides = flag_collides writes (canceled_linked t k (world_after t window r) off) }
+      | inr on ↦ (row_witness_holds t window r i k w).1 on
+    ]
+  ]
+
+-- Where a turn doesn't take the lowest free descriptor, what it may make and its room are told by neither world nor reaches.
+same_extras : (t : Trace) (k : ℕ) (s u : World) (earlier later : List Footprint) (x : Option Turn) → turn_takes_lowest x ≡ false → extras_of t k u later x ≡ extras_of t k s earlier x
+same_extras t k s u earlier later None e = refl
+same_extras t k s u earlier later (Some (filled r b at new)) e = refl
+same_extras t k s u earlier later (Some (refused x p)) e = refl
+same_extras t k s u earlier later (Some (canceled p)) e = refl
+same_extras t k s u earlier later (Some (runs r x o)) e = ap (λ f. makes t k o ++ f) (room o e)
+  where
+    room : (o : Operation) → takes_lowest o ≡ false → room_taken t u r later o ≡ room_taken t s r earlier o
+    room (openat p g zero) h = absurd (cc h)
+    room (openat p g (suc n)) h = refl
+    room _ h = refl
+
+same_unresolved : (t : Trace) (k : ℕ) (s u : World) (x : Option Turn) → unresolved_of t k u x ≡ unresolved_of t k s x
+same_unresolved t k s u None = refl
+same_unresolved t k s u (Some (filled r b at new)) = refl
+same_unresolved t k s u (Some (refused x p)) = refl
+same_unresolved t k s u (Some (canceled p)) = refl
+same_unresolved t k s u (Some (runs r x o)) = refl
+
+module _ (t : Trace) (spelled : IsSpelled t) (window : ℕ) where
+  -- Where no reach before a place writes a descriptor, none does while it waits.
+  unwritten_stays : (r q k : ℕ) → r ≤ q → Waits t window q k → descriptors_wait t window r k ≡ false → descriptors_wait t window q k ≡ false
+  unwritten_stays r q k le waits e =
+      until t spelled window k (λ n. descriptors_wait t window n k ≡ false) (λ n later h.
+      keeps_round (replayed t) (lawful t spelled) (places t) window n k later (λ rs. written_by rs all_descriptors ≡ false) (λ rs less m d. is_false _ (λ w. not_false _ d (written_thin t all_descriptors less rs m w))) h) r q le waits e
+
+  module _ (r i k : ℕ) (lt : i < k) (h : WritesForAll t window r i k) where
+    module _ (p : ℕ) (le : r ≤ p) (stays : StaysAsIs t window r p i) (waits : Waits t window p k) where
+      writes_still : (x : Item) → written_by (reach_after t window r i ∷ []) x ≡ true → written_by (reach_after t window p i ∷ []) x ≡ true
+      writes_still x w = ap (λ f. written_by (f ∷ []) x) (same_reach t window r p i le stays) ∙ w
+
+      pub writes_for_all_still : WritesForAll t window p i k
+      writes_for_all_still = record {
+        chain = elim h.chain [
+          | inl settled ↦ inl ((turn_stays t spelled window r p k le waits settled).1)
+          | inr w ↦ inr (writes_still (one (chain_flag (role t k).chain)) w)
+        ];
+        descriptors = elim h.descriptors [
+          | inl e ↦ inl e
+          | inr d ↦ inr (elim d [ inl e ↦ inl (unwritten_stays r p k le waits e) | inr w ↦ inr (writes_still all_descriptors w) ])
+        ];
+      }
+
+      pub runs_still : is_taken_to_run t k (world_after t window r) (reaches_after t window r k) ≡ true → is_taken_to_run t k (world_after t window p) (reaches_after t window p k) ≡ true
+      runs_still run = elim h.chain [
+        | inl settled ↦
+            let kept = turn_stays t spelled window r p k le waits settled in
+            settled_runs t window p k kept.1 ∙ ap (λ (x : Option Turn). if is_canceled x then false else true) kept.0 ∙ sym (settled_runs t window r k settled) ∙ run
+        | inr w ↦
+            let e = written_before t window p i k lt stays.waits (one (chain_flag (role t k).chain)) (writes_still (one (chain_flag (role t k).chain)) w) in
+            λ j. if e j then true else (if is_canceled (turn t k (world_after t window p)) then false else true)
+      ]
+
+      descriptors_now : written_by (reach_after t window r i ∷ []) all_descriptors ≡ true → descriptors_wait t window p k ≡ true
+      descriptors_now w = written_before t window p i k lt stays.waits all_descriptors (writes_still all_descriptors w)
+
+    -- So the wide row of the later one stays from one round to the next, and so does its row as accepted where it is decided.
+    module _ (p : ℕ) (le : r ≤ p) (stays : StaysAsIs t window r (suc p) i) (waits : Waits t window (suc p) k)
+        (run : is_taken_to_run t k (world_after t window p) (reaches_after t window p k) ≡ true) where
+      abbrev s : World
+      s = world_after t window p
+
+      abbrev u : World
+      u = world_after t window (suc p)
+
+      extras_next : turn_takes_lowest (task t k) ≡ false → extras_of t k u (reaches_after t window (suc p) k) (task t k) ≡ extras_of t k s (reaches_after t window p k) (task t k)
+      extras_next e = same_extras t k s u (reaches_after t window p k) (reaches_after t window (suc p) k) (task t k) e
+
+      next : r ≤ suc p
+      next = omega (arith, le)
+
+      before : StaysAsIs t window r p i
+      before = stays_before t spelled window r p i stays
+
+      waited_before : Waits t window p k
+      waited_before = waited (replayed t) (lawful t spelled) (places t) window p k waits
+
+      pub rows_next : ReachRowsStay t window p k
+      rows_next = elim h.descriptors [
+        | inl e ↦ record {
+          wide = λ j. order_of t k ++ (same_unresolved t k s u (task t k) j ++ extras_next e j);
+          accepted = λ d j. order_of t k ++ ((look_next t spelled window p k waits (record { may_run = run; unmet = d }) j).items ++ extras_next e j);
+        }
+        | inr d ↦ wide_stays t spelled window p k waits run (elim d [
+          | inl e ↦ unwritten_stays r (suc p) k next waits e ∙ sym (unwritten_stays r p k le waited_before e)
+          | inr w ↦ descriptors_now (suc p) next stays waits w ∙ sym (descriptors_now p le before waited_before w)
+        ])
+      ]

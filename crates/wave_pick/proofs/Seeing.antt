@@ -1,0 +1,223 @@
+-- What is seen of a place behind others, and on which of them it rests.
+use Rattle.std.specs.Prelude.{◌≡◌, ℕ, zero, suc, ◌<◌, Bool, true, false, not, ◌&&◌, ◌||◌, T, List, [], ◌∷◌, ◌++◌, map, reverse, slice_get, Option, Some, None, IfSome, refl, if◌then◌else◌}
+use Rattle.std.specs.Borrow.{Bor}
+use Rattle.std.specs.List.{list_any}
+use Rattle.std.proofs.Common.{◌⊎◌, inl, inr, sym, ap, subst, ◌∙◌}
+use mathlib.Core.Path.{fun_ext}
+use Rattle.std.proofs.lemmas.Bool.{cases_Bool}
+use Rattle.std.proofs.lemmas.List.{map-append, reverse-append}
+use Rattle.std.proofs.lemmas.Option.{slice_get-map}
+use Rattle.std.specs.Option.{option_map}
+use Rattle.interleaving.proofs.Skipping.{reaches-out, reaches-in}
+use Rattle.std.proofs.lemmas.List.Sorted.{list_any-IsPermutation, IsPermutation-reverse}
+use Rattle.interleaving.specs.System.{is_clear}
+use Rattle.interleaving.specs.Machine.{has}
+use Rattle.interleaving.specs.Rounds.{pending}
+use Rattle.interleaving.proofs.Members.{has-here, has-later, has-pending, pending-out, pending-in}
+use Rattle.trace_format.specs.declared.trace.Trace.{Trace}
+use Rattle.trace_format.specs.Text.{IsSpelled}
+use Rattle.chain_plan.specs.Chain.{role}
+use Rattle.world_parts.specs.Items.{Item, Use, chain_flag, one, all_descriptors, share, Footprint, collide}
+use Rattle.world_parts.specs.Uses.{use_meant}
+use Rattle.world_parts.specs.declared.footprint.Use as code
+use Rattle.world_parts.proofs.Collision.{any_passes, left, right, either_left, true_of}
+use Rattle.world_parts.proofs.Sharing.{holds_true}
+use Rattle.item_index.specs.Touching.{touched_by, touches_item, written_by, writes_item}
+use Rattle.foot_print.specs.Reach.{is_met, task}
+use Rattle.foot_print.specs.Outlook.{IsOutlook, WaitsBy, items_awaited, turn_takes_lowest}
+use Rattle.foot_print.specs.Replayed.{replayed}
+use Rattle.foot_print.specs.declared.reaching.Outlook.{Outlook}
+use Rattle.item_index.specs.Ahead.{touched_before, written_before}
+use Rattle.item_index.specs.declared.behind.Behind.{Behind}
+use Rattle.foot_print.proofs.Foreseeing.{given_is_reach}
+use Rattle.foot_print.proofs.Unmet.{unmet_reach}
+use Rattle.wave_pick.specs.Grounds.{writes_chain, IsGround, RestsOnGround}
+use Rattle.wave_pick.specs.Resting.{RestsOn}
+use Rattle.wave_pick.specs.Rounds.{state_after}
+use Rattle.wave_pick.specs.Scheduling.{AreBefore, IsBehind, IsView}
+use Rattle.wave_pick.specs.Waiting.{Waits, world_after, footprint_after, reaches_after, reach_after}
+use Rattle.wave_pick.specs.declared.scheduler.Ground.TheVariants.{Collides}
+use Rattle.wave_pick.proofs.Clear.{clear_is, meets_all}
+use Rattle.wave_pick.proofs.Resting.{rests_unmet}
+use Rattle.wave_pick.proofs.RestingItems.{rests_by_items}
+
+pub has-got : (xs : List ℕ) (y i : ℕ) → slice_get xs y ≡ Some i → has xs i ≡ true
+has-got [] zero i e = (cc)
+has-got [] (suc y) i e = (cc)
+has-got (x ∷ xs) zero i e = let same : x ≡ i = cc in ap (λ j. has (j ∷ xs) i) same ∙ has-here i xs
+has-got (x ∷ xs) (suc y) i e = has-later i x xs (has-got xs y i e)
+
+-- A test of uses as the code has them.
+pub any-meant : (p : Use → Bool) (us : List code.Use) → list_any (λ u. p (use_meant u)) us ≡ list_any p (map use_meant us)
+any-meant p [] = refl
+any-meant p (u ∷ us) = ap (λ (b : Bool). p (use_meant u) || b) (any-meant p us)
+
+-- The reaches of the places that wait, in order and turned round.
+module _ (t : Trace) (window q : ℕ) where
+  abbrev done : ℕ → Bool
+  done = has (state_after t window q).finished
+
+  abbrev turned : List ℕ → List Footprint
+  turned ks = reverse (map (reach_after t window q) ks)
+
+  turned_next : (n : ℕ) → (done n ≡ true) ⊎ (done n ≡ false) → turned (pending done n) ≡ reaches_after t window q n → turned (pending done (suc n)) ≡ reaches_after t window q (suc n)
+  turned_next n (inl e) before = ap turned (pending-out done n e) ∙ before ∙ sym (reaches-out (replayed t) done (world_after t window q) n e)
+  turned_next n (inr e) before =
+      ap turned (pending-in done n e)
+      ∙ ap reverse (map-append (reach_after t window q) (pending done n) (n ∷ []))
+      ∙ reverse-append (map (reach_after t window q) (pending done n)) (reach_after t window q n ∷ [])
+      ∙ ap (λ gs. reach_after t window q n ∷ gs) before
+      ∙ sym (reaches-in (replayed t) done (world_after t window q) n e)
+
+pub reaches_turned : (t : Trace) (window q n : ℕ) → reverse (map (reach_after t window q) (pending (has (state_after t window q).finished) n)) ≡ reaches_after t window q n
+reaches_turned t window q zero = refl
+reaches_turned t window q (suc n) = turned_next t window q n (cases_Bool (has (state_after t window q).finished n)) (reaches_turned t window q n)
+
+-- A footprint that some reach writes isn't clear of them.
+module _ (t : Trace) (f : Footprint) (rs : List Footprint) where
+  written_touched : (x : Item) → T (written_by rs x) → T (touched_by rs x)
+  written_touched x w = any_passes (λ g. writes_item g x) (λ g. touches_item g x)
+      (λ g m. any_passes (λ (u : Use). u.written && share u.item x) (λ (u : Use). share u.item x) (λ u n. right u.written (share u.item x) n) g m) rs w
+
+  met_all : T (is_met f rs) → T (meets_all f rs)
+  met_all m = any_passes (λ (u : Use). written_by rs u.item) (λ (u : Use). if u.written then touched_by rs u.item else written_by rs u.item) at f m
+    where
+      at : (u : Use) → T (written_by rs u.item) → T (if u.written then touched_by rs u.item else written_by rs u.item)
+      at u w = elim u.written as (λ b. T (if b then touched_by rs u.item else written_by rs u.item)) [ true ↦ written_touched u.item w | false ↦ w ]
+
+  pub met_not_clear : is_met f rs ≡ true → false ≡ is_clear (replayed t) f rs
+  met_not_clear e = ap not (sym (true_of _ (met_all (holds_true _ e)))) ∙ clear_is t f rs
+
+module _ (t : Trace) (spelled : IsSpelled t) (window q k : ℕ) (earlier : List ℕ) (reaches : List Footprint) (b : AreBefore t window q k earlier reaches) where
+  abbrev rs : List Footprint
+  rs = reaches_after t window q k
+
+  latest_first : reverse reaches ≡ rs
+  latest_first = ap reverse (b.reaches_are ∙ ap (map (reach_after t window q)) b.places_are) ∙ reaches_turned t window q k
+
+  pub written_same : (x : Item) → written_by reaches x ≡ written_by rs x
+  written_same x = list_any-IsPermutation (λ g. writes_item g x) reaches (reverse reaches) (IsPermutation-reverse reaches) ∙ ap (λ gs. written_by gs x) latest_first
+
+  pub touched_same : (x : Item) → touched_by reaches x ≡ touched_by rs x
+  touched_same x = list_any-IsPermutation (λ g. touches_item g x) reaches (reverse reaches) (IsPermutation-reverse reaches) ∙ ap (λ gs. touched_by gs x) latest_first
+
+  each : (y i : ℕ) (g : Footprint) → slice_get earlier y ≡ Some i → slice_get reaches y ≡ Some g → g ≡ reach_after t window q i
+  each y i g at here = some-same (sym here ∙ ap (λ gs. slice_get gs y) b.reaches_are ∙ slice_get-map (reach_after t window q) earlier y ∙ ap (option_map (reach_after t window q)) at)
+    where
+      some-same : {f h : Footprint} → ◌≡◌ {A = Option Footprint} (Some f) (Some h) → f ≡ h
+      some-same e = cc
+
+  place_before : (y i : ℕ) → slice_get earlier y ≡ Some i → (i < k) × Waits t window q i
+  place_before y i e = has-pending (has (state_after t window q).finished) k i (ap (λ ks. has ks i) (sym b.places_are) ∙ has-got earlier y i e)
+
+  -- A place that no reach before it writes rests on one that holds it back.
+  pub unmet_rests : (f : Footprint) (i : ℕ) → f ≡ footprint_after t window q k → is_met f rs ≡ false → (bor : Bor Footprint) → bor.now ≡ f → IsGround (Collides bor) earlier reaches i → RestsOn t window q i k
+  unmet_rests f i e unmet bor is g =
+      let before = place_before g.at i g.is_place in
+      rests_unmet t spelled window q i k b.waits (ap (λ h. is_met h rs) (sym e) ∙ unmet) (record {
+        is_before = before.0;
+        waits = before.1;
+        collides = (λ j. collide (sym (is ∙ e) j) (sym (each g.at i g.reach g.is_place g.is_reach) j)) ∙ g.holds;
+      })
+
+  -- One that waits by some items rests on one that writes one of these, and what else it has to.
+  module _ (w : Item → Bool) (same : (x : Item) → w x ≡ written_by rs x) (o : Outlook) (is : IsOutlook t k (world_after t window q) w o) (chain : ℕ) (of_role : chain ≡ (role t k).chain) where
+    abbrev flag : ℕ → Item
+    flag c = one (chain_flag c)
+
+    by_writing : w ≡ written_by rs
+    by_writing = fun_ext same
+
+    waits : (items : Footprint) → items_awaited o.waits_by o.reach ≡ Some items → WaitsBy t k (world_after t window q) (written_by rs) items
+    waits items e = subst (λ v. WaitsBy t k (world_after t window q) v items) by_writing (subst (λ x. Rattle.std.specs.Prelude.IfSome x (λ f. WaitsBy t k (world_after t window q) w f)) e is.by)
+
+    one_writes : (g : Footprint) (x : Item) → T (writes_item g x) → written_by (g ∷ []) x ≡ true
+    one_writes g x h = true_of _ (either_left (writes_item g x) false h)
+
+    for_chain : (g : Footprint) → T (writes_chain g (if w (flag chain) then Some chain else None)) → (written_by rs (flag (role t k).chain) ≡ false) ⊎ (written_by (g ∷ []) (flag (role t k).chain) ≡ true)
+    for_chain g h = go (cases_Bool (w (flag chain)))
+      where
+        go : (w (flag chain) ≡ true) ⊎ (w (flag chain) ≡ false) → (written_by rs (flag (role t k).chain) ≡ false) ⊎ (written_by (g ∷ []) (flag (role t k).chain) ≡ true)
+        go (inl e) = inr (subst (λ c. written_by (g ∷ []) (flag c) ≡ true) of_role (one_writes g (flag chain) (subst (λ v. T (writes_chain g (if v then Some chain else None))) e h)))
+        go (inr e) = inl (subst (λ c. written_by rs (flag c) ≡ false) of_role (sym (same (flag chain)) ∙ e))
+
+    for_descriptors : (g : Footprint) → T (if o.takes_lowest && w all_descriptors then writes_item g all_descriptors else true)
+        → (turn_takes_lowest (task t k) ≡ false) ⊎ ((written_by rs all_descriptors ≡ false) ⊎ (written_by (g ∷ []) all_descriptors ≡ true))
+    for_descriptors g h = go (cases_Bool o.takes_lowest) (cases_Bool (w all_descriptors))
+      where
+        go : (o.takes_lowest ≡ true) ⊎ (o.takes_lowest ≡ false) → (w all_descriptors ≡ true) ⊎ (w all_descriptors ≡ false)
+            → (turn_takes_lowest (task t k) ≡ false) ⊎ ((written_by rs all_descriptors ≡ false) ⊎ (written_by (g ∷ []) all_descriptors ≡ true))
+        go (inr e) d = inl (sym is.lowest ∙ e)
+        go (inl e) (inr d) = inr (inl (sym (same all_descriptors) ∙ d))
+        go (inl e) (inl d) = inr (inr (one_writes g all_descriptors (subst (λ v. T (if v then writes_item g all_descriptors else true)) (λ j. e j && d j) h)))
+
+    pub items_rest : (i : ℕ) → RestsOnGround o chain w earlier reaches i → RestsOn t window q i k
+    items_rest i r =
+        let g = r.ground in
+        let before = place_before g.at i g.is_place in
+        let reach_is : g.reach ≡ reach_after t window q i = each g.at i g.reach g.is_place g.is_reach in
+        let some = list_any (λ (u : Use). writes_item g.reach u.item) r.items.now in
+        let flagged = writes_chain g.reach (if w (flag chain) then Some chain else None) in
+        let lowest = if o.takes_lowest && w all_descriptors then writes_item g.reach all_descriptors else true in
+        let held : T ((some && flagged) && lowest) = holds_true _ g.holds in
+        let first : T (some && flagged) = left (some && flagged) lowest held in
+        let met : is_met r.items.now (g.reach ∷ []) ≡ true = true_of _ (any_passes (λ (u : Use). writes_item g.reach u.item) (λ (u : Use). written_by (g.reach ∷ []) u.item)
+        (λ u n. either_left (writes_item g.reach u.item) false n) r.items.now (left some flagged first)) in
+        let chain_there = for_chain g.reach (right some flagged first) in
+        let descriptors_there = for_descriptors g.reach (right (some && flagged) lowest held) in
+        let both = subst (λ h. ((written_by rs (flag (role t k).chain) ≡ false) ⊎ (written_by (h ∷ []) (flag (role t k).chain) ≡ true))
+        × ((turn_takes_lowest (task t k) ≡ false) ⊎ ((written_by rs all_descriptors ≡ false) ⊎ (written_by (h ∷ []) all_descriptors ≡ true)))) reach_is (chain_there, descriptors_there) in
+        rests_by_items t spelled window q i k r.items.now before.0 before.1 b.waits (waits r.items.now r.waits_by) (record { chain = both.0; descriptors = both.1 }) (ap (λ h. is_met r.items.now (h ∷ [])) (sym reach_is) ∙ met)
+
+-- A look at a place whose footprint this is, behind an index.
+module _ (t : Trace) (spelled : IsSpelled t) (window q k : ℕ) (earlier : List ℕ) (reaches : List Footprint) (a : AreBefore t window q k earlier reaches) (b : Behind) (is : IsBehind reaches b) (f : Footprint) (foot : f ≡ footprint_after t window q k) where
+  abbrev before : List Footprint
+  before = reaches_after t window q k
+
+  writes_is : (x : Item) → written_before b x ≡ written_by before x
+  writes_is x = is.writes x ∙ written_same t spelled window q k earlier reaches a x
+
+  touches_is : (x : Item) → touched_before b x ≡ touched_by before x
+  touches_is x = is.touches x ∙ touched_same t spelled window q k earlier reaches a x
+
+  met_is : list_any (λ (u : Use). written_before b u.item) f ≡ is_met (footprint_after t window q k) before
+  met_is = λ i. list_any (λ (u : Use). writes_is u.item i) (foot i)
+
+  clear_so : not (list_any (λ (u : Use). if u.written then touched_before b u.item else written_before b u.item) f) ≡ is_clear (replayed t) (footprint_after t window q k) before
+  clear_so = (λ i. not (list_any (λ (u : Use). if u.written then touches_is u.item i else writes_is u.item i) (foot i))) ∙ clear_is t (footprint_after t window q k) before
+
+  pub seen_met : true ≡ list_any (λ (u : Use). written_before b u.item) f → (o : Outlook) → IsOutlook t k (world_after t window q) (written_before b) o → (chain : ℕ) → chain ≡ (role t k).chain
+      → (on : Option ℕ) → IfSome on (RestsOnGround o chain (written_before b) earlier reaches) → IsView t window q k (record { reach = o.reach; on = on; free = false })
+  seen_met m o out chain of_role on grounds = record {
+    reach = given_is_reach t k (world_after t window q) (world_after t window q) (written_before b) before o.reach refl writes_is out.reach;
+    rests = λ i e. items_rest t spelled window q k earlier reaches a (written_before b) writes_is o out chain of_role i (subst (λ x. IfSome x (RestsOnGround o chain (written_before b) earlier reaches)) e grounds);
+    free = met_not_clear t (footprint_after t window q k) before (sym met_is ∙ sym m);
+    foot = λ e. absurd (subst T (sym e) tt);
+  }
+
+  unmet : false ≡ list_any (λ (u : Use). written_before b u.item) f → is_met (footprint_after t window q k) before ≡ false
+  unmet m = sym met_is ∙ sym m
+
+  reach_so : false ≡ list_any (λ (u : Use). written_before b u.item) f → f ≡ reach_after t window q k
+  reach_so m = foot ∙ sym (unmet_reach t k (world_after t window q) before (unmet m))
+
+  pub seen_held : false ≡ list_any (λ (u : Use). written_before b u.item) f → true ≡ list_any (λ (u : Use). if u.written then touched_before b u.item else written_before b u.item) f
+      → (bor : Bor Footprint) → bor.now ≡ f → (on : Option ℕ) → IfSome on (IsGround (Collides bor) earlier reaches) → IsView t window q k (record { reach = f; on = on; free = false })
+  seen_held m c bor same on grounds = record {
+    reach = reach_so m;
+    rests = λ i e. unmet_rests t spelled window q k earlier reaches a f i foot (ap (λ h. is_met h before) foot ∙ unmet m) bor same (subst (λ x. IfSome x (IsGround (Collides bor) earlier reaches)) e grounds);
+    free = ap not c ∙ clear_so;
+    foot = λ e. absurd (subst T (sym e) tt);
+  }
+
+  pub seen_free : false ≡ list_any (λ (u : Use). written_before b u.item) f → false ≡ list_any (λ (u : Use). if u.written then touched_before b u.item else written_before b u.item) f
+      → IsView t window q k (record { reach = f; on = None; free = true })
+  seen_free m c = record {
+    reach = reach_so m;
+    rests = λ i e. none-some i e;
+    free = ap not c ∙ clear_so;
+    foot = λ e. foot;
+  }
+    where
+      none-some : {Y : Type 0} (i : ℕ) → ◌≡◌ {A = Option ℕ} None (Some i) → Y
+      none-some i e = (cc)

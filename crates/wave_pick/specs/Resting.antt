@@ -1,0 +1,47 @@
+-- A law: on which earlier place a waiting one may rest, so that it needn't be looked at again while that one waits unchanged.
+use Rattle.std.specs.Prelude.{◌≡◌, ◌⊎◌, ℕ, suc, ◌<◌, ◌≤◌, true, false, [], ◌∷◌, ◌++◌}
+use Rattle.trace_format.specs.declared.trace.Trace.{Trace}
+use Rattle.chain_plan.specs.Chain.{role}
+use Rattle.world_parts.specs.Items.{chain_flag, one, all_descriptors, Use, Footprint}
+use Rattle.foot_print.specs.Reach.{written_by, is_met, task, is_taken_to_run}
+use Rattle.foot_print.specs.Outlook.{turn_takes_lowest, WaitsBy}
+use Rattle.wave_pick.specs.Waiting.{Waits, HoldsBack, IsDecided, WritesRow, ChainIsSettled, world_after, footprint_after, reaches_after, reach_after, look_after, descriptors_wait}
+
+-- From round r to round q a place waits with one reach.
+pub record StaysAsIs (t : Trace) (window r q i : ℕ) : Type 0 where
+  pub waits : Waits t window q i
+  pub same : (p : ℕ) → r ≤ p → p ≤ q → reach_after t window p i ≡ reach_after t window r i
+
+-- One place rests on an earlier one: while that one stays as it is, it holds back the other, whose reach stays too.
+abbrev pub RestsOn : Trace → ℕ → ℕ → ℕ → ℕ → Type 0
+RestsOn t window r i k = (q : ℕ) → r ≤ q → StaysAsIs t window r q i → (reach_after t window q k ≡ reach_after t window r k) × HoldsBack t window q i k
+
+-- What reaches before a place write of its chain's flag, and of the descriptors where it takes the lowest free one, the reach of the one place writes too.
+pub record WritesForAll (t : Trace) (window r i k : ℕ) : Type 0 where
+  pub chain : ChainIsSettled t window r k ⊎ (written_by (reach_after t window r i ∷ []) (one (chain_flag (role t k).chain)) ≡ true)
+  pub descriptors : (turn_takes_lowest (task t k) ≡ false) ⊎ ((descriptors_wait t window r k ≡ false) ⊎ (written_by (reach_after t window r i ∷ []) all_descriptors ≡ true))
+
+-- A waiting place whose footprint no reach before it writes rests on any that holds it back.
+abbrev pub RestsUnmet : Trace → Type 0
+RestsUnmet t = (window r i k : ℕ) → Waits t window r k → is_met (footprint_after t window r k) (reaches_after t window r k) ≡ false → HoldsBack t window r i k → RestsOn t window r i k
+
+-- A waiting place that is decided rests on one whose reach writes its row.
+abbrev pub RestsDecided : Trace → Type 0
+RestsDecided t = (window r i k : ℕ) → Waits t window r k → IsDecided t window r k → WritesForAll t window r i k → WritesRow t window r i k → RestsOn t window r i k
+
+-- A waiting place that may run and isn't decided rests on one whose reach writes the first item of those that decide that any reach before it writes.
+abbrev pub RestsUndecided : Trace → Type 0
+RestsUndecided t = (window r i k : ℕ) (known rest : Footprint) (first : Use) → i < k → Waits t window r i → Waits t window r k
+    → is_taken_to_run t k (world_after t window r) (reaches_after t window r k) ≡ true → WritesForAll t window r i k
+    → (look_after t window r k).deciding ≡ known ++ first ∷ rest → is_met known (reaches_after t window r k) ≡ false
+    → is_met (first ∷ []) (reach_after t window r i ∷ []) ≡ true → RestsOn t window r i k
+
+-- A waiting place rests on an earlier one whose reach writes one of the items by which it waits.
+abbrev pub RestsByItems : Trace → Type 0
+RestsByItems t = (window r i k : ℕ) (f : Footprint) → i < k → Waits t window r i → Waits t window r k
+    → WaitsBy t k (world_after t window r) (written_by (reaches_after t window r k)) f → WritesForAll t window r i k
+    → is_met f (reach_after t window r i ∷ []) ≡ true → RestsOn t window r i k
+
+-- While the one place has the same reach in the next round, the other rests on it still.
+abbrev pub RestsOnStays : Trace → Type 0
+RestsOnStays t = (window r i k : ℕ) → RestsOn t window r i k → StaysAsIs t window r (suc r) i → RestsOn t window (suc r) i k
