@@ -15,6 +15,7 @@ use Rattle.op_meaning.specs.Footprint.{footprint}
 use Rattle.foot_print.specs.Replayed.{replayed}
 use Rattle.foot_print.specs.Parts.{AreReady, footprints}
 use Rattle.wave_pick.specs.Rounds.{state_after, wave_after, rounds, round_of, waves}
+use Rattle.wave_pick.specs.Scheduling.{Remembers}
 use Rattle.replay_core.specs.declared.serial.Replay.{Replay}
 use Rattle.replay_core.specs.declared.run.Run.{Run}
 use Rattle.replay_core.specs.declared.progress.Progress.{Progress}
@@ -46,9 +47,13 @@ pub record IsFront (t : Trace) (window : ℕ) (x : State (replayed t)) (front : 
 abbrev pub KeptAfter : Trace → ℕ → Progress → Type 0
 KeptAfter t r p = Keeps t p.window (state_after t p.window r) p.replies.items p.rounds.items p.done.items
 
--- Neither the round has changed nor the places that it looks at.
+-- Its scheduler has picked the first r rounds, and remembers what it has to for the next one.
+abbrev pub HasPicked : Trace → ℕ → Progress → Type 0
+HasPicked t r p = (p.scheduler.round ≡ r) × Remembers t p.window p.scheduler
+
+-- Neither the round has changed, nor the places that it looks at, nor what is known of them.
 abbrev pub IsSameRound : Progress → Progress → Type 0
-IsSameRound old new = (new.window ≡ old.window) × (new.round ≡ old.round) × (new.front.items ≡ old.front.items) × (new.next ≡ old.next)
+IsSameRound old new = (new.window ≡ old.window) × (new.round ≡ old.round) × (new.front.items ≡ old.front.items) × (new.next ≡ old.next) × (new.scheduler ≡ old.scheduler)
 
 -- What a replay has after its rounds so far.
 pub record Stands (t : Trace) (p : Progress) : Type 0 where
@@ -56,6 +61,7 @@ pub record Stands (t : Trace) (p : Progress) : Type 0 where
   pub world : p.world ≡ whole (state_after t p.window p.round).world
   pub keeps : KeptAfter t p.round p
   pub front : IsFront t p.window (state_after t p.window p.round) p.front.items p.next
+  pub picked : HasPicked t p.round p
 
 -- The parts of the jobs.
 abbrev pub parts_of : List Run → List Part

@@ -6,8 +6,8 @@ ghost use Rattle.std.specs.List.{range_with_len};
 ghost use Rattle.chain_plan.specs.Plan.{roles};
 ghost use Rattle.deal_desk.specs.Desks.{AreValues};
 ghost use Rattle.replay_core.specs.Jobs.{IsOutcome};
-ghost use Rattle.replay_core.specs.Rounds.{AreDealt, IsFront, IsReplay, IsSameRound, KeptAfter};
-ghost use Rattle.replay_core.specs.Rounds.{Stands};
+ghost use Rattle.replay_core.specs.Rounds.{AreDealt, HasPicked, IsFront, IsReplay, IsSameRound};
+ghost use Rattle.replay_core.specs.Rounds.{KeptAfter, Stands};
 ghost use Rattle.trace_format.specs.Steps.{places};
 ghost use Rattle.trace_format.specs.Text.{IsSpelled};
 ghost use Rattle.wave_pick.specs.HeldBack.{held_among, held_meant};
@@ -26,7 +26,7 @@ use std::snapshot::Snapshot;
 use std::sync::Wait;
 use std::thread::Threads;
 use trace_format::{Series, Trace};
-use wave_pick::{Held, held_back, pick};
+use wave_pick::{Held, Scheduler, held_back};
 use world_parts::{Part, World};
 
 /// What a replay has after its rounds so far.
@@ -45,6 +45,8 @@ pub(crate) struct Progress {
     /// them.
     front: Vec<u32>,
     next: u32,
+    /// What is known of the places that wait.
+    scheduler: Scheduler,
 }
 
 /// Of some places those that aren't done, in order.
@@ -132,6 +134,7 @@ impl Progress {
         let done = none_done(alloc, places)?;
         let replies = blank_replies(alloc, places)?;
         let world = World::of(alloc, trace)?;
+        let scheduler = Scheduler::new(alloc, trace)?;
         Ok(Progress {
             window,
             round: 0,
@@ -141,6 +144,7 @@ impl Progress {
             done,
             front,
             next,
+            scheduler,
         })
     }
 
@@ -180,12 +184,15 @@ impl Progress {
     fn deal(&mut self, alloc: Global, trace: &Trace, plan: &Plan) -> Result<Vec<Run>, AllocError>
         requires trace { IsSpelled trace.now }
         requires plan { plan.now ≡ roles trace.now }
+        requires round { self.old.round < places trace.now }
         requires stands { Stands trace.now self.old }
         ensures dealt { IfOk result
             (λ jobs. AreDealt trace.now self.old.window self.old.round jobs.items self.new.world) }
-        ensures rest { OnOk result (self.new ≡ record self.old { world = self.new.world }) }
+        ensures picked { OnOk result (HasPicked trace.now (self.old.round + 1) self.new) }
+        ensures rest { OnOk result (self.new
+            ≡ record self.old { world = self.new.world; scheduler = self.new.scheduler }) }
     {
-        let wave = pick(
+        let wave = self.scheduler.pick(
             alloc,
             trace,
             plan,
@@ -244,6 +251,7 @@ impl Progress {
             ≡ whole (state_after trace.now self.old.window (self.old.round + 1)).world }
         requires keeps { KeptAfter trace.now (self.old.round + 1) self.old }
         requires front { IsFront trace.now self.old.window (state_after trace.now self.old.window self.old.round) self.old.front.items self.old.next }
+        requires picked { HasPicked trace.now (self.old.round + 1) self.old }
         ensures stands { OnOk result (Stands trace.now self.new) }
         ensures next { OnOk result ((self.new.window ≡ self.old.window)
             × (self.new.round ≡ self.old.round + 1)) }

@@ -39,4 +39,5 @@ returns-clause-stands c =
           (left ∙ left_is t c.requires.trace s.window s.round s.front.items s.next c.requires.front s.done.items c.requires.keeps.is_done)
           c.in_ok-self.ensures.within.0 (subst (λ k. c.in_ok-self.field-0 ≤ k) n c.in_ok-self.ensures.within.1) c.in_ok-self.ensures.more c.in_ok-self.ensures.few
           (subst (λ k. (length c.filled.new.front.items ≡ s.window) ⊎ (c.in_ok-self.field-0 ≡ k)) n c.in_ok-self.ensures.full);
+      picked = c.requires.picked;
     }

@@ -27,6 +27,7 @@ loop-outcome-init c = record {
   round = refl;
   front = refl;
   behind = refl;
+  scheduler = refl;
 }
 
 -- the outcome of this turn
@@ -113,6 +114,7 @@ loop-outcome-preserved c =
       round = c.loop-outcome.invariant.round;
       front = c.loop-outcome.invariant.front;
       behind = c.loop-outcome.invariant.behind;
+      scheduler = c.loop-outcome.invariant.scheduler;
     }
 
 -- when all are back
