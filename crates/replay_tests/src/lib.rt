@@ -1,5 +1,5 @@
 //! Desks, worlds, footprints, places and replays of small traces, as tests: their values are from
-//! hand.
+//! hand, and the rounds of `schedules` from the plain choice of places.
 #![tactic(auto)]
 
 #[cfg(test)]
@@ -12,6 +12,8 @@ mod places;
 mod rounds;
 #[cfg(test)]
 mod running;
+#[cfg(test)]
+mod schedules;
 #[cfg(test)]
 mod text;
 #[cfg(test)]
