@@ -3,6 +3,7 @@ input, and writes that are worth threads."""
 import math
 import os
 import subprocess
+import sys
 import tempfile
 from functools import partial
 from typing import List, Tuple
@@ -18,6 +19,9 @@ MOST_RATIO = 2.7
 # to make a world of them and to tell it, which is 1.4 to 2 times.
 DEPTH, BESIDE = 2_000, 10_000
 MOST_DEEP = 4.0
+# How many entries wait for one another, and how many times the processor time of as many disjoint ones they may take in rounds
+# of which each looks at 64, which is 1.3 to 3.8 times.
+WAITING, MOST_WAITING = 20_000, 7.0
 MODES: Tuple[Tuple[List[str], str], ...] = ((["serial"], ".report"), (["serial", "--sums"], ".sums"), (["check"], ".check"))
 # How often each pair of workers and window is tried on writes that are worth threads.
 OFTEN = 4
@@ -89,6 +93,20 @@ def deep_tree(program: Program) -> List[Outcome]:
     return [Outcome("a tree of depth {} by {}".format(DEPTH, program.compiler), told)]
 
 
+def waiting(program: Program) -> List[Outcome]:
+    """Where one entry runs a round, those that wait aren't looked at again in each."""
+    words = ["run", "--workers", "1", "--window", "64"]
+    bench = os.path.join(TOP, "bench", "serial_rounds.py")
+    outcomes = []
+    seconds = {}
+    for kind in ("disjoint", "appends", "range", "chain", "drains", "opens"):
+        trace = subprocess.run([sys.executable, bench, "--write", kind, "--entries", str(WAITING)], check=True, stdout=subprocess.PIPE).stdout
+        seconds[kind] = min(program.seconds(words, trace) for _ in range(3))
+        told = None if seconds[kind] < MOST_WAITING * seconds["disjoint"] < math.inf else "{:.3f} seconds, and {:.3f} disjoint".format(seconds[kind], seconds["disjoint"])
+        outcomes.append(Outcome("entries that wait, {}, by {}".format(kind, program.compiler), told))
+    return outcomes
+
+
 def jobs(programs: List[Program]) -> List[Job]:
-    alone = [partial(it, programs[0]) for it in (tried, long_reports, many_rings, deep_tree)]
+    alone = [partial(it, programs[0]) for it in (tried, long_reports, many_rings, deep_tree, waiting)]
     return [*alone, *(partial(on_threads, it) for it in programs)]
