@@ -1,8 +1,9 @@
 //! The reaches that come before a place, of those that an index has.
-ghost use Rattle.std.specs.Prelude.{◌≡◌, ◌<◌, ◌&&◌, IfSome, if◌then◌else◌};
+ghost use Rattle.std.specs.Prelude.{◌≡◌, ◌<◌, ◌&&◌, IfSome, if◌then◌else◌, slice_get};
 ghost use Rattle.std.specs.List.{list_any, position_from};
-ghost use Rattle.item_index.specs.Ahead.{touched, touched_before, written, written_before};
-ghost use Rattle.item_index.specs.Touching.{touched_by, written_by};
+ghost use Rattle.item_index.specs.Ahead.{at_place, one_at, touched, touched_before, written};
+ghost use Rattle.item_index.specs.Ahead.{written_before};
+ghost use Rattle.item_index.specs.Touching as touching;
 ghost use Rattle.world_parts.specs.Items as items;
 ghost use Rattle.world_parts.specs.Uses.{item_meant};
 
@@ -14,7 +15,14 @@ use world_parts::{Footprint, Item, Use, touches_item, writes_item};
 pub struct Behind<'a> {
     pub(crate) ahead: &'a Ahead,
     /// Those of the reaches in the index that are meant; with none, all of them.
-    pub(crate) among: Option<&'a [Footprint]>,
+    pub(crate) among: Option<Among<'a>>,
+}
+
+/// The reaches that a table has of some places.
+#[derive(Clone, Copy)]
+pub(crate) struct Among<'a> {
+    pub(crate) places: &'a [u32],
+    pub(crate) reaches: &'a [Option<Footprint>],
 }
 
 impl<'a> Behind<'a> {
@@ -27,17 +35,17 @@ impl<'a> Behind<'a> {
         Behind { ahead, among: None }
     }
 
-    /// Of those that were added, these.
+    /// Of those that were added, the ones that a table has of these places.
     #[tactic(auto, unfolding(crate::specs::Ahead::written_before, crate::specs::Ahead::touched_before))]
-    pub fn among(ahead: &'a Ahead, reaches: &'a [Footprint]) -> Self
-        ensures written { (x : items.Item)
-            → written_before result x ≡ (written ahead.now x && written_by reaches.now x) }
-        ensures touched { (x : items.Item)
-            → touched_before result x ≡ (touched ahead.now x && touched_by reaches.now x) }
+    pub fn among(ahead: &'a Ahead, places: &'a [u32], reaches: &'a [Option<Footprint>]) -> Self
+        ensures written { (x : items.Item) → written_before result x ≡ (written ahead.now x
+            && one_at reaches.now places.now (λ f. touching.writes_item f x)) }
+        ensures touched { (x : items.Item) → touched_before result x ≡ (touched ahead.now x
+            && one_at reaches.now places.now (λ f. touching.touches_item f x)) }
     {
         Behind {
             ahead,
-            among: Some(reaches),
+            among: Some(Among { places, reaches }),
         }
     }
 
@@ -50,7 +58,7 @@ impl<'a> Behind<'a> {
             return false;
         }
         match self.among {
-            Some(reaches) => one_writes(reaches, item),
+            Some(among) => among.writes(item),
             None => true,
         }
     }
@@ -64,7 +72,7 @@ impl<'a> Behind<'a> {
             return false;
         }
         match self.among {
-            Some(reaches) => one_touches(reaches, item),
+            Some(among) => among.touches(item),
             None => true,
         }
     }
@@ -129,16 +137,62 @@ impl<'a> Behind<'a> {
     }
 }
 
-/// Whether one of some reaches writes a part of an item: most often the latest does.
-fn one_writes(reaches: &[Footprint], item: &Item) -> bool
-    ensures { result ≡ written_by reaches.now (item_meant item.now) }
-{
-    reaches.iter().rev().any(|reach| writes_item(reach, item))
+impl Among<'_> {
+    /// Whether one of the reaches writes a part of an item: most often the latest does.
+    fn writes(&self, item: &Item) -> bool
+        ensures { result ≡ one_at self.now.reaches.now self.now.places.now
+            (λ f. touching.writes_item f (item_meant item.now)) }
+    {
+        one_writes(self.places, self.reaches, item)
+    }
+
+    /// Whether one of the reaches has a part of an item: most often the latest does.
+    fn touches(&self, item: &Item) -> bool
+        ensures { result ≡ one_at self.now.reaches.now self.now.places.now
+            (λ f. touching.touches_item f (item_meant item.now)) }
+    {
+        one_touches(self.places, self.reaches, item)
+    }
 }
 
-/// Whether one of some reaches has a part of an item: most often the latest does.
-fn one_touches(reaches: &[Footprint], item: &Item) -> bool
-    ensures { result ≡ touched_by reaches.now (item_meant item.now) }
+fn one_writes(places: &[u32], reaches: &[Option<Footprint>], item: &Item) -> bool
+    ensures { result ≡ one_at reaches.now places.now
+        (λ f. touching.writes_item f (item_meant item.now)) }
 {
-    reaches.iter().rev().any(|reach| touches_item(reach, item))
+    places
+        .iter()
+        .rev()
+        .any(|place| writes_at(reaches, *place, item))
+}
+
+fn one_touches(places: &[u32], reaches: &[Option<Footprint>], item: &Item) -> bool
+    ensures { result ≡ one_at reaches.now places.now
+        (λ f. touching.touches_item f (item_meant item.now)) }
+{
+    places
+        .iter()
+        .rev()
+        .any(|place| touches_at(reaches, *place, item))
+}
+
+/// Whether the reach of a place writes a part of an item.
+fn writes_at(reaches: &[Option<Footprint>], place: u32, item: &Item) -> bool
+    ensures { result ≡ at_place (λ f. touching.writes_item f (item_meant item.now))
+        (slice_get reaches.now place) }
+{
+    match reaches.get(place as usize) {
+        Some(Some(reach)) => writes_item(reach, item),
+        _ => false,
+    }
+}
+
+/// Whether the reach of a place has a part of an item.
+fn touches_at(reaches: &[Option<Footprint>], place: u32, item: &Item) -> bool
+    ensures { result ≡ at_place (λ f. touching.touches_item f (item_meant item.now))
+        (slice_get reaches.now place) }
+{
+    match reaches.get(place as usize) {
+        Some(Some(reach)) => touches_item(reach, item),
+        _ => false,
+    }
 }

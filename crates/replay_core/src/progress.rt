@@ -1,5 +1,5 @@
 //! What a replay has after some of its rounds, and one round more.
-ghost use Rattle.std.specs.Prelude.{◌≡◌, ◌+◌, ◌-◌, ◌<◌, ◌≤◌, ◌⊎◌, ◌++◌, [], ◌↔◌, IsTrue, All, IfOk};
+ghost use Rattle.std.specs.Prelude.{◌≡◌, ◌+◌, ◌-◌, ◌<◌, ◌≤◌, ◌⊎◌, ◌++◌, [], ◌↔◌, IsTrue, IfOk};
 ghost use Rattle.std.specs.Prelude.{OnOk, filter, length, map, not, replicate, slice_index_or};
 ghost use Rattle.std.specs.Prelude.{◌≢◌, Err, false};
 ghost use Rattle.std.specs.List.{range_with_len};
@@ -49,19 +49,11 @@ pub(crate) struct Progress {
     scheduler: Scheduler,
 }
 
-/// Of some places those that aren't done, in order.
-fn left_of(alloc: Global, front: &[u32], done: &[bool]) -> Result<Vec<u32>, AllocError>
-    requires { All (λ k. k < length done.now) front.now }
-    ensures { IfOk result (λ left. left.items ≡ filter
-        (λ k. not (slice_index_or done.now k false)) front.now) }
+/// Drops the places that are done.
+fn drop_done(front: &mut Vec<u32>, done: &[bool])
+    ensures { front.new.items ≡ filter (λ k. not (slice_index_or done.now k false)) front.old.items }
 {
-    let mut left = Vec::new(alloc);
-    for place in front {
-        if !done[*place as usize] {
-            left.push(*place)?;
-        }
-    }
-    Ok(left)
+    front.retain(|place| done.get(*place as usize) != Some(&true));
 }
 
 /// Fills a front of places up to the window, and gives the first place behind it.
@@ -243,7 +235,7 @@ impl Progress {
     }
 
     /// Looks on to the places that the next round may run.
-    fn advance(&mut self, alloc: Global, trace: &Trace) -> Result<(), AllocError>
+    fn advance(&mut self, trace: &Trace) -> Result<(), AllocError>
         requires trace { IsSpelled trace.now }
         requires round { self.old.round < places trace.now }
         requires window { 1 ≤ self.old.window }
@@ -256,9 +248,8 @@ impl Progress {
         ensures next { OnOk result ((self.new.window ≡ self.old.window)
             × (self.new.round ≡ self.old.round + 1)) }
     {
-        let mut front = left_of(alloc, self.front.as_slice(), self.done.as_slice())?;
-        self.next = filled(&mut front, self.next, trace.places(), self.window)?;
-        self.front = front;
+        drop_done(&mut self.front, self.done.as_slice());
+        self.next = filled(&mut self.front, self.next, trace.places(), self.window)?;
         self.round += 1;
         Ok(())
     }
@@ -287,7 +278,7 @@ impl Progress {
         let dealt = Snapshot::of(&jobs);
         let outcomes = run_round(rt, alloc, jobs, workers, trace, gate)?;
         self.gather(alloc, trace, dealt, outcomes)?;
-        self.advance(alloc, trace)?;
+        self.advance(trace)?;
         Ok(())
     }
 

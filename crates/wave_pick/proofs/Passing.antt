@@ -1,227 +1,326 @@
--- The first places that wait, looked at one after another.
-use Rattle.std.specs.Prelude.{◌≡◌, ℕ, zero, suc, ◌<◌, Bool, true, false, List, [], ◌∷◌, ◌++◌, map, take, length, slice_get, Some, None, refl}
+-- The first places that wait, looked at or passed over one after another.
+use Rattle.std.specs.Prelude.{◌≡◌, ◌≢◌, ℕ, suc, ◌<◌, ◌≤◌, Bool, true, false, List, [], ◌∷◌, ◌++◌, map, take, length, slice_get, Option, Some, refl, if◌then◌else◌}
 use Rattle.std.proofs.Common.{◌⊎◌, inl, inr, sym, ap, subst, ◌∙◌, arith}
-use Rattle.std.proofs.Math.ListN.{set}
-use Rattle.std.proofs.lemmas.Bool.{cases_Bool}
-use Rattle.std.proofs.lemmas.List.{length-set, map-append}
+use Rattle.std.proofs.lemmas.Bool.{cases_eq, cases_Bool, false_from_ne_true}
+use Rattle.std.proofs.lemmas.List.{map-append}
+use Rattle.interleaving.specs.System.{is_clear}
 use Rattle.interleaving.specs.Machine.{has}
 use Rattle.interleaving.specs.Rounds.{pending}
-use Rattle.interleaving.proofs.Members.{has-pending}
+use Rattle.interleaving.proofs.Members.{has-pending, has-take}
+use Rattle.interleaving.proofs.Skipping.{clear-of}
 use Rattle.trace_format.specs.declared.trace.Trace.{Trace}
 use Rattle.trace_format.specs.Steps.{places}
 use Rattle.trace_format.specs.Text.{IsSpelled}
 use Rattle.world_parts.specs.World.{World}
 use Rattle.world_parts.specs.Items.{Footprint}
+use Rattle.foot_print.specs.Replayed.{replayed}
+use Rattle.wave_pick.specs.Picking.{free_from, reaches_from}
+use Rattle.wave_pick.specs.Resting.{RestsOn, StaysAsIs}
 use Rattle.wave_pick.specs.Rounds.{state_after}
-use Rattle.wave_pick.specs.Resting.{StaysAsIs}
-use Rattle.wave_pick.specs.Scheduling.{AddsReach, Keeps, CoversKept, IsKept, AreBefore, IsIndex, IsView, HasSeen, HaveSeen, NotesSame, RestsNow, Sees, SeesOn, AreFirst, AreSorted, Covers, LooksOver, Remembers}
-use Rattle.wave_pick.specs.Waiting.{Waits, world_after, reach_after}
-use Rattle.wave_pick.specs.declared.scheduler.Kept.{Kept}
-use Rattle.wave_pick.specs.declared.scheduler.Note.{Note}
+use Rattle.wave_pick.specs.Scheduling.{AddsReach, AreBefore, AreFirst, Covers, HasReach, HasRoom, HaveReaches, HaveSeen, IsAgain, IsIndex, IsKnown, IsListed, IsSameRound, IsView, Keeps, RestsListed, RestsStill, Sees}
+use Rattle.wave_pick.specs.Waiting.{HoldsBack, Waits, world_after, footprint_after, reaches_after, reach_after}
 use Rattle.wave_pick.specs.declared.scheduler.Scheduler.{Scheduler}
 use Rattle.wave_pick.specs.declared.scheduler.View.{View}
-use Rattle.wave_pick.specs.declared.wave.Chosen.{Chosen}
-use Rattle.wave_pick.proofs.Looked.{take_pending}
-use Rattle.wave_pick.proofs.Scheduling.{Took, before_pending, index_covers, index_grew, index_still, keeps_still, noted_same, rest_stays, rest_view, stays_so}
+use Rattle.wave_pick.proofs.Knowing.{covers_still, index_covers, index_grew, set_apart, set_there}
+use Rattle.wave_pick.proofs.Looked.{append_nothing, free_more, pending_reaches, take_pending}
+use Rattle.wave_pick.proofs.Resting.{rests_on_stays}
 use Rattle.wave_pick.proofs.Seeing.{has-got}
+use Rattle.wave_pick.proofs.Within.{before_pending, has_before, has_last, has_more, pending_has}
 
--- Two lists with one element more each.
-pub get_both : {X Y : Type 0} (xs : List X) (ys : List Y) (x a : X) (y b : Y) (i : ℕ) → length ys ≡ length xs → slice_get (xs ++ x ∷ []) i ≡ Some a → slice_get (ys ++ y ∷ []) i ≡ Some b
-    → ((slice_get xs i ≡ Some a) × (slice_get ys i ≡ Some b)) ⊎ ((x ≡ a) × (y ≡ b))
-get_both [] [] x a y b zero e f g = inr ((cc), (cc))
-get_both [] [] x a y b (suc i) e f g = (cc)
-get_both [] (z ∷ ys) x a y b i e f g = absurd (omega (arith, e))
-get_both (z ∷ xs) [] x a y b i e f g = absurd (omega (arith, e))
-get_both (z ∷ xs) (w ∷ ys) x a y b zero e f g = inl (f, g)
-get_both (z ∷ xs) (w ∷ ys) x a y b (suc i) e f g = get_both xs ys x a y b i (omega (arith, e)) f g
+-- A place that waits from one round to the next with the same reach.
+stays_so : (t : Trace) (window p k : ℕ) → Waits t window (suc p) k → reach_after t window (suc p) k ≡ reach_after t window p k → StaysAsIs t window p (suc p) k
+stays_so t window p k waits e = record { waits = waits; same = at }
+  where
+    at : (r : ℕ) → p ≤ r → r ≤ suc p → reach_after t window r k ≡ reach_after t window p k
+    at r low high = elim (cases_eq r (suc p)) [
+      | inl same ↦ ap (λ n. reach_after t window n k) same ∙ e
+      | inr other ↦ let same : r ≡ p = omega (arith, other) in ap (λ n. reach_after t window n k) same
+    ]
 
-module _ (t : Trace) (window : ℕ) (s : Scheduler) (first : List ℕ) (is_first : first ≡ take window (pending (has (state_after t window s.round).finished) (places t))) where
-  abbrev q : ℕ
-  q = s.round
+pub one_reach : {f g : Footprint} {x : Option (Option Footprint)} → x ≡ Some (Some f) → x ≡ Some (Some g) → f ≡ g
+one_reach d e = some-same (sym d ∙ e)
+  where
+    some-same : {f h : Footprint} → ◌≡◌ {A = Option (Option Footprint)} (Some (Some f)) (Some (Some h)) → f ≡ h
+    some-same e = cc
 
+pub not_both : {Y : Type 0} {b : Bool} → b ≡ true → b ≡ false → Y
+not_both d e = let both : true ≡ false = sym d ∙ e in (cc)
+
+-- A round goes on.
+pub same_on : {s mid later : Scheduler} → IsSameRound s mid → IsSameRound mid later → IsSameRound s later
+same_on a b = record {
+  round = b.round ∙ a.round;
+  exact = b.exact ∙ a.exact;
+  reaches = b.reaches ∙ a.reaches;
+  again = b.again ∙ a.again;
+  resting = b.resting ∙ a.resting;
+}
+
+pub same_rest : {s mid later : Scheduler} → IsSameRound s mid → later ≡ record mid { ahead = later.ahead; added = later.added } → IsSameRound s later
+same_rest a e = same_on a (record {
+  round = ap (λ (x : Scheduler). x.round) e;
+  exact = ap (λ (x : Scheduler). x.exact) e;
+  reaches = ap (λ (x : Scheduler). length x.reaches.items) e;
+  again = ap (λ (x : Scheduler). length x.again.items) e;
+  resting = ap (λ (x : Scheduler). length x.resting.items) e;
+})
+
+-- What is known of a place is so in each scheduler with the same tables.
+pub known_so : (t : Trace) (window q k : ℕ) (s later : Scheduler) → later.reaches ≡ s.reaches → later.again ≡ s.again → later.resting ≡ s.resting → IsKnown t window q k s → IsKnown t window q k later
+known_so t window q k s later reaches again resting known = record {
+  reach = ap (λ v. slice_get v.items k) reaches ∙ known.reach;
+  rests = go known.rests;
+}
+  where
+    go : IsAgain s k ⊎ RestsListed t window q k s → IsAgain later k ⊎ RestsListed t window q k later
+    go (inl a) = inl (ap (λ v. slice_get v.items k) again ∙ a)
+    go (inr r) = inr (record {
+      on = r.on;
+      is_before = r.is_before;
+      waits = r.waits;
+      rests = r.rests;
+      listed = record { list = r.listed.list; at = (λ i. Rattle.std.specs.Option.option_map (λ v. v.items) (slice_get (resting i).items r.on)) ∙ r.listed.at; has_it = r.listed.has_it };
+    })
+
+module _ (t : Trace) (spelled : IsSpelled t) (window : ℕ) (w : World) (q : ℕ) (first : List ℕ) (a : AreFirst t window w q first) where
   abbrev done : ℕ → Bool
   done = has (state_after t window q).finished
 
-  found : (x k : ℕ) → slice_get first x ≡ Some k → (n : ℕ) × (first ≡ pending done n)
-  found x k e = let r = take_pending window done (places t) in (r.0, is_first ∙ r.1)
+  abbrev reach_of : ℕ → Footprint
+  reach_of = reach_after t window q
 
-  -- Before each of them those that wait before it come.
-  pub first_before : (x k : ℕ) → slice_get first x ≡ Some k → (Waits t window q k) × (take x first ≡ pending done k)
-  first_before x k e =
-      let r = found x k e in
-      let at = ap (λ ks. slice_get ks x) (sym r.1) ∙ e in (
-        (has-pending done r.0 k (ap (λ ks. has ks k) (sym r.1) ∙ has-got first x k e)).1,
-        ap (take x) r.1 ∙ before_pending done r.0 x k at,
-      )
+  all_pending : (n : ℕ) × (first ≡ pending done n)
+  all_pending = let r = take_pending window done (places t) in (r.0, a.first ∙ r.1)
 
-  pub are_before : (x k : ℕ) (gs : List Footprint) → slice_get first x ≡ Some k → gs ≡ map (reach_after t window q) (take x first) → AreBefore t window q k (take x first) gs
-  are_before x k gs e is = let b = first_before x k e in record { waits = b.0; places_are = b.1; reaches_are = is }
+  -- One of them waits, and before it those that wait before it come.
+  module _ (x k : ℕ) (at : slice_get first x ≡ Some k) where
+    is_first : has first k ≡ true
+    is_first = has-got first x k at
 
--- One place is seen: nothing was kept of it, or what was kept doesn't hold.
-module _ (t : Trace) (w : World) (k : ℕ) (earlier : List ℕ) (gs : List Footprint) (s first later : Scheduler) (v : View) (kept : first.kept.items ≡ set s.kept.items k None) (rest : first ≡ record s { kept = first.kept })
-    (sees : Sees t w k earlier gs first v) (adds : AddsReach first.ahead later.ahead v.reach) (rest_later : later ≡ record first { ahead = later.ahead; added = later.added }) where
-  round_first : first.round ≡ s.round
-  round_first = ap (λ (x : Scheduler). x.round) rest
+    pub waits_there : Waits t window q k
+    waits_there = (has-pending done all_pending.0 k (ap (λ ks. has ks k) (sym all_pending.1) ∙ is_first)).1
 
-  round_later : later.round ≡ s.round
-  round_later = ap (λ (x : Scheduler). x.round) rest_later ∙ round_first
+    pub is_place : k < places t
+    is_place = (has-pending done (places t) k (has-take window (pending done (places t)) k (ap (λ ks. has ks k) (sym a.first) ∙ is_first))).0
 
-  took_first : Took s first k
-  took_first = record { round = round_first; exact = ap (λ (x : Scheduler). x.exact) rest; kept = kept }
+    pub before_it : take x first ≡ pending done k
+    before_it = ap (take x) all_pending.1 ∙ before_pending done all_pending.0 x k (ap (λ ks. slice_get ks x) (sym all_pending.1) ∙ at)
 
-  took_later : Took s later k
-  took_later = record { round = round_later; exact = ap (λ (x : Scheduler). x.exact) rest_later ∙ took_first.exact; kept = ap (λ (x : Scheduler). x.kept.items) rest_later ∙ kept }
+    has_earlier : (j : ℕ) → has (take x first) j ≡ true → (j < k) × Waits t window q j
+    has_earlier j h = has-pending done k j (ap (λ ks. has ks j) (sym before_it) ∙ h)
 
-  same_later : later.same.items ≡ s.same.items
-  same_later = ap (λ (x : Scheduler). x.same.items) rest_later ∙ ap (λ (x : Scheduler). x.same.items) rest
+    earlier_has : (j : ℕ) → j < k → Waits t window q j → has (take x first) j ≡ true
+    earlier_has j lt waits = ap (λ ks. has ks j) before_it ∙ pending_has done window j k lt waits
 
-  pub seen_anew : SeesOn t w k earlier gs s later v
-  seen_anew window world before index keeps =
-      let ahead : first.ahead ≡ s.ahead = ap (λ (x : Scheduler). x.ahead) rest in
-      let view = sees window (subst (λ n. w ≡ world_after t window n) (sym round_first) world) (subst (λ n. AreBefore t window n k earlier gs) (sym round_first) before) (index_still s first k took_first gs index ahead) in
-      record {
-        view = subst (λ n. IsView t window n k v) (round_first ∙ sym round_later) view;
-        keeps = keeps_still s later k took_later t window keeps (ap length same_later) (λ j p e. keeps.same j p (ap (λ xs. slice_get xs j) (sym same_later) ∙ e));
-        index = index_grew s later k took_later gs index v.reach (subst (λ a. AddsReach a later.ahead v.reach) ahead adds);
+    not_earlier : has (take x first) k ≡ false
+    not_earlier = false_from_ne_true _ (λ h. let low = (has_earlier k h).0 in absurd (omega (arith, low)))
+
+    -- The table has the reaches of those before it.
+    table_has : (s : Scheduler) (ks : List ℕ) → ((j : ℕ) → has ks j ≡ true → HasReach s j (reach_of j)) → HaveReaches s ks (map reach_of ks)
+    table_has s [] all = refl
+    table_has s (j ∷ ks) all = λ i. all j (Rattle.interleaving.proofs.Members.has-here j ks) i ∷ table_has s ks (λ n h. all n (Rattle.interleaving.proofs.Members.has-later n j ks h)) i
+
+    pub are_before : (s : Scheduler) (free : List ℕ) → HaveSeen t window q (take x first) s free → AreBefore t window q k (take x first) s
+    are_before s free h = record { waits = waits_there; places_are = before_it; reaches_are = table_has s (take x first) (λ j e. (h.seen j e).reach) }
+
+    -- What a look at it gives is right for the round.
+    pub seen_view : (s : Scheduler) (free : List ℕ) → HaveSeen t window q (take x first) s free → s.round ≡ q → (v : View) → Sees t w k (take x first) s v → IsView t window q k v
+    seen_view s free h same v sees =
+        subst (λ n. IsView t window n k v) same (sees window (a.world ∙ ap (world_after t window) (sym same))
+        (subst (λ n. AreBefore t window n k (take x first) s) (sym same) (are_before s free h))
+        (subst (λ n. IsIndex s (map (reach_after t window n) (take x first))) (sym same) h.index))
+
+    -- The reaches before it.
+    before_is : reaches_from t (world_after t window q) [] (take x first) ≡ reaches_after t window q k
+    before_is = ap (reaches_from t (world_after t window q) []) before_it ∙ pending_reaches t (world_after t window q) done k
+
+    more_free : (free : List ℕ) (b : Bool) → b ≡ is_clear (replayed t) (footprint_after t window q k) (reaches_after t window q k) → free ≡ free_from t (world_after t window q) [] (take x first)
+        → free ++ (if b then k ∷ [] else []) ≡ free_from t (world_after t window q) [] (take x first ++ k ∷ [])
+    more_free free b e is =
+        (λ i. is i ++ (if (e ∙ ap (is_clear (replayed t) (footprint_after t window q k)) (sym before_is)) i then k ∷ [] else []))
+        ∙ sym (free_more t (world_after t window q) [] (take x first) k)
+
+    later_than : (j : ℕ) → has (take x first ++ k ∷ []) j ≡ false → (has (take x first) j ≡ false) × (j ≢ k)
+    later_than j none = (
+      false_from_ne_true _ (λ h. not_both (has_before j (take x first) (k ∷ []) h) none),
+      λ e. not_both (ap (λ i. has (take x first ++ i ∷ []) j) (sym e) ∙ has_last j (take x first)) none,
+    )
+
+    -- A look at it, which is kept.
+    module _ (s : Scheduler) (free : List ℕ) (h : HaveSeen t window q (take x first) s free) (room : HasRoom (places t) s) (again : IsAgain s k) (v : View) (view : IsView t window q k v) (later : Scheduler) (keeps : Keeps k v s later) where
+      abbrev in_room : k < length s.reaches.items
+      in_room = let many = room.reaches in let low = is_place in omega (arith, many, low)
+
+      reach_there : slice_get later.reaches.items k ≡ Some (Some v.reach)
+      reach_there = ap (λ xs. slice_get xs k) keeps.reaches ∙ set_there s.reaches.items k (Some v.reach) in_room
+
+      reach_apart : (j : ℕ) → j ≢ k → slice_get later.reaches.items j ≡ slice_get s.reaches.items j
+      reach_apart j ne = ap (λ xs. slice_get xs j) keeps.reaches ∙ set_apart s.reaches.items k j (Some v.reach) ne
+
+      known_now : IsKnown t window q k later
+      known_now = record { reach = reach_there ∙ ap (λ f. Some (Some f)) view.reach; rests = go keeps.rests }
+        where
+          go : (IsAgain s k → IsAgain later k) ⊎ ((i : ℕ) × (v.on ≡ Some i) × IsListed later i k) → IsAgain later k ⊎ RestsListed t window q k later
+          go (inl still) = inl (still again)
+          go (inr found) =
+              let r = view.rests found.0 found.1 in
+              inr (record { on = found.0; is_before = r.is_before; waits = r.waits; rests = r.rests; listed = found.2 })
+
+      known_still : (j : ℕ) → has (take x first) j ≡ true → IsKnown t window q j later
+      known_still j e = record { reach = reach_apart j apart ∙ old.reach; rests = go old.rests }
+        where
+          old : IsKnown t window q j s
+          old = h.seen j e
+
+          below : j < k
+          below = (has_earlier j e).0
+
+          apart : j ≢ k
+          apart same = omega (arith, below, same)
+
+          go : IsAgain s j ⊎ RestsListed t window q j s → IsAgain later j ⊎ RestsListed t window q j later
+          go (inl is) = inl (keeps.still j apart is)
+          go (inr r) =
+              let low = r.is_before in
+              inr (record { on = r.on; is_before = r.is_before; waits = r.waits; rests = r.rests; listed = keeps.listed r.on j (λ same. omega (arith, below, low, same)) r.listed })
+
+      known : (j : ℕ) → (has (take x first) j ≡ true) ⊎ (j ≡ k) → IsKnown t window q j later
+      known j (inl e) = known_still j e
+      known j (inr e) = subst (λ i. IsKnown t window q i later) (sym e) known_now
+
+      module _ (j : ℕ) (apart : j ≢ k) (low : j < places t) (r : RestsStill t window q j s.exact s) where
+        covered_so : later.exact ≡ false → Covers later.ahead (reach_after t window r.last j)
+        covered_so e = covers_still s.ahead later.ahead v.reach keeps.index (reach_after t window r.last j) (r.covered (sym keeps.same.exact ∙ e))
+
+        still : IsListed later r.by.on j → HasReach later r.by.on (reach_after t window r.last r.by.on) → RestsStill t window q j later.exact later
+        still listed other = record {
+          last = r.last;
+          next = r.next;
+          by = record { on = r.by.on; is_before = r.by.is_before; waits = r.by.waits; rests = r.by.rests; listed = listed };
+          reach = reach_apart j apart ∙ r.reach;
+          other_waits = r.other_waits;
+          other_reach = other;
+          within = r.within;
+          covered = covered_so;
+        }
+
+        rests_or_again : (r.by.on ≡ k) ⊎ (r.by.on ≢ k) → IsAgain later j ⊎ RestsStill t window q j later.exact later
+        rests_or_again (inr ne) = inr (still (keeps.listed r.by.on j ne r.by.listed) (reach_apart r.by.on ne ∙ r.other_reach))
+        rests_or_again (inl e) = go (keeps.woken j apart (let many = room.again in omega (arith, low, many)) (subst (λ i. IsListed s i j) e r.by.listed))
+          where
+            go : IsAgain later j ⊎ (HasReach s k v.reach × IsListed later k j) → IsAgain later j ⊎ RestsStill t window q j later.exact later
+            go (inl woken) = inl woken
+            go (inr p) = inr (still (subst (λ i. IsListed later i j) (sym e) p.1)
+                (ap (λ i. slice_get later.reaches.items i) e ∙ reach_there ∙ ap (λ f. Some (Some f)) (one_reach p.0 (ap (λ i. slice_get s.reaches.items i) (sym e) ∙ r.other_reach))))
+
+      others : (j : ℕ) → j ≢ k → j < places t → IsAgain s j ⊎ RestsStill t window q j s.exact s → IsAgain later j ⊎ RestsStill t window q j later.exact later
+      others j ne low (inl is) = inl (keeps.still j ne is)
+      others j ne low (inr r) = rests_or_again j ne low r (cases_eq r.by.on k)
+
+      pub look_step : HaveSeen t window q (take x first ++ k ∷ []) later (if v.free then free ++ k ∷ [] else free)
+      look_step = record {
+        index = subst (IsIndex later) (ap (λ f. map reach_of (take x first) ++ f ∷ []) view.reach ∙ sym (map-append reach_of (take x first) (k ∷ []))) (index_grew s later keeps.same.exact (map reach_of (take x first)) h.index v.reach keeps.index);
+        seen = λ j e. known j (has_more j (take x first) k e);
+        others = λ j low waits none. let l = later_than j none in others j l.1 low (h.others j low waits l.0);
+        free_are = one_more v.free ∙ more_free free v.free view.free h.free_are;
+      }
+        where
+          one_more : (b : Bool) → (if b then free ++ k ∷ [] else free) ≡ free ++ (if b then k ∷ [] else [])
+          one_more true = refl
+          one_more false = sym (append_nothing free)
+
+    -- It rests, and is passed over.
+    module _ (s : Scheduler) (free : List ℕ) (h : HaveSeen t window q (take x first) s free) (calm : slice_get s.again.items k ≡ Some false) where
+      not_again : IsAgain s k → slice_get s.again.items k ≡ Some true
+      not_again e = e
+
+      rests_still : RestsStill t window q k s.exact s
+      rests_still = go (h.others k is_place waits_there not_earlier)
+        where
+          differ : {Y : Type 0} → ◌≡◌ {A = Option Bool} (Some false) (Some true) → Y
+          differ e = (cc)
+
+          go : IsAgain s k ⊎ RestsStill t window q k s.exact s → RestsStill t window q k s.exact s
+          go (inl e) = differ (sym calm ∙ e)
+          go (inr r) = r
+
+      abbrev r : RestsStill t window q k s.exact s
+      r = rests_still
+
+      abbrev on : ℕ
+      on = r.by.on
+
+      on_waits : Waits t window q on
+      on_waits = subst (λ n. Waits t window n on) (sym r.next) r.other_waits
+
+      on_known : IsKnown t window q on s
+      on_known = h.seen on (earlier_has on r.by.is_before on_waits)
+
+      on_stays : StaysAsIs t window r.last (suc r.last) on
+      on_stays = stays_so t window r.last on r.other_waits (ap (λ n. reach_after t window n on) (sym r.next) ∙ one_reach on_known.reach r.other_reach)
+
+      now : (reach_after t window (suc r.last) k ≡ reach_after t window r.last k) × HoldsBack t window (suc r.last) on k
+      now = r.by.rests (suc r.last) (omega arith) on_stays
+
+      reach_same : reach_after t window q k ≡ reach_after t window r.last k
+      reach_same = ap (λ n. reach_after t window n k) r.next ∙ now.0
+
+      known_so_far : IsKnown t window q k s
+      known_so_far = record {
+        reach = r.reach ∙ ap (λ f. Some (Some f)) (sym reach_same);
+        rests = inr (record {
+          on = on;
+          is_before = r.by.is_before;
+          waits = on_waits;
+          rests = subst (λ n. RestsOn t window n on k) (sym r.next) (rests_on_stays t window r.last on k r.by.rests on_stays);
+          listed = r.by.listed;
+        });
       }
 
--- What is noted of it then.
-pub noted_anew : (t : Trace) (w : World) (k : ℕ) (earlier : List ℕ) (gs : List Footprint) (s later last : Scheduler) (v : View) (x : Kept) → slice_get s.kept.items k ≡ Some (Some x) → later.round ≡ s.round → SeesOn t w k earlier gs s later v
-    → NotesSame k x v.reach later last → last ≡ record later { same = last.same } → SeesOn t w k earlier gs s last v
-noted_anew t w k earlier gs s later last v x was round sees noted rest window world before index keeps = record {
-  view = subst (λ n. IsView t window n k v) (sym (ap (λ (y : Scheduler). y.round) rest)) next.view;
-  keeps = record {
-    many_kept = ap (λ (y : Scheduler). length y.kept.items) rest ∙ next.keeps.many_kept;
-    many_same = many noted ∙ next.keeps.many_same;
-    kept = λ j y e. let old = next.keeps.kept j y (ap (λ (z : Scheduler). slice_get z.kept.items j) (sym rest) ∙ e) in (subst (λ n. y.round < n) (sym (ap (λ (z : Scheduler). z.round) rest)) old.0, old.1);
-    same = same noted;
-  };
-  index = record {
-    alone = λ e.
-        let old = next.index.alone (sym (ap (λ (y : Scheduler). y.exact) rest) ∙ e) in
-        (λ y. ap (λ (z : Scheduler). Rattle.item_index.specs.Ahead.written z.ahead y) rest ∙ old.0 y, λ y. ap (λ (z : Scheduler). Rattle.item_index.specs.Ahead.touched z.ahead y) rest ∙ old.1 y);
-    among = λ e.
-        let old = next.index.among (sym (ap (λ (y : Scheduler). y.exact) rest) ∙ e) in (
-          λ y g at. subst (λ (z : Scheduler). Covers z.ahead g) (sym rest) (old.0 y g at),
-          λ n is j y at past. subst (λ (z : Scheduler). Covers z.ahead y.reach) (sym rest) (old.1 n (sym (ap (λ (z : Scheduler). z.round) rest) ∙ is) j y (ap (λ (z : Scheduler). slice_get z.kept.items j) (sym rest) ∙ at) past),
-        );
-  };
-}
-  where
-    next : HasSeen t window k gs later v
-    next = sees window world before index keeps
+      held_there : is_clear (replayed t) (footprint_after t window (suc r.last) k) (reaches_after t window (suc r.last) k) ≡ false
+      held_there = false_from_ne_true _ (λ clear.
+          let b = now.1 in
+          let both : true ≡ false = sym b.collides ∙ clear-of (replayed t) (footprint_after t window (suc r.last) k) (has (state_after t window (suc r.last)).finished) (world_after t window (suc r.last)) k clear on b.is_before b.waits in
+          (cc))
 
-    many : NotesSame k x v.reach later last → length last.same.items ≡ length later.same.items
-    many (inl e) = ap length e
-    many (inr e) = ap length e.0 ∙ length-set later.same.items k later.round
+      held : false ≡ is_clear (replayed t) (footprint_after t window q k) (reaches_after t window q k)
+      held = sym (subst (λ n. is_clear (replayed t) (footprint_after t window n k) (reaches_after t window n k) ≡ false) (sym r.next) held_there)
 
-    stays : later.round ≡ suc x.round → x.reach ≡ v.reach → (p : ℕ) → later.round ≡ suc p → StaysAsIs t window p (suc p) k
-    stays is eq p e =
-        let same_round : x.round ≡ p = omega (arith, is, e) in
-        let kept = (keeps.kept k x was).1 in
-        subst (λ n. StaysAsIs t window n (suc n) k) same_round (stays_so t window x.round k (subst (λ n. Waits t window n k) (sym round ∙ is) before.waits)
-        (subst (λ n. reach_after t window n k ≡ reach_after t window x.round k) is (sym next.view.reach ∙ sym eq ∙ kept.reach)))
+      module _ (later : Scheduler) (exact : s.exact ≡ true → (f : Footprint) → slice_get s.reaches.items k ≡ Some (Some f) → AddsReach s.ahead later.ahead f) (same : s.exact ≡ false → later.ahead ≡ s.ahead) (rest : later ≡ record s { ahead = later.ahead; added = later.added }) where
+        mode : later.exact ≡ s.exact
+        mode = ap (λ (z : Scheduler). z.exact) rest
 
-    same : NotesSame k x v.reach later last → (j p : ℕ) → slice_get last.same.items j ≡ Some (suc p) → StaysAsIs t window p (suc p) j
-    same (inl e) j p at = next.keeps.same j p (ap (λ xs. slice_get xs j) (sym e) ∙ at)
-    same (inr e) j p at = noted_same t window later.round k later.same.items last.same.items e.0 (stays e.1 e.2) next.keeps.same j p at
+        index : (s.exact ≡ true) ⊎ (s.exact ≡ false) → IsIndex later (map reach_of (take x first) ++ reach_of k ∷ [])
+        index (inl e) = index_grew s later mode (map reach_of (take x first)) h.index (reach_of k) (exact e (reach_of k) known_so_far.reach)
+        index (inr e) = index_covers s later mode (map reach_of (take x first)) h.index (reach_of k) e (same e) (subst (Covers s.ahead) (sym reach_same) (r.covered e))
 
--- What was kept of it holds.
-pub seen_resting : (t : Trace) (w : World) (k : ℕ) (earlier : List ℕ) (gs : List Footprint) (s first later : Scheduler) (x : Kept) → IsSpelled t → slice_get s.kept.items k ≡ Some (Some x) → first.kept.items ≡ set s.kept.items k None
-    → first ≡ record s { kept = first.kept } → RestsNow first x → later.same.items ≡ set first.same.items k first.round
-    → (first.exact ≡ true → AddsReach first.ahead later.ahead x.reach) → (first.exact ≡ false → later.ahead ≡ first.ahead) → later.round ≡ first.round → later.exact ≡ first.exact → later.kept.items ≡ first.kept.items
-    → SeesOn t w k earlier gs s later (record { reach = x.reach; on = x.on; free = false })
-seen_resting t w k earlier gs s first later x spelled was kept rest rests noted adds covers round exact kept_later window world before index keeps = record {
-  view = subst (λ n. IsView t window n k (record { reach = x.reach; on = x.on; free = false })) (sym took.round) (rest_view t spelled window k s keeps x is_kept rests_now before.waits);
-  keeps = keeps_still s later k took t window keeps (ap length noted_so ∙ length-set s.same.items k s.round)
-      (noted_same t window s.round k s.same.items later.same.items noted_so (λ p e.
-      let same_round : x.round ≡ p = omega (arith, rests_now.before, e) in
-      subst (λ n. StaysAsIs t window n (suc n) k) same_round (rest_stays t spelled window k s keeps x is_kept rests_now before.waits)) keeps.same);
-  index = by_mode (cases_Bool s.exact);
-}
-  where
-    round_first : first.round ≡ s.round
-    round_first = ap (λ (y : Scheduler). y.round) rest
+        known_later : (j : ℕ) → IsKnown t window q j s → IsKnown t window q j later
+        known_later j old = known_so t window q j s later (ap (λ (z : Scheduler). z.reaches) rest) (ap (λ (z : Scheduler). z.again) rest) (ap (λ (z : Scheduler). z.resting) rest) old
 
-    took : Took s later k
-    took = record { round = round ∙ round_first; exact = exact ∙ ap (λ (y : Scheduler). y.exact) rest; kept = kept_later ∙ kept }
+        known_then : (j : ℕ) → (has (take x first) j ≡ true) ⊎ (j ≡ k) → IsKnown t window q j later
+        known_then j (inl e) = known_later j (h.seen j e)
+        known_then j (inr e) = subst (λ i. IsKnown t window q i later) (sym e) (known_later k known_so_far)
 
-    noted_so : later.same.items ≡ set s.same.items k s.round
-    noted_so = noted ∙ (λ i. set (rest i).same.items k (round_first i))
+        listed_later : (i j : ℕ) → IsListed s i j → IsListed later i j
+        listed_later i j l = record { list = l.list; at = ap (λ (z : Scheduler). Rattle.std.specs.Option.option_map (λ v. v.items) (slice_get z.resting.items i)) rest ∙ l.at; has_it = l.has_it }
 
-    is_kept : Rattle.wave_pick.specs.Scheduling.IsKept t window k x
-    is_kept = (keeps.kept k x was).1
+        others_then : (j : ℕ) → IsAgain s j ⊎ RestsStill t window q j s.exact s → IsAgain later j ⊎ RestsStill t window q j later.exact later
+        others_then j (inl is) = inl (ap (λ (z : Scheduler). slice_get z.again.items j) rest ∙ is)
+        others_then j (inr o) = inr (record {
+          last = o.last;
+          next = o.next;
+          by = record { on = o.by.on; is_before = o.by.is_before; waits = o.by.waits; rests = o.by.rests; listed = listed_later o.by.on j o.by.listed };
+          reach = ap (λ (z : Scheduler). slice_get z.reaches.items j) rest ∙ o.reach;
+          other_waits = o.other_waits;
+          other_reach = ap (λ (z : Scheduler). slice_get z.reaches.items o.by.on) rest ∙ o.other_reach;
+          within = o.within;
+          covered = λ e. let e₁ = sym mode ∙ e in subst (λ a. Covers a (reach_after t window o.last j)) (sym (same e₁)) (o.covered e₁);
+        })
 
-    rests_now : RestsNow s x
-    rests_now = record {
-      on = rests.on;
-      rests = rests.rests;
-      before = sym round_first ∙ rests.before;
-      same = ap (λ (y : Scheduler). slice_get y.same.items rests.on) (sym rest) ∙ rests.same ∙ ap Some round_first;
-    }
-
-    by_mode : (s.exact ≡ true) ⊎ (s.exact ≡ false) → IsIndex later (gs ++ x.reach ∷ [])
-    by_mode (inl e) = index_grew s later k took gs index x.reach (subst (λ (y : Scheduler). AddsReach y.ahead later.ahead x.reach) rest (adds (ap (λ (y : Scheduler). y.exact) rest ∙ e)))
-    by_mode (inr e) = index_covers s later k took gs index x.reach e (covers (ap (λ (y : Scheduler). y.exact) rest ∙ e) ∙ ap (λ (y : Scheduler). y.ahead) rest)
-        ((index.among e).1 x.round rests_now.before k x was refl)
-
--- One place more has been looked at.
-pub look_step : (t : Trace) (window : ℕ) (w : World) (s later : Scheduler) (first : List ℕ) (x k : ℕ) (gs : List Footprint) (ns : List Note) (v : View) → AreFirst t window w s first → later.round ≡ s.round
-    → slice_get first x ≡ Some k → SeesOn t w k (take x first) gs s later v → HaveSeen t window (take x first) s gs ns
-    → HaveSeen t window (take x first ++ k ∷ []) later (gs ++ v.reach ∷ []) (ns ++ record { on = v.on; free = v.free } ∷ [])
-look_step t window w s later first x k gs ns v a same e sees h = record {
-  keeps = next.keeps;
-  index = next.index;
-  reaches_are =
-      (λ i. (h.reaches_are ∙ ap (λ n. map (reach_after t window n) (take x first)) (sym same)) i ++ next.view.reach i ∷ [])
-      ∙ sym (map-append (reach_after t window later.round) (take x first) (k ∷ []));
-  many = length_more ns (take x first) (record { on = v.on; free = v.free }) k h.many;
-  views = λ y j n at noted. go y j n (get_both (take x first) ns k j (record { on = v.on; free = v.free }) n y h.many at noted);
-}
-  where
-    next : HasSeen t window k gs later v
-    next = sees window a.world (are_before t window s first a.first x k gs e h.reaches_are) h.index h.keeps
-
-    go : (y j : ℕ) (n : Note) → ((slice_get (take x first) y ≡ Some j) × (slice_get ns y ≡ Some n)) ⊎ ((k ≡ j) × ◌≡◌ {A = Note} (record { on = v.on; free = v.free }) n)
-        → IsView t window later.round j (record { reach = reach_after t window later.round j; on = n.on; free = n.free })
-    go y j n (inl p) = subst (λ m. IsView t window m j (record { reach = reach_after t window m j; on = n.on; free = n.free })) (sym same) (h.views y j n p.0 p.1)
-    go y j n (inr p) = subst (λ i. IsView t window later.round i (record { reach = reach_after t window later.round i; on = n.on; free = n.free })) p.0
-        (subst (λ (m : Note). IsView t window later.round k (record { reach = reach_after t window later.round k; on = m.on; free = m.free })) p.1
-        (subst (λ g. IsView t window later.round k (record { reach = g; on = v.on; free = v.free })) next.view.reach next.view))
-
-    length_more : {X Y : Type 0} (xs : List X) (ys : List Y) (p : X) (r : Y) → length xs ≡ length ys → length (xs ++ p ∷ []) ≡ length (ys ++ r ∷ [])
-    length_more [] [] p r f = refl
-    length_more [] (z ∷ ys) p r f = absurd (omega (arith, f))
-    length_more (z ∷ xs) [] p r f = absurd (omega (arith, f))
-    length_more (z ∷ xs) (u ∷ ys) p r f = ap suc (length_more xs ys p r (omega (arith, f)))
-
--- All first places have been looked at.
-pub all_seen : (t : Trace) (window : ℕ) (w : World) (s begun later : Scheduler) (first those : List ℕ) (gs : List Footprint) (ns : List Note) → those ≡ first → AreFirst t window w s first → Keeps t window s.round s
-    → begun.round ≡ s.round → begun.kept ≡ s.kept → begun.same ≡ s.same → IsIndex begun [] → LooksOver t w those begun later gs ns → HaveSeen t window those later gs ns
-all_seen t window w s begun later first those gs ns e a keeps round kept same index looks = looks window
-    (record {
-      world = a.world ∙ ap (world_after t window) (sym round);
-      first = e ∙ a.first ∙ ap (λ n. take window (pending (has (state_after t window n).finished) (places t))) (sym round);
-    })
-    (record {
-      many_kept = ap (λ v. length v.items) kept ∙ keeps.many_kept;
-      many_same = ap (λ v. length v.items) same ∙ keeps.many_same;
-      kept = λ k x at. let old = keeps.kept k x (ap (λ v. slice_get v.items k) (sym kept) ∙ at) in (subst (λ n. x.round < n) (sym round) old.0, old.1);
-      same = λ k p at. keeps.same k p (ap (λ v. slice_get v.items k) (sym same) ∙ at);
-    })
-    index
-
--- What a scheduler has after the round.
-pub remembers_on : (t : Trace) (window : ℕ) (first : List ℕ) (s next : Scheduler) (chosen : List Chosen) → AreSorted t window first s chosen → next.round ≡ suc s.round → next.kept ≡ s.kept → next.same ≡ s.same → next.ahead ≡ s.ahead
-    → Remembers t window next
-remembers_on t window first s next chosen h round kept same ahead = record {
-  keeps = record {
-    many_kept = ap (λ v. length v.items) kept ∙ h.keeps.many_kept;
-    many_same = ap (λ v. length v.items) same ∙ h.keeps.many_same;
-    kept = λ k x at. let old = h.keeps.kept k x (ap (λ v. slice_get v.items k) (sym kept) ∙ at) in (subst (λ n. x.round < n) (sym round) old.0, old.1);
-    same = λ k p at. h.keeps.same k p (ap (λ v. slice_get v.items k) (sym same) ∙ at);
-  };
-  covers = λ r is k x at past.
-      let here : x.round ≡ s.round = omega (arith, is, past, round) in
-      subst (λ a. Covers a x.reach) (sym ahead) (h.covers k x (ap (λ v. slice_get v.items k) (sym kept) ∙ at) here);
-}
+        pub pass_step : HaveSeen t window q (take x first ++ k ∷ []) later free
+        pass_step = record {
+          index = subst (IsIndex later) (sym (map-append reach_of (take x first) (k ∷ []))) (index (cases_Bool s.exact));
+          seen = λ j e. known_then j (has_more j (take x first) k e);
+          others = λ j low waits none. others_then j (h.others j low waits (later_than j none).0);
+          free_are = sym (append_nothing free) ∙ more_free free false held h.free_are;
+        }

@@ -18,8 +18,6 @@ use Rattle.trace_format.specs.declared.trace.Trace.{Trace}
 use Rattle.trace_format.specs.Text.{IsSpelled}
 use Rattle.chain_plan.specs.Chain.{role}
 use Rattle.world_parts.specs.Items.{Item, Use, chain_flag, one, all_descriptors, share, Footprint, collide}
-use Rattle.world_parts.specs.Uses.{use_meant}
-use Rattle.world_parts.specs.declared.footprint.Use as code
 use Rattle.world_parts.proofs.Collision.{any_passes, left, right, either_left, true_of}
 use Rattle.world_parts.proofs.Sharing.{holds_true}
 use Rattle.item_index.specs.Touching.{touched_by, touches_item, written_by, writes_item}
@@ -32,9 +30,9 @@ use Rattle.item_index.specs.declared.behind.Behind.{Behind}
 use Rattle.foot_print.proofs.Foreseeing.{given_is_reach}
 use Rattle.foot_print.proofs.Unmet.{unmet_reach}
 use Rattle.wave_pick.specs.Grounds.{writes_chain, IsGround, RestsOnGround}
-use Rattle.wave_pick.specs.Resting.{RestsOn}
 use Rattle.wave_pick.specs.Rounds.{state_after}
-use Rattle.wave_pick.specs.Scheduling.{AreBefore, IsBehind, IsView}
+use Rattle.wave_pick.specs.Scheduling.{AreBefore, IsBehind, IsView, RestsOnOne}
+use Rattle.wave_pick.specs.declared.scheduler.Scheduler.{Scheduler}
 use Rattle.wave_pick.specs.Waiting.{Waits, world_after, footprint_after, reaches_after, reach_after}
 use Rattle.wave_pick.specs.declared.scheduler.Ground.TheVariants.{Collides}
 use Rattle.wave_pick.proofs.Clear.{clear_is, meets_all}
@@ -46,11 +44,6 @@ has-got [] zero i e = (cc)
 has-got [] (suc y) i e = (cc)
 has-got (x ∷ xs) zero i e = let same : x ≡ i = cc in ap (λ j. has (j ∷ xs) i) same ∙ has-here i xs
 has-got (x ∷ xs) (suc y) i e = has-later i x xs (has-got xs y i e)
-
--- A test of uses as the code has them.
-pub any-meant : (p : Use → Bool) (us : List code.Use) → list_any (λ u. p (use_meant u)) us ≡ list_any p (map use_meant us)
-any-meant p [] = refl
-any-meant p (u ∷ us) = ap (λ (b : Bool). p (use_meant u) || b) (any-meant p us)
 
 -- The reaches of the places that wait, in order and turned round.
 module _ (t : Trace) (window q : ℕ) where
@@ -88,12 +81,15 @@ module _ (t : Trace) (f : Footprint) (rs : List Footprint) where
   pub met_not_clear : is_met f rs ≡ true → false ≡ is_clear (replayed t) f rs
   met_not_clear e = ap not (sym (true_of _ (met_all (holds_true _ e)))) ∙ clear_is t f rs
 
-module _ (t : Trace) (spelled : IsSpelled t) (window q k : ℕ) (earlier : List ℕ) (reaches : List Footprint) (b : AreBefore t window q k earlier reaches) where
+module _ (t : Trace) (spelled : IsSpelled t) (window q k : ℕ) (earlier : List ℕ) (s : Scheduler) (b : AreBefore t window q k earlier s) where
   abbrev rs : List Footprint
   rs = reaches_after t window q k
 
+  abbrev reaches : List Footprint
+  reaches = map (reach_after t window q) earlier
+
   latest_first : reverse reaches ≡ rs
-  latest_first = ap reverse (b.reaches_are ∙ ap (map (reach_after t window q)) b.places_are) ∙ reaches_turned t window q k
+  latest_first = ap (λ ks. reverse (map (reach_after t window q) ks)) b.places_are ∙ reaches_turned t window q k
 
   pub written_same : (x : Item) → written_by reaches x ≡ written_by rs x
   written_same x = list_any-IsPermutation (λ g. writes_item g x) reaches (reverse reaches) (IsPermutation-reverse reaches) ∙ ap (λ gs. written_by gs x) latest_first
@@ -101,24 +97,37 @@ module _ (t : Trace) (spelled : IsSpelled t) (window q k : ℕ) (earlier : List 
   pub touched_same : (x : Item) → touched_by reaches x ≡ touched_by rs x
   touched_same x = list_any-IsPermutation (λ g. touches_item g x) reaches (reverse reaches) (IsPermutation-reverse reaches) ∙ ap (λ gs. touched_by gs x) latest_first
 
-  each : (y i : ℕ) (g : Footprint) → slice_get earlier y ≡ Some i → slice_get reaches y ≡ Some g → g ≡ reach_after t window q i
-  each y i g at here = some-same (sym here ∙ ap (λ gs. slice_get gs y) b.reaches_are ∙ slice_get-map (reach_after t window q) earlier y ∙ ap (option_map (reach_after t window q)) at)
+  abbrev in_table : Footprint → Option (Option Footprint)
+  in_table f = Some (Some f)
+
+  each : (y i : ℕ) (g : Footprint) → slice_get earlier y ≡ Some i → slice_get s.reaches.items i ≡ Some (Some g) → g ≡ reach_after t window q i
+  each y i g at here = some-same (
+      ap (λ (x : Option (Option Footprint)). Some x) (sym here)
+      ∙ sym (ap (option_map (slice_get s.reaches.items)) at)
+      ∙ sym (slice_get-map (slice_get s.reaches.items) earlier y)
+      ∙ ap (λ xs. slice_get xs y) b.reaches_are
+      ∙ slice_get-map in_table reaches y
+      ∙ ap (option_map in_table) (slice_get-map (reach_after t window q) earlier y ∙ ap (option_map (reach_after t window q)) at))
     where
-      some-same : {f h : Footprint} → ◌≡◌ {A = Option Footprint} (Some f) (Some h) → f ≡ h
+      some-same : {f h : Footprint} → ◌≡◌ {A = Option (Option (Option Footprint))} (Some (Some (Some f))) (Some (Some (Some h))) → f ≡ h
       some-same e = cc
 
   place_before : (y i : ℕ) → slice_get earlier y ≡ Some i → (i < k) × Waits t window q i
   place_before y i e = has-pending (has (state_after t window q).finished) k i (ap (λ ks. has ks i) (sym b.places_are) ∙ has-got earlier y i e)
 
   -- A place that no reach before it writes rests on one that holds it back.
-  pub unmet_rests : (f : Footprint) (i : ℕ) → f ≡ footprint_after t window q k → is_met f rs ≡ false → (bor : Bor Footprint) → bor.now ≡ f → IsGround (Collides bor) earlier reaches i → RestsOn t window q i k
+  pub unmet_rests : (f : Footprint) (i : ℕ) → f ≡ footprint_after t window q k → is_met f rs ≡ false → (bor : Bor Footprint) → bor.now ≡ f → IsGround (Collides bor) earlier s.reaches.items i → RestsOnOne t window q i k
   unmet_rests f i e unmet bor is g =
       let before = place_before g.at i g.is_place in
-      rests_unmet t spelled window q i k b.waits (ap (λ h. is_met h rs) (sym e) ∙ unmet) (record {
+      record {
         is_before = before.0;
         waits = before.1;
-        collides = (λ j. collide (sym (is ∙ e) j) (sym (each g.at i g.reach g.is_place g.is_reach) j)) ∙ g.holds;
-      })
+        rests = rests_unmet t spelled window q i k b.waits (ap (λ h. is_met h rs) (sym e) ∙ unmet) (record {
+          is_before = before.0;
+          waits = before.1;
+          collides = (λ j. collide (sym (is ∙ e) j) (sym (each g.at i g.reach g.is_place g.is_reach) j)) ∙ g.holds;
+        });
+      }
 
   -- One that waits by some items rests on one that writes one of these, and what else it has to.
   module _ (w : Item → Bool) (same : (x : Item) → w x ≡ written_by rs x) (o : Outlook) (is : IsOutlook t k (world_after t window q) w o) (chain : ℕ) (of_role : chain ≡ (role t k).chain) where
@@ -151,7 +160,7 @@ module _ (t : Trace) (spelled : IsSpelled t) (window q k : ℕ) (earlier : List 
         go (inl e) (inr d) = inr (inl (sym (same all_descriptors) ∙ d))
         go (inl e) (inl d) = inr (inr (one_writes g all_descriptors (subst (λ v. T (if v then writes_item g all_descriptors else true)) (λ j. e j && d j) h)))
 
-    pub items_rest : (i : ℕ) → RestsOnGround o chain w earlier reaches i → RestsOn t window q i k
+    pub items_rest : (i : ℕ) → RestsOnGround o chain w earlier s.reaches.items i → RestsOnOne t window q i k
     items_rest i r =
         let g = r.ground in
         let before = place_before g.at i g.is_place in
@@ -167,18 +176,22 @@ module _ (t : Trace) (spelled : IsSpelled t) (window q k : ℕ) (earlier : List 
         let descriptors_there = for_descriptors g.reach (right (some && flagged) lowest held) in
         let both = subst (λ h. ((written_by rs (flag (role t k).chain) ≡ false) ⊎ (written_by (h ∷ []) (flag (role t k).chain) ≡ true))
         × ((turn_takes_lowest (task t k) ≡ false) ⊎ ((written_by rs all_descriptors ≡ false) ⊎ (written_by (h ∷ []) all_descriptors ≡ true)))) reach_is (chain_there, descriptors_there) in
-        rests_by_items t spelled window q i k r.items.now before.0 before.1 b.waits (waits r.items.now r.waits_by) (record { chain = both.0; descriptors = both.1 }) (ap (λ h. is_met r.items.now (h ∷ [])) (sym reach_is) ∙ met)
+        record {
+          is_before = before.0;
+          waits = before.1;
+          rests = rests_by_items t spelled window q i k r.items.now before.0 before.1 b.waits (waits r.items.now r.waits_by) (record { chain = both.0; descriptors = both.1 }) (ap (λ h. is_met r.items.now (h ∷ [])) (sym reach_is) ∙ met);
+        }
 
 -- A look at a place whose footprint this is, behind an index.
-module _ (t : Trace) (spelled : IsSpelled t) (window q k : ℕ) (earlier : List ℕ) (reaches : List Footprint) (a : AreBefore t window q k earlier reaches) (b : Behind) (is : IsBehind reaches b) (f : Footprint) (foot : f ≡ footprint_after t window q k) where
+module _ (t : Trace) (spelled : IsSpelled t) (window q k : ℕ) (earlier : List ℕ) (s : Scheduler) (a : AreBefore t window q k earlier s) (b : Behind) (is : IsBehind (map (reach_after t window q) earlier) b) (f : Footprint) (foot : f ≡ footprint_after t window q k) where
   abbrev before : List Footprint
   before = reaches_after t window q k
 
   writes_is : (x : Item) → written_before b x ≡ written_by before x
-  writes_is x = is.writes x ∙ written_same t spelled window q k earlier reaches a x
+  writes_is x = is.writes x ∙ written_same t spelled window q k earlier s a x
 
   touches_is : (x : Item) → touched_before b x ≡ touched_by before x
-  touches_is x = is.touches x ∙ touched_same t spelled window q k earlier reaches a x
+  touches_is x = is.touches x ∙ touched_same t spelled window q k earlier s a x
 
   met_is : list_any (λ (u : Use). written_before b u.item) f ≡ is_met (footprint_after t window q k) before
   met_is = λ i. list_any (λ (u : Use). writes_is u.item i) (foot i)
@@ -187,12 +200,11 @@ module _ (t : Trace) (spelled : IsSpelled t) (window q k : ℕ) (earlier : List 
   clear_so = (λ i. not (list_any (λ (u : Use). if u.written then touches_is u.item i else writes_is u.item i) (foot i))) ∙ clear_is t (footprint_after t window q k) before
 
   pub seen_met : true ≡ list_any (λ (u : Use). written_before b u.item) f → (o : Outlook) → IsOutlook t k (world_after t window q) (written_before b) o → (chain : ℕ) → chain ≡ (role t k).chain
-      → (on : Option ℕ) → IfSome on (RestsOnGround o chain (written_before b) earlier reaches) → IsView t window q k (record { reach = o.reach; on = on; free = false })
-  seen_met m o out chain of_role on grounds = record {
+      → (on : Option ℕ) (table : List (Option Footprint)) → table ≡ s.reaches.items → IfSome on (RestsOnGround o chain (written_before b) earlier table) → IsView t window q k (record { reach = o.reach; on = on; free = false })
+  seen_met m o out chain of_role on table is_table grounds = record {
     reach = given_is_reach t k (world_after t window q) (world_after t window q) (written_before b) before o.reach refl writes_is out.reach;
-    rests = λ i e. items_rest t spelled window q k earlier reaches a (written_before b) writes_is o out chain of_role i (subst (λ x. IfSome x (RestsOnGround o chain (written_before b) earlier reaches)) e grounds);
+    rests = λ i e. items_rest t spelled window q k earlier s a (written_before b) writes_is o out chain of_role i (subst (λ x. IfSome x (RestsOnGround o chain (written_before b) earlier s.reaches.items)) e (subst (λ x. IfSome on (RestsOnGround o chain (written_before b) earlier x)) is_table grounds));
     free = met_not_clear t (footprint_after t window q k) before (sym met_is ∙ sym m);
-    foot = λ e. absurd (subst T (sym e) tt);
   }
 
   unmet : false ≡ list_any (λ (u : Use). written_before b u.item) f → is_met (footprint_after t window q k) before ≡ false
@@ -202,12 +214,11 @@ module _ (t : Trace) (spelled : IsSpelled t) (window q k : ℕ) (earlier : List 
   reach_so m = foot ∙ sym (unmet_reach t k (world_after t window q) before (unmet m))
 
   pub seen_held : false ≡ list_any (λ (u : Use). written_before b u.item) f → true ≡ list_any (λ (u : Use). if u.written then touched_before b u.item else written_before b u.item) f
-      → (bor : Bor Footprint) → bor.now ≡ f → (on : Option ℕ) → IfSome on (IsGround (Collides bor) earlier reaches) → IsView t window q k (record { reach = f; on = on; free = false })
-  seen_held m c bor same on grounds = record {
+      → (bor : Bor Footprint) → bor.now ≡ f → (on : Option ℕ) (table : List (Option Footprint)) → table ≡ s.reaches.items → IfSome on (IsGround (Collides bor) earlier table) → IsView t window q k (record { reach = f; on = on; free = false })
+  seen_held m c bor same on table is_table grounds = record {
     reach = reach_so m;
-    rests = λ i e. unmet_rests t spelled window q k earlier reaches a f i foot (ap (λ h. is_met h before) foot ∙ unmet m) bor same (subst (λ x. IfSome x (IsGround (Collides bor) earlier reaches)) e grounds);
+    rests = λ i e. unmet_rests t spelled window q k earlier s a f i foot (ap (λ h. is_met h before) foot ∙ unmet m) bor same (subst (λ x. IfSome x (IsGround (Collides bor) earlier s.reaches.items)) e (subst (λ x. IfSome on (IsGround (Collides bor) earlier x)) is_table grounds));
     free = ap not c ∙ clear_so;
-    foot = λ e. absurd (subst T (sym e) tt);
   }
 
   pub seen_free : false ≡ list_any (λ (u : Use). written_before b u.item) f → false ≡ list_any (λ (u : Use). if u.written then touched_before b u.item else written_before b u.item) f
@@ -216,7 +227,6 @@ module _ (t : Trace) (spelled : IsSpelled t) (window q k : ℕ) (earlier : List 
     reach = reach_so m;
     rests = λ i e. none-some i e;
     free = ap not c ∙ clear_so;
-    foot = λ e. foot;
   }
     where
       none-some : {Y : Type 0} (i : ℕ) → ◌≡◌ {A = Option ℕ} None (Some i) → Y

@@ -22,16 +22,16 @@ abbrev pub ground_holds : Ground → Footprint → Bool
 ground_holds (Collides f) g = collide f.now g
 ground_holds (Writes f c d) g = writes_for g f.now c d
 
--- A place is one of those before, and its reach does.
-pub record IsGround (ground : Ground) (earlier : List ℕ) (reaches : List Footprint) (i : ℕ) : Type 0 where
+-- A place is one of those before, and its reach, as a table has it, does.
+pub record IsGround (ground : Ground) (earlier : List ℕ) (reaches : List (Option Footprint)) (i : ℕ) : Type 0 where
   pub at : ℕ
   pub reach : Footprint
   pub is_place : slice_get earlier at ≡ Some i
-  pub is_reach : slice_get reaches at ≡ Some reach
+  pub is_reach : slice_get reaches i ≡ Some (Some reach)
   pub holds : ground_holds ground reach ≡ true
 
 -- It writes one of the items by which a place waits, and for all that write its chain's flag, or a descriptor where it takes the lowest one.
-pub record RestsOnGround (o : Outlook) (chain : ℕ) (w : Item → Bool) (earlier : List ℕ) (reaches : List Footprint) (i : ℕ) : Type 0 where
+pub record RestsOnGround (o : Outlook) (chain : ℕ) (w : Item → Bool) (earlier : List ℕ) (reaches : List (Option Footprint)) (i : ℕ) : Type 0 where
   pub items : Bor Footprint
   pub waits_by : items_awaited o.waits_by o.reach ≡ Some items.now
   pub ground : IsGround (Writes items (if w (one (chain_flag chain)) then Some chain else None) (o.takes_lowest && w all_descriptors)) earlier reaches i

@@ -1,9 +1,11 @@
 -- A view of code: what a scheduler keeps of the places that wait, and what it has seen of a round.
-use Rattle.std.specs.Prelude.{◌≡◌, ℕ, suc, ◌<◌, ◌++◌, true, false, ◌||◌, T, ◌⊎◌, List, [], ◌∷◌, map, take, length, slice_get, Some}
+use Rattle.std.specs.Prelude.{◌≡◌, ◌≢◌, ℕ, suc, ◌<◌, Bool, true, false, ◌||◌, T, ◌⊎◌, List, [], map, take, length, slice_get, Option, Some}
+use Rattle.std.specs.Option.{option_map}
 use Rattle.std.proofs.Math.ListN.{set}
 use Rattle.interleaving.specs.System.{is_clear}
 use Rattle.interleaving.specs.Machine.{has}
 use Rattle.interleaving.specs.Rounds.{pending}
+use Rattle.interleaving.specs.Gather.{AllDifferent}
 use Rattle.trace_format.specs.declared.trace.Trace.{Trace}
 use Rattle.trace_format.specs.Steps.{places}
 use Rattle.world_parts.specs.World.{World}
@@ -13,129 +15,182 @@ use Rattle.item_index.specs.Ahead.{touched, touched_before, written, written_bef
 use Rattle.item_index.specs.Touching.{touched_by, touches_item, written_by, writes_item}
 use Rattle.item_index.specs.declared.ahead.Ahead.{Ahead}
 use Rattle.item_index.specs.declared.behind.Behind.{Behind}
-use Rattle.wave_pick.specs.Picking.{chosen_at, free_from}
-use Rattle.wave_pick.specs.Resting.{RestsOn, StaysAsIs}
+use Rattle.wave_pick.specs.Picking.{free_from}
+use Rattle.wave_pick.specs.Resting.{RestsOn}
 use Rattle.wave_pick.specs.Rounds.{state_after}
 use Rattle.wave_pick.specs.Waiting.{Waits, world_after, footprint_after, reaches_after, reach_after}
 use Rattle.wave_pick.specs.declared.wave.Chosen.{Chosen}
-use Rattle.wave_pick.specs.declared.scheduler.Kept.{Kept}
-use Rattle.wave_pick.specs.declared.scheduler.Note.{Note}
 use Rattle.wave_pick.specs.declared.scheduler.Scheduler.{Scheduler}
 use Rattle.wave_pick.specs.declared.scheduler.View.{View}
 
--- Of a place in some round: its reach there, and the place on which it rests from then on.
-pub record IsKept (t : Trace) (window k : ℕ) (x : Kept) : Type 0 where
-  pub reach : x.reach ≡ reach_after t window x.round k
-  pub rests : (i : ℕ) → x.on ≡ Some i → RestsOn t window x.round i k
+-- A place is to be looked at.
+abbrev pub IsAgain : Scheduler → ℕ → Type 0
+IsAgain s k = slice_get s.again.items k ≡ Some true
+
+-- The table has this reach of a place.
+abbrev pub HasReach : Scheduler → ℕ → Footprint → Type 0
+HasReach s k f = slice_get s.reaches.items k ≡ Some (Some f)
+
+-- A place is listed among those that rest on another one.
+pub record IsListed (s : Scheduler) (i k : ℕ) : Type 0 where
+  pub list : List ℕ
+  pub at : option_map (λ v. v.items) (slice_get s.resting.items i) ≡ Some list
+  pub has_it : has list k ≡ true
+
+-- After r rounds a place rests on an earlier one that waits, with which it is listed.
+pub record RestsListed (t : Trace) (window r k : ℕ) (s : Scheduler) : Type 0 where
+  pub on : ℕ
+  pub is_before : on < k
+  pub waits : Waits t window r on
+  pub rests : RestsOn t window r on k
+  pub listed : IsListed s on k
+
+-- What is known of a place in the round after r others: its reach there, and, unless it is to be looked at again, on which place it rests.
+pub record IsKnown (t : Trace) (window r k : ℕ) (s : Scheduler) : Type 0 where
+  pub reach : HasReach s k (reach_after t window r k)
+  pub rests : IsAgain s k ⊎ RestsListed t window r k s
 
 -- An index has all that a footprint writes and touches.
 pub record Covers (ahead : Ahead) (f : Footprint) : Type 0 where
   pub writes : (x : Item) → T (writes_item f x) → T (written ahead x)
   pub touches : (x : Item) → T (touches_item f x) → T (touched ahead x)
 
--- What is kept of each place, each in a round before this one, and of which it is noted that its reach was the same as in the round before.
-pub record Keeps (t : Trace) (window limit : ℕ) (s : Scheduler) : Type 0 where
-  pub many_kept : length s.kept.items ≡ places t
-  pub many_same : length s.same.items ≡ places t
-  pub kept : (k : ℕ) (x : Kept) → slice_get s.kept.items k ≡ Some (Some x) → (x.round < limit) × IsKept t window k x
-  pub same : (k p : ℕ) → slice_get s.same.items k ≡ Some (suc p) → StaysAsIs t window p (suc p) k
+-- In the round after the last one a place that was seen then rests still while it isn't known that the reach of the other one has changed; unless the index is made anew, it has its reach.
+pub record RestsStill (t : Trace) (window q k : ℕ) (exact : Bool) (s : Scheduler) : Type 0 where
+  pub last : ℕ
+  pub next : q ≡ suc last
+  pub by : RestsListed t window last k s
+  pub reach : HasReach s k (reach_after t window last k)
+  pub other_waits : Waits t window (suc last) by.on
+  pub other_reach : HasReach s by.on (reach_after t window last by.on)
+  pub within : length (pending (has (state_after t window last).finished) k) < window
+  pub covered : exact ≡ false → Covers s.ahead (reach_after t window last k)
 
--- The index has the reaches that were kept in a round.
-abbrev pub CoversKept : ℕ → Scheduler → Type 0
-CoversKept r s = (k : ℕ) (x : Kept) → slice_get s.kept.items k ≡ Some (Some x) → x.round ≡ r → Covers s.ahead x.reach
+-- There is room for what is kept of so many places.
+pub record HasRoom (n : ℕ) (s : Scheduler) : Type 0 where
+  pub reaches : length s.reaches.items ≡ n
+  pub again : length s.again.items ≡ n
+  pub resting : length s.resting.items ≡ n
 
--- What a scheduler has between two rounds.
+-- What a scheduler has between two rounds: each place that waits is to be looked at, or rests.
 pub record Remembers (t : Trace) (window : ℕ) (s : Scheduler) : Type 0 where
-  pub keeps : Keeps t window s.round s
-  pub covers : (r : ℕ) → s.round ≡ suc r → CoversKept r s
+  pub room : HasRoom (places t) s
+  pub each : (k : ℕ) → k < places t → Waits t window s.round k → IsAgain s k ⊎ RestsStill t window s.round k false s
 
--- A place that waits after q rounds, and the places that wait before it, with their reaches.
-pub record AreBefore (t : Trace) (window q k : ℕ) (earlier : List ℕ) (reaches : List Footprint) : Type 0 where
-  pub waits : Waits t window q k
-  pub places_are : earlier ≡ pending (has (state_after t window q).finished) k
-  pub reaches_are : reaches ≡ map (reach_after t window q) earlier
+-- In the world after q rounds these are the first places that wait.
+pub record AreFirst (t : Trace) (window : ℕ) (w : World) (q : ℕ) (ks : List ℕ) : Type 0 where
+  pub world : w ≡ world_after t window q
+  pub first : ks ≡ take window (pending (has (state_after t window q).finished) (places t))
 
--- The index has these reaches: alone, or with others, among them those that were kept in the round before.
+-- The table has these reaches of these places.
+abbrev pub HaveReaches : Scheduler → List ℕ → List Footprint → Type 0
+HaveReaches s ks fs = map (slice_get s.reaches.items) ks ≡ map (λ f. Some (Some f)) fs
+
+-- The index has these reaches: alone, or with others.
 pub record IsIndex (s : Scheduler) (reaches : List Footprint) : Type 0 where
   pub alone : s.exact ≡ true → ((x : Item) → written s.ahead x ≡ written_by reaches x) × ((x : Item) → touched s.ahead x ≡ touched_by reaches x)
-  pub among : s.exact ≡ false → ((y : ℕ) (g : Footprint) → slice_get reaches y ≡ Some g → Covers s.ahead g) × ((r : ℕ) → s.round ≡ suc r → CoversKept r s)
-
--- What is seen of a place after q rounds.
-pub record IsView (t : Trace) (window q k : ℕ) (v : View) : Type 0 where
-  pub reach : v.reach ≡ reach_after t window q k
-  pub rests : (i : ℕ) → v.on ≡ Some i → RestsOn t window q i k
-  pub free : v.free ≡ is_clear (replayed t) (footprint_after t window q k) (reaches_after t window q k)
-  pub foot : v.free ≡ true → v.reach ≡ footprint_after t window q k
-
--- A look at a place: where the index has the reaches before it, what is seen of it is right.
-abbrev pub Sees : Trace → World → ℕ → List ℕ → List Footprint → Scheduler → View → Type 0
-Sees t w k earlier reaches s v = (window : ℕ) → w ≡ world_after t window s.round → AreBefore t window s.round k earlier reaches → IsIndex s reaches → IsView t window s.round k v
-
--- The scheduler has looked at one place more.
-pub record HasSeen (t : Trace) (window k : ℕ) (reaches : List Footprint) (s : Scheduler) (v : View) : Type 0 where
-  pub view : IsView t window s.round k v
-  pub keeps : Keeps t window s.round s
-  pub index : IsIndex s (reaches ++ v.reach ∷ [])
-
-abbrev pub SeesOn : Trace → World → ℕ → List ℕ → List Footprint → Scheduler → Scheduler → View → Type 0
-SeesOn t w k earlier reaches s later v =
-    (window : ℕ) → w ≡ world_after t window s.round → AreBefore t window s.round k earlier reaches → IsIndex s reaches → Keeps t window s.round s → HasSeen t window k reaches later v
-
--- These places have been looked at.
-pub record HaveSeen (t : Trace) (window : ℕ) (places_there : List ℕ) (s : Scheduler) (reaches : List Footprint) (notes : List Note) : Type 0 where
-  pub keeps : Keeps t window s.round s
-  pub index : IsIndex s reaches
-  pub reaches_are : reaches ≡ map (reach_after t window s.round) places_there
-  pub many : length notes ≡ length places_there
-  pub views : (y k : ℕ) (n : Note) → slice_get places_there y ≡ Some k → slice_get notes y ≡ Some n → IsView t window s.round k (record { reach = reach_after t window s.round k; on = n.on; free = n.free })
-
--- These are the first places that wait.
-pub record AreFirst (t : Trace) (window : ℕ) (w : World) (s : Scheduler) (ks : List ℕ) : Type 0 where
-  pub world : w ≡ world_after t window s.round
-  pub first : ks ≡ take window (pending (has (state_after t window s.round).finished) (places t))
-
--- Looks at them, one after another, by an index that has nothing yet, or what was kept in the round before.
-abbrev pub LooksOver : Trace → World → List ℕ → Scheduler → Scheduler → List Footprint → List Note → Type 0
-LooksOver t w first s later reaches notes = (window : ℕ) → AreFirst t window w s first → Keeps t window s.round s → IsIndex s [] → HaveSeen t window first later reaches notes
-
--- There is room to keep and to note something of each place.
-abbrev pub HasRoom : Trace → Scheduler → Type 0
-HasRoom t s = (length s.kept.items ≡ places t) × (length s.same.items ≡ places t)
+  pub among : s.exact ≡ false → (y : ℕ) (g : Footprint) → slice_get reaches y ≡ Some g → Covers s.ahead g
 
 -- What these reaches touch and write is before a place.
 pub record IsBehind (reaches : List Footprint) (b : Behind) : Type 0 where
   pub writes : (x : Item) → written_before b x ≡ written_by reaches x
   pub touches : (x : Item) → touched_before b x ≡ touched_by reaches x
 
--- The number of rounds, what the index is for, and how many places there are, are as they were.
+-- A place that waits after q rounds, and the places that wait before it, whose reaches the table has.
+pub record AreBefore (t : Trace) (window q k : ℕ) (earlier : List ℕ) (s : Scheduler) : Type 0 where
+  pub waits : Waits t window q k
+  pub places_are : earlier ≡ pending (has (state_after t window q).finished) k
+  pub reaches_are : HaveReaches s earlier (map (reach_after t window q) earlier)
+
+-- One place rests on an earlier one that waits.
+pub record RestsOnOne (t : Trace) (window q i k : ℕ) : Type 0 where
+  pub is_before : i < k
+  pub waits : Waits t window q i
+  pub rests : RestsOn t window q i k
+
+-- What is seen of a place after q rounds.
+pub record IsView (t : Trace) (window q k : ℕ) (v : View) : Type 0 where
+  pub reach : v.reach ≡ reach_after t window q k
+  pub rests : (i : ℕ) → v.on ≡ Some i → RestsOnOne t window q i k
+  pub free : v.free ≡ is_clear (replayed t) (footprint_after t window q k) (reaches_after t window q k)
+
+-- A look at a place: where the index has the reaches before it, what is seen of it is right.
+abbrev pub Sees : Trace → World → ℕ → List ℕ → Scheduler → View → Type 0
+Sees t w k earlier s v = (window : ℕ) → w ≡ world_after t window s.round → AreBefore t window s.round k earlier s → IsIndex s (map (reach_after t window s.round) earlier) → IsView t window s.round k v
+
+-- What is known after q rounds once these places have been looked at, or passed over, and which of them are free.
+pub record HaveSeen (t : Trace) (window q : ℕ) (ks : List ℕ) (s : Scheduler) (free : List ℕ) : Type 0 where
+  pub index : IsIndex s (map (reach_after t window q) ks)
+  pub seen : (k : ℕ) → has ks k ≡ true → IsKnown t window q k s
+  pub others : (k : ℕ) → k < places t → Waits t window q k → has ks k ≡ false → IsAgain s k ⊎ RestsStill t window q k s.exact s
+  pub free_are : free ≡ free_from t (world_after t window q) [] ks
+
+-- Looks over the first places that wait.
+abbrev pub LooksOver : Trace → World → List ℕ → Scheduler → Scheduler → List ℕ → Type 0
+LooksOver t w first s later free = (window : ℕ) → AreFirst t window w s.round first → HaveSeen t window s.round [] s [] → HaveSeen t window s.round first later free
+
+-- The number of rounds, what the index is for, and how much room there is, are as they were.
 pub record IsSameRound (s later : Scheduler) : Type 0 where
   pub round : later.round ≡ s.round
   pub exact : later.exact ≡ s.exact
-  pub many_kept : length later.kept.items ≡ length s.kept.items
-  pub many_same : length later.same.items ≡ length s.same.items
+  pub reaches : length later.reaches.items ≡ length s.reaches.items
+  pub again : length later.again.items ≡ length s.again.items
+  pub resting : length later.resting.items ≡ length s.resting.items
 
 -- An index has one reach more.
 pub record AddsReach (before after : Ahead) (f : Footprint) : Type 0 where
   pub writes : (x : Item) → written after x ≡ (written before x || writes_item f x)
   pub touches : (x : Item) → touched after x ≡ (touched before x || touches_item f x)
 
--- What was kept of a place in the round before holds in this one: the place on which it rests has the reach that it had.
-pub record RestsNow (s : Scheduler) (x : Kept) : Type 0 where
-  pub on : ℕ
-  pub rests : x.on ≡ Some on
-  pub before : s.round ≡ suc x.round
-  pub same : slice_get s.same.items on ≡ Some s.round
+-- These places are to be looked at, and those that were are still.
+pub record Flags (ks : List ℕ) (again later : List Bool) : Type 0 where
+  pub many : length later ≡ length again
+  pub still : (k : ℕ) → slice_get again k ≡ Some true → slice_get later k ≡ Some true
+  pub these : (k : ℕ) → has ks k ≡ true → k < length again → slice_get later k ≡ Some true
 
--- It is noted where a place has the reach that it had in the round before, or nothing is.
-abbrev pub NotesSame : ℕ → Kept → Footprint → Scheduler → Scheduler → Type 0
-NotesSame k x f s later = (later.same.items ≡ s.same.items) ⊎ ((later.same.items ≡ set s.same.items k s.round) × (s.round ≡ suc x.round) × (x.reach ≡ f))
+-- Those that are listed with a place are to be looked at; the lists of the others stay.
+pub record Wakes (i : ℕ) (s later : Scheduler) : Type 0 where
+  pub many_again : length later.again.items ≡ length s.again.items
+  pub many_resting : length later.resting.items ≡ length s.resting.items
+  pub still : (k : ℕ) → IsAgain s k → IsAgain later k
+  pub woken : (k : ℕ) → IsListed s i k → k < length s.again.items → IsAgain later k
+  pub others : (j : ℕ) → j ≢ i → slice_get later.resting.items j ≡ slice_get s.resting.items j
+  pub rest : later ≡ record s { again = later.again; resting = later.resting }
 
--- After the last look: those that may run are the places of the round, each with its footprint, and the others are kept.
-pub record AreSorted (t : Trace) (window : ℕ) (first : List ℕ) (s : Scheduler) (chosen : List Chosen) : Type 0 where
-  pub chosen_are : chosen ≡ map (chosen_at t (world_after t window s.round)) (free_from t (world_after t window s.round) [] first)
-  pub keeps : Keeps t window (suc s.round) s
-  pub covers : CoversKept s.round s
+-- The table has a new reach of a place; those that are listed with it are to be looked at, unless it had that reach.
+pub record Renews (i : ℕ) (f : Footprint) (s later : Scheduler) : Type 0 where
+  pub reaches : later.reaches.items ≡ set s.reaches.items i (Some f)
+  pub many_again : length later.again.items ≡ length s.again.items
+  pub many_resting : length later.resting.items ≡ length s.resting.items
+  pub still : (k : ℕ) → IsAgain s k → IsAgain later k
+  pub woken : (k : ℕ) → IsListed s i k → k < length s.again.items → IsAgain later k ⊎ (HasReach s i f × IsListed later i k)
+  pub others : (j : ℕ) → j ≢ i → slice_get later.resting.items j ≡ slice_get s.resting.items j
+  pub rest : later ≡ record s { reaches = later.reaches; again = later.again; resting = later.resting }
 
-abbrev pub SortsOut : Trace → List ℕ → List Footprint → List Note → Scheduler → Scheduler → List Chosen → Type 0
-SortsOut t first reaches notes s later chosen =
-    (window : ℕ) → first ≡ take window (pending (has (state_after t window s.round).finished) (places t)) → HaveSeen t window first s reaches notes → AreSorted t window first later chosen
+-- A place is to be looked at still if it was, or is listed with the one on which it rests; other lists and places stay.
+pub record Lists (k : ℕ) (on : Option ℕ) (s later : Scheduler) : Type 0 where
+  pub many_again : length later.again.items ≡ length s.again.items
+  pub many_resting : length later.resting.items ≡ length s.resting.items
+  pub still : (j : ℕ) → j ≢ k → IsAgain s j → IsAgain later j
+  pub listed : (i j : ℕ) → IsListed s i j → IsListed later i j
+  pub rests : (IsAgain s k → IsAgain later k) ⊎ ((i : ℕ) × (on ≡ Some i) × IsListed later i k)
+  pub rest : later ≡ record s { again = later.again; resting = later.resting }
+
+-- What is seen of a place is kept.
+pub record Keeps (k : ℕ) (v : View) (s later : Scheduler) : Type 0 where
+  pub same : IsSameRound s later
+  pub index : AddsReach s.ahead later.ahead v.reach
+  pub reaches : later.reaches.items ≡ set s.reaches.items k (Some v.reach)
+  pub still : (j : ℕ) → j ≢ k → IsAgain s j → IsAgain later j
+  pub listed : (i j : ℕ) → i ≢ k → IsListed s i j → IsListed later i j
+  pub woken : (j : ℕ) → j ≢ k → j < length s.again.items → IsListed s k j → IsAgain later j ⊎ (HasReach s k v.reach × IsListed later k j)
+  pub rests : (IsAgain s k → IsAgain later k) ⊎ ((i : ℕ) × (v.on ≡ Some i) × IsListed later i k)
+
+-- The places that run are given with their reaches, and those that are listed with one of them are to be looked at; what is kept of others stays.
+pub record Releases (free : List ℕ) (s later : Scheduler) (chosen : List Chosen) : Type 0 where
+  pub same : IsSameRound s later
+  pub ahead : later.ahead ≡ s.ahead
+  pub still : (k : ℕ) → IsAgain s k → IsAgain later k
+  pub woken : (i k : ℕ) → has free i ≡ true → IsListed s i k → k < length s.again.items → IsAgain later k
+  pub others : (i : ℕ) → has free i ≡ false → (slice_get later.reaches.items i ≡ slice_get s.reaches.items i) × (slice_get later.resting.items i ≡ slice_get s.resting.items i)
+  pub chosen_are : (reach : ℕ → Footprint) → AllDifferent free → ((k : ℕ) → has free k ≡ true → HasReach s k (reach k)) → chosen ≡ map (λ k. record { place = k; footprint = reach k }) free

@@ -1,8 +1,7 @@
 //! The next round, by what is kept of the places that wait.
-ghost use Rattle.std.specs.Prelude.{◌≡◌, ◌+◌, ◌<◌, [], ℕ, suc, true, false, All, IfOk, IfSome};
-ghost use Rattle.std.specs.Prelude.{None, Some, OnOk, length, replicate, slice_get, take};
+ghost use Rattle.std.specs.Prelude.{◌≡◌, ◌+◌, ◌<◌, [], ℕ, List, true, false, All, IfOk, IfSome, OnOk};
+ghost use Rattle.std.specs.Prelude.{Some, length, map, replicate, slice_get, take};
 ghost use Rattle.std.specs.List.{list_any};
-ghost use Rattle.std.proofs.Math.ListN.{set};
 ghost use Rattle.chain_plan.specs.Plan.{roles};
 ghost use Rattle.item_index.specs.Ahead.{written_before};
 ghost use Rattle.item_index.specs.Touching as touching;
@@ -11,10 +10,10 @@ ghost use Rattle.trace_format.specs.Text.{IsSpelled};
 ghost use Rattle.wave_pick.specs.Grounds.{ground_holds, writes_chain, writes_for, IsGround};
 ghost use Rattle.wave_pick.specs.Grounds.{RestsOnGround};
 ghost use Rattle.wave_pick.specs.Picking.{IsNextWave};
-ghost use Rattle.wave_pick.specs.Scheduling.{AddsReach, AreFirst, CoversKept, HasRoom, IsBehind};
-ghost use Rattle.wave_pick.specs.Scheduling.{IsIndex, IsSameRound, LooksOver, NotesSame};
-ghost use Rattle.wave_pick.specs.Scheduling.{Remembers, RestsNow};
-ghost use Rattle.wave_pick.specs.Scheduling.{Sees, SeesOn, SortsOut};
+ghost use Rattle.wave_pick.specs.Scheduling.{AddsReach, AreFirst, Flags, HasReach, HasRoom};
+ghost use Rattle.wave_pick.specs.Scheduling.{HaveReaches, IsBehind, IsIndex, IsSameRound, Keeps, Lists};
+ghost use Rattle.wave_pick.specs.Scheduling.{LooksOver, Releases, Remembers, Renews, Sees, Wakes};
+ghost use Rattle.world_parts.specs.Items as items;
 ghost use Rattle.world_parts.specs.Uses.{item_meant};
 
 use crate::wave::{Chosen, Wave};
@@ -29,30 +28,14 @@ use world_parts::{Footprint, Item, Use, World, collide, same_uses, writes_item};
 /// About how many items are looked up in the reaches before a place to find one on which it rests.
 const ASKED: usize = 2048;
 
-/// What is kept of a place that has to wait.
-#[derive(Drop)]
-pub(crate) struct Kept {
-    /// The number of the round in which it was looked at, and its reach there.
-    round: u32,
-    reach: Footprint,
-    /// A place before it: while that one waits with the reach that it has, this one has the reach
-    /// that it has, and has to wait.
-    on: Option<u32>,
-}
-
 /// What is seen of a place in a round.
 #[derive(Drop)]
 pub(crate) struct View {
     reach: Footprint,
+    /// A place before it: while that one waits with the reach that it has, this one has the reach
+    /// that it has, and has to wait.
     on: Option<u32>,
     /// Whether it may run in this round; then its reach is its footprint.
-    free: bool,
-}
-
-/// What is noted of a place in a round.
-#[derive(Clone, Copy, Drop)]
-pub(crate) struct Note {
-    on: Option<u32>,
     free: bool,
 }
 
@@ -62,10 +45,12 @@ pub(crate) struct Note {
 pub struct Scheduler {
     /// How many rounds there have been.
     round: u32,
-    /// What is kept of each place that has had to wait.
-    kept: Vec<Option<Kept>>,
-    /// Of each place the last round in which it had the reach that it had in the round before.
-    same: Vec<u32>,
+    /// Of each place that waits the reach that it had when it was looked at last.
+    reaches: Vec<Option<Footprint>>,
+    /// Whether each place is to be looked at: it hasn't been yet, or something may have changed.
+    again: Vec<bool>,
+    /// Of each place those that were found to rest on it.
+    resting: Vec<Vec<u32>>,
     /// The reaches of places that wait, and of some that have run.
     ahead: Ahead,
     /// Whether it has no more than the reaches before the place that is looked at.
@@ -88,13 +73,15 @@ impl Scheduler {
             (λ scheduler. (window : ℕ) → Remembers trace.now window scheduler) }
         ensures round { IfOk result (λ scheduler. scheduler.round ≡ 0) }
     {
-        let kept = nothing_kept(alloc, trace.places())?;
-        let same = zeros(alloc, trace.places())?;
+        let reaches = no_reaches(alloc, trace.places())?;
+        let again = all_again(alloc, trace.places())?;
+        let resting = none_resting(alloc, trace.places())?;
         let ahead = Ahead::new(alloc)?;
         Ok(Scheduler {
             round: 0,
-            kept,
-            same,
+            reaches,
+            again,
+            resting,
             ahead,
             exact: true,
             added: 0,
@@ -122,7 +109,7 @@ impl Scheduler {
         requires round { self.old.round < places trace.now }
         requires pending { All (λ k. k < places trace.now) pending.now }
         requires remembers { Remembers trace.now window self.old }
-        requires first { AreFirst trace.now window world.now.world self.old
+        requires first { AreFirst trace.now window world.now.world self.old.round
             (take window pending.now) }
         ensures wave { IfOk result
             (IsNextWave trace.now window world.now.world (take window pending.now)) }
@@ -133,12 +120,11 @@ impl Scheduler {
         let count = pending.len().min(window as usize);
         let first = &pending[..count];
         self.begin(alloc)?;
-        let mut reaches = Vec::new(alloc);
-        let mut notes = Vec::new(alloc);
-        self.look_over(alloc, trace, plan, world, first, &mut reaches, &mut notes)?;
-        let chosen = self.sort_out(alloc, trace, first, reaches, notes.as_slice())?;
+        let free = self.look_over(alloc, trace, plan, world, first)?;
+        let chosen = self.release(alloc, free.as_slice())?;
         // There are no more rounds than places.
         self.round = places.min(self.round + 1);
+        self.waiting = count - chosen.len().min(count);
         self.ran = chosen.len();
         Ok(Wave {
             places: Series::from_vec(chosen),
@@ -148,21 +134,20 @@ impl Scheduler {
     /// Where the index has more reaches of places that have run than of places that wait, or much
     /// has run, it is made anew, from the first place on.
     fn begin(&mut self, alloc: Global) -> Result<(), AllocError>
-        requires { (r : ℕ) → self.old.round ≡ suc r → CoversKept r self.old }
-        ensures index { OnOk result (IsIndex self.new []) }
-        ensures rest { OnOk result ((self.new.round ≡ self.old.round)
-            × (self.new.kept ≡ self.old.kept) × (self.new.same ≡ self.old.same)) }
+        ensures index { OnOk result (self.new.exact ≡ true → IsIndex self.new []) }
+        ensures others { OnOk result (self.new.exact ≡ false → self.new.ahead ≡ self.old.ahead) }
+        ensures rest { OnOk result (self.new ≡ record self.old
+            { ahead = self.new.ahead; exact = self.new.exact; added = self.new.added }) }
     {
         self.exact = self.added / 2 >= self.waiting || self.ran >= self.waiting / 8;
         if self.exact {
             self.ahead = Ahead::new(alloc)?;
             self.added = 0;
         }
-        self.waiting = 0;
         Ok(())
     }
 
-    /// Looks at the first places that wait, one after another.
+    /// Looks over the first places that wait, and gives those that may run.
     fn look_over(
         &mut self,
         alloc: Global,
@@ -170,147 +155,62 @@ impl Scheduler {
         plan: &Plan,
         world: &World,
         first: &[u32],
-        reaches: &mut Vec<Footprint>,
-        notes: &mut Vec<Note>,
-    ) -> Result<(), AllocError>
+    ) -> Result<Vec<u32>, AllocError>
         requires trace { IsSpelled trace.now }
         requires plan { plan.now ≡ roles trace.now }
-        requires many { HasRoom trace.now self.old }
+        requires room { HasRoom (places trace.now) self.old }
         requires places { All (λ k. k < places trace.now) first.now }
-        requires empty { (reaches.old.items ≡ []) × (notes.old.items ≡ []) }
-        ensures seen { OnOk result (LooksOver trace.now world.now.world first.now self.old self.new
-            reaches.new.items notes.new.items) }
+        ensures seen { IfOk result (λ free. LooksOver trace.now world.now.world first.now self.old
+            self.new free.items) }
+        ensures places { IfOk result (λ free. All (λ k. k < places trace.now) free.items) }
         ensures same { OnOk result (IsSameRound self.old self.new) }
     {
+        let mut free = Vec::new(alloc);
         for index in 0..first.len() {
             let place = first[index];
-            let earlier = &first[..index];
-            let view = self.see(
-                alloc,
-                trace,
-                plan,
-                world,
-                place,
-                earlier,
-                reaches.as_slice(),
-            )?;
-            notes.push(view.note())?;
-            reaches.push(view.reach)?;
+            if self.again[place as usize] {
+                let earlier = &first[..index];
+                let view = self.look(alloc, trace, plan, world, place, earlier)?;
+                if view.free {
+                    free.push(place)?;
+                }
+                self.keep(alloc, place, view)?;
+            } else {
+                self.pass(alloc, place)?;
+            }
         }
-        Ok(())
+        Ok(free)
     }
 
-    /// What is seen of a place: what is kept of it, while it rests; else what a look gives.
-    fn see(
-        &mut self,
-        alloc: Global,
-        trace: &Trace,
-        plan: &Plan,
-        world: &World,
-        place: u32,
-        earlier: &[u32],
-        reaches: &[Footprint],
-    ) -> Result<View, AllocError>
-        requires trace { IsSpelled trace.now }
-        requires plan { plan.now ≡ roles trace.now }
-        requires place { place < places trace.now }
-        requires many { HasRoom trace.now self.old }
-        requires both { length reaches.now ≡ length earlier.now }
-        ensures seen { IfOk result (SeesOn trace.now world.now.world place earlier.now reaches.now
-            self.old self.new) }
-        ensures same { OnOk result (IsSameRound self.old self.new) }
-    {
-        let Some(kept) = self.take(place) else {
-            let view = self.look(alloc, trace, plan, world, place, earlier, reaches)?;
-            self.add(alloc, &view.reach)?;
-            return Ok(view);
-        };
-        if self.rests(&kept) {
-            let view = self.rest(alloc, place, kept)?;
-            return Ok(view);
-        }
-        let view = self.look(alloc, trace, plan, world, place, earlier, reaches)?;
-        self.add(alloc, &view.reach)?;
-        self.note_same(place, &kept, &view.reach);
-        Ok(view)
-    }
-
-    /// Takes out what is kept of a place.
-    fn take(&mut self, place: u32) -> Option<Kept>
-        requires { place < length self.old.kept.items }
-        ensures was { slice_get self.old.kept.items place ≡ Some result }
-        ensures kept { self.new.kept.items ≡ set self.old.kept.items place None }
-        ensures rest { self.new ≡ record self.old { kept = self.new.kept } }
-    {
-        self.kept[place as usize].take()
-    }
-
-    /// Notes where a place has the reach that it had in the round before.
-    fn note_same(&mut self, place: u32, kept: &Kept, reach: &Footprint)
-        requires { place < length self.old.same.items }
-        ensures noted { NotesSame place kept.now reach.now self.old self.new }
-        ensures rest { self.new ≡ record self.old { same = self.new.same } }
-    {
-        if self.round.saturating_sub(kept.round) == 1 && same_uses(&kept.reach, reach) {
-            self.same[place as usize] = self.round;
-        }
-    }
-
-    /// Whether what was kept of a place in the round before holds still: the place on which it
-    /// rests has the reach that it had.
-    fn rests(&self, kept: &Kept) -> bool
-        ensures { result ≡ true → RestsNow self.now kept.now }
-    {
-        let Some(on) = kept.on else {
-            return false;
-        };
-        self.round.saturating_sub(kept.round) == 1
-            && self.same.get(on as usize) == Some(&self.round)
-    }
-
-    /// What is seen of a place that rests.
-    fn rest(&mut self, alloc: Global, place: u32, kept: Kept) -> Result<View, AllocError>
-        requires place { place < length self.old.same.items }
-        ensures view { IfOk result
-            (λ view. view ≡ record { reach = kept.reach; on = kept.on; free = false }) }
-        ensures noted { OnOk result (self.new.same.items
-            ≡ set self.old.same.items place self.old.round) }
-        ensures index { OnOk result ((self.old.exact ≡ true
-            → AddsReach self.old.ahead self.new.ahead kept.reach)
-            × (self.old.exact ≡ false → self.new.ahead ≡ self.old.ahead)) }
-        ensures rest { OnOk result ((self.new.round ≡ self.old.round)
-            × (self.new.exact ≡ self.old.exact) × (self.new.kept ≡ self.old.kept)) }
-    {
-        self.same[place as usize] = self.round;
-        if self.exact {
-            self.add(alloc, &kept.reach)?;
-        }
-        Ok(View {
-            reach: kept.reach,
-            on: kept.on,
-            free: false,
-        })
-    }
-
-    /// Adds a reach to the index.
-    fn add(&mut self, alloc: Global, reach: &Footprint) -> Result<(), AllocError>
-        ensures added { OnOk result (AddsReach self.old.ahead self.new.ahead reach.now) }
+    /// Passes over a place that rests: where the index is exact, its reach is added.
+    fn pass(&mut self, alloc: Global, place: u32) -> Result<(), AllocError>
+        requires { place < length self.old.reaches.items }
+        ensures exact { OnOk result (self.old.exact ≡ true → (reach : items.Footprint)
+            → slice_get self.old.reaches.items place ≡ Some (Some reach)
+            → AddsReach self.old.ahead self.new.ahead reach) }
+        ensures others { OnOk result (self.old.exact ≡ false → self.new.ahead ≡ self.old.ahead) }
         ensures rest { OnOk result (self.new
             ≡ record self.old { ahead = self.new.ahead; added = self.new.added }) }
     {
-        self.ahead.add(alloc, reach)?;
-        self.added = self.added.saturating_add(1);
+        if !self.exact {
+            return Ok(());
+        }
+        if let Some(reach) = &self.reaches[place as usize] {
+            self.ahead.add(alloc, reach)?;
+            self.added = self.added.saturating_add(1);
+        }
         Ok(())
     }
 
     /// The reaches before the place that is looked at.
-    fn behind<'a>(&'a self, reaches: &'a [Footprint]) -> Behind<'a>
-        ensures { IsIndex self.now reaches.now → IsBehind reaches.now result }
+    fn behind<'a>(&'a self, earlier: &'a [u32]) -> Behind<'a>
+        ensures { (reaches : List items.Footprint) → HaveReaches self.now earlier.now reaches
+            → IsIndex self.now reaches → IsBehind reaches result }
     {
         if self.exact {
             Behind::all(&self.ahead)
         } else {
-            Behind::among(&self.ahead, reaches)
+            Behind::among(&self.ahead, earlier, self.reaches.as_slice())
         }
     }
 
@@ -323,20 +223,18 @@ impl Scheduler {
         world: &World,
         place: u32,
         earlier: &[u32],
-        reaches: &[Footprint],
     ) -> Result<View, AllocError>
         requires trace { IsSpelled trace.now }
         requires plan { plan.now ≡ roles trace.now }
         requires place { place < places trace.now }
-        requires both { length reaches.now ≡ length earlier.now }
-        ensures { IfOk result (Sees trace.now world.now.world place earlier.now reaches.now
-            self.now) }
+        ensures { IfOk result (Sees trace.now world.now.world place earlier.now self.now) }
     {
         let role = plan.role(place);
-        let behind = self.behind(reaches);
+        let behind = self.behind(earlier);
         let footprint = foot_in(alloc, place, trace, &role, world.state())?;
         if behind.meets(&footprint) {
             let outlook = outlook_in(alloc, place, trace, &role, world.state(), &behind)?;
+            let reaches = self.reaches.as_slice();
             let on = resting_place(&outlook, &role, &behind, earlier, reaches);
             return Ok(View {
                 reach: outlook.reach,
@@ -345,12 +243,9 @@ impl Scheduler {
             });
         }
         if behind.collides(&footprint) {
-            let on = latest_on(
-                &Ground::Collides(&footprint),
-                footprint.uses().len(),
-                earlier,
-                reaches,
-            );
+            let ground = Ground::Collides(&footprint);
+            let reaches = self.reaches.as_slice();
+            let on = latest_on(&ground, footprint.uses().len(), earlier, reaches);
             return Ok(View {
                 reach: footprint,
                 on,
@@ -364,66 +259,95 @@ impl Scheduler {
         })
     }
 
-    /// The places that may run, each with its footprint; what is seen of the others is kept.
-    fn sort_out(
-        &mut self,
-        alloc: Global,
-        trace: &Trace,
-        first: &[u32],
-        reaches: Vec<Footprint>,
-        notes: &[Note],
-    ) -> Result<Vec<Chosen>, AllocError>
-        requires many { HasRoom trace.now self.old }
-        requires places { All (λ k. k < places trace.now) first.now }
-        requires both { (length reaches.items ≡ length first.now)
-            × (length notes.now ≡ length first.now) }
-        ensures sorted { IfOk result (λ chosen. SortsOut trace.now first.now reaches.items notes.now
-            self.old self.new chosen.items) }
-        ensures same { OnOk result (IsSameRound self.old self.new) }
+    /// Keeps what is seen of a place.
+    fn keep(&mut self, alloc: Global, place: u32, view: View) -> Result<(), AllocError>
+        requires place { place < length self.old.reaches.items }
+        requires room { HasRoom (length self.old.reaches.items) self.old }
+        ensures { OnOk result (Keeps place view self.old self.new) }
     {
-        let mut reaches = reaches;
+        self.ahead.add(alloc, &view.reach)?;
+        self.added = self.added.saturating_add(1);
+        self.renew(alloc, place, view.reach);
+        self.list(place, view.on)
+    }
+
+    /// Keeps the reach of a place. Where it had another one, those that rest on it are to be looked
+    /// at again.
+    fn renew(&mut self, alloc: Global, place: u32, reach: Footprint)
+        requires place { place < length self.old.reaches.items }
+        requires room { HasRoom (length self.old.reaches.items) self.old }
+        ensures { Renews place reach self.old self.new }
+    {
+        let same = self.has_reach(place, &reach);
+        self.reaches[place as usize] = Some(reach);
+        if !same {
+            self.wake(alloc, place);
+        }
+    }
+
+    /// Whether a place had this reach when it was looked at last.
+    fn has_reach(&self, place: u32, reach: &Footprint) -> bool
+        ensures { result ≡ true → HasReach self.now place reach.now }
+    {
+        match self.reaches.get(place as usize) {
+            Some(Some(kept)) => same_uses(kept, reach),
+            _ => false,
+        }
+    }
+
+    /// Lists a place with the one on which it rests, and needn't look at it then; else it is to be
+    /// looked at again.
+    fn list(&mut self, place: u32, on: Option<u32>) -> Result<(), AllocError>
+        requires { place < length self.old.again.items }
+        ensures { OnOk result (Lists place on self.old self.new) }
+    {
+        let Some(on) = on else {
+            return Ok(());
+        };
+        if let Some(listed) = self.resting.get_mut(on as usize) {
+            listed.push(place)?;
+            self.again[place as usize] = false;
+        }
+        Ok(())
+    }
+
+    /// Those that rest on a place are to be looked at again.
+    fn wake(&mut self, alloc: Global, place: u32)
+        requires { place < length self.old.resting.items }
+        ensures { Wakes place self.old self.new }
+    {
+        let woken = mem::replace(&mut self.resting[place as usize], Vec::new(alloc));
+        flag(&mut self.again, woken.as_slice());
+    }
+
+    /// The places that run, each with its footprint. Those that rest on them are to be looked at
+    /// again.
+    fn release(&mut self, alloc: Global, free: &[u32]) -> Result<Vec<Chosen>, AllocError>
+        requires places { All (λ k. k < length self.old.reaches.items) free.now }
+        requires room { HasRoom (length self.old.reaches.items) self.old }
+        ensures { IfOk result (λ chosen. Releases free.now self.old self.new chosen.items) }
+    {
         let mut chosen = Vec::new(alloc);
-        for index in 0..first.len() {
-            let place = first[index];
-            let note = notes[index];
-            let reach = mem::replace(&mut reaches[index], Footprint::new(alloc));
-            if note.free {
+        for place in free {
+            if let Some(footprint) = self.reaches[*place as usize].take() {
                 chosen.push(Chosen {
-                    place,
-                    footprint: reach,
+                    place: *place,
+                    footprint,
                 })?;
-            } else {
-                self.keep(place, reach, note.on);
             }
+            self.wake(alloc, *place);
         }
         Ok(chosen)
     }
-
-    /// Keeps what is seen of a place that has to wait.
-    fn keep(&mut self, place: u32, reach: Footprint, on: Option<u32>)
-        requires { place < length self.old.kept.items }
-        ensures kept { self.new.kept.items ≡ set self.old.kept.items place
-            (Some (record { round = self.old.round; reach = reach; on = on })) }
-        ensures rest { self.new
-            ≡ record self.old { kept = self.new.kept; waiting = self.new.waiting } }
-    {
-        self.kept[place as usize] = Some(Kept {
-            round: self.round,
-            reach,
-            on,
-        });
-        self.waiting = self.waiting.saturating_add(1);
-    }
 }
 
-impl View {
-    /// What is noted of it beside its reach.
-    fn note(&self) -> Note
-        ensures { result ≡ record { on = self.now.on; free = self.now.free } }
-    {
-        Note {
-            on: self.on,
-            free: self.free,
+/// Some places are to be looked at.
+fn flag(again: &mut Vec<bool>, places: &[u32])
+    ensures { Flags places.now again.old.items again.new.items }
+{
+    for place in places {
+        if let Some(flag) = again.get_mut(*place as usize) {
+            *flag = true;
         }
     }
 }
@@ -491,16 +415,17 @@ fn latest_on(
     ground: &Ground<'_>,
     items: usize,
     earlier: &[u32],
-    reaches: &[Footprint],
+    reaches: &[Option<Footprint>],
 ) -> Option<u32>
-    requires { length reaches.now ≡ length earlier.now }
     ensures { IfSome result (λ i. IsGround ground.now earlier.now reaches.now i) }
 {
-    let count = reaches.len();
+    let count = earlier.len();
     for back in 0..count.min(ASKED / items.max(1)) {
-        let index = count - 1 - back;
-        if ground.holds(&reaches[index]) {
-            return Some(earlier[index]);
+        let place = earlier[count - 1 - back];
+        if let Some(Some(reach)) = reaches.get(place as usize)
+            && ground.holds(reach)
+        {
+            return Some(place);
         }
     }
     None
@@ -512,9 +437,8 @@ fn resting_place(
     role: &Role,
     behind: &Behind<'_>,
     earlier: &[u32],
-    reaches: &[Footprint],
+    reaches: &[Option<Footprint>],
 ) -> Option<u32>
-    requires { length reaches.now ≡ length earlier.now }
     ensures { IfSome result (RestsOnGround outlook.now role.now.chain (written_before behind.now)
         earlier.now reaches.now) }
 {
@@ -528,23 +452,35 @@ fn resting_place(
     latest_on(&ground, items.uses().len(), earlier, reaches)
 }
 
-/// Nothing is kept of any place.
-fn nothing_kept(alloc: Global, places: u32) -> Result<Vec<Option<Kept>>, AllocError>
-    ensures { IfOk result (λ kept. kept.items ≡ replicate places None) }
+/// No place has a reach.
+fn no_reaches(alloc: Global, places: u32) -> Result<Vec<Option<Footprint>>, AllocError>
+    ensures { IfOk result (λ reaches. length reaches.items ≡ places) }
 {
-    let mut kept = Vec::new(alloc);
+    let mut reaches = Vec::new(alloc);
     for _place in 0..places {
-        kept.push(None)?;
+        reaches.push(None)?;
     }
-    Ok(kept)
+    Ok(reaches)
 }
 
-fn zeros(alloc: Global, places: u32) -> Result<Vec<u32>, AllocError>
-    ensures { IfOk result (λ zeros. zeros.items ≡ replicate places 0) }
+/// Each place is to be looked at.
+fn all_again(alloc: Global, places: u32) -> Result<Vec<bool>, AllocError>
+    ensures { IfOk result (λ again. again.items ≡ replicate places true) }
 {
-    let mut zeros = Vec::new(alloc);
+    let mut again = Vec::new(alloc);
     for _place in 0..places {
-        zeros.push(0)?;
+        again.push(true)?;
     }
-    Ok(zeros)
+    Ok(again)
+}
+
+/// No place rests on one.
+fn none_resting(alloc: Global, places: u32) -> Result<Vec<Vec<u32>>, AllocError>
+    ensures { IfOk result (λ resting. length resting.items ≡ places) }
+{
+    let mut resting = Vec::new(alloc);
+    for _place in 0..places {
+        resting.push(Vec::new(alloc))?;
+    }
+    Ok(resting)
 }

@@ -14,21 +14,21 @@ returns-then-meets c = λ window world before index.
     let t = c.args.trace.now in
     let k = c.args.place in
     let b = c.behind-behind.result in
-    seen_met t c.requires.trace window c.args.self.now.round k c.args.earlier.now c.args.reaches.now before b (c.behind-behind.ensures index)
+    seen_met t c.requires.trace window c.args.self.now.round k c.args.earlier.now c.args.self.now before b (c.behind-behind.ensures _ before.reaches_are index)
     c.in_ok-footprint.footprint (c.in_ok-footprint.ensures ∙ ap (footprint t k) (c.state.ensures ∙ world)) c.if-meets.ensures c.in_ok-outlook.outlook
     (subst (λ s. IsOutlook t k s (written_before b) c.in_ok-outlook.outlook) (c.state-then-meets.ensures ∙ world) c.in_ok-outlook.ensures)
-    c.role-role.result.chain (ap (λ r. r.chain) (c.role-role.ensures.of_trace t c.requires.plan)) c.resting_place-on.result c.resting_place-on.ensures
+    c.role-role.result.chain (ap (λ r. r.chain) (c.role-role.ensures.of_trace t c.requires.plan)) c.resting_place-on.result _ c.as_slice-reaches.ensures.value c.resting_place-on.ensures
 
 pub returns-then-collides : goal.returns-then-collides
 returns-then-collides c = λ window world before index.
     let t = c.args.trace.now in
     let k = c.args.place in
-    seen_held t c.requires.trace window c.args.self.now.round k c.args.earlier.now c.args.reaches.now before c.behind-behind.result (c.behind-behind.ensures index)
-    c.in_ok-footprint.footprint (c.in_ok-footprint.ensures ∙ ap (footprint t k) (c.state.ensures ∙ world)) c.if-meets.ensures c.if-collides.ensures _ refl c.latest_on-on.result c.latest_on-on.ensures
+    seen_held t c.requires.trace window c.args.self.now.round k c.args.earlier.now c.args.self.now before c.behind-behind.result (c.behind-behind.ensures _ before.reaches_are index)
+    c.in_ok-footprint.footprint (c.in_ok-footprint.ensures ∙ ap (footprint t k) (c.state.ensures ∙ world)) c.if-meets.ensures c.if-collides.ensures _ refl c.latest_on-on.result _ c.as_slice-reaches-then-collides.ensures.value c.latest_on-on.ensures
 
 pub returns : goal.returns
 returns c = λ window world before index.
     let t = c.args.trace.now in
     let k = c.args.place in
-    seen_free t c.requires.trace window c.args.self.now.round k c.args.earlier.now c.args.reaches.now before c.behind-behind.result (c.behind-behind.ensures index)
+    seen_free t c.requires.trace window c.args.self.now.round k c.args.earlier.now c.args.self.now before c.behind-behind.result (c.behind-behind.ensures _ before.reaches_are index)
     c.in_ok-footprint.footprint (c.in_ok-footprint.ensures ∙ ap (footprint t k) (c.state.ensures ∙ world)) c.if-meets.ensures c.if-collides.ensures

@@ -1,42 +1,65 @@
-use Rattle.std.proofs.Common.{◌≡◌, ◌<◌, ◌+◌, ◌++◌, ◌∷◌, ◌∙◌, [], take, length, get_or, add-one, ap, subst, sym, rules}
+use Rattle.std.proofs.Common.{◌≡◌, ◌<◌, ◌+◌, ◌++◌, ◌∷◌, ◌∙◌, [], All, Bool, Some, true, false, if◌then◌else◌, take, length, get_or, add-one, ap, subst, sym, rules, arith}
 use Rattle.std.proofs.Math.Seq.{take-suc}
 use Rattle.std.proofs.lemmas.Option.{slice_get-get_or}
-use Rattle.interleaving.specs.Machine.{has}
-use Rattle.interleaving.specs.Rounds.{pending}
 use Rattle.trace_format.specs.Steps.{places}
-use Rattle.wave_pick.specs.Rounds.{state_after}
-use Rattle.wave_pick.specs.Waiting.{world_after}
-use Rattle.wave_pick.specs.Scheduling.{HaveSeen, SeesOn}
-use Rattle.wave_pick.proofs.Passing.{look_step}
+use Rattle.std.proofs.lemmas.List.Elements.{All-push}
+use Rattle.wave_pick.specs.Scheduling.{HasRoom, HaveSeen, IsSameRound}
+use Rattle.wave_pick.specs.declared.scheduler.Scheduler.{Scheduler}
+use Rattle.wave_pick.proofs.Passing.{look_step, pass_step, same_on, same_rest, seen_view}
+use Rattle.wave_pick.proofs.scheduler.Scheduler.look_over.Goals.{then-index+in_ok-view+in_ok-keep, then-view+in_ok-push, else-view, else-index+in_ok-pass}
 use Rattle.wave_pick.proofs.scheduler.Scheduler.look_over.Goals as goal
 
 pub loop-index-preserved : goal.loop-index-preserved
 loop-index-preserved c =
     let t = c.args.trace.now in
-    let w = c.args.world.now.world in
+    let world = c.args.world.now.world in
     let s = c.loop-index.self in
-    let later = c.see.new.self in
+    let q = c.args.self.now.round in
     let first = c.args.first.now in
     let i = c.loop-index.index in
     let k = get_or first i 0 in
-    let gs = c.loop-index.reaches.items in
-    let ns = c.loop-index.notes.items in
-    let v = c.in_ok-view.view in
+    let free = c.loop-index.free.items in
     let l : i < length first = search rules in
     let more : take (i + 1) first ≡ take i first ++ (k ∷ []) = rw add-one (take-suc first i 0 l) in
+    let at = slice_get-get_or first i 0 l in
     let before = c.loop-index.invariant.same in
-    let now = c.in_ok-view.ensures.same in
-    record {
-      seen = λ window a keeps index.
-          let sees = subst (λ rs. SeesOn t w k (take i first) rs s later v) c.as_slice.ensures.value c.in_ok-view.ensures.seen in
-          let step = look_step t window w s later first i k gs ns v (record {
-            world = subst (λ n. w ≡ world_after t window n) (sym before.round) a.world;
-            first = subst (λ n. first ≡ take window (pending (has (state_after t window n).finished) (places t))) (sym before.round) a.first;
-          }) now.round (slice_get-get_or first i 0 l) sees (c.loop-index.invariant.seen window a keeps index) in
-          subst (λ ks. HaveSeen t window ks later c.push-in-loop-index.new.self.items c.push.new.self.items) (sym more)
-          (subst (λ ys. HaveSeen t window (take i first ++ k ∷ []) later ys c.push.new.self.items) (sym c.in_ok-push-2.ensures.items)
-          (subst (λ ys. HaveSeen t window (take i first ++ k ∷ []) later (gs ++ v.reach ∷ []) ys) (sym (c.in_ok-push.ensures.items ∙ ap (λ n. ns ++ n ∷ []) c.note.ensures)) step));
-      same = record { round = now.round ∙ before.round; exact = now.exact ∙ before.exact; many_kept = now.many_kept ∙ before.many_kept; many_same = now.many_same ∙ before.many_same };
-      many = search rules;
-      many_notes = search rules;
-    }
+    let many : length s.again.items ≡ places t = before.again ∙ c.requires.room.again in
+    let low : k < length s.again.items = let p = c.requires.places i 0 l in omega (arith, many, p) in
+    let flag = slice_get-get_or s.again.items k c.index.result.now low ∙ ap Some (sym c.index.ensures) in
+    let all_low : (b : Bool) → All (λ n. n < places t) (if b then free ++ k ∷ [] else free) = λ b. elim b as (λ x. All (λ n. n < places t) (if x then free ++ k ∷ [] else free)) [
+      | true ↦ All-push (λ n. n < places t) free k c.loop-index.invariant.low (c.requires.places i 0 l)
+      | false ↦ c.loop-index.invariant.low
+    ] in
+    elim c.if-index.branch [
+      | then-index+in_ok-view+in_ok-keep w ↦
+          let v = w.in_ok-view.view in
+          let keeps = w.in_ok-keep.ensures in
+          let pushed : c.if-index.free.items ≡ (if v.free then free ++ k ∷ [] else free) = ap (λ x. x.items) w.free-is ∙ (elim w.if-view.branch [
+            | then-view+in_ok-push w' ↦ ap (λ x. x.items) w'.free-is ∙ w'.in_ok-push.ensures.items ∙ ap (λ b. if b then free ++ k ∷ [] else free) (sym w'.if-view.true)
+            | else-view w' ↦ ap (λ x. x.items) w'.free-is ∙ ap (λ b. if b then free ++ k ∷ [] else free) (sym w'.if-view.false)
+          ]) in
+          record {
+            seen = λ window a start.
+                let h = c.loop-index.invariant.seen window a start in
+                let view = seen_view t c.requires.trace window world q first a i k at s free h before.round v w.in_ok-view.ensures in
+                let room : HasRoom (places t) s = record { reaches = before.reaches ∙ c.requires.room.reaches; again = many; resting = before.resting ∙ c.requires.room.resting } in
+                let step = look_step t c.requires.trace window world q first a i k at s free h room (flag ∙ ap Some w.if-index.true) v view w.keep.new.self keeps in
+                subst (λ (x : Scheduler). HaveSeen t window q (take (i + 1) first) x c.if-index.free.items) (sym w.self-is)
+                (subst (λ xs. HaveSeen t window q xs w.keep.new.self c.if-index.free.items) (sym more)
+                (subst (HaveSeen t window q (take i first ++ k ∷ []) w.keep.new.self) (sym pushed) step));
+            same = subst (IsSameRound c.args.self.now) (sym w.self-is) (same_on before keeps.same);
+            low = subst (All (λ n. n < places t)) (sym pushed) (all_low v.free);
+          }
+      | else-index+in_ok-pass w ↦
+          let e = w.in_ok-pass.ensures in
+          record {
+            seen = λ window a start.
+                let h = c.loop-index.invariant.seen window a start in
+                let step = pass_step t c.requires.trace window world q first a i k at s free h (flag ∙ ap Some w.if-index.false) w.pass.new.self e.exact e.others e.rest in
+                subst (λ (x : Scheduler). HaveSeen t window q (take (i + 1) first) x c.if-index.free.items) (sym w.self-is)
+                (subst (λ xs. HaveSeen t window q xs w.pass.new.self c.if-index.free.items) (sym more)
+                (subst (HaveSeen t window q (take i first ++ k ∷ []) w.pass.new.self) (sym (ap (λ x. x.items) w.free-is)) step));
+            same = subst (IsSameRound c.args.self.now) (sym w.self-is) (same_rest before e.rest);
+            low = subst (All (λ n. n < places t)) (sym (ap (λ x. x.items) w.free-is)) c.loop-index.invariant.low;
+          }
+    ]

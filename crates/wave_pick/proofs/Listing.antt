@@ -1,0 +1,218 @@
+-- Of the lists of places that rest on one: a place more in one, and one whose places are to be looked at.
+use Rattle.std.specs.Prelude.{◌≡◌, ◌≢◌, ℕ, ◌<◌, true, false, List, [], ◌∷◌, ◌++◌, length, slice_get, Option, Some, None, refl}
+use Rattle.std.proofs.Common.{◌⊎◌, inl, inr, sym, ap, subst, ◌∙◌, Vec, Global}
+use Rattle.std.specs.Option.{option_map}
+use Rattle.std.proofs.Math.ListN.{set}
+use Rattle.std.proofs.lemmas.Bool.{cases_eq, false_from_ne_true}
+use Rattle.std.proofs.lemmas.List.{length-set, map-append}
+use Rattle.interleaving.specs.Machine.{has}
+use Rattle.interleaving.specs.Gather.{AllDifferent}
+use Rattle.interleaving.proofs.Members.{has-cases}
+use Rattle.world_parts.specs.Items.{Footprint}
+use Rattle.wave_pick.specs.Scheduling.{AddsReach, Flags, HasReach, IsAgain, IsListed, Keeps, Lists, Releases, Renews, Wakes}
+use Rattle.wave_pick.specs.declared.scheduler.Scheduler.{Scheduler}
+use Rattle.wave_pick.specs.declared.scheduler.View.{View}
+use Rattle.wave_pick.specs.declared.wave.Chosen.{Chosen}
+use Rattle.wave_pick.proofs.Knowing.{set_apart, set_there}
+use Rattle.wave_pick.proofs.Passing.{not_both}
+use Rattle.wave_pick.proofs.Within.{has_before, has_last, has_more}
+
+abbrev Listed : Type 0
+Listed = Vec ℕ Global
+
+some_items : {x y : List ℕ} → ◌≡◌ {A = Option (List ℕ)} (Some x) (Some y) → x ≡ y
+some_items e = cc
+
+-- A place is listed with another one.
+module _ (s later : Scheduler) (k on : ℕ) (old new : Listed) (there : slice_get s.resting.items on ≡ Some old) (within : on < length s.resting.items) (more : new.items ≡ old.items ++ k ∷ []) (resting : later.resting.items ≡ set s.resting.items on new) (again : later.again.items ≡ set s.again.items k false)
+    (rest : later ≡ record s { again = later.again; resting = later.resting }) where
+  abbrev now : option_map (λ (v : Listed). v.items) (slice_get later.resting.items on) ≡ Some (old.items ++ k ∷ [])
+  now = ap (λ xs. option_map (λ (v : Listed). v.items) (slice_get xs on)) resting ∙ ap (option_map (λ (v : Listed). v.items)) (set_there s.resting.items on new within) ∙ ap (λ xs. Some xs) more
+
+  still_listed : (i j : ℕ) → (i ≡ on) ⊎ (i ≢ on) → IsListed s i j → IsListed later i j
+  still_listed i j (inl e) l = record {
+    list = old.items ++ k ∷ [];
+    at = ap (λ n. option_map (λ (v : Listed). v.items) (slice_get later.resting.items n)) e ∙ now;
+    has_it = has_before j old.items (k ∷ []) (ap (λ xs. has xs j) (some_items (sym (ap (option_map (λ (v : Listed). v.items)) there) ∙ ap (λ n. option_map (λ (v : Listed). v.items) (slice_get s.resting.items n)) (sym e) ∙ l.at)) ∙ l.has_it);
+  }
+  still_listed i j (inr ne) l = record {
+    list = l.list;
+    at = ap (λ xs. option_map (λ (v : Listed). v.items) (slice_get xs i)) resting ∙ ap (option_map (λ (v : Listed). v.items)) (set_apart s.resting.items on i new ne) ∙ l.at;
+    has_it = l.has_it;
+  }
+
+  pub lists_there : Lists k (Some on) s later
+  lists_there = record {
+    many_again = ap length again ∙ length-set s.again.items k false;
+    many_resting = ap length resting ∙ length-set s.resting.items on new;
+    still = λ j ne e. ap (λ xs. slice_get xs j) again ∙ set_apart s.again.items k j false ne ∙ e;
+    listed = λ i j l. still_listed i j (cases_eq i on) l;
+    rests = inr (on, refl, record { list = old.items ++ k ∷ []; at = now; has_it = has_last k old.items });
+    rest = rest;
+  }
+
+-- Those of a list are to be looked at, and the list is empty.
+module _ (s later : Scheduler) (k : ℕ) (old new : Listed) (there : slice_get s.resting.items k ≡ Some old) (resting : later.resting.items ≡ set s.resting.items k new) (flags : Flags old.items s.again.items later.again.items) (rest : later ≡ record s { again = later.again; resting = later.resting }) where
+  pub wakes_list : Wakes k s later
+  wakes_list = record {
+    many_again = flags.many;
+    many_resting = ap length resting ∙ length-set s.resting.items k new;
+    still = λ j e. flags.still j e;
+    woken = λ j l lt. flags.these j (ap (λ xs. has xs j) (some_items (sym (ap (option_map (λ (v : Listed). v.items)) there) ∙ l.at)) ∙ l.has_it) lt;
+    others = λ j ne. ap (λ xs. slice_get xs j) resting ∙ set_apart s.resting.items k j new ne;
+    rest = rest;
+  }
+
+-- A place has a new reach, and those that rest on it are woken.
+pub renews_waking : (k : ℕ) (f : Footprint) (s mid later : Scheduler) → mid.reaches.items ≡ set s.reaches.items k (Some f) → mid ≡ record s { reaches = mid.reaches } → Wakes k mid later → Renews k f s later
+renews_waking k f s mid later reaches same w = record {
+  reaches = ap (λ (x : Scheduler). x.reaches.items) w.rest ∙ reaches;
+  many_again = w.many_again ∙ ap (λ (x : Scheduler). length x.again.items) same;
+  many_resting = w.many_resting ∙ ap (λ (x : Scheduler). length x.resting.items) same;
+  still = λ j e. w.still j (ap (λ (x : Scheduler). slice_get x.again.items j) same ∙ e);
+  woken = λ j l lt. inl (w.woken j (record { list = l.list; at = ap (λ (x : Scheduler). option_map (λ (v : Listed). v.items) (slice_get x.resting.items k)) same ∙ l.at; has_it = l.has_it })
+      (subst (λ n. j < n) (sym (ap (λ (x : Scheduler). length x.again.items) same)) lt));
+  others = λ j ne. w.others j ne ∙ ap (λ (x : Scheduler). slice_get x.resting.items j) same;
+  rest = w.rest ∙ ap (λ (x : Scheduler). record x { again = later.again; resting = later.resting }) same
+      ∙ ap (λ v. record s { reaches = v; again = later.again; resting = later.resting }) (sym (ap (λ (x : Scheduler). x.reaches) w.rest));
+}
+
+-- It has the reach that it had.
+pub renews_same : (k : ℕ) (f : Footprint) (s later : Scheduler) → later.reaches.items ≡ set s.reaches.items k (Some f) → later ≡ record s { reaches = later.reaches } → HasReach s k f → Renews k f s later
+renews_same k f s later reaches same had = record {
+  reaches = reaches;
+  many_again = ap (λ (x : Scheduler). length x.again.items) same;
+  many_resting = ap (λ (x : Scheduler). length x.resting.items) same;
+  still = λ j e. ap (λ (x : Scheduler). slice_get x.again.items j) same ∙ e;
+  woken = λ j l lt. inr (had, record { list = l.list; at = ap (λ (x : Scheduler). option_map (λ (v : Listed). v.items) (slice_get x.resting.items k)) same ∙ l.at; has_it = l.has_it });
+  others = λ j ne. ap (λ (x : Scheduler). slice_get x.resting.items j) same;
+  rest = same ∙ (λ i. record s { reaches = later.reaches; again = sym (ap (λ (x : Scheduler). x.again) same) i; resting = sym (ap (λ (x : Scheduler). x.resting) same) i });
+}
+
+-- Of two lists with all different elements.
+different_parts : (k : ℕ) (xs : List ℕ) → AllDifferent (xs ++ k ∷ []) → AllDifferent xs × (has xs k ≡ false)
+different_parts k [] d = (tt, refl)
+different_parts k (x ∷ xs) d =
+    let before = different_parts k xs d.1 in
+    ((false_from_ne_true _ (λ h. not_both (has_before x xs (k ∷ []) h) d.0), before.0), false_from_ne_true _ (λ h. apart before.1 d.0 (has-cases k x xs h)))
+  where
+    apart : has xs k ≡ false → has (xs ++ k ∷ []) x ≡ false → (k ≡ x) ⊎ (has xs k ≡ true) → ⊥
+    apart none last (inl e) = not_both (ap (λ j. has (xs ++ j ∷ []) x) e ∙ has_last x xs) last
+    apart none last (inr h) = not_both h none
+
+-- One place more is released.
+module _ (ks : List ℕ) (k : ℕ) (s mid taken later : Scheduler) (chosen : List Chosen) (r : Releases ks s mid chosen) (w : Wakes k taken later) (reaches : taken.reaches.items ≡ set mid.reaches.items k None) (same : taken ≡ record mid { reaches = taken.reaches }) where
+  more_of : (j : ℕ) → has (ks ++ k ∷ []) j ≡ false → (has ks j ≡ false) × (j ≢ k)
+  more_of j none = (
+    false_from_ne_true _ (λ h. not_both (has_before j ks (k ∷ []) h) none),
+    λ e. not_both (ap (λ i. has (ks ++ i ∷ []) j) (sym e) ∙ has_last j ks) none,
+  )
+
+  taken_again : (j : ℕ) → IsAgain mid j → IsAgain taken j
+  taken_again j e = ap (λ (x : Scheduler). slice_get x.again.items j) same ∙ e
+
+  later_reaches : (j : ℕ) → slice_get later.reaches.items j ≡ slice_get taken.reaches.items j
+  later_reaches j = ap (λ (x : Scheduler). slice_get x.reaches.items j) w.rest
+
+  others_of : (j : ℕ) → has (ks ++ k ∷ []) j ≡ false → (slice_get later.reaches.items j ≡ slice_get s.reaches.items j) × (slice_get later.resting.items j ≡ slice_get s.resting.items j)
+  others_of j none =
+      let m = more_of j none in
+      let before = r.others j m.0 in (
+        later_reaches j ∙ ap (λ xs. slice_get xs j) reaches ∙ set_apart mid.reaches.items k j None m.1 ∙ before.0,
+        w.others j m.1 ∙ ap (λ (x : Scheduler). slice_get x.resting.items j) same ∙ before.1,
+      )
+
+  same_many : length taken.again.items ≡ length s.again.items
+  same_many = ap (λ (x : Scheduler). length x.again.items) same ∙ r.same.again
+
+  woken_of : (i j : ℕ) → (has ks i ≡ true) ⊎ ((i ≡ k) × (has ks i ≡ false)) → IsListed s i j → j < length s.again.items → IsAgain later j
+  woken_of i j (inl e) l lt = w.still j (taken_again j (r.woken i j e l lt))
+  woken_of i j (inr p) l lt = w.woken j (record {
+    list = l.list;
+    at = ap (λ n. option_map (λ (v : Listed). v.items) (slice_get taken.resting.items n)) (sym p.0) ∙ ap (λ (x : Scheduler). option_map (λ (v : Listed). v.items) (slice_get x.resting.items i)) same ∙ ap (option_map (λ (v : Listed). v.items)) (r.others i p.1).1 ∙ l.at;
+    has_it = l.has_it;
+  }) (subst (λ n. j < n) (sym same_many) lt)
+
+  first_or_last : (i : ℕ) → has (ks ++ k ∷ []) i ≡ true → (has ks i ≡ true) ⊎ ((i ≡ k) × (has ks i ≡ false))
+  first_or_last i h = go (Rattle.std.proofs.lemmas.Bool.cases_Bool (has ks i)) (has_more i ks k h)
+    where
+      go : (has ks i ≡ true) ⊎ (has ks i ≡ false) → (has ks i ≡ true) ⊎ (i ≡ k) → (has ks i ≡ true) ⊎ ((i ≡ k) × (has ks i ≡ false))
+      go (inl e) m = inl e
+      go (inr none) (inl e) = inl e
+      go (inr none) (inr e) = inr (e, none)
+
+  module _ (chosen_now : List Chosen) (was : (reach : Footprint) → slice_get mid.reaches.items k ≡ Some (Some reach) → chosen_now ≡ chosen ++ record { place = k; footprint = reach } ∷ []) where
+    pub release_step : Releases (ks ++ k ∷ []) s later chosen_now
+    release_step = record {
+      same = record {
+        round = ap (λ (x : Scheduler). x.round) w.rest ∙ ap (λ (x : Scheduler). x.round) same ∙ r.same.round;
+        exact = ap (λ (x : Scheduler). x.exact) w.rest ∙ ap (λ (x : Scheduler). x.exact) same ∙ r.same.exact;
+        reaches = ap (λ (x : Scheduler). length x.reaches.items) w.rest ∙ ap length reaches ∙ length-set mid.reaches.items k None ∙ r.same.reaches;
+        again = w.many_again ∙ same_many;
+        resting = w.many_resting ∙ ap (λ (x : Scheduler). length x.resting.items) same ∙ r.same.resting;
+      };
+      ahead = ap (λ (x : Scheduler). x.ahead) w.rest ∙ ap (λ (x : Scheduler). x.ahead) same ∙ r.ahead;
+      still = λ j e. w.still j (taken_again j (r.still j e));
+      woken = λ i j h l lt. woken_of i j (first_or_last i h) l lt;
+      others = others_of;
+      chosen_are = λ reach d all.
+          let parts = different_parts k ks d in
+          let at : slice_get mid.reaches.items k ≡ Some (Some (reach k)) = (r.others k parts.1).0 ∙ all k (has_last k ks) in
+          was (reach k) at
+          ∙ ap (λ cs. cs ++ record { place = k; footprint = reach k } ∷ []) (r.chosen_are reach parts.0 (λ j h. all j (has_before j ks (k ∷ []) h)))
+          ∙ sym (map-append (λ j. record { place = j; footprint = reach j }) ks (k ∷ []));
+    }
+
+-- What was taken out of the table.
+pub one_taken : (reach was : Footprint) {x : Option Footprint} → ◌≡◌ {A = Option (Option Footprint)} (Some x) (Some (Some reach)) → x ≡ Some was → was ≡ reach
+one_taken reach was e d = same (ap (λ y. Some y) (sym d) ∙ e)
+  where
+    same : {f g : Footprint} → ◌≡◌ {A = Option (Option Footprint)} (Some (Some f)) (Some (Some g)) → f ≡ g
+    same e = cc
+
+pub none_taken : {Y : Type 0} (reach : Footprint) {x : Option Footprint} → ◌≡◌ {A = Option (Option Footprint)} (Some x) (Some (Some reach)) → x ≡ None → Y
+none_taken reach e d = other (ap (λ y. Some y) (sym d) ∙ e)
+  where
+    other : {Y : Type 0} {g : Footprint} → ◌≡◌ {A = Option (Option Footprint)} (Some None) (Some (Some g)) → Y
+    other e = (cc)
+
+-- Before the first one.
+pub releases_none : (s : Scheduler) → Releases [] s s []
+releases_none s = record {
+  same = record { round = refl; exact = refl; reaches = refl; again = refl; resting = refl };
+  ahead = refl;
+  still = λ k e. e;
+  woken = λ i k h l lt. (cc);
+  others = λ i none. (refl, refl);
+  chosen_are = λ reach d all. refl;
+}
+
+-- What is seen of a place is kept: its reach is added, renewed, and it is listed.
+pub keeps_view : (k : ℕ) (v : View) (s added renewed later : Scheduler) → AddsReach s.ahead added.ahead v.reach → added ≡ record s { ahead = added.ahead; added = added.added } → Renews k v.reach added renewed → Lists k v.on renewed later → Keeps k v s later
+keeps_view k v s added renewed later adds same r l = record {
+  same = record {
+    round = ap (λ (x : Scheduler). x.round) l.rest ∙ ap (λ (x : Scheduler). x.round) r.rest ∙ ap (λ (x : Scheduler). x.round) same;
+    exact = ap (λ (x : Scheduler). x.exact) l.rest ∙ ap (λ (x : Scheduler). x.exact) r.rest ∙ ap (λ (x : Scheduler). x.exact) same;
+    reaches = ap (λ (x : Scheduler). length x.reaches.items) l.rest ∙ ap length r.reaches ∙ length-set added.reaches.items k (Some v.reach) ∙ ap (λ (x : Scheduler). length x.reaches.items) same;
+    again = l.many_again ∙ r.many_again ∙ ap (λ (x : Scheduler). length x.again.items) same;
+    resting = l.many_resting ∙ r.many_resting ∙ ap (λ (x : Scheduler). length x.resting.items) same;
+  };
+  index = subst (λ a. AddsReach s.ahead a v.reach) (sym (ap (λ (x : Scheduler). x.ahead) l.rest ∙ ap (λ (x : Scheduler). x.ahead) r.rest)) adds;
+  reaches = ap (λ (x : Scheduler). x.reaches.items) l.rest ∙ r.reaches ∙ ap (λ (x : Scheduler). set x.reaches.items k (Some v.reach)) same;
+  still = λ j ne e. l.still j ne (r.still j (ap (λ (x : Scheduler). slice_get x.again.items j) same ∙ e));
+  listed = λ i j ne e. l.listed i j (record {
+    list = e.list;
+    at = ap (option_map (λ (v : Listed). v.items)) (r.others i ne ∙ ap (λ (x : Scheduler). slice_get x.resting.items i) same) ∙ e.at;
+    has_it = e.has_it;
+  });
+  woken = λ j ne lt e. woken j ne (r.woken j (record { list = e.list; at = ap (λ (x : Scheduler). option_map (λ (v : Listed). v.items) (slice_get x.resting.items k)) same ∙ e.at; has_it = e.has_it }) (subst (λ n. j < n) (sym (ap (λ (x : Scheduler). length x.again.items) same)) lt));
+  rests = rests l.rests;
+}
+  where
+    woken : (j : ℕ) → j ≢ k → IsAgain renewed j ⊎ (HasReach added k v.reach × IsListed renewed k j) → IsAgain later j ⊎ (HasReach s k v.reach × IsListed later k j)
+    woken j ne (inl e) = inl (l.still j ne e)
+    woken j ne (inr p) = inr (ap (λ (x : Scheduler). slice_get x.reaches.items k) (sym same) ∙ p.0, l.listed k j p.1)
+
+    rests : (IsAgain renewed k → IsAgain later k) ⊎ ((i : ℕ) × (v.on ≡ Some i) × IsListed later i k) → (IsAgain s k → IsAgain later k) ⊎ ((i : ℕ) × (v.on ≡ Some i) × IsListed later i k)
+    rests (inl f) = inl (λ e. f (r.still k (ap (λ (x : Scheduler). slice_get x.again.items k) same ∙ e)))
+    rests (inr p) = inr p

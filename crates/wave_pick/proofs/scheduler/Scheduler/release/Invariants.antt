@@ -1,0 +1,7 @@
+use Rattle.std.proofs.Common.{take}
+use Rattle.wave_pick.specs.Scheduling.{Releases}
+use Rattle.wave_pick.proofs.scheduler.Scheduler.release.Given as goal
+
+-- the places so far are released
+abbrev pub invariant-loop-place : goal.invariant-loop-place
+invariant-loop-place l = Releases (take l.place-index l.free) l.fn.self l.self l.chosen.items
