@@ -6,7 +6,7 @@ import subprocess
 import sys
 import tempfile
 from functools import partial
-from typing import List, Tuple
+from typing import Dict, List, Tuple
 
 from harness import TOP, Answer, Job, Outcome, Program, difference, first, read, reports_refused, spoken
 from traces import directory, fill, head, ring
@@ -94,16 +94,18 @@ def deep_tree(program: Program) -> List[Outcome]:
 
 
 def waiting(program: Program) -> List[Outcome]:
-    """Where one entry runs a round, those that wait aren't looked at again in each."""
-    words = ["run", "--workers", "1", "--window", "64"]
+    """Where one entry runs a round, those that wait aren't looked at again in each, however many a round looks at."""
     bench = os.path.join(TOP, "bench", "serial_rounds.py")
     outcomes = []
-    seconds = {}
+    disjoint: Dict[int, float] = {}
     for kind in ("disjoint", "appends", "range", "chain", "drains", "opens"):
         trace = subprocess.run([sys.executable, bench, "--write", kind, "--entries", str(WAITING)], check=True, stdout=subprocess.PIPE).stdout
-        seconds[kind] = min(program.seconds(words, trace) for _ in range(3))
-        told = None if seconds[kind] < MOST_WAITING * seconds["disjoint"] < math.inf else "{:.3f} seconds, and {:.3f} disjoint".format(seconds[kind], seconds["disjoint"])
-        outcomes.append(Outcome("entries that wait, {}, by {}".format(kind, program.compiler), told))
+        for window in (64, 4096):
+            words = ["run", "--workers", "1", "--window", str(window)]
+            took = min(program.seconds(words, trace) for _ in range(3))
+            apart = disjoint.setdefault(window, took)
+            told = None if took < MOST_WAITING * apart < math.inf else "{:.3f} seconds, and {:.3f} disjoint".format(took, apart)
+            outcomes.append(Outcome("entries that wait, {}, window {}, by {}".format(kind, window, program.compiler), told))
     return outcomes
 
 

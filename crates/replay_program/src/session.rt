@@ -233,9 +233,10 @@ pub fn told<W: Sink>(alloc: Global, writer: &mut W, verdict: Verdict) -> Result<
         → Appends (W.written writer.old) (W.written writer.new) (verdict_line verdict) }
     ensures part { result ≡ Err RunFault.Write
         → AppendsPart (W.written writer.old) (W.written writer.new) (verdict_line verdict) }
-    ensures nothing { IfErr result (λ fault. fault ≢ RunFault.Write → fault ≢ RunFault.Different
-        → (fault ≡ RunFault.Replay ReplayFault.Memory)
-        × Keeps (W.written writer.old) (W.written writer.new)) }
+    ensures memory { IfErr result (λ fault. fault ≢ RunFault.Write → fault ≢ RunFault.Different
+        → fault ≡ RunFault.Replay ReplayFault.Memory) }
+    ensures nothing { result ≡ Err (RunFault.Replay ReplayFault.Memory)
+        → Keeps (W.written writer.old) (W.written writer.new) }
     ensures write { W.failures writer.new ≡ W.failures writer.old + write_failures result }
 {
     let Ok(line) = told_line(alloc, verdict) else {

@@ -142,6 +142,12 @@ pub record AddsReach (before after : Ahead) (f : Footprint) : Type 0 where
   pub writes : (x : Item) → written after x ≡ (written before x || writes_item f x)
   pub touches : (x : Item) → touched after x ≡ (touched before x || touches_item f x)
 
+-- A place is passed over: an index that is exact has its reach more, another one stays.
+pub record Passes (k : ℕ) (s later : Scheduler) : Type 0 where
+  pub exact : s.exact ≡ true → (f : Footprint) → HasReach s k f → AddsReach s.ahead later.ahead f
+  pub others : s.exact ≡ false → later.ahead ≡ s.ahead
+  pub rest : later ≡ record s { ahead = later.ahead; added = later.added }
+
 -- These places are to be looked at, and those that were are still.
 pub record Flags (ks : List ℕ) (again later : List Bool) : Type 0 where
   pub many : length later ≡ length again

@@ -1,6 +1,6 @@
 //! The next round, by what is kept of the places that wait.
 ghost use Rattle.std.specs.Prelude.{◌≡◌, ◌+◌, ◌<◌, [], ℕ, List, true, false, All, IfOk, IfSome, OnOk};
-ghost use Rattle.std.specs.Prelude.{Some, length, map, replicate, slice_get, take};
+ghost use Rattle.std.specs.Prelude.{Some, length, replicate, slice_get, take};
 ghost use Rattle.std.specs.List.{list_any};
 ghost use Rattle.chain_plan.specs.Plan.{roles};
 ghost use Rattle.item_index.specs.Ahead.{written_before};
@@ -12,7 +12,8 @@ ghost use Rattle.wave_pick.specs.Grounds.{RestsOnGround};
 ghost use Rattle.wave_pick.specs.Picking.{IsNextWave};
 ghost use Rattle.wave_pick.specs.Scheduling.{AddsReach, AreFirst, Flags, HasReach, HasRoom};
 ghost use Rattle.wave_pick.specs.Scheduling.{HaveReaches, IsBehind, IsIndex, IsSameRound, Keeps, Lists};
-ghost use Rattle.wave_pick.specs.Scheduling.{LooksOver, Releases, Remembers, Renews, Sees, Wakes};
+ghost use Rattle.wave_pick.specs.Scheduling.{LooksOver, Passes, Releases, Remembers};
+ghost use Rattle.wave_pick.specs.Scheduling.{Renews, Sees, Wakes};
 ghost use Rattle.world_parts.specs.Items as items;
 ghost use Rattle.world_parts.specs.Uses.{item_meant};
 
@@ -185,12 +186,7 @@ impl Scheduler {
     /// Passes over a place that rests: where the index is exact, its reach is added.
     fn pass(&mut self, alloc: Global, place: u32) -> Result<(), AllocError>
         requires { place < length self.old.reaches.items }
-        ensures exact { OnOk result (self.old.exact ≡ true → (reach : items.Footprint)
-            → slice_get self.old.reaches.items place ≡ Some (Some reach)
-            → AddsReach self.old.ahead self.new.ahead reach) }
-        ensures others { OnOk result (self.old.exact ≡ false → self.new.ahead ≡ self.old.ahead) }
-        ensures rest { OnOk result (self.new
-            ≡ record self.old { ahead = self.new.ahead; added = self.new.added }) }
+        ensures { OnOk result (Passes place self.old self.new) }
     {
         if !self.exact {
             return Ok(());

@@ -66,6 +66,10 @@ ring_buffers r (x ∷ xs) = buffers_from r 0 x.buffers (ring_buffers (suc r) xs)
 abbrev pub bare : World
 bare = record { nodes = insert number_keys.total empty 0 (Node.directory empty 0); descriptions = empty; slots = empty; descriptors = empty; buffers = empty; broken = empty }
 
+-- A world with the open file descriptions of a trace, and the descriptors that hold some.
+abbrev pub opened : Trace → World → World
+opened t s = record s { descriptions = descriptions_from 0 t.descriptions; descriptors = descriptors_from 0 t.descriptors }
+
 -- The world that a trace starts with; all chains are running.
 abbrev pub start : Trace → World
 start t = record (with_items bare 1 t.items) {

@@ -122,10 +122,7 @@ impl State {
     /// Adds the open file descriptions, and the descriptors that hold some.
     fn open(&mut self, alloc: Global, trace: &Trace) -> Result<(), AllocError>
         requires { IsSpelled trace.now }
-        ensures { OnOk result (self.new ≡ record self.old {
-          descriptions = initial.descriptions_from 0 trace.now.descriptions;
-          descriptors = initial.descriptors_from 0 trace.now.descriptors;
-        }) }
+        ensures { OnOk result (self.new ≡ initial.opened trace.now self.old) }
     {
         self.descriptions = descriptions_of(alloc, trace.descriptions.as_slice())?;
         self.descriptors = descriptors_of(alloc, trace.descriptors.as_slice())?;
