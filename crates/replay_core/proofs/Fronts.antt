@@ -45,11 +45,11 @@ has-either (x ∷ xs) ys k h = go (has-cases k x (xs ++ ys) h) (has-either xs ys
         at (inr i) = inr i
 
 -- Tests that are the same on a list.
-filter-same : (p q : ℕ → Bool) (xs : List ℕ) → ((k : ℕ) → has xs k ≡ true → p k ≡ q k) → filter p xs ≡ filter q xs
+pub filter-same : (p q : ℕ → Bool) (xs : List ℕ) → ((k : ℕ) → has xs k ≡ true → p k ≡ q k) → filter p xs ≡ filter q xs
 filter-same p q [] h = refl
 filter-same p q (x ∷ xs) h = λ i. cond (h x (has-here x xs) i) (x ∷ filter-same p q xs (λ k m. h k (has-later k x xs m)) i) (filter-same p q xs (λ k m. h k (has-later k x xs m)) i)
 
-filter-all : (p : ℕ → Bool) (xs : List ℕ) → ((k : ℕ) → has xs k ≡ true → p k ≡ true) → filter p xs ≡ xs
+pub filter-all : (p : ℕ → Bool) (xs : List ℕ) → ((k : ℕ) → has xs k ≡ true → p k ≡ true) → filter p xs ≡ xs
 filter-all p [] h = refl
 filter-all p (x ∷ xs) h = ap (λ b. cond b (x ∷ filter p xs) (filter p xs)) (h x (has-here x xs)) ∙ ap (λ zs. x ∷ zs) (filter-all p xs (λ k m. h k (has-later k x xs m)))
 

@@ -4,6 +4,7 @@ pub mod Cutting
 pub mod Returning
 pub mod Rounds
 pub mod Fronts
+pub mod Dropping
 pub mod Ending
 pub mod Places
 pub mod Noting

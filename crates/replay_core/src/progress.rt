@@ -1,17 +1,19 @@
 //! What a replay has after some of its rounds, and one round more.
 ghost use Rattle.std.specs.Prelude.{◌≡◌, ◌+◌, ◌-◌, ◌<◌, ◌≤◌, ◌⊎◌, ◌++◌, [], ◌↔◌, IsTrue, IfOk};
 ghost use Rattle.std.specs.Prelude.{OnOk, filter, length, map, not, replicate, slice_index_or};
-ghost use Rattle.std.specs.Prelude.{◌≢◌, Err, false};
+ghost use Rattle.std.specs.Prelude.{◌≢◌, ◌==◌, ℕ, Err, false, true};
 ghost use Rattle.std.specs.List.{range_with_len};
+ghost use Rattle.std.specs.List.Sorted.{IsStrictlyIncreasing};
 ghost use Rattle.chain_plan.specs.Plan.{roles};
 ghost use Rattle.deal_desk.specs.Desks.{AreValues};
+ghost use Rattle.interleaving.specs.Machine.{has};
 ghost use Rattle.replay_core.specs.Jobs.{IsOutcome};
 ghost use Rattle.replay_core.specs.Rounds.{AreDealt, HasPicked, IsFront, IsReplay, IsSameRound};
-ghost use Rattle.replay_core.specs.Rounds.{KeptAfter, Stands};
+ghost use Rattle.replay_core.specs.Rounds.{KeptAfter, Stands, parts_of};
 ghost use Rattle.trace_format.specs.Steps.{places};
 ghost use Rattle.trace_format.specs.Text.{IsSpelled};
 ghost use Rattle.wave_pick.specs.HeldBack.{held_among, held_meant};
-ghost use Rattle.wave_pick.specs.Rounds.{state_after};
+ghost use Rattle.wave_pick.specs.Rounds.{state_after, wave_after};
 ghost use Rattle.world_parts.specs.Part.{whole};
 
 use crate::gate::Gate;
@@ -28,6 +30,9 @@ use std::thread::Threads;
 use trace_format::{Series, Trace};
 use wave_pick::{Held, Scheduler, held_back};
 use world_parts::{Part, World};
+
+/// A round of at most so many places has each of them looked for in the front.
+const FEW: usize = 8;
 
 /// What a replay has after its rounds so far.
 #[derive(Drop)]
@@ -54,6 +59,51 @@ fn drop_done(front: &mut Vec<u32>, done: &[bool])
     ensures { front.new.items ≡ filter (λ k. not (slice_index_or done.now k false)) front.old.items }
 {
     front.retain(|place| done.get(*place as usize) != Some(&true));
+}
+
+/// Drops one place.
+fn drop_place(front: &mut Vec<u32>, place: u32)
+    requires { IsStrictlyIncreasing front.old.items }
+    ensures { front.new.items ≡ filter (λ k. not (k == place)) front.old.items }
+{
+    if let Ok(index) = front.binary_search(&place) {
+        front.remove(index);
+    }
+}
+
+/// Drops some places.
+fn drop_each(front: &mut Vec<u32>, places: &[u32])
+    requires { IsStrictlyIncreasing front.old.items }
+    ensures { front.new.items ≡ filter (λ k. not (has places.now k)) front.old.items }
+{
+    for place in places {
+        drop_place(front, *place);
+    }
+}
+
+/// Drops the places that are done, which are those of the front that a round ran.
+fn drop_ran(front: &mut Vec<u32>, ran: &[u32], done: &[bool])
+    requires rises { IsStrictlyIncreasing front.old.items }
+    requires ran { (k : ℕ) → has front.old.items k ≡ true
+        → slice_index_or done.now k false ≡ has ran.now k }
+    ensures { front.new.items ≡ filter (λ k. not (slice_index_or done.now k false)) front.old.items }
+{
+    if ran.len() <= FEW {
+        drop_each(front, ran);
+    } else {
+        drop_done(front, done);
+    }
+}
+
+/// The places of the jobs of a round.
+fn places_of(alloc: Global, jobs: &[Run]) -> Result<Vec<u32>, AllocError>
+    ensures { IfOk result (λ ran. ran.items ≡ map (λ p. p.place) (parts_of jobs.now)) }
+{
+    let mut ran = Vec::with_capacity(alloc, jobs.len())?;
+    for job in jobs {
+        ran.push(job.part.place)?;
+    }
+    Ok(ran)
 }
 
 /// Fills a front of places up to the window, and gives the first place behind it.
@@ -235,7 +285,7 @@ impl Progress {
     }
 
     /// Looks on to the places that the next round may run.
-    fn advance(&mut self, trace: &Trace) -> Result<(), AllocError>
+    fn advance(&mut self, trace: &Trace, ran: &[u32]) -> Result<(), AllocError>
         requires trace { IsSpelled trace.now }
         requires round { self.old.round < places trace.now }
         requires window { 1 ≤ self.old.window }
@@ -244,11 +294,12 @@ impl Progress {
         requires keeps { KeptAfter trace.now (self.old.round + 1) self.old }
         requires front { IsFront trace.now self.old.window (state_after trace.now self.old.window self.old.round) self.old.front.items self.old.next }
         requires picked { HasPicked trace.now (self.old.round + 1) self.old }
+        requires ran { ran.now ≡ wave_after trace.now self.old.window self.old.round }
         ensures stands { OnOk result (Stands trace.now self.new) }
         ensures next { OnOk result ((self.new.window ≡ self.old.window)
             × (self.new.round ≡ self.old.round + 1)) }
     {
-        drop_done(&mut self.front, self.done.as_slice());
+        drop_ran(&mut self.front, ran, self.done.as_slice());
         self.next = filled(&mut self.front, self.next, trace.places(), self.window)?;
         self.round += 1;
         Ok(())
@@ -276,9 +327,10 @@ impl Progress {
     {
         let jobs = self.deal(alloc, trace, plan)?;
         let dealt = Snapshot::of(&jobs);
+        let ran = places_of(alloc, jobs.as_slice())?;
         let outcomes = run_round(rt, alloc, jobs, workers, trace, gate)?;
         self.gather(alloc, trace, dealt, outcomes)?;
-        self.advance(trace)?;
+        self.advance(trace, ran.as_slice())?;
         Ok(())
     }
 
