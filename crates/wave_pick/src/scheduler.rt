@@ -1,6 +1,6 @@
 //! The next round, by what is kept of the places that wait.
 ghost use Rattle.std.specs.Prelude.{◌≡◌, ◌+◌, ◌<◌, [], ℕ, List, true, false, All, IfOk, IfSome, OnOk};
-ghost use Rattle.std.specs.Prelude.{Some, length, replicate, slice_get, take};
+ghost use Rattle.std.specs.Prelude.{Some, length, replicate, take};
 ghost use Rattle.std.specs.List.{list_any};
 ghost use Rattle.chain_plan.specs.Plan.{roles};
 ghost use Rattle.item_index.specs.Ahead.{written_before};
@@ -10,7 +10,7 @@ ghost use Rattle.trace_format.specs.Text.{IsSpelled};
 ghost use Rattle.wave_pick.specs.Grounds.{ground_holds, writes_chain, writes_for, IsGround};
 ghost use Rattle.wave_pick.specs.Grounds.{RestsOnGround};
 ghost use Rattle.wave_pick.specs.Picking.{IsNextWave};
-ghost use Rattle.wave_pick.specs.Scheduling.{AddsReach, AreFirst, Flags, HasReach, HasRoom};
+ghost use Rattle.wave_pick.specs.Scheduling.{AreFirst, Flags, HasReach, HasRoom};
 ghost use Rattle.wave_pick.specs.Scheduling.{HaveReaches, IsBehind, IsIndex, IsSameRound, Keeps, Lists};
 ghost use Rattle.wave_pick.specs.Scheduling.{LooksOver, Passes, Releases, Remembers};
 ghost use Rattle.wave_pick.specs.Scheduling.{Renews, Sees, Wakes};
