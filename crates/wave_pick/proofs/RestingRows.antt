@@ -1,27 +1,23 @@
 -- What a place keeps that rests on one whose reach writes for all: whether it may run, whether a descriptor is written, and its rows.
 use Rattle.std.proofs.Common.{◌≡◌, ℕ, zero, suc, ◌<◌, ◌≤◌, Bool, true, false, if◌then◌else◌, List, [], ◌∷◌, ◌++◌, inl, inr, refl, sym, ap, subst, ◌∙◌, arith}
-use Rattle.std.specs.Prelude.{T, ◌&&◌, leb, Option, Some, None, Result, Ok, Err}
-use Rattle.std.specs.Option.{option_map}
+use Rattle.std.specs.Prelude.{T, ◌&&◌, leb, Option, Some, None}
 use Rattle.std.proofs.lemmas.Bool.{cases_Bool}
-use Rattle.sqe_codec.specs.declared.errno.Errno.{Errno}
-use Rattle.trace_format.specs.declared.trace.Entry.{Entry}
 use Rattle.trace_format.specs.declared.trace.Trace.{Trace}
-use Rattle.trace_format.specs.Steps.{Step, Action, submit, fill, places, step_at}
+use Rattle.trace_format.specs.Steps.{places}
 use Rattle.trace_format.specs.Text.{IsSpelled}
-use Rattle.chain_plan.specs.declared.role.Role.{Role}
 use Rattle.chain_plan.specs.Chain.{role}
-use Rattle.entry_checks.specs.Check.{check}
 use Rattle.entry_checks.specs.Operation.{Operation, openat}
-use Rattle.world_parts.specs.World.{World, Broken, broken}
+use Rattle.world_parts.specs.World.{World}
 use Rattle.world_parts.specs.Items.{Atom, Item, chain_flag, one, all_descriptors, member_of, Use, Footprint, has_atom, collide}
 use Rattle.world_parts.proofs.Collision.{true_of, same_atom-eq, first_writes-collide, writes-has}
 use Rattle.world_parts.proofs.Sharing.{holds_true}
-use Rattle.op_meaning.specs.Step.{Turn, filled, refused, canceled, runs, posts, doomed_turn, running_turn, entry_turn, turn}
+use Rattle.op_meaning.specs.Step.{Turn, filled, refused, canceled, runs, turn}
 use Rattle.foot_print.specs.Outlook.{takes_lowest, turn_takes_lowest}
 use Rattle.foot_print.specs.Reach.{written_by, makes, room_taken, task, is_canceled, is_taken_to_run, extras_of, unresolved_of, order_of}
 use Rattle.foot_print.specs.Replayed.{replayed}
 use Rattle.foot_print.proofs.Agreement.{in_left}
 use Rattle.foot_print.proofs.Holding.{drop_false}
+use Rattle.foot_print.proofs.Unmet.{canceled_linked}
 use Rattle.foot_print.proofs.Writing.{is_false, not_false, atom_of_writes, written_thin}
 use Rattle.wave_pick.specs.Lawful.{lawful}
 use Rattle.wave_pick.specs.Waiting.{Waits, world_after, footprint_after, reaches_after, reach_after, HoldsBack, WritesRow, ChainIsSettled, descriptors_wait, ReachRowsStay}
@@ -32,31 +28,6 @@ use Rattle.wave_pick.proofs.Staying.{waited, keeps_round}
 use Rattle.wave_pick.proofs.Waiting.{until, turn_stays, look_next}
 use Rattle.wave_pick.proofs.Wide.{wide_stays}
 use Rattle.wave_pick.proofs.Witness.{row_witness_holds}
-
--- Only a member of a chain of two or more is canceled.
-entry_linked : (c : Role) (r : ℕ) (e : Entry) (b : Option Broken) (v : Result Operation Errno) → is_canceled (Some (entry_turn r e c b v)) ≡ true → leb 2 c.length ≡ true
-entry_linked c r e b (Err x) = λ h. (cc)
-entry_linked c r e b (Ok o) =
-    elim c.doomed as (λ d. is_canceled (Some (if d then doomed_turn c (Ok o) else running_turn r e c b o)) ≡ true → leb 2 c.length ≡ true) [ true ↦ λ h. (cc) | false ↦ running b ]
-  where
-    running : (f : Option Broken) → is_canceled (Some (running_turn r e c f o)) ≡ true → leb 2 c.length ≡ true
-    running None = λ h. (cc)
-    running (Some f) = elim (leb 2 c.length) as (λ l. is_canceled (Some (if l then canceled (posts f) else runs r e o)) ≡ true → l ≡ true) [ true ↦ λ h. refl | false ↦ λ h. h ]
-
-canceled_linked : (t : Trace) (k : ℕ) (s : World) → is_canceled (turn t k s) ≡ true → leb 2 (role t k).length ≡ true
-canceled_linked t k s = at (step_at t k)
-  where
-    of : ℕ → Action → Turn
-    of r (fill buffer p new) = filled r buffer p new
-    of r (submit e) = entry_turn r e (role t k) (broken s (role t k).chain) (check t.version e)
-
-    act : (r : ℕ) (x : Action) → is_canceled (Some (of r x)) ≡ true → leb 2 (role t k).length ≡ true
-    act r (fill buffer p new) = λ h. (cc)
-    act r (submit e) = entry_linked (role t k) r e (broken s (role t k).chain) (check t.version e)
-
-    at : (x : Option Step) → is_canceled (option_map (λ (y : Step). of y.ring y.action) x) ≡ true → leb 2 (role t k).length ≡ true
-    at None = λ h. (cc)
-    at (Some y) = act y.ring y.action
 
 runs_unless : (b : Bool) → (if b then false else true) ≡ true → b ≡ false
 runs_unless true h = (cc)
@@ -81,7 +52,7 @@ module _ (t : Trace) (window r i k : ℕ) where
   holds_by_row run h w = elim h.chain [
     | inl settled ↦ (row_witness_holds t window r i k w).1 (runs_unless (is_canceled (turn t k (world_after t window r))) (sym (settled_runs t window r k settled) ∙ run))
     | inr writes ↦ elim (cases_Bool (is_canceled (turn t k (world_after t window r)))) [
-      | inl off ↦ record { is_before = w.is_before; waits = w.waits; collides = flag_collides writes (canceled_linked t k (world_after t window r) off) }
+      | inl off ↦ record { is_before = w.is_before; waits = w.waits; collides = flag_collides writes (canceled_linked t k (world_after t window r) [] off) }
       | inr on ↦ (row_witness_holds t window r i k w).1 on
     ]
   ]

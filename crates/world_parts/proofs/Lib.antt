@@ -13,7 +13,7 @@ pub mod ChangesOfMaking
 pub mod ChangesOfFiles
 pub mod Trees
 pub mod KeepWorld
-mod FootprintCode
+pub mod FootprintCode
 pub mod Starts
 pub mod Fills
 pub mod KnownPaths

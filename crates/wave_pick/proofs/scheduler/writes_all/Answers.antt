@@ -3,7 +3,7 @@ use Rattle.std.specs.List.{list_any}
 use Rattle.world_parts.specs.Items as items
 use Rattle.item_index.specs.Touching.{writes_item}
 use Rattle.wave_pick.specs.Grounds.{writes_chain}
-use Rattle.item_index.proofs.Any.{any-meant}
+use Rattle.world_parts.proofs.FootprintCode.{any-meant}
 use Rattle.wave_pick.proofs.scheduler.writes_all.Goals.{then-not-writes_some-via-then-not-writes_some, then-not-writes_some-via-else-not-writes_some+then-not-writes_flag}
 use Rattle.wave_pick.proofs.scheduler.writes_all.Goals as goal
 

@@ -2,7 +2,7 @@ use Rattle.std.proofs.Common.{Bool, ap, ◌∙◌}
 use Rattle.std.specs.List.{list_any}
 use Rattle.item_index.specs.Ahead.{written_before}
 use Rattle.world_parts.specs.Items as items
-use Rattle.item_index.proofs.Any.{any-meant}
+use Rattle.world_parts.proofs.FootprintCode.{any-meant}
 use Rattle.item_index.proofs.behind.Behind.meets.Goals as goal
 
 pub returns : goal.returns
