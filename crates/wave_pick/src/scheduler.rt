@@ -291,8 +291,8 @@ impl Scheduler {
         }
     }
 
-    /// Lists a place with the one on which it rests, and needn't look at it then; else it is to be
-    /// looked at again.
+    /// Lists a place with the one on which it rests: then it needn't be looked at. One that rests on
+    /// none is to be looked at still.
     fn list(&mut self, place: u32, on: Option<u32>) -> Result<(), AllocError>
         requires { place < length self.old.again.items }
         ensures { OnOk result (Lists place on self.old self.new) }
