@@ -1,38 +1,22 @@
 -- A reach depends on the earlier reaches only through the items that they write, so on no order of them.
-use Rattle.std.specs.Prelude.{◌≡◌, ℕ, zero, suc, Bool, true, false, ◌&&◌, ◌||◌, List, [], ◌∷◌, ◌++◌, Option, Some, None, refl, if◌then◌else◌}
+use Rattle.std.specs.Prelude.{◌≡◌, ℕ, Bool, true, false, ◌&&◌, ◌||◌, List, [], ◌∷◌, ◌++◌, Option, Some, None, refl, if◌then◌else◌}
 use Rattle.std.specs.List.{list_any}
 use mathlib.Core.Path.{ap, ◌∙◌, fun_ext}
+use Rattle.sqe_codec.specs.Answers.{each}
 use Rattle.trace_format.specs.declared.trace.Trace.{Trace}
-use Rattle.entry_checks.specs.Operation.{Operation, nop, readv, writev, fsync, read_fixed, write_fixed, fallocate, openat, close, read, write, renameat, unlinkat, mkdirat, linkat, ftruncate}
+use Rattle.entry_checks.specs.Operation.{Operation}
 use Rattle.chain_plan.specs.Chain.{role}
 use Rattle.world_parts.specs.World.{World}
 use Rattle.op_meaning.specs.Step.{Turn, filled, refused, canceled, runs, turn}
-use Rattle.world_parts.specs.Items.{Item, one, chain_flag, all_descriptors, writes, share, Use, Footprint}
-use Rattle.op_meaning.specs.Footprint.{room_uses}
-use Rattle.foot_print.specs.Reach.{written_by, is_met, makes, room_taken, task, is_canceled, look_of, extras_of, unresolved_of, order_of, running_row, reach}
+use Rattle.world_parts.specs.Items.{Item, one, chain_flag, share, Use, Footprint}
+use Rattle.foot_print.specs.Reach.{written_by, is_met, makes, room_taken, room_at, room_asked, task, is_canceled, look_of, extras_of, unresolved_of, order_of, running_row, reach}
 
 module _ (t : Trace) (k : ℕ) (s : World) (earlier others : List Footprint) (same : (x : Item) → written_by earlier x ≡ written_by others x) where
   met_same : (f : Footprint) → is_met f earlier ≡ is_met f others
   met_same f = ap (λ (w : Item → Bool). list_any (λ (u : Use). w u.item) f) (fun_ext same)
 
   room_same : (r : ℕ) (o : Operation) → room_taken t s r earlier o ≡ room_taken t s r others o
-  room_same r (openat p g zero) = ap (λ b. if b then writes all_descriptors ∷ [] else room_uses t s r zero) (same all_descriptors)
-  room_same r (openat p g (suc n)) = refl
-  room_same r nop = refl
-  room_same r (readv f o n) = refl
-  room_same r (writev f o new) = refl
-  room_same r (fsync f) = refl
-  room_same r (read_fixed f o x) = refl
-  room_same r (write_fixed f o x) = refl
-  room_same r (fallocate f o n mode) = refl
-  room_same r (close number index) = refl
-  room_same r (read f o n) = refl
-  room_same r (write f o new) = refl
-  room_same r (renameat old new flags) = refl
-  room_same r (unlinkat p removes) = refl
-  room_same r (mkdirat p) = refl
-  room_same r (linkat old new) = refl
-  room_same r (ftruncate f n) = refl
+  room_same r o = ap (λ (w : Item → Bool). each (room_at t s r w) (room_asked o)) (fun_ext same)
 
   extras_same : (x : Option Turn) → extras_of t k s earlier x ≡ extras_of t k s others x
   extras_same None = refl

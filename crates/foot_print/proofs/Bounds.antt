@@ -10,8 +10,7 @@ use Rattle.sqe_codec.specs.declared.errno.Errno.TheVariants.{ENAMETOOLONG, EBADF
 use Rattle.trace_format.specs.declared.trace.Trace.{Trace}
 use Rattle.sqe_codec.specs.Answers.{each, each_ok, ◌>>=◌, ◌>>◌, require}
 use Rattle.trace_format.specs.Paths.{components}
-use Rattle.entry_checks.specs.Operation.{Operation, nop, readv, writev, fsync, read_fixed, write_fixed, fallocate, openat, close, read, write, renameat, unlinkat, mkdirat, linkat, ftruncate, File, Span, Path, OpenFlags, file_limit, at_position}
-use Rattle.trace_format.specs.Sides.{most_moved}
+use Rattle.entry_checks.specs.Operation.{Operation, File, Span, Path, OpenFlags, file_limit, at_position}
 use Rattle.finite_maps.specs.Table.{get}
 use Rattle.world_parts.specs.World.{World, IsWorld, Description, Opened, opened, opened_by, kind, names, name, slot, descriptor}
 use Rattle.file_tree.specs.Tree.{target}
@@ -19,8 +18,8 @@ use Rattle.file_tree.specs.Tree.{Target, kind_of_node}
 use Rattle.file_tree.specs.Walk.{Place, walk, walk_from, names_from, directory_at, fits_name, starts_at_root, is_directory}
 use Rattle.op_meaning.specs.Meaning.{made_node, made_description, slot_count, span_start, Handle, handle_of, held, is_file, allocation, Allocation, extend, reserve, punch, zero_extend, zero_within}
 use Rattle.world_parts.specs.Items.{Atom, description_at, position_of, size_of, byte_at, name_at, names_in, buffer_byte, Item, one, file_bytes, buffer_bytes, member_of, Use, reads, writes, Footprint, has_atom}
-use Rattle.op_meaning.specs.Footprint.{use_of, held_item, file_reads, of_file, of_description, on_file, range_of, transfer_range, position_written, position_use, span_use, path_reads, name_written, directory_names, close_row}
-use Rattle.foot_print.specs.Reach.{taken, write_content, allocated, opened_taken}
+use Rattle.op_meaning.specs.Footprint.{Shape, idle, looking, moving, allocating, resizing, closing, opening, making, freeing, linking, renaming, shape, through, use_of, held_item, file_reads, of_file, of_description, on_file, range_of, transfer_range, position_written, position_use, span_use, path_reads, name_written, directory_names, close_row}
+use Rattle.foot_print.specs.Reach.{transfer_taken, shape_taken, taken, write_content, allocated, opened_taken}
 use Rattle.foot_print.specs.Replayed.{IsBefore, is_earlier}
 use Rattle.world_parts.proofs.Collision.{same_atom-eq}
 use Rattle.foot_print.proofs.Holding.{split, drop_false}
@@ -231,22 +230,25 @@ module _ (t : Trace) (k : ℕ) (s : World) (w : IsWorld s) (before : IsBefore t 
     bound_paths : (old new : Path) → Bound (path_reads s old ++ path_reads s new)
     bound_paths old new = bound_all (path_reads s old) _ (bound_path old) (bound_path new)
 
-    pub taken_bound : (o : Operation) (a : Atom) → T (has_atom (taken t r s o) a) → T (is_earlier t k a)
-    taken_bound nop = bound_nothing
-    taken_bound (readv f o n) = bound_read f o (min n most_moved)
-    taken_bound (writev f o new) = bound_write f o (length new)
-    taken_bound (fsync f) = bound_held false r f.registered f.number
-    taken_bound (read_fixed f o x) = bound_all _ (span_use true t r x) (bound_read f o (min x.length most_moved)) (bound_span true x)
-    taken_bound (write_fixed f o x) = bound_all _ (span_use false t r x) (bound_write f o (min x.length most_moved)) (bound_span false x)
-    taken_bound (fallocate f o n mode) = bound_file f (λ i h. allocated o n i (allocation mode)) (λ i h e d. bound_allocated o n i (allocation mode) e)
-    taken_bound (openat p g index) = bound_all (path_reads s p) _ (bound_path p) (bound_place (λ (q : Place). opened_taken g q q.target) (λ q e l. bound_opened g q e q.target l) (walk s.nodes p) (placed p))
-    taken_bound (close number index) = bound_close number index
-    taken_bound (read f o n) = bound_read f o (min n most_moved)
-    taken_bound (write f o new) = bound_write f o (length new)
-    taken_bound (renameat old new flags) = bound_all (path_reads s old ++ path_reads s new ++ each_ok name_written (walk s.nodes old)) _
+    bound_moved : (w : Bool) (f : File) (o n : ℕ) → Bound (transfer_taken t s r w f o n)
+    bound_moved false f o n = bound_read f o n
+    bound_moved true f o n = bound_write f o n
+
+    shape_bound : (x : Shape) → Bound (shape_taken t r s x)
+    shape_bound idle = bound_nothing
+    shape_bound (looking f) = bound_held false r f.registered f.number
+    shape_bound (moving w f o n None) = bound_moved w f o n
+    shape_bound (moving w f o n (Some x)) = bound_all _ (span_use (not w) t r x) (bound_moved w f o n) (bound_span (not w) x)
+    shape_bound (allocating f o n mode) = bound_file f (λ i h. allocated o n i (allocation mode)) (λ i h e d. bound_allocated o n i (allocation mode) e)
+    shape_bound (resizing f n) = bound_file f (cut_content n) (λ i h e d. bound_cut i n e)
+    shape_bound (closing number index) = bound_close number index
+    shape_bound (opening p g index) = bound_all (path_reads s p) _ (bound_path p) (bound_place (λ (q : Place). opened_taken g q q.target) (λ q e l. bound_opened g q e q.target l) (walk s.nodes p) (placed p))
+    shape_bound (making p) = bound_all (path_reads s p) _ (bound_path p) (bound_place name_written (λ q e l. bound_name q e) (walk s.nodes p) (placed p))
+    shape_bound (freeing p removes) = bound_all (path_reads s p) _ (bound_path p) (bound_place (λ (q : Place). name_written q ++ cond removes (directory_names q.target) []) (λ q e l. bound_all (name_written q) _ (bound_name q e) (bound_removed removes q.target l)) (walk s.nodes p) (placed p))
+    shape_bound (linking old new) = bound_all (path_reads s old ++ path_reads s new) _ (bound_paths old new) (bound_place name_written (λ q e l. bound_name q e) (walk s.nodes new) (placed new))
+    shape_bound (renaming old new) = bound_all (path_reads s old ++ path_reads s new ++ each_ok name_written (walk s.nodes old)) _
         (bound_all (path_reads s old ++ path_reads s new) _ (bound_paths old new) (bound_place name_written (λ q e l. bound_name q e) (walk s.nodes old) (placed old)))
         (bound_place (λ (q : Place). name_written q ++ directory_names q.target) (λ q e l. bound_all (name_written q) _ (bound_name q e) (bound_directory q.target l)) (walk s.nodes new) (placed new))
-    taken_bound (unlinkat p removes) = bound_all (path_reads s p) _ (bound_path p) (bound_place (λ (q : Place). name_written q ++ cond removes (directory_names q.target) []) (λ q e l. bound_all (name_written q) _ (bound_name q e) (bound_removed removes q.target l)) (walk s.nodes p) (placed p))
-    taken_bound (mkdirat p) = bound_all (path_reads s p) _ (bound_path p) (bound_place name_written (λ q e l. bound_name q e) (walk s.nodes p) (placed p))
-    taken_bound (linkat old new) = bound_all (path_reads s old ++ path_reads s new) _ (bound_paths old new) (bound_place name_written (λ q e l. bound_name q e) (walk s.nodes new) (placed new))
-    taken_bound (ftruncate f n) = bound_file f (cut_content n) (λ i h e d. bound_cut i n e)
+
+    pub taken_bound : (o : Operation) (a : Atom) → T (has_atom (taken t r s o) a) → T (is_earlier t k a)
+    taken_bound o = shape_bound (shape o)

@@ -4,7 +4,7 @@ use Rattle.chain_plan.specs.declared.role.Role.{Role}
 use Rattle.chain_plan.specs.Chain.{role}
 use Rattle.trace_format.specs.declared.trace.Trace.{Trace}
 use Rattle.sqe_codec.specs.Answers.{each_ok}
-use Rattle.entry_checks.specs.Operation.{Operation, nop, readv, writev, fsync, read_fixed, write_fixed, fallocate, openat, close, read, write, renameat, unlinkat, mkdirat, linkat, ftruncate, File, Span, Path, OpenFlags, file_limit, at_position}
+use Rattle.entry_checks.specs.Operation.{Operation, File, Span, Path, OpenFlags, file_limit, at_position}
 use Rattle.file_tree.specs.Tree.{Target}
 use Rattle.file_tree.specs.Walk.{Place, walk, names_on, is_directory}
 use Rattle.world_parts.specs.World.{World}
@@ -12,7 +12,7 @@ use Rattle.world_parts.specs.Items.{Atom, chain_flag, slot_at, descriptor_at, po
 use Rattle.world_parts.specs.Part.{is_narrow_use, is_narrow}
 use Rattle.op_meaning.specs.Meaning.{meaning, made_node, slot_count, span_start, Handle, handle, handle_of, held, is_file, allocation, Allocation, extend, reserve, punch, zero_extend, zero_within, lowest_free}
 use Rattle.op_meaning.specs.Step.{Turn, filled, refused, canceled, runs, turn}
-use Rattle.op_meaning.specs.Footprint.{use_of, as_reads, Taken, held_item, file_reads, range_of, transfer_range, position_written, of_file, of_description, on_file, span_use, position_use, read_row, write_row, allocation_uses, path_reads, name_written, made_where, directory_names, room_uses, description_made, open_uses, openat_row, close_row, unlinkat_row, renameat_row, row, row_in, order_uses, turn_uses, ring_at}
+use Rattle.op_meaning.specs.Footprint.{Shape, idle, looking, moving, allocating, resizing, closing, opening, making, freeing, linking, renaming, shape, transfer_row, shape_row, use_of, as_reads, Taken, held_item, file_reads, range_of, transfer_range, position_written, of_file, of_description, on_file, span_use, position_use, read_row, write_row, allocation_uses, path_reads, name_written, made_where, directory_names, room_uses, description_made, open_uses, openat_row, close_row, unlinkat_row, renameat_row, row, row_in, order_uses, turn_uses, ring_at}
 use Rattle.foot_print.specs.Parts.{FootprintsAreNarrow}
 use Rattle.foot_print.proofs.Holding.{all_append, all_each, all_each_ok}
 use Rattle.foot_print.proofs.CoverWrites.{content}
@@ -121,23 +121,26 @@ module _ (t : Trace) (s : World) (r : ℕ) where
       (both_narrow looks _ (both_narrow (path_reads s old) _ (path_narrow old) (path_narrow new)) (all_each_ok is_narrow_use name_written (walk s.nodes old) (λ q. tt)))
       (all_each_ok is_narrow_use (λ (q : Place). name_written q ++ directory_names q.target) (walk s.nodes new) (λ q. names_narrow q.target))
 
+  moved_narrow : (x : Taken) (w : Bool) (f : File) (o n : ℕ) → T (is_narrow (transfer_row t s r x w f o n))
+  moved_narrow x false f o n = reading_narrow f o n
+  moved_narrow x true f o n = writing_narrow x f o n
+
+  shape_narrow : (k : ℕ) (x : Taken) (y : Shape) → T (is_narrow (shape_row t k r s x y))
+  shape_narrow k x idle = tt
+  shape_narrow k x (looking f) = held_narrow reads (λ a. tt) t r f.registered f.number
+  shape_narrow k x (moving w f o n None) = moved_narrow x w f o n
+  shape_narrow k x (moving w f o n (Some span)) = both_narrow (transfer_row t s r x w f o n) _ (moved_narrow x w f o n) (span_narrow (not w) span)
+  shape_narrow k x (allocating f o n mode) = file_narrow f (λ i h. allocation_uses s x.extending i o (o + n) (allocation mode)) (λ i h. allocation_narrow x.extending i o (o + n) (allocation mode))
+  shape_narrow k x (resizing f n) = file_narrow f (λ i h. writes (one (size_of i)) ∷ writes (range_of i n file_limit) ∷ []) (λ i h. tt)
+  shape_narrow k x (closing number index) = closing_narrow number index
+  shape_narrow k x (opening p g index) = opening_narrow k x p g index
+  shape_narrow k x (making p) = both_narrow (path_reads s p) _ (path_narrow p) (all_each_ok is_narrow_use (λ (q : Place). name_written q ++ made_where x (writes (one (names_in (made_node t k))) ∷ [])) (walk s.nodes p) (λ q. made_narrow x (writes (one (names_in (made_node t k))) ∷ []) tt))
+  shape_narrow k x (freeing p removes) = removing_narrow p removes
+  shape_narrow k x (linking old new) = both_narrow (path_reads s old ++ path_reads s new) _ (both_narrow (path_reads s old) _ (path_narrow old) (path_narrow new)) (all_each_ok is_narrow_use name_written (walk s.nodes new) (λ q. tt))
+  shape_narrow k x (renaming old new) = renaming_narrow old new
+
   row_narrow : (k : ℕ) (x : Taken) (o : Operation) → T (is_narrow (row t k r s x o))
-  row_narrow k x nop = tt
-  row_narrow k x (readv f o n) = reading_narrow f o _
-  row_narrow k x (writev f o new) = writing_narrow x f o _
-  row_narrow k x (fsync f) = held_narrow reads (λ a. tt) t r f.registered f.number
-  row_narrow k x (read_fixed f o span) = both_narrow (read_row t s r f o _) _ (reading_narrow f o _) (span_narrow true span)
-  row_narrow k x (write_fixed f o span) = both_narrow (write_row t s r x f o _) _ (writing_narrow x f o _) (span_narrow false span)
-  row_narrow k x (fallocate f o n mode) = file_narrow f (λ i h. allocation_uses s x.extending i o (o + n) (allocation mode)) (λ i h. allocation_narrow x.extending i o (o + n) (allocation mode))
-  row_narrow k x (openat p g index) = opening_narrow k x p g index
-  row_narrow k x (close number index) = closing_narrow number index
-  row_narrow k x (read f o n) = reading_narrow f o _
-  row_narrow k x (write f o new) = writing_narrow x f o _
-  row_narrow k x (renameat old new flags) = renaming_narrow old new
-  row_narrow k x (unlinkat p removes) = removing_narrow p removes
-  row_narrow k x (mkdirat p) = both_narrow (path_reads s p) _ (path_narrow p) (all_each_ok is_narrow_use (λ (q : Place). name_written q ++ made_where x (writes (one (names_in (made_node t k))) ∷ [])) (walk s.nodes p) (λ q. made_narrow x (writes (one (names_in (made_node t k))) ∷ []) tt))
-  row_narrow k x (linkat old new) = both_narrow (path_reads s old ++ path_reads s new) _ (both_narrow (path_reads s old) _ (path_narrow old) (path_narrow new)) (all_each_ok is_narrow_use name_written (walk s.nodes new) (λ q. tt))
-  row_narrow k x (ftruncate f n) = file_narrow f (λ i h. writes (one (size_of i)) ∷ writes (range_of i n file_limit) ∷ []) (λ i h. tt)
+  row_narrow k x o = shape_narrow k x (shape o)
 
   row_in_narrow : (k : ℕ) (o : Operation) → T (is_narrow (row_in t k r s o))
   row_in_narrow k o = by (is_ok (meaning t k r s o))

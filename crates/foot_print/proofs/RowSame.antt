@@ -3,7 +3,7 @@ use Rattle.std.specs.Prelude.{◌≡◌, ℕ, T, ◌++◌, Option, Some, None, r
 use mathlib.Core.Path.{sym, subst, ap, ◌∙◌}
 use Rattle.trace_format.specs.declared.trace.Trace.{Trace}
 use Rattle.sqe_codec.specs.Answers.{each}
-use Rattle.entry_checks.specs.Operation.{Operation, nop, readv, writev, fsync, read_fixed, write_fixed, fallocate, openat, close, read, write, renameat, unlinkat, mkdirat, linkat, ftruncate}
+use Rattle.entry_checks.specs.Operation.{Operation, nop}
 use Rattle.finite_maps.specs.Table.{empty}
 use Rattle.world_parts.specs.World.{World, IsWorld}
 use Rattle.op_meaning.specs.Step.{Turn, filled, refused, canceled, runs}
@@ -20,21 +20,7 @@ unbroken s = record s { broken = empty }
 module _ (t : Trace) (k : ℕ) where
   row_unbroken : (r : ℕ) (s : World) (o : Operation) → row_in t k r (unbroken s) o ≡ row_in t k r s o
   row_unbroken r s nop = refl
-  row_unbroken r s (readv f o n) = refl
-  row_unbroken r s (writev f o new) = refl
-  row_unbroken r s (fsync f) = refl
-  row_unbroken r s (read_fixed f o x) = refl
-  row_unbroken r s (write_fixed f o x) = refl
-  row_unbroken r s (fallocate f o n mode) = refl
-  row_unbroken r s (openat p g index) = refl
-  row_unbroken r s (close number index) = refl
-  row_unbroken r s (read f o n) = refl
-  row_unbroken r s (write f o new) = refl
-  row_unbroken r s (renameat old new flags) = refl
-  row_unbroken r s (unlinkat p removes) = refl
-  row_unbroken r s (mkdirat p) = refl
-  row_unbroken r s (linkat old new) = refl
-  row_unbroken r s (ftruncate f n) = refl
+  row_unbroken r s _ = refl
 
   uses_unbroken : (s : World) (x : Option Turn) → each (turn_uses t k (unbroken s)) x ≡ each (turn_uses t k s) x
   uses_unbroken s None = refl

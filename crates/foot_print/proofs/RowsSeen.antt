@@ -1,22 +1,26 @@
 -- What an operation looks up tells its items, and stands in its row.
-use Rattle.std.specs.Prelude.{◌≡◌, ℕ, zero, suc, Bool, true, false, cond, not, ◌&&◌, ◌||◌, ◌==◌, ◌+◌, min, length, T, List, [], ◌∷◌, ◌++◌, Option, Some, None, refl, is_ok, is_none}
+use Rattle.std.specs.Prelude.{◌≡◌, ℕ, zero, suc, Bool, true, false, cond, not, ◌&&◌, ◌||◌, ◌==◌, ◌+◌, length, T, List, [], ◌∷◌, ◌++◌, Option, Some, None, refl, is_ok, is_none}
 use Rattle.std.specs.List.{find, range_with_len}
 use Rattle.std.specs.Option.{option_map}
-use mathlib.Core.Path.{sym, ap, ◌∙◌, fun_ext}
+use mathlib.Core.Path.{sym, subst, ap, ◌∙◌, fun_ext}
 use Rattle.trace_format.specs.declared.trace.Trace.{Trace}
 use Rattle.sqe_codec.specs.Answers.{each, each_ok}
-use Rattle.entry_checks.specs.Operation.{Operation, nop, readv, writev, fsync, read_fixed, write_fixed, fallocate, openat, close, read, write, renameat, unlinkat, mkdirat, linkat, ftruncate, File, Path, OpenFlags, file_limit, at_position}
-use Rattle.trace_format.specs.Sides.{most_moved}
+use Rattle.entry_checks.specs.Operation.{Operation, File, Path, file_limit, at_position}
 use Rattle.world_parts.specs.World.{World, descriptor}
 use Rattle.file_tree.specs.Walk.{Place, walk}
 use Rattle.op_meaning.specs.Meaning.{meaning, Handle, held, lowest_free, allocation}
 use Rattle.world_parts.specs.Items.{Atom, description_at, descriptor_at, size_of, one, all_descriptors, reads, writes, Footprint, has_atom, Agree}
-use Rattle.op_meaning.specs.Footprint.{as_reads, use_of, range_of, transfer_range, would_extend, allocation_uses, file_reads, of_file, of_description, on_file, position_written, position_use, span_use, path_reads, name_written, directory_names, room_uses, row, row_in}
-use Rattle.foot_print.specs.Reach.{written_by, seen, file_seen, taken, write_content, allocated, opened_taken, room_taken}
+use Rattle.op_meaning.specs.Footprint.{Shape, idle, looking, moving, allocating, resizing, closing, opening, making, freeing, linking, renaming, shape, through, transfer_row, shape_row, as_reads, use_of, range_of, transfer_range, would_extend, allocation_uses, file_reads, of_file, of_description, on_file, position_written, position_use, span_use, path_reads, name_written, directory_names, room_uses, row, row_in}
+use Rattle.foot_print.specs.Reach.{written_by, shape_seen, transfer_taken, shape_taken, shape_asked, room_asked, room_at, seen, file_seen, taken, write_content, allocated, opened_taken, room_taken}
 use Rattle.foot_print.proofs.Agreement.{agree_left, agree_right, agree_head, has_atom-as_reads, held_same, handle_same}
 use Rattle.foot_print.proofs.CoverWalk.{walk_same, path_reads_same}
 use Rattle.foot_print.proofs.Holding.{Over, always, over_self, over_nothing, over_first, over_second, over_on_file}
 use Rattle.foot_print.proofs.RowsHeld.{not_extending}
+
+-- A room at the lowest free descriptor.
+abbrev IsLowest : Option ℕ → Type 0
+IsLowest (Some zero) = Unit {0}
+IsLowest _ = ⊥
 
 abbrev no_content : ℕ → Handle → Footprint
 no_content i h = []
@@ -49,43 +53,43 @@ module _ (t : Trace) (r : ℕ) (s u : World) where
   two_told : (old new : Path) → Agree (path_reads s old ++ path_reads s new) s u → path_reads u old ++ path_reads u new ≡ path_reads s old ++ path_reads s new
   two_told old new a = λ i. path_reads_same s u old (agree_left s u _ _ a) i ++ path_reads_same s u new (agree_right s u (path_reads s old) _ a) i
 
-  pub seen_same : (o : Operation) → Agree (seen t r s o) s u → seen t r u o ≡ seen t r s o
-  seen_same nop a = refl
-  seen_same (readv f o n) a = on_file_told f no_content a
-  seen_same (writev f o new) a = on_file_told f no_content a
-  seen_same (fsync f) a = refl
-  seen_same (read_fixed f o x) a = on_file_told f no_content a
-  seen_same (write_fixed f o x) a = on_file_told f no_content a
-  seen_same (fallocate f o n mode) a = on_file_told f no_content a
-  seen_same (openat p g index) a = path_reads_same s u p a
-  seen_same (close number index) a = refl
-  seen_same (read f o n) a = on_file_told f no_content a
-  seen_same (write f o new) a = on_file_told f no_content a
-  seen_same (renameat old new flags) a = two_told old new a
-  seen_same (unlinkat p removes) a = path_reads_same s u p a
-  seen_same (mkdirat p) a = path_reads_same s u p a
-  seen_same (linkat old new) a = two_told old new a
-  seen_same (ftruncate f n) a = on_file_told f no_content a
+  shape_seen_same : (x : Shape) → Agree (shape_seen t r s x) s u → shape_seen t r u x ≡ shape_seen t r s x
+  shape_seen_same idle a = refl
+  shape_seen_same (looking f) a = refl
+  shape_seen_same (moving w f o n x) a = on_file_told f no_content a
+  shape_seen_same (allocating f o n mode) a = on_file_told f no_content a
+  shape_seen_same (resizing f n) a = on_file_told f no_content a
+  shape_seen_same (closing number index) a = refl
+  shape_seen_same (opening p g index) a = path_reads_same s u p a
+  shape_seen_same (making p) a = path_reads_same s u p a
+  shape_seen_same (freeing p removes) a = path_reads_same s u p a
+  shape_seen_same (linking old new) a = two_told old new a
+  shape_seen_same (renaming old new) a = two_told old new a
 
-  pub taken_same : (o : Operation) → Agree (seen t r s o) s u → taken t r u o ≡ taken t r s o
-  taken_same nop a = refl
-  taken_same (readv f o n) a = transfer_told f (read_content o (min n most_moved)) o a
-  taken_same (writev f o new) a = transfer_told f (write_content o (length new)) o a
-  taken_same (fsync f) a = refl
-  taken_same (read_fixed f o x) a = ap (λ y. y ++ span_use true t r x) (transfer_told f (read_content o (min x.length most_moved)) o a)
-  taken_same (write_fixed f o x) a = ap (λ y. y ++ span_use false t r x) (transfer_told f (write_content o (min x.length most_moved)) o a)
-  taken_same (fallocate f o n mode) a = on_file_told f (λ i h. allocated o n i (allocation mode)) a
-  taken_same (openat p g index) a = path_told p (λ (q : Place). opened_taken g q q.target) a
-  taken_same (close number index) a = refl
-  taken_same (read f o n) a = transfer_told f (read_content o (min n most_moved)) o a
-  taken_same (write f o new) a = transfer_told f (write_content o (length new)) o a
-  taken_same (renameat old new flags) a =
+  pub seen_same : (o : Operation) → Agree (seen t r s o) s u → seen t r u o ≡ seen t r s o
+  seen_same o = shape_seen_same (shape o)
+
+  moved_same : (w : Bool) (f : File) (o n : ℕ) → Agree (file_seen t s r f) s u → transfer_taken t u r w f o n ≡ transfer_taken t s r w f o n
+  moved_same false f o n a = transfer_told f (read_content o n) o a
+  moved_same true f o n a = transfer_told f (write_content o n) o a
+
+  shape_taken_same : (x : Shape) → Agree (shape_seen t r s x) s u → shape_taken t r u x ≡ shape_taken t r s x
+  shape_taken_same idle a = refl
+  shape_taken_same (looking f) a = refl
+  shape_taken_same (moving w f o n x) a = ap (through w t r x) (moved_same w f o n a)
+  shape_taken_same (allocating f o n mode) a = on_file_told f (λ i h. allocated o n i (allocation mode)) a
+  shape_taken_same (resizing f n) a = on_file_told f (cut_content n) a
+  shape_taken_same (closing number index) a = refl
+  shape_taken_same (opening p g index) a = path_told p (λ (q : Place). opened_taken g q q.target) a
+  shape_taken_same (making p) a = path_told p name_written a
+  shape_taken_same (freeing p removes) a = path_told p (λ (q : Place). name_written q ++ cond removes (directory_names q.target) []) a
+  shape_taken_same (linking old new) a = λ i. two_told old new a i ++ each_ok name_written (walk_same s u new (agree_right s u (path_reads s old) _ a) i)
+  shape_taken_same (renaming old new) a =
       λ i. two_told old new a i ++ each_ok name_written (walk_same s u old (agree_left s u _ _ a) i)
       ++ each_ok (λ (q : Place). name_written q ++ directory_names q.target) (walk_same s u new (agree_right s u (path_reads s old) _ a) i)
-  taken_same (unlinkat p removes) a = path_told p (λ (q : Place). name_written q ++ cond removes (directory_names q.target) []) a
-  taken_same (mkdirat p) a = path_told p name_written a
-  taken_same (linkat old new) a = λ i. two_told old new a i ++ each_ok name_written (walk_same s u new (agree_right s u (path_reads s old) _ a) i)
-  taken_same (ftruncate f n) a = on_file_told f (cut_content n) a
+
+  pub taken_same : (o : Operation) → Agree (seen t r s o) s u → taken t r u o ≡ taken t r s o
+  taken_same o = shape_taken_same (shape o)
 
   lowest_same : ((n : ℕ) → descriptor s n ≡ descriptor u n) → lowest_free t u ≡ lowest_free t s
   lowest_same h = ap (λ (d : ℕ → Option ℕ). find (λ n. is_none (d n)) (range_with_len 0 (length t.descriptors))) (sym (fun_ext h))
@@ -95,29 +99,21 @@ module _ (t : Trace) (r : ℕ) (s u : World) where
   room_uses_same (suc n) h = refl
 
   -- The room is told by what an earlier reach doesn't write, and by the row.
-  pub room_same : (earlier : List Footprint) (o : Operation) → (written_by earlier all_descriptors ≡ false → (n : ℕ) → descriptor s n ≡ descriptor u n) → room_taken t u r earlier o ≡ room_taken t s r earlier o
-  room_same earlier (openat p g zero) h =
+  room_at_same : (earlier : List Footprint) (n : ℕ) → (written_by earlier all_descriptors ≡ false → (n : ℕ) → descriptor s n ≡ descriptor u n) → room_at t u r (written_by earlier) n ≡ room_at t s r (written_by earlier) n
+  room_at_same earlier (suc n) h = refl
+  room_at_same earlier zero h =
       elim (written_by earlier all_descriptors) as (λ b. (b ≡ false → (n : ℕ) → descriptor s n ≡ descriptor u n)
       → cond b (writes all_descriptors ∷ []) (room_uses t u r zero) ≡ cond b (writes all_descriptors ∷ []) (room_uses t s r zero)) [
-        | true ↦ λ g'. refl
-        | false ↦ λ g'. room_uses_same zero (g' refl)
+        | true ↦ λ g. refl
+        | false ↦ λ g. room_uses_same zero (g refl)
       ] h
-  room_same earlier (openat p g (suc n)) h = refl
-  room_same earlier nop h = refl
-  room_same earlier (readv f o n) h = refl
-  room_same earlier (writev f o new) h = refl
-  room_same earlier (fsync f) h = refl
-  room_same earlier (read_fixed f o x) h = refl
-  room_same earlier (write_fixed f o x) h = refl
-  room_same earlier (fallocate f o n mode) h = refl
-  room_same earlier (close number index) h = refl
-  room_same earlier (read f o n) h = refl
-  room_same earlier (write f o new) h = refl
-  room_same earlier (renameat old new flags) h = refl
-  room_same earlier (unlinkat p removes) h = refl
-  room_same earlier (mkdirat p) h = refl
-  room_same earlier (linkat old new) h = refl
-  room_same earlier (ftruncate f n) h = refl
+
+  pub room_same : (earlier : List Footprint) (o : Operation) → (written_by earlier all_descriptors ≡ false → (n : ℕ) → descriptor s n ≡ descriptor u n) → room_taken t u r earlier o ≡ room_taken t s r earlier o
+  room_same earlier o h = at (room_asked o)
+    where
+      at : (x : Option ℕ) → each (room_at t u r (written_by earlier)) x ≡ each (room_at t s r (written_by earlier)) x
+      at None = refl
+      at (Some n) = room_at_same earlier n h
 
 module _ (t : Trace) (k r : ℕ) (s : World) where
   on_file_seen : (f : File) (c : ℕ → Handle → Footprint) → Over always (on_file t s r f c) (file_seen t s r f)
@@ -129,23 +125,26 @@ module _ (t : Trace) (k r : ℕ) (s : World) where
   path_first : (f g : Footprint) → Over always (f ++ g) f
   path_first f g = over_first always f g f (over_self always f)
 
+  moved_seen : (b w : Bool) (f : File) (o n : ℕ) → Over always (transfer_row t s r (not_extending b) w f o n) (file_seen t s r f)
+  moved_seen b false f o n = transfer_seen f (read_content o n) (position_use t s r f o)
+  moved_seen b true f o n = transfer_seen f (write_uses s o n) (position_use t s r f o)
+
+  shape_row_seen : (b : Bool) (x : Shape) → Over always (shape_row t k r s (not_extending b) x) (shape_seen t r s x)
+  shape_row_seen b idle = over_nothing always _
+  shape_row_seen b (looking f) = over_nothing always _
+  shape_row_seen b (moving w f o n None) = moved_seen b w f o n
+  shape_row_seen b (moving w f o n (Some x)) = over_first always _ (span_use (not w) t r x) _ (moved_seen b w f o n)
+  shape_row_seen b (allocating f o n mode) = on_file_seen f (λ i h. allocation_uses s false i o (o + n) (allocation mode))
+  shape_row_seen b (resizing f n) = on_file_seen f (cut_content n)
+  shape_row_seen b (closing number index) = over_nothing always _
+  shape_row_seen b (opening p g index) = over_first always _ _ _ (over_first always _ _ _ (path_first (path_reads s p) (room_uses t s r index)))
+  shape_row_seen b (making p) = path_first (path_reads s p) _
+  shape_row_seen b (freeing p removes) = path_first (path_reads s p) _
+  shape_row_seen b (linking old new) = path_first (path_reads s old ++ path_reads s new) _
+  shape_row_seen b (renaming old new) = over_first always _ _ _ (over_first always _ _ _ (over_self always _))
+
   row_seen : (b : Bool) (o : Operation) → Over always (row t k r s (not_extending b) o) (seen t r s o)
-  row_seen b nop = over_nothing always _
-  row_seen b (readv f o n) = transfer_seen f (read_content o (min n most_moved)) (position_use t s r f o)
-  row_seen b (writev f o new) = transfer_seen f (write_uses s o (length new)) (position_use t s r f o)
-  row_seen b (fsync f) = over_nothing always _
-  row_seen b (read_fixed f o x) = over_first always _ (span_use true t r x) _ (transfer_seen f (read_content o (min x.length most_moved)) (position_use t s r f o))
-  row_seen b (write_fixed f o x) = over_first always _ (span_use false t r x) _ (transfer_seen f (write_uses s o (min x.length most_moved)) (position_use t s r f o))
-  row_seen b (fallocate f o n mode) = on_file_seen f (λ i h. allocation_uses s false i o (o + n) (allocation mode))
-  row_seen b (openat p g index) = over_first always _ _ _ (over_first always _ _ _ (path_first (path_reads s p) (room_uses t s r index)))
-  row_seen b (close number index) = over_nothing always _
-  row_seen b (read f o n) = transfer_seen f (read_content o (min n most_moved)) (position_use t s r f o)
-  row_seen b (write f o new) = transfer_seen f (write_uses s o (length new)) (position_use t s r f o)
-  row_seen b (renameat old new flags) = over_first always _ _ _ (over_first always _ _ _ (over_self always _))
-  row_seen b (unlinkat p removes) = path_first (path_reads s p) _
-  row_seen b (mkdirat p) = path_first (path_reads s p) _
-  row_seen b (linkat old new) = path_first (path_reads s old ++ path_reads s new) _
-  row_seen b (ftruncate f n) = on_file_seen f (cut_content n)
+  row_seen b o = shape_row_seen b (shape o)
 
   in_row : (b : Bool) (f : Footprint) (a : Atom) → T (has_atom f a) → T (has_atom (cond b f (as_reads f)) a)
   in_row true f a h = h
@@ -154,28 +153,19 @@ module _ (t : Trace) (k r : ℕ) (s : World) where
   pub seen_in_row : (o : Operation) (a : Atom) → T (has_atom (seen t r s o) a) → T (has_atom (row_in t k r s o) a)
   seen_in_row o a h = in_row (is_ok (meaning t k r s o)) _ a ((row_seen (is_ok (meaning t k r s o)) o).has a tt h)
 
-  -- All descriptors stand in the row of an openat to a descriptor.
-  descriptors_in_row : (p : Path) (g : OpenFlags) (n : ℕ) → T (has_atom (row_in t k r s (openat p g zero)) (descriptor_at n))
-  descriptors_in_row p g n = in_row (is_ok (meaning t k r s (openat p g zero))) _ (descriptor_at n) ((from_room (is_ok (meaning t k r s (openat p g zero)))).has (descriptor_at n) tt tt)
-    where
-      from_room : (b : Bool) → Over always (row t k r s (not_extending b) (openat p g zero)) (room_uses t s r zero)
-      from_room b = over_first always _ _ _ (over_first always _ _ _ (over_second always (path_reads s p) (room_uses t s r zero) _ (over_self always _)))
+  -- All descriptors stand in the row of an operation that asks for the lowest free one.
+  row_asks : (b : Bool) (x : Shape) → IsLowest (shape_asked x) → Over always (shape_row t k r s (not_extending b) x) (room_uses t s r zero)
+  row_asks b (opening p g zero) e = over_first always _ _ _ (over_first always _ _ _ (over_second always (path_reads s p) (room_uses t s r zero) _ (over_self always _)))
+  row_asks b (opening p g (suc n)) e = absurd e
+  row_asks b _ e = absurd e
+
+  descriptors_in_row : (o : Operation) → IsLowest (room_asked o) → (n : ℕ) → T (has_atom (row_in t k r s o) (descriptor_at n))
+  descriptors_in_row o e n = in_row (is_ok (meaning t k r s o)) _ (descriptor_at n) ((row_asks (is_ok (meaning t k r s o)) (shape o) e).has (descriptor_at n) tt tt)
 
   pub room_told : (u : World) (earlier : List Footprint) (o : Operation) → Agree (row_in t k r s o) s u → room_taken t u r earlier o ≡ room_taken t s r earlier o
-  room_told u earlier (openat p g zero) a = room_same t r s u earlier (openat p g zero) (λ e n. a.same (descriptor_at n) (descriptors_in_row p g n))
-  room_told u earlier (openat p g (suc n)) a = refl
-  room_told u earlier nop a = refl
-  room_told u earlier (readv f o n) a = refl
-  room_told u earlier (writev f o new) a = refl
-  room_told u earlier (fsync f) a = refl
-  room_told u earlier (read_fixed f o x) a = refl
-  room_told u earlier (write_fixed f o x) a = refl
-  room_told u earlier (fallocate f o n mode) a = refl
-  room_told u earlier (close number index) a = refl
-  room_told u earlier (read f o n) a = refl
-  room_told u earlier (write f o new) a = refl
-  room_told u earlier (renameat old new flags) a = refl
-  room_told u earlier (unlinkat p removes) a = refl
-  room_told u earlier (mkdirat p) a = refl
-  room_told u earlier (linkat old new) a = refl
-  room_told u earlier (ftruncate f n) a = refl
+  room_told u earlier o a = at (room_asked o) refl
+    where
+      at : (x : Option ℕ) → room_asked o ≡ x → each (room_at t u r (written_by earlier)) x ≡ each (room_at t s r (written_by earlier)) x
+      at None e = refl
+      at (Some (suc n)) e = refl
+      at (Some zero) e = room_at_same t r s u earlier zero (λ f n. a.same (descriptor_at n) (descriptors_in_row o (subst IsLowest (sym e) tt) n))

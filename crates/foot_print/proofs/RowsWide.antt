@@ -1,19 +1,18 @@
 -- Where all that an operation looks up is of earlier places, its row where it is unresolved holds the one as accepted.
-use Rattle.std.specs.Prelude.{ℕ, Bool, true, false, cond, not, ◌&&◌, ◌||◌, ◌==◌, ◌+◌, min, length, T, List, [], ◌∷◌, ◌++◌, map, Option, Some, None, Result, Ok, Err}
+use Rattle.std.specs.Prelude.{ℕ, Bool, true, false, cond, not, ◌&&◌, ◌||◌, ◌==◌, ◌+◌, min, T, List, [], ◌∷◌, ◌++◌, map, Option, Some, None, Result, Ok, Err}
 use Rattle.std.specs.List.{list_all}
 use mathlib.Core.Path.{subst}
 use Rattle.sqe_codec.specs.declared.errno.Errno.{Errno}
 use Rattle.trace_format.specs.declared.trace.Trace.{Trace}
 use Rattle.sqe_codec.specs.Answers.{each, each_ok}
-use Rattle.entry_checks.specs.Operation.{Operation, nop, readv, writev, fsync, read_fixed, write_fixed, fallocate, openat, close, read, write, renameat, unlinkat, mkdirat, linkat, ftruncate, File, Path, OpenFlags, file_limit, at_position}
-use Rattle.trace_format.specs.Sides.{most_moved}
+use Rattle.entry_checks.specs.Operation.{Operation, File, Path, OpenFlags, file_limit, at_position}
 use Rattle.world_parts.specs.World.{World}
 use Rattle.file_tree.specs.Tree.{Target}
 use Rattle.file_tree.specs.Walk.{Place, walk, is_directory, names_on}
 use Rattle.op_meaning.specs.Meaning.{made_node, Handle, handle, handle_of, held, is_file, allocation, Allocation, extend, reserve, punch, zero_extend, zero_within}
 use Rattle.world_parts.specs.Items.{Atom, description_at, position_of, size_of, byte_at, name_at, names_in, Item, one, file_bytes, all_bytes_and_sizes, member_of, Use, reads, writes, Footprint, has_atom, writes_atom}
-use Rattle.op_meaning.specs.Footprint.{file_reads, of_file, of_description, on_file, range_of, position_written, position_use, span_use, path_reads, name_written, directory_names}
-use Rattle.foot_print.specs.Reach.{taken, write_content, allocated, opened_taken, all_files, any_name, unresolved_file, unresolved_row}
+use Rattle.op_meaning.specs.Footprint.{Shape, idle, looking, moving, allocating, resizing, closing, opening, making, freeing, linking, renaming, shape, through, file_reads, of_file, of_description, on_file, range_of, position_written, position_use, span_use, path_reads, name_written, directory_names}
+use Rattle.foot_print.specs.Reach.{transfer_taken, shape_taken, unresolved_shape, taken, write_content, allocated, opened_taken, all_files, any_name, unresolved_file, unresolved_row}
 use Rattle.foot_print.specs.Replayed.{is_earlier}
 use Rattle.world_parts.proofs.Collision.{both, left, right, either_left, same_atom-eq}
 use Rattle.foot_print.proofs.Holding.{Over, drop_false, over_self, over_nothing, over_all, over_first, over_second, over_both, over_uses, all_append, all_each}
@@ -164,22 +163,25 @@ module _ (t : Trace) (k : ℕ) where
         at (Ok q) = opened_held g q q.target
         at (Err e) = over_nothing earlier _
 
-    pub unresolved_over_taken : (o : Operation) → Over earlier (unresolved_row t k r o) (taken t r s o)
+    moved_held : (w : Bool) (f : File) (o n : ℕ) → Over earlier (unresolved_file t k r f) (transfer_taken t s r w f o n)
+    moved_held false f o n = read_held f o n
+    moved_held true f o n = write_held f o n
+
+    unresolved_over_shape : (x : Shape) → Over earlier (unresolved_shape t k r x) (shape_taken t r s x)
     unfolding cut
-    unresolved_over_taken nop = over_nothing earlier _
-    unresolved_over_taken (readv f o n) = read_held f o (min n most_moved)
-    unresolved_over_taken (writev f o new) = write_held f o (length new)
-    unresolved_over_taken (fsync f) = over_self earlier _
-    unresolved_over_taken (read_fixed f o x) = over_both earlier _ (span_use true t r x) _ (span_use true t r x) (read_held f o (min x.length most_moved)) (over_self earlier _)
-    unresolved_over_taken (write_fixed f o x) = over_both earlier _ (span_use false t r x) _ (span_use false t r x) (write_held f o (min x.length most_moved)) (over_self earlier _)
-    unresolved_over_taken (fallocate f o n mode) = on_file_held f (λ i h. allocated o n i (allocation mode)) (λ i h. allocation_uses_files o n i (allocation mode))
-    unresolved_over_taken (openat p g index) = open_held p g
-    unresolved_over_taken (close number index) = over_self earlier _
-    unresolved_over_taken (read f o n) = read_held f o (min n most_moved)
-    unresolved_over_taken (write f o new) = write_held f o (length new)
-    unresolved_over_taken (renameat old new flags) =
+    unresolved_over_shape idle = over_nothing earlier _
+    unresolved_over_shape (looking f) = over_self earlier _
+    unresolved_over_shape (moving w f o n None) = moved_held w f o n
+    unresolved_over_shape (moving w f o n (Some x)) = over_both earlier _ (span_use (not w) t r x) _ (span_use (not w) t r x) (moved_held w f o n) (over_self earlier _)
+    unresolved_over_shape (allocating f o n mode) = on_file_held f (λ i h. allocated o n i (allocation mode)) (λ i h. allocation_uses_files o n i (allocation mode))
+    unresolved_over_shape (resizing f n) = on_file_held f (λ i h. writes (one (size_of i)) ∷ writes (range_of i n file_limit) ∷ []) (λ i h. tt)
+    unresolved_over_shape (closing number index) = over_self earlier _
+    unresolved_over_shape (opening p g index) = open_held p g
+    unresolved_over_shape (making p) = names_held _ (all_append is_name_use (path_reads s p) _ (path_names p) (written_names (walk s.nodes p)))
+    unresolved_over_shape (freeing p removes) = names_held _ (all_append is_name_use (path_reads s p) _ (path_names p) (unlink_names removes (walk s.nodes p)))
+    unresolved_over_shape (linking old new) = names_held _ (all_append is_name_use (path_reads s old ++ path_reads s new) _ (two_paths old new) (written_names (walk s.nodes new)))
+    unresolved_over_shape (renaming old new) =
         names_held _ (all_append is_name_use (path_reads s old ++ path_reads s new ++ each_ok name_written (walk s.nodes old)) _ (all_append is_name_use (path_reads s old ++ path_reads s new) _ (two_paths old new) (written_names (walk s.nodes old))) (rename_names (walk s.nodes new)))
-    unresolved_over_taken (unlinkat p removes) = names_held _ (all_append is_name_use (path_reads s p) _ (path_names p) (unlink_names removes (walk s.nodes p)))
-    unresolved_over_taken (mkdirat p) = names_held _ (all_append is_name_use (path_reads s p) _ (path_names p) (written_names (walk s.nodes p)))
-    unresolved_over_taken (linkat old new) = names_held _ (all_append is_name_use (path_reads s old ++ path_reads s new) _ (two_paths old new) (written_names (walk s.nodes new)))
-    unresolved_over_taken (ftruncate f n) = on_file_held f (λ i h. writes (one (size_of i)) ∷ writes (range_of i n file_limit) ∷ []) (λ i h. tt)
+
+    pub unresolved_over_taken : (o : Operation) → Over earlier (unresolved_row t k r o) (taken t r s o)
+    unresolved_over_taken o = unresolved_over_shape (shape o)

@@ -1,19 +1,18 @@
 -- The model: what a place may use once earlier places that haven't finished have run.
-use Rattle.std.specs.Prelude.{ℕ, zero, suc, Bool, true, false, not, ◌&&◌, ◌||◌, ◌==◌, ◌+◌, min, length, List, [], ◌∷◌, ◌++◌, Option, None, Some, if◌then◌else◌}
+use Rattle.std.specs.Prelude.{ℕ, zero, suc, Bool, true, false, not, ◌&&◌, ◌||◌, ◌==◌, ◌+◌, List, [], ◌∷◌, ◌++◌, Option, None, Some, if◌then◌else◌}
 use Rattle.std.specs.List.{list_any}
 use Rattle.trace_format.specs.declared.trace.Trace.{Trace}
 use Rattle.sqe_codec.specs.Answers.{each, each_ok}
-use Rattle.entry_checks.specs.Operation.{Operation, nop, readv, writev, fsync, read_fixed, write_fixed, fallocate, openat, close, read, write, renameat, unlinkat, mkdirat, linkat, ftruncate, File, Path, OpenFlags, file_limit, at_position}
-use Rattle.trace_format.specs.Sides.{most_moved}
+use Rattle.entry_checks.specs.Operation.{Operation, File, Path, OpenFlags, file_limit, at_position}
 use Rattle.chain_plan.specs.Chain.{role}
 use Rattle.world_parts.specs.World.{World}
 use Rattle.file_tree.specs.Tree.{Target}
 use Rattle.file_tree.specs.Walk.{Place, walk, is_directory}
 use Rattle.op_meaning.specs.Meaning.{made_node, made_description, Handle, allocation, Allocation, extend, reserve, punch, zero_extend, zero_within}
 use Rattle.op_meaning.specs.Step.{Turn, filled, canceled, runs, turn, turn_under}
-use Rattle.world_parts.specs.Items.{file_bytes, chain_flag, size_of, names_in, one, all_names, all_bytes_and_sizes, all_positions, all_descriptions, all_descriptors, reads, writes, Footprint}
+use Rattle.world_parts.specs.Items.{Item, file_bytes, chain_flag, size_of, names_in, one, all_names, all_bytes_and_sizes, all_positions, all_descriptions, all_descriptors, reads, writes, Footprint}
 pub use Rattle.item_index.specs.Touching.{written_by}
-use Rattle.op_meaning.specs.Footprint.{file_reads, on_file, position_written, position_use, range_of, transfer_range, span_use, path_reads, name_written, room_uses, description_made, read_row, close_row, ftruncate_row, unlinkat_row, linkat_row, renameat_row, order_uses, turn_uses, ring_at}
+use Rattle.op_meaning.specs.Footprint.{Shape, idle, looking, moving, allocating, resizing, closing, opening, making, freeing, linking, renaming, shape, through, file_reads, on_file, position_written, position_use, range_of, transfer_range, path_reads, name_written, room_uses, description_made, read_row, close_row, ftruncate_row, unlinkat_row, linkat_row, renameat_row, order_uses, turn_uses, ring_at}
 
 -- Whether one of some footprints writes an atom of an item of a footprint.
 abbrev pub is_met : Footprint → List Footprint → Bool
@@ -24,23 +23,21 @@ is_met f earlier = list_any (λ u. written_by earlier u.item) f
 abbrev pub file_seen : Trace → World → ℕ → File → Footprint
 file_seen t s r f = on_file t s r f (λ i h. [])
 
+abbrev pub shape_seen : Trace → ℕ → World → Shape → Footprint
+shape_seen t r s idle = []
+shape_seen t r s (looking f) = []
+shape_seen t r s (moving w f o n x) = file_seen t s r f
+shape_seen t r s (allocating f o n mode) = file_seen t s r f
+shape_seen t r s (resizing f n) = file_seen t s r f
+shape_seen t r s (closing number index) = []
+shape_seen t r s (opening p g index) = path_reads s p
+shape_seen t r s (making p) = path_reads s p
+shape_seen t r s (freeing p removes) = path_reads s p
+shape_seen t r s (linking old new) = path_reads s old ++ path_reads s new
+shape_seen t r s (renaming old new) = path_reads s old ++ path_reads s new
+
 abbrev pub seen : Trace → ℕ → World → Operation → Footprint
-seen t r s nop = []
-seen t r s (readv f o n) = file_seen t s r f
-seen t r s (writev f o new) = file_seen t s r f
-seen t r s (fsync f) = []
-seen t r s (read_fixed f o x) = file_seen t s r f
-seen t r s (write_fixed f o x) = file_seen t s r f
-seen t r s (fallocate f o n mode) = file_seen t s r f
-seen t r s (openat p g index) = path_reads s p
-seen t r s (close number index) = []
-seen t r s (read f o n) = file_seen t s r f
-seen t r s (write f o new) = file_seen t s r f
-seen t r s (renameat old new flags) = path_reads s old ++ path_reads s new
-seen t r s (unlinkat p removes) = path_reads s p
-seen t r s (mkdirat p) = path_reads s p
-seen t r s (linkat old new) = path_reads s old ++ path_reads s new
-seen t r s (ftruncate f n) = file_seen t s r f
+seen t r s o = shape_seen t r s (shape o)
 
 -- The row of an operation as accepted and extending, apart from what it makes and from the room of openat.
 abbrev pub write_content : ℕ → ℕ → ℕ → Handle → Footprint
@@ -71,38 +68,54 @@ openat_taken s p g = path_reads s p ++ each_ok (opened_at g) (walk s.nodes p)
 abbrev pub mkdirat_taken : World → Path → Footprint
 mkdirat_taken s p = path_reads s p ++ each_ok name_written (walk s.nodes p)
 
+abbrev pub transfer_taken : Trace → World → ℕ → Bool → File → ℕ → ℕ → Footprint
+transfer_taken t s r false f o n = read_row t s r f o n
+transfer_taken t s r true f o n = write_taken t s r f o n
+
+abbrev pub shape_taken : Trace → ℕ → World → Shape → Footprint
+shape_taken t r s idle = []
+shape_taken t r s (looking f) = file_reads t r f
+shape_taken t r s (moving w f o n x) = through w t r x (transfer_taken t s r w f o n)
+shape_taken t r s (allocating f o n mode) = on_file t s r f (λ i h. allocated o n i (allocation mode))
+shape_taken t r s (resizing f n) = ftruncate_row t s r f n
+shape_taken t r s (closing number index) = close_row t r number index
+shape_taken t r s (opening p g index) = openat_taken s p g
+shape_taken t r s (making p) = mkdirat_taken s p
+shape_taken t r s (freeing p removes) = unlinkat_row s p removes
+shape_taken t r s (linking old new) = linkat_row s old new
+shape_taken t r s (renaming old new) = renameat_row s old new
+
 abbrev pub taken : Trace → ℕ → World → Operation → Footprint
-taken t r s nop = []
-taken t r s (readv f o n) = read_row t s r f o (min n most_moved)
-taken t r s (writev f o new) = write_taken t s r f o (length new)
-taken t r s (fsync f) = file_reads t r f
-taken t r s (read_fixed f o span) = read_row t s r f o (min span.length most_moved) ++ span_use true t r span
-taken t r s (write_fixed f o span) = write_taken t s r f o (min span.length most_moved) ++ span_use false t r span
-taken t r s (fallocate f o n mode) = on_file t s r f (λ i h. allocated o n i (allocation mode))
-taken t r s (openat p g index) = openat_taken s p g
-taken t r s (close number index) = close_row t r number index
-taken t r s (read f o n) = read_row t s r f o (min n most_moved)
-taken t r s (write f o new) = write_taken t s r f o (length new)
-taken t r s (renameat old new flags) = renameat_row s old new
-taken t r s (unlinkat p removes) = unlinkat_row s p removes
-taken t r s (mkdirat p) = mkdirat_taken s p
-taken t r s (linkat old new) = linkat_row s old new
-taken t r s (ftruncate f n) = ftruncate_row t s r f n
+taken t r s o = shape_taken t r s (shape o)
 
 abbrev pub node_made : Trace → ℕ → Footprint
 node_made t k = writes (one (size_of (made_node t k))) ∷ writes (file_bytes (made_node t k) 0 file_limit) ∷ writes (one (names_in (made_node t k))) ∷ []
 
 -- What an operation that may make a node or a description writes of their numbers.
-abbrev pub makes : Trace → ℕ → Operation → Footprint
-makes t k (openat p g index) = node_made t k ++ description_made t k
-makes t k (mkdirat p) = node_made t k ++ description_made t k
-makes t k _ = []
+abbrev pub shape_makes : Trace → ℕ → Shape → Footprint
+shape_makes t k (opening p g index) = node_made t k ++ description_made t k
+shape_makes t k (making p) = node_made t k ++ description_made t k
+shape_makes t k _ = []
 
--- The room of openat: its slot or its free descriptor; whichever it finds free, where an earlier reach writes a descriptor.
+abbrev pub makes : Trace → ℕ → Operation → Footprint
+makes t k o = shape_makes t k (shape o)
+
+-- Where an operation asks for room for a description.
+abbrev pub shape_asked : Shape → Option ℕ
+shape_asked (opening p g index) = Some index
+shape_asked _ = None
+
+abbrev pub room_asked : Operation → Option ℕ
+room_asked o = shape_asked (shape o)
+
+-- The room at a file index, told by which items are written: its slot or its free descriptor; whichever it finds free, where a descriptor is written.
+abbrev pub room_at : Trace → World → ℕ → (Item → Bool) → ℕ → Footprint
+room_at t s r w zero = if w all_descriptors then writes all_descriptors ∷ [] else room_uses t s r zero
+room_at t s r w (suc n) = room_uses t s r (suc n)
+
+-- The room of an operation, given what the earlier reaches write.
 abbrev pub room_taken : Trace → World → ℕ → List Footprint → Operation → Footprint
-room_taken t s r earlier (openat p g zero) = if written_by earlier all_descriptors then writes all_descriptors ∷ [] else room_uses t s r zero
-room_taken t s r earlier (openat p g (suc n)) = room_uses t s r (suc n)
-room_taken t s r earlier _ = []
+room_taken t s r earlier o = each (room_at t s r (written_by earlier)) (room_asked o)
 
 -- All files and their descriptions, and all names, that are there at the start or are made before a place.
 abbrev pub all_files : Trace → ℕ → Footprint
@@ -115,23 +128,21 @@ abbrev pub unresolved_file : Trace → ℕ → ℕ → File → Footprint
 unresolved_file t k r f = file_reads t r f ++ all_files t k
 
 -- What an operation may use, apart from what it makes and its room, where an item that decides its others isn't known yet.
+abbrev pub unresolved_shape : Trace → ℕ → ℕ → Shape → Footprint
+unresolved_shape t k r idle = []
+unresolved_shape t k r (looking f) = file_reads t r f
+unresolved_shape t k r (moving w f o n x) = through w t r x (unresolved_file t k r f)
+unresolved_shape t k r (allocating f o n mode) = unresolved_file t k r f
+unresolved_shape t k r (resizing f n) = unresolved_file t k r f
+unresolved_shape t k r (closing number index) = close_row t r number index
+unresolved_shape t k r (opening p g index) = any_name t k ++ (if g.truncate then writes (all_bytes_and_sizes (made_node t k)) ∷ [] else [])
+unresolved_shape t k r (making p) = any_name t k
+unresolved_shape t k r (freeing p removes) = any_name t k
+unresolved_shape t k r (linking old new) = any_name t k
+unresolved_shape t k r (renaming old new) = any_name t k
+
 abbrev pub unresolved_row : Trace → ℕ → ℕ → Operation → Footprint
-unresolved_row t k r nop = []
-unresolved_row t k r (readv f o n) = unresolved_file t k r f
-unresolved_row t k r (writev f o new) = unresolved_file t k r f
-unresolved_row t k r (fsync f) = file_reads t r f
-unresolved_row t k r (read_fixed f o x) = unresolved_file t k r f ++ span_use true t r x
-unresolved_row t k r (write_fixed f o x) = unresolved_file t k r f ++ span_use false t r x
-unresolved_row t k r (fallocate f o n mode) = unresolved_file t k r f
-unresolved_row t k r (openat p g index) = any_name t k ++ (if g.truncate then writes (all_bytes_and_sizes (made_node t k)) ∷ [] else [])
-unresolved_row t k r (close number index) = close_row t r number index
-unresolved_row t k r (read f o n) = unresolved_file t k r f
-unresolved_row t k r (write f o new) = unresolved_file t k r f
-unresolved_row t k r (renameat old new flags) = any_name t k
-unresolved_row t k r (unlinkat p removes) = any_name t k
-unresolved_row t k r (mkdirat p) = any_name t k
-unresolved_row t k r (linkat old new) = any_name t k
-unresolved_row t k r (ftruncate f n) = unresolved_file t k r f
+unresolved_row t k r o = unresolved_shape t k r (shape o)
 
 -- What a place would do if its chain weren't broken.
 abbrev pub task : Trace → ℕ → Option Turn

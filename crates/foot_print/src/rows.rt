@@ -2,7 +2,8 @@
 ghost use Rattle.std.specs.Prelude.{◌≡◌, ◌++◌, ◌<◌, IfOk, OnOk};
 ghost use Rattle.entry_checks.specs.Meant.{meant};
 ghost use Rattle.foot_print.specs.Contents.{taken};
-ghost use Rattle.op_meaning.specs.Footprint.{row, row_in};
+ghost use Rattle.foot_print.specs.Shapes.{shape_meant};
+ghost use Rattle.op_meaning.specs.Footprint.{row_in, shape_row};
 ghost use Rattle.trace_format.specs.Steps.{places};
 ghost use Rattle.trace_format.specs.Text.{IsSpelled};
 
@@ -11,14 +12,12 @@ use crate::file_rows::{
     close_row, fallocate_row, file_reads, ftruncate_row, read_row, span_use, write_row,
 };
 use crate::path_rows::{linkat_row, mkdirat_row, openat_row, renameat_row, unlinkat_row};
+use crate::shape::{Shape, shape_of};
 use entry_checks::Op;
 use op_meaning::accepts;
 use std::alloc::{AllocError, Global};
 use trace_format::Trace;
 use world_parts::{Footprint, State};
-
-/// The most bytes that one call moves.
-const MOST_MOVED: u64 = 0x7fff_f000;
 
 /// What an operation at a place of a ring uses in a world. Where the world refuses it, it only
 /// reads.
@@ -45,7 +44,7 @@ pub(crate) fn operation_uses(
         accepted,
     };
     let mut footprint = Footprint::new(alloc);
-    push_row(alloc, trace, attempt, op, state, &mut footprint)?;
+    push_row(alloc, trace, attempt, shape_of(op), state, &mut footprint)?;
     if !accepted {
         footprint.make_read_only();
     }
@@ -57,92 +56,59 @@ fn push_row(
     alloc: Global,
     trace: &Trace,
     attempt: Attempt,
-    op: Op<'_>,
+    shape: Shape<'_>,
     state: &State,
     footprint: &mut Footprint,
 ) -> Result<(), AllocError>
     requires trace { IsSpelled trace.now }
     requires place { attempt.place < places trace.now }
-    ensures { OnOk result (footprint.new ≡ footprint.old ++ row trace.now attempt.place attempt.ring
-        state.now (taken attempt.accepted) (meant op.entry)) }
+    ensures { OnOk result (footprint.new ≡ footprint.old ++ shape_row trace.now attempt.place
+        attempt.ring state.now (taken attempt.accepted) (shape_meant shape.entry)) }
 {
     let ring = attempt.ring;
-    match op {
-        Op::Nop => Ok(()),
-        Op::Readv {
+    match shape {
+        Shape::Idle => Ok(()),
+        Shape::Looking { file } => file_reads(trace, ring, file, footprint),
+        Shape::Moving {
+            into_file,
             file,
             offset,
-            total,
+            count,
+            span,
         } => {
-            let count = total.min(MOST_MOVED);
-            read_row(trace, ring, file, offset, count, state, footprint)
+            if into_file {
+                write_row(trace, ring, file, offset, count, state, footprint)?;
+            } else {
+                read_row(trace, ring, file, offset, count, state, footprint)?;
+            }
+            match span {
+                Some(span) => span_use(trace, ring, span, !into_file, footprint),
+                None => Ok(()),
+            }
         }
-        Op::Read {
-            file,
-            offset,
-            total,
-        } => {
-            let count = u64::from(total).min(MOST_MOVED);
-            read_row(trace, ring, file, offset, count, state, footprint)
-        }
-        Op::Writev {
-            file,
-            offset,
-            bytes,
-        } => write_row(
-            trace,
-            ring,
-            file,
-            offset,
-            bytes.len() as u64,
-            state,
-            footprint,
-        ),
-        Op::Write {
-            file,
-            offset,
-            bytes,
-        } => write_row(
-            trace,
-            ring,
-            file,
-            offset,
-            bytes.len() as u64,
-            state,
-            footprint,
-        ),
-        Op::Fsync { file } => file_reads(trace, ring, file, footprint),
-        Op::ReadFixed { file, offset, span } => {
-            let count = u64::from(span.length).min(MOST_MOVED);
-            read_row(trace, ring, file, offset, count, state, footprint)?;
-            span_use(trace, ring, span, true, footprint)
-        }
-        Op::WriteFixed { file, offset, span } => {
-            let count = u64::from(span.length).min(MOST_MOVED);
-            write_row(trace, ring, file, offset, count, state, footprint)?;
-            span_use(trace, ring, span, false, footprint)
-        }
-        Op::Fallocate {
+        Shape::Allocating {
             file,
             offset,
             size,
             mode,
         } => fallocate_row(trace, ring, file, offset, size, mode, state, footprint),
-        Op::Openat {
+        Shape::Resizing { file, size } => ftruncate_row(trace, ring, file, size, state, footprint),
+        Shape::Closing { number, file_index } => {
+            close_row(trace, ring, number, file_index, footprint)
+        }
+        Shape::Opening {
             path,
             flags,
             file_index,
         } => openat_row(
             alloc, trace, attempt, path, flags, file_index, state, footprint,
         ),
-        Op::Close { number, file_index } => close_row(trace, ring, number, file_index, footprint),
-        Op::Renameat { old, new, flags: _ } => renameat_row(alloc, old, new, state, footprint),
-        Op::Unlinkat {
+        Shape::Making { path } => mkdirat_row(alloc, trace, attempt, path, state, footprint),
+        Shape::Freeing {
             path,
             removes_directory,
         } => unlinkat_row(alloc, path, removes_directory, state, footprint),
-        Op::Mkdirat { path } => mkdirat_row(alloc, trace, attempt, path, state, footprint),
-        Op::Linkat { old, new } => linkat_row(alloc, old, new, state, footprint),
-        Op::Ftruncate { file, size } => ftruncate_row(trace, ring, file, size, state, footprint),
+        Shape::Linking { old, new } => linkat_row(alloc, old, new, state, footprint),
+        Shape::Renaming { old, new } => renameat_row(alloc, old, new, state, footprint),
     }
 }

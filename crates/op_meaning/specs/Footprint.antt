@@ -141,24 +141,63 @@ linkat_row s old new = path_reads s old ++ path_reads s new ++ each_ok name_writ
 abbrev pub renameat_row : World → Path → Path → Footprint
 renameat_row s old new = path_reads s old ++ path_reads s new ++ each_ok name_written (walk s.nodes old) ++ each_ok (λ (q : Place). name_written q ++ directory_names q.target) (walk s.nodes new)
 
--- The uses of an operation, all written that it writes where it is accepted.
+-- What the uses of an operation depend on. A transfer moves so many bytes into its file or out of it, through a span of a buffer or none.
+pub data Shape : Type 0 where
+  idle : Shape
+  looking : (file : File) → Shape
+  moving : (into_file : Bool) (file : File) (offset count : ℕ) (span : Option Span) → Shape
+  allocating : (file : File) (offset size mode : ℕ) → Shape
+  resizing : (file : File) (size : ℕ) → Shape
+  closing : (number : ℤ) (file_index : ℕ) → Shape
+  opening : (path : Path) (flags : OpenFlags) (file_index : ℕ) → Shape
+  making : (path : Path) → Shape
+  freeing : (path : Path) (removes_directory : Bool) → Shape
+  linking : (old new : Path) → Shape
+  renaming : (old new : Path) → Shape
+
+abbrev pub shape : Operation → Shape
+shape nop = idle
+shape (readv f o n) = moving false f o (min n most_moved) None
+shape (writev f o new) = moving true f o (length new) None
+shape (fsync f) = looking f
+shape (read_fixed f o x) = moving false f o (min x.length most_moved) (Some x)
+shape (write_fixed f o x) = moving true f o (min x.length most_moved) (Some x)
+shape (fallocate f o n mode) = allocating f o n mode
+shape (openat p g index) = opening p g index
+shape (close number index) = closing number index
+shape (read f o n) = moving false f o (min n most_moved) None
+shape (write f o new) = moving true f o (length new) None
+shape (renameat old new flags) = renaming old new
+shape (unlinkat p removes) = freeing p removes
+shape (mkdirat p) = making p
+shape (linkat old new) = linking old new
+shape (ftruncate f n) = resizing f n
+
+-- A transfer's uses with those of its span, which a read of the file writes.
+abbrev pub through : Bool → Trace → ℕ → Option Span → Footprint → Footprint
+through w t r None f = f
+through w t r (Some x) f = f ++ span_use (not w) t r x
+
+abbrev pub transfer_row : Trace → World → ℕ → Taken → Bool → File → ℕ → ℕ → Footprint
+transfer_row t s r x false f o n = read_row t s r f o n
+transfer_row t s r x true f o n = write_row t s r x f o n
+
+-- The uses of an operation by its shape, all written that it writes where it is accepted.
+abbrev pub shape_row : Trace → ℕ → ℕ → World → Taken → Shape → Footprint
+shape_row t k r s x idle = []
+shape_row t k r s x (looking f) = file_reads t r f
+shape_row t k r s x (moving w f o n span) = through w t r span (transfer_row t s r x w f o n)
+shape_row t k r s x (allocating f o n mode) = fallocate_row t s r x f o n mode
+shape_row t k r s x (resizing f n) = ftruncate_row t s r f n
+shape_row t k r s x (closing number index) = close_row t r number index
+shape_row t k r s x (opening p g index) = openat_row t s k r x p g index
+shape_row t k r s x (making p) = mkdirat_row t s k x p
+shape_row t k r s x (freeing p removes) = unlinkat_row s p removes
+shape_row t k r s x (linking old new) = linkat_row s old new
+shape_row t k r s x (renaming old new) = renameat_row s old new
+
 abbrev pub row : Trace → ℕ → ℕ → World → Taken → Operation → Footprint
-row t k r s x nop = []
-row t k r s x (readv f o n) = read_row t s r f o (min n most_moved)
-row t k r s x (writev f o new) = write_row t s r x f o (length new)
-row t k r s x (fsync f) = file_reads t r f
-row t k r s x (read_fixed f o span) = read_row t s r f o (min span.length most_moved) ++ span_use true t r span
-row t k r s x (write_fixed f o span) = write_row t s r x f o (min span.length most_moved) ++ span_use false t r span
-row t k r s x (fallocate f o n mode) = fallocate_row t s r x f o n mode
-row t k r s x (openat p g index) = openat_row t s k r x p g index
-row t k r s x (close number index) = close_row t r number index
-row t k r s x (read f o n) = read_row t s r f o (min n most_moved)
-row t k r s x (write f o new) = write_row t s r x f o (length new)
-row t k r s x (renameat old new flags) = renameat_row s old new
-row t k r s x (unlinkat p removes) = unlinkat_row s p removes
-row t k r s x (mkdirat p) = mkdirat_row t s k x p
-row t k r s x (linkat old new) = linkat_row s old new
-row t k r s x (ftruncate f n) = ftruncate_row t s r f n
+row t k r s x o = shape_row t k r s x (shape o)
 
 -- The uses of an operation in a world: where the world refuses it, nothing is made and all is read.
 abbrev pub row_in : Trace → ℕ → ℕ → World → Operation → Footprint

@@ -11,16 +11,16 @@ use Rattle.trace_format.specs.declared.trace.Trace.{Trace}
 use Rattle.trace_format.specs.Paths.{components}
 use Rattle.trace_format.specs.Steps.{places}
 use Rattle.trace_format.specs.Text.{IsSpelled}
-use Rattle.entry_checks.specs.Operation.{Operation, nop, readv, writev, fsync, read_fixed, write_fixed, fallocate, openat, close, read, write, renameat, unlinkat, mkdirat, linkat, ftruncate, File, Path}
+use Rattle.entry_checks.specs.Operation.{Operation, File, Path}
 use Rattle.file_tree.specs.Walk.{names_from, directory_at, fits_name, starts_at_root}
 use Rattle.world_parts.specs.World.{World, name, slot, descriptor}
 use Rattle.world_parts.specs.Items.{Atom, slot_at, descriptor_at, description_at, name_at, one, member_of, Use, reads, Footprint, has_atom, Agree}
 use Rattle.world_parts.proofs.Collision.{true_of}
 use Rattle.world_parts.proofs.Sharing.{holds_true}
 use Rattle.op_meaning.specs.Meaning.{slot_count, Handle, held, handle_of, is_file}
-use Rattle.op_meaning.specs.Footprint.{held_item, of_file, of_description, path_reads}
+use Rattle.op_meaning.specs.Footprint.{Shape, idle, looking, moving, allocating, resizing, closing, opening, making, freeing, linking, renaming, shape, held_item, of_file, of_description, path_reads}
 use Rattle.op_meaning.specs.Step.{Turn, filled, refused, canceled, runs}
-use Rattle.foot_print.specs.Reach.{is_met, seen, file_seen, is_taken_to_run, look_of, task, order_of, running_row, accepted_row, wide_row}
+use Rattle.foot_print.specs.Reach.{is_met, shape_seen, seen, file_seen, is_taken_to_run, look_of, task, order_of, running_row, accepted_row, wide_row}
 use Rattle.foot_print.specs.Replayed.{replayed}
 use Rattle.foot_print.proofs.Agreement.{in_left, agree_left, agree_tail, agree_head}
 use Rattle.foot_print.proofs.Cover.{all_covered}
@@ -122,23 +122,21 @@ module _ (s u : World) where
     goes_file : (f : File) → Goes s u (file_seen t s r f) (file_seen t u r f)
     goes_file f = goes_held f.registered f.number
 
+    goes_shape : (x : Shape) → Goes s u (shape_seen t r s x) (shape_seen t r u x)
+    goes_shape idle = goes_nothing []
+    goes_shape (looking f) = goes_nothing []
+    goes_shape (moving w f o n x) = goes_file f
+    goes_shape (allocating f o n mode) = goes_file f
+    goes_shape (resizing f n) = goes_file f
+    goes_shape (closing number index) = goes_nothing []
+    goes_shape (opening p g index) = goes_one_path p
+    goes_shape (making p) = goes_one_path p
+    goes_shape (freeing p removes) = goes_one_path p
+    goes_shape (linking old new) = goes_two_paths old new
+    goes_shape (renaming old new) = goes_two_paths old new
+
     goes_seen : (o : Operation) → Goes s u (seen t r s o) (seen t r u o)
-    goes_seen nop = goes_nothing []
-    goes_seen (readv f o n) = goes_file f
-    goes_seen (writev f o new) = goes_file f
-    goes_seen (fsync f) = goes_nothing []
-    goes_seen (read_fixed f o x) = goes_file f
-    goes_seen (write_fixed f o x) = goes_file f
-    goes_seen (fallocate f o n mode) = goes_file f
-    goes_seen (openat p g index) = goes_one_path p
-    goes_seen (close number index) = goes_nothing []
-    goes_seen (read f o n) = goes_file f
-    goes_seen (write f o new) = goes_file f
-    goes_seen (renameat old new flags) = goes_two_paths old new
-    goes_seen (unlinkat p removes) = goes_one_path p
-    goes_seen (mkdirat p) = goes_one_path p
-    goes_seen (linkat old new) = goes_two_paths old new
-    goes_seen (ftruncate f n) = goes_file f
+    goes_seen o = goes_shape (shape o)
 
   goes_deciding : (t : Trace) (k : ℕ) (x : Option Turn) → Goes s u (look_of t k s x).deciding (look_of t k u x).deciding
   goes_deciding t k None = goes_nothing []

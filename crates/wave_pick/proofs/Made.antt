@@ -1,5 +1,5 @@
 -- The reach of an earlier place writes nothing that a place makes.
-use Rattle.std.specs.Prelude.{◌≡◌, ℕ, ℤ, pos, negsuc, zero, suc, Bool, true, false, cond, ◌||◌, ◌+◌, ◌<◌, ◌≤◌, ltb, leb, length, T, List, [], ◌∷◌, ◌++◌, map, Option, Some, None, refl}
+use Rattle.std.specs.Prelude.{◌≡◌, ℕ, ℤ, pos, negsuc, zero, suc, Bool, true, false, cond, not, ◌||◌, ◌+◌, ◌<◌, ◌≤◌, ltb, leb, length, T, List, [], ◌∷◌, ◌++◌, map, Option, Some, None, refl}
 use Rattle.std.proofs.Common.{◌⊎◌, inl, inr}
 use Rattle.std.proofs.lemmas.Bool.{cases_Bool}
 use mathlib.Core.Path.{sym, subst}
@@ -8,15 +8,15 @@ use lib.Dec.{ltb→lt, lt→ltb, eqb→eq}
 use Rattle.trace_format.specs.declared.trace.Trace.{Trace}
 use Rattle.sqe_codec.specs.Answers.{each}
 use Rattle.chain_plan.specs.Chain.{role}
-use Rattle.entry_checks.specs.Operation.{Operation, nop, readv, writev, fsync, read_fixed, write_fixed, fallocate, openat, close, read, write, renameat, unlinkat, mkdirat, linkat, ftruncate, File, Span, file_limit}
+use Rattle.entry_checks.specs.Operation.{Operation, File, Span, file_limit}
 use Rattle.world_parts.specs.World.{World}
 use Rattle.world_parts.specs.Items.{Atom, chain_flag, ring_order, slot_at, descriptor_at, description_at, position_of, size_of, byte_at, name_at, names_in, buffer_byte, Item, one, file_bytes, buffer_bytes, all_names, all_bytes_and_sizes, all_positions, all_descriptions, all_descriptors, member_of, Use, reads, writes, Footprint, has_atom}
 use Rattle.world_parts.proofs.Collision.{left, true_of, writes-has, same_atom-eq}
 use Rattle.world_parts.proofs.Sharing.{holds_true}
 use Rattle.op_meaning.specs.Meaning.{made_node, made_description, slot_count, span_start, lowest_free}
-use Rattle.op_meaning.specs.Footprint.{use_of, held_item, file_reads, span_use, description_made, close_row, room_uses, ring_at}
+use Rattle.op_meaning.specs.Footprint.{Shape, idle, looking, moving, allocating, resizing, closing, opening, making, freeing, linking, renaming, shape, use_of, held_item, file_reads, span_use, description_made, close_row, room_uses, ring_at}
 use Rattle.op_meaning.specs.Step.{Turn, filled, refused, canceled, runs}
-use Rattle.foot_print.specs.Reach.{written_by, is_met, node_made, makes, room_taken, all_files, any_name, unresolved_file, unresolved_row, unresolved_of, extras_of, task, look_of, order_of, running_row, accepted_row, wide_row, is_taken_to_run, reach}
+use Rattle.foot_print.specs.Reach.{shape_makes, room_asked, room_at, unresolved_shape, written_by, is_met, node_made, makes, all_files, any_name, unresolved_file, unresolved_row, unresolved_of, extras_of, task, look_of, order_of, running_row, accepted_row, wide_row, is_taken_to_run, reach}
 use Rattle.foot_print.specs.Replayed.{is_earlier, Known}
 use Rattle.foot_print.proofs.Cover.{all_covered}
 use Rattle.foot_print.proofs.Holding.{split, drop_false}
@@ -111,23 +111,23 @@ module _ (t : Trace) where
         (all (writes (one (description_at (made_description t k))) ∷ []) _ (atom (description_at (made_description t k)) true description_here)
         (atom (position_of (made_description t k)) true description_here))))
 
-    makes_bound : (o : Operation) → Bound (makes t k o)
-    makes_bound (openat p g index) = made
-    makes_bound (mkdirat p) = made
+    makes_bound : (x : Shape) → Bound (shape_makes t k x)
+    makes_bound (opening p g index) = made
+    makes_bound (making p) = made
     makes_bound _ = nothing
 
-    room_bound : (s : World) (r : ℕ) (earlier : List Footprint) (o : Operation) → Bound (room_taken t s r earlier o)
-    room_bound s r earlier (openat p g zero) =
+    room_bound : (s : World) (r : ℕ) (earlier : List Footprint) (x : Option ℕ) → Bound (each (room_at t s r (written_by earlier)) x)
+    room_bound s r earlier None = nothing
+    room_bound s r earlier (Some (suc n)) = held true r true (pos n)
+    room_bound s r earlier (Some zero) =
         elim (written_by earlier all_descriptors) as (λ b. Bound (cond b (writes all_descriptors ∷ []) (room_uses t s r zero))) [
           | true ↦ item all_descriptors true of_descriptors
           | false ↦ all (reads all_descriptors ∷ []) _ (item all_descriptors false of_descriptors) (at (lowest_free t s))
         ]
       where
-        at : (x : Option ℕ) → Bound (each (λ n. writes (one (descriptor_at n)) ∷ []) x)
+        at : (y : Option ℕ) → Bound (each (λ n. writes (one (descriptor_at n)) ∷ []) y)
         at None = nothing
         at (Some n) = atom (descriptor_at n) true tt
-    room_bound s r earlier (openat p g (suc n)) = held true r true (pos n)
-    room_bound s r earlier _ = nothing
 
     span_bound : (v : Bool) (r : ℕ) (x : Span) → Bound (span_use v t r x)
     span_bound v r x = at (span_start t r x)
@@ -148,24 +148,23 @@ module _ (t : Trace) where
     names_bound : Bound (any_name t k)
     names_bound = item _ true of_names
 
-    unresolved_bound : (r : ℕ) (o : Operation) → Bound (unresolved_row t k r o)
-    unresolved_bound r nop = nothing
-    unresolved_bound r (readv f o n) = file_bound r f
-    unresolved_bound r (writev f o new) = file_bound r f
-    unresolved_bound r (fsync f) = held false r f.registered f.number
-    unresolved_bound r (read_fixed f o x) = all (unresolved_file t k r f) _ (file_bound r f) (span_bound true r x)
-    unresolved_bound r (write_fixed f o x) = all (unresolved_file t k r f) _ (file_bound r f) (span_bound false r x)
-    unresolved_bound r (fallocate f o n mode) = file_bound r f
-    unresolved_bound r (openat p g index) = all (any_name t k) _ names_bound
+    shape_bound : (r : ℕ) (x : Shape) → Bound (unresolved_shape t k r x)
+    shape_bound r idle = nothing
+    shape_bound r (looking f) = held false r f.registered f.number
+    shape_bound r (moving w f o n None) = file_bound r f
+    shape_bound r (moving w f o n (Some x)) = all (unresolved_file t k r f) _ (file_bound r f) (span_bound (not w) r x)
+    shape_bound r (allocating f o n mode) = file_bound r f
+    shape_bound r (resizing f n) = file_bound r f
+    shape_bound r (closing number index) = close_bound r number index
+    shape_bound r (opening p g index) = all (any_name t k) _ names_bound
         (elim g.truncate as (λ b. Bound (cond b (writes (all_bytes_and_sizes (made_node t k)) ∷ []) [])) [ true ↦ item _ true of_files | false ↦ nothing ])
-    unresolved_bound r (close number index) = close_bound r number index
-    unresolved_bound r (read f o n) = file_bound r f
-    unresolved_bound r (write f o new) = file_bound r f
-    unresolved_bound r (renameat old new flags) = names_bound
-    unresolved_bound r (unlinkat p removes) = names_bound
-    unresolved_bound r (mkdirat p) = names_bound
-    unresolved_bound r (linkat old new) = names_bound
-    unresolved_bound r (ftruncate f n) = file_bound r f
+    shape_bound r (making p) = names_bound
+    shape_bound r (freeing p removes) = names_bound
+    shape_bound r (linking old new) = names_bound
+    shape_bound r (renaming old new) = names_bound
+
+    unresolved_bound : (r : ℕ) (o : Operation) → Bound (unresolved_row t k r o)
+    unresolved_bound r o = shape_bound r (shape o)
 
     module _ (s : World) (earlier : List Footprint) where
       unresolved_of_bound : (x : Option Turn) → Bound (unresolved_of t k s x)
@@ -180,7 +179,7 @@ module _ (t : Trace) where
       extras_bound (Some (filled r b at new)) = nothing
       extras_bound (Some (refused e p)) = nothing
       extras_bound (Some (canceled p)) = nothing
-      extras_bound (Some (runs r e o)) = all (makes t k o) _ (makes_bound o) (room_bound s r earlier o)
+      extras_bound (Some (runs r e o)) = all (makes t k o) _ (makes_bound (shape o)) (room_bound s r earlier (room_asked o))
 
       wide_bound : Bound (wide_row t k s earlier)
       wide_bound = all (order_of t k) _ order (all (unresolved_of t k s (task t k)) _ (unresolved_of_bound (task t k)) (extras_bound (task t k)))
@@ -237,9 +236,9 @@ module _ (t : Trace) where
         || (own_one (description_at (made_description t k)) (below_itself (made_description t k)) j
         || (own_one (position_of (made_description t k)) (below_itself (made_description t k)) j || false))))
 
-    makes_unmet : (o : Operation) → is_met (makes t k o) (reach t i s earlier ∷ []) ≡ false
-    makes_unmet (openat p g index) = own_unmet
-    makes_unmet (mkdirat p) = own_unmet
+    makes_unmet : (x : Shape) → is_met (shape_makes t k x) (reach t i s earlier ∷ []) ≡ false
+    makes_unmet (opening p g index) = own_unmet
+    makes_unmet (making p) = own_unmet
     makes_unmet _ = refl
 
     -- The reach of an earlier place writes nothing that a turn makes.
@@ -248,4 +247,4 @@ module _ (t : Trace) where
     made_unmet (Some (filled r b at new)) = refl
     made_unmet (Some (refused e p)) = refl
     made_unmet (Some (canceled p)) = refl
-    made_unmet (Some (runs r e o)) = makes_unmet o
+    made_unmet (Some (runs r e o)) = makes_unmet (shape o)

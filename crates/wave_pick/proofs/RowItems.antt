@@ -1,21 +1,20 @@
 -- With the same look, the rows of a place in two worlds have the same items, but for what it makes.
-use Rattle.std.specs.Prelude.{◌≡◌, ℕ, zero, suc, Bool, true, false, cond, ◌||◌, ◌&&◌, ◌==◌, not, ◌+◌, min, length, T, List, [], ◌∷◌, ◌++◌, Option, Some, None, Result, Ok, Err, is_ok, refl}
+use Rattle.std.specs.Prelude.{◌≡◌, ℕ, zero, suc, Bool, true, false, cond, ◌||◌, ◌&&◌, ◌==◌, not, ◌+◌, T, List, [], ◌∷◌, ◌++◌, Option, Some, None, Result, Ok, Err, is_ok, refl}
 use Rattle.std.proofs.Common.{◌⊎◌, inl, inr}
 use mathlib.Core.Path.{sym, subst, ap}
 use Rattle.sqe_codec.specs.declared.errno.Errno.{Errno}
 use Rattle.sqe_codec.specs.Answers.{each, each_ok}
 use Rattle.trace_format.specs.declared.trace.Trace.{Trace}
-use Rattle.trace_format.specs.Sides.{most_moved}
-use Rattle.entry_checks.specs.Operation.{Operation, nop, readv, writev, fsync, read_fixed, write_fixed, fallocate, openat, close, read, write, renameat, unlinkat, mkdirat, linkat, ftruncate, File, Path, OpenFlags, at_position}
+use Rattle.entry_checks.specs.Operation.{Operation, File, Path, OpenFlags, at_position}
 use Rattle.file_tree.specs.Tree.{Target}
 use Rattle.file_tree.specs.Walk.{Place, walk}
 use Rattle.world_parts.specs.World.{World}
 use Rattle.world_parts.specs.Items.{Atom, descriptor_at, description_at, size_of, names_in, one, all_descriptors, member_of, Use, reads, writes, Footprint, has_atom}
 use Rattle.world_parts.proofs.Collision.{either_left, same_atom-eq}
 use Rattle.op_meaning.specs.Meaning.{meaning, made_node, Handle, held, handle_of, is_file, allocation, Allocation, extend, reserve, punch, zero_extend, zero_within, lowest_free}
-use Rattle.op_meaning.specs.Footprint.{as_reads, use_of, transfer_range, position_written, would_extend, of_file, of_description, on_file, file_reads, position_use, span_use, write_row, allocation_uses, path_reads, name_written, made_where, room_uses, description_made, open_uses, row, row_in, turn_uses}
+use Rattle.op_meaning.specs.Footprint.{Shape, idle, looking, moving, allocating, resizing, closing, opening, making, freeing, linking, renaming, shape, transfer_row, shape_row, as_reads, use_of, transfer_range, position_written, would_extend, of_file, of_description, on_file, file_reads, position_use, span_use, write_row, allocation_uses, path_reads, name_written, made_where, room_uses, description_made, open_uses, row, row_in, turn_uses}
 use Rattle.op_meaning.specs.Step.{Turn, filled, refused, canceled, runs}
-use Rattle.foot_print.specs.Reach.{written_by, is_met, write_content, write_taken, allocated, opened_taken, taken, makes, room_taken, Look, look_of, task, order_of, running_row}
+use Rattle.foot_print.specs.Reach.{transfer_taken, shape_taken, shape_asked, room_asked, room_at, written_by, is_met, write_content, write_taken, allocated, opened_taken, taken, makes, room_taken, Look, look_of, task, order_of, running_row}
 use Rattle.foot_print.proofs.Agreement.{in_left, in_right, has_atom-as_reads}
 use Rattle.foot_print.proofs.Holding.{split, drop_false}
 use Rattle.foot_print.proofs.RowsHeld.{not_extending, accepted_over_row}
@@ -58,11 +57,14 @@ module _ (t : Trace) (k r : ℕ) (s : World) where
       at (Some n) = has_both (reads (one (description_at n)) ∷ []) (each (of_file c) (handle_of s n)) (reads (one (description_at n)) ∷ []) (each (of_file d) (handle_of s n)) (has_self (reads (one (description_at n)) ∷ [])) (of_handle (handle_of s n))
 
   -- What an operation has as accepted, and its room where no reach before it writes a descriptor.
-  abbrev accepted_items : Operation → Footprint
-  accepted_items o = taken t r s o ++ room_taken t s r [] o
+  abbrev shape_items : Shape → Footprint
+  shape_items x = shape_taken t r s x ++ each (room_at t s r (written_by [])) (shape_asked x)
 
-  only : (o : Operation) (f : Footprint) → Has f (taken t r s o) → Has f (taken t r s o ++ [])
-  only o f x = has_all f (taken t r s o) [] x (has_nothing f)
+  abbrev accepted_items : Operation → Footprint
+  accepted_items o = shape_items (shape o)
+
+  only : (x : Shape) (f : Footprint) → Has f (shape_taken t r s x) → Has f (shape_taken t r s x ++ [])
+  only x f h = has_all f (shape_taken t r s x) [] h (has_nothing f)
 
   abbrev write_uses : ℕ → ℕ → ℕ → Handle → Footprint
   write_uses o n i h = use_of (h.opened.append || o == at_position || false || not (n == 0) && would_extend s i (o + n)) (one (size_of i)) ∷ writes (transfer_range i (h.opened.append || o == at_position) o n) ∷ position_written h o
@@ -78,18 +80,18 @@ module _ (t : Trace) (k r : ℕ) (s : World) where
   allocation_has o n i (Some zero_within) = has_self _
   allocation_has o n i None = has_self _
 
-  room_has : (p : Path) (g : OpenFlags) (index : ℕ) → Has (room_uses t s r index) (room_taken t s r [] (openat p g index))
-  room_has p g zero = has_self (room_uses t s r zero)
-  room_has p g (suc n) = has_self (room_uses t s r (suc n))
+  room_has : (index : ℕ) → Has (room_uses t s r index) (room_at t s r (written_by []) index)
+  room_has zero = has_self (room_uses t s r zero)
+  room_has (suc n) = has_self (room_uses t s r (suc n))
 
-  open_has : (b : Bool) (p : Path) (g : OpenFlags) (index : ℕ) → Has (row t k r s (not_extending b) (openat p g index)) (accepted_items (openat p g index))
+  open_has : (b : Bool) (p : Path) (g : OpenFlags) (index : ℕ) → Has (shape_row t k r s (not_extending b) (opening p g index)) (shape_items (opening p g index))
   open_has b p g index =
-      has_all whole (taken t r s (openat p g index)) _
+      has_all whole (shape_taken t r s (opening p g index)) _
       (has_all whole (path_reads s p) _ (has_first _ _ _ (has_first _ _ _ (has_first (path_reads s p) _ _ (has_self (path_reads s p))))) (has_second (path_reads s p ++ room_uses t s r index ++ made_where (not_extending b) (description_made t k)) _ _ (at (walk s.nodes p))))
-      (has_first _ _ _ (has_first _ _ _ (has_second (path_reads s p) _ _ (room_has p g index))))
+      (has_first _ _ _ (has_first _ _ _ (has_second (path_reads s p) _ _ (room_has index))))
     where
       whole : Footprint
-      whole = row t k r s (not_extending b) (openat p g index)
+      whole = shape_row t k r s (not_extending b) (opening p g index)
 
       placed : (q : Place) (y : Option Target) → Has (open_uses t k (not_extending b) g q y) (opened_taken g q y)
       placed q None = elim g.create as (λ c. Has (cond c (name_written q ++ made_where (not_extending b) (writes (one (size_of (made_node t k))) ∷ [])) []) (cond c (name_written q) [])) [ true ↦ has_first (name_written q) _ _ (has_self (name_written q)) | false ↦ has_nothing [] ]
@@ -99,30 +101,33 @@ module _ (t : Trace) (k r : ℕ) (s : World) where
       at (Ok q) = placed q q.target
       at (Err e) = has_nothing []
 
-  mkdir_has : (b : Bool) (p : Path) → Has (row t k r s (not_extending b) (mkdirat p)) (taken t r s (mkdirat p))
+  mkdir_has : (b : Bool) (p : Path) → Has (shape_row t k r s (not_extending b) (making p)) (shape_taken t r s (making p))
   mkdir_has b p = has_both (path_reads s p) _ (path_reads s p) _ (has_self _) (at (walk s.nodes p))
     where
       at : (w : Result Place Errno) → Has (each_ok (λ (q : Place). name_written q ++ made_where (not_extending b) (writes (one (names_in (made_node t k))) ∷ [])) w) (each_ok name_written w)
       at (Ok q) = has_first (name_written q) _ _ (has_self (name_written q))
       at (Err e) = has_nothing []
 
+  moved_has : (b w : Bool) (f : File) (o n : ℕ) → Has (transfer_row t s r (not_extending b) w f o n) (transfer_taken t s r w f o n)
+  moved_has b false f o n = has_self _
+  moved_has b true f o n = write_has b f o n
+
+  shape_has : (b : Bool) (x : Shape) → Has (shape_row t k r s (not_extending b) x) (shape_items x)
+  shape_has b idle = has_nothing _
+  shape_has b (looking f) = only (looking f) _ (has_self _)
+  shape_has b (moving w f o n None) = only (moving w f o n None) _ (moved_has b w f o n)
+  shape_has b (moving w f o n (Some x)) = only (moving w f o n (Some x)) _ (has_both _ (span_use (not w) t r x) _ (span_use (not w) t r x) (moved_has b w f o n) (has_self _))
+  shape_has b (allocating f o n mode) = only (allocating f o n mode) _ (has_on_file f _ _ (λ i h. allocation_has o n i (allocation mode)))
+  shape_has b (resizing f n) = only (resizing f n) _ (has_self _)
+  shape_has b (closing number index) = only (closing number index) _ (has_self _)
+  shape_has b (opening p g index) = open_has b p g index
+  shape_has b (making p) = only (making p) _ (mkdir_has b p)
+  shape_has b (freeing p removes) = only (freeing p removes) _ (has_self _)
+  shape_has b (linking old new) = only (linking old new) _ (has_self _)
+  shape_has b (renaming old new) = only (renaming old new) _ (has_self _)
+
   row_has : (b : Bool) (o : Operation) → Has (row t k r s (not_extending b) o) (accepted_items o)
-  row_has b nop = has_nothing _
-  row_has b (readv f o n) = only (readv f o n) _ (has_self _)
-  row_has b (writev f o new) = only (writev f o new) _ (write_has b f o (length new))
-  row_has b (fsync f) = only (fsync f) _ (has_self _)
-  row_has b (read_fixed f o x) = only (read_fixed f o x) _ (has_self _)
-  row_has b (write_fixed f o x) = only (write_fixed f o x) _ (has_both _ (span_use false t r x) _ (span_use false t r x) (write_has b f o (min x.length most_moved)) (has_self _))
-  row_has b (fallocate f o n mode) = only (fallocate f o n mode) _ (has_on_file f _ _ (λ i h. allocation_has o n i (allocation mode)))
-  row_has b (openat p g index) = open_has b p g index
-  row_has b (close number index) = only (close number index) _ (has_self _)
-  row_has b (read f o n) = only (read f o n) _ (has_self _)
-  row_has b (write f o new) = only (write f o new) _ (write_has b f o (length new))
-  row_has b (renameat old new flags) = only (renameat old new flags) _ (has_self _)
-  row_has b (unlinkat p removes) = only (unlinkat p removes) _ (has_self _)
-  row_has b (mkdirat p) = only (mkdirat p) _ (mkdir_has b p)
-  row_has b (linkat old new) = only (linkat old new) _ (has_self _)
-  row_has b (ftruncate f n) = only (ftruncate f n) _ (has_self _)
+  row_has b o = shape_has b (shape o)
 
   in_row : (b : Bool) (f : Footprint) → Has (cond b f (as_reads f)) f
   in_row true f = has_self f
@@ -141,10 +146,10 @@ module _ (t : Trace) (k : ℕ) (s u : World) where
   ]
 
   -- The room of openat has all descriptors in both worlds.
-  rooms : (r : ℕ) (o : Operation) → Has (room_taken t u r [] o) (room_taken t s r [] o)
-  rooms r (openat p g zero) = record { has = λ a h. either_left (member_of all_descriptors a) _ (any_room (lowest_free t s) a h) }
-  rooms r (openat p g (suc n)) = has_self (room_uses t s r (suc n))
-  rooms r _ = has_nothing []
+  rooms : (r : ℕ) (x : Option ℕ) → Has (each (room_at t u r (written_by [])) x) (each (room_at t s r (written_by [])) x)
+  rooms r None = has_nothing []
+  rooms r (Some zero) = record { has = λ a h. either_left (member_of all_descriptors a) _ (any_room (lowest_free t s) a h) }
+  rooms r (Some (suc n)) = has_self (room_uses t s r (suc n))
 
   operation_items : (r : ℕ) (o : Operation) → taken t r u o ≡ taken t r s o → Has (makes t k o ++ row_in t k r u o) (row_in t k r s o)
   operation_items r o same = record { has = at }
@@ -158,7 +163,7 @@ module _ (t : Trace) (k : ℕ) (s u : World) where
             | inl m ↦ from_row a (in_left (λ (v : Use). member_of v.item a) (taken t r u o) (room_taken t u r [] o) (subst (λ f. T (has_atom f a)) (sym same) m))
             | inr m ↦ elim (split (λ (v : Use). member_of v.item a) (makes t k o) (room_taken t s r [] o) m) [
               | inl n ↦ in_left (λ (v : Use). member_of v.item a) (makes t k o) (row_in t k r u o) n
-              | inr n ↦ from_row a (in_right (λ (v : Use). member_of v.item a) (taken t r u o) (room_taken t u r [] o) ((rooms r o).has a n))
+              | inr n ↦ from_row a (in_right (λ (v : Use). member_of v.item a) (taken t r u o) (room_taken t u r [] o) ((rooms r (room_asked o)).has a n))
             ]
           ]
 

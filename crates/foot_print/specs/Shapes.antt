@@ -1,0 +1,20 @@
+-- A view of code: the shape of an operation that a value of the program stands for.
+use Rattle.std.specs.Option.{option_map}
+use Rattle.entry_checks.specs.Meant.{file_meant, flags_meant, path_meant, span_meant}
+use Rattle.foot_print.specs.declared.shape.Shape.{Shape}
+use Rattle.foot_print.specs.declared.shape.Shape.TheVariants as code
+use Rattle.op_meaning.specs.Footprint as model
+use Rattle.op_meaning.specs.Footprint.{idle, looking, moving, allocating, resizing, closing, opening, making, freeing, linking, renaming}
+
+abbrev pub shape_meant : Shape → model.Shape
+shape_meant code.Idle = idle
+shape_meant (code.Looking f) = looking (file_meant f)
+shape_meant (code.Moving w f o n x) = moving w (file_meant f) o n (option_map span_meant x)
+shape_meant (code.Allocating f o n mode) = allocating (file_meant f) o n mode
+shape_meant (code.Resizing f n) = resizing (file_meant f) n
+shape_meant (code.Closing number index) = closing number index
+shape_meant (code.Opening p g index) = opening (path_meant p) (flags_meant g) index
+shape_meant (code.Making p) = making (path_meant p)
+shape_meant (code.Freeing p removes) = freeing (path_meant p) removes
+shape_meant (code.Linking old new) = linking (path_meant old) (path_meant new)
+shape_meant (code.Renaming old new) = renaming (path_meant old) (path_meant new)
