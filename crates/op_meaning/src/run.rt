@@ -189,16 +189,7 @@ fn asked(op: &Op<'_>) -> Option<u64>
             Some(u64::from(span.length).min(most))
         }
         Op::Writev { bytes, .. } | Op::Write { bytes, .. } => Some(bytes.len() as u64),
-        Op::Nop
-        | Op::Fsync { .. }
-        | Op::Fallocate { .. }
-        | Op::Openat { .. }
-        | Op::Close { .. }
-        | Op::Renameat { .. }
-        | Op::Unlinkat { .. }
-        | Op::Mkdirat { .. }
-        | Op::Linkat { .. }
-        | Op::Ftruncate { .. } => None,
+        _ => None,
     }
 }
 
