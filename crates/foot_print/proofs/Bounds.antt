@@ -18,12 +18,12 @@ use Rattle.file_tree.specs.Tree.{Target, kind_of_node}
 use Rattle.file_tree.specs.Walk.{Place, walk, walk_from, names_from, directory_at, fits_name, starts_at_root, is_directory}
 use Rattle.op_meaning.specs.Meaning.{made_node, made_description, slot_count, span_start, Handle, handle_of, held, is_file, allocation, Allocation, extend, reserve, punch, zero_extend, zero_within}
 use Rattle.world_parts.specs.Items.{Atom, description_at, position_of, size_of, byte_at, name_at, names_in, buffer_byte, Item, one, file_bytes, buffer_bytes, member_of, Use, reads, writes, Footprint, has_atom}
-use Rattle.op_meaning.specs.Footprint.{Shape, idle, looking, moving, allocating, resizing, closing, opening, making, freeing, linking, renaming, shape, through, use_of, held_item, file_reads, of_file, of_description, on_file, range_of, transfer_range, position_written, position_use, span_use, path_reads, name_written, directory_names, close_row}
-use Rattle.foot_print.specs.Reach.{transfer_taken, shape_taken, taken, write_content, allocated, opened_taken}
+use Rattle.op_meaning.specs.Footprint.{Shape, idle, looking, moving, allocating, resizing, closing, opening, making, freeing, linking, renaming, shape, through, foreseen, transfer_row, shape_row, write_row, allocation_uses, open_uses, use_of, held_item, file_reads, of_file, of_description, on_file, range_of, transfer_range, position_written, position_use, span_use, path_reads, name_written, directory_names, close_row}
+use Rattle.foot_print.specs.Reach.{taken}
 use Rattle.foot_print.specs.Replayed.{IsBefore, is_earlier}
 use Rattle.world_parts.proofs.Collision.{same_atom-eq}
 use Rattle.foot_print.proofs.Holding.{split, drop_false}
-use Rattle.foot_print.proofs.RowsSeen.{read_content, cut_content}
+use Rattle.foot_print.proofs.RowsSeen.{read_content, write_content, cut_content, allocated}
 
 none_some : {A : Type 0} (o : Option A) → o ≡ None → is_some o ≡ true → ⊥
 none_some o e h = subst T (sym h ∙ ap is_some e) tt
@@ -131,7 +131,7 @@ module _ (t : Trace) (k : ℕ) (s : World) (w : IsWorld s) (before : IsBefore t 
     bound_read f o n = bound_transfer f o (read_content o n) (λ i h e d. bound_all (reads (one (size_of i)) ∷ []) (reads (transfer_range i (o == at_position) o n) ∷ position_written h o) (bound_one (size_of i) false e)
         (bound_all (reads (transfer_range i (o == at_position) o n) ∷ []) (position_written h o) (bound_transferred false (o == at_position) i o n e) (bound_position o h d)))
 
-    bound_write : (f : File) (o n : ℕ) → Bound (Rattle.foot_print.specs.Reach.write_taken t s r f o n)
+    bound_write : (f : File) (o n : ℕ) → Bound (write_row t s r foreseen f o n)
     bound_write f o n = bound_transfer f o (write_content o n) (λ i h e d. bound_all (writes (one (size_of i)) ∷ []) (writes (transfer_range i (h.opened.append || o == at_position) o n) ∷ position_written h o) (bound_one (size_of i) true e)
         (bound_all (writes (transfer_range i (h.opened.append || o == at_position) o n) ∷ []) (position_written h o) (bound_transferred true (h.opened.append || o == at_position) i o n e) (bound_position o h d)))
 
@@ -142,13 +142,13 @@ module _ (t : Trace) (k : ℕ) (s : World) (w : IsWorld s) (before : IsBefore t 
         at None = bound_nothing
         at (Some p) = bound_buffer r x.index p (p + x.length) v
 
-    bound_allocated : (o n i : ℕ) (a : Option Allocation) → T (ltb i (made_node t k)) → Bound (allocated o n i a)
-    bound_allocated o n i (Some extend) e = bound_one (size_of i) true e
-    bound_allocated o n i (Some reserve) e = bound_one (size_of i) false e
-    bound_allocated o n i (Some punch) e = bound_all (reads (one (size_of i)) ∷ []) (writes (range_of i o (o + n)) ∷ []) (bound_one (size_of i) false e) (bound_range i o (min (o + n) file_limit) true e)
-    bound_allocated o n i (Some zero_extend) e = bound_all (writes (one (size_of i)) ∷ []) (writes (range_of i o (o + n)) ∷ []) (bound_one (size_of i) true e) (bound_range i o (min (o + n) file_limit) true e)
-    bound_allocated o n i (Some zero_within) e = bound_all (reads (one (size_of i)) ∷ []) (writes (range_of i o (o + n)) ∷ []) (bound_one (size_of i) false e) (bound_range i o (min (o + n) file_limit) true e)
-    bound_allocated o n i None e = bound_one (size_of i) false e
+    bound_allocation : (i at end : ℕ) (a : Option Allocation) → T (ltb i (made_node t k)) → Bound (allocation_uses true i at end a)
+    bound_allocation i at end (Some extend) e = bound_one (size_of i) true e
+    bound_allocation i at end (Some reserve) e = bound_one (size_of i) false e
+    bound_allocation i at end (Some punch) e = bound_all (reads (one (size_of i)) ∷ []) (writes (range_of i at end) ∷ []) (bound_one (size_of i) false e) (bound_range i at (min end file_limit) true e)
+    bound_allocation i at end (Some zero_extend) e = bound_all (writes (one (size_of i)) ∷ []) (writes (range_of i at end) ∷ []) (bound_one (size_of i) true e) (bound_range i at (min end file_limit) true e)
+    bound_allocation i at end (Some zero_within) e = bound_all (reads (one (size_of i)) ∷ []) (writes (range_of i at end) ∷ []) (bound_one (size_of i) false e) (bound_range i at (min end file_limit) true e)
+    bound_allocation i at end None e = bound_one (size_of i) false e
 
     bound_cut : (i n : ℕ) → T (ltb i (made_node t k)) → Bound (writes (one (size_of i)) ∷ writes (range_of i n file_limit) ∷ [])
     bound_cut i n e = bound_all (writes (one (size_of i)) ∷ []) (writes (range_of i n file_limit) ∷ []) (bound_one (size_of i) true e) (bound_range i n (min file_limit file_limit) true e)
@@ -219,8 +219,8 @@ module _ (t : Trace) (k : ℕ) (s : World) (w : IsWorld s) (before : IsBefore t 
     bound_removed true y l = bound_directory y l
     bound_removed false y l = bound_nothing
 
-    bound_opened : (g : OpenFlags) (q : Place) → T (ltb q.parent (made_node t k)) → (y : Option Target) → IfSome y (λ (x : Target). T (ltb x.node (made_node t k))) → Bound (opened_taken g q y)
-    bound_opened g q e None l = elim g.create as (λ b. Bound (cond b (name_written q) [])) [ true ↦ bound_name q e | false ↦ bound_nothing ]
+    bound_opened : (g : OpenFlags) (q : Place) → T (ltb q.parent (made_node t k)) → (y : Option Target) → IfSome y (λ (x : Target). T (ltb x.node (made_node t k))) → Bound (open_uses t k foreseen g q y)
+    bound_opened g q e None l = elim g.create as (λ b. Bound (cond b (name_written q ++ []) [])) [ true ↦ bound_all (name_written q) [] (bound_name q e) bound_nothing | false ↦ bound_nothing ]
     bound_opened g q e (Some y) l = elim (g.truncate && not (is_directory y.kind)) as (λ b. Bound (cond b (writes (one (size_of y.node)) ∷ writes (range_of y.node 0 file_limit) ∷ []) [])) [ true ↦ bound_cut y.node 0 l | false ↦ bound_nothing ]
 
     bound_close : (number : ℤ) (index : ℕ) → Bound (close_row t r number index)
@@ -230,25 +230,25 @@ module _ (t : Trace) (k : ℕ) (s : World) (w : IsWorld s) (before : IsBefore t 
     bound_paths : (old new : Path) → Bound (path_reads s old ++ path_reads s new)
     bound_paths old new = bound_all (path_reads s old) _ (bound_path old) (bound_path new)
 
-    bound_moved : (w : Bool) (f : File) (o n : ℕ) → Bound (transfer_taken t s r w f o n)
+    bound_moved : (w : Bool) (f : File) (o n : ℕ) → Bound (transfer_row t s r foreseen w f o n)
     bound_moved false f o n = bound_read f o n
     bound_moved true f o n = bound_write f o n
 
-    shape_bound : (x : Shape) → Bound (shape_taken t r s x)
+    shape_bound : (x : Shape) → Bound (shape_row t k r s foreseen x)
     shape_bound idle = bound_nothing
     shape_bound (looking f) = bound_held false r f.registered f.number
     shape_bound (moving w f o n None) = bound_moved w f o n
     shape_bound (moving w f o n (Some x)) = bound_all _ (span_use (not w) t r x) (bound_moved w f o n) (bound_span (not w) x)
-    shape_bound (allocating f o n mode) = bound_file f (λ i h. allocated o n i (allocation mode)) (λ i h e d. bound_allocated o n i (allocation mode) e)
+    shape_bound (allocating f o n mode) = bound_file f (allocated o n mode) (λ i h e d. bound_allocation i o (o + n) (allocation mode) e)
     shape_bound (resizing f n) = bound_file f (cut_content n) (λ i h e d. bound_cut i n e)
     shape_bound (closing number index) = bound_close number index
-    shape_bound (opening p g index) = bound_all (path_reads s p) _ (bound_path p) (bound_place (λ (q : Place). opened_taken g q q.target) (λ q e l. bound_opened g q e q.target l) (walk s.nodes p) (placed p))
-    shape_bound (making p) = bound_all (path_reads s p) _ (bound_path p) (bound_place name_written (λ q e l. bound_name q e) (walk s.nodes p) (placed p))
+    shape_bound (opening p g index) = bound_all ((path_reads s p ++ []) ++ []) _ (bound_all (path_reads s p ++ []) [] (bound_all (path_reads s p) [] (bound_path p) bound_nothing) bound_nothing) (bound_place (λ (q : Place). open_uses t k foreseen g q q.target) (λ q e l. bound_opened g q e q.target l) (walk s.nodes p) (placed p))
+    shape_bound (making p) = bound_all (path_reads s p) _ (bound_path p) (bound_place (λ (q : Place). name_written q ++ []) (λ q e l. bound_all (name_written q) [] (bound_name q e) bound_nothing) (walk s.nodes p) (placed p))
     shape_bound (freeing p removes) = bound_all (path_reads s p) _ (bound_path p) (bound_place (λ (q : Place). name_written q ++ cond removes (directory_names q.target) []) (λ q e l. bound_all (name_written q) _ (bound_name q e) (bound_removed removes q.target l)) (walk s.nodes p) (placed p))
     shape_bound (linking old new) = bound_all (path_reads s old ++ path_reads s new) _ (bound_paths old new) (bound_place name_written (λ q e l. bound_name q e) (walk s.nodes new) (placed new))
     shape_bound (renaming old new) = bound_all (path_reads s old ++ path_reads s new ++ each_ok name_written (walk s.nodes old)) _
         (bound_all (path_reads s old ++ path_reads s new) _ (bound_paths old new) (bound_place name_written (λ q e l. bound_name q e) (walk s.nodes old) (placed old)))
         (bound_place (λ (q : Place). name_written q ++ directory_names q.target) (λ q e l. bound_all (name_written q) _ (bound_name q e) (bound_directory q.target l)) (walk s.nodes new) (placed new))
 
-    pub taken_bound : (o : Operation) (a : Atom) → T (has_atom (taken t r s o) a) → T (is_earlier t k a)
+    pub taken_bound : (o : Operation) (a : Atom) → T (has_atom (taken t k r s o) a) → T (is_earlier t k a)
     taken_bound o = shape_bound (shape o)

@@ -13,7 +13,7 @@ use Rattle.file_tree.specs.Tree.{a_directory, Target}
 use Rattle.file_tree.specs.Walk.{Place, walk, is_directory}
 use Rattle.op_meaning.specs.Meaning.{Effect, done, made_node, new_directory, has_names, may_remove, goes_below, exchange_meaning, exchanged, move_meaning, moved_name, may_replace, rename_to}
 use Rattle.world_parts.specs.Items.{name_at, names_in, one, reads, writes, Footprint, writes_atom, Agree, Holds}
-use Rattle.op_meaning.specs.Footprint.{made_where, name_written, path_reads, directory_names}
+use Rattle.op_meaning.specs.Footprint.{tried, made_where, name_written, path_reads, directory_names}
 use Rattle.foot_print.specs.Laws.{Awaits, Unused}
 use Rattle.world_parts.proofs.Collision.{either_left}
 use Rattle.foot_print.proofs.Agreement.{agree_left, agree_right, agree_head}
@@ -22,7 +22,7 @@ use Rattle.world_parts.proofs.Collision.{same_atom_refl}
 use Rattle.world_parts.proofs.ChangesOfNames.{Leads, naming-kind}
 use Rattle.world_parts.proofs.ChangesOfMaking.{made-kind}
 use Rattle.foot_print.proofs.CoverChanges.{SupportsAll}
-use Rattle.foot_print.proofs.CoverOperation.{taken, RowTells, RowSupports, Owes}
+use Rattle.foot_print.proofs.CoverOperation.{RowTells, RowSupports, Owes}
 use Rattle.foot_print.proofs.CoverWalk.{walk_same, names_on_same, path_reads_same, walk_leads}
 use Rattle.foot_print.proofs.Accepted.{err_apart, ok_bind, ok_then, ok_require, ok_some, of_done, holds_left, holds_right, holds_over, holds_ok}
 
@@ -55,7 +55,7 @@ mkdirat_tells t k r s u p x a =
     let walked = walk_same s u p path in
     record {
       same_meaning = λ i. walked i >>= λ q. require (is_none q.target) EEXIST >> Ok (done (make_node (made_node t k) a_directory ∷ set_name q.parent q.name (Some (new_directory (made_node t k))) ∷ []));
-      same_row = λ y i. path_reads_same s u p path i ++ each_ok (λ (q : Place). name_written q ++ made_where (taken y) (writes (one (names_in (made_node t k))) ∷ [])) (walked i);
+      same_row = λ y i. path_reads_same s u p path i ++ each_ok (λ (q : Place). name_written q ++ made_where (tried y) (writes (one (names_in (made_node t k))) ∷ [])) (walked i);
     }
 
 mkdirat_supports : (t : Trace) (k r : ℕ) (s : World) (p : Path) → Unused t k s → RowSupports t k r s (mkdirat p)

@@ -16,7 +16,7 @@ use Rattle.extent_bytes.specs.Bytes.{resized}
 use Rattle.file_tree.specs.Walk.{Place, walk, is_directory}
 use Rattle.op_meaning.specs.Meaning.{Effect, made_node, made_description, slot_count, Room, in_slot, at_descriptor, lowest_free, room, filled, may_open, found_or_made, open_changes, opened_with, open_as}
 use Rattle.world_parts.specs.Items.{slot_at, descriptor_at, description_at, position_of, size_of, byte_at, one, all_descriptors, reads, writes, Footprint, has_atom, writes_atom, Agree, Holds}
-use Rattle.op_meaning.specs.Footprint.{row, made_where, name_written, path_reads, range_of, room_uses, description_made, open_uses}
+use Rattle.op_meaning.specs.Footprint.{tried, row, made_where, name_written, path_reads, range_of, room_uses, description_made, open_uses}
 use Rattle.foot_print.specs.Laws.{Awaits, Unused}
 use Rattle.world_parts.proofs.Collision.{both, either_left}
 use Rattle.foot_print.proofs.Agreement.{agree_left, agree_right}
@@ -24,7 +24,7 @@ use Rattle.world_parts.proofs.Changes.{rewriting-kind}
 use Rattle.world_parts.proofs.ChangesOfNames.{Leads, naming-kind}
 use Rattle.world_parts.proofs.ChangesOfMaking.{made-kind}
 use Rattle.foot_print.proofs.CoverChanges.{SupportsAll}
-use Rattle.foot_print.proofs.CoverOperation.{taken, RowTells, RowSupports, Owes}
+use Rattle.foot_print.proofs.CoverOperation.{RowTells, RowSupports, Owes}
 use Rattle.foot_print.proofs.CoverWalk.{walk_same, path_reads_same, walk_leads}
 use Rattle.foot_print.proofs.CoverNames.{name_supported}
 use Rattle.foot_print.proofs.Awaiting.{node_unused}
@@ -46,8 +46,8 @@ module _ (t : Trace) (s u : World) (r : ℕ) where
 
 openat_tells : (t : Trace) (k r : ℕ) (s u : World) (p : Path) (g : OpenFlags) (index : ℕ) → RowTells t k r s u (openat p g index)
 openat_tells t k r s u p g index x a =
-    let made = made_where (taken x) (description_made t k) in
-    let at_place = each_ok (λ (q : Place). open_uses t k (taken x) g q q.target) (walk s.nodes p) in
+    let made = made_where (tried x) (description_made t k) in
+    let at_place = each_ok (λ (q : Place). open_uses t k (tried x) g q q.target) (walk s.nodes p) in
     let before = agree_left s u (path_reads s p ++ room_uses t s r index) made (agree_left s u (path_reads s p ++ room_uses t s r index ++ made) at_place a) in
     let path = agree_left s u (path_reads s p) (room_uses t s r index) before in
     let rooms = agree_right s u (path_reads s p) (room_uses t s r index) before in
@@ -55,7 +55,7 @@ openat_tells t k r s u p g index x a =
     let in_room = room_same t s u r index rooms in
     record {
       same_meaning = λ i. in_room i >>= λ at. walked i >>= λ q. may_open g q.target >> Ok (open_as t k r g at q);
-      same_row = λ y i. path_reads_same s u p path i ++ room_uses_same t s u r index rooms i ++ made_where (taken y) (description_made t k) ++ each_ok (λ (q : Place). open_uses t k (taken y) g q q.target) (walked i);
+      same_row = λ y i. path_reads_same s u p path i ++ room_uses_same t s u r index rooms i ++ made_where (tried y) (description_made t k) ++ each_ok (λ (q : Place). open_uses t k (tried y) g q q.target) (walked i);
     }
 
 -- The row writes the room that is filled.
@@ -116,7 +116,7 @@ module _ (t : Trace) (k : ℕ) (s : World) (g : OpenFlags) (w : Unused t k s) (q
       below None c = tt
       below (Some n) c = λ p a b. h.writes (byte_at y.node p) (either_left _ _ (both (y.node == y.node) _ (eqb_refl y.node) (both (leb 0 p) _ (le→leb 0 p a) (lt→ltb p _ (omega arith)))))
 
-  found_supported : (y : Target) → kind s y.node ≡ y.kind → (T g.truncate → is_directory y.kind ≡ false) → Holds f (open_uses t k (taken true) g q (Some y)) → SupportsAll f s (open_changes g m q (Some y) ++ make_description d (opened_with g y) ∷ last)
+  found_supported : (y : Target) → kind s y.node ≡ y.kind → (T g.truncate → is_directory y.kind ≡ false) → Holds f (open_uses t k (tried true) g q (Some y)) → SupportsAll f s (open_changes g m q (Some y) ++ make_description d (opened_with g y) ∷ last)
   found_supported y l c h = by g.truncate c h
     where
       whole : Footprint
@@ -126,7 +126,7 @@ module _ (t : Trace) (k : ℕ) (s : World) (g : OpenFlags) (w : Unused t k s) (q
       by true c h = cut_supported y l (subst (λ x. Holds f (cond (not x) whole [])) (c tt) h)
       by false c h = described s y l
 
-  target_supported : (z : Option Target) → Leads s z → T (is_ok (may_open g z)) → Holds f (open_uses t k (taken true) g q z) → SupportsAll f s (open_changes g m q z ++ make_description d (opened_with g (found_or_made m z)) ∷ last)
+  target_supported : (z : Option Target) → Leads s z → T (is_ok (may_open g z)) → Holds f (open_uses t k (tried true) g q z) → SupportsAll f s (open_changes g m q z ++ make_description d (opened_with g (found_or_made m z)) ∷ last)
   target_supported None l c h = by g.create c h
     where
       by : (b : Bool) → T (is_ok (require b ENOENT)) → Holds f (cond b (name_written q ++ writes (one (size_of m)) ∷ []) []) → SupportsAll f s (open_changes g m q None ++ make_description d (opened_with g (found_or_made m None)) ∷ last)
@@ -135,13 +135,13 @@ module _ (t : Trace) (k : ℕ) (s : World) (g : OpenFlags) (w : Unused t k s) (q
   target_supported (Some y) l c h = found_supported y l (cuts_a_file (is_directory y.kind) g.create g.truncate (not (g.access == 0)) (second_test _ _ _ c)) h
 
 openat_supports : (t : Trace) (k r : ℕ) (s : World) (p : Path) (g : OpenFlags) (index : ℕ) → Unused t k s
-    → ((i : ℕ) → T (has_atom (row t k r s (taken true) (openat p g index)) (size_of i)) → IfSome (size s i) (λ n. n ≤ file_limit)) → RowSupports t k r s (openat p g index)
+    → ((i : ℕ) → T (has_atom (row t k r s (tried true) (openat p g index)) (size_of i)) → IfSome (size s i) (λ n. n ≤ file_limit)) → RowSupports t k r s (openat p g index)
 openat_supports t k r s p g index w fits e h =
     let at = ok_bind (room t s r index) _ e h in
     let q = ok_bind (walk s.nodes p) _ e at.2 in
     let last = ok_then (may_open g q.0.target) _ e q.2 in
     let made = description_made t k in
-    let uses : Place → Footprint = λ x. open_uses t k (taken true) g x x.target in
+    let uses : Place → Footprint = λ x. open_uses t k (tried true) g x x.target in
     let places = each_ok uses (walk s.nodes p) in
     let looks = path_reads s p ++ room_uses t s r index in
     let row_is = looks ++ made ++ places in
@@ -154,5 +154,5 @@ openat_supports t k r s p g index w fits e h =
 pub openat_owes : (t : Trace) (k r : ℕ) (s : World) (p : Path) (g : OpenFlags) (index : ℕ) → Awaits t k s → Owes t k r (openat p g index) s
 openat_owes t k r s p g index w = record {
   tells = λ u. openat_tells t k r s u p g index;
-  supports = λ u v a. openat_supports t k r u p g index v (sizes_fit (row t k r u (taken true) (openat p g index)) s u w.is_world (subst (λ f. Agree f s u) (sym ((openat_tells t k r s u p g index true a).same_row true)) a));
+  supports = λ u v a. openat_supports t k r u p g index v (sizes_fit (row t k r u (tried true) (openat p g index)) s u w.is_world (subst (λ f. Agree f s u) (sym ((openat_tells t k r s u p g index true a).same_row true)) a));
 }

@@ -16,7 +16,7 @@ use Rattle.world_parts.specs.World.{World, Change, break_chain, apply, apply_all
 use Rattle.op_meaning.specs.Meaning.{Effect, meaning}
 use Rattle.op_meaning.specs.Step.{Turn, runs, turn, step_world, step_changes, changes_in, changes_of, breaks}
 use Rattle.world_parts.specs.Items.{Atom, chain_flag, member_of, value, one, Use, writes, Footprint, has_atom, writes_atom, Agree, Holds}
-use Rattle.op_meaning.specs.Footprint.{Taken, row, row_in, as_reads, order_uses, turn_uses, ring_at, footprint}
+use Rattle.op_meaning.specs.Footprint.{tried, row, row_in, as_reads, order_uses, turn_uses, ring_at, footprint}
 use Rattle.foot_print.specs.Laws.{Awaits, Unused, Covers}
 use Rattle.world_parts.proofs.Collision.{either_left, either_right, true_of}
 use Rattle.foot_print.proofs.Agreement.{in_left, in_right, agree_taken}
@@ -77,22 +77,18 @@ pub same_run : (r q : ℕ) (e d : Entry) (o p : Operation) → Some (runs r e o)
 unfolding ring_run operation_run
 same_run r q e d o p h = λ i. (ring_run (h i), operation_run (h i))
 
--- A row taken as accepted, or as refused.
-abbrev pub taken : Bool → Taken
-taken b = record { accepted = b; extending = false }
-
 -- What a row tells of an operation: its meaning, and the row itself.
 pub record Tells (t : Trace) (k r : ℕ) (s u : World) (o : Operation) : Type 0 where
   pub same_meaning : meaning t k r u o ≡ meaning t k r s o
-  pub same_row : (b : Bool) → row t k r u (taken b) o ≡ row t k r s (taken b) o
+  pub same_row : (b : Bool) → row t k r u (tried b) o ≡ row t k r s (tried b) o
 
 -- Worlds that agree on the row have the same meaning and row.
 abbrev pub RowTells : Trace → ℕ → ℕ → World → World → Operation → Type 0
-RowTells t k r s u o = (b : Bool) → Agree (row t k r s (taken b) o) s u → Tells t k r s u o
+RowTells t k r s u o = (b : Bool) → Agree (row t k r s (tried b) o) s u → Tells t k r s u o
 
 -- The row of an accepted operation supports its changes.
 abbrev pub RowSupports : Trace → ℕ → ℕ → World → Operation → Type 0
-RowSupports t k r s o = (x : Effect) → meaning t k r s o ≡ Ok x → SupportsAll (row t k r s (taken true) o) s x.changes
+RowSupports t k r s o = (x : Effect) → meaning t k r s o ≡ Ok x → SupportsAll (row t k r s (tried true) o) s x.changes
 
 module _ (t : Trace) (k r : ℕ) (s : World) (o : Operation) where
   told : (u : World) → RowTells t k r s u o → Agree (row_in t k r s o) s u → Tells t k r s u o
@@ -106,7 +102,7 @@ module _ (t : Trace) (k r : ℕ) (s : World) (o : Operation) where
         same_row = λ i. cond (is_ok (x.same_meaning i)) (x.same_row (is_ok (x.same_meaning i)) i) (as_reads (x.same_row (is_ok (x.same_meaning i)) i));
       }
 
-  supported : (u : World) (F : Footprint) → RowTells t k r s u o → (Agree (row t k r s (taken true) o) s u → RowSupports t k r u o) → Agree (row_in t k r s o) s u → Holds F (row_in t k r s o) → SupportsAll F u (changes_of (meaning t k r s o))
+  supported : (u : World) (F : Footprint) → RowTells t k r s u o → (Agree (row t k r s (tried true) o) s u → RowSupports t k r u o) → Agree (row_in t k r s o) s u → Holds F (row_in t k r s o) → SupportsAll F u (changes_of (meaning t k r s o))
   supported u F tells supports a holds = by (meaning t k r s o) refl
     where
       x : Tells t k r s u o
@@ -116,13 +112,13 @@ module _ (t : Trace) (k r : ℕ) (s : World) (o : Operation) where
       by (Err e) q = tt
       by (Ok y) q =
           let fine : is_ok (meaning t k r s o) ≡ true = ap is_ok q in
-          let row_is : row_in t k r s o ≡ row t k r s (taken true) o = λ i. cond (fine i) (row t k r s (taken (fine i)) o) (as_reads (row t k r s (taken (fine i)) o)) in
-          supports_all_held F (row t k r s (taken true) o) u y.changes (subst (Holds F) row_is holds)
+          let row_is : row_in t k r s o ≡ row t k r s (tried true) o = λ i. cond (fine i) (row t k r s (tried (fine i)) o) (as_reads (row t k r s (tried (fine i)) o)) in
+          supports_all_held F (row t k r s (tried true) o) u y.changes (subst (Holds F) row_is holds)
           (subst (λ f. SupportsAll f u y.changes) (x.same_row true) (supports (subst (λ f. Agree f s u) row_is a) y (x.same_meaning ∙ q)))
 
 -- The footprint of a place covers it where the row of the operation that it runs tells the meaning and supports the changes.
 pub operation_covers : (t : Trace) (k : ℕ) (s : World) (r : ℕ) (e : Entry) (o : Operation) → turn t k s ≡ Some (runs r e o)
-    → ((u : World) → RowTells t k r s u o) → ((u : World) → Unused t k u → Agree (row t k r s (taken true) o) s u → RowSupports t k r u o)
+    → ((u : World) → RowTells t k r s u o) → ((u : World) → Unused t k u → Agree (row t k r s (tried true) o) s u → RowSupports t k r u o)
     → Awaits t k s → Covers t k (footprint t k s) s
 operation_covers t k s r e o h tells supports w = covers t k s decides supports_changes w
   where
@@ -154,7 +150,7 @@ pub record Contains (f g : Footprint) : Type 0 where
 -- What an operation owes in a world: its row tells its meaning and itself to any world or part of one that agrees on it, and supports its changes there where it is accepted.
 pub record Owes (t : Trace) (k r : ℕ) (o : Operation) (s : World) : Type 0 where
   pub tells : (u : World) → RowTells t k r s u o
-  pub supports : (u : World) → Unused t k u → Agree (row t k r s (taken true) o) s u → RowSupports t k r u o
+  pub supports : (u : World) → Unused t k u → Agree (row t k r s (tried true) o) s u → RowSupports t k r u o
 
 -- What an accepted answer changes is supported where that of its effect is.
 pub supports_effect : (g : Footprint) (u : World) (x y : Effect) → ◌≡◌ {A = Result Effect Errno} (Ok x) (Ok y) → SupportsAll g u x.changes → SupportsAll g u y.changes

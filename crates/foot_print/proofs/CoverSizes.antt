@@ -1,5 +1,5 @@
 -- Operations that set a file's size or zero a range of it: fallocate and ftruncate.
-use Rattle.std.specs.Prelude.{◌≡◌, ℕ, Bool, true, false, not, ◌&&◌, ◌||◌, ◌==◌, ltb, leb, min, max, ◌+◌, ◌^◌, ◌<◌, ◌≤◌, ◌⊎◌, T, List, [], ◌∷◌, length, Option, Some, None, Result, Ok, ok_or, refl, unwrap_or, IfSome}
+use Rattle.std.specs.Prelude.{◌≡◌, ℕ, Bool, true, false, not, ◌&&◌, ◌==◌, ltb, leb, min, max, ◌+◌, ◌^◌, ◌<◌, ◌≤◌, ◌⊎◌, T, List, [], ◌∷◌, length, Option, Some, None, Result, Ok, ok_or, refl, unwrap_or, IfSome}
 use mathlib.Core.Path.{sym, subst, ap}
 use mathlib.Core.Logic.{inl, inr}
 use native.Mathlib.Omega.{arith}
@@ -12,7 +12,7 @@ use Rattle.entry_checks.specs.Operation.{fallocate, ftruncate, File, file_limit}
 use Rattle.world_parts.specs.World.{World, bytes, size, Change, apply, set_size, zero_bytes}
 use Rattle.op_meaning.specs.Meaning.{Effect, done, Handle, handle, can_write, bytes_in, Allocation, allocation, extend, reserve, punch, zero_extend, zero_within, allocate, extended}
 use Rattle.world_parts.specs.Items.{size_of, byte_at, value, member_of, within, one, Use, writes, Footprint, writes_atom, Agree}
-use Rattle.op_meaning.specs.Footprint.{use_of, range_of, would_extend, allocation_uses, on_file}
+use Rattle.op_meaning.specs.Footprint.{range_of, would_extend, allocation_uses, on_file}
 use Rattle.foot_print.specs.Laws.{Awaits}
 use Rattle.world_parts.proofs.Collision.{both, either_left, either_right, left, right}
 use Rattle.foot_print.proofs.Agreement.{agree_head}
@@ -28,9 +28,9 @@ written_in_range i low high p below above limit =
     either_left _ _ (both (i == i) (within low (min high file_limit) p) (eqb_refl i) (both (leb low p) (ltb p (min high file_limit)) (le→leb low p below) (lt→ltb p _ inside)))
 
 -- What an operation says of an allocation is the same where worlds agree on the file's size, which each has.
-module _ (s u : World) (extending : Bool) (i at end : ℕ) where
+module _ (s u : World) (i at end : ℕ) where
   abbrev uses : World → Option Allocation → Footprint
-  uses w a = allocation_uses w extending i at end a
+  uses w a = allocation_uses (would_extend w i end) i at end a
 
   has_size : (a : Option Allocation) → Agree (uses s a) s u → value s (size_of i) ≡ value u (size_of i)
   has_size (Some extend) h = agree_head s u (size_of i) _ _ h
@@ -41,12 +41,7 @@ module _ (s u : World) (extending : Bool) (i at end : ℕ) where
   has_size None h = agree_head s u (size_of i) _ _ h
 
   same_uses : (a : Option Allocation) → value s (size_of i) ≡ value u (size_of i) → uses u a ≡ uses s a
-  same_uses (Some extend) z = ap (λ m. use_of (extending || ltb m (min end file_limit)) (one (size_of i)) ∷ []) (length_same s u i z)
-  same_uses (Some reserve) z = refl
-  same_uses (Some punch) z = refl
-  same_uses (Some zero_extend) z = ap (λ m. use_of (extending || ltb m (min end file_limit)) (one (size_of i)) ∷ writes (range_of i at end) ∷ []) (length_same s u i z)
-  same_uses (Some zero_within) z = refl
-  same_uses None z = refl
+  same_uses a z = ap (λ m. allocation_uses (ltb m (min end file_limit)) i at end a) (length_same s u i z)
 
   same_allocate : (a : Allocation) → value s (size_of i) ≡ value u (size_of i) → allocate u i at end a ≡ allocate s i at end a
   same_allocate extend z = ap (λ m. set_size i (max m end) ∷ []) (length_same s u i z)
@@ -78,7 +73,7 @@ module _ (s : World) (g : Footprint) (i at end : ℕ) (fits : end ≤ file_limit
   zeros_supported : ((p : ℕ) → at ≤ p → p < end → T (writes_atom g (byte_at i p))) → (v : World) → SupportsAll g v (zero_bytes i at end ∷ [])
   zeros_supported w v = (λ p m. w p (leb→le at p (left _ _ m)) (ltb→lt p end (right (leb at p) _ m)), tt)
 
-  allocation_supported : (a : Allocation) → Contains g (allocation_uses s false i at end (Some a)) → SupportsAll g s (allocate s i at end a)
+  allocation_supported : (a : Allocation) → Contains g (allocation_uses (would_extend s i end) i at end (Some a)) → SupportsAll g s (allocate s i at end a)
   allocation_supported extend c = (growth_supported (λ h. c.uses (λ (x : Use). x.written && member_of x.item (size_of i)) (either_left _ _ (both (would_extend s i end) (i == i) h (eqb_refl i)))), tt)
   allocation_supported reserve c = tt
   allocation_supported punch c = zeros_supported (λ p b l. c.uses (λ (x : Use). x.written && member_of x.item (byte_at i p)) (written_in_range i at end p b l (omega arith))) s
@@ -106,8 +101,8 @@ fallocate_owes t k r s f o n mode w = record {
   tells = λ u d a. record {
     same_meaning = with_handle t s u r f (content s) (allocated s o n mode) (allocated u o n mode) a (λ h e b.
         allocated_same (ltb o (2 ^ 63) && not (n == 0) && ltb n (2 ^ 63)) (allocation mode) (can_write h.opened.access) (leb (o + n) file_limit) (allocate u h.opened.target.node o (o + n)) (allocate s h.opened.target.node o (o + n)) (λ c x.
-        same_allocate s u false h.opened.target.node o (o + n) x (has_size s u false h.opened.target.node o (o + n) (allocation mode) (on_its_file t s u (content s) h (writable_is_file h (handles_sound t s r f w.is_world h e) c) b))));
-    same_row = λ x. on_file_same t s u r f (content s) (content u) (λ h b. same_uses s u false h.opened.target.node o (o + n) (allocation mode) (has_size s u false h.opened.target.node o (o + n) (allocation mode) b)) a;
+        same_allocate s u h.opened.target.node o (o + n) x (has_size s u h.opened.target.node o (o + n) (allocation mode) (on_its_file t s u (content s) h (writable_is_file h (handles_sound t s r f w.is_world h e) c) b))));
+    same_row = λ x. on_file_same t s u r f (content s) (content u) (λ h b. same_uses s u h.opened.target.node o (o + n) (allocation mode) (has_size s u h.opened.target.node o (o + n) (allocation mode) b)) a;
   };
   supports = λ u v a e q.
       let m = was_ok (ok_or (handle t u r f) EBADF) (allocated u o n mode) e q in
@@ -119,13 +114,13 @@ fallocate_owes t k r s f o n mode w = record {
       let there = was_there (handle t u r f) EBADF m.0 m.1 in
       let here = was_there (allocation mode) EOPNOTSUPP x.0 x.1 in
       let whole : Contains (on_file t u r f (content u)) (content u i m.0) = record { uses = λ p d. in_on_file t u r f (content u) p m.0 there (writable_is_file m.0 (handles_sound_too t s u r f (content s) w.is_world a m.0 there) y.0) d } in
-      let part : Contains (on_file t u r f (content u)) (allocation_uses u false i o (o + n) (Some x.0)) = subst (λ b. Contains (on_file t u r f (content u)) (allocation_uses u false i o (o + n) b)) here whole in
+      let part : Contains (on_file t u r f (content u)) (allocation_uses (would_extend u i (o + n)) i o (o + n) (Some x.0)) = subst (λ b. Contains (on_file t u r f (content u)) (allocation_uses (would_extend u i (o + n)) i o (o + n) b)) here whole in
       let limit : o + n ≤ file_limit = leb→le (o + n) file_limit z.0 in
       supports_effect (on_file t u r f (content u)) u (done (allocate u i o (o + n) x.0)) e z.1 (allocation_supported u (on_file t u r f (content u)) i o (o + n) limit x.0 part);
 }
   where
     content : World → ℕ → Handle → Footprint
-    content s i h = allocation_uses s false i o (o + n) (allocation mode)
+    content s i h = allocation_uses (would_extend s i (o + n)) i o (o + n) (allocation mode)
 
 -- What ftruncate answers with a handle.
 abbrev truncated : ℕ → Handle → Result Effect Errno

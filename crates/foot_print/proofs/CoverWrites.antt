@@ -16,7 +16,7 @@ use Rattle.trace_format.specs.Sides.{most_moved}
 use Rattle.world_parts.specs.World.{World, IsWorld, bytes, size, position, buffer}
 use Rattle.op_meaning.specs.Meaning.{Effect, done, Handle, handle, can_write, is_bad_offset, transfer_start, write_start, write_effect, writable, write_meaning, bytes_in, span_start, span_bytes}
 use Rattle.world_parts.specs.Items.{Atom, member_of, size_of, byte_at, position_of, buffer_byte, within, one, Use, writes, Footprint, writes_atom, Agree}
-use Rattle.op_meaning.specs.Footprint.{Taken, use_of, on_file, transfer_range, position_written, position_use, would_extend, write_row, span_use}
+use Rattle.op_meaning.specs.Footprint.{Taken, tried, is_foreseen, use_of, on_file, transfer_range, position_written, position_use, would_extend, write_row, span_use}
 use Rattle.foot_print.specs.Laws.{Awaits}
 use Rattle.world_parts.proofs.Collision.{both, either_left, either_right, left, right}
 use Rattle.foot_print.proofs.Agreement.{in_left, agree_left, agree_right, agree_head, agree_tail, handle_same}
@@ -24,22 +24,22 @@ use Rattle.world_parts.proofs.Trees.{some_same, some_apart}
 use Rattle.foot_print.proofs.Answered.{ok_same, was_ok, was_required, was_there}
 use Rattle.foot_print.proofs.OpenFile.{with_handle, on_file_same, in_on_file, on_its_file, handles_sound, handles_sound_too, HandlesSound, writable_is_file, file_there, length_same, length_by_size}
 use Rattle.foot_print.proofs.CoverChanges.{SupportsAll}
-use Rattle.foot_print.proofs.CoverOperation.{Contains, taken, Owes, supports_effect}
+use Rattle.foot_print.proofs.CoverOperation.{Contains, Owes, supports_effect}
 use Rattle.foot_print.proofs.CoverReads.{advance_supported, position_is_written, in_span, offset_in_span}
 
 -- What a write of at most n bytes has of the file.
 abbrev pub content : World → Bool → ℕ → ℕ → ℕ → Handle → Footprint
 content s ext o n i h =
     let anywhere = h.opened.append || o == at_position in
-    use_of (anywhere || ext || (not (n == 0) && would_extend s i (o + n))) (one (size_of i)) ∷ writes (transfer_range i anywhere o n) ∷ position_written h o
+    use_of (ext || anywhere || (not (n == 0) && would_extend s i (o + n))) (one (size_of i)) ∷ writes (transfer_range i anywhere o n) ∷ position_written h o
 
 write_row_same : (t : Trace) (s u : World) (r : ℕ) (x : Taken) (f : File) (o n : ℕ) → Agree (write_row t s r x f o n) s u → write_row t u r x f o n ≡ write_row t s r x f o n
 write_row_same t s u r x f o n b =
     let a = agree_left s u _ _ b in
-    λ i. on_file_same t s u r f (content s x.extending o n) (content u x.extending o n) same a i ++ each (λ h. position_written h o) (handle_same t s u r f (content s x.extending o n) a i)
+    λ i. on_file_same t s u r f (content s (is_foreseen x) o n) (content u (is_foreseen x) o n) same a i ++ each (λ h. position_written h o) (handle_same t s u r f (content s (is_foreseen x) o n) a i)
   where
-    same : (h : Handle) → Agree (content s x.extending o n h.opened.target.node h) s u → content u x.extending o n h.opened.target.node h ≡ content s x.extending o n h.opened.target.node h
-    same h k = ap (λ m. use_of ((h.opened.append || o == at_position) || x.extending || (not (n == 0) && ltb m (min (o + n) file_limit))) (one (size_of h.opened.target.node)) ∷ writes (transfer_range h.opened.target.node (h.opened.append || o == at_position) o n) ∷ position_written h o)
+    same : (h : Handle) → Agree (content s (is_foreseen x) o n h.opened.target.node h) s u → content u (is_foreseen x) o n h.opened.target.node h ≡ content s (is_foreseen x) o n h.opened.target.node h
+    same h k = ap (λ m. use_of (is_foreseen x || (h.opened.append || o == at_position) || (not (n == 0) && ltb m (min (o + n) file_limit))) (one (size_of h.opened.target.node)) ∷ writes (transfer_range h.opened.target.node (h.opened.append || o == at_position) o n) ∷ position_written h o)
         (length_same s u h.opened.target.node (agree_head s u (size_of h.opened.target.node) _ _ k))
 
 -- Where a write starts is the same where worlds agree on its content.
@@ -75,11 +75,11 @@ write_same : (t : Trace) (s u : World) (r : ℕ) (x : Taken) (f : File) (o n : �
 write_same t s u r x f o n source w a =
     by_handle t u r f o source
     ∙ with_handle t s u r f c (λ h. handed s o source (can_write h.opened.access) h) (λ h. handed u o source (can_write h.opened.access) h) (agree_left s u _ _ a) (λ h e b.
-    handed_same s u o source (can_write h.opened.access) h (λ k. start_same s u x.extending o n h (on_its_file t s u c h (writable_is_file h (handles_sound t s r f w h e) k) b)))
+    handed_same s u o source (can_write h.opened.access) h (λ k. start_same s u (is_foreseen x) o n h (on_its_file t s u c h (writable_is_file h (handles_sound t s r f w h e) k) b)))
     ∙ sym (by_handle t s r f o source)
   where
     c : ℕ → Handle → Footprint
-    c = content s x.extending o n
+    c = content s (is_foreseen x) o n
 
 -- Without an append flag and the position, a write starts at its offset.
 start_is : (a b : Bool) (x y o : ℕ) → (a || b) ≡ false → cond a x (cond b y o) ≡ o
@@ -112,7 +112,7 @@ module _ (s : World) (o n : ℕ) (new : List ℕ) (h : Handle) (g : Footprint) (
   anywhere = h.opened.append || o == at_position
 
   abbrev flag : Bool
-  flag = anywhere || false || (not (n == 0) && would_extend s i (o + n))
+  flag = anywhere || (not (n == 0) && would_extend s i (o + n))
 
   written : (a : Atom) → T (writes_atom (content s false o n i h) a) → T (writes_atom g a)
   written a m = c.uses (λ (x : Use). x.written && member_of x.item a) m
@@ -122,7 +122,7 @@ module _ (s : World) (o n : ℕ) (new : List ℕ) (h : Handle) (g : Footprint) (
   growth at from below some =
       elim flag as (λ b. flag ≡ b → T (writes_atom g (size_of i)) ⊎ IfSome (size s i) (λ m. at + length (take (file_limit - at) new) ≤ m)) [
         | true ↦ λ e. inl (written (size_of i) (either_left _ _ (both flag (i == i) (subst T (sym e) tt) (eqb_refl i))))
-        | false ↦ λ e. inr (at_most (size s i) _ (short (false_of anywhere (λ w. subst T e (either_left (anywhere || false) _ (either_left anywhere false w)))) (false_of (would_extend s i (o + n)) (λ w. subst T e (either_right (anywhere || false) _ (both _ _ (not_zero n (omega arith)) w))))))
+        | false ↦ λ e. inr (at_most (size s i) _ (short (false_of anywhere (λ w. subst T e (either_left anywhere _ w))) (false_of (would_extend s i (o + n)) (λ w. subst T e (either_right anywhere _ (both _ _ (not_zero n (omega arith)) w))))))
       ] refl
     where
       short : anywhere ≡ false → would_extend s i (o + n) ≡ false → at + length (take (file_limit - at) new) ≤ unwrap_or (size s i) 0
@@ -181,8 +181,8 @@ write_supported t r f o n source s g w few e q c =
 
 pub write_owes : (t : Trace) (k r : ℕ) (s : World) (f : File) (o : ℕ) (new : List ℕ) → Awaits t k s → Owes t k r (write f o new) s
 write_owes t k r s f o new w = record {
-  tells = λ u b a. record { same_meaning = write_same t s u r (taken true) f o (length new) (Ok new) w.is_world a; same_row = λ c. write_row_same t s u r (taken true) f o (length new) a };
-  supports = λ u v a e q. write_supported t r f o (length new) (Ok new) u (write_row t u r (taken true) f o (length new)) (handles_sound_too t s u r f (content s false o (length new)) w.is_world (agree_left s u _ _ a)) (λ x h. subst (λ y. length y ≤ length new) (ok_same new x h) (omega arith)) e q
+  tells = λ u b a. record { same_meaning = write_same t s u r (tried true) f o (length new) (Ok new) w.is_world a; same_row = λ c. write_row_same t s u r (tried true) f o (length new) a };
+  supports = λ u v a e q. write_supported t r f o (length new) (Ok new) u (write_row t u r (tried true) f o (length new)) (handles_sound_too t s u r f (content s false o (length new)) w.is_world (agree_left s u _ _ a)) (λ x h. subst (λ y. length y ≤ length new) (ok_same new x h) (omega arith)) e q
       (record { uses = λ p m. in_left p (on_file t u r f (content u false o (length new))) (position_use t u r f o) m });
 }
 
@@ -238,13 +238,13 @@ span_bytes_fit t s r x new e = by (span_start t r x) e
 pub write_fixed_owes : (t : Trace) (k r : ℕ) (s : World) (f : File) (o : ℕ) (x : Span) → Awaits t k s → Owes t k r (write_fixed f o x) s
 write_fixed_owes t k r s f o x w = record {
   tells = λ u b a.
-      let d = agree_left s u (write_row t s r (taken true) f o (min x.length most_moved)) (span_use false t r x) a in
+      let d = agree_left s u (write_row t s r (tried true) f o (min x.length most_moved)) (span_use false t r x) a in
       record {
-        same_meaning = ap (write_meaning t u r f o) (span_bytes_same t s u r x (agree_right s u (write_row t s r (taken true) f o (min x.length most_moved)) (span_use false t r x) a)) ∙ write_same t s u r (taken true) f o (min x.length most_moved) (span_bytes t s r x) w.is_world d;
-        same_row = λ c. ap (λ z. z ++ span_use false t r x) (write_row_same t s u r (taken true) f o (min x.length most_moved) d);
+        same_meaning = ap (write_meaning t u r f o) (span_bytes_same t s u r x (agree_right s u (write_row t s r (tried true) f o (min x.length most_moved)) (span_use false t r x) a)) ∙ write_same t s u r (tried true) f o (min x.length most_moved) (span_bytes t s r x) w.is_world d;
+        same_row = λ c. ap (λ z. z ++ span_use false t r x) (write_row_same t s u r (tried true) f o (min x.length most_moved) d);
       };
   supports = λ u v a e q.
-      let row_agrees = agree_left s u (write_row t s r (taken true) f o (min x.length most_moved)) (span_use false t r x) a in
-      write_supported t r f o (min x.length most_moved) (span_bytes t u r x) u (write_row t u r (taken true) f o (min x.length most_moved) ++ span_use false t r x) (handles_sound_too t s u r f (content s false o (min x.length most_moved)) w.is_world (agree_left s u _ _ row_agrees)) (span_bytes_fit t u r x) e q
-      (record { uses = λ p m. in_left p (write_row t u r (taken true) f o (min x.length most_moved)) (span_use false t r x) (in_left p (on_file t u r f (content u false o (min x.length most_moved))) (position_use t u r f o) m) });
+      let row_agrees = agree_left s u (write_row t s r (tried true) f o (min x.length most_moved)) (span_use false t r x) a in
+      write_supported t r f o (min x.length most_moved) (span_bytes t u r x) u (write_row t u r (tried true) f o (min x.length most_moved) ++ span_use false t r x) (handles_sound_too t s u r f (content s false o (min x.length most_moved)) w.is_world (agree_left s u _ _ row_agrees)) (span_bytes_fit t u r x) e q
+      (record { uses = λ p m. in_left p (write_row t u r (tried true) f o (min x.length most_moved)) (span_use false t r x) (in_left p (on_file t u r f (content u false o (min x.length most_moved))) (position_use t u r f o) m) });
 }

@@ -56,7 +56,7 @@ module _ (t : Trace) where
     look_told s u (Some (filled r b at new)) a = refl
     look_told s u (Some (refused e p)) a = refl
     look_told s u (Some (canceled p)) a = refl
-    look_told s u (Some (runs r e o)) a = λ i. record { deciding = seen_same t r s u o a i; items = taken_same t r s u o a i }
+    look_told s u (Some (runs r e o)) a = λ i. record { deciding = seen_same t r s u o a i; items = taken_same t r s u k o a i }
 
     deciding_in_uses : (s : World) (a : Atom) (x : Option Turn) → T (has_atom (look_of t k s x).deciding a) → T (has_atom (each (turn_uses t k s) x) a)
     deciding_in_uses s a None h = h
@@ -118,7 +118,7 @@ module _ (t : Trace) where
 
   pub row_laws : FootprintsCover → RowLaws (replayed t) (rows t)
   row_laws cover = record {
-    cancelled_same = λ k s u h. ap is_canceled (turn_same t k s u (to_agree (order_of t k) s u h));
+    canceled_same = λ k s u h. ap is_canceled (turn_same t k s u (to_agree (order_of t k) s u h));
     look_same = λ k s u h. look_told k s u (task t k) (record { same = λ a m. h a (true_of _ m) });
     row_same = λ k s u ws wu h. running_row_same t k cover s u (awaits k s ws.0 ws.1) (awaits k u wu.0 wu.1) (λ a m. h a (true_of _ m));
     look_in_row = λ k s a h. true_of _ (in_right (λ (v : Use). member_of v.item a) (order_of t k) (each (turn_uses t k s) (task t k)) (deciding_in_uses k s a (task t k) (holds_true _ h)));

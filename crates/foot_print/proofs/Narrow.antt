@@ -12,7 +12,7 @@ use Rattle.world_parts.specs.Items.{Atom, chain_flag, slot_at, descriptor_at, po
 use Rattle.world_parts.specs.Part.{is_narrow_use, is_narrow}
 use Rattle.op_meaning.specs.Meaning.{meaning, made_node, slot_count, span_start, Handle, handle, handle_of, held, is_file, allocation, Allocation, extend, reserve, punch, zero_extend, zero_within, lowest_free}
 use Rattle.op_meaning.specs.Step.{Turn, filled, refused, canceled, runs, turn}
-use Rattle.op_meaning.specs.Footprint.{Shape, idle, looking, moving, allocating, resizing, closing, opening, making, freeing, linking, renaming, shape, transfer_row, shape_row, use_of, as_reads, Taken, held_item, file_reads, range_of, transfer_range, position_written, of_file, of_description, on_file, span_use, position_use, read_row, write_row, allocation_uses, path_reads, name_written, made_where, directory_names, room_uses, description_made, open_uses, openat_row, close_row, unlinkat_row, renameat_row, row, row_in, order_uses, turn_uses, ring_at}
+use Rattle.op_meaning.specs.Footprint.{Shape, idle, looking, moving, allocating, resizing, closing, opening, making, freeing, linking, renaming, shape, transfer_row, shape_row, use_of, as_reads, Taken, tried, is_accepted, is_foreseen, held_item, file_reads, range_of, transfer_range, position_written, of_file, of_description, on_file, span_use, position_use, would_extend, read_row, write_row, allocation_uses, path_reads, name_written, made_where, room_where, directory_names, room_uses, description_made, open_uses, openat_row, close_row, unlinkat_row, renameat_row, row, row_in, order_uses, turn_uses, ring_at}
 use Rattle.foot_print.specs.Parts.{FootprintsAreNarrow}
 use Rattle.foot_print.proofs.Holding.{all_append, all_each, all_each_ok}
 use Rattle.foot_print.proofs.CoverWrites.{content}
@@ -64,12 +64,12 @@ module _ (t : Trace) (s : World) (r : ℕ) where
   reading_narrow f o n = moving_narrow f o (λ i h. reads (one (size_of i)) ∷ reads (transfer_range i (o == at_position) o n) ∷ position_written h o) (λ i h. both (is_narrow_use (reads (transfer_range i (o == at_position) o n))) _ (range_narrow (o == at_position) i o (o + n) false) (position_narrow o h))
 
   writing_narrow : (x : Taken) (f : File) (o n : ℕ) → T (is_narrow (write_row t s r x f o n))
-  writing_narrow x f o n = moving_narrow f o (content s x.extending o n) (λ i h. both (is_narrow_use (writes (transfer_range i (h.opened.append || o == at_position) o n))) _ (range_narrow (h.opened.append || o == at_position) i o (o + n) true) (position_narrow o h))
+  writing_narrow x f o n = moving_narrow f o (content s (is_foreseen x) o n) (λ i h. both (is_narrow_use (writes (transfer_range i (h.opened.append || o == at_position) o n))) _ (range_narrow (h.opened.append || o == at_position) i o (o + n) true) (position_narrow o h))
 
   span_narrow : (w : Bool) (x : Span) → T (is_narrow (span_use w t r x))
   span_narrow w x = all_each is_narrow_use (λ at. use_of w (buffer_bytes r x.index at (at + x.length)) ∷ []) (span_start t r x) (λ at. tt)
 
-  allocation_narrow : (b : Bool) (i at end : ℕ) (a : Option Allocation) → T (is_narrow (allocation_uses s b i at end a))
+  allocation_narrow : (b : Bool) (i at end : ℕ) (a : Option Allocation) → T (is_narrow (allocation_uses b i at end a))
   allocation_narrow b i at end (Some extend) = tt
   allocation_narrow b i at end (Some reserve) = tt
   allocation_narrow b i at end (Some punch) = tt
@@ -89,7 +89,10 @@ module _ (t : Trace) (s : World) (r : ℕ) where
   names_narrow (Some y) = elim (is_directory y.kind) as (λ b. T (is_narrow (cond b (reads (one (names_in y.node)) ∷ []) []))) [ true ↦ tt | false ↦ tt ]
 
   made_narrow : (x : Taken) (f : Footprint) → T (is_narrow f) → T (is_narrow (made_where x f))
-  made_narrow x f h = elim x.accepted as (λ b. T (is_narrow (cond b f []))) [ true ↦ h | false ↦ tt ]
+  made_narrow x f h = elim (is_accepted x) as (λ b. T (is_narrow (cond b f []))) [ true ↦ h | false ↦ tt ]
+
+  roomed_narrow : (x : Taken) (f : Footprint) → T (is_narrow f) → T (is_narrow (room_where x f))
+  roomed_narrow x f h = elim (is_foreseen x) as (λ b. T (is_narrow (cond b [] f))) [ true ↦ tt | false ↦ h ]
 
   room_narrow : (index : ℕ) → T (is_narrow (room_uses t s r index))
   room_narrow zero = all_each is_narrow_use (λ n. writes (one (descriptor_at n)) ∷ []) (lowest_free t s) (λ n. tt)
@@ -101,9 +104,10 @@ module _ (t : Trace) (s : World) (r : ℕ) where
 
   opening_narrow : (k : ℕ) (x : Taken) (p : Path) (g : OpenFlags) (index : ℕ) → T (is_narrow (openat_row t s k r x p g index))
   opening_narrow k x p g index =
-      let looks = path_reads s p ++ room_uses t s r index in
+      let room = room_uses t s r index in
+      let looks = path_reads s p ++ room_where x room in
       both_narrow (looks ++ made_where x (description_made t k)) _
-      (both_narrow looks _ (both_narrow (path_reads s p) _ (path_narrow p) (room_narrow index)) (made_narrow x (description_made t k) tt))
+      (both_narrow looks _ (both_narrow (path_reads s p) _ (path_narrow p) (roomed_narrow x room (room_narrow index))) (made_narrow x (description_made t k) tt))
       (all_each_ok is_narrow_use (λ (q : Place). open_uses t k x g q q.target) (walk s.nodes p) (λ q. opened_narrow k x g q q.target))
 
   closing_narrow : (number : ℤ) (index : ℕ) → T (is_narrow (close_row t r number index))
@@ -130,7 +134,7 @@ module _ (t : Trace) (s : World) (r : ℕ) where
   shape_narrow k x (looking f) = held_narrow reads (λ a. tt) t r f.registered f.number
   shape_narrow k x (moving w f o n None) = moved_narrow x w f o n
   shape_narrow k x (moving w f o n (Some span)) = both_narrow (transfer_row t s r x w f o n) _ (moved_narrow x w f o n) (span_narrow (not w) span)
-  shape_narrow k x (allocating f o n mode) = file_narrow f (λ i h. allocation_uses s x.extending i o (o + n) (allocation mode)) (λ i h. allocation_narrow x.extending i o (o + n) (allocation mode))
+  shape_narrow k x (allocating f o n mode) = file_narrow f (λ i h. allocation_uses (is_foreseen x || would_extend s i (o + n)) i o (o + n) (allocation mode)) (λ i h. allocation_narrow (is_foreseen x || would_extend s i (o + n)) i o (o + n) (allocation mode))
   shape_narrow k x (resizing f n) = file_narrow f (λ i h. writes (one (size_of i)) ∷ writes (range_of i n file_limit) ∷ []) (λ i h. tt)
   shape_narrow k x (closing number index) = closing_narrow number index
   shape_narrow k x (opening p g index) = opening_narrow k x p g index
@@ -145,9 +149,9 @@ module _ (t : Trace) (s : World) (r : ℕ) where
   row_in_narrow : (k : ℕ) (o : Operation) → T (is_narrow (row_in t k r s o))
   row_in_narrow k o = by (is_ok (meaning t k r s o))
     where
-      by : (b : Bool) → T (is_narrow (cond b (row t k r s (record { accepted = b; extending = false }) o) (as_reads (row t k r s (record { accepted = b; extending = false }) o))))
-      by true = row_narrow k (record { accepted = true; extending = false }) o
-      by false = reads_narrow (row t k r s (record { accepted = false; extending = false }) o) (row_narrow k (record { accepted = false; extending = false }) o)
+      by : (b : Bool) → T (is_narrow (cond b (row t k r s (tried b) o) (as_reads (row t k r s (tried b) o))))
+      by true = row_narrow k (tried true) o
+      by false = reads_narrow (row t k r s (tried false) o) (row_narrow k (tried false) o)
 
 order_narrow : (r : ℕ) (c : Role) → T (is_narrow (order_uses r c))
 order_narrow r c = elim (leb 2 c.length) as (λ b. T (is_narrow (cond b (writes (one (chain_flag c.chain)) ∷ []) []))) [ true ↦ tt | false ↦ tt ]

@@ -19,10 +19,10 @@ use Rattle.chain_plan.specs.declared.role.Role.{Role}
 use Rattle.chain_plan.specs.Chain.{role}
 use Rattle.world_parts.specs.Items.{Item, Footprint, one, chain_flag}
 use Rattle.world_parts.specs.World.{World, Broken, broken}
-use Rattle.op_meaning.specs.Footprint.{order_uses, row_in, turn_uses}
+use Rattle.op_meaning.specs.Footprint.{Shape, shape, order_uses, row_in, turn_uses}
 use Rattle.op_meaning.specs.Step.{Turn, refused, canceled, runs, posts, doomed_turn, running_turn, entry_turn}
-use Rattle.foot_print.specs.Reach.{is_canceled, look_of, seen, taken, task, unresolved_row, running_row}
-use Rattle.foot_print.specs.Foreseen.{meets_written, may_run, entry_reach, operation_extras, operation_given, reach_given, undoomed, member_runs}
+use Rattle.foot_print.specs.Reach.{is_canceled, look_of, shape_seen, seen, task, running_row}
+use Rattle.foot_print.specs.Foreseen.{meets_written, may_run, entry_reach, unresolved_given, accepted_given, operation_given, reach_given, undoomed, member_runs}
 use Rattle.foot_print.specs.Outlook.{takes_lowest, turn_takes_lowest, IsFirstWritten, WaitsBy, items_awaited, IsOutlook, Awaits, AwaitsAsOperation, AwaitsAsEntry}
 use Rattle.foot_print.specs.declared.reaching.Awaited.TheVariants.{Reach, Items}
 use Rattle.foot_print.specs.declared.reaching.Outlook.{Outlook}
@@ -78,31 +78,34 @@ module _ (w : Item → Bool) where
       ] e
 
 -- what a place that may run an operation awaits, and its reach
-module _ (order : Footprint) (t : Trace) (k r : ℕ) (s : World) (w : Item → Bool) (p : Operation) (d : Footprint) (same : d ≡ seen t r s p) where
+module _ (order : Footprint) (t : Trace) (k r : ℕ) (s : World) (w : Item → Bool) (p : Operation) (x : Shape) (shaped : x ≡ shape p) (d : Footprint) (looked : d ≡ shape_seen t r s x) where
+  told_by : d ≡ seen t r s p
+  told_by = looked ∙ ap (shape_seen t r s) shaped
+
   abbrev given : Bool → Bool → Footprint
   given undecided met =
-      if undecided then order ++ (unresolved_row t k r p ++ operation_extras t k r s w p)
-      else (if met then order ++ (taken t r s p ++ operation_extras t k r s w p)
+      if undecided then unresolved_given order t k r s w (shape p)
+      else (if met then accepted_given order t k r s w (shape p)
       else order ++ row_in t k r s p)
 
-  pub undecided_reach : (n : ℕ) (f : Footprint) → position_from (λ u. w u.item) 0 d ≡ Some n → f ≡ order ++ (unresolved_row t k r p ++ operation_extras t k r s w p) → f ≡ operation_given order t k r s w p
+  pub undecided_reach : (n : ℕ) (f : Footprint) → position_from (λ u. w u.item) 0 d ≡ Some n → f ≡ unresolved_given order t k r s w x → f ≡ operation_given order t k r s w p
   undecided_reach n f first e =
-      let met = sym (some_from w 0 n d first) ∙ ap (meets_written w) same in
-      e ∙ (λ i. given (met i) (meets_written w (order ++ row_in t k r s p)))
+      let met = sym (some_from w 0 n d first) ∙ ap (meets_written w) told_by in
+      e ∙ ap (unresolved_given order t k r s w) shaped ∙ (λ i. given (met i) (meets_written w (order ++ row_in t k r s p)))
 
   pub undecided_awaits : (n : ℕ) (f g : Footprint) (takes : Bool) → position_from (λ u. w u.item) 0 d ≡ Some n → g ≡ take (n + 1) d → takes ≡ takes_lowest p
       → AwaitsAsOperation order t k r s w p true (record { reach = f; waits_by = Items g; takes_lowest = takes })
   undecided_awaits n f g takes first cut e =
-      record { by = inl (subst (λ x. IsFirstWritten w x g) same (subst (λ x. IsFirstWritten w d x) (sym cut) (first_written w n d first))); told = refl; lowest = e }
+      record { by = inl (subst (λ x. IsFirstWritten w x g) told_by (subst (λ x. IsFirstWritten w d x) (sym cut) (first_written w n d first))); told = refl; lowest = e }
 
   module _ (row : Footprint) (none : position_from (λ u. w u.item) 0 d ≡ None) (own : row ≡ order ++ row_in t k r s p) where
     decided : meets_written w (seen t r s p) ≡ false
-    decided = sym (ap (meets_written w) same) ∙ none_written w d none
+    decided = sym (ap (meets_written w) told_by) ∙ none_written w d none
 
-    pub accepted_reach : (f : Footprint) → meets_written w row ≡ true → f ≡ order ++ (taken t r s p ++ operation_extras t k r s w p) → f ≡ operation_given order t k r s w p
+    pub accepted_reach : (f : Footprint) → meets_written w row ≡ true → f ≡ accepted_given order t k r s w x → f ≡ operation_given order t k r s w p
     accepted_reach f met e =
         let there = sym met ∙ ap (meets_written w) own in
-        e ∙ (λ i. given (sym decided i) (there i))
+        e ∙ ap (accepted_given order t k r s w) shaped ∙ (λ i. given (sym decided i) (there i))
 
     pub accepted_awaits : (f : Footprint) (takes : Bool) → takes ≡ takes_lowest p → AwaitsAsOperation order t k r s w p true (record { reach = f; waits_by = Items row; takes_lowest = takes })
     accepted_awaits f takes e = record { by = inr (decided, own); told = refl; lowest = e }

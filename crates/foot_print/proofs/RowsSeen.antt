@@ -10,12 +10,11 @@ use Rattle.world_parts.specs.World.{World, descriptor}
 use Rattle.file_tree.specs.Walk.{Place, walk}
 use Rattle.op_meaning.specs.Meaning.{meaning, Handle, held, lowest_free, allocation}
 use Rattle.world_parts.specs.Items.{Atom, description_at, descriptor_at, size_of, one, all_descriptors, reads, writes, Footprint, has_atom, Agree}
-use Rattle.op_meaning.specs.Footprint.{Shape, idle, looking, moving, allocating, resizing, closing, opening, making, freeing, linking, renaming, shape, through, transfer_row, shape_row, as_reads, use_of, range_of, transfer_range, would_extend, allocation_uses, file_reads, of_file, of_description, on_file, position_written, position_use, span_use, path_reads, name_written, directory_names, room_uses, row, row_in}
-use Rattle.foot_print.specs.Reach.{written_by, shape_seen, transfer_taken, shape_taken, shape_asked, room_asked, room_at, seen, file_seen, taken, write_content, allocated, opened_taken, room_taken}
+use Rattle.op_meaning.specs.Footprint.{Shape, idle, looking, moving, allocating, resizing, closing, opening, making, freeing, linking, renaming, shape, through, tried, foreseen, transfer_row, shape_row, as_reads, use_of, range_of, transfer_range, would_extend, allocation_uses, file_reads, of_file, of_description, on_file, position_written, position_use, span_use, path_reads, name_written, directory_names, room_uses, open_uses, row, row_in}
+use Rattle.foot_print.specs.Reach.{written_by, shape_seen, shape_asked, room_asked, room_at, seen, file_seen, taken, room_taken}
 use Rattle.foot_print.proofs.Agreement.{agree_left, agree_right, agree_head, has_atom-as_reads, held_same, handle_same}
 use Rattle.foot_print.proofs.CoverWalk.{walk_same, path_reads_same}
 use Rattle.foot_print.proofs.Holding.{Over, always, over_self, over_nothing, over_first, over_second, over_on_file}
-use Rattle.foot_print.proofs.RowsHeld.{not_extending}
 
 -- A room at the lowest free descriptor.
 abbrev IsLowest : Option ℕ → Type 0
@@ -28,8 +27,14 @@ no_content i h = []
 abbrev pub read_content : ℕ → ℕ → ℕ → Handle → Footprint
 read_content o n i h = reads (one (size_of i)) ∷ reads (transfer_range i (o == at_position) o n) ∷ position_written h o
 
+abbrev pub write_content : ℕ → ℕ → ℕ → Handle → Footprint
+write_content o n i h = writes (one (size_of i)) ∷ writes (transfer_range i (h.opened.append || o == at_position) o n) ∷ position_written h o
+
+abbrev pub allocated : ℕ → ℕ → ℕ → ℕ → Handle → Footprint
+allocated o n mode i h = allocation_uses true i o (o + n) (allocation mode)
+
 abbrev write_uses : World → ℕ → ℕ → ℕ → Handle → Footprint
-write_uses s o n i h = use_of (h.opened.append || o == at_position || false || not (n == 0) && would_extend s i (o + n)) (one (size_of i)) ∷ writes (transfer_range i (h.opened.append || o == at_position) o n) ∷ position_written h o
+write_uses s o n i h = use_of (h.opened.append || o == at_position || (not (n == 0) && would_extend s i (o + n))) (one (size_of i)) ∷ writes (transfer_range i (h.opened.append || o == at_position) o n) ∷ position_written h o
 
 abbrev pub cut_content : ℕ → ℕ → Handle → Footprint
 cut_content n i h = writes (one (size_of i)) ∷ writes (range_of i n file_limit) ∷ []
@@ -69,27 +74,27 @@ module _ (t : Trace) (r : ℕ) (s u : World) where
   pub seen_same : (o : Operation) → Agree (seen t r s o) s u → seen t r u o ≡ seen t r s o
   seen_same o = shape_seen_same (shape o)
 
-  moved_same : (w : Bool) (f : File) (o n : ℕ) → Agree (file_seen t s r f) s u → transfer_taken t u r w f o n ≡ transfer_taken t s r w f o n
+  moved_same : (w : Bool) (f : File) (o n : ℕ) → Agree (file_seen t s r f) s u → transfer_row t u r foreseen w f o n ≡ transfer_row t s r foreseen w f o n
   moved_same false f o n a = transfer_told f (read_content o n) o a
   moved_same true f o n a = transfer_told f (write_content o n) o a
 
-  shape_taken_same : (x : Shape) → Agree (shape_seen t r s x) s u → shape_taken t r u x ≡ shape_taken t r s x
-  shape_taken_same idle a = refl
-  shape_taken_same (looking f) a = refl
-  shape_taken_same (moving w f o n x) a = ap (through w t r x) (moved_same w f o n a)
-  shape_taken_same (allocating f o n mode) a = on_file_told f (λ i h. allocated o n i (allocation mode)) a
-  shape_taken_same (resizing f n) a = on_file_told f (cut_content n) a
-  shape_taken_same (closing number index) a = refl
-  shape_taken_same (opening p g index) a = path_told p (λ (q : Place). opened_taken g q q.target) a
-  shape_taken_same (making p) a = path_told p name_written a
-  shape_taken_same (freeing p removes) a = path_told p (λ (q : Place). name_written q ++ cond removes (directory_names q.target) []) a
-  shape_taken_same (linking old new) a = λ i. two_told old new a i ++ each_ok name_written (walk_same s u new (agree_right s u (path_reads s old) _ a) i)
-  shape_taken_same (renaming old new) a =
+  foreseen_same : (k : ℕ) (x : Shape) → Agree (shape_seen t r s x) s u → shape_row t k r u foreseen x ≡ shape_row t k r s foreseen x
+  foreseen_same k idle a = refl
+  foreseen_same k (looking f) a = refl
+  foreseen_same k (moving w f o n x) a = ap (through w t r x) (moved_same w f o n a)
+  foreseen_same k (allocating f o n mode) a = on_file_told f (allocated o n mode) a
+  foreseen_same k (resizing f n) a = on_file_told f (cut_content n) a
+  foreseen_same k (closing number index) a = refl
+  foreseen_same k (opening p g index) a = λ i. (path_reads_same s u p a i ++ []) ++ [] ++ each_ok (λ (q : Place). open_uses t k foreseen g q q.target) (walk_same s u p a i)
+  foreseen_same k (making p) a = path_told p (λ (q : Place). name_written q ++ []) a
+  foreseen_same k (freeing p removes) a = path_told p (λ (q : Place). name_written q ++ cond removes (directory_names q.target) []) a
+  foreseen_same k (linking old new) a = λ i. two_told old new a i ++ each_ok name_written (walk_same s u new (agree_right s u (path_reads s old) _ a) i)
+  foreseen_same k (renaming old new) a =
       λ i. two_told old new a i ++ each_ok name_written (walk_same s u old (agree_left s u _ _ a) i)
       ++ each_ok (λ (q : Place). name_written q ++ directory_names q.target) (walk_same s u new (agree_right s u (path_reads s old) _ a) i)
 
-  pub taken_same : (o : Operation) → Agree (seen t r s o) s u → taken t r u o ≡ taken t r s o
-  taken_same o = shape_taken_same (shape o)
+  pub taken_same : (k : ℕ) (o : Operation) → Agree (seen t r s o) s u → taken t k r u o ≡ taken t k r s o
+  taken_same k o = foreseen_same k (shape o)
 
   lowest_same : ((n : ℕ) → descriptor s n ≡ descriptor u n) → lowest_free t u ≡ lowest_free t s
   lowest_same h = ap (λ (d : ℕ → Option ℕ). find (λ n. is_none (d n)) (range_with_len 0 (length t.descriptors))) (sym (fun_ext h))
@@ -125,16 +130,16 @@ module _ (t : Trace) (k r : ℕ) (s : World) where
   path_first : (f g : Footprint) → Over always (f ++ g) f
   path_first f g = over_first always f g f (over_self always f)
 
-  moved_seen : (b w : Bool) (f : File) (o n : ℕ) → Over always (transfer_row t s r (not_extending b) w f o n) (file_seen t s r f)
+  moved_seen : (b w : Bool) (f : File) (o n : ℕ) → Over always (transfer_row t s r (tried b) w f o n) (file_seen t s r f)
   moved_seen b false f o n = transfer_seen f (read_content o n) (position_use t s r f o)
   moved_seen b true f o n = transfer_seen f (write_uses s o n) (position_use t s r f o)
 
-  shape_row_seen : (b : Bool) (x : Shape) → Over always (shape_row t k r s (not_extending b) x) (shape_seen t r s x)
+  shape_row_seen : (b : Bool) (x : Shape) → Over always (shape_row t k r s (tried b) x) (shape_seen t r s x)
   shape_row_seen b idle = over_nothing always _
   shape_row_seen b (looking f) = over_nothing always _
   shape_row_seen b (moving w f o n None) = moved_seen b w f o n
   shape_row_seen b (moving w f o n (Some x)) = over_first always _ (span_use (not w) t r x) _ (moved_seen b w f o n)
-  shape_row_seen b (allocating f o n mode) = on_file_seen f (λ i h. allocation_uses s false i o (o + n) (allocation mode))
+  shape_row_seen b (allocating f o n mode) = on_file_seen f (λ i h. allocation_uses (would_extend s i (o + n)) i o (o + n) (allocation mode))
   shape_row_seen b (resizing f n) = on_file_seen f (cut_content n)
   shape_row_seen b (closing number index) = over_nothing always _
   shape_row_seen b (opening p g index) = over_first always _ _ _ (over_first always _ _ _ (path_first (path_reads s p) (room_uses t s r index)))
@@ -143,7 +148,7 @@ module _ (t : Trace) (k r : ℕ) (s : World) where
   shape_row_seen b (linking old new) = path_first (path_reads s old ++ path_reads s new) _
   shape_row_seen b (renaming old new) = over_first always _ _ _ (over_first always _ _ _ (over_self always _))
 
-  row_seen : (b : Bool) (o : Operation) → Over always (row t k r s (not_extending b) o) (seen t r s o)
+  row_seen : (b : Bool) (o : Operation) → Over always (row t k r s (tried b) o) (seen t r s o)
   row_seen b o = shape_row_seen b (shape o)
 
   in_row : (b : Bool) (f : Footprint) (a : Atom) → T (has_atom f a) → T (has_atom (cond b f (as_reads f)) a)
@@ -154,7 +159,7 @@ module _ (t : Trace) (k r : ℕ) (s : World) where
   seen_in_row o a h = in_row (is_ok (meaning t k r s o)) _ a ((row_seen (is_ok (meaning t k r s o)) o).has a tt h)
 
   -- All descriptors stand in the row of an operation that asks for the lowest free one.
-  row_asks : (b : Bool) (x : Shape) → IsLowest (shape_asked x) → Over always (shape_row t k r s (not_extending b) x) (room_uses t s r zero)
+  row_asks : (b : Bool) (x : Shape) → IsLowest (shape_asked x) → Over always (shape_row t k r s (tried b) x) (room_uses t s r zero)
   row_asks b (opening p g zero) e = over_first always _ _ _ (over_first always _ _ _ (over_second always (path_reads s p) (room_uses t s r zero) _ (over_self always _)))
   row_asks b (opening p g (suc n)) e = absurd e
   row_asks b _ e = absurd e

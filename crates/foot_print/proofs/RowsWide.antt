@@ -11,10 +11,11 @@ use Rattle.file_tree.specs.Tree.{Target}
 use Rattle.file_tree.specs.Walk.{Place, walk, is_directory, names_on}
 use Rattle.op_meaning.specs.Meaning.{made_node, Handle, handle, handle_of, held, is_file, allocation, Allocation, extend, reserve, punch, zero_extend, zero_within}
 use Rattle.world_parts.specs.Items.{Atom, description_at, position_of, size_of, byte_at, name_at, names_in, Item, one, file_bytes, all_bytes_and_sizes, member_of, Use, reads, writes, Footprint, has_atom, writes_atom}
-use Rattle.op_meaning.specs.Footprint.{Shape, idle, looking, moving, allocating, resizing, closing, opening, making, freeing, linking, renaming, shape, through, file_reads, of_file, of_description, on_file, range_of, position_written, position_use, span_use, path_reads, name_written, directory_names}
-use Rattle.foot_print.specs.Reach.{transfer_taken, shape_taken, unresolved_shape, taken, write_content, allocated, opened_taken, all_files, any_name, unresolved_file, unresolved_row}
+use Rattle.op_meaning.specs.Footprint.{Shape, idle, looking, moving, allocating, resizing, closing, opening, making, freeing, linking, renaming, shape, through, foreseen, transfer_row, shape_row, write_row, allocation_uses, open_uses, openat_row, file_reads, of_file, of_description, on_file, range_of, position_written, position_use, span_use, path_reads, name_written, directory_names}
+use Rattle.foot_print.specs.Reach.{unresolved_shape, taken, all_files, any_name, unresolved_file, unresolved_row}
 use Rattle.foot_print.specs.Replayed.{is_earlier}
 use Rattle.world_parts.proofs.Collision.{both, left, right, either_left, same_atom-eq}
+use Rattle.foot_print.proofs.RowsSeen.{write_content, allocated}
 use Rattle.foot_print.proofs.Holding.{Over, drop_false, over_self, over_nothing, over_all, over_first, over_second, over_both, over_uses, all_append, all_each}
 
 -- Uses of a file and its description, and of names.
@@ -99,16 +100,16 @@ module _ (t : Trace) (k : ℕ) where
     read_held : (f : File) (o n : ℕ) → Over earlier (unresolved_file t k r f) (Rattle.op_meaning.specs.Footprint.read_row t s r f o n)
     read_held f o n = transfer_held f o (λ i h. reads (one (size_of i)) ∷ reads (Rattle.op_meaning.specs.Footprint.transfer_range i (o == at_position) o n) ∷ position_written h o) (λ i h. both (is_file_use (reads (Rattle.op_meaning.specs.Footprint.transfer_range i (o == at_position) o n))) _ (transfer_item (o == at_position) i o (o + n) false) (position_uses o h))
 
-    write_held : (f : File) (o n : ℕ) → Over earlier (unresolved_file t k r f) (Rattle.foot_print.specs.Reach.write_taken t s r f o n)
+    write_held : (f : File) (o n : ℕ) → Over earlier (unresolved_file t k r f) (write_row t s r foreseen f o n)
     write_held f o n = transfer_held f o (write_content o n) (λ i h. both (is_file_use (writes (Rattle.op_meaning.specs.Footprint.transfer_range i (h.opened.append || o == at_position) o n))) _ (transfer_item (h.opened.append || o == at_position) i o (o + n) true) (position_uses o h))
 
-    allocation_uses_files : (o n i : ℕ) (a : Option Allocation) → T (list_all is_file_use (allocated o n i a))
-    allocation_uses_files o n i (Some extend) = tt
-    allocation_uses_files o n i (Some reserve) = tt
-    allocation_uses_files o n i (Some punch) = tt
-    allocation_uses_files o n i (Some zero_extend) = tt
-    allocation_uses_files o n i (Some zero_within) = tt
-    allocation_uses_files o n i None = tt
+    allocation_uses_files : (i at end : ℕ) (a : Option Allocation) → T (list_all is_file_use (allocation_uses true i at end a))
+    allocation_uses_files i at end (Some extend) = tt
+    allocation_uses_files i at end (Some reserve) = tt
+    allocation_uses_files i at end (Some punch) = tt
+    allocation_uses_files i at end (Some zero_extend) = tt
+    allocation_uses_files i at end (Some zero_within) = tt
+    allocation_uses_files i at end None = tt
 
     names_on_path : (es : List (ℕ × List ℕ)) → T (list_all is_name_use (map (λ (e : ℕ × List ℕ). reads (one (name_at e.0 e.1))) es))
     names_on_path [] = tt
@@ -120,6 +121,10 @@ module _ (t : Trace) (k : ℕ) where
     written_names : (w : Result Place Errno) → T (list_all is_name_use (each_ok name_written w))
     written_names (Ok q) = tt
     written_names (Err e) = tt
+
+    made_names : (w : Result Place Errno) → T (list_all is_name_use (each_ok (λ (q : Place). name_written q ++ []) w))
+    made_names (Ok q) = tt
+    made_names (Err e) = tt
 
     directory_uses : (y : Option Target) → T (list_all is_name_use (directory_names y))
     directory_uses None = tt
@@ -143,10 +148,10 @@ module _ (t : Trace) (k : ℕ) where
     truncated : (i : ℕ) → Over earlier (writes (all_bytes_and_sizes (made_node t k)) ∷ []) (writes (one (size_of i)) ∷ writes (range_of i 0 file_limit) ∷ [])
     truncated i = over_all earlier _ (writes (one (size_of i)) ∷ []) _ (at_atom _ (size_of i) true (λ e. either_left _ _ e) (λ e v. either_left _ _ e)) (whole_file i 0 (min file_limit file_limit) true)
 
-    opened_held : (g : OpenFlags) (q : Place) (y : Option Target) → Over earlier (any_name t k ++ cut g.truncate) (opened_taken g q y)
+    opened_held : (g : OpenFlags) (q : Place) (y : Option Target) → Over earlier (any_name t k ++ cut g.truncate) (open_uses t k foreseen g q y)
     unfolding cut
-    opened_held g q None = elim g.create as (λ b. Over earlier (any_name t k ++ cut g.truncate) (cond b (name_written q) [])) [
-      | true ↦ over_first earlier (any_name t k) _ _ (names_held (name_written q) tt)
+    opened_held g q None = elim g.create as (λ b. Over earlier (any_name t k ++ cut g.truncate) (cond b (name_written q ++ []) [])) [
+      | true ↦ over_first earlier (any_name t k) _ _ (names_held (name_written q ++ []) tt)
       | false ↦ over_nothing earlier _
     ]
     opened_held g q (Some y) = go g.truncate (not (is_directory y.kind))
@@ -156,32 +161,32 @@ module _ (t : Trace) (k : ℕ) where
         go true false = over_nothing earlier _
         go true true = over_second earlier (any_name t k) _ _ (truncated y.node)
 
-    open_held : (p : Path) (g : OpenFlags) → Over earlier (any_name t k ++ cut g.truncate) (path_reads s p ++ each_ok (λ (q : Place). opened_taken g q q.target) (walk s.nodes p))
-    open_held p g = over_all earlier _ (path_reads s p) _ (over_first earlier (any_name t k) _ _ (names_held (path_reads s p) (path_names p))) (at (walk s.nodes p))
+    open_held : (p : Path) (g : OpenFlags) (index : ℕ) → Over earlier (any_name t k ++ cut g.truncate) (openat_row t s k r foreseen p g index)
+    open_held p g index = over_all earlier _ ((path_reads s p ++ []) ++ []) _ (over_first earlier (any_name t k) _ _ (names_held _ (all_append is_name_use (path_reads s p ++ []) [] (all_append is_name_use (path_reads s p) [] (path_names p) tt) tt))) (at (walk s.nodes p))
       where
-        at : (w : Result Place Errno) → Over earlier (any_name t k ++ cut g.truncate) (each_ok (λ (q : Place). opened_taken g q q.target) w)
+        at : (w : Result Place Errno) → Over earlier (any_name t k ++ cut g.truncate) (each_ok (λ (q : Place). open_uses t k foreseen g q q.target) w)
         at (Ok q) = opened_held g q q.target
         at (Err e) = over_nothing earlier _
 
-    moved_held : (w : Bool) (f : File) (o n : ℕ) → Over earlier (unresolved_file t k r f) (transfer_taken t s r w f o n)
+    moved_held : (w : Bool) (f : File) (o n : ℕ) → Over earlier (unresolved_file t k r f) (transfer_row t s r foreseen w f o n)
     moved_held false f o n = read_held f o n
     moved_held true f o n = write_held f o n
 
-    unresolved_over_shape : (x : Shape) → Over earlier (unresolved_shape t k r x) (shape_taken t r s x)
+    unresolved_over_shape : (x : Shape) → Over earlier (unresolved_shape t k r x) (shape_row t k r s foreseen x)
     unfolding cut
     unresolved_over_shape idle = over_nothing earlier _
     unresolved_over_shape (looking f) = over_self earlier _
     unresolved_over_shape (moving w f o n None) = moved_held w f o n
     unresolved_over_shape (moving w f o n (Some x)) = over_both earlier _ (span_use (not w) t r x) _ (span_use (not w) t r x) (moved_held w f o n) (over_self earlier _)
-    unresolved_over_shape (allocating f o n mode) = on_file_held f (λ i h. allocated o n i (allocation mode)) (λ i h. allocation_uses_files o n i (allocation mode))
+    unresolved_over_shape (allocating f o n mode) = on_file_held f (allocated o n mode) (λ i h. allocation_uses_files i o (o + n) (allocation mode))
     unresolved_over_shape (resizing f n) = on_file_held f (λ i h. writes (one (size_of i)) ∷ writes (range_of i n file_limit) ∷ []) (λ i h. tt)
     unresolved_over_shape (closing number index) = over_self earlier _
-    unresolved_over_shape (opening p g index) = open_held p g
-    unresolved_over_shape (making p) = names_held _ (all_append is_name_use (path_reads s p) _ (path_names p) (written_names (walk s.nodes p)))
+    unresolved_over_shape (opening p g index) = open_held p g index
+    unresolved_over_shape (making p) = names_held _ (all_append is_name_use (path_reads s p) _ (path_names p) (made_names (walk s.nodes p)))
     unresolved_over_shape (freeing p removes) = names_held _ (all_append is_name_use (path_reads s p) _ (path_names p) (unlink_names removes (walk s.nodes p)))
     unresolved_over_shape (linking old new) = names_held _ (all_append is_name_use (path_reads s old ++ path_reads s new) _ (two_paths old new) (written_names (walk s.nodes new)))
     unresolved_over_shape (renaming old new) =
         names_held _ (all_append is_name_use (path_reads s old ++ path_reads s new ++ each_ok name_written (walk s.nodes old)) _ (all_append is_name_use (path_reads s old ++ path_reads s new) _ (two_paths old new) (written_names (walk s.nodes old))) (rename_names (walk s.nodes new)))
 
-    pub unresolved_over_taken : (o : Operation) → Over earlier (unresolved_row t k r o) (taken t r s o)
+    pub unresolved_over_taken : (o : Operation) → Over earlier (unresolved_row t k r o) (taken t k r s o)
     unresolved_over_taken o = unresolved_over_shape (shape o)

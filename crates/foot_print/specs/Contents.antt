@@ -1,5 +1,5 @@
 -- A helper: what operations use of files that are open, and of names.
-use Rattle.std.specs.Prelude.{◌≡◌, ℕ, Bool, false, not, ◌&&◌, ◌||◌, ◌==◌, ◌+◌, List, [], ◌∷◌, ◌++◌, map, Option, if◌then◌else◌}
+use Rattle.std.specs.Prelude.{◌≡◌, ℕ, Bool, not, ◌&&◌, ◌||◌, ◌==◌, ◌+◌, List, [], ◌∷◌, ◌++◌, map, Option, if◌then◌else◌}
 use Rattle.std.specs.Option.{option_map}
 use Rattle.sqe_codec.specs.Answers.{each, each_ok}
 use Rattle.trace_format.specs.declared.trace.Trace.{Trace}
@@ -9,7 +9,9 @@ use Rattle.file_tree.specs.Walk.{names_from, walk}
 use Rattle.file_tree.specs.Walk as walks
 use Rattle.file_tree.specs.declared.walk.Place.{Place}
 use Rattle.foot_print.specs.declared.attempt.Attempt.{Attempt}
-use Rattle.op_meaning.specs.Footprint.{Taken, use_of, transfer_range, would_extend, on_file, name_written, directory_names, open_uses, openat_row}
+use Rattle.foot_print.specs.declared.attempt.Taken as attempts
+use Rattle.foot_print.specs.declared.attempt.Taken.TheVariants as code
+use Rattle.op_meaning.specs.Footprint.{Taken, tried, foreseen, is_foreseen, use_of, transfer_range, would_extend, on_file, name_written, directory_names, open_uses, openat_row}
 use Rattle.op_meaning.specs.Handles.{handle_meant}
 use Rattle.op_meaning.specs.Meaning.{Handle}
 use Rattle.op_meaning.specs.declared.handles.OpenFile.{OpenFile}
@@ -25,15 +27,16 @@ abbrev pub read_content : ℕ → ℕ → ℕ → ℕ → Footprint
 read_content o n i d = reads (one (size_of i)) ∷ reads (transfer_range i (o == at_position) o n) ∷ position_at d o
 
 -- what a write uses of its file
-abbrev pub write_content : World → ℕ → ℕ → OpenFile → Footprint
-write_content s o n x =
+abbrev pub write_content : World → Taken → ℕ → ℕ → OpenFile → Footprint
+write_content s y o n x =
     let i = x.description.node in
     let anywhere = x.description.append || o == at_position in
-    use_of (anywhere || (not (n == 0) && would_extend s i (o + n))) (one (size_of i)) ∷ writes (transfer_range i anywhere o n) ∷ position_at x.number o
+    use_of (is_foreseen y || anywhere || (not (n == 0) && would_extend s i (o + n))) (one (size_of i)) ∷ writes (transfer_range i anywhere o n) ∷ position_at x.number o
 
--- an operation that a world accepts, or doesn't, as it stands there
-abbrev pub taken : Bool → Taken
-taken ok = record { accepted = ok; extending = false }
+-- how the uses of an operation are taken, by a value of the program
+abbrev pub taken_meant : attempts.Taken → Taken
+taken_meant (code.Tried b) = tried b
+taken_meant code.Foreseen = foreseen
 
 -- the names that a walk of components looks up from a directory on
 abbrev pub names_read : Tree → ℕ → List (List ℕ) → Footprint
@@ -57,7 +60,7 @@ name_freed reads_names s p = each_ok (λ q. name_written q ++ (if reads_names th
 
 -- what openat uses, and of that what it writes where its path leads
 abbrev pub openat_tried : Trace → World → Attempt → Path → OpenFlags → ℕ → Footprint
-openat_tried t s a p g index = openat_row t s a.place a.ring (taken a.accepted) p g index
+openat_tried t s a p g index = openat_row t s a.place a.ring (taken_meant a.taken) p g index
 
 abbrev pub open_tried : Trace → Attempt → OpenFlags → walks.Place → Footprint
-open_tried t a g q = open_uses t a.place (taken a.accepted) g q q.target
+open_tried t a g q = open_uses t a.place (taken_meant a.taken) g q q.target

@@ -1,18 +1,16 @@
 -- The model: what a place may use once earlier places that haven't finished have run.
-use Rattle.std.specs.Prelude.{ℕ, zero, suc, Bool, true, false, not, ◌&&◌, ◌||◌, ◌==◌, ◌+◌, List, [], ◌∷◌, ◌++◌, Option, None, Some, if◌then◌else◌}
+use Rattle.std.specs.Prelude.{ℕ, zero, suc, Bool, true, false, List, [], ◌∷◌, ◌++◌, Option, None, Some, if◌then◌else◌}
 use Rattle.std.specs.List.{list_any}
 use Rattle.trace_format.specs.declared.trace.Trace.{Trace}
-use Rattle.sqe_codec.specs.Answers.{each, each_ok}
-use Rattle.entry_checks.specs.Operation.{Operation, File, Path, OpenFlags, file_limit, at_position}
+use Rattle.sqe_codec.specs.Answers.{each}
+use Rattle.entry_checks.specs.Operation.{Operation, File, file_limit}
 use Rattle.chain_plan.specs.Chain.{role}
 use Rattle.world_parts.specs.World.{World}
-use Rattle.file_tree.specs.Tree.{Target}
-use Rattle.file_tree.specs.Walk.{Place, walk, is_directory}
-use Rattle.op_meaning.specs.Meaning.{made_node, made_description, Handle, allocation, Allocation, extend, reserve, punch, zero_extend, zero_within}
+use Rattle.op_meaning.specs.Meaning.{made_node, made_description}
 use Rattle.op_meaning.specs.Step.{Turn, filled, canceled, runs, turn, turn_under}
 use Rattle.world_parts.specs.Items.{Item, file_bytes, chain_flag, size_of, names_in, one, all_names, all_bytes_and_sizes, all_positions, all_descriptions, all_descriptors, reads, writes, Footprint}
 pub use Rattle.item_index.specs.Touching.{written_by}
-use Rattle.op_meaning.specs.Footprint.{Shape, idle, looking, moving, allocating, resizing, closing, opening, making, freeing, linking, renaming, shape, through, file_reads, on_file, position_written, position_use, range_of, transfer_range, path_reads, name_written, room_uses, description_made, read_row, close_row, ftruncate_row, unlinkat_row, linkat_row, renameat_row, order_uses, turn_uses, ring_at}
+use Rattle.op_meaning.specs.Footprint.{Shape, idle, looking, moving, allocating, resizing, closing, opening, making, freeing, linking, renaming, shape, foreseen, row, through, file_reads, on_file, path_reads, room_uses, description_made, close_row, order_uses, turn_uses, ring_at}
 
 -- Whether one of some footprints writes an atom of an item of a footprint.
 abbrev pub is_met : Footprint → List Footprint → Bool
@@ -39,54 +37,9 @@ shape_seen t r s (renaming old new) = path_reads s old ++ path_reads s new
 abbrev pub seen : Trace → ℕ → World → Operation → Footprint
 seen t r s o = shape_seen t r s (shape o)
 
--- The row of an operation as accepted and extending, apart from what it makes and from the room of openat.
-abbrev pub write_content : ℕ → ℕ → ℕ → Handle → Footprint
-write_content o n i h = writes (one (size_of i)) ∷ writes (transfer_range i (h.opened.append || o == at_position) o n) ∷ position_written h o
-
-abbrev pub write_taken : Trace → World → ℕ → File → ℕ → ℕ → Footprint
-write_taken t s r f o n = on_file t s r f (write_content o n) ++ position_use t s r f o
-
-abbrev pub allocated : ℕ → ℕ → ℕ → Option Allocation → Footprint
-allocated o n i (Some extend) = writes (one (size_of i)) ∷ []
-allocated o n i (Some reserve) = reads (one (size_of i)) ∷ []
-allocated o n i (Some punch) = reads (one (size_of i)) ∷ writes (range_of i o (o + n)) ∷ []
-allocated o n i (Some zero_extend) = writes (one (size_of i)) ∷ writes (range_of i o (o + n)) ∷ []
-allocated o n i (Some zero_within) = reads (one (size_of i)) ∷ writes (range_of i o (o + n)) ∷ []
-allocated o n i None = reads (one (size_of i)) ∷ []
-
-abbrev pub opened_taken : OpenFlags → Place → Option Target → Footprint
-opened_taken g q None = if g.create then name_written q else []
-opened_taken g q (Some y) = if g.truncate && not (is_directory y.kind) then writes (one (size_of y.node)) ∷ writes (range_of y.node 0 file_limit) ∷ [] else []
-
--- What openat writes where its path leads, and what openat and mkdirat have apart from what they make.
-abbrev pub opened_at : OpenFlags → Place → Footprint
-opened_at g q = opened_taken g q q.target
-
-abbrev pub openat_taken : World → Path → OpenFlags → Footprint
-openat_taken s p g = path_reads s p ++ each_ok (opened_at g) (walk s.nodes p)
-
-abbrev pub mkdirat_taken : World → Path → Footprint
-mkdirat_taken s p = path_reads s p ++ each_ok name_written (walk s.nodes p)
-
-abbrev pub transfer_taken : Trace → World → ℕ → Bool → File → ℕ → ℕ → Footprint
-transfer_taken t s r false f o n = read_row t s r f o n
-transfer_taken t s r true f o n = write_taken t s r f o n
-
-abbrev pub shape_taken : Trace → ℕ → World → Shape → Footprint
-shape_taken t r s idle = []
-shape_taken t r s (looking f) = file_reads t r f
-shape_taken t r s (moving w f o n x) = through w t r x (transfer_taken t s r w f o n)
-shape_taken t r s (allocating f o n mode) = on_file t s r f (λ i h. allocated o n i (allocation mode))
-shape_taken t r s (resizing f n) = ftruncate_row t s r f n
-shape_taken t r s (closing number index) = close_row t r number index
-shape_taken t r s (opening p g index) = openat_taken s p g
-shape_taken t r s (making p) = mkdirat_taken s p
-shape_taken t r s (freeing p removes) = unlinkat_row s p removes
-shape_taken t r s (linking old new) = linkat_row s old new
-shape_taken t r s (renaming old new) = renameat_row s old new
-
-abbrev pub taken : Trace → ℕ → World → Operation → Footprint
-taken t r s o = shape_taken t r s (shape o)
+-- The row of an operation as accepted, apart from what it makes and from the room of openat.
+abbrev pub taken : Trace → ℕ → ℕ → World → Operation → Footprint
+taken t k r s o = row t k r s foreseen o
 
 abbrev pub node_made : Trace → ℕ → Footprint
 node_made t k = writes (one (size_of (made_node t k))) ∷ writes (file_bytes (made_node t k) 0 file_limit) ∷ writes (one (names_in (made_node t k))) ∷ []
@@ -158,7 +111,7 @@ pub record Look : Type 0 where
   pub items : Footprint
 
 abbrev pub look_of : Trace → ℕ → World → Option Turn → Look
-look_of t k s (Some (runs r e o)) = record { deciding = seen t r s o; items = taken t r s o }
+look_of t k s (Some (runs r e o)) = record { deciding = seen t r s o; items = taken t k r s o }
 look_of t k s (Some (filled r b at new)) = record { deciding = []; items = turn_uses t k s (filled r b at new) }
 look_of t k s _ = record { deciding = []; items = [] }
 

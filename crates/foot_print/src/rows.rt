@@ -1,13 +1,13 @@
 //! What each operation uses.
 ghost use Rattle.std.specs.Prelude.{◌≡◌, ◌++◌, ◌<◌, IfOk, OnOk};
 ghost use Rattle.entry_checks.specs.Meant.{meant};
-ghost use Rattle.foot_print.specs.Contents.{taken};
+ghost use Rattle.foot_print.specs.Contents.{taken_meant};
 ghost use Rattle.foot_print.specs.Shapes.{shape_meant};
 ghost use Rattle.op_meaning.specs.Footprint.{row_in, shape_row};
 ghost use Rattle.trace_format.specs.Steps.{places};
 ghost use Rattle.trace_format.specs.Text.{IsSpelled};
 
-use crate::attempt::Attempt;
+use crate::attempt::{Attempt, Taken};
 use crate::file_rows::{
     close_row, fallocate_row, file_reads, ftruncate_row, read_row, span_use, write_row,
 };
@@ -41,7 +41,7 @@ pub(crate) fn operation_uses(
     let attempt = Attempt {
         place,
         ring,
-        accepted,
+        taken: Taken::Tried { accepted },
     };
     let mut footprint = Footprint::new(alloc);
     push_row(alloc, trace, attempt, shape_of(op), state, &mut footprint)?;
@@ -52,7 +52,7 @@ pub(crate) fn operation_uses(
 }
 
 /// The row of an operation: what it uses, with what it writes where it is accepted.
-fn push_row(
+pub(crate) fn push_row(
     alloc: Global,
     trace: &Trace,
     attempt: Attempt,
@@ -63,7 +63,7 @@ fn push_row(
     requires trace { IsSpelled trace.now }
     requires place { attempt.place < places trace.now }
     ensures { OnOk result (footprint.new ≡ footprint.old ++ shape_row trace.now attempt.place
-        attempt.ring state.now (taken attempt.accepted) (shape_meant shape.entry)) }
+        attempt.ring state.now (taken_meant attempt.taken) (shape_meant shape.entry)) }
 {
     let ring = attempt.ring;
     match shape {
@@ -77,7 +77,7 @@ fn push_row(
             span,
         } => {
             if into_file {
-                write_row(trace, ring, file, offset, count, state, footprint)?;
+                write_row(trace, attempt, file, offset, count, state, footprint)?;
             } else {
                 read_row(trace, ring, file, offset, count, state, footprint)?;
             }
@@ -91,7 +91,7 @@ fn push_row(
             offset,
             size,
             mode,
-        } => fallocate_row(trace, ring, file, offset, size, mode, state, footprint),
+        } => fallocate_row(trace, attempt, file, offset, size, mode, state, footprint),
         Shape::Resizing { file, size } => ftruncate_row(trace, ring, file, size, state, footprint),
         Shape::Closing { number, file_index } => {
             close_row(trace, ring, number, file_index, footprint)

@@ -5,9 +5,7 @@ ghost use Rattle.foot_print.specs.Shapes.{shape_meant};
 ghost use Rattle.op_meaning.specs.Footprint.{shape};
 
 use entry_checks::{BufferSpan, FileNumber, Op, OpenAtFlags, PathAt};
-
-/// The most bytes that one call moves.
-const MOST_MOVED: u64 = 0x7fff_f000;
+use op_meaning::MOST_MOVED;
 
 /// What the uses of an operation depend on. A transfer moves so many bytes into its file or out of
 /// it, through a span of a buffer or none.
@@ -74,7 +72,7 @@ pub(crate) fn shape_of(op: Op<'_>) -> Shape<'_>
             into_file: false,
             file,
             offset,
-            count: total.min(MOST_MOVED),
+            count: total.min(u64::from(MOST_MOVED)),
             span: None,
         },
         Op::Read {
@@ -85,7 +83,7 @@ pub(crate) fn shape_of(op: Op<'_>) -> Shape<'_>
             into_file: false,
             file,
             offset,
-            count: u64::from(total).min(MOST_MOVED),
+            count: u64::from(total.min(MOST_MOVED)),
             span: None,
         },
         Op::Writev {
@@ -114,14 +112,14 @@ pub(crate) fn shape_of(op: Op<'_>) -> Shape<'_>
             into_file: false,
             file,
             offset,
-            count: u64::from(span.length).min(MOST_MOVED),
+            count: u64::from(span.length.min(MOST_MOVED)),
             span: Some(span),
         },
         Op::WriteFixed { file, offset, span } => Shape::Moving {
             into_file: true,
             file,
             offset,
-            count: u64::from(span.length).min(MOST_MOVED),
+            count: u64::from(span.length.min(MOST_MOVED)),
             span: Some(span),
         },
         Op::Fsync { file } => Shape::Looking { file },

@@ -6,7 +6,7 @@ use Rattle.interleaving.specs.Rows.{Rows, RowLaws, RowsForesee, runs, running_re
 
 module _ (m : System) (r : Rows m) (laws : RowLaws m r) where
   open m use {World, Footprint, Atom}
-  open r use {look, sees, cancelled, bare, row, accepted, wide, waits, unresolved, disturbed, Bounded}
+  open r use {look, sees, canceled, bare, row, accepted, wide, waits, unresolved, disturbed, Bounded}
 
   holds_refl : (f : Footprint) → Holds m f f
   holds_refl f = ((λ a t. t), (λ a w. w))
@@ -39,18 +39,18 @@ module _ (m : System) (r : Rows m) (laws : RowLaws m r) where
   wide_holds_row : (j : ℕ) (s : World) (rs : List Footprint) → Bounded j (look j s) → Holds m (wide j s rs) (row j s)
   wide_holds_row j s rs b = holds_trans (wide j s rs) (accepted j s rs) (row j s) (laws.wide_holds_accepted j s rs b) (laws.accepted_holds_row j s rs)
 
-  -- a place that runs where it waits for these, or isn't cancelled
+  -- a place that runs where it waits for these, or isn't canceled
   runs-waits : (j : ℕ) (s : World) (rs : List Footprint) → waits j rs ≡ true → runs m r j s rs ≡ true
   runs-waits j s rs e = rw e refl
 
-  runs-free : (j : ℕ) (s : World) (rs : List Footprint) → cancelled j s ≡ false → runs m r j s rs ≡ true
+  runs-free : (j : ℕ) (s : World) (rs : List Footprint) → canceled j s ≡ false → runs m r j s rs ≡ true
   runs-free j s rs e = go (cases_Bool (waits j rs))
     where
       go : (waits j rs ≡ true) ⊎ (waits j rs ≡ false) → runs m r j s rs ≡ true
       go (inl w) = rw w refl
       go (inr w) = rw (w, e) refl
 
-  runs-same : (j : ℕ) (s t : World) (rs : List Footprint) → cancelled j t ≡ cancelled j s → runs m r j t rs ≡ runs m r j s rs
+  runs-same : (j : ℕ) (s t : World) (rs : List Footprint) → canceled j t ≡ canceled j s → runs m r j t rs ≡ runs m r j s rs
   runs-same j s t rs e = ap (λ b. if waits j rs then true else (if b then false else true)) e
 
   -- where the worlds differ only by the reaches, the place runs in both or waits for one of them
@@ -103,9 +103,9 @@ module _ (m : System) (r : Rows m) (laws : RowLaws m r) where
 
   pub reach_holds_foot_lem : (j : ℕ) (s t : World) (rs : List Footprint) → Ready m r j s → Ready m r j t
       → known_by_rows m r j t rs → DifferOnlyBy m rs s t → Holds m (reach_by_rows m r j s rs) (foot_by_rows m r j t)
-  reach_holds_foot_lem j s t rs fs ft kt differ = go (cases_Bool (cancelled j t))
+  reach_holds_foot_lem j s t rs fs ft kt differ = go (cases_Bool (canceled j t))
     where
-      go : (cancelled j t ≡ true) ⊎ (cancelled j t ≡ false) → Holds m (reach_by_rows m r j s rs) (foot_by_rows m r j t)
+      go : (canceled j t ≡ true) ⊎ (canceled j t ≡ false) → Holds m (reach_by_rows m r j s rs) (foot_by_rows m r j t)
       go (inl c) = subst (Holds m (reach_by_rows m r j s rs)) (sym (ap (λ b. if b then bare j else row j t) c)) (holds_bare_there j s t rs kt differ)
       go (inr c) =
           let e : runs m r j t rs ≡ true = runs-free j t rs c in
@@ -160,7 +160,7 @@ module _ (m : System) (r : Rows m) (laws : RowLaws m r) where
   module _ (j : ℕ) (s t : World) (rs : List Footprint) (fs : Ready m r j s) (ft : Ready m r j t) (known : known_by_rows m r j s rs)
       (agree : AgreeOn m (reach_by_rows m r j s rs) s t) where
     runs_told : runs m r j t rs ≡ runs m r j s rs
-    runs_told = runs-same j s t rs (laws.cancelled_same j s t (λ a h. agree a ((holds_bare j s rs known).0 a h)))
+    runs_told = runs-same j s t rs (laws.canceled_same j s t (λ a h. agree a ((holds_bare j s rs known).0 a h)))
 
     agree_row : runs m r j s rs ≡ true → AgreeOn m (row j s) s t
     agree_row e a h = agree a ((holds_row j s s rs fs fs e (known e) (λ b none. refl)).0 a h)

@@ -9,7 +9,7 @@ pub record Rows (m : System) : Type 1 where
   pub sees : Look → m.Atom → Bool
   pub look : ℕ → m.World → Look
   -- whether the place is called off in the world, and gives its reply without running
-  pub cancelled : ℕ → m.World → Bool
+  pub canceled : ℕ → m.World → Bool
   -- the footprint of a place that is called off, and of one that runs
   pub bare : ℕ → m.Footprint
   pub row : ℕ → m.World → m.Footprint
@@ -26,7 +26,7 @@ pub record Rows (m : System) : Type 1 where
 module _ (m : System) (r : Rows m) where
   -- the place isn't called off, or may yet not be
   abbrev pub runs : ℕ → m.World → List m.Footprint → Bool
-  runs j s rs = if r.waits j rs then true else (if r.cancelled j s then false else true)
+  runs j s rs = if r.waits j rs then true else (if r.canceled j s then false else true)
 
   -- what a place that runs may touch: all, all that its look-up leaves open, or its row
   abbrev pub running_reach : ℕ → m.World → List m.Footprint → m.Footprint
@@ -38,7 +38,7 @@ module _ (m : System) (r : Rows m) where
 
   -- what a place touches in the world
   abbrev pub foot_by_rows : ℕ → m.World → m.Footprint
-  foot_by_rows j s = if r.cancelled j s then r.bare j else r.row j s
+  foot_by_rows j s = if r.canceled j s then r.bare j else r.row j s
 
   -- whatever a place that runs looks up has its number from the start or from an earlier place
   abbrev pub known_by_rows : ℕ → m.World → List m.Footprint → Type 0
@@ -51,7 +51,7 @@ module _ (m : System) (r : Rows m) where
   -- what the rows of each operation owe
   pub record RowLaws : Type 0 where
     -- whether a place is called off, what it looks up and its row are told by what they touch
-    pub cancelled_same : (j : ℕ) (s t : m.World) → AgreeOn m (r.bare j) s t → r.cancelled j t ≡ r.cancelled j s
+    pub canceled_same : (j : ℕ) (s t : m.World) → AgreeOn m (r.bare j) s t → r.canceled j t ≡ r.canceled j s
     pub look_same : (j : ℕ) (s t : m.World) → ((a : m.Atom) → r.sees (r.look j s) a ≡ true → m.value s a ≡ m.value t a) → r.look j t ≡ r.look j s
     pub row_same : (j : ℕ) (s t : m.World) → Ready j s → Ready j t → AgreeOn m (r.row j s) s t → r.row j t ≡ r.row j s
     -- the row has what is looked up, and each footprint holds the one that knows more
@@ -67,7 +67,7 @@ module _ (m : System) (r : Rows m) where
     pub accepted_thin : (j : ℕ) (s : m.World) (rs thin : List m.Footprint) → Thinner m thin rs → Holds m (r.accepted j s rs) (r.accepted j s thin)
     pub wide_thin : (j : ℕ) (s : m.World) (rs thin : List m.Footprint) → Thinner m thin rs → Holds m (r.wide j s rs) (r.wide j s thin)
     -- a test that says no tells what no reach writes, and says no of fewer reaches
-    pub waits_no : (j : ℕ) (s t : m.World) (rs : List m.Footprint) → r.waits j rs ≡ false → DifferOnlyBy m rs s t → r.cancelled j t ≡ r.cancelled j s
+    pub waits_no : (j : ℕ) (s t : m.World) (rs : List m.Footprint) → r.waits j rs ≡ false → DifferOnlyBy m rs s t → r.canceled j t ≡ r.canceled j s
     pub unresolved_no : (l : r.Look) (rs : List m.Footprint) (a : m.Atom) → r.unresolved l rs ≡ false → r.sees l a ≡ true → NoneWrites m rs a
     pub disturbed_no : (f : m.Footprint) (rs : List m.Footprint) (a : m.Atom) → r.disturbed f rs ≡ false → m.touches f a ≡ true → NoneWrites m rs a
     pub waits_thin : (j : ℕ) (rs thin : List m.Footprint) → Thinner m thin rs → r.waits j rs ≡ false → r.waits j thin ≡ false

@@ -20,10 +20,25 @@ use_of w x = record { item = x; written = w }
 abbrev pub as_reads : Footprint → Footprint
 as_reads f = map (λ u. reads u.item) f
 
--- How the uses of an operation are taken: as those of an accepted one, which has what it makes, and as those of one that makes files longer, which writes their sizes.
-pub record Taken : Type 0 where
-  pub accepted : Bool
-  pub extending : Bool
+-- How the uses of an operation are taken: as tried in a world, which accepts it or doesn't; or as foreseen of an accepted one, without its room and what it makes, where it isn't known whether a file becomes longer.
+pub data Taken : Type 0 where
+  tried : (accepted : Bool) → Taken
+  foreseen : Taken
+
+abbrev pub is_accepted : Taken → Bool
+is_accepted (tried b) = b
+is_accepted foreseen = false
+
+abbrev pub is_foreseen : Taken → Bool
+is_foreseen (tried b) = false
+is_foreseen foreseen = true
+
+-- What an operation makes, and its room, where its uses have them.
+abbrev pub made_where : Taken → Footprint → Footprint
+made_where x f = if is_accepted x then f else []
+
+abbrev pub room_where : Taken → Footprint → Footprint
+room_where x f = if is_foreseen x then [] else f
 
 -- The slot or descriptor of a file number, so far as there is one.
 abbrev pub held_item : Trace → ℕ → Bool → ℤ → List Item
@@ -76,19 +91,19 @@ write_row t s r x f o n = on_file t s r f content ++ position_use t s r f o
     content : ℕ → Handle → Footprint
     content i h =
         let anywhere = h.opened.append || o == at_position in
-        use_of (anywhere || x.extending || (not (n == 0) && would_extend s i (o + n))) (one (size_of i)) ∷ writes (transfer_range i anywhere o n) ∷ position_written h o
+        use_of (is_foreseen x || anywhere || (not (n == 0) && would_extend s i (o + n))) (one (size_of i)) ∷ writes (transfer_range i anywhere o n) ∷ position_written h o
 
--- What an allocation up to an end has of the file: its size, written where it grows, and the range that becomes zero.
-abbrev pub allocation_uses : World → Bool → ℕ → ℕ → ℕ → Option Allocation → Footprint
-allocation_uses s extending i at end (Some extend) = use_of (extending || would_extend s i end) (one (size_of i)) ∷ []
-allocation_uses s extending i at end (Some reserve) = reads (one (size_of i)) ∷ []
-allocation_uses s extending i at end (Some punch) = reads (one (size_of i)) ∷ writes (range_of i at end) ∷ []
-allocation_uses s extending i at end (Some zero_extend) = use_of (extending || would_extend s i end) (one (size_of i)) ∷ writes (range_of i at end) ∷ []
-allocation_uses s extending i at end (Some zero_within) = reads (one (size_of i)) ∷ writes (range_of i at end) ∷ []
-allocation_uses s extending i at end None = reads (one (size_of i)) ∷ []
+-- What an allocation has of the file: its size, written where the file may grow, and the range that becomes zero.
+abbrev pub allocation_uses : Bool → ℕ → ℕ → ℕ → Option Allocation → Footprint
+allocation_uses grows i at end (Some extend) = use_of grows (one (size_of i)) ∷ []
+allocation_uses grows i at end (Some reserve) = reads (one (size_of i)) ∷ []
+allocation_uses grows i at end (Some punch) = reads (one (size_of i)) ∷ writes (range_of i at end) ∷ []
+allocation_uses grows i at end (Some zero_extend) = use_of grows (one (size_of i)) ∷ writes (range_of i at end) ∷ []
+allocation_uses grows i at end (Some zero_within) = reads (one (size_of i)) ∷ writes (range_of i at end) ∷ []
+allocation_uses grows i at end None = reads (one (size_of i)) ∷ []
 
 abbrev pub fallocate_row : Trace → World → ℕ → Taken → File → ℕ → ℕ → ℕ → Footprint
-fallocate_row t s r x f o n mode = on_file t s r f (λ i h. allocation_uses s x.extending i o (o + n) (allocation mode))
+fallocate_row t s r x f o n mode = on_file t s r f (λ i h. allocation_uses (is_foreseen x || would_extend s i (o + n)) i o (o + n) (allocation mode))
 
 abbrev pub ftruncate_row : Trace → World → ℕ → File → ℕ → Footprint
 ftruncate_row t s r f n = on_file t s r f (λ i h. writes (one (size_of i)) ∷ writes (range_of i n file_limit) ∷ [])
@@ -100,9 +115,6 @@ path_reads s p = map (λ e. reads (one (name_at e.0 e.1))) (names_on s.nodes p)
 -- A name and the number of names of its directory.
 abbrev pub name_written : Place → Footprint
 name_written p = writes (one (name_at p.parent p.name)) ∷ writes (one (names_in p.parent)) ∷ []
-
-abbrev pub made_where : Taken → Footprint → Footprint
-made_where x f = if x.accepted then f else []
 
 -- Where a target is a directory, its names are read.
 abbrev pub directory_names : Option Target → Footprint
@@ -123,7 +135,7 @@ open_uses t k x g q None = if g.create then name_written q ++ made_where x (writ
 open_uses t k x g q (Some y) = if g.truncate && not (is_directory y.kind) then writes (one (size_of y.node)) ∷ writes (range_of y.node 0 file_limit) ∷ [] else []
 
 abbrev pub openat_row : Trace → World → ℕ → ℕ → Taken → Path → OpenFlags → ℕ → Footprint
-openat_row t s k r x p g index = path_reads s p ++ room_uses t s r index ++ made_where x (description_made t k) ++ each_ok (λ (q : Place). open_uses t k x g q q.target) (walk s.nodes p)
+openat_row t s k r x p g index = path_reads s p ++ room_where x (room_uses t s r index) ++ made_where x (description_made t k) ++ each_ok (λ (q : Place). open_uses t k x g q q.target) (walk s.nodes p)
 
 abbrev pub close_row : Trace → ℕ → ℤ → ℕ → Footprint
 close_row t r number zero = map writes (held_item t r false number)
@@ -203,7 +215,7 @@ row t k r s x o = shape_row t k r s x (shape o)
 abbrev pub row_in : Trace → ℕ → ℕ → World → Operation → Footprint
 row_in t k r s o =
     let ok = is_ok (meaning t k r s o) in
-    let f = row t k r s (record { accepted = ok; extending = false }) o in
+    let f = row t k r s (tried ok) o in
     if ok then f else as_reads f
 
 -- Each place has its ring's order, written in a barrier, and in a chain of two or more its chain.

@@ -5,13 +5,11 @@ ghost use Rattle.op_meaning.specs.Meaning.{close_meaning, mkdirat_meaning, write
 ghost use Rattle.trace_format.specs.declared.trace.Trace.{Trace};
 
 use crate::handles::{held, slot_count, span_start};
+use crate::limits::MOST_MOVED;
 use crate::transfers::writable_at;
 use entry_checks::{BufferSpan, FileNumber, PathAt};
 use trace_format::Trace;
 use world_parts::State;
-
-/// The most bytes that one call moves.
-const MOST_MOVED: u32 = 0x7fff_f000;
 
 /// Whether a write of a span's bytes is accepted.
 pub(crate) fn accepts_span(

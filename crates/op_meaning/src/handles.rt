@@ -11,17 +11,12 @@ ghost use Rattle.op_meaning.specs.Meaning.{is_bad_offset, readable, registered_b
 ghost use Rattle.op_meaning.specs.Meaning.{slot_count, span_start, transfer_start, writable};
 ghost use Rattle.world_parts.specs.World as world;
 
+use crate::limits::{AT_POSITION, REFUSED};
 use entry_checks::{BufferSpan, FileNumber};
 use file_tree::Kind;
 use sqe_codec::Errno;
 use trace_format::{Access, Buffer, Description, Trace};
 use world_parts::State;
-
-/// The offset by which a transfer uses the position of its open file description.
-const AT_POSITION: u64 = u64::MAX;
-
-/// The least offset that no file has.
-const REFUSED: u64 = 1 << 63;
 
 /// A file that is open: the number of its open file description, and what that says.
 #[derive(Clone, Copy, Debug)]

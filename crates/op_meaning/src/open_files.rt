@@ -12,18 +12,13 @@ ghost use Rattle.world_parts.specs.World.{apply_all, set_size};
 
 use crate::allocating::{Allocation, allocation_of};
 use crate::handles::{can_write, held, held_by_descriptor, open_file, size, slot_count, unsigned};
+use crate::limits::{LARGEST, REFUSED};
 use crate::outcome::{Outcome, finished};
 use entry_checks::FileNumber;
 use sqe_codec::Errno;
 use std::alloc::{AllocError, Global};
 use trace_format::Trace;
 use world_parts::State;
-
-/// The largest size of a file.
-const LARGEST: u64 = 1 << 40;
-
-/// The least size or offset that no call takes.
-const REFUSED: u64 = 1 << 63;
 
 /// FSYNC: nothing is lost here, so that there is nothing to do.
 pub(crate) fn fsync(

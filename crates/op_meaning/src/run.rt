@@ -16,6 +16,7 @@ ghost use Rattle.trace_format.specs.Text.{IsSpelled};
 ghost use Rattle.world_parts.specs.Uses.{broken_meant};
 ghost use Rattle.world_parts.specs.World.{apply_all};
 
+use crate::limits::MOST_MOVED;
 use crate::outcome::Outcome;
 use crate::reply::Reply;
 use crate::rows::run_operation;
@@ -26,9 +27,6 @@ use sqe_codec::{CQE_SKIP_SUCCESS, Errno, IO_HARDLINK};
 use std::alloc::{AllocError, Global};
 use trace_format::{Action, Entry, Trace};
 use world_parts::{Broken, Part, State};
-
-/// The most bytes that one call moves.
-const MOST_MOVED: u32 = 0x7fff_f000;
 
 /// Runs the step at a place of a trace on a part of the world.
 ///

@@ -18,6 +18,7 @@ ghost use Rattle.world_parts.specs.World as world;
 use crate::handles::{
     OpenFile, is_at_position, is_bad_offset, readable, size, span_start, transfer_start, writable,
 };
+use crate::limits::{LARGEST, MOST_MOVED};
 use crate::outcome::{Done, Outcome, counted, finished};
 use entry_checks::{BufferSpan, FileNumber};
 use extent_bytes::ReadBytes;
@@ -25,12 +26,6 @@ use sqe_codec::Errno;
 use std::alloc::{AllocError, Global};
 use trace_format::Trace;
 use world_parts::State;
-
-/// The most bytes that one call moves.
-const MOST_MOVED: u32 = 0x7fff_f000;
-
-/// The largest size of a file.
-const LARGEST: u64 = 1 << 40;
 
 /// The open file that a read at an offset is from, or why it is refused.
 pub fn readable_at(

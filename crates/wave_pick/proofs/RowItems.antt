@@ -12,12 +12,13 @@ use Rattle.world_parts.specs.World.{World}
 use Rattle.world_parts.specs.Items.{Atom, descriptor_at, description_at, size_of, names_in, one, all_descriptors, member_of, Use, reads, writes, Footprint, has_atom}
 use Rattle.world_parts.proofs.Collision.{either_left, same_atom-eq}
 use Rattle.op_meaning.specs.Meaning.{meaning, made_node, Handle, held, handle_of, is_file, allocation, Allocation, extend, reserve, punch, zero_extend, zero_within, lowest_free}
-use Rattle.op_meaning.specs.Footprint.{Shape, idle, looking, moving, allocating, resizing, closing, opening, making, freeing, linking, renaming, shape, transfer_row, shape_row, as_reads, use_of, transfer_range, position_written, would_extend, of_file, of_description, on_file, file_reads, position_use, span_use, write_row, allocation_uses, path_reads, name_written, made_where, room_uses, description_made, open_uses, row, row_in, turn_uses}
+use Rattle.op_meaning.specs.Footprint.{Shape, idle, looking, moving, allocating, resizing, closing, opening, making, freeing, linking, renaming, shape, tried, foreseen, transfer_row, shape_row, as_reads, use_of, transfer_range, position_written, would_extend, of_file, of_description, on_file, file_reads, position_use, span_use, write_row, allocation_uses, path_reads, name_written, made_where, room_uses, description_made, open_uses, row, row_in, turn_uses}
 use Rattle.op_meaning.specs.Step.{Turn, filled, refused, canceled, runs}
-use Rattle.foot_print.specs.Reach.{transfer_taken, shape_taken, shape_asked, room_asked, room_at, written_by, is_met, write_content, write_taken, allocated, opened_taken, taken, makes, room_taken, Look, look_of, task, order_of, running_row}
+use Rattle.foot_print.specs.Reach.{shape_asked, room_asked, room_at, written_by, is_met, taken, makes, room_taken, Look, look_of, task, order_of, running_row}
 use Rattle.foot_print.proofs.Agreement.{in_left, in_right, has_atom-as_reads}
 use Rattle.foot_print.proofs.Holding.{split, drop_false}
-use Rattle.foot_print.proofs.RowsHeld.{not_extending, accepted_over_row}
+use Rattle.foot_print.proofs.RowsHeld.{accepted_over_row}
+use Rattle.foot_print.proofs.RowsSeen.{write_content}
 use Rattle.foot_print.proofs.Unmet.{unmet_part}
 use Rattle.foot_print.proofs.Writing.{is_false, not_false}
 use Rattle.wave_pick.specs.Waiting.{made_of, RowItems}
@@ -58,66 +59,66 @@ module _ (t : Trace) (k r : ℕ) (s : World) where
 
   -- What an operation has as accepted, and its room where no reach before it writes a descriptor.
   abbrev shape_items : Shape → Footprint
-  shape_items x = shape_taken t r s x ++ each (room_at t s r (written_by [])) (shape_asked x)
+  shape_items x = shape_row t k r s foreseen x ++ each (room_at t s r (written_by [])) (shape_asked x)
 
   abbrev accepted_items : Operation → Footprint
   accepted_items o = shape_items (shape o)
 
-  only : (x : Shape) (f : Footprint) → Has f (shape_taken t r s x) → Has f (shape_taken t r s x ++ [])
-  only x f h = has_all f (shape_taken t r s x) [] h (has_nothing f)
+  only : (x : Shape) (f : Footprint) → Has f (shape_row t k r s foreseen x) → Has f (shape_row t k r s foreseen x ++ [])
+  only x f h = has_all f (shape_row t k r s foreseen x) [] h (has_nothing f)
 
   abbrev write_uses : ℕ → ℕ → ℕ → Handle → Footprint
-  write_uses o n i h = use_of (h.opened.append || o == at_position || false || not (n == 0) && would_extend s i (o + n)) (one (size_of i)) ∷ writes (transfer_range i (h.opened.append || o == at_position) o n) ∷ position_written h o
+  write_uses o n i h = use_of (h.opened.append || o == at_position || (not (n == 0) && would_extend s i (o + n))) (one (size_of i)) ∷ writes (transfer_range i (h.opened.append || o == at_position) o n) ∷ position_written h o
 
-  write_has : (b : Bool) (f : File) (o n : ℕ) → Has (write_row t s r (not_extending b) f o n) (write_taken t s r f o n)
+  write_has : (b : Bool) (f : File) (o n : ℕ) → Has (write_row t s r (tried b) f o n) (write_row t s r foreseen f o n)
   write_has b f o n = has_both _ (position_use t s r f o) _ (position_use t s r f o) (has_on_file f (write_uses o n) (write_content o n) (λ i h. record { has = λ a m. m })) (has_self (position_use t s r f o))
 
-  allocation_has : (o n i : ℕ) (x : Option Allocation) → Has (allocation_uses s false i o (o + n) x) (allocated o n i x)
-  allocation_has o n i (Some extend) = record { has = λ a m. m }
-  allocation_has o n i (Some reserve) = has_self _
-  allocation_has o n i (Some punch) = has_self _
-  allocation_has o n i (Some zero_extend) = record { has = λ a m. m }
-  allocation_has o n i (Some zero_within) = has_self _
-  allocation_has o n i None = has_self _
+  allocation_has : (b : Bool) (i at end : ℕ) (x : Option Allocation) → Has (allocation_uses b i at end x) (allocation_uses true i at end x)
+  allocation_has b i at end (Some extend) = record { has = λ a m. m }
+  allocation_has b i at end (Some reserve) = has_self _
+  allocation_has b i at end (Some punch) = has_self _
+  allocation_has b i at end (Some zero_extend) = record { has = λ a m. m }
+  allocation_has b i at end (Some zero_within) = has_self _
+  allocation_has b i at end None = has_self _
 
   room_has : (index : ℕ) → Has (room_uses t s r index) (room_at t s r (written_by []) index)
   room_has zero = has_self (room_uses t s r zero)
   room_has (suc n) = has_self (room_uses t s r (suc n))
 
-  open_has : (b : Bool) (p : Path) (g : OpenFlags) (index : ℕ) → Has (shape_row t k r s (not_extending b) (opening p g index)) (shape_items (opening p g index))
+  open_has : (b : Bool) (p : Path) (g : OpenFlags) (index : ℕ) → Has (shape_row t k r s (tried b) (opening p g index)) (shape_items (opening p g index))
   open_has b p g index =
-      has_all whole (shape_taken t r s (opening p g index)) _
-      (has_all whole (path_reads s p) _ (has_first _ _ _ (has_first _ _ _ (has_first (path_reads s p) _ _ (has_self (path_reads s p))))) (has_second (path_reads s p ++ room_uses t s r index ++ made_where (not_extending b) (description_made t k)) _ _ (at (walk s.nodes p))))
+      has_all whole (shape_row t k r s foreseen (opening p g index)) _
+      (has_all whole ((path_reads s p ++ []) ++ []) _ (has_all whole (path_reads s p ++ []) [] (has_all whole (path_reads s p) [] (has_first _ _ _ (has_first _ _ _ (has_first (path_reads s p) _ _ (has_self (path_reads s p))))) (has_nothing whole)) (has_nothing whole)) (has_second (path_reads s p ++ room_uses t s r index ++ made_where (tried b) (description_made t k)) _ _ (at (walk s.nodes p))))
       (has_first _ _ _ (has_first _ _ _ (has_second (path_reads s p) _ _ (room_has index))))
     where
       whole : Footprint
-      whole = shape_row t k r s (not_extending b) (opening p g index)
+      whole = shape_row t k r s (tried b) (opening p g index)
 
-      placed : (q : Place) (y : Option Target) → Has (open_uses t k (not_extending b) g q y) (opened_taken g q y)
-      placed q None = elim g.create as (λ c. Has (cond c (name_written q ++ made_where (not_extending b) (writes (one (size_of (made_node t k))) ∷ [])) []) (cond c (name_written q) [])) [ true ↦ has_first (name_written q) _ _ (has_self (name_written q)) | false ↦ has_nothing [] ]
-      placed q (Some y) = has_self (opened_taken g q (Some y))
+      placed : (q : Place) (y : Option Target) → Has (open_uses t k (tried b) g q y) (open_uses t k foreseen g q y)
+      placed q None = elim g.create as (λ c. Has (cond c (name_written q ++ made_where (tried b) (writes (one (size_of (made_node t k))) ∷ [])) []) (cond c (name_written q ++ []) [])) [ true ↦ has_first (name_written q) _ _ (has_self (name_written q)) | false ↦ has_nothing [] ]
+      placed q (Some y) = has_self (open_uses t k foreseen g q (Some y))
 
-      at : (w : Result Place Errno) → Has (each_ok (λ (q : Place). open_uses t k (not_extending b) g q q.target) w) (each_ok (λ (q : Place). opened_taken g q q.target) w)
+      at : (w : Result Place Errno) → Has (each_ok (λ (q : Place). open_uses t k (tried b) g q q.target) w) (each_ok (λ (q : Place). open_uses t k foreseen g q q.target) w)
       at (Ok q) = placed q q.target
       at (Err e) = has_nothing []
 
-  mkdir_has : (b : Bool) (p : Path) → Has (shape_row t k r s (not_extending b) (making p)) (shape_taken t r s (making p))
+  mkdir_has : (b : Bool) (p : Path) → Has (shape_row t k r s (tried b) (making p)) (shape_row t k r s foreseen (making p))
   mkdir_has b p = has_both (path_reads s p) _ (path_reads s p) _ (has_self _) (at (walk s.nodes p))
     where
-      at : (w : Result Place Errno) → Has (each_ok (λ (q : Place). name_written q ++ made_where (not_extending b) (writes (one (names_in (made_node t k))) ∷ [])) w) (each_ok name_written w)
+      at : (w : Result Place Errno) → Has (each_ok (λ (q : Place). name_written q ++ made_where (tried b) (writes (one (names_in (made_node t k))) ∷ [])) w) (each_ok (λ (q : Place). name_written q ++ []) w)
       at (Ok q) = has_first (name_written q) _ _ (has_self (name_written q))
       at (Err e) = has_nothing []
 
-  moved_has : (b w : Bool) (f : File) (o n : ℕ) → Has (transfer_row t s r (not_extending b) w f o n) (transfer_taken t s r w f o n)
+  moved_has : (b w : Bool) (f : File) (o n : ℕ) → Has (transfer_row t s r (tried b) w f o n) (transfer_row t s r foreseen w f o n)
   moved_has b false f o n = has_self _
   moved_has b true f o n = write_has b f o n
 
-  shape_has : (b : Bool) (x : Shape) → Has (shape_row t k r s (not_extending b) x) (shape_items x)
+  shape_has : (b : Bool) (x : Shape) → Has (shape_row t k r s (tried b) x) (shape_items x)
   shape_has b idle = has_nothing _
   shape_has b (looking f) = only (looking f) _ (has_self _)
   shape_has b (moving w f o n None) = only (moving w f o n None) _ (moved_has b w f o n)
   shape_has b (moving w f o n (Some x)) = only (moving w f o n (Some x)) _ (has_both _ (span_use (not w) t r x) _ (span_use (not w) t r x) (moved_has b w f o n) (has_self _))
-  shape_has b (allocating f o n mode) = only (allocating f o n mode) _ (has_on_file f _ _ (λ i h. allocation_has o n i (allocation mode)))
+  shape_has b (allocating f o n mode) = only (allocating f o n mode) _ (has_on_file f _ _ (λ i h. allocation_has (would_extend s i (o + n)) i o (o + n) (allocation mode)))
   shape_has b (resizing f n) = only (resizing f n) _ (has_self _)
   shape_has b (closing number index) = only (closing number index) _ (has_self _)
   shape_has b (opening p g index) = open_has b p g index
@@ -126,7 +127,7 @@ module _ (t : Trace) (k r : ℕ) (s : World) where
   shape_has b (linking old new) = only (linking old new) _ (has_self _)
   shape_has b (renaming old new) = only (renaming old new) _ (has_self _)
 
-  row_has : (b : Bool) (o : Operation) → Has (row t k r s (not_extending b) o) (accepted_items o)
+  row_has : (b : Bool) (o : Operation) → Has (row t k r s (tried b) o) (accepted_items o)
   row_has b o = shape_has b (shape o)
 
   in_row : (b : Bool) (f : Footprint) → Has (cond b f (as_reads f)) f
@@ -135,7 +136,7 @@ module _ (t : Trace) (k r : ℕ) (s : World) where
 
   -- The row of an operation in a world has them.
   row_in_has : (o : Operation) → Has (row_in t k r s o) (accepted_items o)
-  row_in_has o = record { has = λ a h. (in_row (is_ok (meaning t k r s o)) (row t k r s (not_extending (is_ok (meaning t k r s o))) o)).has a ((row_has (is_ok (meaning t k r s o)) o).has a h) }
+  row_in_has o = record { has = λ a h. (in_row (is_ok (meaning t k r s o)) (row t k r s (tried (is_ok (meaning t k r s o))) o)).has a ((row_has (is_ok (meaning t k r s o)) o).has a h) }
 
 module _ (t : Trace) (k : ℕ) (s u : World) where
   any_room : (x : Option ℕ) (a : Atom) → T (has_atom (reads all_descriptors ∷ each (λ n. writes (one (descriptor_at n)) ∷ []) x) a) → T (member_of all_descriptors a)
@@ -151,19 +152,19 @@ module _ (t : Trace) (k : ℕ) (s u : World) where
   rooms r (Some zero) = record { has = λ a h. either_left (member_of all_descriptors a) _ (any_room (lowest_free t s) a h) }
   rooms r (Some (suc n)) = has_self (room_uses t s r (suc n))
 
-  operation_items : (r : ℕ) (o : Operation) → taken t r u o ≡ taken t r s o → Has (makes t k o ++ row_in t k r u o) (row_in t k r s o)
+  operation_items : (r : ℕ) (o : Operation) → taken t k r u o ≡ taken t k r s o → Has (makes t k o ++ row_in t k r u o) (row_in t k r s o)
   operation_items r o same = record { has = at }
     where
-      from_row : (a : Atom) → T (has_atom (taken t r u o ++ room_taken t u r [] o) a) → T (has_atom (makes t k o ++ row_in t k r u o) a)
+      from_row : (a : Atom) → T (has_atom (taken t k r u o ++ room_taken t u r [] o) a) → T (has_atom (makes t k o ++ row_in t k r u o) a)
       from_row a m = in_right (λ (v : Use). member_of v.item a) (makes t k o) (row_in t k r u o) ((row_in_has t k r u o).has a m)
 
       at : (a : Atom) → T (has_atom (row_in t k r s o) a) → T (has_atom (makes t k o ++ row_in t k r u o) a)
       at a h =
-          elim (split (λ (v : Use). member_of v.item a) (taken t r s o) (makes t k o ++ room_taken t s r [] o) ((accepted_over_row t k r s o []).has a tt h)) [
-            | inl m ↦ from_row a (in_left (λ (v : Use). member_of v.item a) (taken t r u o) (room_taken t u r [] o) (subst (λ f. T (has_atom f a)) (sym same) m))
+          elim (split (λ (v : Use). member_of v.item a) (taken t k r s o) (makes t k o ++ room_taken t s r [] o) ((accepted_over_row t k r s o []).has a tt h)) [
+            | inl m ↦ from_row a (in_left (λ (v : Use). member_of v.item a) (taken t k r u o) (room_taken t u r [] o) (subst (λ f. T (has_atom f a)) (sym same) m))
             | inr m ↦ elim (split (λ (v : Use). member_of v.item a) (makes t k o) (room_taken t s r [] o) m) [
               | inl n ↦ in_left (λ (v : Use). member_of v.item a) (makes t k o) (row_in t k r u o) n
-              | inr n ↦ from_row a (in_right (λ (v : Use). member_of v.item a) (taken t r u o) (room_taken t u r [] o) ((rooms r (room_asked o)).has a n))
+              | inr n ↦ from_row a (in_right (λ (v : Use). member_of v.item a) (taken t k r u o) (room_taken t u r [] o) ((rooms r (room_asked o)).has a n))
             ]
           ]
 
