@@ -18,12 +18,11 @@ use Rattle.file_tree.specs.Tree.{Target, kind_of_node}
 use Rattle.file_tree.specs.Walk.{Place, walk, walk_from, names_from, directory_at, fits_name, starts_at_root, is_directory}
 use Rattle.op_meaning.specs.Meaning.{made_node, made_description, slot_count, span_start, Handle, handle_of, held, is_file, allocation, Allocation, extend, reserve, punch, zero_extend, zero_within}
 use Rattle.world_parts.specs.Items.{Atom, description_at, position_of, size_of, byte_at, name_at, names_in, buffer_byte, Item, one, file_bytes, buffer_bytes, member_of, Use, reads, writes, Footprint, has_atom}
-use Rattle.op_meaning.specs.Footprint.{Shape, idle, looking, moving, allocating, resizing, closing, opening, making, freeing, linking, renaming, shape, through, foreseen, transfer_row, shape_row, write_row, allocation_uses, open_uses, use_of, held_item, file_reads, of_file, of_description, on_file, range_of, transfer_range, position_written, position_use, span_use, path_reads, name_written, directory_names, close_row}
+use Rattle.op_meaning.specs.Footprint.{Shape, idle, looking, moving, allocating, resizing, closing, opening, making, freeing, linking, renaming, shape, through, foreseen, transfer_row, shape_row, write_row, allocation_uses, open_uses, use_of, held_item, file_reads, of_file, of_description, on_file, range_of, transfer_range, position_written, position_use, span_use, path_reads, name_written, directory_names, close_row, read_content, write_content, allocated_content, resized_content}
 use Rattle.foot_print.specs.Reach.{taken}
 use Rattle.foot_print.specs.Replayed.{IsBefore, is_earlier}
 use Rattle.world_parts.proofs.Collision.{same_atom-eq}
 use Rattle.foot_print.proofs.Holding.{split, drop_false}
-use Rattle.foot_print.proofs.RowsSeen.{read_content, write_content, cut_content, allocated}
 
 none_some : {A : Type 0} (o : Option A) → o ≡ None → is_some o ≡ true → ⊥
 none_some o e h = subst T (sym h ∙ ap is_some e) tt
@@ -132,7 +131,7 @@ module _ (t : Trace) (k : ℕ) (s : World) (w : IsWorld s) (before : IsBefore t 
         (bound_all (reads (transfer_range i (o == at_position) o n) ∷ []) (position_written h o) (bound_transferred false (o == at_position) i o n e) (bound_position o h d)))
 
     bound_write : (f : File) (o n : ℕ) → Bound (write_row t s r foreseen f o n)
-    bound_write f o n = bound_transfer f o (write_content o n) (λ i h e d. bound_all (writes (one (size_of i)) ∷ []) (writes (transfer_range i (h.opened.append || o == at_position) o n) ∷ position_written h o) (bound_one (size_of i) true e)
+    bound_write f o n = bound_transfer f o (write_content s foreseen o n) (λ i h e d. bound_all (writes (one (size_of i)) ∷ []) (writes (transfer_range i (h.opened.append || o == at_position) o n) ∷ position_written h o) (bound_one (size_of i) true e)
         (bound_all (writes (transfer_range i (h.opened.append || o == at_position) o n) ∷ []) (position_written h o) (bound_transferred true (h.opened.append || o == at_position) i o n e) (bound_position o h d)))
 
     bound_span : (v : Bool) (x : Span) → Bound (span_use v t r x)
@@ -239,8 +238,8 @@ module _ (t : Trace) (k : ℕ) (s : World) (w : IsWorld s) (before : IsBefore t 
     shape_bound (looking f) = bound_held false r f.registered f.number
     shape_bound (moving w f o n None) = bound_moved w f o n
     shape_bound (moving w f o n (Some x)) = bound_all _ (span_use (not w) t r x) (bound_moved w f o n) (bound_span (not w) x)
-    shape_bound (allocating f o n mode) = bound_file f (allocated o n mode) (λ i h e d. bound_allocation i o (o + n) (allocation mode) e)
-    shape_bound (resizing f n) = bound_file f (cut_content n) (λ i h e d. bound_cut i n e)
+    shape_bound (allocating f o n mode) = bound_file f (allocated_content s foreseen o n mode) (λ i h e d. bound_allocation i o (o + n) (allocation mode) e)
+    shape_bound (resizing f n) = bound_file f (resized_content n) (λ i h e d. bound_cut i n e)
     shape_bound (closing number index) = bound_close number index
     shape_bound (opening p g index) = bound_all ((path_reads s p ++ []) ++ []) _ (bound_all (path_reads s p ++ []) [] (bound_all (path_reads s p) [] (bound_path p) bound_nothing) bound_nothing) (bound_place (λ (q : Place). open_uses t k foreseen g q q.target) (λ q e l. bound_opened g q e q.target l) (walk s.nodes p) (placed p))
     shape_bound (making p) = bound_all (path_reads s p) _ (bound_path p) (bound_place (λ (q : Place). name_written q ++ []) (λ q e l. bound_all (name_written q) [] (bound_name q e) bound_nothing) (walk s.nodes p) (placed p))

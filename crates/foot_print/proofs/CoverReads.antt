@@ -14,8 +14,8 @@ use Rattle.entry_checks.specs.Operation.{read, readv, read_fixed, File, Span, at
 use Rattle.trace_format.specs.Sides.{most_moved}
 use Rattle.world_parts.specs.World.{World, set_position}
 use Rattle.op_meaning.specs.Meaning.{Effect, done, Handle, handle, can_read, is_file, is_bad_offset, Destination, reply, into, delivered, advance, transfer_start, bytes_in, read_effect, readable, read_meaning, span_start, span_destination}
-use Rattle.world_parts.specs.Items.{position_of, buffer_byte, size_of, member_of, one, buffer_bytes, Use, reads, writes, Footprint, writes_atom}
-use Rattle.op_meaning.specs.Footprint.{on_file, transfer_range, position_written, position_use, read_row, span_use}
+use Rattle.world_parts.specs.Items.{position_of, buffer_byte, member_of, one, buffer_bytes, Use, writes, Footprint, writes_atom}
+use Rattle.op_meaning.specs.Footprint.{on_file, position_written, position_use, read_row, span_use, read_content}
 use Rattle.foot_print.specs.Laws.{Awaits}
 use Rattle.world_parts.proofs.Collision.{both, either_left, left, right, true_of}
 use Rattle.foot_print.proofs.Agreement.{in_left, in_right, agree_left}
@@ -62,9 +62,6 @@ module _ (t : Trace) (r : ℕ) (f : File) (o n : ℕ) (span : Result Destination
       let y = was_required (not (is_bad_offset o)) EINVAL _ e x.2 in
       supports_effect g s _ e y.1 (moves m.0 x.0 (n == 0) (subst (λ h. T (is_file h.opened)) (ok_same l.0 m.0 i.1) i.0) there (d x.0 x.1))
     where
-      content : ℕ → Handle → Footprint
-      content i h = reads (one (size_of i)) ∷ reads (transfer_range i (o == at_position) o n) ∷ position_written h o
-
       moves : (h : Handle) (to : Destination) (none : Bool) → T (is_file h.opened) → handle t s r f ≡ Some h → IsWritten to → SupportsAll g s (cond none (done []) (read_effect s r h o n to)).changes
       moves h to true i there w = tt
       moves h to false i there w =
@@ -72,8 +69,8 @@ module _ (t : Trace) (r : ℕ) (f : File) (o n : ℕ) (span : Result Destination
           let x = take n (drop at (bytes_in s h.opened.target.node)) in
           let l = length-take n (drop at (bytes_in s h.opened.target.node)) in
           delivered_supported h (at + length x) x to (omega arith) (λ p. c.uses (λ (z : Use). z.written && member_of z.item (position_of h.description))
-          (in_left (λ (z : Use). z.written && member_of z.item (position_of h.description)) (on_file t s r f content) (position_use t s r f o)
-          (in_on_file t s r f content (λ (z : Use). z.written && member_of z.item (position_of h.description)) h there i (position_is_written h o p)))) w
+          (in_left (λ (z : Use). z.written && member_of z.item (position_of h.description)) (on_file t s r f (read_content o n)) (position_use t s r f o)
+          (in_on_file t s r f (read_content o n) (λ (z : Use). z.written && member_of z.item (position_of h.description)) h there i (position_is_written h o p)))) w
 
 pub read_owes : (t : Trace) (k r : ℕ) (s : World) (f : File) (o n : ℕ) → Awaits t k s → Owes t k r (read f o n) s
 read_owes t k r s f o n w = record {

@@ -12,7 +12,7 @@ use Rattle.world_parts.specs.Items.{Atom, chain_flag, slot_at, descriptor_at, po
 use Rattle.world_parts.specs.Part.{is_narrow_use, is_narrow}
 use Rattle.op_meaning.specs.Meaning.{meaning, made_node, slot_count, span_start, Handle, handle, handle_of, held, is_file, allocation, Allocation, extend, reserve, punch, zero_extend, zero_within, lowest_free}
 use Rattle.op_meaning.specs.Step.{Turn, filled, refused, canceled, runs, turn}
-use Rattle.op_meaning.specs.Footprint.{Shape, idle, looking, moving, allocating, resizing, closing, opening, making, freeing, linking, renaming, shape, transfer_row, shape_row, use_of, as_reads, Taken, tried, is_accepted, is_foreseen, held_item, file_reads, range_of, transfer_range, position_written, of_file, of_description, on_file, span_use, position_use, would_extend, read_row, write_row, allocation_uses, path_reads, name_written, made_where, room_where, directory_names, room_uses, description_made, open_uses, openat_row, close_row, unlinkat_row, renameat_row, row, row_in, order_uses, turn_uses, ring_at}
+use Rattle.op_meaning.specs.Footprint.{Shape, idle, looking, moving, allocating, resizing, closing, opening, making, freeing, linking, renaming, shape, transfer_row, shape_row, use_of, as_reads, Taken, tried, is_accepted, is_foreseen, held_item, file_reads, range_of, transfer_range, position_written, of_file, of_description, on_file, span_use, position_use, would_extend, read_row, write_row, allocation_uses, path_reads, name_written, made_where, room_where, directory_names, room_uses, description_made, open_uses, openat_row, close_row, unlinkat_row, renameat_row, row, row_in, order_uses, turn_uses, ring_at, read_content}
 use Rattle.foot_print.specs.Parts.{FootprintsAreNarrow}
 use Rattle.foot_print.proofs.Holding.{all_append, all_each, all_each_ok}
 use Rattle.foot_print.proofs.CoverWrites.{content}
@@ -61,7 +61,7 @@ module _ (t : Trace) (s : World) (r : ℕ) where
   moving_narrow f o c h = both_narrow (on_file t s r f c) _ (file_narrow f c h) (all_each is_narrow_use (λ g. position_written g o) (handle t s r f) (position_narrow o))
 
   reading_narrow : (f : File) (o n : ℕ) → T (is_narrow (read_row t s r f o n))
-  reading_narrow f o n = moving_narrow f o (λ i h. reads (one (size_of i)) ∷ reads (transfer_range i (o == at_position) o n) ∷ position_written h o) (λ i h. both (is_narrow_use (reads (transfer_range i (o == at_position) o n))) _ (range_narrow (o == at_position) i o (o + n) false) (position_narrow o h))
+  reading_narrow f o n = moving_narrow f o (read_content o n) (λ i h. both (is_narrow_use (reads (transfer_range i (o == at_position) o n))) _ (range_narrow (o == at_position) i o (o + n) false) (position_narrow o h))
 
   writing_narrow : (x : Taken) (f : File) (o n : ℕ) → T (is_narrow (write_row t s r x f o n))
   writing_narrow x f o n = moving_narrow f o (content s (is_foreseen x) o n) (λ i h. both (is_narrow_use (writes (transfer_range i (h.opened.append || o == at_position) o n))) _ (range_narrow (h.opened.append || o == at_position) i o (o + n) true) (position_narrow o h))

@@ -10,10 +10,9 @@ use Rattle.file_tree.specs.Tree.{Target}
 use Rattle.file_tree.specs.Walk.{Place, walk}
 use Rattle.op_meaning.specs.Meaning.{meaning, made_node, Handle, allocation, Allocation, extend, reserve, punch, zero_extend, zero_within}
 use Rattle.world_parts.specs.Items.{Atom, description_at, position_of, size_of, byte_at, name_at, names_in, same_atom, Item, one, file_bytes, all_names, all_bytes_and_sizes, all_descriptors, member_of, Use, reads, writes, Footprint, has_atom, writes_atom}
-use Rattle.op_meaning.specs.Footprint.{Shape, idle, looking, moving, allocating, resizing, closing, opening, making, freeing, linking, renaming, shape, transfer_row, shape_row, tried, foreseen, use_of, position_use, span_use, write_row, allocation_uses, path_reads, name_written, made_where, room_uses, description_made, open_uses, openat_row, mkdirat_row, row, row_in, would_extend}
+use Rattle.op_meaning.specs.Footprint.{Shape, idle, looking, moving, allocating, resizing, closing, opening, making, freeing, linking, renaming, shape, transfer_row, shape_row, tried, foreseen, use_of, position_use, span_use, write_row, allocation_uses, path_reads, name_written, made_where, room_uses, description_made, open_uses, openat_row, mkdirat_row, row, row_in, would_extend, write_content}
 use Rattle.foot_print.specs.Reach.{written_by, shape_makes, shape_asked, room_asked, room_at, node_made, room_taken}
 use Rattle.world_parts.proofs.Collision.{same_atom-eq}
-use Rattle.foot_print.proofs.RowsSeen.{write_content}
 use Rattle.foot_print.proofs.Holding.{Over, always, drop_false, over_self, over_nothing, over_all, over_first, over_second, over_both, over_written, over_reads, over_taken, over_on_file}
 
 module _ (t : Trace) (k r : ℕ) (s : World) where
@@ -28,7 +27,7 @@ module _ (t : Trace) (k r : ℕ) (s : World) where
 
   write_held : (b : Bool) (f : File) (o n : ℕ) → Over always (write_row t s r foreseen f o n) (write_row t s r (tried b) f o n)
   write_held b f o n = over_both always _ (position_use t s r f o) _ (position_use t s r f o)
-      (over_on_file always t s r f (write_content o n) _ (λ i h. over_both always (writes (one (size_of i)) ∷ []) _ (use_of (grows i h) (one (size_of i)) ∷ []) _ (over_written always (grows i h) (one (size_of i))) (over_self always _)))
+      (over_on_file always t s r f (write_content s foreseen o n) _ (λ i h. over_both always (writes (one (size_of i)) ∷ []) _ (use_of (grows i h) (one (size_of i)) ∷ []) _ (over_written always (grows i h) (one (size_of i))) (over_self always _)))
       (over_self always (position_use t s r f o))
     where
       grows : ℕ → Handle → Bool

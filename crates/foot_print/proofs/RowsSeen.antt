@@ -1,16 +1,16 @@
 -- What an operation looks up tells its items, and stands in its row.
-use Rattle.std.specs.Prelude.{◌≡◌, ℕ, zero, suc, Bool, true, false, cond, not, ◌&&◌, ◌||◌, ◌==◌, ◌+◌, length, T, List, [], ◌∷◌, ◌++◌, Option, Some, None, refl, is_ok, is_none}
+use Rattle.std.specs.Prelude.{◌≡◌, ℕ, zero, suc, Bool, true, false, cond, not, length, T, List, [], ◌∷◌, ◌++◌, Option, Some, None, refl, is_ok, is_none}
 use Rattle.std.specs.List.{find, range_with_len}
 use Rattle.std.specs.Option.{option_map}
 use mathlib.Core.Path.{sym, subst, ap, ◌∙◌, fun_ext}
 use Rattle.trace_format.specs.declared.trace.Trace.{Trace}
 use Rattle.sqe_codec.specs.Answers.{each, each_ok}
-use Rattle.entry_checks.specs.Operation.{Operation, File, Path, file_limit, at_position}
+use Rattle.entry_checks.specs.Operation.{Operation, File, Path}
 use Rattle.world_parts.specs.World.{World, descriptor}
 use Rattle.file_tree.specs.Walk.{Place, walk}
-use Rattle.op_meaning.specs.Meaning.{meaning, Handle, held, lowest_free, allocation}
-use Rattle.world_parts.specs.Items.{Atom, description_at, descriptor_at, size_of, one, all_descriptors, reads, writes, Footprint, has_atom, Agree}
-use Rattle.op_meaning.specs.Footprint.{Shape, idle, looking, moving, allocating, resizing, closing, opening, making, freeing, linking, renaming, shape, through, tried, foreseen, transfer_row, shape_row, as_reads, use_of, range_of, transfer_range, would_extend, allocation_uses, file_reads, of_file, of_description, on_file, position_written, position_use, span_use, path_reads, name_written, directory_names, room_uses, open_uses, row, row_in}
+use Rattle.op_meaning.specs.Meaning.{meaning, Handle, held, lowest_free}
+use Rattle.world_parts.specs.Items.{Atom, description_at, descriptor_at, one, all_descriptors, reads, writes, Footprint, has_atom, Agree}
+use Rattle.op_meaning.specs.Footprint.{Shape, idle, looking, moving, allocating, resizing, closing, opening, making, freeing, linking, renaming, shape, through, tried, foreseen, transfer_row, shape_row, as_reads, file_reads, of_file, of_description, on_file, position_written, position_use, span_use, path_reads, name_written, room_uses, row, row_in, read_content, write_content, allocated_content, resized_content, opened_at, directory_made, name_freed}
 use Rattle.foot_print.specs.Reach.{written_by, shape_seen, shape_asked, room_asked, room_at, seen, file_seen, taken, room_taken}
 use Rattle.foot_print.proofs.Agreement.{agree_left, agree_right, agree_head, has_atom-as_reads, held_same, handle_same}
 use Rattle.foot_print.proofs.CoverWalk.{walk_same, path_reads_same}
@@ -23,21 +23,6 @@ IsLowest _ = ⊥
 
 abbrev no_content : ℕ → Handle → Footprint
 no_content i h = []
-
-abbrev pub read_content : ℕ → ℕ → ℕ → Handle → Footprint
-read_content o n i h = reads (one (size_of i)) ∷ reads (transfer_range i (o == at_position) o n) ∷ position_written h o
-
-abbrev pub write_content : ℕ → ℕ → ℕ → Handle → Footprint
-write_content o n i h = writes (one (size_of i)) ∷ writes (transfer_range i (h.opened.append || o == at_position) o n) ∷ position_written h o
-
-abbrev pub allocated : ℕ → ℕ → ℕ → ℕ → Handle → Footprint
-allocated o n mode i h = allocation_uses true i o (o + n) (allocation mode)
-
-abbrev write_uses : World → ℕ → ℕ → ℕ → Handle → Footprint
-write_uses s o n i h = use_of (h.opened.append || o == at_position || (not (n == 0) && would_extend s i (o + n))) (one (size_of i)) ∷ writes (transfer_range i (h.opened.append || o == at_position) o n) ∷ position_written h o
-
-abbrev pub cut_content : ℕ → ℕ → Handle → Footprint
-cut_content n i h = writes (one (size_of i)) ∷ writes (range_of i n file_limit) ∷ []
 
 module _ (t : Trace) (r : ℕ) (s u : World) where
   on_file_told : (f : File) (c : ℕ → Handle → Footprint) → Agree (file_seen t s r f) s u → on_file t u r f c ≡ on_file t s r f c
@@ -76,22 +61,22 @@ module _ (t : Trace) (r : ℕ) (s u : World) where
 
   moved_same : (w : Bool) (f : File) (o n : ℕ) → Agree (file_seen t s r f) s u → transfer_row t u r foreseen w f o n ≡ transfer_row t s r foreseen w f o n
   moved_same false f o n a = transfer_told f (read_content o n) o a
-  moved_same true f o n a = transfer_told f (write_content o n) o a
+  moved_same true f o n a = transfer_told f (write_content s foreseen o n) o a
 
   foreseen_same : (k : ℕ) (x : Shape) → Agree (shape_seen t r s x) s u → shape_row t k r u foreseen x ≡ shape_row t k r s foreseen x
   foreseen_same k idle a = refl
   foreseen_same k (looking f) a = refl
   foreseen_same k (moving w f o n x) a = ap (through w t r x) (moved_same w f o n a)
-  foreseen_same k (allocating f o n mode) a = on_file_told f (allocated o n mode) a
-  foreseen_same k (resizing f n) a = on_file_told f (cut_content n) a
+  foreseen_same k (allocating f o n mode) a = on_file_told f (allocated_content s foreseen o n mode) a
+  foreseen_same k (resizing f n) a = on_file_told f (resized_content n) a
   foreseen_same k (closing number index) a = refl
-  foreseen_same k (opening p g index) a = λ i. (path_reads_same s u p a i ++ []) ++ [] ++ each_ok (λ (q : Place). open_uses t k foreseen g q q.target) (walk_same s u p a i)
-  foreseen_same k (making p) a = path_told p (λ (q : Place). name_written q ++ []) a
-  foreseen_same k (freeing p removes) a = path_told p (λ (q : Place). name_written q ++ cond removes (directory_names q.target) []) a
+  foreseen_same k (opening p g index) a = λ i. (path_reads_same s u p a i ++ []) ++ [] ++ each_ok (opened_at t k foreseen g) (walk_same s u p a i)
+  foreseen_same k (making p) a = path_told p (directory_made t k foreseen) a
+  foreseen_same k (freeing p removes) a = path_told p (name_freed removes) a
   foreseen_same k (linking old new) a = λ i. two_told old new a i ++ each_ok name_written (walk_same s u new (agree_right s u (path_reads s old) _ a) i)
   foreseen_same k (renaming old new) a =
       λ i. two_told old new a i ++ each_ok name_written (walk_same s u old (agree_left s u _ _ a) i)
-      ++ each_ok (λ (q : Place). name_written q ++ directory_names q.target) (walk_same s u new (agree_right s u (path_reads s old) _ a) i)
+      ++ each_ok (name_freed true) (walk_same s u new (agree_right s u (path_reads s old) _ a) i)
 
   pub taken_same : (k : ℕ) (o : Operation) → Agree (seen t r s o) s u → taken t k r u o ≡ taken t k r s o
   taken_same k o = foreseen_same k (shape o)
@@ -132,15 +117,15 @@ module _ (t : Trace) (k r : ℕ) (s : World) where
 
   moved_seen : (b w : Bool) (f : File) (o n : ℕ) → Over always (transfer_row t s r (tried b) w f o n) (file_seen t s r f)
   moved_seen b false f o n = transfer_seen f (read_content o n) (position_use t s r f o)
-  moved_seen b true f o n = transfer_seen f (write_uses s o n) (position_use t s r f o)
+  moved_seen b true f o n = transfer_seen f (write_content s (tried b) o n) (position_use t s r f o)
 
   shape_row_seen : (b : Bool) (x : Shape) → Over always (shape_row t k r s (tried b) x) (shape_seen t r s x)
   shape_row_seen b idle = over_nothing always _
   shape_row_seen b (looking f) = over_nothing always _
   shape_row_seen b (moving w f o n None) = moved_seen b w f o n
   shape_row_seen b (moving w f o n (Some x)) = over_first always _ (span_use (not w) t r x) _ (moved_seen b w f o n)
-  shape_row_seen b (allocating f o n mode) = on_file_seen f (λ i h. allocation_uses (would_extend s i (o + n)) i o (o + n) (allocation mode))
-  shape_row_seen b (resizing f n) = on_file_seen f (cut_content n)
+  shape_row_seen b (allocating f o n mode) = on_file_seen f (allocated_content s (tried b) o n mode)
+  shape_row_seen b (resizing f n) = on_file_seen f (resized_content n)
   shape_row_seen b (closing number index) = over_nothing always _
   shape_row_seen b (opening p g index) = over_first always _ _ _ (over_first always _ _ _ (path_first (path_reads s p) (room_uses t s r index)))
   shape_row_seen b (making p) = path_first (path_reads s p) _

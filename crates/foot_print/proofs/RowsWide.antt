@@ -11,11 +11,10 @@ use Rattle.file_tree.specs.Tree.{Target}
 use Rattle.file_tree.specs.Walk.{Place, walk, is_directory, names_on}
 use Rattle.op_meaning.specs.Meaning.{made_node, Handle, handle, handle_of, held, is_file, allocation, Allocation, extend, reserve, punch, zero_extend, zero_within}
 use Rattle.world_parts.specs.Items.{Atom, description_at, position_of, size_of, byte_at, name_at, names_in, Item, one, file_bytes, all_bytes_and_sizes, member_of, Use, reads, writes, Footprint, has_atom, writes_atom}
-use Rattle.op_meaning.specs.Footprint.{Shape, idle, looking, moving, allocating, resizing, closing, opening, making, freeing, linking, renaming, shape, through, foreseen, transfer_row, shape_row, write_row, allocation_uses, open_uses, openat_row, file_reads, of_file, of_description, on_file, range_of, position_written, position_use, span_use, path_reads, name_written, directory_names}
+use Rattle.op_meaning.specs.Footprint.{Shape, idle, looking, moving, allocating, resizing, closing, opening, making, freeing, linking, renaming, shape, foreseen, transfer_row, shape_row, write_row, allocation_uses, open_uses, openat_row, file_reads, of_file, of_description, on_file, range_of, position_written, position_use, span_use, path_reads, name_written, directory_names, read_content, write_content, allocated_content, transfer_range, read_row}
 use Rattle.foot_print.specs.Reach.{unresolved_shape, taken, all_files, any_name, unresolved_file, unresolved_row}
 use Rattle.foot_print.specs.Replayed.{is_earlier}
 use Rattle.world_parts.proofs.Collision.{both, left, right, either_left, same_atom-eq}
-use Rattle.foot_print.proofs.RowsSeen.{write_content, allocated}
 use Rattle.foot_print.proofs.Holding.{Over, drop_false, over_self, over_nothing, over_all, over_first, over_second, over_both, over_uses, all_append, all_each}
 
 -- Uses of a file and its description, and of names.
@@ -97,11 +96,11 @@ module _ (t : Trace) (k : ℕ) where
     transfer_item true i low high w = tt
     transfer_item false i low high w = tt
 
-    read_held : (f : File) (o n : ℕ) → Over earlier (unresolved_file t k r f) (Rattle.op_meaning.specs.Footprint.read_row t s r f o n)
-    read_held f o n = transfer_held f o (λ i h. reads (one (size_of i)) ∷ reads (Rattle.op_meaning.specs.Footprint.transfer_range i (o == at_position) o n) ∷ position_written h o) (λ i h. both (is_file_use (reads (Rattle.op_meaning.specs.Footprint.transfer_range i (o == at_position) o n))) _ (transfer_item (o == at_position) i o (o + n) false) (position_uses o h))
+    read_held : (f : File) (o n : ℕ) → Over earlier (unresolved_file t k r f) (read_row t s r f o n)
+    read_held f o n = transfer_held f o (read_content o n) (λ i h. both (is_file_use (reads (transfer_range i (o == at_position) o n))) _ (transfer_item (o == at_position) i o (o + n) false) (position_uses o h))
 
     write_held : (f : File) (o n : ℕ) → Over earlier (unresolved_file t k r f) (write_row t s r foreseen f o n)
-    write_held f o n = transfer_held f o (write_content o n) (λ i h. both (is_file_use (writes (Rattle.op_meaning.specs.Footprint.transfer_range i (h.opened.append || o == at_position) o n))) _ (transfer_item (h.opened.append || o == at_position) i o (o + n) true) (position_uses o h))
+    write_held f o n = transfer_held f o (write_content s foreseen o n) (λ i h. both (is_file_use (writes (transfer_range i (h.opened.append || o == at_position) o n))) _ (transfer_item (h.opened.append || o == at_position) i o (o + n) true) (position_uses o h))
 
     allocation_uses_files : (i at end : ℕ) (a : Option Allocation) → T (list_all is_file_use (allocation_uses true i at end a))
     allocation_uses_files i at end (Some extend) = tt
@@ -178,7 +177,7 @@ module _ (t : Trace) (k : ℕ) where
     unresolved_over_shape (looking f) = over_self earlier _
     unresolved_over_shape (moving w f o n None) = moved_held w f o n
     unresolved_over_shape (moving w f o n (Some x)) = over_both earlier _ (span_use (not w) t r x) _ (span_use (not w) t r x) (moved_held w f o n) (over_self earlier _)
-    unresolved_over_shape (allocating f o n mode) = on_file_held f (allocated o n mode) (λ i h. allocation_uses_files i o (o + n) (allocation mode))
+    unresolved_over_shape (allocating f o n mode) = on_file_held f (allocated_content s foreseen o n mode) (λ i h. allocation_uses_files i o (o + n) (allocation mode))
     unresolved_over_shape (resizing f n) = on_file_held f (λ i h. writes (one (size_of i)) ∷ writes (range_of i n file_limit) ∷ []) (λ i h. tt)
     unresolved_over_shape (closing number index) = over_self earlier _
     unresolved_over_shape (opening p g index) = open_held p g index

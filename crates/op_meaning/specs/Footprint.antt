@@ -77,23 +77,27 @@ span_use w t r x = each (λ at. use_of w (buffer_bytes r x.index at (at + x.leng
 abbrev pub position_use : Trace → World → ℕ → File → ℕ → Footprint
 position_use t s r f o = each (λ h. position_written h o) (handle t s r f)
 
+-- What a read has of its file.
+abbrev pub read_content : ℕ → ℕ → ℕ → Handle → Footprint
+read_content o n i h = reads (one (size_of i)) ∷ reads (transfer_range i (o == at_position) o n) ∷ position_written h o
+
 abbrev pub read_row : Trace → World → ℕ → File → ℕ → ℕ → Footprint
-read_row t s r f o n =
-    on_file t s r f (λ i h. reads (one (size_of i)) ∷ reads (transfer_range i (o == at_position) o n) ∷ position_written h o) ++ position_use t s r f o
+read_row t s r f o n = on_file t s r f (read_content o n) ++ position_use t s r f o
 
 -- Whether a change up to an end, below the largest size, would make a file longer.
 abbrev pub would_extend : World → ℕ → ℕ → Bool
 would_extend s i end = ltb (length (bytes_in s i)) (min end file_limit)
 
-abbrev pub write_row : Trace → World → ℕ → Taken → File → ℕ → ℕ → Footprint
-write_row t s r x f o n = on_file t s r f content ++ position_use t s r f o
-  where
-    content : ℕ → Handle → Footprint
-    content i h =
-        let anywhere = h.opened.append || o == at_position in
-        use_of (is_foreseen x || anywhere || (not (n == 0) && would_extend s i (o + n))) (one (size_of i)) ∷ writes (transfer_range i anywhere o n) ∷ position_written h o
+-- What a write has of its file: the size, written where the file may become longer or tells where the write starts.
+abbrev pub write_content : World → Taken → ℕ → ℕ → ℕ → Handle → Footprint
+write_content s x o n i h =
+    let anywhere = h.opened.append || o == at_position in
+    use_of (is_foreseen x || anywhere || (not (n == 0) && would_extend s i (o + n))) (one (size_of i)) ∷ writes (transfer_range i anywhere o n) ∷ position_written h o
 
--- What an allocation has of the file: its size, written where the file may grow, and the range that becomes zero.
+abbrev pub write_row : Trace → World → ℕ → Taken → File → ℕ → ℕ → Footprint
+write_row t s r x f o n = on_file t s r f (write_content s x o n) ++ position_use t s r f o
+
+-- What an allocation up to an end has of the file: its size, written where the file may grow, and the range that becomes zero.
 abbrev pub allocation_uses : Bool → ℕ → ℕ → ℕ → Option Allocation → Footprint
 allocation_uses grows i at end (Some extend) = use_of grows (one (size_of i)) ∷ []
 allocation_uses grows i at end (Some reserve) = reads (one (size_of i)) ∷ []
@@ -102,11 +106,18 @@ allocation_uses grows i at end (Some zero_extend) = use_of grows (one (size_of i
 allocation_uses grows i at end (Some zero_within) = reads (one (size_of i)) ∷ writes (range_of i at end) ∷ []
 allocation_uses grows i at end None = reads (one (size_of i)) ∷ []
 
+abbrev pub allocated_content : World → Taken → ℕ → ℕ → ℕ → ℕ → Handle → Footprint
+allocated_content s x o n mode i h = allocation_uses (is_foreseen x || would_extend s i (o + n)) i o (o + n) (allocation mode)
+
 abbrev pub fallocate_row : Trace → World → ℕ → Taken → File → ℕ → ℕ → ℕ → Footprint
-fallocate_row t s r x f o n mode = on_file t s r f (λ i h. allocation_uses (is_foreseen x || would_extend s i (o + n)) i o (o + n) (allocation mode))
+fallocate_row t s r x f o n mode = on_file t s r f (allocated_content s x o n mode)
+
+-- What a new size has of the file: the size, and the bytes behind it.
+abbrev pub resized_content : ℕ → ℕ → Handle → Footprint
+resized_content n i h = writes (one (size_of i)) ∷ writes (range_of i n file_limit) ∷ []
 
 abbrev pub ftruncate_row : Trace → World → ℕ → File → ℕ → Footprint
-ftruncate_row t s r f n = on_file t s r f (λ i h. writes (one (size_of i)) ∷ writes (range_of i n file_limit) ∷ [])
+ftruncate_row t s r f n = on_file t s r f (resized_content n)
 
 -- The names that a walk looks up.
 abbrev pub path_reads : World → Path → Footprint
@@ -134,24 +145,35 @@ abbrev pub open_uses : Trace → ℕ → Taken → OpenFlags → Place → Optio
 open_uses t k x g q None = if g.create then name_written q ++ made_where x (writes (one (size_of (made_node t k))) ∷ []) else []
 open_uses t k x g q (Some y) = if g.truncate && not (is_directory y.kind) then writes (one (size_of y.node)) ∷ writes (range_of y.node 0 file_limit) ∷ [] else []
 
+abbrev pub opened_at : Trace → ℕ → Taken → OpenFlags → Place → Footprint
+opened_at t k x g q = open_uses t k x g q q.target
+
 abbrev pub openat_row : Trace → World → ℕ → ℕ → Taken → Path → OpenFlags → ℕ → Footprint
-openat_row t s k r x p g index = path_reads s p ++ room_where x (room_uses t s r index) ++ made_where x (description_made t k) ++ each_ok (λ (q : Place). open_uses t k x g q q.target) (walk s.nodes p)
+openat_row t s k r x p g index = path_reads s p ++ room_where x (room_uses t s r index) ++ made_where x (description_made t k) ++ each_ok (opened_at t k x g) (walk s.nodes p)
 
 abbrev pub close_row : Trace → ℕ → ℤ → ℕ → Footprint
 close_row t r number zero = map writes (held_item t r false number)
 close_row t r number (suc n) = map writes (held_item t r true (pos n))
 
+-- A name that may be freed: of a directory, where that may be removed or replaced, the number of names too.
+abbrev pub name_freed : Bool → Place → Footprint
+name_freed removes q = name_written q ++ (if removes then directory_names q.target else [])
+
 abbrev pub unlinkat_row : World → Path → Bool → Footprint
-unlinkat_row s p removes = path_reads s p ++ each_ok (λ (q : Place). name_written q ++ (if removes then directory_names q.target else [])) (walk s.nodes p)
+unlinkat_row s p removes = path_reads s p ++ each_ok (name_freed removes) (walk s.nodes p)
+
+-- The name that a directory is made at, and where it is made its number of names.
+abbrev pub directory_made : Trace → ℕ → Taken → Place → Footprint
+directory_made t k x q = name_written q ++ made_where x (writes (one (names_in (made_node t k))) ∷ [])
 
 abbrev pub mkdirat_row : Trace → World → ℕ → Taken → Path → Footprint
-mkdirat_row t s k x p = path_reads s p ++ each_ok (λ (q : Place). name_written q ++ made_where x (writes (one (names_in (made_node t k))) ∷ [])) (walk s.nodes p)
+mkdirat_row t s k x p = path_reads s p ++ each_ok (directory_made t k x) (walk s.nodes p)
 
 abbrev pub linkat_row : World → Path → Path → Footprint
 linkat_row s old new = path_reads s old ++ path_reads s new ++ each_ok name_written (walk s.nodes new)
 
 abbrev pub renameat_row : World → Path → Path → Footprint
-renameat_row s old new = path_reads s old ++ path_reads s new ++ each_ok name_written (walk s.nodes old) ++ each_ok (λ (q : Place). name_written q ++ directory_names q.target) (walk s.nodes new)
+renameat_row s old new = path_reads s old ++ path_reads s new ++ each_ok name_written (walk s.nodes old) ++ each_ok (name_freed true) (walk s.nodes new)
 
 -- What the uses of an operation depend on. A transfer moves so many bytes into its file or out of it, through a span of a buffer or none.
 pub data Shape : Type 0 where

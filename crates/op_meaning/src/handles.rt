@@ -82,7 +82,12 @@ pub fn held(trace: &Trace, ring: u8, file: FileNumber, state: &State) -> Option<
 }
 
 /// The open file that a file number stands for.
-pub fn open_file(trace: &Trace, ring: u8, file: FileNumber, state: &State) -> Option<OpenFile>
+pub(crate) fn open_file(
+    trace: &Trace,
+    ring: u8,
+    file: FileNumber,
+    state: &State,
+) -> Option<OpenFile>
     ensures { option_map (handle_meant state.now) result
         ≡ handle trace.now state.now ring (file_meant file) }
 {

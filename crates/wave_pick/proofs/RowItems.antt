@@ -1,24 +1,23 @@
 -- With the same look, the rows of a place in two worlds have the same items, but for what it makes.
-use Rattle.std.specs.Prelude.{◌≡◌, ℕ, zero, suc, Bool, true, false, cond, ◌||◌, ◌&&◌, ◌==◌, not, ◌+◌, T, List, [], ◌∷◌, ◌++◌, Option, Some, None, Result, Ok, Err, is_ok, refl}
+use Rattle.std.specs.Prelude.{◌≡◌, ℕ, zero, suc, Bool, true, false, cond, not, ◌+◌, T, List, [], ◌∷◌, ◌++◌, Option, Some, None, Result, Ok, Err, is_ok, refl}
 use Rattle.std.proofs.Common.{◌⊎◌, inl, inr}
 use mathlib.Core.Path.{sym, subst, ap}
 use Rattle.sqe_codec.specs.declared.errno.Errno.{Errno}
 use Rattle.sqe_codec.specs.Answers.{each, each_ok}
 use Rattle.trace_format.specs.declared.trace.Trace.{Trace}
-use Rattle.entry_checks.specs.Operation.{Operation, File, Path, OpenFlags, at_position}
+use Rattle.entry_checks.specs.Operation.{Operation, File, Path, OpenFlags}
 use Rattle.file_tree.specs.Tree.{Target}
 use Rattle.file_tree.specs.Walk.{Place, walk}
 use Rattle.world_parts.specs.World.{World}
 use Rattle.world_parts.specs.Items.{Atom, descriptor_at, description_at, size_of, names_in, one, all_descriptors, member_of, Use, reads, writes, Footprint, has_atom}
 use Rattle.world_parts.proofs.Collision.{either_left, same_atom-eq}
 use Rattle.op_meaning.specs.Meaning.{meaning, made_node, Handle, held, handle_of, is_file, allocation, Allocation, extend, reserve, punch, zero_extend, zero_within, lowest_free}
-use Rattle.op_meaning.specs.Footprint.{Shape, idle, looking, moving, allocating, resizing, closing, opening, making, freeing, linking, renaming, shape, tried, foreseen, transfer_row, shape_row, as_reads, use_of, transfer_range, position_written, would_extend, of_file, of_description, on_file, file_reads, position_use, span_use, write_row, allocation_uses, path_reads, name_written, made_where, room_uses, description_made, open_uses, row, row_in, turn_uses}
+use Rattle.op_meaning.specs.Footprint.{Shape, idle, looking, moving, allocating, resizing, closing, opening, making, freeing, linking, renaming, shape, tried, foreseen, transfer_row, shape_row, as_reads, would_extend, of_file, of_description, on_file, file_reads, position_use, span_use, write_row, allocation_uses, path_reads, name_written, made_where, room_uses, description_made, open_uses, row, row_in, turn_uses, write_content}
 use Rattle.op_meaning.specs.Step.{Turn, filled, refused, canceled, runs}
 use Rattle.foot_print.specs.Reach.{shape_asked, room_asked, room_at, written_by, is_met, taken, makes, room_taken, Look, look_of, task, order_of, running_row}
 use Rattle.foot_print.proofs.Agreement.{in_left, in_right, has_atom-as_reads}
 use Rattle.foot_print.proofs.Holding.{split, drop_false}
 use Rattle.foot_print.proofs.RowsHeld.{accepted_over_row}
-use Rattle.foot_print.proofs.RowsSeen.{write_content}
 use Rattle.foot_print.proofs.Unmet.{unmet_part}
 use Rattle.foot_print.proofs.Writing.{is_false, not_false}
 use Rattle.wave_pick.specs.Waiting.{made_of, RowItems}
@@ -67,11 +66,8 @@ module _ (t : Trace) (k r : ℕ) (s : World) where
   only : (x : Shape) (f : Footprint) → Has f (shape_row t k r s foreseen x) → Has f (shape_row t k r s foreseen x ++ [])
   only x f h = has_all f (shape_row t k r s foreseen x) [] h (has_nothing f)
 
-  abbrev write_uses : ℕ → ℕ → ℕ → Handle → Footprint
-  write_uses o n i h = use_of (h.opened.append || o == at_position || (not (n == 0) && would_extend s i (o + n))) (one (size_of i)) ∷ writes (transfer_range i (h.opened.append || o == at_position) o n) ∷ position_written h o
-
   write_has : (b : Bool) (f : File) (o n : ℕ) → Has (write_row t s r (tried b) f o n) (write_row t s r foreseen f o n)
-  write_has b f o n = has_both _ (position_use t s r f o) _ (position_use t s r f o) (has_on_file f (write_uses o n) (write_content o n) (λ i h. record { has = λ a m. m })) (has_self (position_use t s r f o))
+  write_has b f o n = has_both _ (position_use t s r f o) _ (position_use t s r f o) (has_on_file f (write_content s (tried b) o n) (write_content s foreseen o n) (λ i h. record { has = λ a m. m })) (has_self (position_use t s r f o))
 
   allocation_has : (b : Bool) (i at end : ℕ) (x : Option Allocation) → Has (allocation_uses b i at end x) (allocation_uses true i at end x)
   allocation_has b i at end (Some extend) = record { has = λ a m. m }

@@ -11,7 +11,7 @@ use Rattle.file_tree.specs.Tree as tree
 pub use Rattle.file_tree.specs.Found.{node_of}
 use Rattle.entry_checks.specs.Operation.{file_limit}
 
--- A chain that a failure broke: loud where its cancelled members post, quiet where they don't.
+-- A chain that a failure broke: loud where its canceled members post, quiet where they don't.
 pub data Broken : Type 0 where
   loud : Broken
   quiet : Broken

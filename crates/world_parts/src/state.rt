@@ -173,7 +173,7 @@ impl State {
     /// # Errors
     ///
     /// ENOENT where the name is missing, ENOTDIR where it leads to a file.
-    pub fn directory_at(&self, directory: u32, name: &[u8]) -> Result<u32, Errno>
+    pub(crate) fn directory_at(&self, directory: u32, name: &[u8]) -> Result<u32, Errno>
         ensures { result ≡ walk.directory_at (world.name self.now directory name.now) }
     {
         self.nodes.directory_at(directory, name)

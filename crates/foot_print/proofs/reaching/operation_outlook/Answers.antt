@@ -3,6 +3,7 @@ use Rattle.entry_checks.specs.Meant.{meant}
 use Rattle.foot_print.specs.Reach.{shape_seen}
 use Rattle.foot_print.specs.Shapes.{shape_meant}
 use Rattle.foot_print.proofs.Outlooks as outlooks
+use Rattle.foot_print.proofs.Resolving.{row_completed}
 use Rattle.item_index.specs.Ahead.{written_before}
 use Rattle.op_meaning.specs.Footprint.{order_uses}
 use Rattle.foot_print.proofs.reaching.operation_outlook.Goals as goal
@@ -12,8 +13,8 @@ returns-in-Some-clause-reach c =
     let a = c.args in
     let order = order_uses a.ring a.role_there.now in
     let shape = shape_meant c.shape_of-shape.result in
-    let looked = c.in_ok-push_seen.ensures ∙ ap (λ f. f ++ shape_seen a.trace.now a.ring a.state.now shape) c.new-deciding.ensures in
-    outlooks.undecided_reach order a.trace.now a.place a.ring a.state.now (written_before a.behind.now) (meant a.op) shape c.shape_of-shape.ensures c.push_seen.new.footprint looked
+    let looked = c.in_ok-resolved.ensures.seen ∙ ap (λ f. f ++ shape_seen a.trace.now a.ring a.state.now shape) c.new-deciding.ensures in
+    outlooks.undecided_reach order a.trace.now a.place a.ring a.state.now (written_before a.behind.now) (meant a.op) shape c.shape_of-shape.ensures c.resolve.new.footprint looked
     c.in-Some.known c.in_ok-unresolved_reach.field-0 (sym c.first_met.ensures.first ∙ c.in-Some.is) c.in_ok-unresolved_reach.ensures
 
 pub returns-in-Some-clause-awaits : goal.returns-in-Some-clause-awaits
@@ -21,8 +22,8 @@ returns-in-Some-clause-awaits c =
     let a = c.args in
     let order = order_uses a.ring a.role_there.now in
     let shape = shape_meant c.shape_of-shape.result in
-    let looked = c.in_ok-push_seen.ensures ∙ ap (λ f. f ++ shape_seen a.trace.now a.ring a.state.now shape) c.new-deciding.ensures in
-    outlooks.undecided_awaits order a.trace.now a.place a.ring a.state.now (written_before a.behind.now) (meant a.op) shape c.shape_of-shape.ensures c.push_seen.new.footprint looked
+    let looked = c.in_ok-resolved.ensures.seen ∙ ap (λ f. f ++ shape_seen a.trace.now a.ring a.state.now shape) c.new-deciding.ensures in
+    outlooks.undecided_awaits order a.trace.now a.place a.ring a.state.now (written_before a.behind.now) (meant a.op) shape c.shape_of-shape.ensures c.resolve.new.footprint looked
     c.in-Some.known c.in_ok-unresolved_reach.field-0 c.truncate.new.self c.takes_lowest-takes_lowest.result (sym c.first_met.ensures.first ∙ c.in-Some.is) c.truncate.ensures c.takes_lowest-takes_lowest.ensures
 
 pub returns-then-meets-clause-reach : goal.returns-then-meets-clause-reach
@@ -30,9 +31,10 @@ returns-then-meets-clause-reach c =
     let a = c.args in
     let order = order_uses a.ring a.role_there.now in
     let shape = shape_meant c.shape_of-shape.result in
-    let looked = c.in_ok-push_seen.ensures ∙ ap (λ f. f ++ shape_seen a.trace.now a.ring a.state.now shape) c.new-deciding.ensures in
-    let own = c.in_ok-append.ensures ∙ (λ i. c.in_ok-row.ensures i ++ c.in_ok-operation_uses.ensures i) in
-    outlooks.accepted_reach order a.trace.now a.place a.ring a.state.now (written_before a.behind.now) (meant a.op) shape c.shape_of-shape.ensures c.push_seen.new.footprint looked
+    let looked = c.in_ok-resolved.ensures.seen ∙ ap (λ f. f ++ shape_seen a.trace.now a.ring a.state.now shape) c.new-deciding.ensures in
+    let behind = row_completed a.trace.now a.place a.ring a.state.now (meant a.op) shape c.resolve.new.footprint c.in_ok-resolved.resolved c.shape_of-shape.ensures looked c.in_ok-resolved.ensures.rest in
+    let own = c.in_ok-append.ensures ∙ (λ i. c.in_ok-row.ensures i ++ (c.in_ok-uses_behind.ensures ∙ behind) i) in
+    outlooks.accepted_reach order a.trace.now a.place a.ring a.state.now (written_before a.behind.now) (meant a.op) shape c.shape_of-shape.ensures c.resolve.new.footprint looked
     c.append.new.self (sym c.first_met.ensures.first ∙ c.in_default.is) own c.in_ok-accepted_reach.field-0 (sym c.meets.ensures ∙ c.if-meets.true) c.in_ok-accepted_reach.ensures
 
 pub returns-then-meets-clause-awaits : goal.returns-then-meets-clause-awaits
@@ -40,9 +42,10 @@ returns-then-meets-clause-awaits c =
     let a = c.args in
     let order = order_uses a.ring a.role_there.now in
     let shape = shape_meant c.shape_of-shape.result in
-    let looked = c.in_ok-push_seen.ensures ∙ ap (λ f. f ++ shape_seen a.trace.now a.ring a.state.now shape) c.new-deciding.ensures in
-    let own = c.in_ok-append.ensures ∙ (λ i. c.in_ok-row.ensures i ++ c.in_ok-operation_uses.ensures i) in
-    outlooks.accepted_awaits order a.trace.now a.place a.ring a.state.now (written_before a.behind.now) (meant a.op) shape c.shape_of-shape.ensures c.push_seen.new.footprint looked
+    let looked = c.in_ok-resolved.ensures.seen ∙ ap (λ f. f ++ shape_seen a.trace.now a.ring a.state.now shape) c.new-deciding.ensures in
+    let behind = row_completed a.trace.now a.place a.ring a.state.now (meant a.op) shape c.resolve.new.footprint c.in_ok-resolved.resolved c.shape_of-shape.ensures looked c.in_ok-resolved.ensures.rest in
+    let own = c.in_ok-append.ensures ∙ (λ i. c.in_ok-row.ensures i ++ (c.in_ok-uses_behind.ensures ∙ behind) i) in
+    outlooks.accepted_awaits order a.trace.now a.place a.ring a.state.now (written_before a.behind.now) (meant a.op) shape c.shape_of-shape.ensures c.resolve.new.footprint looked
     c.append.new.self (sym c.first_met.ensures.first ∙ c.in_default.is) own c.in_ok-accepted_reach.field-0 c.takes_lowest-takes_lowest.result c.takes_lowest-takes_lowest.ensures
 
 pub returns-clause-reach : goal.returns-clause-reach
@@ -50,9 +53,10 @@ returns-clause-reach c =
     let a = c.args in
     let order = order_uses a.ring a.role_there.now in
     let shape = shape_meant c.shape_of-shape.result in
-    let looked = c.in_ok-push_seen.ensures ∙ ap (λ f. f ++ shape_seen a.trace.now a.ring a.state.now shape) c.new-deciding.ensures in
-    let own = c.in_ok-append.ensures ∙ (λ i. c.in_ok-row.ensures i ++ c.in_ok-operation_uses.ensures i) in
-    outlooks.running_reach order a.trace.now a.place a.ring a.state.now (written_before a.behind.now) (meant a.op) shape c.shape_of-shape.ensures c.push_seen.new.footprint looked
+    let looked = c.in_ok-resolved.ensures.seen ∙ ap (λ f. f ++ shape_seen a.trace.now a.ring a.state.now shape) c.new-deciding.ensures in
+    let behind = row_completed a.trace.now a.place a.ring a.state.now (meant a.op) shape c.resolve.new.footprint c.in_ok-resolved.resolved c.shape_of-shape.ensures looked c.in_ok-resolved.ensures.rest in
+    let own = c.in_ok-append.ensures ∙ (λ i. c.in_ok-row.ensures i ++ (c.in_ok-uses_behind.ensures ∙ behind) i) in
+    outlooks.running_reach order a.trace.now a.place a.ring a.state.now (written_before a.behind.now) (meant a.op) shape c.shape_of-shape.ensures c.resolve.new.footprint looked
     c.append.new.self (sym c.first_met.ensures.first ∙ c.in_default.is) own (sym c.meets.ensures ∙ c.if-meets.false)
 
 pub returns-clause-awaits : goal.returns-clause-awaits
@@ -60,7 +64,8 @@ returns-clause-awaits c =
     let a = c.args in
     let order = order_uses a.ring a.role_there.now in
     let shape = shape_meant c.shape_of-shape.result in
-    let looked = c.in_ok-push_seen.ensures ∙ ap (λ f. f ++ shape_seen a.trace.now a.ring a.state.now shape) c.new-deciding.ensures in
-    let own = c.in_ok-append.ensures ∙ (λ i. c.in_ok-row.ensures i ++ c.in_ok-operation_uses.ensures i) in
-    outlooks.running_awaits order a.trace.now a.place a.ring a.state.now (written_before a.behind.now) (meant a.op) shape c.shape_of-shape.ensures c.push_seen.new.footprint looked
+    let looked = c.in_ok-resolved.ensures.seen ∙ ap (λ f. f ++ shape_seen a.trace.now a.ring a.state.now shape) c.new-deciding.ensures in
+    let behind = row_completed a.trace.now a.place a.ring a.state.now (meant a.op) shape c.resolve.new.footprint c.in_ok-resolved.resolved c.shape_of-shape.ensures looked c.in_ok-resolved.ensures.rest in
+    let own = c.in_ok-append.ensures ∙ (λ i. c.in_ok-row.ensures i ++ (c.in_ok-uses_behind.ensures ∙ behind) i) in
+    outlooks.running_awaits order a.trace.now a.place a.ring a.state.now (written_before a.behind.now) (meant a.op) shape c.shape_of-shape.ensures c.resolve.new.footprint looked
     c.append.new.self (sym c.first_met.ensures.first ∙ c.in_default.is) own c.takes_lowest-takes_lowest.result c.takes_lowest-takes_lowest.ensures

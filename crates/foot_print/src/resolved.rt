@@ -1,0 +1,155 @@
+//! What an operation's file or paths lead to, looked up once.
+ghost use Rattle.std.specs.Prelude.{◌≡◌, ◌++◌, IfOk, OnOk};
+ghost use Rattle.foot_print.specs.Reach.{shape_seen};
+ghost use Rattle.foot_print.specs.Resolved.{Completes};
+ghost use Rattle.foot_print.specs.Shapes.{shape_meant};
+
+use crate::file_rows::file_seen;
+use crate::path_rows::names_seen;
+use crate::shape::Shape;
+use entry_checks::{BufferSpan, FileNumber, OpenAtFlags};
+use file_tree::Place;
+use op_meaning::OpenFile;
+use std::alloc::{AllocError, Global};
+use trace_format::Trace;
+use world_parts::{Footprint, State};
+
+/// A shape with what its file or its paths lead to in a world, where they lead to something.
+#[derive(Clone, Copy)]
+pub(crate) enum Resolved<'a> {
+    Idle,
+    Looking {
+        file: FileNumber,
+    },
+    Moving {
+        into_file: bool,
+        opened: Option<OpenFile>,
+        offset: u64,
+        count: u64,
+        span: Option<BufferSpan>,
+    },
+    Allocating {
+        opened: Option<OpenFile>,
+        offset: u64,
+        size: u64,
+        mode: u32,
+    },
+    Resizing {
+        opened: Option<OpenFile>,
+        size: u64,
+    },
+    Closing {
+        number: i32,
+        file_index: u32,
+    },
+    Opening {
+        found: Option<Place<'a>>,
+        flags: OpenAtFlags,
+        file_index: u32,
+    },
+    Making {
+        found: Option<Place<'a>>,
+    },
+    Freeing {
+        found: Option<Place<'a>>,
+        removes_directory: bool,
+    },
+    Linking {
+        new: Option<Place<'a>>,
+    },
+    Renaming {
+        old: Option<Place<'a>>,
+        new: Option<Place<'a>>,
+    },
+}
+
+/// Looks up what decides which items an operation of a shape uses, and reads it: slots,
+/// descriptors, open file descriptions and names.
+pub(crate) fn resolve<'a>(
+    alloc: Global,
+    trace: &Trace,
+    ring: u8,
+    shape: Shape<'a>,
+    state: &State,
+    footprint: &mut Footprint,
+) -> Result<Resolved<'a>, AllocError>
+    ensures seen { OnOk result (footprint.new ≡ footprint.old
+        ++ shape_seen trace.now ring state.now (shape_meant shape.entry)) }
+    ensures rest { IfOk result (Completes trace.now ring state.now (shape_meant shape.entry)) }
+{
+    match shape {
+        Shape::Idle => Ok(Resolved::Idle),
+        Shape::Looking { file } => Ok(Resolved::Looking { file }),
+        Shape::Moving {
+            into_file,
+            file,
+            offset,
+            count,
+            span,
+        } => {
+            let opened = file_seen(trace, ring, file, state, footprint)?;
+            Ok(Resolved::Moving {
+                into_file,
+                opened,
+                offset,
+                count,
+                span,
+            })
+        }
+        Shape::Allocating {
+            file,
+            offset,
+            size,
+            mode,
+        } => {
+            let opened = file_seen(trace, ring, file, state, footprint)?;
+            Ok(Resolved::Allocating {
+                opened,
+                offset,
+                size,
+                mode,
+            })
+        }
+        Shape::Resizing { file, size } => {
+            let opened = file_seen(trace, ring, file, state, footprint)?;
+            Ok(Resolved::Resizing { opened, size })
+        }
+        Shape::Closing { number, file_index } => Ok(Resolved::Closing { number, file_index }),
+        Shape::Opening {
+            path,
+            flags,
+            file_index,
+        } => {
+            let found = names_seen(alloc, path, state, footprint)?;
+            Ok(Resolved::Opening {
+                found,
+                flags,
+                file_index,
+            })
+        }
+        Shape::Making { path } => {
+            let found = names_seen(alloc, path, state, footprint)?;
+            Ok(Resolved::Making { found })
+        }
+        Shape::Freeing {
+            path,
+            removes_directory,
+        } => {
+            let found = names_seen(alloc, path, state, footprint)?;
+            Ok(Resolved::Freeing {
+                found,
+                removes_directory,
+            })
+        }
+        Shape::Linking { old, new } => {
+            names_seen(alloc, old, state, footprint)?;
+            let new = names_seen(alloc, new, state, footprint)?;
+            Ok(Resolved::Linking { new })
+        }
+        Shape::Renaming { old, new } => {
+            let old = names_seen(alloc, old, state, footprint)?;
+            let new = names_seen(alloc, new, state, footprint)?;
+            Ok(Resolved::Renaming { old, new })
+        }
+    }
+}
