@@ -29,6 +29,10 @@ use world_parts::{Footprint, Item, Use, World, collide, same_uses, writes_item};
 /// About how many items are looked up in the reaches before a place to find one on which it rests.
 const ASKED: usize = 2048;
 
+/// So many places that ran in a round are many, however many wait: then as many or more are looked
+/// at in the next one, and to ask an index that is exact costs less than to ask the reaches.
+const MANY: usize = 16;
+
 /// What is seen of a place in a round.
 #[derive(Drop)]
 pub(crate) struct View {
@@ -132,15 +136,15 @@ impl Scheduler {
         })
     }
 
-    /// Where the index has more reaches of places that have run than of places that wait, or much
-    /// has run, it is made anew, from the first place on.
+    /// Where the index has more reaches of places that have run than of places that wait, or many
+    /// have run, it is made anew, from the first place on.
     fn begin(&mut self, alloc: Global) -> Result<(), AllocError>
         ensures index { OnOk result (self.new.exact ≡ true → IsIndex self.new []) }
         ensures others { OnOk result (self.new.exact ≡ false → self.new.ahead ≡ self.old.ahead) }
         ensures rest { OnOk result (self.new ≡ record self.old
             { ahead = self.new.ahead; exact = self.new.exact; added = self.new.added }) }
     {
-        self.exact = self.added / 2 >= self.waiting || self.ran >= self.waiting / 8;
+        self.exact = self.added / 2 >= self.waiting || self.ran >= MANY.min(self.waiting / 8);
         if self.exact {
             self.ahead = Ahead::new(alloc)?;
             self.added = 0;
