@@ -9,7 +9,7 @@ use Rattle.std.proofs.lemmas.Option.{get_or_from_slice_get, slice_get_within, sl
 use Rattle.std.proofs.lemmas.List.Elements.{filter-append}
 use Rattle.std.proofs.lemmas.List.Folds.{list_any-append}
 use Rattle.std.proofs.lemmas.List.FromFn.{length-map-range_with_len, get_or-map-range_with_len, map-range_with_len_more, fill_by_all}
-use Rattle.trace_format.specs.declared.trace.Entry.{Entry}
+use Rattle.trace_format.specs.declared.entry.Entry.{Entry}
 use Rattle.trace_format.specs.declared.trace.Trace.{Trace}
 use Rattle.chain_plan.specs.declared.role.Role.{Role}
 use Rattle.trace_format.specs.Steps.{Step, places, step_at}

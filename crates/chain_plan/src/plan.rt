@@ -4,7 +4,7 @@ ghost use Rattle.std.specs.List.{slice_get};
 ghost use Rattle.trace_format.specs.Sides.{is_side_of};
 ghost use Rattle.trace_format.specs.Steps.{places, step_meant, submit};
 ghost use Rattle.trace_format.specs.Text.{IsSpelled};
-ghost use Rattle.trace_format.specs.declared.trace.Entry.{Entry};
+ghost use Rattle.trace_format.specs.declared.entry.Entry.{Entry};
 ghost use Rattle.trace_format.specs.declared.trace.Trace.{Trace};
 ghost use Rattle.chain_plan.specs.Chain.{role};
 ghost use Rattle.chain_plan.specs.Plan.{roles, marks_of, followed, member_after};
@@ -79,12 +79,15 @@ fn marks_of(step: &Step<'_>, version: Version) -> Marks
     ensures { result ≡ marks_of version (step_meant step.now) }
 {
     match step.action {
-        Action::Submit(entry) => Marks {
-            links: entry.sqe.has(IO_LINK) || entry.sqe.has(IO_HARDLINK),
-            skips: entry.sqe.has(CQE_SKIP_SUCCESS),
-            drains: entry.sqe.has(IO_DRAIN),
-            fails: check(entry, version).is_err(),
-        },
+        Action::Submit(entry) => {
+            let sqe = entry.sqe();
+            Marks {
+                links: sqe.has(IO_LINK) || sqe.has(IO_HARDLINK),
+                skips: sqe.has(CQE_SKIP_SUCCESS),
+                drains: sqe.has(IO_DRAIN),
+                fails: check(entry, version).is_err(),
+            }
+        }
         Action::Fill {
             buffer: _,
             offset: _,

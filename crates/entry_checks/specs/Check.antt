@@ -5,7 +5,7 @@ use Rattle.std.specs.Option.{option_map}
 use Rattle.sqe_codec.specs.declared.errno.Errno.{Errno}
 use Rattle.sqe_codec.specs.declared.errno.Errno.TheVariants.{ENOENT, EBADF, EINVAL, ENAMETOOLONG, EOPNOTSUPP}
 use Rattle.sqe_codec.specs.declared.sqe.Sqe.{Sqe}
-use Rattle.trace_format.specs.declared.trace.Entry.{Entry}
+use Rattle.trace_format.specs.declared.entry.Entry.{Entry}
 use Rattle.trace_format.specs.declared.trace.Version.{Version}
 use Rattle.trace_format.specs.declared.trace.Version.TheVariants.{One, Two}
 use Rattle.std.specs.Int.{w16, w32, from_le_bytes, cast_signed}

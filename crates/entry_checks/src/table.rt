@@ -20,8 +20,8 @@ pub fn check(entry: &Entry, version: Version) -> Result<Op<'_>, Errno>
     requires { is_side_of entry.now.sqe entry.now.side ≡ true }
     ensures { answer result ≡ check version entry.now }
 {
-    let sqe = &entry.sqe;
-    let side = entry.side.as_slice();
+    let sqe = &entry.sqe();
+    let side = entry.side();
     // A row for each opcode, by its number in linux/io_uring.h.
     match sqe.opcode {
         0 => rows::nop(sqe, side),

@@ -10,7 +10,7 @@ use Rattle.sqe_codec.specs.declared.errno.Errno.{Errno}
 use Rattle.sqe_codec.specs.declared.errno.Errno.TheVariants.{ECANCELED}
 use Rattle.trace_format.specs.declared.steps.Step as borrowed
 use Rattle.trace_format.specs.declared.steps.Action.TheVariants as actions
-use Rattle.trace_format.specs.declared.trace.Entry.{Entry}
+use Rattle.trace_format.specs.declared.entry.Entry.{Entry}
 use Rattle.trace_format.specs.declared.trace.Trace.{Trace}
 use Rattle.trace_format.specs.Steps.{step_at, step_meant, action_meant, submit}
 use Rattle.entry_checks.specs.Check.{check}

@@ -5,7 +5,7 @@ use mathlib.Core.Path.{ap}
 use Rattle.interleaving.specs.Rows.{known_by_rows, reach_by_rows, foot_by_rows}
 use Rattle.trace_format.specs.declared.trace.Trace.{Trace}
 use Rattle.sqe_codec.specs.declared.errno.Errno.{Errno}
-use Rattle.trace_format.specs.declared.trace.Entry.{Entry}
+use Rattle.trace_format.specs.declared.entry.Entry.{Entry}
 use Rattle.chain_plan.specs.declared.role.Role.{Role}
 use Rattle.chain_plan.specs.Chain.{role}
 use Rattle.entry_checks.specs.Check.{check}

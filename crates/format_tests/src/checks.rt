@@ -1,9 +1,10 @@
 //! What an entry asks for, and the errors of its tests.
+ghost use Rattle.std.specs.Prelude.{◌<◌, ◌^◌, length};
 
 use entry_checks::{Op, check};
 use sqe_codec::Sqe;
 use std::alloc::{AllocError, Global};
-use trace_format::{Blob, Entry, Version, fits};
+use trace_format::{Entry, Version, fits};
 
 /// An entry of an opcode, with all other fields zero.
 fn entry_of(opcode: u8) -> Sqe {
@@ -69,29 +70,34 @@ enum Outcome {
     Refused(i32),
 }
 
-fn tried(alloc: Global, sqe: Sqe, side: &[u8], version: Version) -> Result<Outcome, AllocError> {
+fn tried(alloc: Global, sqe: Sqe, side: &[u8], version: Version) -> Result<Outcome, AllocError>
+    requires { length side.now < 2 ^ 32 }
+{
     if !fits(&sqe, side) {
         return Ok(Outcome::Misfit);
     }
-    let entry = Entry {
-        sqe,
-        side: Blob::from_vec(alloc, Vec::from_slice(alloc, side)?)?,
-    };
+    let entry = Entry::new(alloc, &sqe, side)?;
     match check(&entry, version) {
         Ok(_) => Ok(Outcome::Accepted),
         Err(error) => Ok(Outcome::Refused(error.code())),
     }
 }
 
-fn accepts(alloc: Global, sqe: Sqe, side: &[u8], version: Version) -> bool {
+fn accepts(alloc: Global, sqe: Sqe, side: &[u8], version: Version) -> bool
+    requires { length side.now < 2 ^ 32 }
+{
     matches!(tried(alloc, sqe, side, version), Ok(Outcome::Accepted))
 }
 
-fn refuses(alloc: Global, sqe: Sqe, side: &[u8], error: i32) -> bool {
+fn refuses(alloc: Global, sqe: Sqe, side: &[u8], error: i32) -> bool
+    requires { length side.now < 2 ^ 32 }
+{
     matches!(tried(alloc, sqe, side, Version::One), Ok(Outcome::Refused(code)) if code == error)
 }
 
-fn takes(alloc: Global, sqe: Sqe, side: &[u8]) -> bool {
+fn takes(alloc: Global, sqe: Sqe, side: &[u8]) -> bool
+    requires { length side.now < 2 ^ 32 }
+{
     accepts(alloc, sqe, side, Version::One)
 }
 
@@ -254,15 +260,13 @@ fn vectors_and_flags_of_fsync(rt: HostRuntime) {
 }
 
 fn link_is_read(alloc: Global) -> Result<bool, AllocError> {
-    let entry = Entry {
-        sqe: Sqe {
-            fd: -100,
-            len: 0xffff_ff9c,
-            ..entry_of(LINKAT)
-        },
-        side: Blob::from_vec(alloc, Vec::from_slice(alloc, b"\x02\x00/a/bc")?)?,
+    let sqe = Sqe {
+        fd: -100,
+        len: 0xffff_ff9c,
+        ..entry_of(LINKAT)
     };
-    if !fits(&entry.sqe, entry.side.as_slice()) {
+    let entry = Entry::new(alloc, &sqe, b"\x02\x00/a/bc")?;
+    if !fits(&entry.sqe(), entry.side()) {
         return Ok(false);
     }
     match check(&entry, Version::One) {

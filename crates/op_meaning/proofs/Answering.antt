@@ -2,7 +2,7 @@
 use Rattle.std.proofs.Common.{◌≡◌, ℕ, Bool, List, [], ◌∷◌, ◌++◌, Option, Some, None, refl, sym, ap, ◌∙◌, arith}
 use Rattle.std.specs.Prelude.{◌<◌, ◌≤◌, ◌^◌, Result, Ok, Err, IfOk}
 use Rattle.sqe_codec.specs.declared.errno.Errno.{Errno}
-use Rattle.trace_format.specs.declared.trace.Entry.{Entry}
+use Rattle.trace_format.specs.declared.entry.Entry.{Entry}
 use Rattle.chain_plan.specs.declared.role.Role.{Role}
 use Rattle.entry_checks.specs.Operation.{Operation, asked}
 use Rattle.world_parts.specs.World.{World, Change, apply, apply_all}

@@ -10,7 +10,7 @@ use Rattle.sqe_codec.specs.declared.errno.Errno.TheVariants.{EINVAL, EOPNOTSUPP}
 use Rattle.sqe_codec.specs.declared.sqe.Sqe.{Sqe}
 use Rattle.std.proofs.lemmas.Result.{IfOk-at_ok}
 use Rattle.sqe_codec.specs.Answers.{require}
-use Rattle.trace_format.specs.declared.trace.Entry.{Entry}
+use Rattle.trace_format.specs.declared.entry.Entry.{Entry}
 use Rattle.trace_format.specs.declared.trace.Version.{Version}
 use Rattle.trace_format.specs.Sides.{is_side_of, lengths_in, most_moved, total, vector_is_short, vector_len, written_len}
 use Rattle.entry_checks.specs.Operation.{Operation, asked}

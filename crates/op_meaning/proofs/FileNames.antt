@@ -9,7 +9,7 @@ use Rattle.entry_checks.specs.Operation.{Operation, nop, readv, writev, fsync, r
 use Rattle.trace_format.specs.Sides.{most_moved}
 use Rattle.file_tree.specs.Tree.{Target, a_directory}
 use Rattle.file_tree.specs.Walk.{Place, walk, is_directory}
-use Rattle.trace_format.specs.declared.trace.Entry.{Entry}
+use Rattle.trace_format.specs.declared.entry.Entry.{Entry}
 use Rattle.chain_plan.specs.declared.role.Role.{Role}
 use Rattle.chain_plan.specs.Chain.{role}
 use Rattle.entry_checks.specs.Check.{has, io_hardlink, skip_success}

@@ -7,7 +7,7 @@ use Rattle.trace_format.specs.declared.trace.Access.{Access}
 use Rattle.trace_format.specs.declared.trace.Access.TheVariants.{Both}
 use Rattle.trace_format.specs.declared.trace.Buffer.{Buffer}
 use Rattle.trace_format.specs.declared.trace.Description.{Description}
-use Rattle.trace_format.specs.declared.trace.Entry.{Entry}
+use Rattle.trace_format.specs.declared.entry.Entry.{Entry}
 use Rattle.trace_format.specs.declared.trace.Item.{Item}
 use Rattle.trace_format.specs.declared.trace.Node.{Node}
 use Rattle.trace_format.specs.declared.trace.Node.TheVariants.{File}

@@ -6,7 +6,7 @@ use Rattle.std.specs.Option.{option_map}
 use Rattle.sqe_codec.specs.Answers.{each}
 use Rattle.trace_format.specs.declared.steps.Step as borrowed
 use Rattle.trace_format.specs.declared.steps.Action.TheVariants as actions
-use Rattle.trace_format.specs.declared.trace.Entry.{Entry}
+use Rattle.trace_format.specs.declared.entry.Entry.{Entry}
 use Rattle.trace_format.specs.declared.trace.Trace.{Trace}
 use Rattle.trace_format.specs.Steps.{submit, fill, step_at, step_meant, action_meant}
 use Rattle.chain_plan.specs.declared.role.Role.{Role}

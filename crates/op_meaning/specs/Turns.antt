@@ -1,7 +1,7 @@
 -- A view of code: the turn of an entry, by the flag that its chain has in a world.
 use Rattle.std.specs.Prelude.{ℕ, Result}
 use Rattle.sqe_codec.specs.declared.errno.Errno.{Errno}
-use Rattle.trace_format.specs.declared.trace.Entry.{Entry}
+use Rattle.trace_format.specs.declared.entry.Entry.{Entry}
 use Rattle.trace_format.specs.declared.trace.Trace.{Trace}
 use Rattle.chain_plan.specs.declared.role.Role.{Role}
 use Rattle.entry_checks.specs.Check.{check}

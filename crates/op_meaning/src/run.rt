@@ -171,7 +171,7 @@ fn run(
     let outcome = run_operation(alloc, place, trace, ring, op, state)?;
     let fails = failed(asked, &outcome);
     break_chain(role_there, entry, fails, state)?;
-    let posted = !entry.sqe.has(CQE_SKIP_SUCCESS) || fails;
+    let posted = !entry.sqe().has(CQE_SKIP_SUCCESS) || fails;
     Ok(reply_to(alloc, outcome, posted))
 }
 
@@ -214,10 +214,10 @@ fn break_chain(
         (state.new ≡ apply_all (breaks role_there.now entry.now fails) state.old) }
 {
     let is_last = role_there.length.saturating_sub(1) <= role_there.member;
-    if !fails || entry.sqe.has(IO_HARDLINK) || is_last {
+    if !fails || is_last || entry.sqe().has(IO_HARDLINK) {
         return Ok(());
     }
-    let broken = if entry.sqe.has(CQE_SKIP_SUCCESS) {
+    let broken = if entry.sqe().has(CQE_SKIP_SUCCESS) {
         Broken::Quiet
     } else {
         Broken::Loud

@@ -67,7 +67,7 @@ fn push_step(
         ≡ string_bytes text.old ++ action_line place (step_meant step.entry).action reply.now) }
 {
     match step.action {
-        Action::Submit(entry) => push_entry(alloc, text, place, entry.sqe.user_data, reply),
+        Action::Submit(entry) => push_entry(alloc, text, place, entry.sqe().user_data, reply),
         Action::Fill { .. } => Ok(()),
     }
 }

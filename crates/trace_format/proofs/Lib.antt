@@ -10,6 +10,7 @@ pub mod Spots
 pub mod KnownNames
 pub mod KnownSpans
 pub mod Apart
+pub mod Entries
 pub mod Facts
 pub mod Sizes
 pub mod Sound

@@ -7,7 +7,7 @@ use Rattle.std.proofs.lemmas.List.FromFn.{map-range_with_len_more, length-map-ra
 use Rattle.std.proofs.lemmas.Option.{slice_get-get_or, slice_get_within, slice_get_read, slice_get-map, get_or_from_slice_get, same_Some}
 use Rattle.trace_format.specs.declared.trace.Record.{Record}
 use Rattle.trace_format.specs.declared.trace.Record.TheVariants.{Enter, Fill}
-use Rattle.trace_format.specs.declared.trace.Entry.{Entry}
+use Rattle.trace_format.specs.declared.entry.Entry.{Entry}
 use Rattle.trace_format.specs.declared.trace.Trace.{Trace}
 use Rattle.std.specs.Option.{option_map}
 use Rattle.trace_format.specs.declared.steps.Spot.{Spot}

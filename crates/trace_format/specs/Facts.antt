@@ -1,7 +1,7 @@
 -- A law: what holds of the steps of each trace that some bytes spell.
 use Rattle.std.specs.Prelude.{◌≡◌, ◌<◌, ◌≤◌, ℕ, true, List, length, Some}
 use Rattle.sqe_codec.specs.Fields.{IsBytes, IsEntry}
-use Rattle.trace_format.specs.declared.trace.Entry.{Entry}
+use Rattle.trace_format.specs.declared.entry.Entry.{Entry}
 use Rattle.trace_format.specs.declared.trace.Trace.{Trace}
 use Rattle.trace_format.specs.Counts.{places_limit}
 use Rattle.trace_format.specs.Sides.{is_side_of}

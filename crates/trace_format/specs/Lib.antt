@@ -2,6 +2,8 @@ pub mod Grammar
 pub mod Read
 pub mod Sources
 pub mod Blobs
+pub mod Submitted
+pub mod Entries
 pub mod Paths
 pub mod Sides
 pub mod Counts

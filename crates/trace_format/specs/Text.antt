@@ -15,7 +15,7 @@ use Rattle.trace_format.specs.declared.trace.Access.TheVariants as access
 use Rattle.trace_format.specs.declared.trace.Description.{Description}
 use Rattle.trace_format.specs.declared.trace.Buffer.{Buffer}
 use Rattle.trace_format.specs.declared.trace.Ring.{Ring}
-use Rattle.trace_format.specs.declared.trace.Entry.{Entry}
+use Rattle.trace_format.specs.declared.entry.Entry.{Entry}
 use Rattle.trace_format.specs.declared.trace.Record.{Record}
 use Rattle.trace_format.specs.declared.trace.Record.TheVariants.{Enter, Fill}
 use Rattle.trace_format.specs.declared.trace.Trace.{Trace}

@@ -14,6 +14,7 @@
 
 mod blob;
 mod descriptions;
+mod entry;
 mod fault;
 mod header;
 mod items;
@@ -32,10 +33,11 @@ mod trace;
 mod writing;
 
 pub use blob::Blob;
+pub use entry::Entry;
 pub use fault::{Kind, TraceFault};
 pub use list::Series;
 pub use reading::read_trace;
 pub use sides::{fits, vector_total};
 pub use steps::{Action, Records, Step};
-pub use trace::{Access, Buffer, Description, Entry, Item, Node, Record, Ring, Trace, Version};
+pub use trace::{Access, Buffer, Description, Item, Node, Record, Ring, Trace, Version};
 pub use writing::write_trace;

@@ -6,12 +6,13 @@ ghost use Rattle.trace_format.specs.Sources.{reading_from, with_rest};
 ghost use Rattle.trace_format.specs.Counts.{places_in, places_limit};
 ghost use Rattle.trace_format.specs.Text.{entry, enter, fill, one_record, buffer_len};
 
+use crate::entry::Entry;
 use crate::fault::{Kind, ReadError, refused};
 use crate::list::Series;
 use crate::sides::fits;
 use crate::source::{Source, blob_of, bytes_of, u8_of, u16_of, u16_to, u32_of};
 use crate::steps::{Records, step_count};
-use crate::trace::{Entry, Record, Ring};
+use crate::trace::{Record, Ring};
 use sqe_codec::unpack;
 use std::alloc::Global;
 
@@ -22,18 +23,18 @@ const PLACES: u32 = 1_048_576;
 fn entry_of(source: Source<'_>) -> Result<(Entry, Source<'_>), ReadError>
     ensures { Gives with_rest result (reading_from source.entry entry) }
 {
+    let start = source;
     let (bytes, source) = bytes_of(source, 64)?;
     let mut array = [0; 64];
     array.copy_from_slice(bytes);
     let sqe = unpack(&array);
     let place = source.place;
     let (len, source) = u32_of(source)?;
-    let (side, _) = bytes_of(source, len as usize)?;
+    let (side, source) = bytes_of(source, len as usize)?;
     if !fits(&sqe, side) {
         return Err(refused(Kind::Side, place));
     }
-    let (side, source) = blob_of(source, len as usize)?;
-    Ok((Entry { sqe, side }, source))
+    Ok((Entry::part(start.text, start.place, len)?, source))
 }
 
 fn entries_of(

@@ -6,7 +6,8 @@ ghost use Rattle.trace_format.specs.Spots.{record_spots};
 ghost use Rattle.trace_format.specs.Steps.{steps_from, step_meant};
 
 use crate::blob::Blob;
-use crate::trace::{Entry, Record};
+use crate::entry::Entry;
+use crate::trace::Record;
 use std::alloc::{AllocError, Global};
 use std::marker::Model;
 

@@ -4,9 +4,9 @@ ghost use Rattle.trace_format.specs.Counts.{places_limit};
 ghost use Rattle.trace_format.specs.Steps.{places, step_at, step_meant};
 
 use crate::blob::Blob;
+use crate::entry::Entry;
 use crate::list::Series;
 use crate::steps::{Records, Step};
-use sqe_codec::Sqe;
 
 /// The version of the format.
 #[derive(Clone, Copy, Debug, PartialEq, Eq)]
@@ -77,15 +77,6 @@ pub struct Ring {
     pub slots: Series<u32>,
     /// Its buffers. No two share an address.
     pub buffers: Series<Buffer>,
-}
-
-/// A submitted entry, and the bytes in memory that it speaks of.
-#[derive(Drop)]
-pub struct Entry {
-    /// The entry's fields.
-    pub sqe: Sqe,
-    /// The lengths of its vector, the bytes that it writes, or its paths: see [`crate::fits`].
-    pub side: Blob,
 }
 
 /// What was recorded in one step of the recording.
