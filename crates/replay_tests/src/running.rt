@@ -12,13 +12,13 @@ use world_parts::{Part, State};
 #[derive(Drop)]
 pub(crate) struct Ran {
     pub(crate) replies: Vec<Reply>,
-    pub(crate) state: State,
+    pub(crate) state: Box<State>,
 }
 
 fn run_places(alloc: Global, trace: &Trace) -> Result<Ran, Fail>
     requires { IsSpelled trace.now }
 {
-    let state = State::of(alloc, trace)?;
+    let state = Box::new(alloc, State::of(alloc, trace)?)?;
     let mut part = Part { place: 0, state };
     let replies = replies_of(alloc, trace, &mut part)?;
     Ok(Ran {

@@ -53,11 +53,15 @@ impl State {
     }
 
     /// What a footprint names of another state.
-    fn copied(alloc: Global, from: &State, footprint: &Footprint) -> Result<State, AllocError>
+    fn copied(
+        alloc: Global,
+        from: &State,
+        footprint: &Footprint,
+    ) -> Result<Box<State>, AllocError>
         requires narrow { T (is_narrow footprint.now) }
-        ensures { IfOk result (λ part. IsPartOf from.now footprint.now part) }
+        ensures { IfOk result (λ part. IsPartOf from.now footprint.now part.value) }
     {
-        let mut state = State::nothing(alloc);
+        let mut state = Box::new(alloc, State::nothing(alloc))?;
         state.copy_uses(alloc, from, &footprint.uses)?;
         Ok(state)
     }

@@ -30,7 +30,7 @@ impl Model for World {
 #[derive(Drop)]
 pub struct Part {
     pub place: u32,
-    pub state: State,
+    pub state: Box<State>,
 }
 
 impl Model for Part {
@@ -38,5 +38,5 @@ impl Model for Part {
 
     ghost Value = { Part };
 
-    ghost view = { λ p. record { place = p.place; values = p.state } };
+    ghost view = { λ p. record { place = p.place; values = p.state.value } };
 }

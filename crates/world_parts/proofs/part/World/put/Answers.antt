@@ -35,8 +35,10 @@ returns-clause-world c =
     ∙ sym (ap (get c.args.self.now.out) (sym (ap (λ p. p.place) c.part.view_is)) ∙ get-of number_keys c.self.inside.out.entries c.args.self.now.out c.part.inside.place (ap (λ w. w.out) c.self.view_is)))
     c.requires.world c.requires.narrow c.requires.fits
     (on_ok_weaker c.put_uses.result (λ made. made
-    ∙ (λ i. with_items (c.deref.ensures.value i) ((c.part.view_is i).values) (with_nodes (c.deref.ensures.value i) ((c.part.view_is i).values) (held i))))
+    ∙ (λ i. with_items (c.deref-2.ensures.value i) (values i) (with_nodes (c.deref-2.ensures.value i) (values i) (held i))))
     c.put_uses.ensures)
   where
     held : c.deref_mut.result.now ≡ c.args.self.now.world
     held = c.deref_mut.ensures.value ∙ ap (λ w. w.world) c.self.view_is
+    values : c.deref.result.now ≡ c.args.part.values
+    values = c.deref.ensures ∙ ap (λ p. p.values) c.part.view_is
