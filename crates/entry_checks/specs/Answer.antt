@@ -4,7 +4,7 @@ use Rattle.sqe_codec.specs.Answers.{◌>>◌, require}
 use Rattle.sqe_codec.specs.declared.errno.Errno.{Errno}
 use Rattle.sqe_codec.specs.declared.errno.Errno.TheVariants.{EINVAL, EOPNOTSUPP}
 use Rattle.sqe_codec.specs.declared.sqe.Sqe.{Sqe}
-use Rattle.trace_format.specs.declared.trace.Version.{Version}
+use Rattle.trace_format.specs.declared.version.Version.{Version}
 use Rattle.trace_format.specs.Sides.{lengths_in, total, vector_is_short}
 use Rattle.entry_checks.specs.declared.operation.Op.{Op}
 use Rattle.entry_checks.specs.Operation.{Operation}

@@ -6,8 +6,8 @@ use Rattle.sqe_codec.specs.declared.errno.Errno.{Errno}
 use Rattle.sqe_codec.specs.declared.errno.Errno.TheVariants.{ENOENT, EBADF, EINVAL, ENAMETOOLONG, EOPNOTSUPP}
 use Rattle.sqe_codec.specs.declared.sqe.Sqe.{Sqe}
 use Rattle.trace_format.specs.declared.entry.Entry.{Entry}
-use Rattle.trace_format.specs.declared.trace.Version.{Version}
-use Rattle.trace_format.specs.declared.trace.Version.TheVariants.{One, Two}
+use Rattle.trace_format.specs.declared.version.Version.{Version}
+use Rattle.trace_format.specs.Versions.{rules}
 use Rattle.std.specs.Int.{w16, w32, from_le_bytes, cast_signed}
 use Rattle.trace_format.specs.Paths.{components}
 pub use Rattle.trace_format.specs.Sides.{lengths_in, total, vector_is_short}
@@ -91,11 +91,6 @@ abbrev pub is_zero : ℤ → Bool
 is_zero (pos n) = n == 0
 is_zero (negsuc n) = false
 
--- The greatest flags of renameat2(2) that a version serves: NOREPLACE in the first, EXCHANGE in the second.
-abbrev pub most_rename_flags : Version → ℕ
-most_rename_flags One = 1
-most_rename_flags Two = 2
-
 -- The tests of each opcode, in order, and the operation that is left.
 abbrev pub check_row : Version → Opcode → Sqe → List ℕ → Result Operation Errno
 check_row v Nop e side = Ok nop
@@ -135,7 +130,7 @@ check_row v Write e side = do
   Ok (write (file_of e) e.off side)
 check_row v Renameat e side = do
   check_no_registered_file e
-  require (leb e.op_flags (most_rename_flags v)) EINVAL
+  require (leb e.op_flags (rules v).most_rename_flags) EINVAL
   check_path (old_path side)
   check_path (new_path side)
   Ok (renameat (path_of e.fd (old_path side)) (path_of (cast_signed w32 e.len) (new_path side)) e.op_flags)

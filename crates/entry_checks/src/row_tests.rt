@@ -6,7 +6,7 @@ ghost use Rattle.sqe_codec.specs.declared.errno.Errno.TheVariants.{EINVAL};
 ghost use Rattle.trace_format.specs.Sides.{vector_len};
 ghost use Rattle.entry_checks.specs.Check.{check_transfer_flags, check_no_registered_file};
 ghost use Rattle.entry_checks.specs.Check.{are_open_flags, open_flags_of, is_zero};
-ghost use Rattle.entry_checks.specs.Check.{file_of, span_of, most_rename_flags};
+ghost use Rattle.entry_checks.specs.Check.{file_of, span_of};
 ghost use Rattle.entry_checks.specs.Meant.{flags_meant, file_meant, span_meant};
 ghost use Rattle.entry_checks.specs.Answer.{check_submission, check_vector};
 
@@ -123,17 +123,6 @@ pub(crate) fn numbered_slot(sqe: &Sqe) -> Result<(), Errno>
     ensures { result ≡ require (not (sqe.now.file_index == 4294967295)) EINVAL }
 {
     require(sqe.file_index != ALLOCATED_SLOT, Errno::EINVAL)
-}
-
-/// The greatest flags of renameat2(2) that a version takes: `RENAME_NOREPLACE`, then
-/// `RENAME_EXCHANGE`.
-pub(crate) fn most_rename_flags(version: Version) -> u32
-    ensures { result ≡ most_rename_flags version }
-{
-    match version {
-        Version::One => 1,
-        Version::Two => 2,
-    }
 }
 
 /// The file that an entry names.

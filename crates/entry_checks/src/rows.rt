@@ -2,16 +2,15 @@
 //! operation that is left.
 ghost use Rattle.std.specs.Prelude.{◌≡◌, ◌≤◌, length, true};
 ghost use Rattle.trace_format.specs.Sides.{are_two_paths, vector_len};
-ghost use Rattle.trace_format.specs.declared.trace.Version.TheVariants as version;
+ghost use Rattle.trace_format.specs.declared.version.Version.TheVariants as version;
 ghost use Rattle.entry_checks.specs.Check as opcode;
 ghost use Rattle.entry_checks.specs.Answer.{answer, checked_row};
 
 use crate::operation::{Op, PathAt};
 use crate::paths::{check_path, new_path, old_path};
 use crate::row_tests::{
-    file_of, flag_or_none, flags_up_to, most_rename_flags, new_directory, no_registered_file,
-    numbered_slot, open_flags, open_flags_of, slot_or_descriptor, span_of, submission, transfer,
-    vector, written,
+    file_of, flag_or_none, flags_up_to, new_directory, no_registered_file, numbered_slot,
+    open_flags, open_flags_of, slot_or_descriptor, span_of, submission, transfer, vector, written,
 };
 use sqe_codec::{Errno, Sqe};
 use trace_format::Version;
@@ -161,7 +160,7 @@ pub(crate) fn renameat<'a>(sqe: &Sqe, side: &'a [u8], version: Version) -> Resul
 {
     submission(sqe)?;
     no_registered_file(sqe)?;
-    flags_up_to(sqe, most_rename_flags(version))?;
+    flags_up_to(sqe, version.rules().most_rename_flags)?;
     let old = old_path(side);
     let new = new_path(side);
     check_path(old)?;

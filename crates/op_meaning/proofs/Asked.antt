@@ -11,10 +11,11 @@ use Rattle.sqe_codec.specs.declared.sqe.Sqe.{Sqe}
 use Rattle.std.proofs.lemmas.Result.{IfOk-at_ok}
 use Rattle.sqe_codec.specs.Answers.{require}
 use Rattle.trace_format.specs.declared.entry.Entry.{Entry}
-use Rattle.trace_format.specs.declared.trace.Version.{Version}
+use Rattle.trace_format.specs.declared.version.Version.{Version}
+use Rattle.trace_format.specs.Versions.{rules}
 use Rattle.trace_format.specs.Sides.{is_side_of, lengths_in, most_moved, total, vector_is_short, vector_len, written_len}
 use Rattle.entry_checks.specs.Operation.{Operation, asked}
-use Rattle.entry_checks.specs.Check.{Opcode, Nop, Readv, Writev, Fsync, ReadFixed, WriteFixed, Fallocate, Openat, Close, Read, Write, Renameat, Unlinkat, Mkdirat, Linkat, Ftruncate, opcode_numbers, opcode_of, has, buffer_select, check, check_row, check_transfer_flags, check_no_registered_file, check_path, are_open_flags, is_zero, most_rename_flags, old_path, new_path}
+use Rattle.entry_checks.specs.Check.{Opcode, Nop, Readv, Writev, Fsync, ReadFixed, WriteFixed, Fallocate, Openat, Close, Read, Write, Renameat, Unlinkat, Mkdirat, Linkat, Ftruncate, opcode_numbers, opcode_of, has, buffer_select, check, check_row, check_transfer_flags, check_no_registered_file, check_path, are_open_flags, is_zero, old_path, new_path}
 use Rattle.op_meaning.proofs.Fallible.{and_so, after, after_so}
 
 -- The numbers of the opcodes whose bytes to write stand beside the entry.
@@ -70,7 +71,7 @@ short_row v Close e side fits is = after IsShort (check_no_registered_file e) _ 
 short_row v Read e side fits is = after IsShort (check_transfer_flags e) _ (omega arith)
 short_row v Write e side fits is = after IsShort (check_transfer_flags e) _ (short_write e side (eqb-true 23 e.opcode is) fits)
 short_row v Renameat e side fits is =
-    after IsShort (check_no_registered_file e) _ (after IsShort (require (leb e.op_flags (most_rename_flags v)) EINVAL) _ (after IsShort (check_path (old_path side)) _ (after IsShort (check_path (new_path side)) _ tt)))
+    after IsShort (check_no_registered_file e) _ (after IsShort (require (leb e.op_flags (rules v).most_rename_flags) EINVAL) _ (after IsShort (check_path (old_path side)) _ (after IsShort (check_path (new_path side)) _ tt)))
 short_row v Unlinkat e side fits is = after IsShort (check_no_registered_file e) _ (after IsShort (require (e.op_flags == 0 || e.op_flags == 512) EINVAL) _ (after IsShort (check_path side) _ tt))
 short_row v Mkdirat e side fits is = after IsShort (check_no_registered_file e) _ (after IsShort (check_path side) _ tt)
 short_row v Linkat e side fits is =

@@ -13,7 +13,7 @@ use Rattle.trace_format.specs.declared.trace.Node.{Node}
 use Rattle.trace_format.specs.declared.trace.Node.TheVariants.{File}
 use Rattle.trace_format.specs.declared.trace.Ring.{Ring}
 use Rattle.trace_format.specs.declared.trace.Trace.{Trace}
-use Rattle.trace_format.specs.declared.trace.Version.TheVariants.{One}
+use Rattle.trace_format.specs.declared.version.Version.TheVariants.{One}
 use Rattle.world_parts.specs.declared.image.NameEntry.{NameEntry}
 use Rattle.world_parts.specs.declared.image.SlotEntry.{SlotEntry}
 use Rattle.world_parts.specs.declared.image.DescriptorEntry.{DescriptorEntry}

@@ -1,6 +1,6 @@
 -- Worked examples: the report of each, computed.
 use Rattle.std.specs.Prelude.{◌≡◌, pos, true, false, ◌^◌, ◌+◌, ◌-◌, [], ◌∷◌, ◌++◌, replicate, refl, codes}
-use Rattle.trace_format.specs.declared.trace.Version.TheVariants.{Two}
+use Rattle.trace_format.specs.declared.version.Version.TheVariants.{Two}
 use Rattle.trace_format.specs.declared.trace.Access.TheVariants.{Read, Both}
 use Rattle.trace_format.specs.declared.trace.Node.TheVariants.{Directory, File, OtherName}
 use Rattle.trace_format.specs.declared.trace.Record.TheVariants.{Enter, Fill}

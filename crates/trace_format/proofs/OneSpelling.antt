@@ -13,15 +13,16 @@ use Rattle.trace_format.specs.declared.trace.Item.{Item}
 use Rattle.trace_format.specs.declared.trace.Node.{Node}
 use Rattle.trace_format.specs.declared.trace.Node.TheVariants.{File}
 use Rattle.trace_format.specs.Counts.{places_in}
-use Rattle.trace_format.specs.Text.{slot, buffer, ring, entry, file, other_name, node, new_path, item, description, access_of, enter, fill, one_record, header, version_of, most_descriptors, Counts, trace, SpellsTrace, is_within, buffer_len}
+use Rattle.trace_format.specs.Text.{slot, buffer, ring, entry, file, other_name, node, new_path, item, description, access_of, enter, fill, one_record, header, Counts, trace, SpellsTrace, is_within, buffer_len}
 use Rattle.trace_format.specs.Grammar.{Grammar, Done, Bytes, Place, Test, ◌>>=◌, number, number_to, fault}
 use Rattle.trace_format.specs.declared.fault.Kind.TheVariants.{Reference}
 use Rattle.trace_format.specs.declared.trace.Record.TheVariants.{Fill}
 use Rattle.trace_format.specs.declared.trace.Record.{Record}
 use Rattle.trace_format.specs.declared.trace.Trace.{Trace}
-use Rattle.trace_format.specs.declared.trace.Version.{Version as TraceVersion}
-use Rattle.trace_format.specs.declared.trace.Version.TheVariants.{One, Two}
-use Rattle.trace_format.specs.Spelling.{slot_bytes, buffer_bytes, ring_bytes, entry_text, kind_of, node_bytes, item_bytes, access_number, flag, description_bytes, record_bytes, version_number, header_bytes, trace_bytes}
+use Rattle.trace_format.specs.declared.version.Version.{Version as TraceVersion}
+use Rattle.trace_format.specs.declared.version.Version.TheVariants.{One, Two}
+use Rattle.trace_format.specs.Versions.{rules, version_of}
+use Rattle.trace_format.specs.Spelling.{slot_bytes, buffer_bytes, ring_bytes, entry_text, kind_of, node_bytes, item_bytes, access_number, flag, description_bytes, record_bytes, header_bytes, trace_bytes}
 use Rattle.trace_format.proofs.Spelled.{Once, Spelt, Front, at_place, at_test, test_passed, at_known, at_done, then, at_bytes, at_several, cat, last, wide16, wide32, wide64, once_number, once_number_to, split, at_choice, once_u8, once_u8_to, within_limit}
 
 file_kind : (place : ℕ) (text : List ℕ) (y : Node) → IsBytes text → Spelt file place text y → kind_of y ≡ 2
@@ -226,7 +227,7 @@ abbrev five_counts : Counts → List ℕ
 five_counts c = to_le_bytes w32 c.items ++ to_le_bytes w32 c.descriptions ++ to_le_bytes w32 c.rings ++ to_le_bytes w32 c.records ++ to_le_bytes w32 c.descriptors
 
 abbrev counts_bytes : Counts → List ℕ
-counts_bytes c = (codes "URINGTRC" ++ to_le_bytes w32 (version_number c.version)) ++ five_counts c
+counts_bytes c = (codes "URINGTRC" ++ to_le_bytes w32 (rules c.version).number) ++ five_counts c
 
 -- what follows the version in the header
 unfoldable counts_tail : TraceVersion → Grammar Counts
@@ -235,7 +236,7 @@ counts_tail version = do
   descriptions ← number_to w32 65535
   rings ← number_to w32 64
   records ← number_to w32 1048576
-  descriptors ← number_to w32 (most_descriptors version)
+  descriptors ← number_to w32 (rules version).most_descriptors
   Done (record { version = version; items = items; descriptions = descriptions; rings = rings; records = records; descriptors = descriptors })
 
 -- the counts after a version, and their text
@@ -250,7 +251,7 @@ once_counts_tail version place text y fits s =
     let descriptions = then (to_le_bytes w32) (once_number_to w32 65535 wide32) items.fits items.spelled in
     let rings = then (to_le_bytes w32) (once_number_to w32 64 wide32) descriptions.fits descriptions.spelled in
     let records = then (to_le_bytes w32) (once_number_to w32 1048576 wide32) rings.fits rings.spelled in
-    let descriptors = then (to_le_bytes w32) (once_number_to w32 (most_descriptors version) wide32) records.fits records.spelled in
+    let descriptors = then (to_le_bytes w32) (once_number_to w32 (rules version).most_descriptors wide32) records.fits records.spelled in
     let e = at_done descriptors.spelled in
     record {
       whole = last (cat (cat (cat (cat items.parts descriptions.parts) rings.parts) records.parts) descriptors.parts) e.0 ∙ ap five_counts (sym e.1);
@@ -260,18 +261,18 @@ once_counts_tail version place text y fits s =
 some_version : (v w : TraceVersion) → Some v ≡ Some w → v ≡ w
 some_version v w h = cc
 
-named_version : (one two : Bool) (n : ℕ) (v : TraceVersion) → (one ≡ true → n ≡ 1) → (two ≡ true → n ≡ 2) → cond one (Some One) (cond two (Some Two) None) ≡ Some v → n ≡ version_number v
-named_version true two n v is_one is_two h = is_one refl ∙ ap version_number (some_version One v h)
-named_version false true n v is_one is_two h = is_two refl ∙ ap version_number (some_version Two v h)
+named_version : (one two : Bool) (n : ℕ) (v : TraceVersion) → (one ≡ true → n ≡ 1) → (two ≡ true → n ≡ 2) → cond one (Some One) (cond two (Some Two) None) ≡ Some v → n ≡ (rules v).number
+named_version true two n v is_one is_two h = is_one refl ∙ ap (λ (v : TraceVersion). (rules v).number) (some_version One v h)
+named_version false true n v is_one is_two h = is_two refl ∙ ap (λ (v : TraceVersion). (rules v).number) (some_version Two v h)
 named_version false false n v is_one is_two h = absurd cc
 
 -- a number that names a version is that version's number
-version_back : (n : ℕ) (v : TraceVersion) → version_of n ≡ Some v → n ≡ version_number v
+version_back : (n : ℕ) (v : TraceVersion) → version_of n ≡ Some v → n ≡ (rules v).number
 version_back n v h = named_version (n == 1) (n == 2) n v (λ e. eqb-true n 1 e) (λ e. eqb-true n 2 e) h
 
-header_counted : (magic text rest : List ℕ) (n : ℕ) (version : TraceVersion) (c : Counts) → magic ≡ codes "URINGTRC" → n ≡ version_number version → Front text (magic ++ to_le_bytes w32 n) rest → CountsTail version rest c → text ≡ counts_bytes c
+header_counted : (magic text rest : List ℕ) (n : ℕ) (version : TraceVersion) (c : Counts) → magic ≡ codes "URINGTRC" → n ≡ (rules version).number → Front text (magic ++ to_le_bytes w32 n) rest → CountsTail version rest c → text ≡ counts_bytes c
 header_counted magic text rest n version c e f parts t =
-    let number : n ≡ version_number c.version = f ∙ ap version_number (sym t.version) in
+    let number : n ≡ (rules c.version).number = f ∙ ap (λ (v : TraceVersion). (rules v).number) (sym t.version) in
     parts.whole ∙ rw (e, number, t.whole) refl
 
 once_header : Once header counts_bytes

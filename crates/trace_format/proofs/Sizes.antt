@@ -9,9 +9,10 @@ use Rattle.trace_format.specs.declared.fault.TraceFault.{TraceFault}
 use Rattle.trace_format.specs.declared.trace.Ring.{Ring}
 use Rattle.trace_format.specs.declared.trace.Trace.{Trace}
 use Rattle.trace_format.specs.Grammar.{Grammar, Done, Test, Then, Spells, number_to, several}
-use Rattle.trace_format.specs.declared.trace.Version.{Version as TraceVersion}
-use Rattle.trace_format.specs.declared.trace.Version.TheVariants.{One, Two}
-use Rattle.trace_format.specs.Text.{Counts, header, item, description, slot, buffer, ring, trace, most_descriptors, IsSpelled}
+use Rattle.trace_format.specs.declared.version.Version.{Version as TraceVersion}
+use Rattle.trace_format.specs.declared.version.Version.TheVariants.{One, Two}
+use Rattle.trace_format.specs.Versions.{rules}
+use Rattle.trace_format.specs.Text.{Counts, header, item, description, slot, buffer, ring, trace, IsSpelled}
 use Rattle.trace_format.specs.Sizes.{HasSizes}
 
 -- some text spells the value
@@ -92,7 +93,7 @@ record CountSizes (c : Counts) : Type 0 where
   rings : c.rings ≤ 64
   descriptors : c.descriptors ≤ 1024
 
-table_size : (v : TraceVersion) → most_descriptors v ≤ 1024
+table_size : (v : TraceVersion) → (rules v).most_descriptors ≤ 1024
 table_size One = omega arith
 table_size Two = omega arith
 
@@ -113,7 +114,7 @@ count_sizes c v =
     let item_limit = limited w32 65535 items.first items.own in
     let description_limit = limited w32 65535 descriptions.first descriptions.own in
     let ring_limit = limited w32 64 rings.first rings.own in
-    let table_limit = limited w32 (most_descriptors known.first) descriptors.first descriptors.own in
+    let table_limit = limited w32 (rules known.first).most_descriptors descriptors.first descriptors.own in
     record {
       items = omega (arith, item_limit, ap (λ (x : Counts). x.items) e);
       descriptions = omega (arith, description_limit, ap (λ (x : Counts). x.descriptions) e);

@@ -5,8 +5,7 @@ use Rattle.std.specs.Str.{bytes_eq}
 use Rattle.std.specs.Int.{w8, w16, w32, w64}
 use Rattle.sqe_codec.specs.Fields.{entry_of}
 use Rattle.trace_format.specs.declared.fault.Kind.TheVariants.{Magic, Version, Limit, Path, NoParent, Exists, Reference, Side, Overlap, Trailing}
-use Rattle.trace_format.specs.declared.trace.Version.{Version as TraceVersion}
-use Rattle.trace_format.specs.declared.trace.Version.TheVariants.{One, Two}
+use Rattle.trace_format.specs.declared.version.Version.{Version as TraceVersion}
 use Rattle.trace_format.specs.declared.trace.Node.{Node}
 use Rattle.trace_format.specs.declared.trace.Node.TheVariants.{Directory, File, OtherName}
 use Rattle.trace_format.specs.declared.trace.Item.{Item}
@@ -23,16 +22,8 @@ use Rattle.trace_format.specs.Grammar.{Grammar, Done, Bytes, Place, Test, Known,
 use Rattle.trace_format.specs.declared.fault.TraceFault.{TraceFault}
 use Rattle.trace_format.specs.Paths.{is_path, parent_of, has_name, has_directory, is_directory, is_file}
 use Rattle.trace_format.specs.Sides.{is_side_of}
+use Rattle.trace_format.specs.Versions.{rules, version_of}
 use Rattle.trace_format.specs.Counts.{places_in, places_limit}
-
--- the version that a number names
-abbrev pub version_of : ℕ → Option TraceVersion
-version_of number = if number == 1 then Some One else if number == 2 then Some Two else None
-
--- how many descriptors the table has at most: the first version has no table
-abbrev pub most_descriptors : TraceVersion → ℕ
-most_descriptors One = 0
-most_descriptors Two = 1024
 
 -- the version, and how many of each there are
 pub record Counts : Type 0 where
@@ -55,7 +46,7 @@ header = do
   descriptions ← number_to w32 65535
   rings ← number_to w32 64
   records ← number_to w32 1048576
-  descriptors ← number_to w32 (most_descriptors version)
+  descriptors ← number_to w32 (rules version).most_descriptors
   Done (record { version = version; items = items; descriptions = descriptions; rings = rings; records = records; descriptors = descriptors })
 
 -- the item of a number from 1 on passes the test

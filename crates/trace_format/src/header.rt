@@ -3,11 +3,11 @@ ghost use Rattle.std.specs.Prelude.{◌≡◌, ◌≤◌, IfOk};
 ghost use Rattle.trace_format.specs.Counts.{places_limit};
 ghost use Rattle.trace_format.specs.Read.{Gives};
 ghost use Rattle.trace_format.specs.Sources.{counts_meant, reading_from, with_rest};
-ghost use Rattle.trace_format.specs.Text.{header, version_of, most_descriptors};
+ghost use Rattle.trace_format.specs.Text.{header};
 
 use crate::fault::{Kind, ReadError, refused};
 use crate::source::{Source, bytes_of, u32_of, u32_to};
-use crate::trace::Version;
+use crate::version::Version;
 
 /// The version, and how many of each there are.
 #[derive(Clone, Copy)]
@@ -18,27 +18,6 @@ pub(crate) struct Counts {
     pub rings: u32,
     pub records: u32,
     pub descriptors: u16,
-}
-
-/// The version that a number names.
-fn version_of(number: u32) -> Option<Version>
-    ensures { result ≡ version_of number }
-{
-    match number {
-        1 => Some(Version::One),
-        2 => Some(Version::Two),
-        _ => None,
-    }
-}
-
-/// How many descriptors the table has at most.
-fn most_descriptors(version: Version) -> u32
-    ensures { result ≡ most_descriptors version }
-{
-    match version {
-        Version::One => 0,
-        Version::Two => 1024,
-    }
 }
 
 #[tactic(auto, unfolding(crate::specs::Text::header))]
@@ -53,14 +32,14 @@ pub(crate) fn counts_of(source: Source<'_>) -> Result<(Counts, Source<'_>), Read
     }
     let place = source.place;
     let (number, source) = u32_of(source)?;
-    let Some(version) = version_of(number) else {
+    let Some(version) = Version::of(number) else {
         return Err(refused(Kind::Version, place));
     };
     let (items, source) = u32_to(source, 65_535)?;
     let (descriptions, source) = u32_to(source, 65_535)?;
     let (rings, source) = u32_to(source, 64)?;
     let (records, source) = u32_to(source, 1_048_576)?;
-    let (descriptors, source) = u32_to(source, most_descriptors(version))?;
+    let (descriptors, source) = u32_to(source, version.rules().most_descriptors)?;
     Ok((
         Counts {
             version,

@@ -30,6 +30,7 @@ mod source;
 mod spans;
 mod steps;
 mod trace;
+mod version;
 mod writing;
 
 pub use blob::Blob;
@@ -39,5 +40,6 @@ pub use list::Series;
 pub use reading::read_trace;
 pub use sides::{fits, vector_total};
 pub use steps::{Action, Records, Step};
-pub use trace::{Access, Buffer, Description, Item, Node, Record, Ring, Trace, Version};
+pub use trace::{Access, Buffer, Description, Item, Node, Record, Ring, Trace};
+pub use version::{Rules, Version};
 pub use writing::write_trace;

@@ -7,15 +7,7 @@ use crate::blob::Blob;
 use crate::entry::Entry;
 use crate::list::Series;
 use crate::steps::{Records, Step};
-
-/// The version of the format.
-#[derive(Clone, Copy, Debug, PartialEq, Eq)]
-pub enum Version {
-    /// Without ordinary descriptors.
-    One,
-    /// With a table of ordinary descriptors, and the exchange of two names.
-    Two,
-}
+use crate::version::Version;
 
 /// What an initial name leads to.
 #[derive(Drop)]

@@ -1,6 +1,6 @@
 -- Worked rounds of random traces, computed by the definitions, as an independent program gives them. The number behind a name is the window.
 use Rattle.std.specs.Prelude.{◌≡◌, pos, true, false, ◌^◌, ◌-◌, [], ◌∷◌, ◌++◌, refl, codes}
-use Rattle.trace_format.specs.declared.trace.Version.TheVariants.{Two}
+use Rattle.trace_format.specs.declared.version.Version.TheVariants.{Two}
 use Rattle.trace_format.specs.declared.trace.Access.TheVariants.{Read, Write, Both}
 use Rattle.trace_format.specs.declared.trace.Node.TheVariants.{Directory, File, OtherName}
 use Rattle.trace_format.specs.declared.trace.Record.TheVariants.{Enter, Fill}

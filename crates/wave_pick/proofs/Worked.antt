@@ -1,6 +1,6 @@
 -- Worked rounds, computed by the definitions, as the .rounds of examples/ give them. The number behind a name is the window.
 use Rattle.std.specs.Prelude.{◌≡◌, pos, false, ◌^◌, ◌-◌, [], ◌∷◌, refl, codes}
-use Rattle.trace_format.specs.declared.trace.Version.TheVariants.{Two}
+use Rattle.trace_format.specs.declared.version.Version.TheVariants.{Two}
 use Rattle.trace_format.specs.declared.trace.Access.TheVariants.{Both}
 use Rattle.trace_format.specs.declared.trace.Node.TheVariants.{Directory, File}
 use Rattle.trace_format.specs.declared.trace.Record.TheVariants.{Enter, Fill}

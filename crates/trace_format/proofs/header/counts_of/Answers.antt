@@ -2,7 +2,8 @@ use Rattle.std.proofs.Common.{◌≡◌, true, Some, inl, inr, refl, rules}
 use Rattle.std.specs.Prelude.{codes}
 use Rattle.std.specs.Str.{bytes_eq}
 use Rattle.std.proofs.lemmas.Result.{err_from_is_err_and}
-use Rattle.trace_format.specs.Text.{header, version_of}
+use Rattle.trace_format.specs.Text.{header}
+use Rattle.trace_format.specs.Versions.{version_of}
 use Rattle.trace_format.proofs.Loops.{cases_fails}
 use Rattle.trace_format.proofs.header.counts_of.Goals as goal
 
@@ -56,7 +57,7 @@ returns-in_err-descriptors-clause-read c =
     let p = err_from_is_err_and c.from_residual-in_err-descriptors.result c.from_residual-in_err-descriptors.ensures.1 in
     let magic : bytes_eq c.in_ok-magic.magic.now (codes "URINGTRC") ≡ true = search rules in
     let version : version_of c.in_ok-number.number ≡ Some c.in-Some.version = cc in
-    let failed = rw c.most_descriptors.ensures at c.in_err-descriptors.ensures in
+    let failed = rw c.rules.ensures at c.in_err-descriptors.ensures in
     elim (cases_fails c.in_err-descriptors.field-0.0 _ failed) [
       | inl m ↦ rw (p.1, p.2, m) tt
       | inr f ↦ rw (p.1, p.2, f.1, c.in_ok-magic.ensures.read, magic, c.in_ok-number.ensures, version, c.in_ok-items.ensures, c.in_ok-descriptions.ensures, c.in_ok-rings.ensures, c.in_ok-records.ensures, f.2) refl
@@ -67,5 +68,5 @@ unfolding header
 returns-clause-read c =
     let magic : bytes_eq c.in_ok-magic.magic.now (codes "URINGTRC") ≡ true = search rules in
     let version : version_of c.in_ok-number.number ≡ Some c.in-Some.version = cc in
-    let descriptors = rw c.most_descriptors.ensures at c.in_ok-descriptors.ensures in
+    let descriptors = rw c.rules.ensures at c.in_ok-descriptors.ensures in
     rw (c.in_ok-magic.ensures.read, magic, c.in_ok-number.ensures, version, c.in_ok-items.ensures, c.in_ok-descriptions.ensures, c.in_ok-rings.ensures, c.in_ok-records.ensures, descriptors) refl
