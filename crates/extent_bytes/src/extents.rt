@@ -196,8 +196,9 @@ impl Extents {
         self.stored.overlay(self.alloc, patch, from, from + len)
     }
 
-    /// Puts the bytes of another list from `lo` up to `hi` in place of those of this one. Those of
-    /// one page are copied, so that the page keeps its one owner. More than that are shared.
+    /// Puts the bytes of another list from `lo` up to `hi` in place of those of this one. A part of
+    /// one page is copied, so that the page keeps its one owner. A whole page, more than a page and
+    /// the whole of this list are shared.
     pub fn copy_range(&mut self, source: &Extents, lo: u64, hi: u64) -> Result<(), AllocError>
         requires forward { lo ≤ hi }
         requires there { hi ≤ length source.now }
@@ -208,8 +209,9 @@ impl Extents {
     {
         let from = source.start + lo;
         let start = from % PAGE;
-        let end = start + (hi - lo);
-        if end > PAGE {
+        let count = hi - lo;
+        let end = start + count;
+        if end > PAGE || count == PAGE || count == self.len {
             return self.put_back(lo, source.share(lo, hi)?);
         }
         let pages = source.stored.pages();

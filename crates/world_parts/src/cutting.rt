@@ -76,7 +76,7 @@ impl World {
     }
 
     /// Takes a part out for a place: what its footprint names. Bytes that are written leave zeros
-    /// behind, all else stays; bytes of more than a page are shared.
+    /// behind, all else stays; whole pages are shared.
     ///
     /// # Errors
     ///

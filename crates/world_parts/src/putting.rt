@@ -242,7 +242,7 @@ impl State {
 
 impl World {
     /// Puts a part back: the world has its values where its footprint writes. It costs by the
-    /// footprint and the part, and bytes move as whole pages.
+    /// footprint and the part, and bytes move as whole pages, but for those within one page.
     ///
     /// # Errors
     ///
