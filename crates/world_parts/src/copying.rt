@@ -1,7 +1,6 @@
 //! What a part shows of a world: items that are copied one by one.
-ghost use Rattle.std.specs.Prelude.{◌≡◌, ◌≤◌, [], length, map, unwrap_or, IfOk, OnOk, Some, T};
+ghost use Rattle.std.specs.Prelude.{◌≡◌, length, map, OnOk, Some, T};
 ghost use Rattle.std.specs.Option.{option_map};
-ghost use Rattle.extent_bytes.specs.Bytes.{range_of};
 ghost use Rattle.world_parts.specs.Copying.{IsCopied, IsNearer, IsShadow};
 ghost use Rattle.world_parts.specs.Copying.{looked_up, nothing, outline};
 ghost use Rattle.world_parts.specs.Items.{Agree, all_descriptors, buffer_bytes, chain_flag};
