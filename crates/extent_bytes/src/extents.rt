@@ -5,10 +5,9 @@ ghost use Rattle.extent_bytes.specs.Bytes.{overwritten, zeroed, resized, range_o
 
 use crate::comparing::stored_agree;
 use crate::moving::aligned;
-use crate::page_map::{PAGE, append_part, copy_bytes};
+use crate::page_map::{PAGE, append_part, part_of_page};
 use crate::stored::Stored;
 use std::alloc::{AllocError, Global};
-use std::collections::BTreeMap;
 use std::marker::Model;
 
 /// The greatest length of a byte list, 2^40.
@@ -155,38 +154,6 @@ impl Extents {
         })
     }
 
-    /// What [`Extents::share`] gives, for bytes that change next in this list. A part of one page
-    /// is copied, so that the page keeps its one owner. More than that is shared.
-    pub fn detach(&self, lo: u64, hi: u64) -> Result<Extents, AllocError>
-        requires forward { lo ≤ hi }
-        requires inside { hi ≤ length self.now }
-        ensures value { IfOk result (λ part. part ≡ range_of self.now lo hi) }
-        ensures len { IfOk result (λ part. length part ≡ hi - lo) }
-    {
-        let from = self.start + lo;
-        let start = from % PAGE;
-        let end = start + (hi - lo);
-        if end > PAGE {
-            return self.share(lo, hi);
-        }
-        let mut pages = BTreeMap::new(self.alloc);
-        copy_bytes(
-            &mut pages,
-            self.alloc,
-            0,
-            self.stored.pages(),
-            from / PAGE,
-            start as usize,
-            end as usize,
-        )?;
-        Ok(Extents {
-            start,
-            len: hi - lo,
-            stored: Stored::Own(pages),
-            alloc: self.alloc,
-        })
-    }
-
     /// Takes the bytes from `lo` up to `hi` out as a list of its own, and leaves zeros there.
     pub fn cut(&mut self, lo: u64, hi: u64) -> Result<Extents, AllocError>
         requires forward { lo ≤ hi }
@@ -197,7 +164,7 @@ impl Extents {
         ensures len { OnOk result (length self.new ≡ length self.old) }
         ensures err { OnErr result (self.new ≡ self.old) }
     {
-        let part = self.detach(lo, hi)?;
+        let part = self.share(lo, hi)?;
         self.zero(lo, hi)?;
         Ok(part)
     }
@@ -227,6 +194,31 @@ impl Extents {
         let from = self.start + lo;
         let patch = aligned(stored.into_pages()?, alloc, start, start + len, from % PAGE)?;
         self.stored.overlay(self.alloc, patch, from, from + len)
+    }
+
+    /// Puts the bytes of another list from `lo` up to `hi` in place of those of this one. A part of
+    /// one page is copied, so that the page keeps its one owner. A whole page, more than a page and
+    /// the whole of this list are shared.
+    pub fn copy_range(&mut self, source: &Extents, lo: u64, hi: u64) -> Result<(), AllocError>
+        requires forward { lo ≤ hi }
+        requires there { hi ≤ length source.now }
+        requires inside { hi ≤ length self.old }
+        ensures ok { OnOk result (self.new ≡ overwritten self.old lo (range_of source.now lo hi)) }
+        ensures len { OnOk result (length self.new ≡ length self.old) }
+        ensures err { OnErr result (self.new ≡ self.old) }
+    {
+        let from = source.start + lo;
+        let start = from % PAGE;
+        let count = hi - lo;
+        let end = start + count;
+        if end > PAGE || count == PAGE || count == self.len {
+            return self.put_back(lo, source.share(lo, hi)?);
+        }
+        let pages = source.stored.pages();
+        match part_of_page(pages, from / PAGE, start as usize, end as usize) {
+            Some(bytes) => self.write(lo, bytes),
+            None => self.zero(lo, hi),
+        }
     }
 
     /// Whether both lists have the same bytes. It takes no memory, and only looks at stored pages.

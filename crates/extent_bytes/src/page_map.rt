@@ -1,7 +1,8 @@
 // Stored pages by their numbers. Page k holds the bytes from 4,096 * k on, and one that is not
 // stored is zeros.
 ghost use Rattle.std.specs.Prelude.{◌≡◌, ℕ, ◌+◌, ◌-◌, ◌*◌, ◌<◌, ◌≤◌, ◌^◌, ◌++◌, length, vec_len};
-ghost use Rattle.std.specs.Prelude.{slice_index, None, Some, IsSome, IfSome, IfNone, OnOk, OnErr};
+ghost use Rattle.std.specs.Prelude.{slice_index, replicate, None, Some, IsSome, IfSome, IfNone};
+ghost use Rattle.std.specs.Prelude.{OnOk, OnErr};
 ghost use Rattle.extent_bytes.specs.Pages.{page_of, bytes_of, PageWritten, PageCopied};
 ghost use Rattle.extent_bytes.specs.Pages.{SameBytes, SameBelow, Overlaid};
 
@@ -160,6 +161,24 @@ pub(crate) fn put_range(
     Ok(())
 }
 
+// A part of one page; none where the page is not stored, and the part so is zeros.
+pub(crate) fn part_of_page(pages: &Pages, number: u64, from: usize, to: usize) -> Option<&[u8]>
+    requires forward { from ≤ to }
+    requires inside { to ≤ PAGE_SIZE }
+    ensures part { IfSome result (λ part.
+        part.now ≡ bytes_of pages.now (number * 4096 + from) (to - from)) }
+    ensures none { IfNone result
+        (bytes_of pages.now (number * 4096 + from) (to - from) ≡ replicate (to - from) 0) }
+{
+    match pages.get(&number) {
+        Some(page) => {
+            let stored = page.as_slice();
+            Some(&stored[from..to])
+        }
+        None => None,
+    }
+}
+
 // Appends a part of one page to the bytes.
 pub(crate) fn append_part(
     bytes: &mut Vec<u8>,
@@ -174,11 +193,8 @@ pub(crate) fn append_part(
     ensures { OnOk result (bytes.new.items ≡
         bytes.old.items ++ bytes_of pages.now (number * 4096 + from) (to - from)) }
 {
-    match pages.get(&number) {
-        Some(page) => {
-            let stored = page.as_slice();
-            bytes.extend_from_slice(&stored[from..to])
-        }
+    match part_of_page(pages, number, from, to) {
+        Some(part) => bytes.extend_from_slice(part),
         None => bytes.resize(bytes.len() + (to - from), 0),
     }
 }

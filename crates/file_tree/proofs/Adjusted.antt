@@ -1,12 +1,13 @@
 -- A value of a tree of entries that is changed through what `get_mut` lent.
-use Rattle.std.proofs.Common.{◌≡◌, ℕ, Some, sym, ◌∙◌, ap}
-use Rattle.std.specs.Prelude.{None}
+use Rattle.std.proofs.Common.{◌≡◌, ℕ, Some, sym, ◌∙◌, ap, refl}
+use Rattle.std.specs.Prelude.{Option, None}
+use Rattle.std.specs.Option.{option_map}
 use Rattle.std.specs.Map.{lookup}
 use Rattle.std.specs.Ordering.{nat_cmp}
 use Rattle.std.specs.BTreeMap.{BTreeMap, WritesThrough, is_at}
-use Rattle.finite_maps.specs.Table.{Table, adjust_number, number_keys}
+use Rattle.finite_maps.specs.Table.{Table, adjust_number, assign, get, number_keys}
 use Rattle.finite_maps.specs.Maps.{table_of}
-use Rattle.finite_maps.proofs.Maps.{absent-rewrite, rewritten_through, left_through}
+use Rattle.finite_maps.proofs.Maps.{absent-assign, absent-rewrite, left_through, present-assign, rewritten_through}
 
 module _ {X : Type 0} (m n : BTreeMap ℕ X) (t : Table nat_cmp X) (k : ℕ) (seen : table_of number_keys.total m.entries ≡ t) where
   -- nothing was there
@@ -22,3 +23,12 @@ module _ {X : Type 0} (m n : BTreeMap ℕ X) (t : Table nat_cmp X) (k : ℕ) (se
     -- what was there has stayed
     pub adjusted-not : w ≡ v → table_of number_keys.total n.entries ≡ t
     adjusted-not e = left_through number_keys m n t k v w seen written there e
+
+-- a change that changes nothing
+pub adjusted-same : {X : Type 0} (t : Table nat_cmp X) (k : ℕ) (f : X → X) → ((x : X) → f x ≡ x) → t ≡ adjust_number f t k
+adjusted-same t k f same = sym (at (get t k) refl)
+  where
+    at : (o : Option _) → get t k ≡ o → assign number_keys.total t k (option_map f (get t k)) ≡ t
+    at None e = ap (λ o. assign number_keys.total t k (option_map f o)) e ∙ absent-assign number_keys t k e
+    at (Some x) e =
+        ap (λ o. assign number_keys.total t k (option_map f o)) e ∙ ap (λ y. assign number_keys.total t k (Some y)) (same x) ∙ present-assign number_keys t k x e

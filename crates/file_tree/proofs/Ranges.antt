@@ -5,6 +5,8 @@ use Rattle.std.proofs.lemmas.Bool.{cases_lt}
 use Rattle.std.proofs.lemmas.List.{take_min, drop_min, length-drop, take-append-drop}
 use Rattle.std.proofs.Math.Seq.{take-nil, drop-nil}
 use Rattle.extent_bytes.specs.Bytes.{overwritten, range_of, zeroed}
+use Rattle.extent_bytes.proofs.Lists.{overwritten_none}
+use Rattle.file_tree.specs.Tree.{Node, directory, file, rewritten_node}
 
 module _ (bytes : List ℕ) (lo hi : ℕ) where
   abbrev end : ℕ
@@ -51,3 +53,8 @@ module _ (bytes : List ℕ) (lo hi : ℕ) where
 pub range_of-none : (lo hi : ℕ) → range_of [] lo hi ≡ []
 unfolding range_of
 range_of-none lo hi = ap (take (hi - lo)) (drop-nil lo) ∙ take-nil (hi - lo)
+
+-- a range of none that is put over a node
+pub nothing_put : (lo hi : ℕ) → lo ≤ hi → hi ≤ 0 → (x : Node) → rewritten_node (λ old. overwritten old lo (range_of [] lo hi)) x ≡ x
+nothing_put lo hi h l (directory ns others) = refl
+nothing_put lo hi h l (file bytes) = ap (λ bs. file bs) (overwritten_none bytes lo (range_of [] lo hi) (ap length (range_of-none lo hi)) (omega arith))

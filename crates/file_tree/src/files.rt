@@ -101,22 +101,6 @@ impl Tree {
         bytes.share(lo, hi)
     }
 
-    /// What [`Tree::share`] gives, for bytes that change next in this tree.
-    ///
-    /// # Errors
-    ///
-    /// Want of memory.
-    pub fn detach(&self, alloc: Global, node: u32, lo: u64, hi: u64) -> Result<Extents, AllocError>
-        ensures { IfOk result
-            (λ part. part ≡ range_of (unwrap_or (tree.bytes self.now node) []) lo hi) }
-    {
-        let Some(bytes) = self.bytes(node) else {
-            return Ok(Extents::new(alloc));
-        };
-        let (lo, hi) = within(bytes, lo, hi);
-        bytes.detach(lo, hi)
-    }
-
     /// Writes bytes into a file from `at` on; a gap past its end becomes zeros. Where the node is
     /// no file nothing changes.
     ///
@@ -204,5 +188,34 @@ impl Tree {
             return Ok(());
         };
         found.put_back(lo, part)
+    }
+
+    /// Puts the bytes of another tree's file from `lo` up to `hi` in place of those of the file of
+    /// the same number. Where that node is no file nothing changes.
+    ///
+    /// # Errors
+    ///
+    /// Want of memory; the tree is as before.
+    pub fn copy_range(
+        &mut self,
+        source: &Tree,
+        node: u32,
+        lo: u64,
+        hi: u64,
+    ) -> Result<(), AllocError>
+        requires forward { lo ≤ hi }
+        requires there { hi ≤ length (unwrap_or (tree.bytes source.now node) []) }
+        requires inside { IfSome (tree.size self.old node) (λ size. hi ≤ size) }
+        ensures ok { OnOk result (self.new ≡ adjust_number (rewritten_node (λ old. overwritten
+            old lo (range_of (unwrap_or (tree.bytes source.now node) []) lo hi))) self.old node) }
+        ensures err { OnErr result (self.new ≡ self.old) }
+    {
+        let Some(bytes) = source.bytes(node) else {
+            return Ok(());
+        };
+        let Some(found) = self.nodes.get_mut(&node) else {
+            return Ok(());
+        };
+        found.copy_range(bytes, lo, hi)
     }
 }

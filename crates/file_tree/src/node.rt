@@ -233,6 +233,26 @@ impl Node {
             Content::File(file) => file.put_back(lo, part),
         }
     }
+
+    /// Puts a range of other bytes in place of a file's; a directory stays as it is.
+    pub(crate) fn copy_range(
+        &mut self,
+        source: &Extents,
+        lo: u64,
+        hi: u64,
+    ) -> Result<(), AllocError>
+        requires forward { lo ≤ hi }
+        requires there { hi ≤ length source.now }
+        requires inside { IfSome (bytes_of_node self.old) (λ bytes. hi ≤ length bytes) }
+        ensures ok { OnOk result (self.new ≡ rewritten_node
+            (λ old. overwritten old lo (range_of source.now lo hi)) self.old) }
+        ensures err { OnErr result (self.new ≡ self.old) }
+    {
+        match &mut self.content {
+            Content::Directory { .. } => Ok(()),
+            Content::File(file) => file.copy_range(source, lo, hi),
+        }
+    }
 }
 
 impl PartialEq for Node {

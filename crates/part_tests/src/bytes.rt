@@ -56,6 +56,24 @@ fn keeps_what_was_shared(rt: HostRuntime) -> Result<(), Fail> {
     Ok(())
 }
 
+/// Whether the digits 2 to 4 lie over the letters of another list in the same place.
+fn copies_digits(list: &Extents, letters: &mut Extents) -> Result<bool, AllocError>
+    requires list { length list.now ≡ 10 }
+    requires letters { length letters.old ≡ 10 }
+{
+    letters.copy_range(list, 2, 5)?;
+    Ok(shows(letters, 0, b"ab234fghij")? && shows(list, 0, b"0123456789")?)
+}
+
+#[test]
+fn copies_a_range(rt: HostRuntime) -> Result<(), Fail> {
+    let list = digits(rt.alloc())?;
+    let mut letters = digits(rt.alloc())?;
+    letters.write(0, b"abcdefghij")?;
+    assert!(rt; copies_digits(&list, &mut letters)?);
+    Ok(())
+}
+
 /// Whether a list of many pages, cut out whole, written to and put back, has what was written.
 fn cut_and_write(list: &mut Extents) -> Result<bool, AllocError>
     requires { length list.old ≡ 20003 }

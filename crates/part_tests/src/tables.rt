@@ -180,6 +180,27 @@ fn shared_bytes_of_buffers(rt: HostRuntime) -> Result<(), Fail> {
     Ok(())
 }
 
+/// Whether the middle of one table's buffer lies over that of the other's in the same place.
+fn copies_the_middle(source: &Buffers, buffers: &mut Buffers) -> Result<bool, AllocError> {
+    if source.len(2, 9) != Some(8) || buffers.len(2, 9) != Some(8) {
+        return Ok(false);
+    }
+    buffers.copy_range(source, 2, 9, 2, 5)?;
+    holds(buffers, b"ABcdeFGH")
+}
+
+#[test]
+fn copied_ranges_of_buffers(rt: HostRuntime) -> Result<(), Fail> {
+    let mut source = Buffers::new(rt.alloc());
+    source.add(2, 9, 8)?;
+    source.write(2, 9, 0, b"abcdefgh")?;
+    let mut buffers = Buffers::new(rt.alloc());
+    buffers.add(2, 9, 8)?;
+    buffers.write(2, 9, 0, b"ABCDEFGH")?;
+    assert!(rt; copies_the_middle(&source, &mut buffers)?);
+    Ok(())
+}
+
 /// 1,024 buffers of 2^30 bytes.
 fn great_buffers(alloc: Global) -> Result<Buffers, AllocError> {
     let mut buffers = Buffers::new(alloc);

@@ -201,6 +201,25 @@ fn shared_parts_of_files(rt: HostRuntime) -> Result<(), Fail> {
     Ok(())
 }
 
+/// Whether the middle of one tree's file lies over that of the other's in the same place.
+fn copies_the_middle(alloc: Global, source: &Tree, tree: &mut Tree) -> Result<bool, AllocError> {
+    if source.size(1) != Some(6) || tree.size(1) != Some(6) {
+        return Ok(false);
+    }
+    tree.copy_range(source, 1, 2, 4)?;
+    reads(alloc, tree, 1, 6, b"ABcdEF")
+}
+
+#[test]
+fn copied_ranges_of_files(rt: HostRuntime) -> Result<(), Fail> {
+    let mut source = small_tree(rt.alloc())?;
+    source.write(1, 0, b"abcdef")?;
+    let mut tree = small_tree(rt.alloc())?;
+    tree.write(1, 0, b"ABCDEF")?;
+    assert!(rt; copies_the_middle(rt.alloc(), &source, &mut tree)?);
+    Ok(())
+}
+
 /// Whether a directory takes and gives no bytes, and keeps its names.
 fn has_no_bytes(alloc: Global, tree: &mut Tree) -> Result<bool, AllocError> {
     tree.write(2, 0, b"abc")?;

@@ -11,6 +11,10 @@ pub range_of-nothing : (low high : ℕ) → range_of [] low high ≡ []
 unfolding range_of
 range_of-nothing low high = ap (take (high - low)) (drop-nil low) ∙ take-nil (high - low)
 
+-- such a range, put over others, changes nothing
+pub nothing_put : (low high : ℕ) → low ≤ high → high ≤ 0 → (old : List ℕ) → overwritten old low (range_of [] low high) ≡ old
+nothing_put low high h l old = overwritten_none old low (range_of [] low high) (ap length (range_of-nothing low high)) (omega arith)
+
 -- what is made longer from no bytes is zeros
 pub resized-nothing : (n : ℕ) → resized [] n ≡ replicate n 0
 unfolding resized

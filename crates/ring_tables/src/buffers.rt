@@ -121,18 +121,6 @@ impl Buffers {
         }
     }
 
-    /// What [`Buffers::share`] gives, for bytes that change next in this buffer.
-    pub fn detach(&self, ring: u8, index: u32, lo: u64, hi: u64) -> Result<Extents, AllocError>
-        requires forward { lo ≤ hi }
-        requires inside { hi ≤ length (bytes_at self.now ring index) }
-        ensures { IfOk result (λ part. part ≡ range_of (bytes_at self.now ring index) lo hi) }
-    {
-        match self.entries.get(&(ring, index)) {
-            Some(buffer) => buffer.detach(lo, hi),
-            None => Ok(Extents::new(self.alloc)),
-        }
-    }
-
     /// Makes the bytes of a buffer from `lo` up to `hi` zeros, as far as it has them. Where there
     /// is no buffer nothing changes.
     pub fn zero(&mut self, ring: u8, index: u32, lo: u64, hi: u64) -> Result<(), AllocError>
@@ -181,6 +169,32 @@ impl Buffers {
             return Ok(());
         };
         buffer.put_back(lo, part)
+    }
+
+    /// Puts the bytes of another table's buffer from `lo` up to `hi` in place of those of the buffer
+    /// of the same ring and index. Where there is no such buffer nothing changes.
+    pub fn copy_range(
+        &mut self,
+        source: &Buffers,
+        ring: u8,
+        index: u32,
+        lo: u64,
+        hi: u64,
+    ) -> Result<(), AllocError>
+        requires forward { lo ≤ hi }
+        requires there { hi ≤ length (bytes_at source.now ring index) }
+        requires inside { hi ≤ length (bytes_at self.old ring index) }
+        ensures ok { OnOk result (self.new ≡ rewritten_at (λ old. overwritten
+            old lo (range_of (bytes_at source.now ring index) lo hi)) self.old ring index) }
+        ensures err { OnErr result (self.new ≡ self.old) }
+    {
+        let Some(bytes) = source.entries.get(&(ring, index)) else {
+            return Ok(());
+        };
+        let Some(buffer) = self.entries.get_mut(&(ring, index)) else {
+            return Ok(());
+        };
+        buffer.copy_range(bytes, lo, hi)
     }
 
     /// The buffers in the order of ring and index.

@@ -128,13 +128,6 @@ module _ (s p : World) (sh : IsShadow s p) (i n lo hi : ℕ) (part : List ℕ) (
       let h = is_file (get p.nodes i) n (sized ∙ same_size s p i same) in
       copied h.0 w.0 h.1 w.1 (sym h.2 ∙ w.2) w.2 low high f g
 
-  pub bytes_fit : lo + length part ≤ n
-  bytes_fit =
-      let w = is_file (get s.nodes i) n sized in
-      let l = ap length (is ∙ ap (λ x. range_of (unwrap_or (option_and_then bytes_of_node x) []) lo hi) w.1) ∙ length-range w.0 lo hi in
-      let k = w.2 in
-      omega arith
-
 -- A range of what is no file has no bytes.
 pub no_bytes_copied : (s p : World) (i low high : ℕ) → IsShadow s p → None ≡ size s i → outline p i ≡ outline s i → IsCopied s p p (file_bytes i low high)
 no_bytes_copied s p i low high sh none same = record { nearer = nothing_moved s p sh; item = item }
@@ -291,15 +284,6 @@ module _ (s p : World) (sh : IsShadow s p) (r b n lo hi : ℕ) (part : List ℕ)
       let w = has_length (buffer s r b) n sized in
       let h = has_length (buffer p r b) n (sized ∙ sym same) in
       record { nearer = range_nearer h.0 w.0 h.1 w.1 (sym h.2 ∙ w.2) w.2; item = range_item h.0 w.0 h.1 w.1 (sym h.2 ∙ w.2) w.2 low high f g }
-
-  pub range_fits : lo + length part ≤ length (unwrap_or (buffer p r b) [])
-  range_fits =
-      let w = has_length (buffer s r b) n sized in
-      let h = has_length (buffer p r b) n (sized ∙ sym same) in
-      let l = ap length (is ∙ ap (λ x. range_of (unwrap_or x []) lo hi) w.1) ∙ length-range w.0 lo hi in
-      let e = w.2 in
-      let d = h.2 ∙ ap (λ x. length (unwrap_or x [])) (sym h.1) in
-      omega arith
 
 -- A range of no buffer.
 pub no_range_copied : (s p : World) (r b low high : ℕ) → IsShadow s p → None ≡ option_map length (buffer s r b) → IsCopied s p p (buffer_bytes r b low high)

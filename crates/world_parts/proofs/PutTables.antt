@@ -1,5 +1,5 @@
 -- What the calls that put a part back make of trees and buffers, in the words of their contracts.
-use Rattle.std.specs.Prelude.{◌≡◌, ℕ, Bool, true, false, cond, min, ◌+◌, ◌-◌, ◌≤◌, List, [], length, map, T, Option, Some, None, Result, IfSome, OnOk, refl, unwrap_or}
+use Rattle.std.specs.Prelude.{◌≡◌, ℕ, Bool, true, false, cond, min, ◌≤◌, List, [], length, map, T, Option, Some, None, Result, IfSome, OnOk, refl, unwrap_or}
 use Rattle.std.specs.Option.{option_map, option_copied, is_some}
 use Rattle.std.specs.Borrow.{Bor}
 use Rattle.std.specs.declared.cmp.Ordering.{Ordering}
@@ -9,7 +9,6 @@ use native.Mathlib.Omega.{arith}
 use Rattle.finite_maps.specs.Table.{Table, IsKeyOrder, get, insert, assign, get-assign, same_table, adjust_number, number_keys, pair_cmp, pair_keys}
 use Rattle.finite_maps.proofs.Maps.{absent-assign, present-assign}
 use Rattle.extent_bytes.specs.Bytes.{overwritten, range_of, resized}
-use Rattle.extent_bytes.proofs.Lengths.{length-range_of}
 use Rattle.file_tree.specs.Tree.{Tree, Node, directory, file, new_node, a_directory, a_file, rewritten_node}
 use Rattle.file_tree.specs.Tree as tree
 use Rattle.ring_tables.specs.Contents.{rewritten_at}
@@ -149,18 +148,15 @@ size-some None size e = cc
 size-some (Some bs) size e = let same : size ≡ length bs = cc in sym same
 
 -- The range that is put in from another list, as far as both go.
-module _ (o : Option (List ℕ)) (low high size start end : ℕ) (piece : List ℕ) (e : end ≡ min (min high size) (unwrap_or (option_map length o) 0)) (s : start ≡ min low end) (p : piece ≡ range_of (unwrap_or o []) start end) where
-  pub piece_fits : start + length piece ≤ size
-  piece_fits =
-      let count = length-some o in
-      let taken : length piece ≡ end - start = ap length p ∙ length-range_of (unwrap_or o []) start end (omega arith) in
-      omega arith
+module _ (o : Option (List ℕ)) (low high size start end : ℕ) (e : end ≡ min (min high size) (unwrap_or (option_map length o) 0)) (s : start ≡ min low end) where
+  pub piece_there : end ≤ length (unwrap_or o [])
+  piece_there = (let count = length-some o in omega arith)
 
-  pub piece-pasted : (bs : List ℕ) → length bs ≡ size → overwritten bs start piece ≡ pasted bs (unwrap_or o []) low high
+  pub piece-pasted : (bs : List ℕ) → length bs ≡ size → overwritten bs start (range_of (unwrap_or o []) start end) ≡ pasted bs (unwrap_or o []) low high
   piece-pasted bs same =
       let f : end ≡ min (min high (length bs)) (length (unwrap_or o [])) = e ∙ (λ j. min (min high (sym same j)) (length-some o j)) in
       let t : start ≡ min low (min (min high (length bs)) (length (unwrap_or o []))) = s ∙ ap (min low) f in
-      ap (overwritten bs start) p ∙ (λ j. overwritten bs (t j) (range_of (unwrap_or o []) (t j) (f j)))
+      (λ j. overwritten bs (t j) (range_of (unwrap_or o []) (t j) (f j)))
 
 -- The world after both rounds is any world that has the part's values where the footprint writes.
 pub put_meets : {A E : Type 0} (r : Result A E) (us : List Use) (s u t : World) (found : Option Footprint) → Some (map use_meant us) ≡ found → IsWorld s → IfSome found (λ f. T (is_narrow f))

@@ -1,7 +1,6 @@
 //! What a part shows of a world: items that are copied one by one.
-ghost use Rattle.std.specs.Prelude.{◌≡◌, ◌≤◌, [], length, map, unwrap_or, IfOk, OnOk, Some, T};
+ghost use Rattle.std.specs.Prelude.{◌≡◌, length, map, OnOk, Some, T};
 ghost use Rattle.std.specs.Option.{option_map};
-ghost use Rattle.extent_bytes.specs.Bytes.{range_of};
 ghost use Rattle.world_parts.specs.Copying.{IsCopied, IsNearer, IsShadow};
 ghost use Rattle.world_parts.specs.Copying.{looked_up, nothing, outline};
 ghost use Rattle.world_parts.specs.Items.{Agree, all_descriptors, buffer_bytes, chain_flag};
@@ -13,7 +12,6 @@ ghost use Rattle.world_parts.specs.World as world;
 
 use crate::footprint::{Item, Use};
 use crate::state::State;
-use extent_bytes::Extents;
 use file_tree::Tree;
 use ring_tables::{Buffers, Descriptions, Descriptors, Slots};
 use std::alloc::{AllocError, Global};
@@ -173,25 +171,6 @@ impl State {
         self.show_name(alloc, from, directory, name, node)
     }
 
-    /// The bytes of a file from `low` up to `high`, as far as it has them; none where the node is
-    /// no file. They are shared, but for those of one page that are written next.
-    fn file_part(
-        &self,
-        alloc: Global,
-        node: u32,
-        low: u64,
-        high: u64,
-        written: bool,
-    ) -> Result<Extents, AllocError>
-        ensures { IfOk result
-            (λ part. part ≡ range_of (unwrap_or (world.bytes self.now node) []) low high) }
-    {
-        if written {
-            return self.nodes.detach(alloc, node, low, high);
-        }
-        self.nodes.share(alloc, node, low, high)
-    }
-
     /// Copies the bytes of a file from `low` up to `high`, and what the file looks like.
     fn copy_bytes(
         &mut self,
@@ -200,7 +179,6 @@ impl State {
         node: u32,
         low: u64,
         high: u64,
-        written: bool,
     ) -> Result<(), AllocError>
         requires { IsShadow from.now self.old }
         ensures { OnOk result (IsCopied from.now self.old self.new (file_bytes node low high)) }
@@ -209,30 +187,9 @@ impl State {
         let Some(size) = from.size(node) else {
             return Ok(());
         };
-        let start = low.min(size);
-        let part = from.file_part(alloc, node, start, high, written)?;
-        self.put_bytes(node, start, part)
-    }
-
-    /// The bytes of a registered buffer of a ring from `low` up to `high`, a range within it. They
-    /// are shared, but for those of one page that are written next.
-    fn buffer_part(
-        &self,
-        ring: u8,
-        index: u32,
-        low: u64,
-        high: u64,
-        written: bool,
-    ) -> Result<Extents, AllocError>
-        requires forward { low ≤ high }
-        requires inside { high ≤ length (unwrap_or (world.buffer self.now ring index) []) }
-        ensures { IfOk result
-            (λ part. part ≡ range_of (unwrap_or (world.buffer self.now ring index) []) low high) }
-    {
-        if written {
-            return self.buffers.detach(ring, index, low, high);
-        }
-        self.buffers.share(ring, index, low, high)
+        let end = high.min(size);
+        let start = low.min(end);
+        self.copy_file_range(from, node, start, end)
     }
 
     /// Copies the length of a registered buffer of a ring. One that wasn't there is zeros.
@@ -260,7 +217,6 @@ impl State {
         index: u32,
         low: u64,
         high: u64,
-        written: bool,
     ) -> Result<(), AllocError>
         requires { IsShadow from.now self.old }
         ensures { OnOk result
@@ -272,8 +228,7 @@ impl State {
         };
         let end = high.min(len);
         let start = low.min(end);
-        let part = from.buffer_part(ring, index, start, end, written)?;
-        self.put_buffer_bytes(ring, index, start, part)
+        self.copy_buffer_range(from, ring, index, start, end)
     }
 
     /// Copies an item that a place uses. Items of a whole sort are none, but for the descriptors.
@@ -289,13 +244,11 @@ impl State {
             Item::Description(number) => self.copy_description(alloc, from, *number),
             Item::Position(number) => self.copy_description(alloc, from, *number),
             Item::Size(node) => self.copy_size(alloc, from, *node),
-            Item::Bytes(node, low, high) => {
-                self.copy_bytes(alloc, from, *node, *low, *high, used.written)
-            }
+            Item::Bytes(node, low, high) => { self.copy_bytes(alloc, from, *node, *low, *high) }
             Item::Name(directory, name) => self.copy_name(alloc, from, *directory, name),
             Item::Names(directory) => self.copy_name_count(alloc, from, *directory),
             Item::Buffer(ring, index, low, high) => {
-                self.copy_buffer(from, *ring, *index, *low, *high, used.written)
+                self.copy_buffer(from, *ring, *index, *low, *high)
             }
             Item::AllDescriptors => self.copy_descriptors(from),
             _ => Ok(()),

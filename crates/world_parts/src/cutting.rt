@@ -80,7 +80,7 @@ impl World {
     }
 
     /// Takes a part out for a place: what its footprint names. Bytes that are written leave zeros
-    /// behind, all else stays; bytes that are only read are shared.
+    /// behind, all else stays; whole pages are shared.
     ///
     /// # Errors
     ///

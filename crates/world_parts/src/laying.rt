@@ -2,7 +2,7 @@
 ghost use Rattle.std.specs.Prelude.{◌≡◌, ◌+◌, ◌≤◌, [], length, replicate};
 ghost use Rattle.std.specs.Prelude.{unwrap_or, IfOk, IfSome, OnOk};
 ghost use Rattle.entry_checks.specs.Operation.{file_limit};
-ghost use Rattle.extent_bytes.specs.Bytes.{overwritten, resized};
+ghost use Rattle.extent_bytes.specs.Bytes.{overwritten, range_of, resized};
 ghost use Rattle.file_tree.specs.Tree.{directory, file, rewritten_node, shown_node};
 ghost use Rattle.finite_maps.specs.Table.{adjust_number, empty, insert, number_keys, pair_keys};
 ghost use Rattle.ring_tables.specs.Contents.{rewritten_at};
@@ -77,6 +77,27 @@ impl State {
         self.nodes.put_back(node, at, part)
     }
 
+    /// Puts the bytes of another state's file from `low` up to `high` in place of those of the file
+    /// of the same number. Where that node is no file nothing changes.
+    pub(crate) fn copy_file_range(
+        &mut self,
+        from: &State,
+        node: u32,
+        low: u64,
+        high: u64,
+    ) -> Result<(), AllocError>
+        requires forward { low ≤ high }
+        requires there { high ≤ length (unwrap_or (world.bytes from.now node) []) }
+        requires inside { IfSome (world.size self.old node) (λ size. high ≤ size) }
+        ensures { OnOk result (self.new ≡ record self.old {
+          nodes = adjust_number (rewritten_node (λ old. overwritten
+              old low (range_of (unwrap_or (world.bytes from.now node) []) low high)))
+              self.old.nodes node;
+        }) }
+    {
+        self.nodes.copy_range(&from.nodes, node, low, high)
+    }
+
     /// Makes a registered buffer of zeros. One that was there goes.
     pub(crate) fn add_buffer(&mut self, ring: u8, index: u32, len: u64) -> Result<(), AllocError>
         requires { len ≤ MAX_LEN }
@@ -101,5 +122,28 @@ impl State {
         }) }
     {
         self.buffers.put_back(ring, index, at, part)
+    }
+
+    /// Puts the bytes of another state's registered buffer from `low` up to `high` in place of those
+    /// of the buffer of the same ring and index. Where there is no such buffer nothing changes.
+    pub(crate) fn copy_buffer_range(
+        &mut self,
+        from: &State,
+        ring: u8,
+        index: u32,
+        low: u64,
+        high: u64,
+    ) -> Result<(), AllocError>
+        requires forward { low ≤ high }
+        requires there { high ≤ length (unwrap_or (world.buffer from.now ring index) []) }
+        requires inside { high ≤ length (unwrap_or (world.buffer self.old ring index) []) }
+        ensures { OnOk result (self.new ≡ record self.old {
+          buffers = rewritten_at (λ old. overwritten
+              old low (range_of (unwrap_or (world.buffer from.now ring index) []) low high))
+              self.old.buffers ring index;
+        }) }
+    {
+        self.buffers
+            .copy_range(&from.buffers, ring, index, low, high)
     }
 }

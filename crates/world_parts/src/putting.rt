@@ -55,14 +55,7 @@ fn put_listing(nodes: &mut Tree, alloc: Global, part: &Tree, node: u32) -> Resul
 }
 
 // Puts the bytes of a range of a part's file over those of the file, as far as both go.
-fn paste(
-    nodes: &mut Tree,
-    alloc: Global,
-    part: &Tree,
-    node: u32,
-    low: u64,
-    high: u64,
-) -> Result<(), AllocError>
+fn paste(nodes: &mut Tree, part: &Tree, node: u32, low: u64, high: u64) -> Result<(), AllocError>
     ensures { OnOk result (nodes.new ≡ adjust_number (rewritten_node
         (λ bs. pasted bs (unwrap_or (tree.bytes part.now node) []) low high)) nodes.old node) }
 {
@@ -71,14 +64,12 @@ fn paste(
     };
     let end = high.min(size).min(part.size(node).unwrap_or(0));
     let start = low.min(end);
-    let bytes = part.share(alloc, node, start, end)?;
-    nodes.put_back(node, start, bytes)
+    nodes.copy_range(part, node, start, end)
 }
 
 // Makes a file show the bytes of a part's in a range: zeros where the part's file has ended.
 fn put_bytes(
     nodes: &mut Tree,
-    alloc: Global,
     part: &Tree,
     node: u32,
     low: u64,
@@ -88,7 +79,7 @@ fn put_bytes(
 {
     let size = part.size(node).unwrap_or(0);
     nodes.zero(node, low.max(size), high)?;
-    paste(nodes, alloc, part, node, low, high)
+    paste(nodes, part, node, low, high)
 }
 
 // Puts the bytes of a range of a part's buffer over those of the buffer, as far as both go.
@@ -108,8 +99,7 @@ fn put_buffer(
     };
     let end = high.min(size).min(part.len(ring, index).unwrap_or(0));
     let start = low.min(end);
-    let bytes = part.share(ring, index, start, end)?;
-    buffers.put_back(ring, index, start, bytes)
+    buffers.copy_range(part, ring, index, start, end)
 }
 
 // Sets all but the position of a description to what a part says; one that is new takes its
@@ -203,7 +193,7 @@ impl State {
                 put_position(&mut self.descriptions, &part.descriptions, *number)
             }
             Item::Bytes(node, low, high) => {
-                put_bytes(&mut self.nodes, alloc, &part.nodes, *node, *low, *high)
+                put_bytes(&mut self.nodes, &part.nodes, *node, *low, *high)
             }
             Item::Name(directory, name) => {
                 self.set_name(alloc, *directory, name, part.name(*directory, name))
@@ -252,7 +242,7 @@ impl State {
 
 impl World {
     /// Puts a part back: the world has its values where its footprint writes. It costs by the
-    /// footprint and the part, and bytes move as whole pages.
+    /// footprint and the part, and bytes move as whole pages, but for those within one page.
     ///
     /// # Errors
     ///
