@@ -20,7 +20,8 @@ use Rattle.op_meaning.specs.declared.handles.OpenFile.{OpenFile}
 use Rattle.world_parts.specs.Items.{one, description_at, reads, Footprint}
 use Rattle.world_parts.specs.World.{World}
 
-abbrev no_content : ℕ → Handle → Footprint
+-- nothing of the content of a file
+abbrev pub no_content : ℕ → Handle → Footprint
 no_content i h = []
 
 module _ (t : Trace) (r : ℕ) (s : World) where

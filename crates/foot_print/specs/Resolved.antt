@@ -68,8 +68,8 @@ opening_rest t k r s y g index p = room_where y (room_uses t s r index) ++ made_
 abbrev pub rest : Trace → ℕ → ℕ → World → Taken → Resolved → Footprint
 rest t k r s y Idle = []
 rest t k r s y (Looking f) = file_reads t r (file_meant f)
-rest t k r s y (Moving w x o n span) = through w t r (option_map span_meant span) (moved_of s y w o n x)
-rest t k r s y (Allocating x o n mode) = content_of s (allocated_content s y o n mode) x
+rest t k r s y (Moving w x range span) = through w t r (option_map span_meant span) (moved_of s y w range.offset range.count x)
+rest t k r s y (Allocating x range mode) = content_of s (allocated_content s y range.offset range.count mode) x
 rest t k r s y (Resizing x n) = content_of s (resized_content n) x
 rest t k r s y (Closing number index) = close_row t r number index
 rest t k r s y (Opening p g index) = opening_rest t k r s y (flags_meant g) index p

@@ -3,6 +3,8 @@ ghost use Rattle.std.specs.Prelude.{◌≡◌};
 ghost use Rattle.foot_print.specs.Resolved.{taken_meant};
 ghost use Rattle.op_meaning.specs.Footprint as rows;
 
+use crate::site::Site;
+
 /// How the uses of an operation are taken.
 #[derive(Clone, Copy)]
 pub(crate) enum Taken {
@@ -31,10 +33,9 @@ impl Taken {
     }
 }
 
-/// An operation's place and ring, and how its uses are taken.
+/// An operation's site, and how its uses are taken.
 #[derive(Clone, Copy)]
-pub(crate) struct Attempt {
-    pub place: u32,
-    pub ring: u8,
+pub(crate) struct Attempt<'a> {
+    pub site: Site<'a>,
     pub taken: Taken,
 }

@@ -4,14 +4,14 @@ ghost use Rattle.foot_print.specs.Reach.{shape_seen};
 ghost use Rattle.foot_print.specs.Resolved.{Completes};
 ghost use Rattle.foot_print.specs.Shapes.{shape_meant};
 
-use crate::file_rows::file_seen;
+use crate::file_rows::{FileRange, file_seen};
 use crate::path_rows::names_seen;
 use crate::shape::Shape;
+use crate::site::Site;
 use entry_checks::{BufferSpan, FileNumber, OpenAtFlags};
 use file_tree::Place;
 use op_meaning::OpenFile;
 use std::alloc::{AllocError, Global};
-use trace_format::Trace;
 use world_parts::{Footprint, State};
 
 /// A shape with what its file or its paths lead to in a world, where they lead to something.
@@ -24,14 +24,12 @@ pub(crate) enum Resolved<'a> {
     Moving {
         into_file: bool,
         opened: Option<OpenFile>,
-        offset: u64,
-        count: u64,
+        range: FileRange,
         span: Option<BufferSpan>,
     },
     Allocating {
         opened: Option<OpenFile>,
-        offset: u64,
-        size: u64,
+        range: FileRange,
         mode: u32,
     },
     Resizing {
@@ -67,15 +65,15 @@ pub(crate) enum Resolved<'a> {
 /// descriptors, open file descriptions and names.
 pub(crate) fn resolve<'a>(
     alloc: Global,
-    trace: &Trace,
-    ring: u8,
+    site: Site<'_>,
     shape: Shape<'a>,
     state: &State,
     footprint: &mut Footprint,
 ) -> Result<Resolved<'a>, AllocError>
     ensures seen { OnOk result (footprint.new ≡ footprint.old
-        ++ shape_seen trace.now ring state.now (shape_meant shape.entry)) }
-    ensures rest { IfOk result (Completes trace.now ring state.now (shape_meant shape.entry)) }
+        ++ shape_seen site.entry.trace.now site.entry.ring state.now (shape_meant shape.entry)) }
+    ensures rest { IfOk result (Completes site.entry.trace.now site.entry.ring state.now
+        (shape_meant shape.entry)) }
 {
     match shape {
         Shape::Idle => Ok(Resolved::Idle),
@@ -87,31 +85,29 @@ pub(crate) fn resolve<'a>(
             count,
             span,
         } => {
-            let opened = file_seen(trace, ring, file, state, footprint)?;
+            let opened = file_seen(site, file, state, footprint)?;
             Ok(Resolved::Moving {
                 into_file,
                 opened,
-                offset,
-                count,
+                range: FileRange { offset, count },
                 span,
             })
         }
         Shape::Allocating {
             file,
             offset,
-            size,
+            size: count,
             mode,
         } => {
-            let opened = file_seen(trace, ring, file, state, footprint)?;
+            let opened = file_seen(site, file, state, footprint)?;
             Ok(Resolved::Allocating {
                 opened,
-                offset,
-                size,
+                range: FileRange { offset, count },
                 mode,
             })
         }
         Shape::Resizing { file, size } => {
-            let opened = file_seen(trace, ring, file, state, footprint)?;
+            let opened = file_seen(site, file, state, footprint)?;
             Ok(Resolved::Resizing { opened, size })
         }
         Shape::Closing { number, file_index } => Ok(Resolved::Closing { number, file_index }),

@@ -1,21 +1,20 @@
 //! What each operation uses.
-ghost use Rattle.std.specs.Prelude.{◌≡◌, ◌++◌, ◌<◌, IfOk, OnOk};
+ghost use Rattle.std.specs.Prelude.{◌≡◌, ◌++◌, IfOk, OnOk};
 ghost use Rattle.entry_checks.specs.Meant.{meant};
 ghost use Rattle.foot_print.specs.Resolved.{rest, row_behind, taken_meant};
 ghost use Rattle.foot_print.specs.Shapes.{shape_meant};
+ghost use Rattle.foot_print.specs.Site.{IsSite};
 ghost use Rattle.op_meaning.specs.Footprint.{row_in, shape_row};
-ghost use Rattle.trace_format.specs.Steps.{places};
-ghost use Rattle.trace_format.specs.Text.{IsSpelled};
 
 use crate::attempt::{Attempt, Taken};
 use crate::file_rows::{allocated_uses, close_row, file_reads, moved_uses, resized_uses, span_use};
-use crate::path_rows::{freed_at, made_at, opening_uses, written_at};
+use crate::path_rows::{description_taken, freed_at, made_at, opened_at, room_taken, written_at};
 use crate::resolved::{Resolved, resolve};
 use crate::shape::{Shape, shape_of};
+use crate::site::Site;
 use entry_checks::Op;
 use op_meaning::accepts;
 use std::alloc::{AllocError, Global};
-use trace_format::Trace;
 use world_parts::{Footprint, State};
 
 /// What an operation at a place of a ring uses in a world. Where the world refuses it, it only
@@ -26,46 +25,40 @@ use world_parts::{Footprint, State};
 /// Want of memory.
 pub(crate) fn operation_uses(
     alloc: Global,
-    place: u32,
-    trace: &Trace,
-    ring: u8,
+    site: Site<'_>,
     op: Op<'_>,
     state: &State,
 ) -> Result<Footprint, AllocError>
-    requires trace { IsSpelled trace.now }
-    requires place { place < places trace.now }
-    ensures { IfOk result (λ f. f ≡ row_in trace.now place ring state.now (meant op.entry)) }
+    requires site { IsSite site }
+    ensures { IfOk result (λ f. f ≡ row_in site.entry.trace.now site.entry.place site.entry.ring
+        state.now (meant op.entry)) }
 {
     let mut seen = Footprint::new(alloc);
-    let resolved = resolve(alloc, trace, ring, shape_of(op), state, &mut seen)?;
-    uses_behind(alloc, place, trace, ring, op, resolved, state, seen)
+    let resolved = resolve(alloc, site, shape_of(op), state, &mut seen)?;
+    uses_behind(alloc, site, op, resolved, state, seen)
 }
 
 /// What an operation uses, behind what decides it, by what that leads to. Where the world refuses
 /// it, it only reads.
 pub(crate) fn uses_behind(
     alloc: Global,
-    place: u32,
-    trace: &Trace,
-    ring: u8,
+    site: Site<'_>,
     op: Op<'_>,
     resolved: Resolved<'_>,
     state: &State,
     seen: Footprint,
 ) -> Result<Footprint, AllocError>
-    requires trace { IsSpelled trace.now }
-    requires place { place < places trace.now }
-    ensures { IfOk result (λ f. f ≡ row_behind seen trace.now place ring state.now
-        (meant op.entry) resolved.entry) }
+    requires site { IsSite site }
+    ensures { IfOk result (λ f. f ≡ row_behind seen site.entry.trace.now site.entry.place
+        site.entry.ring state.now (meant op.entry) resolved.entry) }
 {
-    let accepted = accepts(trace, place, ring, op, state);
+    let accepted = accepts(site.trace, site.place, site.ring, op, state);
     let attempt = Attempt {
-        place,
-        ring,
+        site,
         taken: Taken::Tried { accepted },
     };
     let mut footprint = seen;
-    push_rest(alloc, trace, attempt, resolved, state, &mut footprint)?;
+    push_rest(alloc, attempt, resolved, state, &mut footprint)?;
     if !accepted {
         footprint.make_read_only();
     }
@@ -75,70 +68,66 @@ pub(crate) fn uses_behind(
 /// The row of an operation of a shape: what it uses, with what it writes where it is accepted.
 pub(crate) fn push_row(
     alloc: Global,
-    trace: &Trace,
-    attempt: Attempt,
+    attempt: Attempt<'_>,
     shape: Shape<'_>,
     state: &State,
     footprint: &mut Footprint,
 ) -> Result<(), AllocError>
-    requires trace { IsSpelled trace.now }
-    requires place { attempt.place < places trace.now }
-    ensures { OnOk result (footprint.new ≡ footprint.old ++ shape_row trace.now attempt.place
-        attempt.ring state.now (taken_meant attempt.taken) (shape_meant shape.entry)) }
+    requires site { IsSite attempt.site }
+    ensures { OnOk result (footprint.new ≡ footprint.old ++ shape_row
+        attempt.entry.site.trace.now attempt.entry.site.place attempt.entry.site.ring state.now
+        (taken_meant attempt.entry.taken) (shape_meant shape.entry)) }
 {
-    let resolved = resolve(alloc, trace, attempt.ring, shape, state, footprint)?;
-    push_rest(alloc, trace, attempt, resolved, state, footprint)
+    let resolved = resolve(alloc, attempt.site, shape, state, footprint)?;
+    push_rest(alloc, attempt, resolved, state, footprint)
 }
 
 /// What an operation uses beside what decides it, with what it writes where it is accepted.
 fn push_rest(
     alloc: Global,
-    trace: &Trace,
-    attempt: Attempt,
+    attempt: Attempt<'_>,
     resolved: Resolved<'_>,
     state: &State,
     footprint: &mut Footprint,
 ) -> Result<(), AllocError>
-    requires trace { IsSpelled trace.now }
-    requires place { attempt.place < places trace.now }
-    ensures { OnOk result (footprint.new ≡ footprint.old ++ rest trace.now attempt.place
-        attempt.ring state.now (taken_meant attempt.taken) resolved.entry) }
+    requires site { IsSite attempt.site }
+    ensures { OnOk result (footprint.new ≡ footprint.old ++ rest attempt.entry.site.trace.now
+        attempt.entry.site.place attempt.entry.site.ring state.now
+        (taken_meant attempt.entry.taken) resolved.entry) }
 {
-    let Attempt { ring, taken, .. } = attempt;
+    let Attempt { site, taken } = attempt;
     match resolved {
         Resolved::Idle => Ok(()),
-        Resolved::Looking { file } => file_reads(trace, ring, file, footprint),
+        Resolved::Looking { file } => file_reads(site, file, footprint),
         Resolved::Moving {
             into_file,
             opened,
-            offset,
-            count,
+            range,
             span,
         } => {
-            moved_uses(taken, into_file, opened, offset, count, state, footprint)?;
+            moved_uses(taken, into_file, opened, range, state, footprint)?;
             match span {
-                Some(span) => span_use(trace, ring, span, !into_file, footprint),
+                Some(span) => span_use(site, span, !into_file, footprint),
                 None => Ok(()),
             }
         }
         Resolved::Allocating {
             opened,
-            offset,
-            size,
+            range,
             mode,
-        } => allocated_uses(taken, opened, offset, size, mode, state, footprint),
+        } => allocated_uses(taken, opened, range, mode, state, footprint),
         Resolved::Resizing { opened, size } => resized_uses(opened, size, state, footprint),
-        Resolved::Closing { number, file_index } => {
-            close_row(trace, ring, number, file_index, footprint)
-        }
+        Resolved::Closing { number, file_index } => close_row(site, number, file_index, footprint),
         Resolved::Opening {
             found,
             flags,
             file_index,
-        } => opening_uses(
-            alloc, trace, attempt, found, flags, file_index, state, footprint,
-        ),
-        Resolved::Making { found } => made_at(alloc, trace, attempt, found, state, footprint),
+        } => {
+            room_taken(attempt, file_index, state, footprint)?;
+            description_taken(attempt, footprint)?;
+            opened_at(alloc, attempt, flags, found, state, footprint)
+        }
+        Resolved::Making { found } => made_at(alloc, attempt, found, state, footprint),
         Resolved::Freeing {
             found,
             removes_directory,
