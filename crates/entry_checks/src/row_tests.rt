@@ -12,7 +12,7 @@ ghost use Rattle.entry_checks.specs.Answer.{check_submission, check_vector};
 
 use crate::operation::{BufferSpan, FileNumber, OpenAtFlags};
 use sqe_codec::{BUFFER_SELECT, Errno, FIXED_FILE, Sqe, has_flag};
-use trace_format::{Version, vector_total};
+use trace_format::vector_total;
 
 // The flags of open(2), as asm-generic/fcntl.h has them.
 const ACCESS: u32 = 0o3;

@@ -1,5 +1,5 @@
 //! The header.
-ghost use Rattle.std.specs.Prelude.{◌≡◌, ◌≤◌, IfOk};
+ghost use Rattle.std.specs.Prelude.{◌≤◌, IfOk};
 ghost use Rattle.trace_format.specs.Counts.{places_limit};
 ghost use Rattle.trace_format.specs.Read.{Gives};
 ghost use Rattle.trace_format.specs.Sources.{counts_meant, reading_from, with_rest};

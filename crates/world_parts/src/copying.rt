@@ -244,7 +244,7 @@ impl State {
             Item::Description(number) => self.copy_description(alloc, from, *number),
             Item::Position(number) => self.copy_description(alloc, from, *number),
             Item::Size(node) => self.copy_size(alloc, from, *node),
-            Item::Bytes(node, low, high) => { self.copy_bytes(alloc, from, *node, *low, *high) }
+            Item::Bytes(node, low, high) => self.copy_bytes(alloc, from, *node, *low, *high),
             Item::Name(directory, name) => self.copy_name(alloc, from, *directory, name),
             Item::Names(directory) => self.copy_name_count(alloc, from, *directory),
             Item::Buffer(ring, index, low, high) => {

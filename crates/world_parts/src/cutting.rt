@@ -53,11 +53,7 @@ impl State {
     }
 
     /// What a footprint names of another state.
-    fn copied(
-        alloc: Global,
-        from: &State,
-        footprint: &Footprint,
-    ) -> Result<Box<State>, AllocError>
+    fn copied(alloc: Global, from: &State, footprint: &Footprint) -> Result<Box<State>, AllocError>
         requires narrow { T (is_narrow footprint.now) }
         ensures { IfOk result (λ part. IsPartOf from.now footprint.now part.value) }
     {

@@ -40,5 +40,6 @@ returns-clause-world c =
   where
     held : c.deref_mut.result.now ≡ c.args.self.now.world
     held = c.deref_mut.ensures.value ∙ ap (λ w. w.world) c.self.view_is
+
     values : c.deref.result.now ≡ c.args.part.values
     values = c.deref.ensures ∙ ap (λ p. p.values) c.part.view_is
