@@ -8,8 +8,9 @@ import tempfile
 from functools import partial
 from typing import Dict, List, Tuple
 
-from harness import TOP, Answer, Job, Outcome, Program, difference, first, read, reports_refused, spoken
-from traces import directory, fill, head, ring
+from harness import TOP, Answer, Job, Outcome, Program, difference, first, read, reports_refused, shown, spoken
+from traces import FIXED_FILE, GREATEST_BUFFER, GREATEST_SIZE, NOP, READ, READ_FIXED, WRITE_FIXED
+from traces import description, directory, enter, entry, file, fill, fixed, head, ring
 
 MOST_PLACES = 1_048_576
 MOST_RINGS = 64
@@ -22,6 +23,14 @@ MOST_DEEP = 4.0
 # How many entries wait for one another, and how many times the processor time of as many disjoint ones they may take in rounds
 # of which each looks at 64, which is 1.3 to 3.8 times.
 WAITING, MOST_WAITING = 20_000, 7.0
+# How many bytes of memory the entries of the longest trace may take `check` for each byte of their text, which is 2.3, room
+# to grow included.
+MOST_MEMORY = 2.9
+# How much memory, in kilobytes, transfers of zeros may take, however long they are; 40,000 are enough.
+ZEROS_MEMORY = 100_000
+# How many times the processor time of transfers by offsets those at the position may take, which is 1 to 2 times.
+MOST_AT_POSITION = 5.0
+POSITION = (1 << 64) - 1
 MODES: Tuple[Tuple[List[str], str], ...] = ((["serial"], ".report"), (["serial", "--sums"], ".sums"), (["check"], ".check"))
 # How often each pair of workers and window is tried on writes that are worth threads.
 OFTEN = 4
@@ -109,6 +118,42 @@ def waiting(program: Program) -> List[Outcome]:
     return outcomes
 
 
+def many_entries(program: Program) -> List[Outcome]:
+    """What is kept of an entry beside the text is where it lies there."""
+    trace = head(rings=1, records=MOST_PLACES >> 15) + ring() + enter(0, [entry(NOP)] * (1 << 15)) * (MOST_PLACES >> 15)
+    limit = int(MOST_MEMORY * len(trace)) >> 10
+    got = program.run(["check"], trace, shell='ulimit -v {}; exec "$@"'.format(limit))
+    wanted = Answer(0, "ok {} places 1 rings\n".format(MOST_PLACES).encode(), b"")
+    return [Outcome("the memory of many entries by {}".format(program.compiler), difference(got, wanted))]
+
+
+def long_transfers(program: Program) -> List[Outcome]:
+    """Zeros that are read, and zeros that go between a file and a buffer, take no memory."""
+    each = [entry(READ, FIXED_FILE, offset=POSITION, length=GREATEST_BUFFER), *(fixed(opcode, GREATEST_BUFFER) for opcode in (READ_FIXED, WRITE_FIXED))]
+    world = head(1, 1, 1, 1) + file(b"/a", GREATEST_SIZE) + description(1) + ring([1], [(4096, GREATEST_BUFFER)])
+    trace = world + enter(0, each * 340)
+    line = " res={} posted".format(GREATEST_BUFFER).encode()
+    outcomes = []
+    for words in (["serial"], ["run", "--workers", "1"], ["run", "--workers", "4"]):
+        got = program.run(words, trace, shell='ulimit -v {}; exec "$@"'.format(ZEROS_MEMORY))
+        told = None if got.status == 0 and got.output.count(line) == len(each) * 340 else shown(got)
+        outcomes.append(Outcome("{} of long transfers by {}".format(spoken(words), program.compiler), told))
+    return outcomes
+
+
+def at_the_position(program: Program) -> List[Outcome]:
+    """Transfers at the position cost as those by offsets do, though each uses the whole file."""
+    world = head(1, 1, 1, 1) + file(b"/a", 1 << 24, os.urandom(1 << 24)) + description(1) + ring([1])
+    traces = [world + enter(0, [entry(READ, FIXED_FILE, offset=at or (it << 10), length=1 << 10) for it in range(1 << 14)])
+              for at in (0, POSITION)]
+    outcomes = []
+    for words in (["serial"], ["run", "--workers", "1"], ["run", "--workers", "1", "--window", "1"]):
+        apart, took = (min(program.seconds(words, trace) for _ in range(3)) for trace in traces)
+        told = None if took < MOST_AT_POSITION * apart < math.inf else "{:.3f} seconds, by offsets {:.3f}".format(took, apart)
+        outcomes.append(Outcome("{} at the position by {}".format(spoken(words), program.compiler), told))
+    return outcomes
+
+
 def jobs(programs: List[Program]) -> List[Job]:
-    alone = [partial(it, programs[0]) for it in (tried, long_reports, many_rings, deep_tree, waiting)]
+    alone = [partial(it, programs[0]) for it in (tried, long_reports, many_rings, deep_tree, many_entries, long_transfers, at_the_position, waiting)]
     return [*alone, *(partial(on_threads, it) for it in programs)]

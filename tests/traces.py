@@ -51,6 +51,11 @@ def entry(opcode: int, flags: int = 0, fd: int = 0, offset: int = 0, length: int
     return with_side(fields, side)
 
 
+def fixed(opcode: int, length: int) -> bytes:
+    """An entry of a transfer between the file in slot 0 and the registered buffer at address 4096."""
+    return with_side(struct.pack("<BBHiQQIIQHHIQQ", opcode, FIXED_FILE, 0, 0, 0, 4096, length, 0, 0, 0, 0, 0, 0, 0))
+
+
 def with_side(fields: bytes, side: bytes = b"") -> bytes:
     return fields + struct.pack("<I", len(side)) + side
 
