@@ -22,7 +22,7 @@ DEPTH, BESIDE = 2_000, 10_000
 MOST_DEEP = 4.0
 # How many entries wait for one another, and how many times the processor time of as many disjoint ones they may take in rounds
 # of which each looks at 64, which is 1.3 to 3.8 times.
-WAITING, MOST_WAITING = 20_000, 7.0
+WAITING, MOST_WAITING = 60_000, 7.0
 # How many bytes of memory the entries of the longest trace may take `check` for each byte of their text, which is 2.3, room
 # to grow included.
 MOST_MEMORY = 2.9
