@@ -22,6 +22,12 @@ or_swap true false = refl
 or_swap false true = refl
 or_swap false false = refl
 
+-- what is true already: to add it changes nothing
+pub or_already : (a b : Bool) → (b ≡ true → a ≡ true) → a ≡ (a || b)
+or_already true b f = refl
+or_already false true f = f refl
+or_already false false f = refl
+
 pub or_assoc : (a b c : Bool) → (a || (b || c)) ≡ ((a || b) || c)
 or_assoc true b c = refl
 or_assoc false b c = refl
@@ -206,6 +212,12 @@ added {K} {V} cmp p (e ∷ es) k v h = by (cmp k e.0) refl (added cmp p es k v h
         let n : is_eq (cmp k e.0) ≡ false = h.0 in
         absurd cc
     by Greater o f = ap (λ b. p e || b) f ∙ or_assoc (p e) (list_any p es) (p (k, v))
+
+-- a range within one piece
+pub within_piece : (low high k v : ℕ) (rs : List (ℕ × ℕ)) → lookup (is_at (nat_cmp k)) rs ≡ Some v → k ≤ low → high ≤ v → (p : ℕ) → covers rs p ≡ (covers rs p || within low high p)
+within_piece low high k v rs found begins ends p = or_already (covers rs p) (within low high p) (λ w.
+    let here : within k v p ≡ true = grind (arith, nat_tests) in
+    taken (λ r. within r.0 r.1 p) rs k v found ∙ or_right (covers (remove_entry (is_at (nat_cmp k)) rs) p) (within k v p) here)
 
 -- tests that a number of a range decides
 module _ (t : ℕ × ℕ → Bool) (S : ℕ → Type 0) (each : (r : ℕ × ℕ) → Decides (t r) ((p : ℕ) × (within r.0 r.1 p ≡ true) × S p)) where

@@ -35,6 +35,9 @@ impl Names {
         ensures { OnOk result ((t : List ℕ → Bool)
             → list_any t self.new ≡ (list_any t self.old || t name.now)) }
     {
+        if self.has(name) {
+            return Ok(());
+        }
         self.names.insert(Vec::from_slice(alloc, name)?)?;
         Ok(())
     }

@@ -1,5 +1,5 @@
 //! Sets of numbers as ranges.
-ghost use Rattle.std.specs.Prelude.{◌≡◌, ◌||◌, ◌<◌, ◌⊎◌, ℕ, List, [], ◌∷◌, ◌++◌, MatchOption, OnOk};
+ghost use Rattle.std.specs.Prelude.{◌≡◌, ◌||◌, ◌<◌, ◌⊎◌, ℕ, List, [], ◌∷◌, ◌++◌, IfSome, MatchOption, OnOk};
 ghost use Rattle.std.specs.List.{AllByRecursion};
 ghost use Rattle.item_index.specs.Spans.{AreApart, covers, crosses, has_some, begun};
 ghost use Rattle.world_parts.specs.Items.{within};
@@ -41,8 +41,9 @@ impl Spans {
         ensures { OnOk result ((p : ℕ)
             → covers self.new p ≡ (covers self.old p || within low high p)) }
     {
-        let (start, end) = absorb(&mut self.ends, low, high);
-        self.ends.insert(start, end)?;
+        if let Some((start, end)) = absorb(&mut self.ends, low, high) {
+            self.ends.insert(start, end)?;
+        }
         Ok(())
     }
 
@@ -78,15 +79,20 @@ fn last_up_to(ends: &BTreeMap<u64, u64>, limit: u64) -> Option<(u64, u64)>
     }
 }
 
-/// Takes out the pieces that overlap or touch a range, and gives the range that they make with it.
-fn absorb(ends: &mut BTreeMap<u64, u64>, low: u64, high: u64) -> (u64, u64)
+/// Takes out the pieces that overlap or touch a range, and gives the range that they make with it;
+/// none where one piece has it already.
+fn absorb(ends: &mut BTreeMap<u64, u64>, low: u64, high: u64) -> Option<(u64, u64)>
     requires range { low < high }
     requires pieces { AreApart ends.old.entries }
-    ensures range { result.0 < result.1 }
-    ensures same { (p : ℕ) → (covers ends.new.entries p || within result.0 result.1 p)
-        ≡ (covers ends.old.entries p || within low high p) }
+    ensures range { IfSome result (λ r. r.0 < r.1) }
+    ensures same { MatchOption result
+        ((p : ℕ) → covers ends.new.entries p
+        ≡ (covers ends.old.entries p || within low high p))
+        (λ r. (p : ℕ) → (covers ends.new.entries p || within r.0 r.1 p)
+        ≡ (covers ends.old.entries p || within low high p)) }
     ensures rest { AreApart ends.new.entries }
-    ensures apart { AllByRecursion (λ r. (r.1 < result.0) ⊎ (result.1 < r.0)) ends.new.entries }
+    ensures apart { IfSome result (λ s. AllByRecursion (λ r. (r.1 < s.0) ⊎ (s.1 < r.0))
+        ends.new.entries) }
 {
     let mut start = low;
     let mut end = high;
@@ -94,9 +100,12 @@ fn absorb(ends: &mut BTreeMap<u64, u64>, low: u64, high: u64) -> (u64, u64)
         if last < start {
             break;
         }
+        if first <= start && end <= last {
+            return None;
+        }
         ends.remove(&first);
         start = start.min(first);
         end = end.max(last);
     }
-    (start, end)
+    Some((start, end))
 }

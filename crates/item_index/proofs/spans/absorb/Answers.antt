@@ -1,7 +1,7 @@
 use Rattle.std.proofs.Common.{◌≡◌, length, ap, subst, sym, leb, ◌∙◌, ◌<◌, ◌||◌, arith}
 use Rattle.item_index.specs.Spans.{AreApart, covers}
 use Rattle.world_parts.specs.Items.{within}
-use Rattle.item_index.proofs.Pieces.{IsLast, absorbed, fewer, last_chosen, clear_first, clear_last, apart_less}
+use Rattle.item_index.proofs.Pieces.{IsLast, absorbed, fewer, last_chosen, clear_first, clear_last, apart_less, within_piece}
 use Rattle.std.specs.Ordering.{nat_cmp}
 use Rattle.std.specs.Map.{remove_entry}
 use Rattle.std.specs.BTreeMap.{is_at}
@@ -35,3 +35,10 @@ returns-then-last-start-clause-apart c =
 
 pub returns-in_default-clause-apart : goal.returns-in_default-clause-apart
 returns-in_default-clause-apart c = clear_first c.loop-first.start c.loop-first.end c.loop-first.ends.entries c.in_default.ensures
+
+pub returns-then-end-last-clause-same : goal.returns-then-end-last-clause-same
+returns-then-end-last-clause-same c = λ p.
+    let rs = c.loop-first.ends.entries in
+    let l = last_chosen (λ x. leb x c.loop-first.end) rs c.in-Some.ensures.0 c.in-Some.first c.in-Some.last c.loop-first.invariant.rest c.in-Some.ensures.1 in
+    within_piece c.loop-first.start c.loop-first.end c.in-Some.first c.in-Some.last rs l.found c.if-first-start.true c.if-end-last.true p
+    ∙ c.loop-first.invariant.same p
