@@ -19,6 +19,14 @@ pub enum Allocation {
     ZeroWithin,
 }
 
+/// What FALLOCATE is asked for: so many bytes from an offset on, and a mode.
+#[derive(Clone, Copy)]
+pub(crate) struct AllocationRequest {
+    pub offset: u64,
+    pub size: u64,
+    pub mode: u32,
+}
+
 /// What a mode asks for; none where the mode isn't served.
 pub fn allocation_of(mode: u32) -> Option<Allocation>
     ensures { option_map allocation_meant result ≡ allocation mode }

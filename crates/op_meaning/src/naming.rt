@@ -1,5 +1,5 @@
 //! The operations on names: UNLINKAT, MKDIRAT, LINKAT and RENAMEAT.
-ghost use Rattle.std.specs.Prelude.{◌≡◌, ◌<◌, IfOk, OnOk};
+ghost use Rattle.std.specs.Prelude.{◌≡◌, IfOk, OnOk};
 ghost use Rattle.entry_checks.specs.Meant.{path_meant};
 ghost use Rattle.file_tree.specs.Tree.{Tree, target};
 ghost use Rattle.file_tree.specs.Walk as walk;
@@ -9,18 +9,17 @@ ghost use Rattle.op_meaning.specs.Meaning.{renameat_meaning, unlinkat_meaning};
 ghost use Rattle.op_meaning.specs.NameChanges.{changes_meant, decision_meant};
 ghost use Rattle.op_meaning.specs.NameChanges.{move_meant, exchange_meant};
 ghost use Rattle.op_meaning.specs.Outcomes.{Answers, world_after};
-ghost use Rattle.trace_format.specs.Steps.{places};
-ghost use Rattle.trace_format.specs.Text.{IsSpelled};
+ghost use Rattle.op_meaning.specs.Site.{IsSite};
 
 use crate::handles::is_directory;
 use crate::made::made_node;
 use crate::names::{NameChange, NameChanges, carry_out};
 use crate::outcome::{Outcome, finished};
+use crate::site::Site;
 use entry_checks::PathAt;
 use file_tree::{Kind, Place};
 use sqe_codec::Errno;
 use std::alloc::{AllocError, Global};
-use trace_format::Trace;
 use world_parts::State;
 
 /// The flag of renameat2(2) that refuses a new name that is there (`RENAME_NOREPLACE`).
@@ -92,17 +91,17 @@ pub(crate) fn unlinkat(
 /// EEXIST.
 pub(crate) fn mkdirat(
     alloc: Global,
-    trace: &Trace,
-    place: u32,
+    site: Site<'_>,
     path: PathAt<'_>,
     state: &mut State,
 ) -> Result<Outcome, AllocError>
-    requires trace { IsSpelled trace.now }
-    requires place { place < places trace.now }
+    requires site { IsSite site }
     ensures answer { IfOk result
-        (Answers (mkdirat_meaning trace.now state.old place (path_meant path.entry))) }
+        (Answers (mkdirat_meaning site.entry.trace.now state.old site.entry.place
+        (path_meant path.entry))) }
     ensures state { OnOk result (state.new ≡ world_after state.old
-        (mkdirat_meaning trace.now state.old place (path_meant path.entry))) }
+        (mkdirat_meaning site.entry.trace.now state.old site.entry.place
+        (path_meant path.entry))) }
 {
     let found = match state.walk(path.directory, path.text) {
         Ok(found) => found,
@@ -111,7 +110,7 @@ pub(crate) fn mkdirat(
     if found.node.is_some() {
         return Ok(Err(Errno::EEXIST));
     }
-    let node = made_node(trace, place);
+    let node = made_node(site.trace, site.place);
     state.add_node(alloc, node, Kind::Directory)?;
     state.set_name(alloc, found.parent, found.name, Some(node))?;
     Ok(finished(alloc))

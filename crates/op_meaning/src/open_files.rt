@@ -1,5 +1,5 @@
 //! The other operations on open files.
-ghost use Rattle.std.specs.Prelude.{◌≡◌, ◌+◌, ◌≤◌, ℕ, ℤ, [], ◌∷◌, IfOk, OnOk, suc, zero};
+ghost use Rattle.std.specs.Prelude.{◌≡◌, ◌+◌, ◌≤◌, ℤ, [], ◌∷◌, IfOk, OnOk, suc, zero};
 ghost use Rattle.entry_checks.specs.Meant.{file_meant};
 ghost use Rattle.entry_checks.specs.Operation.{file_limit};
 ghost use Rattle.entry_checks.specs.Operation as operation;
@@ -10,10 +10,11 @@ ghost use Rattle.op_meaning.specs.Meaning.{fallocate_meaning, ftruncate_meaning,
 ghost use Rattle.op_meaning.specs.Outcomes.{Answers, world_after};
 ghost use Rattle.world_parts.specs.World.{apply_all, set_size};
 
-use crate::allocating::{Allocation, allocation_of};
+use crate::allocating::{Allocation, AllocationRequest, allocation_of};
 use crate::handles::{can_write, held, held_by_descriptor, open_file, size, slot_count, unsigned};
 use crate::limits::{LARGEST, REFUSED};
 use crate::outcome::{Outcome, finished};
+use crate::site::Site;
 use entry_checks::FileNumber;
 use sqe_codec::Errno;
 use std::alloc::{AllocError, Global};
@@ -21,37 +22,31 @@ use trace_format::Trace;
 use world_parts::State;
 
 /// FSYNC: nothing is lost here, so that there is nothing to do.
-pub(crate) fn fsync(
-    alloc: Global,
-    trace: &Trace,
-    ring: u8,
-    file: FileNumber,
-    state: &State,
-) -> Outcome
-    ensures { (k : ℕ)
-        → Answers (meaning trace.now k ring state.now (operation.fsync (file_meant file))) result }
+pub(crate) fn fsync(alloc: Global, site: Site<'_>, file: FileNumber, state: &State) -> Outcome
+    ensures { Answers (meaning site.entry.trace.now site.entry.place site.entry.ring state.now
+        (operation.fsync (file_meant file))) result }
 {
-    match held(trace, ring, file, state) {
+    match held(site.trace, site.ring, file, state) {
         Some(_) => finished(alloc),
         None => Err(Errno::EBADF),
     }
 }
 
 /// The node in which a range is allocated, and how, or why it is refused.
-pub fn allocatable(
+pub(crate) fn allocatable(
     trace: &Trace,
     ring: u8,
     file: FileNumber,
-    offset: u64,
-    size: u64,
-    mode: u32,
+    request: AllocationRequest,
     state: &State,
 ) -> Result<(u32, Allocation), Errno>
     ensures meaning { Decides
-        (fallocate_meaning trace.now state.now ring (file_meant file) offset size mode)
-        (allocating state.now offset size) result }
-    ensures place { IfOk result (λ x. offset + size ≤ file_limit) }
+        (fallocate_meaning trace.now state.now ring (file_meant file)
+        request.offset request.size request.mode)
+        (allocating state.now request.offset request.size) result }
+    ensures place { IfOk result (λ x. request.offset + request.size ≤ file_limit) }
 {
+    let AllocationRequest { offset, size, mode } = request;
     let file = open_file(trace, ring, file, state).ok_or(Errno::EBADF)?;
     if offset >= REFUSED || size == 0 || size >= REFUSED {
         return Err(Errno::EINVAL);
@@ -101,22 +96,22 @@ fn allocate(
 /// FALLOCATE: makes room, a hole or zeros in a file.
 pub(crate) fn fallocate(
     alloc: Global,
-    trace: &Trace,
-    ring: u8,
+    site: Site<'_>,
     file: FileNumber,
-    offset: u64,
-    size: u64,
-    mode: u32,
+    request: AllocationRequest,
     state: &mut State,
 ) -> Result<Outcome, AllocError>
     ensures answer { IfOk result
-        (Answers (fallocate_meaning trace.now state.old ring (file_meant file) offset size mode)) }
+        (Answers (fallocate_meaning site.entry.trace.now state.old site.entry.ring (file_meant file)
+        request.offset request.size request.mode)) }
     ensures state { OnOk result (state.new ≡ world_after state.old
-        (fallocate_meaning trace.now state.old ring (file_meant file) offset size mode)) }
+        (fallocate_meaning site.entry.trace.now state.old site.entry.ring (file_meant file)
+        request.offset request.size request.mode)) }
 {
-    match allocatable(trace, ring, file, offset, size, mode, state) {
+    match allocatable(site.trace, site.ring, file, request, state) {
         Ok((node, allocation)) => {
-            allocate(node, offset, offset + size, allocation, state)?;
+            let end = request.offset + request.size;
+            allocate(node, request.offset, end, allocation, state)?;
             Ok(finished(alloc))
         }
         Err(error) => Ok(Err(error)),
@@ -148,18 +143,18 @@ pub fn resizable(
 /// FTRUNCATE: cuts a file, or extends it with zeros, to a size.
 pub(crate) fn ftruncate(
     alloc: Global,
-    trace: &Trace,
-    ring: u8,
+    site: Site<'_>,
     file: FileNumber,
     size: u64,
     state: &mut State,
 ) -> Result<Outcome, AllocError>
     ensures answer { IfOk result
-        (Answers (ftruncate_meaning trace.now state.old ring (file_meant file) size)) }
+        (Answers (ftruncate_meaning site.entry.trace.now state.old site.entry.ring (file_meant file)
+        size)) }
     ensures state { OnOk result (state.new ≡ world_after state.old
-        (ftruncate_meaning trace.now state.old ring (file_meant file) size)) }
+        (ftruncate_meaning site.entry.trace.now state.old site.entry.ring (file_meant file) size)) }
 {
-    match resizable(trace, ring, file, size, state) {
+    match resizable(site.trace, site.ring, file, size, state) {
         Ok(node) => {
             state.set_size(node, size)?;
             Ok(finished(alloc))
@@ -171,20 +166,20 @@ pub(crate) fn ftruncate(
 /// Frees a descriptor of the process.
 fn close_descriptor(
     alloc: Global,
-    trace: &Trace,
-    ring: u8,
+    site: Site<'_>,
     number: i32,
     state: &mut State,
 ) -> Result<Outcome, AllocError>
-    ensures answer { IfOk result (Answers (close_meaning trace.now state.old ring number zero)) }
-    ensures state { OnOk result
-        (state.new ≡ world_after state.old (close_meaning trace.now state.old ring number zero)) }
+    ensures answer { IfOk result
+        (Answers (close_meaning site.entry.trace.now state.old site.entry.ring number zero)) }
+    ensures state { OnOk result (state.new ≡ world_after state.old
+        (close_meaning site.entry.trace.now state.old site.entry.ring number zero)) }
 {
     let descriptor = match unsigned(number) {
         Some(descriptor) => descriptor,
         None => return Ok(Err(Errno::EBADF)),
     };
-    if held_by_descriptor(trace, descriptor, state).is_none() {
+    if held_by_descriptor(site.trace, descriptor, state).is_none() {
         return Ok(Err(Errno::EBADF));
     }
     state.set_descriptor(descriptor, None)?;
@@ -194,23 +189,22 @@ fn close_descriptor(
 /// Empties a registered file of a ring.
 fn close_slot(
     alloc: Global,
-    trace: &Trace,
-    ring: u8,
+    site: Site<'_>,
     slot: u32,
     state: &mut State,
 ) -> Result<Outcome, AllocError>
-    ensures answer { (number : ℤ)
-        → IfOk result (Answers (close_meaning trace.now state.old ring number (suc slot))) }
-    ensures state { (number : ℤ) → OnOk result (state.new
-        ≡ world_after state.old (close_meaning trace.now state.old ring number (suc slot))) }
+    ensures answer { (number : ℤ) → IfOk result
+        (Answers (close_meaning site.entry.trace.now state.old site.entry.ring number (suc slot))) }
+    ensures state { (number : ℤ) → OnOk result (state.new ≡ world_after state.old
+        (close_meaning site.entry.trace.now state.old site.entry.ring number (suc slot))) }
 {
-    if slot as usize >= slot_count(trace, ring) {
+    if slot as usize >= slot_count(site.trace, site.ring) {
         return Ok(Err(Errno::EINVAL));
     }
-    if state.slot(ring, slot).is_none() {
+    if state.slot(site.ring, slot).is_none() {
         return Ok(Err(Errno::EBADF));
     }
-    state.set_slot(ring, slot, None)?;
+    state.set_slot(site.ring, slot, None)?;
     Ok(finished(alloc))
 }
 
@@ -218,19 +212,18 @@ fn close_slot(
 /// or frees the descriptor where it names none.
 pub(crate) fn close(
     alloc: Global,
-    trace: &Trace,
-    ring: u8,
+    site: Site<'_>,
     number: i32,
     file_index: u32,
     state: &mut State,
 ) -> Result<Outcome, AllocError>
     ensures answer { IfOk result
-        (Answers (close_meaning trace.now state.old ring number file_index)) }
-    ensures state { OnOk result (state.new
-        ≡ world_after state.old (close_meaning trace.now state.old ring number file_index)) }
+        (Answers (close_meaning site.entry.trace.now state.old site.entry.ring number file_index)) }
+    ensures state { OnOk result (state.new ≡ world_after state.old
+        (close_meaning site.entry.trace.now state.old site.entry.ring number file_index)) }
 {
     match file_index.checked_sub(1) {
-        Some(slot) => close_slot(alloc, trace, ring, slot, state),
-        None => close_descriptor(alloc, trace, ring, number, state),
+        Some(slot) => close_slot(alloc, site, slot, state),
+        None => close_descriptor(alloc, site, number, state),
     }
 }

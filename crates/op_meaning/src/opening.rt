@@ -1,5 +1,5 @@
 //! The operation that opens files: OPENAT.
-ghost use Rattle.std.specs.Prelude.{◌≡◌, ◌<◌, IfOk, OnOk};
+ghost use Rattle.std.specs.Prelude.{◌≡◌, IfOk, OnOk};
 ghost use Rattle.std.specs.Option.{option_map};
 ghost use Rattle.entry_checks.specs.Meant.{flags_meant, path_meant};
 ghost use Rattle.file_tree.specs.Found.{place_meant};
@@ -9,13 +9,14 @@ ghost use Rattle.op_meaning.specs.Meaning.{found_or_made};
 ghost use Rattle.op_meaning.specs.Opening.{room_found, room_meant, IsOpening};
 ghost use Rattle.op_meaning.specs.Opening.{changes_at, openat_meant};
 ghost use Rattle.op_meaning.specs.Outcomes.{Answers, world_after};
-ghost use Rattle.trace_format.specs.Steps.{places};
+ghost use Rattle.op_meaning.specs.Site.{IsSite};
 ghost use Rattle.trace_format.specs.Text.{IsSpelled};
 ghost use Rattle.world_parts.specs.World.{apply_all};
 
 use crate::handles::{is_directory, slot_count};
 use crate::made::{descriptor_count, made_description, made_node};
 use crate::outcome::{Outcome, counted, finished};
+use crate::site::Site;
 use entry_checks::{OpenAtFlags, PathAt};
 use file_tree::{Kind, Place};
 use sqe_codec::Errno;
@@ -174,27 +175,27 @@ pub(crate) fn fill(
 /// the walk, ENOENT, EEXIST, EISDIR, ENOTDIR.
 pub(crate) fn openat(
     alloc: Global,
-    trace: &Trace,
-    place: u32,
-    ring: u8,
+    site: Site<'_>,
     path: PathAt<'_>,
     flags: OpenAtFlags,
     file_index: u32,
     state: &mut State,
 ) -> Result<Outcome, AllocError>
-    requires trace { IsSpelled trace.now }
-    requires place { place < places trace.now }
+    requires site { IsSite site }
     ensures answer { IfOk result
-        (Answers (openat_meant trace.now state.old place ring path.entry flags file_index)) }
+        (Answers (openat_meant site.entry.trace.now state.old site.entry.place site.entry.ring
+        path.entry flags file_index)) }
     ensures state { OnOk result (state.new ≡ world_after state.old
-        (openat_meant trace.now state.old place ring path.entry flags file_index)) }
+        (openat_meant site.entry.trace.now state.old site.entry.place site.entry.ring
+        path.entry flags file_index)) }
 {
-    let opening = match find_opening(trace, ring, path, flags, file_index, state) {
+    let opening = match find_opening(site.trace, site.ring, path, flags, file_index, state) {
         Ok(opening) => opening,
         Err(error) => return Ok(Err(error)),
     };
-    let node = open_node(alloc, made_node(trace, place), opening.place, flags, state)?;
-    let number = made_description(trace, place);
+    let made = made_node(site.trace, site.place);
+    let node = open_node(alloc, made, opening.place, flags, state)?;
+    let number = made_description(site.trace, site.place);
     let description = Description {
         node,
         access: access_of(flags.access),
@@ -202,5 +203,5 @@ pub(crate) fn openat(
         position: 0,
     };
     state.add_description(number, description)?;
-    fill(alloc, ring, opening.room, number, state)
+    fill(alloc, site.ring, opening.room, number, state)
 }

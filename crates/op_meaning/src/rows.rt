@@ -1,19 +1,21 @@
 //! The table of the operations: how each is run, and whether the world accepts it.
-ghost use Rattle.std.specs.Prelude.{◌≡◌, ◌<◌, ◌≤◌, IfOk, IfSome, is_ok, OnOk};
+ghost use Rattle.std.specs.Prelude.{◌≡◌, ◌≤◌, IfOk, IfSome, is_ok, OnOk};
 ghost use Rattle.entry_checks.specs.Meant.{meant};
 ghost use Rattle.entry_checks.specs.Operation.{asked};
 ghost use Rattle.op_meaning.specs.Meaning.{meaning};
 ghost use Rattle.op_meaning.specs.Outcomes.{Answers, world_after};
+ghost use Rattle.op_meaning.specs.Site.{IsSite};
 ghost use Rattle.trace_format.specs.Sides.{most_moved};
-ghost use Rattle.trace_format.specs.Steps.{places};
 ghost use Rattle.trace_format.specs.Text.{IsSpelled};
 
 use crate::accepting::{accepts_close, accepts_directory, accepts_span};
+use crate::allocating::AllocationRequest;
 use crate::handles::held;
 use crate::naming::{linkat, linking, mkdirat, renameat, renaming, unlinkat, unlinking};
 use crate::open_files::{allocatable, close, fallocate, fsync, ftruncate, resizable};
 use crate::opening::{find_opening, openat};
 use crate::outcome::{Outcome, finished};
+use crate::site::Site;
 use crate::transfers::{
     read, read_fixed, readable_at, readable_into, writable_at, write, write_fixed,
 };
@@ -22,26 +24,25 @@ use std::alloc::{AllocError, Global};
 use trace_format::Trace;
 use world_parts::State;
 
-/// Runs an operation at a place of a ring.
+/// Runs an operation where an entry stands.
 ///
 /// # Errors
 ///
 /// Want of memory; the state can then only be dropped.
 pub(crate) fn run_operation(
     alloc: Global,
-    place: u32,
-    trace: &Trace,
-    ring: u8,
+    site: Site<'_>,
     op: Op<'_>,
     state: &mut State,
 ) -> Result<Outcome, AllocError>
-    requires trace { IsSpelled trace.now }
-    requires place { place < places trace.now }
+    requires site { IsSite site }
     requires short { IfSome (asked (meant op)) (λ n. n ≤ most_moved) }
     ensures answer { IfOk result
-        (Answers (meaning trace.now place ring state.old (meant op.entry))) }
-    ensures state { OnOk result (state.new
-        ≡ world_after state.old (meaning trace.now place ring state.old (meant op.entry))) }
+        (Answers (meaning site.entry.trace.now site.entry.place site.entry.ring state.old
+        (meant op.entry))) }
+    ensures state { OnOk result (state.new ≡ world_after state.old
+        (meaning site.entry.trace.now site.entry.place site.entry.ring state.old
+        (meant op.entry))) }
 {
     match op {
         Op::Nop => Ok(finished(alloc)),
@@ -49,49 +50,52 @@ pub(crate) fn run_operation(
             file,
             offset,
             total,
-        } => read(alloc, trace, ring, file, offset, total, state),
+        } => read(alloc, site, file, offset, total, state),
         Op::Writev {
             file,
             offset,
             bytes,
-        } => write(alloc, trace, ring, file, offset, bytes, state),
-        Op::Fsync { file } => Ok(fsync(alloc, trace, ring, file, state)),
+        } => write(alloc, site, file, offset, bytes, state),
+        Op::Fsync { file } => Ok(fsync(alloc, site, file, state)),
         Op::ReadFixed { file, offset, span } => {
-            read_fixed(alloc, trace, ring, file, offset, span, state)
+            read_fixed(alloc, site, file, offset, span, state)
         }
         Op::WriteFixed { file, offset, span } => {
-            write_fixed(alloc, trace, ring, file, offset, span, state)
+            write_fixed(alloc, site, file, offset, span, state)
         }
         Op::Fallocate {
             file,
             offset,
             size,
             mode,
-        } => fallocate(alloc, trace, ring, file, offset, size, mode, state),
+        } => {
+            let request = AllocationRequest { offset, size, mode };
+            fallocate(alloc, site, file, request, state)
+        }
         Op::Openat {
             path,
             flags,
             file_index,
-        } => openat(alloc, trace, place, ring, path, flags, file_index, state),
-        Op::Close { number, file_index } => close(alloc, trace, ring, number, file_index, state),
+        } => openat(alloc, site, path, flags, file_index, state),
+        Op::Close { number, file_index } => close(alloc, site, number, file_index, state),
         Op::Read {
             file,
             offset,
             total,
-        } => read(alloc, trace, ring, file, offset, u64::from(total), state),
+        } => read(alloc, site, file, offset, u64::from(total), state),
         Op::Write {
             file,
             offset,
             bytes,
-        } => write(alloc, trace, ring, file, offset, bytes, state),
+        } => write(alloc, site, file, offset, bytes, state),
         Op::Renameat { old, new, flags } => renameat(alloc, old, new, flags, state),
         Op::Unlinkat {
             path,
             removes_directory,
         } => unlinkat(alloc, path, removes_directory, state),
-        Op::Mkdirat { path } => mkdirat(alloc, trace, place, path, state),
+        Op::Mkdirat { path } => mkdirat(alloc, site, path, state),
         Op::Linkat { old, new } => linkat(alloc, old, new, state),
-        Op::Ftruncate { file, size } => ftruncate(alloc, trace, ring, file, size, state),
+        Op::Ftruncate { file, size } => ftruncate(alloc, site, file, size, state),
     }
 }
 
@@ -135,7 +139,10 @@ pub fn accepts(trace: &Trace, place: u32, ring: u8, op: Op<'_>, state: &State) -
             offset,
             size,
             mode,
-        } => allocatable(trace, ring, file, offset, size, mode, state).is_ok(),
+        } => {
+            let request = AllocationRequest { offset, size, mode };
+            allocatable(trace, ring, file, request, state).is_ok()
+        }
         Op::Openat {
             path,
             flags,

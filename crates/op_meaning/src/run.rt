@@ -6,6 +6,7 @@ ghost use Rattle.entry_checks.specs.Meant.{meant};
 ghost use Rattle.entry_checks.specs.Operation.{asked};
 ghost use Rattle.op_meaning.specs.Outcomes.{answered, fails_as, reply_with};
 ghost use Rattle.op_meaning.specs.Runs.{run_on};
+ghost use Rattle.op_meaning.specs.Site.{IsSite};
 ghost use Rattle.op_meaning.specs.Step.{breaks, error_reply, posts};
 ghost use Rattle.op_meaning.specs.Step.{reply_of, step_reply, step_world};
 ghost use Rattle.op_meaning.specs.Step as step;
@@ -20,6 +21,7 @@ use crate::limits::MOST_MOVED;
 use crate::outcome::Outcome;
 use crate::reply::Reply;
 use crate::rows::run_operation;
+use crate::site::Site;
 use chain_plan::Role;
 use entry_checks::{Op, check};
 use extent_bytes::ReadBytes;
@@ -69,7 +71,14 @@ pub fn run_on_state(
 {
     let step = trace.step(place);
     match step.action {
-        Action::Submit(entry) => submit(alloc, place, trace, step.ring, entry, role_there, state),
+        Action::Submit(entry) => {
+            let site = Site {
+                trace,
+                place,
+                ring: step.ring,
+            };
+            submit(alloc, site, entry, role_there, state)
+        }
         Action::Fill {
             buffer,
             offset,
@@ -90,30 +99,29 @@ pub fn run_on_state(
 /// does.
 fn submit(
     alloc: Global,
-    place: u32,
-    trace: &Trace,
-    ring: u8,
+    site: Site<'_>,
     entry: &Entry,
     role_there: &Role,
     state: &mut State,
 ) -> Result<Reply, AllocError>
-    requires trace { IsSpelled trace.now }
-    requires place { place < places trace.now }
-    requires role { role_there.now ≡ role trace.now place }
+    requires site { IsSite site }
+    requires role { role_there.now ≡ role site.trace.now site.place }
     requires side { is_side_of entry.now.sqe entry.now.side ≡ true }
-    ensures reply { IfOk result (λ reply. reply ≡ reply_of trace.now place state.old
-        (turn_as trace.now state.old ring entry.now role_there.now)) }
-    ensures state { OnOk result (state.new ≡ turn_world trace.now place state.old
-        (turn_as trace.now state.old ring entry.now role_there.now)) }
+    ensures reply { IfOk result (λ reply. reply
+        ≡ reply_of site.entry.trace.now site.entry.place state.old
+        (turn_as site.entry.trace.now state.old site.entry.ring entry.now role_there.now)) }
+    ensures state { OnOk result (state.new
+        ≡ turn_world site.entry.trace.now site.entry.place state.old
+        (turn_as site.entry.trace.now state.old site.entry.ring entry.now role_there.now)) }
 {
     let posted = role_there.member == 0 || !role_there.quiet;
-    match check(entry, trace.version) {
+    match check(entry, site.trace.version) {
         Err(error) => Ok(refused(alloc, error, posted)),
         Ok(op) => {
             if role_there.doomed {
                 Ok(refused(alloc, Errno::ECANCELED, posted))
             } else {
-                execute(alloc, place, trace, ring, entry, op, role_there, state)
+                execute(alloc, site, entry, op, role_there, state)
             }
         }
     }
@@ -122,53 +130,51 @@ fn submit(
 /// Executes an entry: it is canceled where its chain broke.
 fn execute(
     alloc: Global,
-    place: u32,
-    trace: &Trace,
-    ring: u8,
+    site: Site<'_>,
     entry: &Entry,
     op: Op<'_>,
     role_there: &Role,
     state: &mut State,
 ) -> Result<Reply, AllocError>
-    requires trace { IsSpelled trace.now }
-    requires place { place < places trace.now }
-    requires role { role_there.now ≡ role trace.now place }
+    requires site { IsSite site }
+    requires role { role_there.now ≡ role site.trace.now site.place }
     requires short { IfSome (asked (meant op)) (λ n. n ≤ most_moved) }
-    ensures reply { IfOk result (λ reply. reply ≡ reply_of trace.now place state.old
-        (running_as state.old ring entry.now role_there.now (meant op.entry))) }
-    ensures state { OnOk result (state.new ≡ turn_world trace.now place state.old
-        (running_as state.old ring entry.now role_there.now (meant op.entry))) }
+    ensures reply { IfOk result (λ reply. reply
+        ≡ reply_of site.entry.trace.now site.entry.place state.old
+        (running_as state.old site.entry.ring entry.now role_there.now (meant op.entry))) }
+    ensures state { OnOk result (state.new
+        ≡ turn_world site.entry.trace.now site.entry.place state.old
+        (running_as state.old site.entry.ring entry.now role_there.now (meant op.entry))) }
 {
     match state.broken(role_there.chain) {
         Some(broken) if role_there.length >= 2 => {
             Ok(refused(alloc, Errno::ECANCELED, posts(broken)))
         }
-        _ => run(alloc, place, trace, ring, entry, op, role_there, state),
+        _ => run(alloc, site, entry, op, role_there, state),
     }
 }
 
 /// Runs an operation, and breaks its chain where it fails.
 fn run(
     alloc: Global,
-    place: u32,
-    trace: &Trace,
-    ring: u8,
+    site: Site<'_>,
     entry: &Entry,
     op: Op<'_>,
     role_there: &Role,
     state: &mut State,
 ) -> Result<Reply, AllocError>
-    requires trace { IsSpelled trace.now }
-    requires place { place < places trace.now }
-    requires role { role_there.now ≡ role trace.now place }
+    requires site { IsSite site }
+    requires role { role_there.now ≡ role site.trace.now site.place }
     requires short { IfSome (asked (meant op)) (λ n. n ≤ most_moved) }
     ensures reply { IfOk result (λ reply. reply
-        ≡ reply_of trace.now place state.old (step.runs ring entry.now (meant op.entry))) }
+        ≡ reply_of site.entry.trace.now site.entry.place state.old
+        (step.runs site.entry.ring entry.now (meant op.entry))) }
     ensures state { OnOk result (state.new
-        ≡ turn_world trace.now place state.old (step.runs ring entry.now (meant op.entry))) }
+        ≡ turn_world site.entry.trace.now site.entry.place state.old
+        (step.runs site.entry.ring entry.now (meant op.entry))) }
 {
     let asked = asked(&op);
-    let outcome = run_operation(alloc, place, trace, ring, op, state)?;
+    let outcome = run_operation(alloc, site, op, state)?;
     let fails = failed(asked, &outcome);
     break_chain(role_there, entry, fails, state)?;
     let posted = !entry.sqe().has(CQE_SKIP_SUCCESS) || fails;

@@ -20,6 +20,7 @@ use crate::handles::{
 };
 use crate::limits::{LARGEST, MOST_MOVED};
 use crate::outcome::{Done, Outcome, counted, finished};
+use crate::site::Site;
 use entry_checks::{BufferSpan, FileNumber};
 use extent_bytes::ReadBytes;
 use sqe_codec::Errno;
@@ -105,19 +106,20 @@ fn advance(file: &OpenFile, offset: u64, end: u64, state: &mut State)
 /// Reads bytes of a file into the reply: READ and READV.
 pub(crate) fn read(
     alloc: Global,
-    trace: &Trace,
-    ring: u8,
+    site: Site<'_>,
     file: FileNumber,
     offset: u64,
     total: u64,
     state: &mut State,
 ) -> Result<Outcome, AllocError>
     ensures answer { IfOk result
-        (Answers (readv_meaning trace.now state.old ring (file_meant file) offset total)) }
+        (Answers (readv_meaning site.entry.trace.now state.old site.entry.ring (file_meant file)
+        offset total)) }
     ensures state { OnOk result (state.new ≡ world_after state.old
-        (readv_meaning trace.now state.old ring (file_meant file) offset total)) }
+        (readv_meaning site.entry.trace.now state.old site.entry.ring (file_meant file)
+        offset total)) }
 {
-    let file = match readable_at(trace, ring, file, offset, state) {
+    let file = match readable_at(site.trace, site.ring, file, offset, state) {
         Ok(file) => file,
         Err(error) => return Ok(Err(error)),
     };
@@ -137,19 +139,20 @@ pub(crate) fn read(
 /// Reads bytes of a file into a registered buffer: READ_FIXED.
 pub(crate) fn read_fixed(
     alloc: Global,
-    trace: &Trace,
-    ring: u8,
+    site: Site<'_>,
     file: FileNumber,
     offset: u64,
     span: BufferSpan,
     state: &mut State,
 ) -> Result<Outcome, AllocError>
     ensures answer { IfOk result (Answers
-        (read_fixed_meaning trace.now state.old ring (file_meant file) offset (span_meant span))) }
+        (read_fixed_meaning site.entry.trace.now state.old site.entry.ring (file_meant file)
+        offset (span_meant span))) }
     ensures state { OnOk result (state.new ≡ world_after state.old
-        (read_fixed_meaning trace.now state.old ring (file_meant file) offset (span_meant span))) }
+        (read_fixed_meaning site.entry.trace.now state.old site.entry.ring (file_meant file)
+        offset (span_meant span))) }
 {
-    let (file, at) = match readable_into(trace, ring, file, offset, span, state) {
+    let (file, at) = match readable_into(site.trace, site.ring, file, offset, span, state) {
         Ok(found) => found,
         Err(error) => return Ok(Err(error)),
     };
@@ -161,7 +164,8 @@ pub(crate) fn read_fixed(
     let node = file.description.node;
     let end = end_in_file(node, start, count, state);
     let moved = end.saturating_sub(start);
-    state.fill_from_file(alloc, node, start, end, ring, u32::from(span.index), at)?;
+    let index = u32::from(span.index);
+    state.fill_from_file(alloc, node, start, end, site.ring, index, at)?;
     advance(&file, offset, start + moved, state);
     Ok(counted(alloc, moved as u32))
 }
@@ -203,8 +207,7 @@ pub fn writable_at(
 /// Writes bytes to a file: WRITE and WRITEV.
 pub(crate) fn write(
     alloc: Global,
-    trace: &Trace,
-    ring: u8,
+    site: Site<'_>,
     file: FileNumber,
     offset: u64,
     bytes: &[u8],
@@ -212,11 +215,13 @@ pub(crate) fn write(
 ) -> Result<Outcome, AllocError>
     requires { length bytes.now ≤ most_moved }
     ensures answer { IfOk result
-        (Answers (write_meaning trace.now state.old ring (file_meant file) offset (Ok bytes.now))) }
+        (Answers (write_meaning site.entry.trace.now state.old site.entry.ring (file_meant file)
+        offset (Ok bytes.now))) }
     ensures state { OnOk result (state.new ≡ world_after state.old
-        (write_meaning trace.now state.old ring (file_meant file) offset (Ok bytes.now))) }
+        (write_meaning site.entry.trace.now state.old site.entry.ring (file_meant file)
+        offset (Ok bytes.now))) }
 {
-    let (file, start) = match writable_at(trace, ring, file, offset, bytes.len(), state) {
+    let (file, start) = match writable_at(site.trace, site.ring, file, offset, bytes.len(), state) {
         Ok(found) => found,
         Err(error) => return Ok(Err(error)),
     };
@@ -288,32 +293,34 @@ fn writable_from(
 /// Writes bytes of a registered buffer to a file: WRITE_FIXED.
 pub(crate) fn write_fixed(
     alloc: Global,
-    trace: &Trace,
-    ring: u8,
+    site: Site<'_>,
     file: FileNumber,
     offset: u64,
     span: BufferSpan,
     state: &mut State,
 ) -> Result<Outcome, AllocError>
     ensures answer { IfOk result (Answers
-        (write_fixed_meaning trace.now state.old ring (file_meant file) offset (span_meant span))) }
+        (write_fixed_meaning site.entry.trace.now state.old site.entry.ring (file_meant file)
+        offset (span_meant span))) }
     ensures state { OnOk result (state.new ≡ world_after state.old
-        (write_fixed_meaning trace.now state.old ring (file_meant file) offset (span_meant span))) }
+        (write_fixed_meaning site.entry.trace.now state.old site.entry.ring (file_meant file)
+        offset (span_meant span))) }
 {
     let BufferWrite {
         file,
         start,
         at,
         count,
-    } = match writable_from(trace, ring, file, offset, span, state) {
+    } = match writable_from(site.trace, site.ring, file, offset, span, state) {
         Ok(found) => found,
         Err(error) => return Ok(Err(error)),
     };
     if count == 0 {
         return Ok(finished(alloc));
     }
+    let node = file.description.node;
     let index = u32::from(span.index);
-    state.write_from_buffer(ring, index, at, at + count, file.description.node, start)?;
+    state.write_from_buffer(site.ring, index, at, at + count, node, start)?;
     advance(&file, offset, start + count, state);
     Ok(counted(alloc, count as u32))
 }

@@ -23,13 +23,13 @@ is_descriptor : (number : ℤ) (n : ℕ) → SFits w32 number → to_z w32 (of_z
 is_descriptor number n fits e = sym (to_z-of_z fits) ∙ e
 
 pub returns-then-is_none-clause-answer : goal.returns-then-is_none-clause-answer
-returns-then-is_none-clause-answer c = sym (ap answer_of (unheld c.args.trace.now c.args.state.now c.args.ring c.in-Some.descriptor c.args.number (is_descriptor c.args.number c.in-Some.descriptor c.ranges.number c.in-Some.ensures) (ap is_some (sym c.held_by_descriptor.ensures) ∙ c.is_none.ensures ∙ ap not c.if-is_none.true)))
+returns-then-is_none-clause-answer c = sym (ap answer_of (unheld c.args.site.trace.now c.args.state.now c.args.site.ring c.in-Some.descriptor c.args.number (is_descriptor c.args.number c.in-Some.descriptor c.ranges.number c.in-Some.ensures) (ap is_some (sym c.held_by_descriptor.ensures) ∙ c.is_none.ensures ∙ ap not c.if-is_none.true)))
 
 pub returns-then-is_none-clause-state : goal.returns-then-is_none-clause-state
-returns-then-is_none-clause-state c = sym (ap (λ x. apply_all (changes_of x) c.args.state.now) (unheld c.args.trace.now c.args.state.now c.args.ring c.in-Some.descriptor c.args.number (is_descriptor c.args.number c.in-Some.descriptor c.ranges.number c.in-Some.ensures) (ap is_some (sym c.held_by_descriptor.ensures) ∙ c.is_none.ensures ∙ ap not c.if-is_none.true)))
+returns-then-is_none-clause-state c = sym (ap (λ x. apply_all (changes_of x) c.args.state.now) (unheld c.args.site.trace.now c.args.state.now c.args.site.ring c.in-Some.descriptor c.args.number (is_descriptor c.args.number c.in-Some.descriptor c.ranges.number c.in-Some.ensures) (ap is_some (sym c.held_by_descriptor.ensures) ∙ c.is_none.ensures ∙ ap not c.if-is_none.true)))
 
 pub returns-clause-answer : goal.returns-clause-answer
-returns-clause-answer c = c.finished.ensures ∙ sym (ap answer_of (emptied c.args.trace.now c.args.state.now c.args.ring c.in-Some.descriptor c.args.number (is_descriptor c.args.number c.in-Some.descriptor c.ranges.number c.in-Some.ensures) (ap is_some (sym c.held_by_descriptor.ensures) ∙ c.is_none.ensures ∙ ap not c.if-is_none.false)))
+returns-clause-answer c = c.finished.ensures ∙ sym (ap answer_of (emptied c.args.site.trace.now c.args.state.now c.args.site.ring c.in-Some.descriptor c.args.number (is_descriptor c.args.number c.in-Some.descriptor c.ranges.number c.in-Some.ensures) (ap is_some (sym c.held_by_descriptor.ensures) ∙ c.is_none.ensures ∙ ap not c.if-is_none.false)))
 
 pub returns-clause-state : goal.returns-clause-state
-returns-clause-state c = c.in_ok-set_descriptor.ensures ∙ sym (ap (λ x. apply_all (changes_of x) c.args.state.now) (emptied c.args.trace.now c.args.state.now c.args.ring c.in-Some.descriptor c.args.number (is_descriptor c.args.number c.in-Some.descriptor c.ranges.number c.in-Some.ensures) (ap is_some (sym c.held_by_descriptor.ensures) ∙ c.is_none.ensures ∙ ap not c.if-is_none.false)))
+returns-clause-state c = c.in_ok-set_descriptor.ensures ∙ sym (ap (λ x. apply_all (changes_of x) c.args.state.now) (emptied c.args.site.trace.now c.args.state.now c.args.site.ring c.in-Some.descriptor c.args.number (is_descriptor c.args.number c.in-Some.descriptor c.ranges.number c.in-Some.ensures) (ap is_some (sym c.held_by_descriptor.ensures) ∙ c.is_none.ensures ∙ ap not c.if-is_none.false)))

@@ -16,7 +16,7 @@ returns-clause-answer c =
     let s = c.args.state.now in
     let w = c.in-Ok.found in
     let h = handle_meant s w.file in
-    let whole = unwrap_or (buffer s c.args.ring c.args.span.index) [] in
+    let whole = unwrap_or (buffer s c.args.site.ring c.args.span.index) [] in
     let moved = range_of whole w.at (w.at + w.count) in
     let some : w.count ≢ 0 = search rules in
     let long : length moved ≡ w.count = length-range_of whole w.at (w.at + w.count) (c.in-Ok.ensures.inside (omega arith)) ∙ omega arith in
@@ -29,11 +29,11 @@ returns-clause-state c =
     let w = c.in-Ok.found in
     let h = handle_meant s w.file in
     let node = h.opened.target.node in
-    let whole = unwrap_or (buffer s c.args.ring c.args.span.index) [] in
+    let whole = unwrap_or (buffer s c.args.site.ring c.args.span.index) [] in
     let moved = range_of whole w.at (w.at + w.count) in
-    let x = write_meaning c.args.trace.now s c.args.ring (file_meant c.args.file) c.args.offset (span_bytes c.args.trace.now s c.args.ring (span_meant c.args.span)) in
+    let x = write_meaning c.args.site.trace.now s c.args.site.ring (file_meant c.args.file) c.args.offset (span_bytes c.args.site.trace.now s c.args.site.ring (span_meant c.args.span)) in
     let some : w.count ≢ 0 = search rules in
     let long : w.count ≡ length moved = sym (length-range_of whole w.at (w.at + w.count) (c.in-Ok.ensures.inside (omega arith)) ∙ omega arith) in
-    let put = c.in_ok-write_from_buffer.ensures ∙ ap (λ j. apply (write_bytes node w.start (range_of (unwrap_or (buffer s c.args.ring j) []) w.at (w.at + w.count))) s) c.from-index.ensures in
+    let put = c.in_ok-write_from_buffer.ensures ∙ ap (λ j. apply (write_bytes node w.start (range_of (unwrap_or (buffer s c.args.site.ring j) []) w.at (w.at + w.count))) s) c.from-index.ensures in
     changes_more x w.count (write_effect h c.args.offset w.start moved) s c.advance.new.state c.in-Ok.ensures.meaning some
     (c.advance.ensures ∙ (λ i. apply_all (advance h c.args.offset (w.start + long i)) (put i)))
