@@ -3,7 +3,7 @@ ghost use Rattle.std.specs.Prelude.{◌≡◌};
 ghost use Rattle.foot_print.specs.Resolved.{taken_meant};
 ghost use Rattle.op_meaning.specs.Footprint as rows;
 
-use crate::site::Site;
+use op_meaning::Site;
 
 /// How the uses of an operation are taken.
 #[derive(Clone, Copy)]

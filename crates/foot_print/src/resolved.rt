@@ -7,10 +7,9 @@ ghost use Rattle.foot_print.specs.Shapes.{shape_meant};
 use crate::file_rows::{FileRange, file_seen};
 use crate::path_rows::names_seen;
 use crate::shape::Shape;
-use crate::site::Site;
 use entry_checks::{BufferSpan, FileNumber, OpenAtFlags};
 use file_tree::Place;
-use op_meaning::OpenFile;
+use op_meaning::{OpenFile, Site};
 use std::alloc::{AllocError, Global};
 use world_parts::{Footprint, State};
 

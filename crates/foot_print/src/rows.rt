@@ -3,17 +3,16 @@ ghost use Rattle.std.specs.Prelude.{◌≡◌, ◌++◌, IfOk, OnOk};
 ghost use Rattle.entry_checks.specs.Meant.{meant};
 ghost use Rattle.foot_print.specs.Resolved.{rest, row_behind, taken_meant};
 ghost use Rattle.foot_print.specs.Shapes.{shape_meant};
-ghost use Rattle.foot_print.specs.Site.{IsSite};
 ghost use Rattle.op_meaning.specs.Footprint.{row_in, shape_row};
+ghost use Rattle.op_meaning.specs.Site.{IsSite};
 
 use crate::attempt::{Attempt, Taken};
 use crate::file_rows::{allocated_uses, close_row, file_reads, moved_uses, resized_uses, span_use};
 use crate::path_rows::{description_taken, freed_at, made_at, opened_at, room_taken, written_at};
 use crate::resolved::{Resolved, resolve};
 use crate::shape::{Shape, shape_of};
-use crate::site::Site;
 use entry_checks::Op;
-use op_meaning::accepts;
+use op_meaning::{Site, accepts};
 use std::alloc::{AllocError, Global};
 use world_parts::{Footprint, State};
 
