@@ -5,7 +5,7 @@ use Rattle.std.proofs.lemmas.List.{length-set, get_or-set_same, get_or-set_other
 use Rattle.std.proofs.lemmas.List.Sums.{sum_by-cons}
 use Rattle.atomic_table.proofs.Lists.{set_here, set_again}
 use Rattle.atomic_table.specs.Table.{step, rest, keeps, takes, gives, Allows, Splits, Joins, Final, Seen, opening}
-use mathlib.Core.Option.{some, none, some-ne-none, some-injective}
+use mathlib.Core.Option.{some, none, some-injective}
 use mathlib.Core.Option as maybe
 use mathlib.Core.Logic.{dite}
 use native.Mathlib.Decide.{dec_le}
@@ -43,12 +43,6 @@ pub took_job : {T D : Type 0} (m n : Mine T D) (found slots : ℕ) → Drew m fo
     → (job : T) × (slice_get m.0.jobs found ≡ Some job) × (n ≡ (drew found m.0, (found, Waiting job) ∷ m.1)) × Knows n.0
 took_job m n found slots (inl h) lt len = h.1
 took_job m n found slots (inr h) lt len = absurd (omega (arith, h.0))
-
--- a draw at the number of jobs or past it found none
-pub took_none : {T D : Type 0} (m n : Mine T D) (found slots : ℕ) → Drew m found n → slots ≤ found → slots ≡ length m.0.jobs
-    → (n ≡ (ran_dry m.0, m.1)) × Knows n.0
-took_none m n found slots (inl h) le len = absurd (omega (arith, h.0))
-took_none m n found slots (inr h) le len = (h.1, h.2)
 
 module _ {T D : Type 0} (is_value : T → D → Type 0) (jobs : List T) where
   finished_most : (h : maybe.Option (Slot T D)) → finished_at h ≤ 1

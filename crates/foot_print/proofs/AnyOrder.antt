@@ -1,14 +1,14 @@
 -- A reach depends on the earlier reaches only through the items that they write, so on no order of them.
-use Rattle.std.specs.Prelude.{◌≡◌, ℕ, Bool, true, false, ◌&&◌, ◌||◌, List, [], ◌∷◌, ◌++◌, Option, Some, None, refl, if◌then◌else◌}
+use Rattle.std.specs.Prelude.{◌≡◌, ℕ, Bool, true, false, ◌||◌, List, ◌++◌, Option, Some, None, refl, if◌then◌else◌}
 use Rattle.std.specs.List.{list_any}
-use mathlib.Core.Path.{ap, ◌∙◌, fun_ext}
+use mathlib.Core.Path.{ap, fun_ext}
 use Rattle.sqe_codec.specs.Answers.{each}
 use Rattle.trace_format.specs.declared.trace.Trace.{Trace}
 use Rattle.entry_checks.specs.Operation.{Operation}
 use Rattle.chain_plan.specs.Chain.{role}
 use Rattle.world_parts.specs.World.{World}
 use Rattle.op_meaning.specs.Step.{Turn, filled, refused, canceled, runs, turn}
-use Rattle.world_parts.specs.Items.{Item, one, chain_flag, share, Use, Footprint}
+use Rattle.world_parts.specs.Items.{Item, one, chain_flag, Use, Footprint}
 use Rattle.foot_print.specs.Reach.{written_by, is_met, makes, room_taken, room_at, room_asked, task, is_canceled, look_of, extras_of, unresolved_of, order_of, running_row, reach}
 
 module _ (t : Trace) (k : ℕ) (s : World) (earlier others : List Footprint) (same : (x : Item) → written_by earlier x ≡ written_by others x) where
@@ -38,8 +38,3 @@ swap true true c = refl
 swap true false c = refl
 swap false true c = refl
 swap false false c = refl
-
--- The newest reach first or last: the same items are written.
-pub written_newest : (r : Footprint) (earlier : List Footprint) (x : Item) → written_by (earlier ++ (r ∷ [])) x ≡ written_by (r ∷ earlier) x
-written_newest r [] x = refl
-written_newest r (f ∷ fs) x = ap (λ b. list_any (λ (u : Use). u.written && share u.item x) f || b) (written_newest r fs x) ∙ swap (list_any (λ (u : Use). u.written && share u.item x) f) (list_any (λ (u : Use). u.written && share u.item x) r) (written_by fs x)

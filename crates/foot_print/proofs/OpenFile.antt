@@ -3,8 +3,6 @@ use Rattle.std.specs.Prelude.{◌≡◌, ℕ, Bool, true, false, cond, not, ◌�
 use Rattle.std.specs.List.{list_any}
 use Rattle.std.specs.Option.{option_map, option_and_then, is_some}
 use mathlib.Core.Path.{sym, subst, ap, ◌∙◌}
-use native.Mathlib.Omega.{arith}
-use Rattle.std.proofs.lemmas.List.{get_or_past}
 use Rattle.sqe_codec.specs.declared.errno.Errno.{Errno}
 use Rattle.sqe_codec.specs.declared.errno.Errno.TheVariants.{EBADF}
 use Rattle.trace_format.specs.declared.trace.Access.{Access}
@@ -14,7 +12,7 @@ use Rattle.sqe_codec.specs.Answers.{each, ◌>>=◌}
 use Rattle.entry_checks.specs.Operation.{File, file_limit}
 use Rattle.finite_maps.specs.Table.{get}
 use Rattle.world_parts.specs.World.{World, IsWorld, kind, bytes, byte, size, Description, Opened, opened, opened_by}
-use Rattle.file_tree.specs.Tree.{Kind, a_directory, a_file, Node, kind_of_node, bytes_of_node, byte_of}
+use Rattle.file_tree.specs.Tree.{Kind, a_directory, a_file, Node, kind_of_node, bytes_of_node}
 use Rattle.file_tree.specs.Tree.{directory}
 use Rattle.file_tree.specs.Tree.{file}
 use Rattle.file_tree.specs.Walk.{is_directory}
@@ -153,20 +151,6 @@ length_by_size (Some bs) = refl
 pub length_same : (s u : World) (i : ℕ) → value s (size_of i) ≡ value u (size_of i) → length (bytes_in u i) ≡ length (bytes_in s i)
 length_same s u i z = length_by_size (bytes u i) ∙ ap (λ o. unwrap_or o 0) (sym z) ∙ sym (length_by_size (bytes s i))
 
-pub byte_past : (s : World) (i p : ℕ) → length (bytes_in s i) ≤ p → byte s i p ≡ 0
-byte_past s i p h = by (bytes s i) h
-  where
-    by : (x : Option (List ℕ)) → length (unwrap_or x []) ≤ p → byte_of x p ≡ 0
-    by None k = refl
-    by (Some bs) k = get_or_past bs p 0 k
-
 -- Files fit too where what a footprint has agrees with a world.
 pub sizes_fit : (f : Footprint) (s u : World) → IsWorld s → Agree f s u → (i : ℕ) → T (has_atom f (size_of i)) → IfSome (size u i) (λ n. n ≤ file_limit)
 sizes_fit f s u w a i m = subst (λ x. IfSome x (λ n. n ≤ file_limit)) (a.same (size_of i) m) (w.files_fit i)
-
-pub at_most_limit : (s : World) (i : ℕ) → IsWorld s → length (bytes_in s i) ≤ file_limit
-at_most_limit s i w = by (bytes s i) (w.files_fit i)
-  where
-    by : (x : Option (List ℕ)) → IfSome (option_map length x) (λ n. n ≤ file_limit) → length (unwrap_or x []) ≤ file_limit
-    by None h = omega arith
-    by (Some bs) h = h

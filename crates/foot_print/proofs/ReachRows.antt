@@ -2,7 +2,7 @@
 use Rattle.std.specs.Prelude.{◌≡◌, ℕ, true, false, cond, leb, List, [], ◌∷◌, ◌++◌, Option, Some, None, Result, Ok, Err, refl}
 use Rattle.std.specs.Option.{option_map}
 use mathlib.Core.Path.{ap}
-use Rattle.interleaving.specs.Rows.{known_by_rows, reach_by_rows, foot_by_rows}
+use Rattle.interleaving.specs.Rows.{foot_by_rows}
 use Rattle.trace_format.specs.declared.trace.Trace.{Trace}
 use Rattle.sqe_codec.specs.declared.errno.Errno.{Errno}
 use Rattle.trace_format.specs.declared.entry.Entry.{Entry}
@@ -14,16 +14,9 @@ use Rattle.entry_checks.specs.Operation.{Operation}
 use Rattle.trace_format.specs.Steps.{Step, Action, submit, fill, step_at}
 use Rattle.world_parts.specs.World.{World, Broken, broken}
 use Rattle.op_meaning.specs.Step.{Turn, filled, canceled, runs, posts, doomed_turn, running_turn, entry_turn, turn_under}
-use Rattle.world_parts.specs.Items.{Footprint}
 use Rattle.op_meaning.specs.Footprint.{footprint, turn_uses}
-use Rattle.foot_print.specs.Reach.{reach, task, is_canceled, order_of}
-use Rattle.foot_print.specs.Replayed.{replayed, rows, Known}
-
-pub reach_is_by_rows : (t : Trace) (k : ℕ) (s : World) (earlier : List Footprint) → reach t k s earlier ≡ reach_by_rows (replayed t) (rows t) k s earlier
-reach_is_by_rows t k s earlier = refl
-
-pub known_is_by_rows : (t : Trace) (k : ℕ) (s : World) (earlier : List Footprint) → Known t k s earlier ≡ known_by_rows (replayed t) (rows t) k s earlier
-known_is_by_rows t k s earlier = refl
+use Rattle.foot_print.specs.Reach.{task, is_canceled, order_of}
+use Rattle.foot_print.specs.Replayed.{replayed, rows}
 
 append_nothing : {A : Type 0} (xs : List A) → xs ++ [] ≡ xs
 append_nothing [] = refl

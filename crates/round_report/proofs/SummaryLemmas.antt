@@ -7,13 +7,9 @@ use Rattle.std.proofs.lemmas.Bool.{cases_eq, cases_lt, eq-eqb, ne_eqb}
 use Rattle.std.proofs.lemmas.List.{map-append, get_or_past, take_more, length-replicate, get_or-replicate, get_or-set_same, get_or-set_other, get_or-map, length-map}
 use Rattle.std.proofs.lemmas.List.Elements.{All-append, All-cons, All-get_or, All-nil, All-weaker}
 use Rattle.std.proofs.lemmas.List.FromFn.{fill_by_all, length-map-range_with_len, get_or-map-range_with_len}
-use Rattle.std.proofs.lemmas.List.Sums.{fold-append, count_by_more_no, count_by_more_yes, count_by-le-length}
+use Rattle.std.proofs.lemmas.List.Sums.{count_by_more_no, count_by_more_yes, count_by-le-length}
 use Rattle.wave_pick.specs.Holding.{Holder}
 use Rattle.round_report.specs.Summary.{greatest, round_count, width, length_before, path_lengths}
-
--- one number more
-pub greatest_more : (ns : List ℕ) (n : ℕ) → greatest (ns ++ n ∷ []) ≡ max (greatest ns) n
-greatest_more ns n = fold-append max 0 ns (n ∷ [])
 
 fold_max_grows : (a : ℕ) (ns : List ℕ) → a ≤ fold max a ns
 fold_max_grows a [] = omega arith
@@ -34,10 +30,6 @@ round_within rounds i d lt =
     let bound = greatest_bounds (map (λ n. suc n) rounds) i 0 (omega (arith, length-map rounds (λ n. suc n), lt)) in
     let here = get_or-map (λ (n : ℕ). suc n) rounds i d 0 lt in
     omega (arith, bound, here)
-
--- how many rounds there are with one place more
-pub rounds_more : (rounds : List ℕ) (i d : ℕ) → i < length rounds → round_count (take (i + 1) rounds) ≡ max (round_count (take i rounds)) (get_or rounds i d + 1)
-rounds_more rounds i d lt = rw (take_more rounds i d lt) (ap greatest (map-append suc (take i rounds) (get_or rounds i d ∷ [])) ∙ greatest_more (map suc (take i rounds)) (suc (get_or rounds i d)) ∙ omega arith)
 
 -- no places yet
 pub no_widths : (count : ℕ) → replicate count 0 ≡ map (width []) (range_with_len 0 count)

@@ -10,12 +10,9 @@ use Rattle.file_tree.specs.Tree.{Node, Kind, directory, file, kind_of_node}
 use Rattle.world_parts.specs.World.{World, Broken, kind, slot, descriptor, broken, set_slot, set_descriptor, break_chain, apply}
 use Rattle.world_parts.specs.Items.{Atom, chain_flag, slot_at, descriptor_at, Item, one, all_descriptors, member_of, value}
 use Rattle.world_parts.specs.Part.{Shows}
-use Rattle.world_parts.specs.Copying.{nothing, outline_of_node, outline, IsShadow, IsNearer, IsCopied}
+use Rattle.world_parts.specs.Copying.{outline_of_node, outline, IsShadow, IsNearer, IsCopied}
 use Rattle.world_parts.proofs.ChangesOfMaking.{set_slot-value, set_descriptor-value}
 use Rattle.world_parts.proofs.Collision.{both, left, right, same_atom-eq}
-
-pub nothing_shown : (s : World) → IsShadow s nothing
-nothing_shown s = record { outlines = λ i. inl refl; names = λ d n. inl refl; descriptions = λ d. inl refl; buffers = λ r b. inl refl; chains = λ c. inl refl }
 
 -- What isn't there isn't shown.
 pub shown_none : {A : Type 0} (x y : Option A) → Shows x y → y ≡ None → y ≡ x

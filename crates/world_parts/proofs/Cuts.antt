@@ -1,20 +1,20 @@
 -- What cutting by a footprint takes and leaves, use by use.
-use Rattle.std.specs.Prelude.{◌≡◌, ℕ, zero, suc, Bool, true, false, ◌||◌, ◌+◌, ◌<◌, T, List, [], ◌∷◌, ◌++◌, map, take, drop, length, get_or, refl, ◌⊎◌, if◌then◌else◌}
+use Rattle.std.specs.Prelude.{◌≡◌, ℕ, zero, suc, Bool, true, false, ◌||◌, ◌+◌, ◌<◌, T, List, [], ◌∷◌, ◌++◌, map, take, length, get_or, refl, ◌⊎◌}
 use mathlib.Core.Path.{sym, subst, ap, ◌∙◌}
 use mathlib.Core.Logic.{inl, inr}
 use native.Mathlib.Omega.{arith}
 use Rattle.std.proofs.Common.{Vec, Global, add-one}
-use Rattle.std.proofs.Math.Seq.{take-suc, drop-cons}
+use Rattle.std.proofs.Math.Seq.{take-suc}
 use Rattle.world_parts.specs.declared.footprint.Item as code
 use Rattle.world_parts.specs.declared.footprint.Item.TheVariants.{Chain, Ring, Slot, Descriptor, Description, Position, Size, Bytes, Name, Names, Buffer, AllNames, AllBytesAndSizes, AllPositions, AllDescriptions, AllDescriptors}
 use Rattle.world_parts.specs.declared.footprint.Use as code_use
 use Rattle.world_parts.specs.Uses.{item_meant, use_meant}
-use Rattle.world_parts.specs.World.{World, Change, apply, apply_all, kind}
-use Rattle.world_parts.specs.Items.{Atom, ring_order, value, member_of, Use, Footprint, has_atom, Agree}
-use Rattle.world_parts.specs.Part.{is_narrow_use, is_narrow, zeros_in, zeros, holed, Shows, IsPartOf}
-use Rattle.world_parts.specs.Copying.{outline, IsShadow, IsCopied}
+use Rattle.world_parts.specs.World.{World}
+use Rattle.world_parts.specs.Items.{Atom, ring_order, value, member_of, Footprint, has_atom, Agree}
+use Rattle.world_parts.specs.Part.{is_narrow_use, is_narrow, holed}
+use Rattle.world_parts.specs.Copying.{IsShadow, IsCopied}
 use Rattle.world_parts.proofs.Collision.{left, right}
-use Rattle.world_parts.proofs.Copies.{one_item, nothing_moved, kind_in, kind-outline}
+use Rattle.world_parts.proofs.Copies.{one_item, nothing_moved}
 
 -- Each use of a narrow footprint is narrow.
 pub narrow_at : (us : List code_use.Use) (i : ℕ) (u : code_use.Use) → i < length us → u ≡ get_or us i u → T (is_narrow (map use_meant us)) → T (is_narrow_use (use_meant u))
@@ -41,40 +41,6 @@ agree_more s p q us i u h e g c = record { same = λ a m. by a (has_more (take i
     by : (a : Atom) → T (has_atom (map use_meant (take i us)) a) ⊎ T (member_of (item_meant u.item) a) → value s a ≡ value q a
     by a (inl m) = c.nearer.atoms a (g.same a m)
     by a (inr m) = c.item a m
-
--- Changes one after another.
-pub apply_both : (cs ds : List Change) (s : World) → apply_all (cs ++ ds) s ≡ apply_all ds (apply_all cs s)
-apply_both [] ds s = refl
-apply_both (c ∷ cs) ds s = apply_both cs ds (apply c s)
-
-pub holed_more : (u : Use) (f : Footprint) (s : World) → holed f (holed (u ∷ []) s) ≡ holed (u ∷ f) s
-holed_more u f s =
-    let first = if u.written then zeros_in u.item else [] in
-    ap (λ w. apply_all (zeros f) w) (apply_both first [] s) ∙ sym (apply_both first (zeros f) s)
-
-pub holed_next : (us : List code_use.Use) (i : ℕ) (u : code_use.Use) (p q s : World) → i < length us → u ≡ get_or us i u → holed (map use_meant (drop i us)) p ≡ holed (map use_meant us) s → q ≡ holed (use_meant u ∷ []) p
-    → holed (map use_meant (drop (i + 1) us)) q ≡ holed (map use_meant us) s
-holed_next us i u p q s h e was now =
-    ap (λ n. holed (map use_meant (drop n us)) q) (add-one i)
-    ∙ ap (holed (map use_meant (drop (suc i) us))) now
-    ∙ holed_more (use_meant u) (map use_meant (drop (suc i) us)) p
-    ∙ ap (λ xs. holed (map use_meant xs) p) (ap (λ x. x ∷ drop (suc i) us) e ∙ sym (drop-cons us i u h))
-    ∙ was
-
--- Zeros of an item that is written.
-pub holed_one : (u : code_use.Use) (s : World) → u.written ≡ true → apply_all (zeros_in (item_meant u.item)) s ≡ holed (use_meant u ∷ []) s
-holed_one u s e = sym (apply_both (zeros_in (item_meant u.item)) [] s) ∙ ap (λ b. apply_all ((if b then zeros_in (item_meant u.item) else []) ++ []) s) (sym e)
-
-pub holed_none : (u : code_use.Use) (s : World) → u.written ≡ false → s ≡ holed (use_meant u ∷ []) s
-holed_none u s e = ap (λ b. apply_all ((if b then zeros_in (item_meant u.item) else []) ++ []) s) (sym e)
-
--- What shows the outlines of a world shows its kinds.
-shown_kind : (s p : World) (i : ℕ) → Shows (outline p i) (outline s i) → Shows (kind p i) (kind s i)
-shown_kind s p i (inl e) = inl (kind-outline _ ∙ ap kind_in e)
-shown_kind s p i (inr e) = inr (kind-outline _ ∙ ap kind_in e ∙ sym (kind-outline _))
-
-pub is_part : (s p : World) (f : Footprint) → IsShadow s p → Agree f s p → IsPartOf s f p
-is_part s p f sh a = record { agrees = a; nodes = λ i. shown_kind s p i (sh.outlines i); descriptions = sh.descriptions; names = sh.names }
 
 -- The world that is left, by the uses of a footprint.
 pub world_left : (w s q : World) (f : Footprint) (us vs : List code_use.Use) → s ≡ w → us ≡ vs → map use_meant vs ≡ f → q ≡ holed (map use_meant us) s → q ≡ holed f w

@@ -111,9 +111,6 @@ knows_none tree known e path = subst (λ (es : List (Bor (List ℕ) × ℕ)). If
 abbrev pub Keeps : Tree → Tree → Type 0
 Keeps tree other = (d : ℕ) (n : List ℕ) (e : ℕ) → directory_at (name tree d n) ≡ Ok e → directory_at (name other d n) ≡ Ok e
 
-pub keeps_after : (tree other last : Tree) → Keeps tree other → Keeps other last → Keeps tree last
-keeps_after tree other last h g d n e k = g d n e (h d n e k)
-
 pub enters_kept : (tree other : Tree) → Keeps tree other → (d : ℕ) (ns : List (List ℕ)) (e : ℕ) → Enters tree d ns e → Enters other d ns e
 enters_kept tree other keeps d [] e h = h
 enters_kept tree other keeps d (n ∷ ns) e h = (h.0, h.1, keeps d n h.0 h.2, enters_kept tree other keeps h.0 ns e h.3)

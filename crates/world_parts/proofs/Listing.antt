@@ -1,6 +1,5 @@
 -- A loop that lists the names of a tree: what it has listed, and what the pending names stand for, are all paths.
-use Rattle.std.proofs.Common.{◌≡◌, ℕ, zero, suc, ◌<◌, List, [], ◌∷◌, ◌++◌, length, Some, ap, sym, refl, ◌∙◌, arith, append_assoc}
-use Rattle.std.specs.Prelude.{None}
+use Rattle.std.proofs.Common.{◌≡◌, ℕ, suc, ◌<◌, List, [], ◌∷◌, ◌++◌, length, Some, ap, sym, ◌∙◌, arith, append_assoc}
 use Rattle.std.specs.List.{flat_map}
 use Rattle.std.proofs.lemmas.Grind.{flat_map-append}
 use Rattle.std.proofs.lemmas.List.{append-nil}
@@ -18,10 +17,6 @@ pub paths_below-names : (levels below : ℕ) (tree : Tree) (path : List ℕ) (d 
     → paths_below levels tree path d ≡ flat_map (paths_at below tree path) ns.entries
 paths_below-names levels below tree path d ns e f =
     ap (λ n. paths_below n tree path d) e ∙ ap (λ x. flat_map (paths_at below tree path) (each (λ (ns : Names). ns.entries) x)) f
-
-pub paths_below-none : (levels : ℕ) (tree : Tree) (path : List ℕ) (d : ℕ) → names tree d ≡ None → [] ≡ paths_below levels tree path d
-paths_below-none zero tree path d e = refl
-paths_below-none (suc levels) tree path d e = sym (ap (λ x. flat_map (paths_at levels tree path) (each (λ (ns : Names). ns.entries) x)) e)
 
 module _ (tree : Tree) where
   paths_pending-push : (ps : List Pending) (p : Pending) → paths_pending tree (ps ++ p ∷ []) ≡ paths_of tree p ++ paths_pending tree ps

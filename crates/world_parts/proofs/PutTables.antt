@@ -46,14 +46,6 @@ sized-none m i o n h = subst (λ v. m ≡ assign number_keys.total m i (sized v 
     by (Some (directory ns o)) h = refl
     by (Some (file bs)) h = cc
 
-pub sized-gone : (m : Tree) (i : ℕ) (o : Option ℕ) → None ≡ o → is_some (tree.size m i) ≡ true → assign number_keys.total m i None ≡ assign number_keys.total m i (sized o (get m i))
-sized-gone m i o n h = ap (assign number_keys.total m i) (by (get m i) h ∙ ap (λ v. sized v (get m i)) n)
-  where
-    by : (x : Option Node) → is_some (long x) ≡ true → None ≡ sized None x
-    by None h = refl
-    by (Some (directory ns o)) h = cc
-    by (Some (file bs)) h = refl
-
 -- A file that is made longer or shorter, and one that is made first.
 pub sized-old : (m : Tree) (i n : ℕ) (o : Option ℕ) → Some n ≡ o → is_some (tree.size m i) ≡ true → adjust_number (rewritten_node (λ old. resized old n)) m i ≡ assign number_keys.total m i (sized o (get m i))
 sized-old m i n o e h = ap (assign number_keys.total m i) (by (get m i) h ∙ ap (λ v. sized v (get m i)) e)
@@ -91,22 +83,6 @@ listed-same m i a b e h = subst (λ c. m ≡ assign number_keys.total m i (liste
     by true None h = cc
     by true (Some (directory ns o)) h = refl
     by true (Some (file bs)) h = cc
-
-pub listed-gone : (m : Tree) (i : ℕ) (a : Bool) → a ≡ false → is_some (tree.names m i) ≡ true → assign number_keys.total m i None ≡ assign number_keys.total m i (listed a (get m i))
-listed-gone m i a e h = ap (assign number_keys.total m i) (by (get m i) h ∙ ap (λ b. listed b (get m i)) (sym e))
-  where
-    by : (x : Option Node) → lists x ≡ true → None ≡ listed false x
-    by None h = refl
-    by (Some (directory ns o)) h = refl
-    by (Some (file bs)) h = cc
-
-pub listed-new : (m : Tree) (i : ℕ) (a : Bool) → a ≡ true → is_some (tree.names m i) ≡ false → insert number_keys.total m i (new_node a_directory) ≡ assign number_keys.total m i (listed a (get m i))
-listed-new m i a e h = ap (assign number_keys.total m i) (by (get m i) h ∙ ap (λ b. listed b (get m i)) (sym e))
-  where
-    by : (x : Option Node) → lists x ≡ false → Some (new_node a_directory) ≡ listed true x
-    by None h = refl
-    by (Some (directory ns o)) h = cc
-    by (Some (file bs)) h = refl
 
 -- A change of bytes where there is no file, and two changes that agree on bytes of the file's size.
 pub rewritten-none : (m : Tree) (i : ℕ) (f : List ℕ → List ℕ) → None ≡ tree.size m i → m ≡ adjust_number (rewritten_node f) m i
