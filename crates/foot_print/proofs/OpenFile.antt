@@ -11,7 +11,7 @@ use Rattle.trace_format.specs.declared.trace.Trace.{Trace}
 use Rattle.sqe_codec.specs.Answers.{each, ◌>>=◌}
 use Rattle.entry_checks.specs.Operation.{File, file_limit}
 use Rattle.finite_maps.specs.Table.{get}
-use Rattle.world_parts.specs.World.{World, IsWorld, kind, bytes, byte, size, Description, Opened, opened, opened_by}
+use Rattle.world_parts.specs.World.{World, IsWorld, kind, bytes, size, Description, Opened, opened, opened_by}
 use Rattle.file_tree.specs.Tree.{Kind, a_directory, a_file, Node, kind_of_node, bytes_of_node}
 use Rattle.file_tree.specs.Tree.{directory}
 use Rattle.file_tree.specs.Tree.{file}
