@@ -1,5 +1,4 @@
 pub mod Adjusted
-pub mod DirectoriesAbove
 pub mod Ranges
 pub mod Removals
 pub mod Sameness

@@ -1,7 +1,5 @@
 //! Where a path leads, after path_resolution(7).
-ghost use Rattle.std.specs.Prelude.{◌≡◌, ◌==◌};
-ghost use Rattle.std.specs.List.{list_any};
-ghost use Rattle.trace_format.specs.Paths.{components};
+ghost use Rattle.std.specs.Prelude.{◌≡◌};
 ghost use Rattle.file_tree.specs.Found.{walk_meant};
 ghost use Rattle.file_tree.specs.Tree as tree;
 ghost use Rattle.file_tree.specs.Walk as walk;
@@ -27,7 +25,7 @@ pub struct Place<'a> {
 }
 
 /// Whether a path starts at the root: an absolute one, or a relative one at the working directory.
-pub fn starts_at_root(directory: i32, path: &[u8]) -> bool
+pub(crate) fn starts_at_root(directory: i32, path: &[u8]) -> bool
     ensures { result ≡ walk.starts_at_root (record { directory = directory; text = path.now }) }
 {
     path.starts_with(b"/") || directory == WORKING_DIRECTORY
@@ -48,10 +46,9 @@ impl Tree {
         ensures { walk_meant self.now result
             ≡ walk.walk self.now (record { directory = directory; text = path.now }) }
     {
-        if !starts_at_root(directory, path) {
-            return Err(Errno::EBADF);
-        }
-        self.walk_from_root(path)
+        self.steps(directory, path)
+            .last()
+            .unwrap_or(Err(Errno::ENOENT))
     }
 
     /// Whether a node is one of the directories in which the walk of a path looks a name up: the
@@ -60,51 +57,8 @@ impl Tree {
         ensures { result
             ≡ walk.is_above self.now node (record { directory = directory; text = path.now }) }
     {
-        starts_at_root(directory, path) && self.is_above_from_root(node, path)
-    }
-
-    fn is_above_from_root(&self, node: u32, path: &[u8]) -> bool
-        ensures { result
-            ≡ list_any (λ e. e.0 == node) (walk.names_from self.now 0 (components path.now)) }
-    {
-        let mut parent = 0;
-        for name in path.split(|b| *b == b'/').filter(|run| !run.is_empty()) {
-            if name.len() > LONGEST_NAME {
-                return false;
-            }
-            if parent == node {
-                return true;
-            }
-            match self.directory_at(parent, name) {
-                Ok(next) => parent = next,
-                Err(_) => return false,
-            }
-        }
-        false
-    }
-
-    fn walk_from_root<'a>(&self, path: &'a [u8]) -> Result<Place<'a>, Errno>
-        ensures { walk_meant self.now result ≡ walk.walk_from self.now 0 (components path.now) }
-    {
-        let mut parent = 0;
-        let mut last: Option<&[u8]> = None;
-        for name in path.split(|b| *b == b'/').filter(|run| !run.is_empty()) {
-            if let Some(directory) = last {
-                parent = self.directory_at(parent, directory)?;
-            }
-            if name.len() > LONGEST_NAME {
-                return Err(Errno::ENAMETOOLONG);
-            }
-            last = Some(name);
-        }
-        match last {
-            Some(name) => Ok(Place {
-                parent,
-                name,
-                node: self.name(parent, name),
-            }),
-            None => Err(Errno::ENOENT),
-        }
+        let mut steps = self.steps(directory, path);
+        steps.any(|step| step.is_ok_and(|place| place.parent == node))
     }
 
     /// The directory that a name of a directory leads to.
