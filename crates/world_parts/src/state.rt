@@ -8,13 +8,15 @@ ghost use Rattle.extent_bytes.specs.Bytes.{range_of};
 ghost use Rattle.finite_maps.specs.Table.{get};
 ghost use Rattle.file_tree.specs.Found.{node_of, walk_meant};
 ghost use Rattle.file_tree.specs.Kinds.{kind_meant};
+ghost use Rattle.file_tree.specs.Steps.{steps_left};
+ghost use Rattle.file_tree.specs.Steps as steps;
 ghost use Rattle.file_tree.specs.Walk as walk;
 ghost use Rattle.world_parts.specs.Uses.{broken_meant};
 ghost use Rattle.world_parts.specs.World as world;
 
 use crate::broken::{Broken, Flag};
 use extent_bytes::{Extents, ReadBytes};
-use file_tree::{Kind, Place, Tree};
+use file_tree::{Kind, Place, Steps, Tree};
 use ring_tables::{Buffers, Descriptions, Descriptors, Slots};
 use sqe_codec::Errno;
 use std::alloc::{AllocError, Global};
@@ -166,6 +168,15 @@ impl State {
             ≡ walk.walk self.now.nodes (record { directory = directory; text = path.now }) }
     {
         self.nodes.walk(directory, path)
+    }
+
+    /// The steps of the walk of a path, as [`Tree::steps`] says.
+    pub fn steps<'a, 't>(&'t self, directory: i32, path: &'a [u8]) -> Steps<'a, 't>
+        ensures same { result.tree.now ≡ self.now.nodes }
+        ensures left { steps_left result
+            ≡ steps.steps self.now.nodes (record { directory = directory; text = path.now }) }
+    {
+        self.nodes.steps(directory, path)
     }
 
     /// The directory that a name of a directory leads to.
