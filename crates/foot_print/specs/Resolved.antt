@@ -1,14 +1,12 @@
 -- A view of code: what an operation's file or paths lead to, and its uses beside those that decide them.
-use Rattle.std.specs.Prelude.{◌≡◌, ℕ, Bool, true, false, ◌==◌, List, [], ◌∷◌, ◌++◌, map, Option, None, Some, is_ok, if◌then◌else◌}
+use Rattle.std.specs.Prelude.{◌≡◌, ℕ, Bool, true, false, ◌==◌, [], ◌∷◌, ◌++◌, Option, is_ok, if◌then◌else◌}
 use Rattle.std.specs.Option.{option_map}
-use Rattle.std.specs.Result.{result_ok}
 use Rattle.sqe_codec.specs.Answers.{each}
 use Rattle.trace_format.specs.declared.trace.Trace.{Trace}
 use Rattle.entry_checks.specs.Meant.{file_meant, flags_meant, span_meant}
 use Rattle.entry_checks.specs.Operation.{Operation, OpenFlags, at_position}
 use Rattle.file_tree.specs.Found.{place_meant}
-use Rattle.file_tree.specs.Tree.{Tree}
-use Rattle.file_tree.specs.Walk.{Place, directory_at, names_from}
+use Rattle.file_tree.specs.Walk.{Place}
 use Rattle.file_tree.specs.declared.walk.Place as code
 use Rattle.foot_print.specs.Reach.{shape_seen}
 use Rattle.foot_print.specs.declared.attempt.Taken as attempts
@@ -19,22 +17,13 @@ use Rattle.op_meaning.specs.Footprint.{Taken, tried, foreseen, as_reads, room_wh
 use Rattle.op_meaning.specs.Handles.{handle_meant}
 use Rattle.op_meaning.specs.Meaning.{meaning, Handle}
 use Rattle.op_meaning.specs.declared.handles.OpenFile.{OpenFile}
-use Rattle.world_parts.specs.Items.{one, position_of, name_at, names_in, reads, writes, Footprint}
+use Rattle.world_parts.specs.Items.{one, position_of, name_at, names_in, writes, Footprint}
 use Rattle.world_parts.specs.World.{World}
 
 -- how the uses of an operation are taken, by a value of the program
 abbrev pub taken_meant : attempts.Taken → Taken
 taken_meant (Tried b) = tried b
 taken_meant Foreseen = foreseen
-
--- the names that a walk of components looks up from a directory on
-abbrev pub names_read : Tree → ℕ → List (List ℕ) → Footprint
-names_read tree d ns = map (λ e. reads (one (name_at e.0 e.1))) (names_from tree d ns)
-
--- the directory in which a walk goes on: the root, or the one that it has come to, if that is one
-abbrev pub goes_on : Option Place → Option ℕ
-goes_on None = Some 0
-goes_on (Some p) = result_ok (directory_at p.target)
 
 -- the position of a description, where a transfer uses it
 abbrev pub position_at : ℕ → ℕ → Footprint
