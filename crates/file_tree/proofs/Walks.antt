@@ -11,7 +11,7 @@ use Rattle.sqe_codec.specs.declared.errno.Errno.TheVariants.{ENOENT, EBADF, ENAM
 use Rattle.sqe_codec.specs.Answers.{◌>>=◌, ◌>>◌, require, each_ok}
 use Rattle.entry_checks.specs.Operation.{Path}
 use Rattle.trace_format.specs.Paths.{components}
-use Rattle.file_tree.specs.Tree.{Tree, name, target}
+use Rattle.file_tree.specs.Tree.{Tree, name}
 use Rattle.file_tree.specs.Found.{walk_meant}
 use Rattle.file_tree.specs.Steps.{GivesStep, steps, steps_from, steps_left}
 use Rattle.file_tree.specs.declared.steps.Steps.{Steps}

@@ -1,6 +1,7 @@
-use Rattle.std.proofs.Common.{◌≡◌, ℕ, ◌+◌, ◌<◌, ◌≤◌, Bool, true, false, cond, List, [], ◌∷◌, length, take, drop, Some, None, inl, inr, sym, ◌∙◌, ap, refl, suc, arith, rules, tests}
+use Rattle.std.proofs.Common.{◌≡◌, ℕ, ◌+◌, ◌<◌, ◌≤◌, Bool, true, false, cond, List, [], ◌∷◌, length, take, drop, Option, Some, None, inl, inr, sym, ◌∙◌, ap, refl, suc, arith, rules, tests}
 use Rattle.std.specs.Prelude.{not, filter, ◌==◌, unwrap_or}
 use Rattle.std.specs.List.{onto_first, position, position_or_len}
+use Rattle.std.specs.Option.{option_map_or}
 use Rattle.std.proofs.lemmas.Bool.{ne_eqb, cases_lt, lt-ltb, le-ltb}
 use Rattle.std.proofs.lemmas.Iterator.{YieldsList-from_slice}
 use Rattle.std.proofs.lemmas.Iterator.Search.{position_from_yields_List}
@@ -75,25 +76,23 @@ module _ (p : ℕ → Bool) (text : List ℕ) where
   at_none : length text ≤ position_or_len p text → position p text ≡ None
   at_none h = ap (λ b. cond b (Some (position_or_len p text)) None) (le-ltb (position_or_len p text) (length text) h)
 
-  placed : (k : ℕ) → position p text ≡ Some k → (position_or_len p text ≡ k) × (k < length text)
-  placed k e = elim (cases_lt (position_or_len p text) (length text)) [
-    | inl h ↦ let there = at_place h in let same : position_or_len p text ≡ k = cc in (same, omega (arith, h))
-    | inr h ↦ let none = at_none h in absurd cc
-  ]
-
-  passed : position p text ≡ None → length text ≤ position_or_len p text
-  passed e = elim (cases_lt (position_or_len p text) (length text)) [ inl h ↦ let there = at_place h in absurd cc | inr h ↦ h ]
-
   or_all : unwrap_or (position p text) (length text) ≡ position_or_len p text
   or_all = elim (cases_lt (position_or_len p text) (length text)) [
     | inl h ↦ ap (λ o. unwrap_or o (length text)) (at_place h)
     | inr h ↦ ap (λ o. unwrap_or o (length text)) (at_none h) ∙ omega (arith, h, prefix_len-le-length (λ b. not (p b)) text)
   ]
 
+-- the names of a text, by where the first one begins
+names_at : (text : List ℕ) (r : Option ℕ) → r ≡ position (λ b. not (b == 47)) text → components text ≡ option_map_or (λ k. from_name (drop k text)) r []
+names_at text r e = elim (cases_lt (to_name text) (length text)) [
+  | inl h ↦ first_found text h ∙ ap (λ o. option_map_or (λ k. from_name (drop k text)) o []) (sym (e ∙ at_place (λ b. not (b == 47)) text h))
+  | inr h ↦ none_found text h ∙ ap (λ o. option_map_or (λ k. from_name (drop k text)) o []) (sym (e ∙ at_none (λ b. not (b == 47)) text h))
+]
+
 pub returns-in_err-start : goal.returns-in_err-start
 returns-in_err-start c =
     let found = position_from_yields_List (λ b. not (b == 47)) _ _ c.position.result c.position.ensures.ran (YieldsList-from_slice c.args.path.now cc) (λ x b q k. search (rules, tests)) in
-    none_found c.args.path.now (passed _ c.args.path.now (sym found ∙ c.in_err-start.was)) ∙ rw c.from_residual.ensures
+    rw c.from_residual.ensures (names_at c.args.path.now None (sym c.in_err-start.was ∙ found))
 
 pub returns : goal.returns
 returns c =
@@ -101,9 +100,7 @@ returns c =
     let named = c.split_at.result.1.now in
     let found = position_from_yields_List (λ b. not (b == 47)) _ _ c.position.result c.position.ensures.ran (YieldsList-from_slice path cc) (λ x b q k. search (rules, tests)) in
     let ended = position_from_yields_List (λ b. b == 47) _ _ c.position-2.result c.position-2.ensures.ran (YieldsList-from_slice named cc) (λ x b q k. search (rules, tests)) in
-    let start = placed (λ b. not (b == 47)) path c.in_ok-start.start (sym found ∙ c.in_ok-start.was) in
     let end : c.unwrap_or-end.result ≡ to_slash named = c.unwrap_or-end.ensures ∙ ap (λ o. unwrap_or o (length named)) ended ∙ or_all (λ b. b == 47) named in
     let front : c.split_at-2.result.0.now ≡ take (to_slash named) named = c.split_at-2.ensures.front ∙ ap (λ k. take k named) end in
     let back : c.split_at-2.result.1.now ≡ drop (to_slash named) named = c.split_at-2.ensures.back ∙ ap (λ k. drop k named) end in
-    let from : named ≡ drop (to_name path) path = c.split_at.ensures.back ∙ ap (λ k. drop k path) (sym start.0) in
-    first_found path (omega (arith, start.0, start.1)) ∙ rw (front, back) (ap from_name (sym from))
+    names_at path (Some c.in_ok-start.start) (sym c.in_ok-start.was ∙ found) ∙ rw (front, back) (ap from_name (sym c.split_at.ensures.back))
