@@ -14,6 +14,7 @@
     traces.py position N FILE_MB  READs of 4,096 bytes at the position of a file of FILE_MB stored megabytes,
                                   from its start again by an OPENAT at its end
     traces.py appends N           WRITEs of 64 bytes to a file that is open to append
+    traces.py files N KB          WRITEs of KB kilobytes to 64 files in turn, one behind another; nothing collides
 
 Enter records have 64 entries (`rings`: 16), rings take turns. N is at most 1,048,576.
 """
@@ -209,8 +210,24 @@ def appends(n):
     records(n, 64, 1, make)
 
 
+def files(n, kb):
+    r = random.Random(9)
+    size = kb << 10
+
+    def items():
+        for i in range(64):
+            yield from file(b"/file%02d" % i, 0)
+    start(items(), 64, range(1, 65), [(range(1, 65), [])], n, 64)
+    data = r.randbytes(size + 65536)
+
+    def make(k, ring):
+        at = k * 613 & 0xffff
+        return entry(WRITE, FIXED_FILE, k % 64, k // 64 * size, length=size, user=k, side=data[at:at + size])
+    records(n, 64, 1, make)
+
+
 KINDS = {"rw": (rw, 3), "rings": (rings, 1), "one_file": (one_file, 1), "paths": (paths, 1),
-         "chains": (chains, 1), "big": (big, 2), "position": (position, 2), "appends": (appends, 1)}
+         "chains": (chains, 1), "big": (big, 2), "position": (position, 2), "appends": (appends, 1), "files": (files, 2)}
 
 
 def main(a):

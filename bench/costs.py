@@ -1,0 +1,61 @@
+"""Traces of each kind, and what programs cost on them: what the commands of this folder share."""
+import os
+import subprocess
+import sys
+import time
+from typing import List, NamedTuple
+
+HERE = os.path.dirname(os.path.abspath(__file__))
+TOP = os.path.dirname(HERE)
+BUILT = os.path.join(TOP, "crates", "uring_replay", "out", "uring_replay")
+# What each kind is made by, with n for the number of entries, and few for a 250th part of it.
+KINDS = {
+    "rw": "rw {n} 64 64",
+    "rings": "rings {n}",
+    "one_file": "one_file {n}",
+    "paths": "paths {n}",
+    "chains": "chains {n}",
+    "big": "big {few} 1",
+    "position": "position {n} 16",
+    "appends": "appends {n}",
+    "files": "files 192 1024",
+}
+
+
+class Cost(NamedTuple):
+    """The least time and the most memory of some runs."""
+
+    seconds: float
+    megabytes: float
+
+
+def once(words: List[str], trace: str) -> Cost:
+    """Runs a program on a trace to its end."""
+    with open(trace, "rb") as given, open(os.devnull, "wb") as nowhere:
+        began = time.monotonic()
+        started = subprocess.Popen(words, stdin=given, stdout=nowhere)
+        _, status, usage = os.wait4(started.pid, 0)
+        seconds = time.monotonic() - began
+    started.returncode = os.waitstatus_to_exitcode(status)
+    if status:
+        sys.exit("{} ended with status {} on {}".format(" ".join(words), started.returncode, trace))
+    return Cost(seconds, usage.ru_maxrss / 1024)
+
+
+def least(programs: List[List[str]], trace: str, best: int) -> List[Cost]:
+    """The cost of each program, the programs in turn."""
+    costs = [Cost(float("inf"), 0.0) for _ in programs]
+    for _ in range(best):
+        for place, words in enumerate(programs):
+            cost = once(words, trace)
+            costs[place] = Cost(min(costs[place].seconds, cost.seconds), max(costs[place].megabytes, cost.megabytes))
+    return costs
+
+
+def written(words: str, entries: int, folder: str) -> str:
+    """Writes the trace that these words of `traces.py` make."""
+    trace = os.path.join(folder, "measured.trace")
+    made_by = words.format(n=entries, few=max(entries // 250, 1)).split()
+    with open(trace, "wb") as out:
+        subprocess.run([sys.executable, "-B", os.path.join(HERE, "traces.py"), *made_by], stdout=out, check=True)
+    return trace
