@@ -9,7 +9,7 @@ use Rattle.file_tree.specs.Tree.{Target}
 use Rattle.file_tree.specs.Walk.{Place, walk, names_on, is_directory}
 use Rattle.world_parts.specs.World.{World}
 use Rattle.world_parts.specs.Items.{Atom, chain_flag, slot_at, descriptor_at, position_of, size_of, name_at, names_in, Item, one, file_bytes, buffer_bytes, all_names, all_bytes_and_sizes, all_positions, all_descriptions, all_descriptors, Use, reads, writes, Footprint}
-use Rattle.world_parts.specs.Part.{is_narrow_use, is_narrow}
+use Rattle.world_parts.specs.Cutting.{is_narrow_use, is_narrow}
 use Rattle.op_meaning.specs.Meaning.{meaning, made_node, slot_count, span_start, Handle, handle, handle_of, held, is_file, allocation, Allocation, extend, reserve, punch, zero_extend, zero_within, lowest_free}
 use Rattle.op_meaning.specs.Step.{Turn, filled, refused, canceled, runs, turn}
 use Rattle.op_meaning.specs.Footprint.{Shape, idle, looking, moving, allocating, resizing, closing, opening, making, freeing, linking, renaming, shape, transfer_row, shape_row, use_of, as_reads, Taken, tried, is_accepted, is_foreseen, held_item, file_reads, range_of, transfer_range, position_written, of_file, of_description, on_file, span_use, position_use, would_extend, read_row, write_row, allocation_uses, path_reads, name_written, made_where, room_where, directory_names, room_uses, description_made, open_uses, openat_row, close_row, unlinkat_row, renameat_row, row, row_in, order_uses, turn_uses, ring_at, read_content}

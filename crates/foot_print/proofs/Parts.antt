@@ -8,7 +8,7 @@ use Rattle.file_tree.specs.Tree.{kind_of_node}
 use Rattle.finite_maps.specs.Table.{get}
 use Rattle.world_parts.specs.World.{World, IsWorld, kind, opened, opened_by, zero_bytes, write_buffer, apply_all}
 use Rattle.world_parts.specs.Items.{Item, one, file_bytes, buffer_bytes, all_names, all_bytes_and_sizes, all_positions, all_descriptions, all_descriptors, Use, Footprint}
-use Rattle.world_parts.specs.Part.{zeros_in, holed, Shows, IsPartOf, PutsTo}
+use Rattle.world_parts.specs.Cutting.{zeros_in, holed, Shows, IsPartOf, PutsTo}
 use Rattle.op_meaning.specs.Meaning.{made_node, made_description}
 use Rattle.op_meaning.specs.Step.{step_world}
 use Rattle.op_meaning.specs.Footprint.{footprint}

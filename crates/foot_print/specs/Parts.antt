@@ -5,7 +5,8 @@ use Rattle.interleaving.specs.Gather.{in_order, replies_in_order}
 use Rattle.trace_format.specs.declared.trace.Trace.{Trace}
 use Rattle.world_parts.specs.World.{World, IsWorld}
 use Rattle.world_parts.specs.Items.{Footprint, collide, Agree}
-use Rattle.world_parts.specs.Part.{Part, holed, holed_by, is_narrow, IsPartOf, PutsTo}
+use Rattle.world_parts.specs.Part.{Part}
+use Rattle.world_parts.specs.Cutting.{holed, holed_by, is_narrow, IsPartOf, PutsTo}
 use Rattle.op_meaning.specs.Step.{step_world, step_reply}
 use Rattle.op_meaning.specs.Footprint.{footprint}
 use Rattle.foot_print.specs.Laws.{Awaits}

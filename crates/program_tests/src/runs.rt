@@ -1,5 +1,5 @@
 ghost use Rattle.std.specs.Prelude.{Some};
-ghost use Rattle.replay_program.specs.Words.{IsServed};
+ghost use Rattle.replay_program.specs.Limits.{IsServed};
 
 use crate::examples::{
     BUFFER_SELECTION_PERSONALITY_AND_RW_FLAGS_OF_READ, DRAIN_WAITS_FOR_EVERY_EARLIER_STEP,

@@ -85,6 +85,10 @@ pub chosen_at : (t : Trace) (window r n : ℕ) (items : List Chosen) (c : Chosen
 chosen_at t window r n items c e at =
     chosen_from t (state_after t window r).world (slice_get (wave_after t window r) n) c (sym (slice_get-map _ (wave_after t window r) n) ∙ ap (λ xs. slice_get xs n) (sym e) ∙ at)
 
+pub chosen_places : (t : Trace) (s : World) (ks : List ℕ) → map (λ (c : Chosen). c.place) (map (picking.chosen_at t s) ks) ≡ ks
+chosen_places t s [] = refl
+chosen_places t s (k ∷ ks) = ap (λ js. k ∷ js) (chosen_places t s ks)
+
 -- A round has no more places than the trace.
 pending-few : (done : ℕ → Bool) (n : ℕ) → length (pending done n) ≤ n
 pending-few done zero = omega arith

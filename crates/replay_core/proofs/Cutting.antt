@@ -12,7 +12,8 @@ use Rattle.trace_format.specs.declared.trace.Trace.{Trace}
 use Rattle.trace_format.specs.Text.{IsSpelled}
 use Rattle.world_parts.specs.World.{World}
 use Rattle.world_parts.specs.Items.{Footprint, collide}
-use Rattle.world_parts.specs.Part.{Part, Divided, holed, holed_by, cut_from, IsPartOf}
+use Rattle.world_parts.specs.Part.{Part, Divided}
+use Rattle.world_parts.specs.Cutting.{holed, holed_by, cut_from, IsPartOf}
 use Rattle.world_parts.proofs.Collision.{both}
 use Rattle.world_parts.proofs.Holes.{part_of_whole}
 use Rattle.op_meaning.specs.Footprint.{footprint}
@@ -24,7 +25,7 @@ use Rattle.replay_core.specs.declared.run.Run.{Run}
 use Rattle.replay_core.specs.Jobs.{AreOf}
 use Rattle.replay_core.proofs.Lists.{get-push, map-push, take-more}
 use Rattle.wave_pick.specs.Rounds.{state_after, wave_after}
-use Rattle.replay_core.specs.Rounds.{out_for, parts_of, AreOut}
+use Rattle.replay_core.specs.Progressing.{out_for, parts_of, AreOut}
 use Rattle.replay_core.proofs.Choosing.{side, chosen_awaits, chosen_free, has-middle, has-front, different-front}
 
 module _ (t : Trace) (s : World) where

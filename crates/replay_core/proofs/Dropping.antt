@@ -16,9 +16,9 @@ use Rattle.trace_format.specs.Steps.{places}
 use Rattle.trace_format.specs.Text.{IsSpelled}
 use Rattle.foot_print.specs.Replayed.{replayed}
 use Rattle.wave_pick.specs.Rounds.{state_after, wave_after}
-use Rattle.replay_core.specs.Rounds.{IsFront}
+use Rattle.replay_core.specs.Progressing.{IsFront}
 use Rattle.replay_core.proofs.Fronts.{filter-same, filter-all, front_open}
-use Rattle.replay_core.proofs.Rounds.{next_state}
+use Rattle.replay_core.proofs.Stepping.{next_state}
 
 order : (a b : ℕ) → (a < b) ⊎ ((b < a) ⊎ (a ≡ b))
 order a b = grind arith
@@ -137,7 +137,7 @@ pub done_is_ran : (t : Trace) → IsSpelled t → (window r : ℕ) (front : List
 done_is_ran t spelled window r front next h done is k m =
     let waits = front_open t window (state_after t window r) front next h k m in
     get_or_from_slice_get done k (has (state_after t window (r + 1)).finished k) false (is k waits.0)
-    ∙ ap (λ (x : State (replayed t)). has x.finished k) (sym (next_state t spelled window r))
+    ∙ ap (λ (x : State (replayed t)). has x.finished k) (sym (next_state t window r))
     ∙ finished_after (replayed t) (wave_after t window r) (state_after t window r) k
     ∙ ap (λ b. if has (wave_after t window r) k then true else b) waits.1
     ∙ alone (has (wave_after t window r) k)

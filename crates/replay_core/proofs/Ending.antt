@@ -20,7 +20,7 @@ use Rattle.wave_pick.specs.Rounds.{round_of, waves}
 use Rattle.wave_pick.specs.Rounds as picked
 use Rattle.replay_core.specs.declared.progress.Progress.{Progress}
 use Rattle.wave_pick.specs.Rounds.{state_after, wave_after}
-use Rattle.replay_core.specs.Rounds.{Keeps, Stands}
+use Rattle.replay_core.specs.Progressing.{Keeps, Stands}
 use Rattle.replay_core.proofs.Lists.{take-more, take-whole, mapped-so-far}
 use Rattle.replay_core.proofs.Fronts.{front_is}
 

@@ -15,9 +15,9 @@ use Rattle.trace_format.specs.Steps.{places}
 use Rattle.trace_format.specs.Text.{IsSpelled}
 use Rattle.foot_print.specs.Replayed.{replayed}
 use Rattle.wave_pick.specs.Rounds.{state_after, wave_after}
-use Rattle.replay_core.specs.Rounds.{IsFront}
+use Rattle.replay_core.specs.Progressing.{IsFront}
 use Rattle.replay_core.proofs.Choosing.{has-front}
-use Rattle.replay_core.proofs.Rounds.{next_state}
+use Rattle.replay_core.proofs.Stepping.{next_state}
 
 -- Ranges.
 in_range : (a n k : ℕ) → has (range_with_len a n) k ≡ true → (a ≤ k) × (k < a + n)
@@ -127,14 +127,14 @@ module _ (t : Trace) (spelled : IsSpelled t) (window r : ℕ) (front : List ℕ)
   open_still k = not (has y.finished k)
 
   grows : (k : ℕ) → has x.finished k ≡ true → has y.finished k ≡ true
-  grows k f = subst (λ (z : State (replayed t)). has z.finished k ≡ true) (next_state t spelled window r) (stays_finished (replayed t) x (in_turn (wave_after t window r)) k f)
+  grows k f = subst (λ (z : State (replayed t)). has z.finished k ≡ true) (next_state t window r) (stays_finished (replayed t) x (in_turn (wave_after t window r)) k f)
 
   -- a chosen place is one of the front
   chosen_in_front : (k : ℕ) → has (wave_after t window r) k ≡ true → has front k ≡ true
   chosen_in_front k m = ap (λ ks. has ks k) (sym (front_is t window x front next h)) ∙ (has-filter (Rattle.interleaving.specs.Machine.is_free (replayed t) x) (take window (pending (has x.finished) (places t))) k m).1
 
   behind_still : (k : ℕ) → has (range_with_len next (places t - next)) k ≡ true → open_still k ≡ true
-  behind_still k m = ap not (false_from_ne_true (has y.finished k) (λ f. go (finished_by (replayed t) (wave_after t window r) x k (subst (λ (z : State (replayed t)). has z.finished k ≡ true) (sym (next_state t spelled window r)) f))))
+  behind_still k m = ap not (false_from_ne_true (has y.finished k) (λ f. go (finished_by (replayed t) (wave_after t window r) x k (subst (λ (z : State (replayed t)). has z.finished k ≡ true) (sym (next_state t window r)) f))))
     where
       go : (has (wave_after t window r) k ≡ true) ⊎ (has x.finished k ≡ true) → ⊥
       go (inl c) =

@@ -3,6 +3,7 @@ pub mod Choosing
 pub mod Cutting
 pub mod Returning
 pub mod Rounds
+pub mod Stepping
 pub mod Fronts
 pub mod Dropping
 pub mod Ending

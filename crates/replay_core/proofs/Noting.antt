@@ -26,8 +26,9 @@ use Rattle.wave_pick.proofs.Holders.{holders_hold_back, none_is_held_back}
 use Rattle.wave_pick.proofs.Waiting.{witness_holds, others_run}
 use Rattle.replay_core.specs.declared.progress.Progress.{Progress}
 use Rattle.replay_core.specs.declared.round_log.WaitedFor.{WaitedFor}
-use Rattle.replay_core.specs.Rounds.{IsFront, Stands}
-use Rattle.replay_core.specs.Waits.{is_shown, waited_before, waited_for, waited_meant, noted_after, AreNoted, noted}
+use Rattle.replay_core.specs.Progressing.{IsFront, Stands}
+use Rattle.replay_core.specs.Waits.{is_shown, waited_before, waited_for, waited_meant}
+use Rattle.replay_core.specs.Noted.{noted_after, AreNoted, noted}
 use Rattle.replay_core.proofs.Lists.{take-whole, mapped-so-far, set-here, set-other}
 use Rattle.replay_core.proofs.Fronts.{front_is, front_open}
 

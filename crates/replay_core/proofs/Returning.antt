@@ -1,21 +1,18 @@
 -- The parts of a round, put back one after another.
-use Rattle.std.proofs.Common.{◌≡◌, ◌≢◌, ℕ, ◌+◌, ◌<◌, Bool, true, false, List, [], ◌∷◌, length, ◌⊎◌, inl, inr, refl, sym, ap, subst, ◌∙◌, Some, arith}
-use Rattle.std.specs.Prelude.{T, ◌==◌, Option, None, cond, Result, Ok, OnOk, IsSome, IfSome, slice_get}
+use Rattle.std.proofs.Common.{◌≡◌, ℕ, Bool, true, false, List, [], ◌∷◌, refl, sym, ap, subst, ◌∙◌, Some}
+use Rattle.std.specs.Prelude.{T, ◌==◌, None, cond, Result, Ok, OnOk, IsSome, IfSome}
 use Rattle.std.specs.List.{list_all}
 use Rattle.std.specs.Cmp.{unsigned_tied}
-use Rattle.std.proofs.Math.ListN.{set, length-set}
-use Rattle.std.proofs.lemmas.Bool.{cases_eq, eq-eqb}
+use Rattle.std.proofs.lemmas.Bool.{eq-eqb}
 use lib.Dec.{eqb→eq}
-use Rattle.interleaving.specs.Machine.{State, has, reply_of, run}
-use Rattle.interleaving.specs.Rounds.{in_turn}
-use Rattle.interleaving.proofs.Members.{has-here, has-other}
-use Rattle.interleaving.proofs.Orders.{reply-here, reply-other}
+use Rattle.interleaving.specs.Machine.{State, has}
+use Rattle.interleaving.proofs.Members.{has-other}
 use Rattle.finite_maps.specs.Table.{empty, get, assign, number_keys, get-assign, same_table}
 use Rattle.trace_format.specs.declared.trace.Trace.{Trace}
-use Rattle.trace_format.specs.Steps.{places}
 use Rattle.world_parts.specs.World.{World, IsWorld}
 use Rattle.world_parts.specs.Items.{Footprint}
-use Rattle.world_parts.specs.Part.{Part, Divided, whole, holed, holed_by, is_narrow, PutsTo}
+use Rattle.world_parts.specs.Part.{Part, Divided, whole}
+use Rattle.world_parts.specs.Cutting.{holed, holed_by, is_narrow, PutsTo}
 use Rattle.world_parts.proofs.Collision.{left, not_both}
 use Rattle.op_meaning.specs.declared.reply.Reply.{Reply}
 use Rattle.op_meaning.specs.Step.{step_world, step_reply}
@@ -27,12 +24,10 @@ use Rattle.foot_print.specs.Replayed.{replayed}
 use Rattle.foot_print.proofs.Narrow.{all_narrow}
 use Rattle.foot_print.proofs.Parts.{holes_keep}
 use Rattle.foot_print.proofs.Putting.{put_is_step}
-use Rattle.wave_pick.specs.Rounds.{round_of, waves}
 use Rattle.wave_pick.specs.Rounds.{state_after}
-use Rattle.replay_core.specs.Rounds.{out_for, AreOut, Keeps}
-use Rattle.interleaving.proofs.Onwards.{ran}
-use Rattle.replay_core.proofs.Lists.{set-here, set-other}
+use Rattle.replay_core.specs.Progressing.{out_for, AreOut}
 use Rattle.replay_core.proofs.Cutting.{out-none}
+use Rattle.replay_core.proofs.Stepping.{Steps}
 
 all_holes_keep : (fs : List Footprint) (s : World) → IsWorld s → IsWorld (holed_by fs s)
 all_holes_keep [] s w = w
@@ -106,41 +101,8 @@ module _ (t : Trace) (s u : World) (p : Part) (ps : List Part) (before : Divided
 pub all_home : (t : Trace) (s u : World) (d : Divided) → AreOut t s u [] d → d ≡ whole u
 all_home t s u d h = λ i. record { world = h.world i; out = same_table number_keys d.out empty (λ k. h.out k) i }
 
--- One place more is kept.
-pub keeps_more : (t : Trace) (window : ℕ) (x : State (replayed t)) (replies : List Reply) (rounds : List ℕ) (done : List Bool) (k r : ℕ) (reply : Reply)
-    → k < places t → Keeps t window x replies rounds done → Some reply ≡ step_reply t k x.world → round_of (waves t window) k ≡ r
-    → Keeps t window (ran (replayed t) x k) (set replies k reply) (set rounds k r) (set done k true)
-keeps_more t window x replies rounds done k r reply lt h is in_round = record {
-  many_replies = length-set replies k reply ∙ h.many_replies;
-  many_rounds = length-set rounds k r ∙ h.many_rounds;
-  many_done = length-set done k true ∙ h.many_done;
-  finished = λ j o within e. kept j o within e (cases_eq j k);
-  is_done = λ j within. marked j within (cases_eq j k);
-}
-  where
-    many : (n : ℕ) → n ≡ places t → k < n
-    many n e = omega (arith, lt)
-
-    kept : (j : ℕ) (o : Option Reply) → j < places t → reply_of ((k, step_reply t k x.world) ∷ x.replies) j ≡ Some o → (j ≡ k) ⊎ (j ≢ k)
-        → (slice_get (set replies k reply) j ≡ o) × (slice_get (set rounds k r) j ≡ Some (round_of (waves t window) j))
-    kept j o within e (inl same) =
-        let mine : Some (step_reply t k x.world) ≡ Some o = sym (ap (reply_of ((k, step_reply t k x.world) ∷ x.replies)) same ∙ reply-here k (step_reply t k x.world) x.replies) ∙ e in
-        let found : step_reply t k x.world ≡ o = cc in (
-          ap (slice_get (set replies k reply)) same ∙ set-here replies k reply (many (length replies) h.many_replies) ∙ is ∙ found,
-          ap (slice_get (set rounds k r)) same ∙ set-here rounds k r (many (length rounds) h.many_rounds) ∙ ap Some (sym (ap (round_of (waves t window)) same ∙ in_round)),
-        )
-    kept j o within e (inr ne) =
-        let before = h.finished j o within (sym (reply-other j k (step_reply t k x.world) x.replies ne) ∙ e) in
-        (set-other replies k j reply ne ∙ before.0, set-other rounds k j r ne ∙ before.1)
-
-    marked : (j : ℕ) → j < places t → (j ≡ k) ⊎ (j ≢ k) → slice_get (set done k true) j ≡ Some (has (k ∷ x.finished) j)
-    marked j within (inl same) = ap (slice_get (set done k true)) same ∙ set-here done k true (many (length done) h.many_done) ∙ ap Some (sym (ap (has (k ∷ x.finished)) same ∙ has-here k x.finished))
-    marked j within (inr ne) = set-other done k j true ne ∙ h.is_done j within ∙ ap Some (sym (has-other j k x.finished ne))
-
--- While parts are put back: the machine's state that the places so far have led to, and what is left of the round.
+-- While parts are put back: what the places so far have led to, with the parts that are left still out.
 pub record Returns (t : Trace) (window r : ℕ) (ps : List Part) (d : Divided) (replies : List Reply) (rounds : List ℕ) (done : List Bool) : Type 0 where
   pub state : State (replayed t)
   pub out : AreOut t (state_after t window r).world state.world ps d
-  pub keeps : Keeps t window state replies rounds done
-  pub leads : run (replayed t) state (in_turn (parts.places ps)) ≡ state_after t window (r + 1)
-  pub settled : (k : ℕ) → has (parts.places ps) k ≡ true → (k < places t) × (round_of (waves t window) k ≡ r)
+  pub steps : Steps t window r (parts.places ps) state replies rounds done

@@ -6,10 +6,8 @@ use Rattle.std.specs.Option.{option_map}
 use Rattle.std.proofs.Math.ListN.{set}
 use Rattle.std.proofs.lemmas.Option.{slice_get-map, slice_get_within}
 use Rattle.deal_desk.specs.Desks.{AreValues}
-use Rattle.interleaving.specs.Machine.{State, has, run, opening}
-use Rattle.interleaving.specs.Rounds.{in_turn, round}
-use Rattle.interleaving.proofs.Members.{has-here, has-later}
-use Rattle.interleaving.proofs.Onwards.{ran, rounds-more}
+use Rattle.interleaving.specs.Machine.{State}
+use Rattle.interleaving.proofs.Onwards.{ran}
 use Rattle.trace_format.specs.declared.trace.Trace.{Trace}
 use Rattle.trace_format.specs.Steps.{places}
 use Rattle.trace_format.specs.Text.{IsSpelled}
@@ -19,50 +17,39 @@ use Rattle.op_meaning.specs.Step.{step_world, step_reply}
 use Rattle.op_meaning.specs.Runs.{run_on}
 use Rattle.foot_print.specs.Parts as parts
 use Rattle.foot_print.specs.Replayed.{replayed}
-use Rattle.wave_pick.proofs.Numbers.{number_is}
 use Rattle.replay_core.specs.declared.run.Run.{Run}
 use Rattle.replay_core.specs.Jobs.{AreOf, IsOutcome}
-use Rattle.wave_pick.specs.Rounds.{state_after, wave_after}
-use Rattle.replay_core.specs.Rounds.{parts_of, AreOut, AreDealt, Keeps}
+use Rattle.wave_pick.specs.Rounds.{state_after}
+use Rattle.replay_core.specs.Progressing.{parts_of, AreOut, AreDealt, Keeps}
 use Rattle.replay_core.proofs.Lists.{drop-here, get-some}
-use Rattle.replay_core.proofs.Choosing.{chosen_within}
-use Rattle.replay_core.proofs.Returning.{Returns, keeps_more, all_home, reply_is}
+use Rattle.replay_core.proofs.Stepping.{Steps, steps-begin, steps-on, steps-end}
+use Rattle.replay_core.proofs.Returning.{Returns, all_home, reply_is}
 
-module _ (t : Trace) (spelled : IsSpelled t) (window : ℕ) where
-  pub next_state : (r : ℕ) → round (replayed t) (places t) window (state_after t window r) ≡ state_after t window (r + 1)
-  next_state r =
-      let more : suc r ≡ r + 1 = omega arith in
-      sym (rounds-more (replayed t) (places t) window r (opening (replayed t))) ∙ ap (state_after t window) more
-
-  pub begins : (r : ℕ) (jobs : List Run) (d : Divided) (replies : List Reply) (rounds : List ℕ) (done : List Bool) → r < places t → AreDealt t window r jobs d
+module _ (t : Trace) (spelled : IsSpelled t) (window r : ℕ) where
+  pub begins : (jobs : List Run) (d : Divided) (replies : List Reply) (rounds : List ℕ) (done : List Bool) → r < places t → AreDealt t window r jobs d
       → Keeps t window (state_after t window r) replies rounds done → Returns t window r (parts_of jobs) d replies rounds done
-  begins r jobs d replies rounds done lt h keeps = record {
+  begins jobs d replies rounds done lt h keeps = record {
     state = state_after t window r;
     out = h.out;
-    keeps = keeps;
-    leads = ap (λ ks. run (replayed t) (state_after t window r) (in_turn ks)) h.wave ∙ next_state r;
-    settled = λ k m. let c : has (wave_after t window r) k ≡ true = ap (λ ks. has ks k) (sym h.wave) ∙ m in
-        ((chosen_within t spelled window r k c).0, number_is t window (places t) r (opening (replayed t)) k lt c);
+    steps = subst (λ ks. Steps t window r ks (state_after t window r) replies rounds done) (sym h.wave) (steps-begin t spelled window r replies rounds done lt keeps);
   }
 
-  pub goes_on : (r : ℕ) (p : Part) (ps : List Part) (d after : Divided) (replies : List Reply) (rounds : List ℕ) (done : List Bool) (reply : Reply) (back : Part)
+  pub goes_on : (p : Part) (ps : List Part) (d after : Divided) (replies : List Reply) (rounds : List ℕ) (done : List Bool) (reply : Reply) (back : Part)
       → (h : Returns t window r (p ∷ ps) d replies rounds done) → back ≡ run_on t p.place p → AreOut t (state_after t window r).world (step_world t p.place h.state.world) ps after
       → Some reply ≡ step_reply t p.place p.values
       → Returns t window r ps after (set replies p.place reply) (set rounds p.place r) (set done p.place true)
-  goes_on r p ps d after replies rounds done reply back h back_is out is =
-      let mine = h.settled p.place (has-here p.place (parts.places ps)) in
-      record {
-        state = ran (replayed t) h.state p.place;
-        out = out;
-        keeps = keeps_more t window h.state replies rounds done p.place r reply mine.0 h.keeps (is ∙ reply_is t (state_after t window r).world h.state.world p ps d back (record { out = h.out; run = back_is })) mine.1;
-        leads = h.leads;
-        settled = λ k m. h.settled k (has-later k p.place (parts.places ps) m);
-      }
+  goes_on p ps d after replies rounds done reply back h back_is out is = record {
+    state = ran (replayed t) h.state p.place;
+    out = out;
+    steps = steps-on t window r p.place (parts.places ps) h.state replies rounds done reply h.steps (is ∙ reply_is t (state_after t window r).world h.state.world p ps d back (record { out = h.out; run = back_is }));
+  }
 
-  pub ends : (r : ℕ) (d : Divided) (replies : List Reply) (rounds : List ℕ) (done : List Bool) → Returns t window r [] d replies rounds done
+  pub ends : (d : Divided) (replies : List Reply) (rounds : List ℕ) (done : List Bool) → Returns t window r [] d replies rounds done
       → Keeps t window (state_after t window (r + 1)) replies rounds done × (d ≡ whole (state_after t window (r + 1)).world)
-  ends r d replies rounds done h =
-      (subst (λ (x : State (replayed t)). Keeps t window x replies rounds done) h.leads h.keeps, all_home t (state_after t window r).world h.state.world d h.out ∙ ap (λ (x : State (replayed t)). whole x.world) h.leads)
+  ends d replies rounds done h = (
+    steps-end t window r h.state replies rounds done h.steps,
+    all_home t (state_after t window r).world h.state.world d h.out ∙ ap (λ (x : State (replayed t)). whole x.world) h.steps.leads,
+  )
 
 -- The outcome at a place of the list is that of the part there.
 pub record IsOutcomeAt (t : Trace) (jobs : List Run) (n : ℕ) (reply : Reply) (back : Part) : Type 0 where

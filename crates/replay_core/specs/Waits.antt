@@ -1,5 +1,5 @@
--- The model: for which place, and by which item, each place of a trace waited last. Below it, a view of code: a log of that.
-use Rattle.std.specs.Prelude.{◌≡◌, ℕ, zero, suc, ◌<◌, Bool, List, [], ◌∷◌, map, take, length, slice_get, slice_set, Option, Some, None, if◌then◌else◌}
+-- The model: for which place, and by which item, each place of a trace waited last.
+use Rattle.std.specs.Prelude.{◌≡◌, ℕ, zero, suc, Bool, map, take, Option, None, if◌then◌else◌}
 use Rattle.std.specs.List.{range_with_len}
 use Rattle.std.specs.Option.{option_map}
 use Rattle.interleaving.specs.Machine.{has}
@@ -33,17 +33,3 @@ waited_meant w = record { place = w.place; item = item_meant w.item }
 pub record IsRoundLog (t : Trace) (window : ℕ) (log : RoundLog) : Type 0 where
   pub rounds : log.rounds ≡ rounds t window
   pub waits : map (option_map waited_meant) log.waits ≡ map (waited_for t window) (range_with_len 0 (places t))
-
--- What a place that has finished after r rounds waited for last, or what one that hasn't waited for in the last of them.
-abbrev pub noted_after : Trace → ℕ → ℕ → ℕ → Option Holder
-noted_after t window r k = waited_before t window (if has (state_after t window r).finished k then round_of (waves t window) k else r) k
-
--- That is noted of each place.
-pub record AreNoted (t : Trace) (window r : ℕ) (waits : List (Option WaitedFor)) : Type 0 where
-  pub many : length waits ≡ places t
-  pub noted : (k : ℕ) → k < places t → slice_get (map (option_map waited_meant) waits) k ≡ Some (noted_after t window r k)
-
--- What is noted once these places, one after another, have been noted with their holders.
-abbrev pub noted : List (Option Holder) → List (ℕ × Holder) → List (Option Holder)
-noted ws [] = ws
-noted ws (p ∷ ps) = noted (slice_set ws p.0 (Some p.1)) ps

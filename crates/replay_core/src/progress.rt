@@ -1,23 +1,21 @@
 //! What a replay has after some of its rounds, and one round more.
-ghost use Rattle.std.specs.Prelude.{◌≡◌, ◌+◌, ◌-◌, ◌<◌, ◌≤◌, ◌⊎◌, ◌++◌, [], ◌↔◌, IsTrue, IfOk};
-ghost use Rattle.std.specs.Prelude.{OnOk, filter, length, map, not, replicate, slice_index_or};
-ghost use Rattle.std.specs.Prelude.{◌≢◌, ◌==◌, ℕ, Err, false, true};
-ghost use Rattle.std.specs.List.{range_with_len};
-ghost use Rattle.std.specs.List.Sorted.{IsStrictlyIncreasing};
+ghost use Rattle.std.specs.Prelude.{◌≡◌, ◌+◌, ◌-◌, ◌<◌, ◌≤◌, ◌⊎◌, [], ◌↔◌, IsTrue, IfOk};
+ghost use Rattle.std.specs.Prelude.{◌≢◌, Err, OnOk, false, length, map, replicate, set, true};
 ghost use Rattle.chain_plan.specs.Plan.{roles};
 ghost use Rattle.deal_desk.specs.Desks.{AreValues};
-ghost use Rattle.interleaving.specs.Machine.{has};
 ghost use Rattle.replay_core.specs.Jobs.{IsOutcome};
-ghost use Rattle.replay_core.specs.Rounds.{AreDealt, HasPicked, IsFront, IsReplay, IsSameRound};
-ghost use Rattle.replay_core.specs.Rounds.{KeptAfter, Stands, parts_of};
+ghost use Rattle.replay_core.specs.Progressing.{AreDealt, Begins, HasChosen, HasPicked, HasRun};
+ghost use Rattle.replay_core.specs.Progressing.{IsFront, IsSameRound, KeptAfter, Stands};
+ghost use Rattle.replay_core.specs.Rounds.{IsReplay};
 ghost use Rattle.trace_format.specs.Steps.{places};
 ghost use Rattle.trace_format.specs.Text.{IsSpelled};
 ghost use Rattle.wave_pick.specs.HeldBack.{held_among, held_meant};
 ghost use Rattle.wave_pick.specs.Rounds.{state_after, wave_after};
 ghost use Rattle.world_parts.specs.Part.{whole};
 
+use crate::front::{drop_ran, filled};
 use crate::gate::Gate;
-use crate::round::{RoundFault, run_round};
+use crate::round::{RoundFault, run_round, workers_worth};
 use crate::run::Run;
 use crate::serial::Replay;
 use chain_plan::Plan;
@@ -28,11 +26,8 @@ use std::snapshot::Snapshot;
 use std::sync::Wait;
 use std::thread::Threads;
 use trace_format::{Series, Trace};
-use wave_pick::{Held, Scheduler, held_back};
+use wave_pick::{Held, Scheduler, Wave, held_back};
 use world_parts::{Part, World};
-
-/// A round of at most so many places has each of them looked for in the front.
-const FEW: usize = 8;
 
 /// What a replay has after its rounds so far.
 #[derive(Drop)]
@@ -42,6 +37,8 @@ pub(crate) struct Progress {
     /// How many rounds there have been.
     round: u32,
     world: World,
+    /// Has all of the world while a round runs on it, and else nothing.
+    spare: Part,
     /// The reply and the round of each place that is done.
     replies: Vec<Reply>,
     rounds: Vec<u32>,
@@ -54,75 +51,16 @@ pub(crate) struct Progress {
     scheduler: Scheduler,
 }
 
-/// Drops the places that are done.
-fn drop_done(front: &mut Vec<u32>, done: &[bool])
-    ensures { front.new.items ≡ filter (λ k. not (slice_index_or done.now k false)) front.old.items }
+/// The places of a round, without their footprints.
+fn places_of(alloc: Global, wave: &Wave) -> Result<Vec<u32>, AllocError>
+    ensures { IfOk result (λ ran. ran.items ≡ map (λ chosen. chosen.place) wave.now.places) }
 {
-    front.retain(|place| done.get(*place as usize) != Some(&true));
-}
-
-/// Drops one place.
-fn drop_place(front: &mut Vec<u32>, place: u32)
-    requires { IsStrictlyIncreasing front.old.items }
-    ensures { front.new.items ≡ filter (λ k. not (k == place)) front.old.items }
-{
-    if let Ok(index) = front.binary_search(&place) {
-        front.remove(index);
-    }
-}
-
-/// Drops some places.
-fn drop_each(front: &mut Vec<u32>, places: &[u32])
-    requires { IsStrictlyIncreasing front.old.items }
-    ensures { front.new.items ≡ filter (λ k. not (has places.now k)) front.old.items }
-{
-    for place in places {
-        drop_place(front, *place);
-    }
-}
-
-/// Drops the places that are done, which are those of the front that a round ran.
-fn drop_ran(front: &mut Vec<u32>, ran: &[u32], done: &[bool])
-    requires rises { IsStrictlyIncreasing front.old.items }
-    requires ran { (k : ℕ) → has front.old.items k ≡ true
-        → slice_index_or done.now k false ≡ has ran.now k }
-    ensures { front.new.items ≡ filter (λ k. not (slice_index_or done.now k false)) front.old.items }
-{
-    if ran.len() <= FEW {
-        drop_each(front, ran);
-    } else {
-        drop_done(front, done);
-    }
-}
-
-/// The places of the jobs of a round.
-fn places_of(alloc: Global, jobs: &[Run]) -> Result<Vec<u32>, AllocError>
-    ensures { IfOk result (λ ran. ran.items ≡ map (λ p. p.place) (parts_of jobs.now)) }
-{
-    let mut ran = Vec::with_capacity(alloc, jobs.len())?;
-    for job in jobs {
-        ran.push(job.part.place)?;
+    let chosen_there = wave.places.as_slice();
+    let mut ran = Vec::with_capacity(alloc, chosen_there.len())?;
+    for chosen in chosen_there {
+        ran.push(chosen.place)?;
     }
     Ok(ran)
-}
-
-/// Fills a front of places up to the window, and gives the first place behind it.
-fn filled(front: &mut Vec<u32>, next: u32, places: u32, window: u32) -> Result<u32, AllocError>
-    requires next { next ≤ places }
-    requires few { length front.old.items ≤ window }
-    ensures within { IfOk result (λ behind. (next ≤ behind) × (behind ≤ places)) }
-    ensures more { IfOk result (λ behind. front.new.items ≡ front.old.items
-        ++ range_with_len next (behind - next)) }
-    ensures few { OnOk result (length front.new.items ≤ window) }
-    ensures full { IfOk result (λ behind. (length front.new.items ≡ window) ⊎ (behind ≡ places)) }
-{
-    for place in next..places {
-        if front.len() >= window as usize {
-            return Ok(place);
-        }
-        front.push(place)?;
-    }
-    Ok(places)
 }
 
 /// A reply for each place, of which nothing is said.
@@ -176,11 +114,13 @@ impl Progress {
         let done = none_done(alloc, places)?;
         let replies = blank_replies(alloc, places)?;
         let world = World::of(alloc, trace)?;
+        let spare = Part::nothing(alloc, 0)?;
         let scheduler = Scheduler::new(alloc, trace)?;
         Ok(Progress {
             window,
             round: 0,
             world,
+            spare,
             replies,
             rounds,
             done,
@@ -221,27 +161,84 @@ impl Progress {
         )
     }
 
-    /// The jobs of the next round: its places in order, each with its part, which is cut out of the
-    /// world.
-    fn deal(&mut self, alloc: Global, trace: &Trace, plan: &Plan) -> Result<Vec<Run>, AllocError>
+    /// The places of the next round, each with its footprint.
+    fn pick(&mut self, alloc: Global, trace: &Trace, plan: &Plan) -> Result<Wave, AllocError>
         requires trace { IsSpelled trace.now }
         requires plan { plan.now ≡ roles trace.now }
         requires round { self.old.round < places trace.now }
         requires stands { Stands trace.now self.old }
-        ensures dealt { IfOk result
-            (λ jobs. AreDealt trace.now self.old.window self.old.round jobs.items self.new.world) }
+        ensures wave { IfOk result (HasChosen trace.now self.old) }
         ensures picked { OnOk result (HasPicked trace.now (self.old.round + 1) self.new) }
-        ensures rest { OnOk result (self.new
-            ≡ record self.old { world = self.new.world; scheduler = self.new.scheduler }) }
+        ensures rest { OnOk result (self.new ≡ record self.old { scheduler = self.new.scheduler }) }
     {
-        let wave = self.scheduler.pick(
+        self.scheduler.pick(
             alloc,
             trace,
             plan,
             &self.world,
             self.front.as_slice(),
             self.window,
-        )?;
+        )
+    }
+
+    /// Keeps the reply of a place that the round has run.
+    fn keep(&mut self, place: u32, reply: Reply)
+        requires replies { place < length self.old.replies.items }
+        requires rounds { place < length self.old.rounds.items }
+        requires done { place < length self.old.done.items }
+        ensures replies { self.new.replies.items ≡ set self.old.replies.items place reply }
+        ensures rounds { self.new.rounds.items ≡ set self.old.rounds.items place self.old.round }
+        ensures done { self.new.done.items ≡ set self.old.done.items place true }
+        ensures worlds { (self.new.world ≡ self.old.world) × (self.new.spare ≡ self.old.spare) }
+        ensures rest { IsSameRound self.old self.new }
+    {
+        let index = place as usize;
+        self.replies[index] = reply;
+        self.rounds[index] = self.round;
+        self.done[index] = true;
+    }
+
+    /// Runs the places of a round one after another on all of the world.
+    fn run_here<G: Gate>(
+        &mut self,
+        alloc: Global,
+        trace: &Trace,
+        plan: &Plan,
+        gate: &G,
+        ran: &[u32],
+    ) -> Result<(), AllocError>
+        requires trace { IsSpelled trace.now }
+        requires plan { plan.now ≡ roles trace.now }
+        requires round { self.old.round < places trace.now }
+        requires begins { Begins trace.now self.old }
+        requires ran { ran.now ≡ wave_after trace.now self.old.window self.old.round }
+        ensures ran { OnOk result (HasRun trace.now self.old self.new) }
+    {
+        self.world.exchange(&mut self.spare);
+        for place in ran {
+            let reply = gate.run(alloc, *place, trace, &plan.role(*place), &mut self.spare)?;
+            self.keep(*place, reply);
+        }
+        self.world.exchange(&mut self.spare);
+        Ok(())
+    }
+
+    /// The jobs of a round: its places in order, each with its part, which is cut out of the world.
+    fn deal(
+        &mut self,
+        alloc: Global,
+        trace: &Trace,
+        plan: &Plan,
+        wave: Wave,
+    ) -> Result<Vec<Run>, AllocError>
+        requires trace { IsSpelled trace.now }
+        requires plan { plan.now ≡ roles trace.now }
+        requires begins { Begins trace.now self.old }
+        requires wave { HasChosen trace.now self.old wave }
+        ensures dealt { IfOk result
+            (λ jobs. AreDealt trace.now self.old.window self.old.round jobs.items self.new.world) }
+        ensures rest { OnOk result (self.new ≡ record self.old { world = self.new.world }) }
+    {
         let mut jobs = Vec::new(alloc);
         for chosen in wave.places.into_vec() {
             let part = self.world.cut(alloc, chosen.place, chosen.footprint)?;
@@ -268,20 +265,71 @@ impl Progress {
         requires dealt { AreDealt trace.now self.old.window self.old.round jobs.value.items self.old.world }
         requires outcomes { AreValues
             (λ run d. IsOutcome run.trace.value run.part d) jobs.value.items outcomes.items }
-        ensures keeps { OnOk result (KeptAfter trace.now (self.old.round + 1) self.new) }
-        ensures world { OnOk result (self.new.world
-            ≡ whole (state_after trace.now self.old.window (self.old.round + 1)).world) }
-        ensures rest { OnOk result (IsSameRound self.old self.new) }
+        ensures ran { OnOk result (HasRun trace.now self.old self.new) }
     {
         for outcome in outcomes {
             let (reply, part) = outcome?;
-            let place = part.place as usize;
+            let place = part.place;
             self.world.put(alloc, part)?;
-            self.replies[place] = reply;
-            self.rounds[place] = self.round;
-            self.done[place] = true;
+            self.keep(place, reply);
         }
         Ok(())
+    }
+
+    /// Runs the places of a round on parts of the world, this thread and so many helpers.
+    fn run_apart<R: Threads + Wait + Sync, G: Gate + Sync>(
+        &mut self,
+        rt: &R,
+        alloc: Global,
+        trace: &Trace,
+        plan: &Plan,
+        gate: &G,
+        wave: Wave,
+        helpers: u32,
+    ) -> Result<(), RoundFault>
+        requires trace { IsSpelled trace.now }
+        requires plan { plan.now ≡ roles trace.now }
+        requires helpers { helpers < 64 }
+        requires round { self.old.round < places trace.now }
+        requires begins { Begins trace.now self.old }
+        requires wave { HasChosen trace.now self.old wave }
+        ensures ran { OnOk result (HasRun trace.now self.old self.new) }
+    {
+        let jobs = self.deal(alloc, trace, plan, wave)?;
+        let dealt = Snapshot::of(&jobs);
+        let outcomes = run_round(rt, alloc, jobs, helpers, trace, gate)?;
+        self.gather(alloc, trace, dealt, outcomes)?;
+        Ok(())
+    }
+
+    /// Runs the places of a round: on parts of the world where the round is worth a thread beside
+    /// this one, else on all of it.
+    fn run_wave<R: Threads + Wait + Sync, G: Gate + Sync>(
+        &mut self,
+        rt: &R,
+        alloc: Global,
+        trace: &Trace,
+        plan: &Plan,
+        workers: u32,
+        gate: &G,
+        wave: Wave,
+        ran: &[u32],
+    ) -> Result<(), RoundFault>
+        requires trace { IsSpelled trace.now }
+        requires plan { plan.now ≡ roles trace.now }
+        requires workers { workers ≤ 64 }
+        requires round { self.old.round < places trace.now }
+        requires begins { Begins trace.now self.old }
+        requires wave { HasChosen trace.now self.old wave }
+        requires ran { ran.now ≡ wave_after trace.now self.old.window self.old.round }
+        ensures ran { OnOk result (HasRun trace.now self.old self.new) }
+        ensures alone { workers ≤ 1 → result ≢ Err RoundFault.NoThread }
+    {
+        let helpers = workers_worth(ran, workers, trace, gate).saturating_sub(1);
+        if helpers == 0 {
+            return Ok(self.run_here(alloc, trace, plan, gate, ran)?);
+        }
+        self.run_apart(rt, alloc, trace, plan, gate, wave, helpers)
     }
 
     /// Looks on to the places that the next round may run.
@@ -325,11 +373,9 @@ impl Progress {
             × (self.new.round ≡ self.old.round + 1)) }
         ensures alone { workers ≤ 1 → result ≢ Err RoundFault.NoThread }
     {
-        let jobs = self.deal(alloc, trace, plan)?;
-        let dealt = Snapshot::of(&jobs);
-        let ran = places_of(alloc, jobs.as_slice())?;
-        let outcomes = run_round(rt, alloc, jobs, workers, trace, gate)?;
-        self.gather(alloc, trace, dealt, outcomes)?;
+        let wave = self.pick(alloc, trace, plan)?;
+        let ran = places_of(alloc, &wave)?;
+        self.run_wave(rt, alloc, trace, plan, workers, gate, wave, ran.as_slice())?;
         self.advance(trace, ran.as_slice())?;
         Ok(())
     }

@@ -1,10 +1,11 @@
 //! A round: its jobs dealt to workers, and their outcomes in order.
 ghost use Rattle.std.specs.Prelude.{◌≡◌, ◌+◌, ◌<◌, ◌≤◌, ◌^◌, None, true, false, length, IfOk};
-ghost use Rattle.std.specs.Prelude.{◌≢◌, Err, IfSome};
+ghost use Rattle.std.specs.Prelude.{All, IfSome};
 ghost use Rattle.deal_desk.specs.Desks.{hand_of, jobs_of, IsSeatOf, AreValues};
 ghost use Rattle.replay_core.specs.Jobs.{AreOf, IsOutcome};
 ghost use Rattle.replay_core.specs.Seats.{IsWorked, Grew};
 ghost use Rattle.replay_core.specs.declared.round.RoundFault.TheVariants.{Memory};
+ghost use Rattle.trace_format.specs.Steps.{places};
 ghost use Rattle.trace_format.specs.Text.{IsSpelled};
 
 use crate::gate::Gate;
@@ -107,46 +108,39 @@ fn fan_out<'s, E, R: Threads, G: Gate + Sync>(
     all
 }
 
-/// How many workers a round is worth: one for each [`WORTH_A_THREAD`] that its jobs weigh, at least
-/// one, and no more than it has jobs, nor than `workers`.
-fn workers_worth<G: Gate>(jobs: &[Run], workers: u32, trace: &Trace, gate: &G) -> u32
-    requires spelled { IsSpelled trace.now }
-    requires trace { AreOf trace.now jobs.now }
+/// How many workers a round is worth: one for each [`WORTH_A_THREAD`] that its places weigh, at
+/// least one, and no more than it has places, nor than `workers`.
+pub(crate) fn workers_worth<G: Gate>(ran: &[u32], workers: u32, trace: &Trace, gate: &G) -> u32
+    requires trace { IsSpelled trace.now }
+    requires ran { All (λ k. k < places trace.now) ran.now }
     ensures few { result ≤ workers }
 {
     let mut weight = 0u64;
-    for run in jobs {
-        weight = weight.saturating_add(gate.weight(trace, run.part.place));
+    for place in ran {
+        weight = weight.saturating_add(gate.weight(trace, *place));
     }
-    let worth = (weight / WORTH_A_THREAD).min(jobs.len() as u64).max(1);
+    let worth = (weight / WORTH_A_THREAD).min(ran.len() as u64).max(1);
     worth.min(u64::from(workers)) as u32
 }
 
-/// Deals the jobs of a round to as many workers as it is worth, but no more than `workers`, and
-/// gives their outcomes in order. This thread is the first of the workers, and each other one is a
-/// thread of its own.
+/// Deals the jobs of a round to this thread and to so many helpers, each a thread of its own, and
+/// gives their outcomes in order.
 pub(crate) fn run_round<R: Threads + Wait + Sync, G: Gate + Sync>(
     rt: &R,
     alloc: Global,
     jobs: Vec<Run>,
-    workers: u32,
+    helpers: u32,
     trace: &Trace,
     gate: &G,
 ) -> Result<Vec<Result<(Reply, Part), AllocError>>, RoundFault>
     requires spelled { IsSpelled trace.now }
     requires trace { AreOf trace.now jobs.items }
     requires few { length jobs.items < 2 ^ 32 }
-    requires workers { workers ≤ 64 }
+    requires helpers { helpers < 64 }
     ensures outcomes { IfOk result (λ v. AreValues
         (λ run d. IsOutcome run.trace.value run.part d) jobs.items v.items) }
-    ensures alone { workers ≤ 1 → result ≢ Err RoundFault.NoThread }
 {
-    let helpers = workers_worth(jobs.as_slice(), workers, trace, gate).saturating_sub(1);
-    let (desk, mut opening) = Desk::new(alloc, jobs)?;
-    if helpers == 0 {
-        work(alloc, &desk, &mut opening, trace, gate);
-        return Ok(desk.close(alloc, opening)?);
-    }
+    let (desk, opening) = Desk::new(alloc, jobs)?;
     let shared = &desk;
     let merged = thread::scope(
         thread::scope_env(),

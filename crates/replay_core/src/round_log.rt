@@ -3,8 +3,9 @@ ghost use Rattle.std.specs.Prelude.{◌≡◌, ◌≢◌, ◌+◌, ◌≤◌, �
 ghost use Rattle.std.specs.Prelude.{length, map, replicate};
 ghost use Rattle.std.specs.Option.{option_map};
 ghost use Rattle.chain_plan.specs.Plan.{roles};
-ghost use Rattle.replay_core.specs.Rounds.{Stands};
-ghost use Rattle.replay_core.specs.Waits.{AreNoted, IsRoundLog, noted, waited_meant};
+ghost use Rattle.replay_core.specs.Progressing.{Stands};
+ghost use Rattle.replay_core.specs.Waits.{IsRoundLog, waited_meant};
+ghost use Rattle.replay_core.specs.Noted.{AreNoted, noted};
 ghost use Rattle.trace_format.specs.Steps.{places};
 ghost use Rattle.trace_format.specs.Text.{IsSpelled};
 ghost use Rattle.wave_pick.specs.HeldBack.{held_meant};

@@ -27,7 +27,8 @@ use Rattle.replay_program.specs.declared.words.Task.{Task}
 use Rattle.replay_program.specs.declared.words.Task.TheVariants.{Replay, Diff}
 use Rattle.replay_program.specs.declared.words.UsageKind.{UsageKind}
 use Rattle.replay_program.specs.declared.words.UsageKind.TheVariants.{Memory}
-use Rattle.replay_program.specs.Words.{AreFound, AreRoundOptions, AskFor, AskForHelp, AskForMode, HasNumbers, IsFound, IsNumberOption, IsWindow, dot_words, flag_text, kind_meant, replayer, sums_words, text_in}
+use Rattle.replay_program.specs.Words.{AreFound, AreRoundOptions, AskFor, AskForHelp, AskForMode, HasNumbers, IsFound, IsNumberOption, dot_words, flag_text, kind_meant, replayer, sums_words, text_in}
+use Rattle.replay_program.specs.Limits.{IsWindow}
 use Rattle.replay_program.proofs.NumberWords.{accepted, number_is_value}
 use Rattle.replay_program.proofs.OptionWalk.{at, level_by_parts, stopped_at, stopped_passes, stopped_walk, takes_by_parts}
 use Rattle.replay_program.proofs.RoundWords.{HasSums, IsTaken, Leaves, LeavesWindow, compare_both, compare_none, compare_window, compare_workers, leaf, rounds_none, rounds_window, run_both, run_none, run_window, run_workers}

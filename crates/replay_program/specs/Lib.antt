@@ -1,5 +1,6 @@
-pub mod Runs
 pub mod Diffs
+pub mod Limits
+pub mod Runs
 pub mod Status
 pub mod Transfer
 pub mod Words

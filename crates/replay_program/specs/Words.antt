@@ -1,5 +1,5 @@
 -- The model: the words of the command line, and the answers to them.
-use Rattle.std.specs.Prelude.{◌≡◌, ◌⊎◌, ◌≤◌, ⊤, ℕ, pos, Bool, true, false, List, [], ◌∷◌, ◌++◌, map, Option, Some, codes, Result, MatchResult, IsErrAnd, Contains}
+use Rattle.std.specs.Prelude.{◌≡◌, ◌⊎◌, ⊤, ℕ, pos, Bool, true, false, List, [], ◌∷◌, ◌++◌, map, Option, Some, codes, Result, MatchResult, IsErrAnd, Contains}
 use Rattle.std.specs.Option.{option_and_then, option_map}
 use Rattle.std.specs.Fmt.{decimal}
 use Rattle.clap.specs.Words.{App, Row, Rule, new_app, new_rule, app_of, one_of, rule_of, with_rule, with_subcommand}
@@ -19,21 +19,7 @@ use Rattle.replay_program.specs.declared.words.Usage.{Usage}
 use Rattle.replay_program.specs.declared.words.UsageKind.{UsageKind}
 use Rattle.replay_report.specs.Report.{escaped}
 use Rattle.replay_program.specs.declared.words.UsageKind.TheVariants.{Help, Wrong, Memory}
-
--- The numbers of workers and of places are within their limits.
-abbrev pub IsWindow : ℕ → Type 0
-IsWindow window = (1 ≤ window) × (window ≤ 4096)
-
-abbrev pub AreServed : ℕ → ℕ → Type 0
-AreServed workers window = (1 ≤ workers) × (workers ≤ 64) × (1 ≤ window) × (window ≤ 4096)
-
--- The numbers that a mode asks for are within their limits.
-abbrev pub IsServed : Mode → Type 0
-IsServed Serial = ⊤
-IsServed (Run workers window) = AreServed workers window
-IsServed (Compare workers window) = AreServed workers window
-IsServed (Rounds window dot) = IsWindow window
-IsServed Check = ⊤
+use Rattle.replay_program.specs.Limits.{IsWindow, AreServed, IsServed}
 
 abbrev pub IsServedTask : Task → Type 0
 IsServedTask (Replay options) = IsServed options.mode

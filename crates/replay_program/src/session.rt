@@ -15,7 +15,7 @@ ghost use Rattle.replay_program.specs.Runs.{WritesOutput, WritesPart, most_taken
 ghost use Rattle.replay_program.specs.Runs.{read_failures, rounds_output, sequential_report};
 ghost use Rattle.replay_program.specs.Runs.{verdict_line, write_failures};
 ghost use Rattle.replay_program.specs.Transfer.{AppendsPart, ConsumesUpTo};
-ghost use Rattle.replay_program.specs.Words.{IsServed, IsWindow};
+ghost use Rattle.replay_program.specs.Limits.{IsServed, IsWindow};
 
 use crate::fault::RunFault;
 use crate::transfer::{Sink, Source, TextFault, read_text, write_text};

@@ -93,7 +93,7 @@ impl Gate for Refusing {
 
 /// Runs each place on a worker of its own, as far as there are so many.
 #[derive(Drop)]
-struct Eager;
+pub(crate) struct Eager;
 
 impl Gate for Eager {
     fn run(

@@ -5,14 +5,16 @@ ghost use Rattle.chain_plan.specs.Plan.{roles};
 ghost use Rattle.trace_format.specs.Steps.{places};
 ghost use Rattle.trace_format.specs.Text.{IsSpelled};
 
+use crate::rounds::Eager;
 use crate::text::{
     Submitted, close, flagged, nop, open, read, read_descriptor, rename, trace_behind, unlink,
     write,
 };
 use chain_plan::Plan;
 use op_meaning::run_on_state;
-use replay_core::NoGate;
+use replay_core::comparing::verdict;
 use replay_core::parallel::replay;
+use replay_core::{Replay, Verdict, replay_serial};
 use sqe_codec::{IO_DRAIN, IO_LINK};
 use std::alloc::{AllocError, Global};
 use std::sync::Wait;
@@ -115,7 +117,18 @@ fn plain_rounds(alloc: Global, trace: &Trace, window: u32) -> Result<Vec<u32>, F
     Ok(rounds.of_places)
 }
 
-/// Whether a replay has those rounds.
+/// Whether a replay gives what one place after another gives.
+fn is_serial(alloc: Global, trace: &Trace, replayed: &Replay) -> bool
+    requires { IsSpelled trace.now }
+{
+    match replay_serial(alloc, trace) {
+        Ok(serial) => matches!(verdict(&serial, replayed), Verdict::Equal),
+        Err(_) => false,
+    }
+}
+
+/// Whether a replay has those rounds, and gives what one place after another gives. Each place of
+/// it is worth a thread, so it runs on parts.
 fn is_same<R: Threads + Wait + Sync>(
     rt: &R,
     alloc: Global,
@@ -125,8 +138,10 @@ fn is_same<R: Threads + Wait + Sync>(
     requires { IsSpelled trace.now }
 {
     let plain = plain_rounds(alloc, trace, window)?;
-    match replay(rt, alloc, trace, 1, window, &NoGate) {
-        Ok(replayed) => Ok(replayed.rounds.as_slice() == plain.as_slice()),
+    match replay(rt, alloc, trace, 2, window, &Eager) {
+        Ok(replayed) => Ok(
+            replayed.rounds.as_slice() == plain.as_slice() && is_serial(alloc, trace, &replayed),
+        ),
         Err(_) => Err(Fail::from("no replay")),
     }
 }

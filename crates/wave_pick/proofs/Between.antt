@@ -21,7 +21,7 @@ use Rattle.wave_pick.specs.Lawful.{lawful}
 use Rattle.wave_pick.specs.Picking.{chosen_at, free_from}
 use Rattle.wave_pick.specs.Rounds.{state_after, wave_after}
 use Rattle.wave_pick.specs.Scheduling.{AreFirst, Covers, HasReach, HasRoom, HaveSeen, IsAgain, IsIndex, IsKnown, Releases, Remembers, RestsListed, RestsStill}
-use Rattle.wave_pick.specs.Waiting.{Waits, world_after, footprint_after, reaches_after, reach_after}
+use Rattle.wave_pick.specs.Holds.{Waits, world_after, footprint_after, reaches_after, reach_after}
 use Rattle.wave_pick.specs.declared.scheduler.Scheduler.{Scheduler}
 use Rattle.wave_pick.specs.declared.wave.Chosen.{Chosen}
 use Rattle.wave_pick.proofs.Knowing.{covers_each}

@@ -8,7 +8,8 @@ use lib.Dec.{ltb→lt, lt→ltb, leb→le, le→leb, eqb→eq}
 use Rattle.world_parts.specs.Items.{Atom, size_of, byte_at, name_at, names_in, position_of, description_at, descriptor_at, buffer_byte, Item, one, file_bytes, buffer_bytes, all_names, all_bytes_and_sizes, all_positions, all_descriptions, all_descriptors, within, member_of, share, Use, Footprint, same_atom}
 use Rattle.world_parts.proofs.Collision.{both, left, right, same_atom-eq}
 use Rattle.world_parts.proofs.Sharing.{holds_true}
-use Rattle.wave_pick.specs.Holding.{shared_item, shared_by, shared_with, shared_of, SharedIsBoth, SharedWhereColliding}
+use Rattle.wave_pick.specs.Holding.{shared_item, shared_by, shared_with, shared_of}
+use Rattle.wave_pick.specs.Holders.{SharedIsBoth, SharedWhereColliding}
 use Rattle.wave_pick.proofs.Clear.{same_by}
 
 -- An offset of two ranges lies in the range that is in both, and the other way round.

@@ -27,7 +27,8 @@ use Rattle.foot_print.proofs.Cover.{all_covered}
 use Rattle.foot_print.proofs.Lawful.{row_laws}
 use Rattle.wave_pick.specs.Lawful.{lawful}
 use Rattle.wave_pick.specs.Rounds.{state_after}
-use Rattle.wave_pick.specs.Waiting.{Waits, world_after, reaches_after, reach_after, look_after, DecidingBegins}
+use Rattle.wave_pick.specs.Waiting.{look_after, DecidingBegins}
+use Rattle.wave_pick.specs.Holds.{Waits, world_after, reaches_after, reach_after}
 use Rattle.wave_pick.proofs.Looked.{append_nothing}
 use Rattle.wave_pick.proofs.Staying.{between_rounds, waited}
 use Rattle.wave_pick.proofs.Waiting.{unmet_stays, value_stays, row_in_reach}

@@ -13,7 +13,8 @@ use Rattle.world_parts.specs.Items.{Item, Footprint, collide}
 use Rattle.op_meaning.specs.Footprint.{footprint}
 use Rattle.foot_print.specs.Replayed.{replayed}
 use Rattle.wave_pick.specs.Rounds.{state_after}
-use Rattle.wave_pick.specs.Holding.{shared_of, Holder, reach_in, latest_in, holder_in, HoldersHoldBack, NoneIsHeldBack}
+use Rattle.wave_pick.specs.Holding.{shared_of, Holder, reach_in, latest_in, holder_in}
+use Rattle.wave_pick.specs.Holders.{HoldersHoldBack, NoneIsHeldBack}
 use Rattle.wave_pick.proofs.Both.{shared_where_colliding}
 
 -- The last of some numbers that pass a test.

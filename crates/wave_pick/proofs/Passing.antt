@@ -18,7 +18,7 @@ use Rattle.wave_pick.specs.Picking.{free_from, reaches_from}
 use Rattle.wave_pick.specs.Resting.{RestsOn, StaysAsIs}
 use Rattle.wave_pick.specs.Rounds.{state_after}
 use Rattle.wave_pick.specs.Scheduling.{AddsReach, AreBefore, AreFirst, Covers, HasReach, HasRoom, HaveReaches, HaveSeen, IsAgain, IsIndex, IsKnown, IsListed, IsSameRound, IsView, Keeps, RestsListed, RestsStill, Sees}
-use Rattle.wave_pick.specs.Waiting.{HoldsBack, Waits, world_after, footprint_after, reaches_after, reach_after}
+use Rattle.wave_pick.specs.Holds.{HoldsBack, Waits, world_after, footprint_after, reaches_after, reach_after}
 use Rattle.wave_pick.specs.declared.scheduler.Scheduler.{Scheduler}
 use Rattle.wave_pick.specs.declared.scheduler.View.{View}
 use Rattle.wave_pick.proofs.Knowing.{covers_still, index_covers, index_grew, set_apart, set_there}

@@ -16,7 +16,8 @@ use Rattle.foot_print.proofs.Holding.{drop_false}
 use Rattle.foot_print.proofs.Writing.{not_false, atom_of_writes, unwritten}
 use Rattle.wave_pick.specs.Lawful.{lawful}
 use Rattle.wave_pick.specs.Rounds.{state_after, wave_after}
-use Rattle.wave_pick.specs.Waiting.{Waits, world_after, footprint_after, reaches_after, reach_after, Settled, HoldsBack}
+use Rattle.wave_pick.specs.Waiting.{Settled}
+use Rattle.wave_pick.specs.Holds.{Waits, world_after, footprint_after, reaches_after, reach_after, HoldsBack}
 use Rattle.wave_pick.specs.Resting.{StaysAsIs, RestsOn, RestsUnmet, RestsOnStays}
 use Rattle.wave_pick.proofs.Staying.{waited}
 use Rattle.wave_pick.proofs.Waiting.{row_stays, witness_holds}

@@ -9,7 +9,8 @@ use Rattle.foot_print.specs.Outlook.{IsFirstWritten}
 use Rattle.foot_print.specs.Reach.{written_by, is_met, is_taken_to_run, order_of}
 use Rattle.foot_print.proofs.Agreement.{in_left, in_right}
 use Rattle.foot_print.proofs.Holding.{split}
-use Rattle.wave_pick.specs.Waiting.{Waits, world_after, reaches_after, reach_after, look_after, IsDecided, WritesRow, accepted_after, wide_after, row_after}
+use Rattle.wave_pick.specs.Waiting.{look_after, IsDecided, WritesRow, accepted_after, wide_after, row_after}
+use Rattle.wave_pick.specs.Holds.{Waits, world_after, reaches_after, reach_after}
 use Rattle.wave_pick.specs.Resting.{StaysAsIs, RestsOn, WritesForAll, RestsDecided, RestsUndecided, RestsByItems}
 use Rattle.wave_pick.proofs.Deciding.{deciding_begins}
 use Rattle.wave_pick.proofs.Resting.{met_before, same_reach, rests_on}

@@ -20,7 +20,8 @@ use Rattle.foot_print.proofs.Holding.{drop_false}
 use Rattle.foot_print.proofs.Unmet.{canceled_linked}
 use Rattle.foot_print.proofs.Writing.{is_false, not_false, atom_of_writes, written_thin}
 use Rattle.wave_pick.specs.Lawful.{lawful}
-use Rattle.wave_pick.specs.Waiting.{Waits, world_after, footprint_after, reaches_after, reach_after, HoldsBack, WritesRow, ChainIsSettled, descriptors_wait, ReachRowsStay}
+use Rattle.wave_pick.specs.Waiting.{WritesRow, ChainIsSettled, descriptors_wait, ReachRowsStay}
+use Rattle.wave_pick.specs.Holds.{Waits, world_after, footprint_after, reaches_after, reach_after, HoldsBack}
 use Rattle.wave_pick.specs.Resting.{StaysAsIs, WritesForAll}
 use Rattle.wave_pick.proofs.Orders.{writes_chain}
 use Rattle.wave_pick.proofs.Resting.{written_before, stays_before, same_reach}

@@ -33,7 +33,7 @@ use Rattle.wave_pick.specs.Grounds.{writes_chain, IsGround, RestsOnGround}
 use Rattle.wave_pick.specs.Rounds.{state_after}
 use Rattle.wave_pick.specs.Scheduling.{AreBefore, IsBehind, IsView, RestsOnOne}
 use Rattle.wave_pick.specs.declared.scheduler.Scheduler.{Scheduler}
-use Rattle.wave_pick.specs.Waiting.{Waits, world_after, footprint_after, reaches_after, reach_after}
+use Rattle.wave_pick.specs.Holds.{Waits, world_after, footprint_after, reaches_after, reach_after}
 use Rattle.wave_pick.specs.declared.scheduler.Ground.TheVariants.{Collides}
 use Rattle.wave_pick.proofs.Clear.{clear_is, meets_all}
 use Rattle.wave_pick.proofs.Resting.{rests_unmet}

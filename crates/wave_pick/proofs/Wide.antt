@@ -22,7 +22,8 @@ use Rattle.foot_print.proofs.Lawful.{row_laws}
 use Rattle.foot_print.proofs.RowsSeen.{room_same}
 use Rattle.foot_print.proofs.Writing.{unwritten}
 use Rattle.wave_pick.specs.Lawful.{lawful}
-use Rattle.wave_pick.specs.Waiting.{Waits, world_after, reaches_after, reach_after, look_after, descriptors_wait, ReachRowsStay, WideStays}
+use Rattle.wave_pick.specs.Waiting.{look_after, descriptors_wait, ReachRowsStay, WideStays}
+use Rattle.wave_pick.specs.Holds.{Waits, world_after, reaches_after, reach_after}
 use Rattle.wave_pick.proofs.Staying.{keeps_value}
 use Rattle.wave_pick.proofs.Waiting.{value_stays, row_in_reach, reach_of_decided, look_next}
 

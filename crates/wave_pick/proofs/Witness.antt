@@ -23,7 +23,8 @@ use Rattle.foot_print.proofs.ReachRows.{footprint_is_by_rows}
 use Rattle.foot_print.proofs.Unmet.{unmet_part}
 use Rattle.wave_pick.specs.Lawful.{lawful}
 use Rattle.wave_pick.specs.Rounds.{state_after}
-use Rattle.wave_pick.specs.Waiting.{world_after, footprint_after, reaches_after, reach_after, look_after, row_after, DecidingInRow, RowWitnessHolds, RowWitnessStays}
+use Rattle.wave_pick.specs.Waiting.{look_after, row_after, DecidingInRow, RowWitnessHolds, RowWitnessStays}
+use Rattle.wave_pick.specs.Holds.{world_after, footprint_after, reaches_after, reach_after}
 use Rattle.wave_pick.proofs.Clear.{share_same}
 use Rattle.wave_pick.proofs.Made.{made_unmet}
 use Rattle.wave_pick.proofs.RowItems.{rows_meet_the_same}

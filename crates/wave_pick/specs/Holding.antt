@@ -1,16 +1,14 @@
 -- The model: which place holds back a waiting one, and what the two share.
-use Rattle.std.specs.Prelude.{◌≡◌, ℕ, ◌<◌, true, ◌&&◌, ◌||◌, min, max, [], ◌∷◌, reverse, find, Option, Some, None, is_some, if◌then◌else◌}
+use Rattle.std.specs.Prelude.{ℕ, ◌&&◌, ◌||◌, min, max, [], ◌∷◌, reverse, find, Option, Some, None, if◌then◌else◌}
 use Rattle.std.specs.Option.{option_map, option_or, option_and_then}
 use Rattle.interleaving.specs.System.{reaches}
 use Rattle.interleaving.specs.Machine.{State, has}
 use Rattle.interleaving.specs.Rounds.{pending}
 use Rattle.trace_format.specs.declared.trace.Trace.{Trace}
-use Rattle.world_parts.specs.Items.{Atom, Item, one, file_bytes, buffer_bytes, all_names, all_bytes_and_sizes, all_positions, all_descriptions, member_of, share, Use, Footprint, collide}
+use Rattle.world_parts.specs.Items.{Item, one, file_bytes, buffer_bytes, all_names, all_bytes_and_sizes, all_positions, all_descriptions, share, Use, Footprint, collide}
 use Rattle.op_meaning.specs.Footprint.{footprint}
 use Rattle.foot_print.specs.Reach.{reach}
 use Rattle.foot_print.specs.Replayed.{replayed}
-use Rattle.wave_pick.specs.Rounds.{state_after}
-use Rattle.wave_pick.specs.Waiting.{footprint_after, reach_after, HoldsBack}
 
 -- What two items that share an atom share, as an item: the atom where one of them is one, of two ranges the range that is in both, of a range and all bytes the range, and of two sorts the lower bound.
 abbrev pub shared_item : Item → Item → Item
@@ -56,24 +54,3 @@ latest_in t s k = find (λ i. collide (footprint t k s.world) (reach_in t s i)) 
 -- That place, with what its reach and the footprint share.
 abbrev pub holder_in : (t : Trace) → State (replayed t) → ℕ → Option Holder
 holder_in t s k = option_and_then (λ i. option_map (λ x. record { place = i; item = x }) (shared_of (footprint t k s.world) (reach_in t s i))) (latest_in t s k)
-
--- An atom is a member of what two items share exactly where it is a member of both.
-abbrev pub SharedIsBoth : Type 0
-SharedIsBoth = (x y : Item) (a : Atom) → share x y ≡ true → member_of (shared_item x y) a ≡ (member_of x a && member_of y a)
-
--- Two footprints share an item so exactly where they collide.
-abbrev pub SharedWhereColliding : Type 0
-SharedWhereColliding = (f g : Footprint) → is_some (shared_of f g) ≡ collide f g
-
--- The holder holds the place back, by the item that both use, and no later place does.
-pub record IsHolder (t : Trace) (window r k : ℕ) (h : Holder) : Type 0 where
-  pub holds : HoldsBack t window r h.place k
-  pub item : shared_of (footprint_after t window r k) (reach_after t window r h.place) ≡ Some h.item
-  pub latest : (i : ℕ) → h.place < i → i < k → ¬ (HoldsBack t window r i k)
-
--- After each number of rounds a place has its holder, or nothing holds it back: then it is in the next round, if the window shows it.
-abbrev pub HoldersHoldBack : Trace → Type 0
-HoldersHoldBack t = (window r k : ℕ) (h : Holder) → holder_in t (state_after t window r) k ≡ Some h → IsHolder t window r k h
-
-abbrev pub NoneIsHeldBack : Trace → Type 0
-NoneIsHeldBack t = (window r k : ℕ) → holder_in t (state_after t window r) k ≡ None → (i : ℕ) → ¬ (HoldsBack t window r i k)

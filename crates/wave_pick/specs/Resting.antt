@@ -5,7 +5,8 @@ use Rattle.chain_plan.specs.Chain.{role}
 use Rattle.world_parts.specs.Items.{chain_flag, one, all_descriptors, Use, Footprint}
 use Rattle.foot_print.specs.Reach.{written_by, is_met, task, is_taken_to_run}
 use Rattle.foot_print.specs.Outlook.{turn_takes_lowest, WaitsBy}
-use Rattle.wave_pick.specs.Waiting.{Waits, HoldsBack, IsDecided, WritesRow, ChainIsSettled, world_after, footprint_after, reaches_after, reach_after, look_after, descriptors_wait}
+use Rattle.wave_pick.specs.Waiting.{IsDecided, WritesRow, ChainIsSettled, look_after, descriptors_wait}
+use Rattle.wave_pick.specs.Holds.{Waits, HoldsBack, world_after, footprint_after, reaches_after, reach_after}
 
 -- From round r to round q a place waits with one reach.
 pub record StaysAsIs (t : Trace) (window r q i : ℕ) : Type 0 where

@@ -18,7 +18,7 @@ use Rattle.item_index.specs.declared.behind.Behind.{Behind}
 use Rattle.wave_pick.specs.Picking.{free_from}
 use Rattle.wave_pick.specs.Resting.{RestsOn}
 use Rattle.wave_pick.specs.Rounds.{state_after}
-use Rattle.wave_pick.specs.Waiting.{Waits, world_after, footprint_after, reaches_after, reach_after}
+use Rattle.wave_pick.specs.Holds.{Waits, world_after, footprint_after, reaches_after, reach_after}
 use Rattle.wave_pick.specs.declared.wave.Chosen.{Chosen}
 use Rattle.wave_pick.specs.declared.scheduler.Scheduler.{Scheduler}
 use Rattle.wave_pick.specs.declared.scheduler.View.{View}

@@ -1,36 +1,17 @@
 -- A law: what stays of a place while it waits, from round to round, so that it may be kept and needn't be looked at again.
 use Rattle.std.specs.Prelude.{◌≡◌, ℕ, suc, ◌<◌, ◌≤◌, Bool, true, false, List, [], ◌∷◌, ◌++◌, Option, Some, take}
-use Rattle.interleaving.specs.System.{reaches}
 use Rattle.interleaving.specs.Machine.{has}
 use Rattle.interleaving.specs.Rounds.{pending}
 use Rattle.trace_format.specs.declared.trace.Trace.{Trace}
 use Rattle.trace_format.specs.Steps.{places}
 use Rattle.chain_plan.specs.Chain.{role}
 use Rattle.world_parts.specs.World.{World}
-use Rattle.world_parts.specs.Items.{chain_flag, one, all_descriptors, Use, Footprint, collide}
-use Rattle.op_meaning.specs.Footprint.{footprint}
+use Rattle.world_parts.specs.Items.{chain_flag, one, all_descriptors, Use, Footprint}
 use Rattle.op_meaning.specs.Step.{Turn, runs, turn}
-use Rattle.foot_print.specs.Reach.{written_by, is_met, makes, Look, look_of, task, is_canceled, is_taken_to_run, order_of, running_row, accepted_row, wide_row, reach}
-use Rattle.foot_print.specs.Replayed.{replayed}
+use Rattle.foot_print.specs.Reach.{written_by, is_met, makes, Look, look_of, task, is_canceled, is_taken_to_run, order_of, running_row, accepted_row, wide_row}
 use Rattle.wave_pick.specs.Orders.{InOrder}
 use Rattle.wave_pick.specs.Rounds.{state_after, wave_after}
-
--- The place hasn't run in the first r rounds.
-abbrev pub Waits : Trace → ℕ → ℕ → ℕ → Type 0
-Waits t window r k = has (state_after t window r).finished k ≡ false
-
--- The world after r rounds; there the footprint of a place, the reaches of the waiting places before it, and its own reach.
-abbrev pub world_after : Trace → ℕ → ℕ → World
-world_after t window r = (state_after t window r).world
-
-abbrev pub footprint_after : Trace → ℕ → ℕ → ℕ → Footprint
-footprint_after t window r k = footprint t k (world_after t window r)
-
-abbrev pub reaches_after : Trace → ℕ → ℕ → ℕ → List Footprint
-reaches_after t window r k = reaches (replayed t) (has (state_after t window r).finished) (world_after t window r) k
-
-abbrev pub reach_after : Trace → ℕ → ℕ → ℕ → Footprint
-reach_after t window r k = reach t k (world_after t window r) (reaches_after t window r k)
+use Rattle.wave_pick.specs.Holds.{Waits, world_after, footprint_after, reaches_after, reach_after, HoldsBack}
 
 -- After r rounds a place has this footprint, which is its reach too, and no reach before it writes an item of it.
 pub record Settled (t : Trace) (window r k : ℕ) (f : Footprint) : Type 0 where
@@ -42,12 +23,6 @@ pub record Settled (t : Trace) (window r k : ℕ) (f : Footprint) : Type 0 where
 abbrev pub RowStays : Trace → Type 0
 RowStays t = (window r q k : ℕ) → r ≤ q → Waits t window q k → is_met (footprint_after t window r k) (reaches_after t window r k) ≡ false
     → Settled t window q k (footprint_after t window r k)
-
--- One place holds back a later one: it waits, and its reach collides with the footprint of the later one.
-pub record HoldsBack (t : Trace) (window r i k : ℕ) : Type 0 where
-  pub is_before : i < k
-  pub waits : Waits t window r i
-  pub collides : collide (footprint_after t window r k) (reach_after t window r i) ≡ true
 
 -- A place that one other holds back isn't in the next round: it needn't be looked at while that one is known.
 abbrev pub WitnessHolds : Trace → Type 0

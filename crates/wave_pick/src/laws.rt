@@ -9,8 +9,8 @@ ghost use Rattle.interleaving.specs.Rounds.{AnySetsOccur, RoundsAreGathered, Rou
 ghost use Rattle.interleaving.specs.Rounds.{RoundsAreSequential, RoundsGoOn};
 ghost use Rattle.trace_format.specs.Text.{IsSpelled};
 ghost use Rattle.trace_format.specs.declared.trace.Trace.{Trace};
-ghost use Rattle.wave_pick.specs.Holding.{HoldersHoldBack, NoneIsHeldBack, SharedIsBoth};
-ghost use Rattle.wave_pick.specs.Holding.{SharedWhereColliding};
+ghost use Rattle.wave_pick.specs.Holders.{HoldersHoldBack, NoneIsHeldBack, SharedIsBoth};
+ghost use Rattle.wave_pick.specs.Holders.{SharedWhereColliding};
 ghost use Rattle.wave_pick.specs.Lawful.{covered, lawful};
 ghost use Rattle.wave_pick.specs.Orders.{LinksAndDrainsHold, LinksAndDrainsPart};
 ghost use Rattle.wave_pick.specs.Orders.{LinksAndDrainsRise};

@@ -9,7 +9,7 @@ use Rattle.finite_maps.specs.Table.{get, get-insert, number_keys}
 use Rattle.file_tree.specs.Tree.{Node, Kind, directory, file, kind_of_node}
 use Rattle.world_parts.specs.World.{World, Broken, kind, slot, descriptor, broken, set_slot, set_descriptor, break_chain, apply}
 use Rattle.world_parts.specs.Items.{Atom, chain_flag, slot_at, descriptor_at, Item, one, all_descriptors, member_of, value}
-use Rattle.world_parts.specs.Part.{Shows}
+use Rattle.world_parts.specs.Cutting.{Shows}
 use Rattle.world_parts.specs.Copying.{outline_of_node, outline, IsShadow, IsNearer, IsCopied}
 use Rattle.world_parts.proofs.ChangesOfMaking.{set_slot-value, set_descriptor-value}
 use Rattle.world_parts.proofs.Collision.{both, left, right, same_atom-eq}

@@ -20,7 +20,7 @@ use Rattle.file_tree.specs.Tree.{Node, directory, file, a_file, bytes_of_node, r
 use Rattle.ring_tables.specs.Contents.{rewritten_at}
 use Rattle.world_parts.specs.World.{World, size, bytes, byte, buffer}
 use Rattle.world_parts.specs.Items.{Atom, byte_at, buffer_size, buffer_byte, file_bytes, buffer_bytes, member_of, within, value}
-use Rattle.world_parts.specs.Part.{Shows}
+use Rattle.world_parts.specs.Cutting.{Shows}
 use Rattle.world_parts.specs.Copying.{outline, IsShadow, IsNearer, IsCopied}
 use Rattle.world_parts.proofs.ByteWords.{byte-overwritten, past_end}
 use Rattle.world_parts.proofs.Changes.{adjusted}

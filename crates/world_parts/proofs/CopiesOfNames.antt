@@ -15,7 +15,7 @@ use Rattle.finite_maps.proofs.TextMaps.{is_eq-true}
 use Rattle.file_tree.specs.Tree.{Names, Node, directory, file, Kind, a_directory, a_file, Target, target, shown_node}
 use Rattle.world_parts.specs.World.{World, kind, name}
 use Rattle.world_parts.specs.Items.{name_at, one}
-use Rattle.world_parts.specs.Part.{Shows}
+use Rattle.world_parts.specs.Cutting.{Shows}
 use Rattle.world_parts.specs.Copying.{outline_of_node, outline, looked_up, IsShadow, IsNearer, IsCopied}
 use Rattle.world_parts.proofs.Changes.{adjusted}
 use Rattle.world_parts.proofs.Copies.{shown_none, chosen, one_item, nothing_moved, kind_stays}

@@ -10,7 +10,7 @@ use Rattle.finite_maps.specs.Table.{get, count, empty, insert, get-insert, numbe
 use Rattle.file_tree.specs.Tree.{Tree, Names, Node, Kind, a_directory, a_file, directory, file, Target, target, kind_of_node, names_of_node, count_of_node, bytes_of_node, byte_of}
 use Rattle.world_parts.specs.World.{World, Description, Opened, kind, name, name_count, size, byte, opened, opened_by, position}
 use Rattle.world_parts.specs.Items.{Atom, size_of, byte_at, name_at, names_in, description_at, position_of, Item, one, value}
-use Rattle.world_parts.specs.Part.{Shows}
+use Rattle.world_parts.specs.Cutting.{Shows}
 use Rattle.world_parts.specs.Copying.{outline_of_node, outline, looked_up, IsShadow, IsNearer, IsCopied}
 use Rattle.world_parts.proofs.Copies.{shown_none, chosen, either_way, one_item, nothing_moved, nearer_still, same_kind}
 use Rattle.extent_bytes.specs.Bytes.{resized}

@@ -11,7 +11,7 @@ use Rattle.world_parts.specs.declared.footprint.Use as code_use
 use Rattle.world_parts.specs.Uses.{item_meant, use_meant}
 use Rattle.world_parts.specs.World.{World}
 use Rattle.world_parts.specs.Items.{Atom, ring_order, value, member_of, Footprint, has_atom, Agree}
-use Rattle.world_parts.specs.Part.{is_narrow_use, is_narrow, holed}
+use Rattle.world_parts.specs.Cutting.{is_narrow_use, is_narrow, holed}
 use Rattle.world_parts.specs.Copying.{IsShadow, IsCopied}
 use Rattle.world_parts.proofs.Collision.{left, right}
 use Rattle.world_parts.proofs.Copies.{one_item, nothing_moved}

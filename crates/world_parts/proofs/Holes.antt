@@ -7,7 +7,7 @@ use lib.Dec.{eqb→eq, eqb_refl, leb→le, le→leb, ltb→lt, lt→ltb}
 use Rattle.std.proofs.lemmas.List.{length-replicate}
 use Rattle.world_parts.specs.World.{World, kind, name, opened, Change, apply, apply_all}
 use Rattle.world_parts.specs.Items.{Atom, description_at, byte_at, name_at, buffer_byte, Value, value, within, Item, one, file_bytes, buffer_bytes, all_names, all_bytes_and_sizes, all_positions, all_descriptions, all_descriptors, member_of, Use, Footprint, writes_atom, collide}
-use Rattle.world_parts.specs.Part.{zeros, zeros_in, holed, holed_by, Shows, IsPartOf, PutsTo}
+use Rattle.world_parts.specs.Cutting.{zeros, zeros_in, holed, holed_by, Shows, IsPartOf, PutsTo}
 use Rattle.world_parts.proofs.Collision.{both, left, right, not_both, first_unwritten, writes-has}
 use Rattle.world_parts.proofs.Changes.{rewriting-kind}
 use Rattle.extent_bytes.specs.Bytes.{zeroed}

@@ -11,7 +11,7 @@ use Rattle.file_tree.specs.Found.{node_of}
 use Rattle.world_parts.specs.World.{World, IsWorld, names, bytes, byte, name, size, slot, descriptor, broken, buffer, zero_bytes, apply}
 use Rattle.world_parts.specs.Items as items
 use Rattle.world_parts.specs.Items.{Atom, chain_flag, slot_at, descriptor_at, description_at, position_of, size_of, byte_at, name_at, names_in, buffer_size, buffer_byte, value, one, file_bytes, buffer_bytes, within, member_of, writes_atom}
-use Rattle.world_parts.specs.Part.{PutsTo, is_narrow, is_narrow_use}
+use Rattle.world_parts.specs.Cutting.{PutsTo, is_narrow, is_narrow_use}
 use Rattle.world_parts.specs.Uses.{item_meant, use_meant}
 use Rattle.world_parts.specs.Putting.{sized, listed, pasted, redescribed, repositioned, with_node, with_item, with_nodes, with_items}
 use Rattle.world_parts.specs.declared.footprint.Item.{Item}

@@ -16,7 +16,7 @@ use Rattle.world_parts.specs.Putting.{sized, listed, pasted, with_nodes, with_it
 use Rattle.world_parts.proofs.Raw.{long, lists}
 use Rattle.world_parts.specs.World.{World, IsWorld}
 use Rattle.world_parts.specs.Items.{Footprint}
-use Rattle.world_parts.specs.Part.{PutsTo, is_narrow}
+use Rattle.world_parts.specs.Cutting.{PutsTo, is_narrow}
 use Rattle.world_parts.specs.Uses.{use_meant}
 use Rattle.world_parts.specs.declared.footprint.Use.{Use}
 use Rattle.world_parts.proofs.Nearer.{placed}

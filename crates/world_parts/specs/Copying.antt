@@ -5,7 +5,7 @@ use Rattle.finite_maps.specs.Table.{empty, get, count}
 use Rattle.file_tree.specs.Tree.{Names, Node, directory, file, Kind, a_directory, a_file}
 use Rattle.world_parts.specs.World.{World, name, names, opened, buffer, broken}
 use Rattle.world_parts.specs.Items.{Atom, value, Item, member_of}
-use Rattle.world_parts.specs.Part.{Shows}
+use Rattle.world_parts.specs.Cutting.{Shows}
 
 -- The world in which nothing is.
 abbrev pub nothing : World

@@ -6,7 +6,7 @@ ghost use Rattle.world_parts.specs.Copying.{looked_up, nothing, outline};
 ghost use Rattle.world_parts.specs.Items.{Agree, all_descriptors, buffer_bytes, chain_flag};
 ghost use Rattle.world_parts.specs.Items.{description_at, descriptor_at, file_bytes, name_at};
 ghost use Rattle.world_parts.specs.Items.{names_in, one, position_of, size_of, slot_at};
-ghost use Rattle.world_parts.specs.Part.{is_narrow, is_narrow_use};
+ghost use Rattle.world_parts.specs.Cutting.{is_narrow, is_narrow_use};
 ghost use Rattle.world_parts.specs.Uses.{item_meant, use_meant};
 ghost use Rattle.world_parts.specs.World as world;
 

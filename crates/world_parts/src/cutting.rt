@@ -1,7 +1,7 @@
 //! Parts that are cut out of a world.
 ghost use Rattle.std.specs.Prelude.{◌≡◌, ◌-◌, ◌∷◌, [], map, replicate, None, IfOk, OnOk, T};
 ghost use Rattle.finite_maps.specs.Table.{get};
-ghost use Rattle.world_parts.specs.Part.{IsPartOf, cut_from, holed, is_narrow, zeros_in};
+ghost use Rattle.world_parts.specs.Cutting.{IsPartOf, cut_from, holed, is_narrow, zeros_in};
 ghost use Rattle.world_parts.specs.Uses.{item_meant, use_meant};
 ghost use Rattle.world_parts.specs.World.{apply, apply_all};
 ghost use Rattle.world_parts.specs.World as change;

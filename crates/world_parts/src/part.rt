@@ -1,7 +1,10 @@
 //! A world of which parts may be out, and its parts.
+ghost use Rattle.std.specs.Prelude.{◌≡◌, IfOk};
+ghost use Rattle.world_parts.specs.Copying.{nothing};
 
 use crate::footprint::Footprint;
 use crate::state::State;
+use std::alloc::{AllocError, Global};
 use std::collections::BTreeMap;
 use std::marker::Model;
 
@@ -39,4 +42,18 @@ impl Model for Part {
     ghost Value = { Part };
 
     ghost view = { λ p. record { place = p.place; values = p.state.value } };
+}
+
+impl Part {
+    /// A part for a place in which nothing is.
+    ///
+    /// # Errors
+    ///
+    /// Want of memory.
+    pub fn nothing(alloc: Global, place: u32) -> Result<Self, AllocError>
+        ensures { IfOk result (λ part. part ≡ record { place = place; values = nothing }) }
+    {
+        let state = Box::new(alloc, State::nothing(alloc))?;
+        Ok(Part { place, state })
+    }
 }

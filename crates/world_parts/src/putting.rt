@@ -5,7 +5,7 @@ ghost use Rattle.finite_maps.specs.Table.{adjust_number, assign, get, number_key
 ghost use Rattle.file_tree.specs.Tree.{rewritten_node};
 ghost use Rattle.file_tree.specs.Tree as tree;
 ghost use Rattle.ring_tables.specs.Contents.{bytes_at, rewritten_at};
-ghost use Rattle.world_parts.specs.Part.{PutsTo, is_narrow};
+ghost use Rattle.world_parts.specs.Cutting.{PutsTo, is_narrow};
 ghost use Rattle.world_parts.specs.Putting.{listed, pasted, redescribed, repositioned};
 ghost use Rattle.world_parts.specs.Putting.{sized, with_bytes, with_item};
 ghost use Rattle.world_parts.specs.Putting.{with_items, with_node, with_nodes};

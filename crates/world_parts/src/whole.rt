@@ -8,10 +8,11 @@ ghost use Rattle.world_parts.specs.Start.{start};
 ghost use Rattle.world_parts.specs.World.{buffer, bytes};
 
 use crate::image::Image;
-use crate::part::World;
+use crate::part::{Part, World};
 use crate::state::State;
 use std::alloc::{AllocError, Global};
 use std::collections::BTreeMap;
+use std::mem;
 use trace_format::{Series, Trace};
 
 impl World {
@@ -47,6 +48,16 @@ impl World {
         ensures { result.now ≡ self.now.world }
     {
         &self.state
+    }
+
+    /// Gives the world the values of a part, and the part those of the world; nothing is copied.
+    /// Places that run one after another on all of the world do so on a part that has all of it,
+    /// for which nothing is cut out and put back.
+    pub fn exchange(&mut self, part: &mut Part)
+        ensures world { self.new ≡ record self.old { world = part.old.values } }
+        ensures part { part.new ≡ record part.old { values = self.old.world } }
+    {
+        mem::swap(&mut self.state, &mut part.state);
     }
 
     /// What the report shows of the world.

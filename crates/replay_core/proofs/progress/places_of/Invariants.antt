@@ -1,7 +1,6 @@
 use Rattle.std.proofs.Common.{◌≡◌, take, map}
-use Rattle.world_parts.specs.Part.{Part}
-use Rattle.replay_core.specs.Rounds.{parts_of}
+use Rattle.wave_pick.specs.declared.wave.Chosen.{Chosen}
 use Rattle.replay_core.proofs.progress.places_of.Given as goal
 
-abbrev pub invariant-loop-job : goal.invariant-loop-job
-invariant-loop-job l = l.ran.items ≡ map (λ (p : Part). p.place) (parts_of (take l.job-index l.jobs))
+abbrev pub invariant-loop-chosen : goal.invariant-loop-chosen
+invariant-loop-chosen l = l.ran.items ≡ map (λ (chosen : Chosen). chosen.place) (take l.chosen-index l.chosen_there)

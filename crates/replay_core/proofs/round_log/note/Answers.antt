@@ -4,7 +4,8 @@ use Rattle.std.specs.Option.{option_map}
 use Rattle.trace_format.specs.Steps.{places}
 use Rattle.wave_pick.specs.declared.holding.Held.{Held}
 use Rattle.wave_pick.specs.Rounds.{state_after}
-use Rattle.replay_core.specs.Waits.{noted, waited_meant}
+use Rattle.replay_core.specs.Waits.{waited_meant}
+use Rattle.replay_core.specs.Noted.{noted}
 use Rattle.replay_core.proofs.Fronts.{front_open}
 use Rattle.replay_core.proofs.Noting.{held_within, noted_more}
 use Rattle.replay_core.proofs.round_log.note.Goals as goal

@@ -1,6 +1,6 @@
 use Rattle.std.proofs.Common.{◌≡◌}
-use Rattle.replay_core.specs.Rounds.{Stands}
-use Rattle.replay_core.specs.Waits.{AreNoted}
+use Rattle.replay_core.specs.Progressing.{Stands}
+use Rattle.replay_core.specs.Noted.{AreNoted}
 use Rattle.replay_core.proofs.round_log.run_noting.Given as goal
 
 abbrev pub invariant-loop-round : goal.invariant-loop-round

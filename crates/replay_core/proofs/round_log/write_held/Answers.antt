@@ -9,7 +9,8 @@ use Rattle.std.proofs.lemmas.Iterator.Consumers.{YieldsList-turn, YieldsList-end
 use Rattle.wave_pick.specs.HeldBack.{held_meant}
 use Rattle.wave_pick.specs.declared.holding.Held.{Held}
 use Rattle.replay_core.specs.declared.round_log.WaitedFor.{WaitedFor}
-use Rattle.replay_core.specs.Waits.{noted, waited_meant}
+use Rattle.replay_core.specs.Waits.{waited_meant}
+use Rattle.replay_core.specs.Noted.{noted}
 use Rattle.replay_core.proofs.Lists.{drop-here, drop-whole}
 use Rattle.replay_core.proofs.round_log.write_held.Goals.{In-Some, In-None}
 use Rattle.replay_core.proofs.round_log.write_held.Goals as goal

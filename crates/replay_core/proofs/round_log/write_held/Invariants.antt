@@ -1,7 +1,8 @@
 use Rattle.std.proofs.Common.{◌≡◌, map, drop, length}
 use Rattle.std.specs.Option.{option_map}
 use Rattle.wave_pick.specs.HeldBack.{held_meant}
-use Rattle.replay_core.specs.Waits.{noted, waited_meant}
+use Rattle.replay_core.specs.Waits.{waited_meant}
+use Rattle.replay_core.specs.Noted.{noted}
 use Rattle.replay_core.proofs.round_log.write_held.Given as goal
 
 -- what is left to write leads to the same

@@ -1,44 +1,25 @@
-use Rattle.std.proofs.Common.{◌≡◌, ℕ, suc, ◌<◌, length, take, drop, List, [], ◌∷◌, ◌++◌, ap, sym, subst, refl, ◌∙◌, Some, arith}
+use Rattle.std.proofs.Common.{◌≡◌, suc, ◌<◌, length, take, drop, List, [], ◌∷◌, ◌++◌, ap, sym, subst, refl, ◌∙◌, Some, arith}
 use Rattle.std.specs.Prelude.{slice_get, T}
 use Rattle.std.proofs.lemmas.List.{length_push, length-map, take-append-drop}
 use Rattle.std.proofs.lemmas.Option.{slice_get_read}
 use Rattle.std.proofs.lemmas.Iterator.Adapters.{YieldsList-from_vec}
 use Rattle.std.proofs.lemmas.Iterator.Consumers.{YieldsList-turn, YieldsList-end}
 use Rattle.interleaving.specs.Machine.{has}
-use Rattle.interleaving.specs.Rounds.{pending}
 use Rattle.chain_plan.proofs.Walk.{length-roles}
 use Rattle.trace_format.specs.Steps.{places}
-use Rattle.world_parts.specs.Part.{Part, is_narrow, cut_from}
+use Rattle.world_parts.specs.Part.{Part}
+use Rattle.world_parts.specs.Cutting.{is_narrow, cut_from}
 use Rattle.op_meaning.specs.Footprint.{footprint}
 use Rattle.foot_print.specs.Parts as parts
 use Rattle.foot_print.proofs.Narrow.{all_narrow}
 use Rattle.replay_core.specs.declared.progress.Progress.{Progress}
 use Rattle.wave_pick.specs.Rounds.{state_after, wave_after}
-use Rattle.replay_core.specs.Rounds.{parts_of, AreOut}
+use Rattle.replay_core.specs.Progressing.{parts_of, AreOut}
 use Rattle.replay_core.proofs.Lists.{drop-here, take-whole}
 use Rattle.replay_core.proofs.Choosing.{chosen_at, chosen_within, has-middle}
 use Rattle.replay_core.proofs.Cutting.{HasCut, one_cut, is_home, of-more, parts-more, wave-more}
-use Rattle.replay_core.proofs.Fronts.{all_of, front_open, same_window}
 use Rattle.replay_core.proofs.progress.Progress.deal.Goals.{In-Some}
 use Rattle.replay_core.proofs.progress.Progress.deal.Goals as goal
-
-pub pick-requires-clause-pending : goal.pick-requires-clause-pending
-pick-requires-clause-pending c =
-    let t = c.args.trace.now in
-    let s = c.args.self.now in
-    all_of (λ (k : ℕ). k < places t) c.as_slice.result.now
-    (λ k m. (front_open t s.window (state_after t s.window s.round) s.front.items s.next c.requires.stands.front k (ap (λ xs. has xs k) (sym c.as_slice.ensures.value) ∙ m)).0)
-
-pub pick-requires-clause-first : goal.pick-requires-clause-first
-pick-requires-clause-first c =
-    let t = c.args.trace.now in
-    let s = c.args.self.now in
-    let same = c.requires.stands.picked.0 in
-    record {
-      world = ap (λ d. d.world) c.requires.stands.world ∙ ap (λ r. (state_after t s.window r).world) (sym same);
-      first = ap (take s.window) c.as_slice.ensures.value ∙ same_window t s.window (state_after t s.window s.round) s.front.items s.next c.requires.stands.front
-          ∙ ap (λ r. take s.window (pending (has (state_after t s.window r).finished) (places t))) (sym same);
-    }
 
 -- the place of this turn
 is_next : (c : In-Some) → (slice_get (wave_after c.args.trace.now c.args.self.now.window c.args.self.now.round) (length c.loop-chosen.yielded) ≡ Some c.in-Some.chosen.place)
@@ -48,7 +29,7 @@ is_next c =
     let turn = YieldsList-turn (YieldsList-from_vec {s = c.into_iter-chosen-iterator.result} c.into_vec-chosen-items.result.items begin.0 (begin.1 ∙ c.into_vec-chosen-items.result.ok.0)) c.loop-chosen.yielded c.loop-chosen.chosen-iterator c.loop-chosen.yielded_by c.next.result c.next.new.self c.in-Some.chosen c.in-Some.is c.next.ensures.steps in
     let found : slice_get c.into_vec-chosen-items.result.items (length c.loop-chosen.yielded) ≡ Some c.in-Some.chosen = slice_get_read c.into_vec-chosen-items.result.items (length c.into_vec-chosen-items.result.items) (length c.loop-chosen.yielded) c.in-Some.chosen refl turn.0 turn.1 in
     chosen_at c.args.trace.now c.args.self.now.window c.args.self.now.round (length c.loop-chosen.yielded) c.into_vec-chosen-items.result.items c.in-Some.chosen
-    (c.into_vec-chosen-items.ensures ∙ c.in_ok-wave.ensures.wave (state_after c.args.trace.now c.args.self.now.window c.args.self.now.round) (ap (λ d. d.world) c.requires.stands.world) (ap (take c.args.self.now.window) c.as_slice.ensures.value ∙ same_window c.args.trace.now c.args.self.now.window (state_after c.args.trace.now c.args.self.now.window c.args.self.now.round) c.args.self.now.front.items c.args.self.now.next c.requires.stands.front)) found
+    (c.into_vec-chosen-items.ensures ∙ c.requires.wave) found
 
 order : (c : In-Some) → parts.places (parts_of c.loop-chosen.jobs.items) ++ c.in-Some.chosen.place ∷ drop (suc (length c.loop-chosen.yielded)) (wave_after c.args.trace.now c.args.self.now.window c.args.self.now.round) ≡ wave_after c.args.trace.now c.args.self.now.window c.args.self.now.round
 order c =
@@ -112,7 +93,6 @@ loop-chosen-preserved c =
       trace = of-more t jobs c.push.new.self.items _ c.in_ok-push.ensures.items c.of.ensures c.loop-chosen.invariant.trace;
       wave = wave-more t s.window s.round n jobs c.push.new.self.items _ k c.in_ok-push.ensures.items c.loop-chosen.invariant.wave (is_next d).0 c.in_ok-part.ensures.place ∙ ap (λ j. take j ks) count;
       out = subst (λ (ps : List Part). AreOut t x.world x.world ps c.cut.new.self) (sym (parts-more jobs c.push.new.self.items _ c.in_ok-push.ensures.items)) (one_cut t s.window s.round (parts_of jobs) (drop (suc n) ks) c.loop-chosen.self.world c.cut.new.self c.in-Some.chosen.footprint part has_cut);
-      picked = c.loop-chosen.invariant.picked;
       rest = ap (λ (q : Progress). record q { world = c.cut.new.self }) c.loop-chosen.invariant.rest;
     }
 
@@ -122,7 +102,7 @@ returns-clause-dealt c =
     let s = c.args.self.now in
     let x = state_after t s.window s.round in
     let ks = wave_after t s.window s.round in
-    let wave = c.into_vec-chosen-items.ensures ∙ c.in_ok-wave.ensures.wave x (ap (λ d. d.world) c.requires.stands.world) (ap (take s.window) c.as_slice.ensures.value ∙ same_window t s.window x s.front.items s.next c.requires.stands.front) in
+    let wave = c.into_vec-chosen-items.ensures ∙ c.requires.wave in
     let begin = c.into_iter-chosen-iterator.ensures.into_iter_gives in
     let end = YieldsList-end (YieldsList-from_vec {s = c.into_iter-chosen-iterator.result} c.into_vec-chosen-items.result.items begin.0 (begin.1 ∙ c.into_vec-chosen-items.result.ok.0)) c.loop-chosen.yielded c.loop-chosen.chosen-iterator c.loop-chosen.yielded_by c.next.result c.next.new.self c.in-None.is c.next.ensures.steps in
     let many : length ks ≡ length c.loop-chosen.yielded = sym (end.1 ∙ ap length wave ∙ length-map ks _) in

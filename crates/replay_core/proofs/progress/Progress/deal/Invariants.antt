@@ -1,8 +1,8 @@
-use Rattle.std.proofs.Common.{◌≡◌, ◌+◌, take, length}
+use Rattle.std.proofs.Common.{◌≡◌, take, length}
 use Rattle.foot_print.specs.Parts.{places}
 use Rattle.replay_core.specs.Jobs.{AreOf}
 use Rattle.wave_pick.specs.Rounds.{state_after, wave_after}
-use Rattle.replay_core.specs.Rounds.{parts_of, AreOut, HasPicked}
+use Rattle.replay_core.specs.Progressing.{parts_of, AreOut}
 use Rattle.replay_core.proofs.progress.Progress.deal.Given as goal
 
 abbrev pub invariant-loop-chosen : goal.invariant-loop-chosen
@@ -12,6 +12,5 @@ invariant-loop-chosen l = record {
   trace : AreOf l.trace l.jobs.items;
   wave : places (parts_of l.jobs.items) ≡ take (length l.yielded) (wave_after l.trace l.fn.self.window l.fn.self.round);
   out : AreOut l.trace (state_after l.trace l.fn.self.window l.fn.self.round).world (state_after l.trace l.fn.self.window l.fn.self.round).world (parts_of l.jobs.items) l.self.world;
-  picked : HasPicked l.trace (l.fn.self.round + 1) l.self;
-  rest : l.self ≡ record l.fn.self { world = l.self.world; scheduler = l.self.scheduler };
+  rest : l.self ≡ record l.fn.self { world = l.self.world };
 }

@@ -1,5 +1,5 @@
 use Rattle.std.proofs.Common.{◌≡◌}
-use Rattle.replay_core.specs.Rounds.{Stands}
+use Rattle.replay_core.specs.Progressing.{Stands}
 use Rattle.replay_core.proofs.progress.Progress.run_all.Given as goal
 
 abbrev pub invariant-loop-round : goal.invariant-loop-round

@@ -1,6 +1,6 @@
 use Rattle.std.proofs.Common.{◌≡◌, map, drop}
 use Rattle.world_parts.specs.Uses.{use_meant}
-use Rattle.world_parts.specs.Part.{holed}
+use Rattle.world_parts.specs.Cutting.{holed}
 use Rattle.world_parts.proofs.state.State.clear_uses.Given as goal
 
 abbrev pub invariant-loop-used : goal.invariant-loop-used

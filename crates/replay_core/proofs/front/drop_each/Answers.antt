@@ -3,7 +3,7 @@ use Rattle.std.proofs.lemmas.List.{take_more}
 use Rattle.std.specs.List.Sorted.{IsStrictlyIncreasing}
 use Rattle.std.proofs.lemmas.List.Kept.{IsStrictlyIncreasing-filter}
 use Rattle.replay_core.proofs.Dropping.{none_of_none, one_more_dropped, others_than, other_than}
-use Rattle.replay_core.proofs.progress.drop_each.Goals as goal
+use Rattle.replay_core.proofs.front.drop_each.Goals as goal
 
 pub loop-place-init : goal.loop-place-init
 loop-place-init c = sym (none_of_none c.args.front.now.items)

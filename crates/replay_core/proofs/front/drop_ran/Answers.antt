@@ -2,7 +2,7 @@ use Rattle.std.proofs.Common.{ap, sym, ◌∙◌, slice_index_or, false}
 use Rattle.std.specs.Prelude.{not}
 use Rattle.interleaving.specs.Machine.{has}
 use Rattle.replay_core.proofs.Fronts.{filter-same}
-use Rattle.replay_core.proofs.progress.drop_ran.Goals as goal
+use Rattle.replay_core.proofs.front.drop_ran.Goals as goal
 
 pub returns-then-ran-le-FEW : goal.returns-then-ran-le-FEW
 returns-then-ran-le-FEW c =

@@ -2,7 +2,7 @@ use Rattle.std.proofs.Common.{◌++◌, suc, take, drop, filter, ap, sym, subst,
 use Rattle.std.specs.List.Sorted.{IsStrictlyIncreasing}
 use Rattle.std.proofs.lemmas.List.Sorted.{searched}
 use Rattle.replay_core.proofs.Dropping.{dropped, never_falls, apart_from, other_than}
-use Rattle.replay_core.proofs.progress.drop_place.Goals as goal
+use Rattle.replay_core.proofs.front.drop_place.Goals as goal
 
 pub returns-in-Ok : goal.returns-in-Ok
 returns-in-Ok c =
