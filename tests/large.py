@@ -21,8 +21,9 @@ MOST_RATIO = 2.7
 DEPTH, BESIDE = 2_000, 10_000
 MOST_DEEP = 4.0
 # How many entries wait for one another, and how many times the processor time of as many disjoint ones they may take in rounds
-# of which each looks at 64, which is 1.3 to 3.8 times.
-WAITING, MOST_WAITING = 60_000, 7.0
+# of which each looks at so many, which is 2 to 3.5 and 8 to 11 times. Were each looked at in each round, it would be 50 and
+# over 1,000.
+WAITING, MOST_WAITING = 60_000, {64: 12.0, 4096: 30.0}
 # How many bytes of memory the entries of the longest trace may take `check` for each byte of their text, which is 2.3, room
 # to grow included.
 MOST_MEMORY = 2.9
@@ -109,11 +110,11 @@ def waiting(program: Program) -> List[Outcome]:
     disjoint: Dict[int, float] = {}
     for kind in ("disjoint", "appends", "range", "chain", "drains", "opens"):
         trace = subprocess.run([sys.executable, bench, "--write", kind, "--entries", str(WAITING)], check=True, stdout=subprocess.PIPE).stdout
-        for window in (64, 4096):
+        for window, most in MOST_WAITING.items():
             words = ["run", "--workers", "1", "--window", str(window)]
             took = min(program.seconds(words, trace) for _ in range(3))
             apart = disjoint.setdefault(window, took)
-            told = None if took < MOST_WAITING * apart < math.inf else "{:.3f} seconds, and {:.3f} disjoint".format(took, apart)
+            told = None if took < most * apart < math.inf else "{:.3f} seconds, and {:.3f} disjoint".format(took, apart)
             outcomes.append(Outcome("entries that wait, {}, window {}, by {}".format(kind, window, program.compiler), told))
     return outcomes
 
