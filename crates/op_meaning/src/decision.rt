@@ -12,9 +12,8 @@ use crate::open_files::{allocate, empty};
 use crate::opening::{Opening, Room, open};
 use crate::outcome::{Done, finished};
 use crate::site::Site;
-use crate::transfers::{
-    BufferRead, BufferWrite, FileRead, FileWrite, read, read_fixed, write, write_fixed,
-};
+use crate::transferring::{read, read_fixed, write, write_fixed};
+use crate::transfers::{BufferRead, BufferWrite, FileRead, FileWrite};
 use file_tree::Place;
 use std::alloc::{AllocError, Global};
 use world_parts::State;

@@ -3,7 +3,7 @@ use Rattle.std.proofs.lemmas.Result.{IfOk-weaker}
 use Rattle.entry_checks.specs.Operation.{file_limit}
 use Rattle.op_meaning.specs.Meaning.{bytes_in}
 use Rattle.op_meaning.proofs.Moved.{length-taken}
-use Rattle.op_meaning.proofs.transfers.bytes_from.Goals as goal
+use Rattle.op_meaning.proofs.transferring.bytes_from.Goals as goal
 
 pub returns-clause-bytes : goal.returns-clause-bytes
 returns-clause-bytes c = IfOk-weaker c.read_shared.result _ _ (λ taken is. is ∙ c.end_in_file.ensures.bytes) c.read_shared.ensures

@@ -1,7 +1,7 @@
 use Rattle.std.proofs.Common.{arith, drop, length-take, length-drop}
 use Rattle.op_meaning.specs.Meaning.{bytes_in}
 use Rattle.op_meaning.proofs.Moved.{range_from}
-use Rattle.op_meaning.proofs.transfers.end_in_file.Goals as goal
+use Rattle.op_meaning.proofs.transferring.end_in_file.Goals as goal
 
 pub returns-clause-bytes : goal.returns-clause-bytes
 returns-clause-bytes c =

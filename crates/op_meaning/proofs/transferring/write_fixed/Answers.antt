@@ -5,7 +5,7 @@ use Rattle.extent_bytes.proofs.Lengths.{length-range_of}
 use Rattle.world_parts.specs.World.{buffer, apply, apply_all, write_bytes}
 use Rattle.op_meaning.specs.Handles.{handle_meant}
 use Rattle.op_meaning.specs.Meaning.{advance}
-use Rattle.op_meaning.proofs.transfers.write_fixed.Goals as goal
+use Rattle.op_meaning.proofs.transferring.write_fixed.Goals as goal
 
 pub returns-clause-answer : goal.returns-clause-answer
 returns-clause-answer c =
