@@ -4,7 +4,7 @@ use Rattle.std.specs.Prelude.{IfSome, ◌||◌, ◌==◌, if◌then◌else◌}
 use Rattle.std.specs.List.{list_any, filter, range_with_len, slice_get}
 use Rattle.std.proofs.Math.ListN.{set, length-set}
 use Rattle.std.proofs.lemmas.Bool.{lt-ltb, le-ltb, eq-eqb, ne_eqb, cases_eq, cases_lt, cases_Bool}
-use Rattle.std.proofs.lemmas.List.{get_or_append_left, get_or_push, length-map, get_or-map, get_or-set_same, get_or-set_other}
+use Rattle.std.proofs.lemmas.List.{get_or_append_left, get_or_push, length-map, get_or-map, get_or-set_same, get_or-set_other, append-nil}
 use Rattle.std.proofs.lemmas.Option.{get_or_from_slice_get, slice_get_within, slice_get_read}
 use Rattle.std.proofs.lemmas.List.Elements.{filter-append}
 use Rattle.std.proofs.lemmas.List.Folds.{list_any-append}
@@ -20,6 +20,7 @@ use Rattle.chain_plan.specs.declared.plan.Chain.{Chain}
 use Rattle.chain_plan.specs.declared.plan.Marks.{Marks}
 use Rattle.chain_plan.specs.declared.plan.Linked.{Linked}
 use Rattle.chain_plan.specs.Plan.{roles, marks_of, followed, member_after, no_members, with_member, counted, joined, link_from}
+use mathlib.Core.Bool.{or-false}
 
 -- the tests of the model
 abbrev skips : Entry → Bool
@@ -63,7 +64,7 @@ pub record Walked (t : Trace) (n : ℕ) (ms : List Member) (cs : List Chain) (l 
   pub each_chain : cs ≡ map (chain_at t n) (range_with_len 0 (chain_count t n))
   pub link : l ≡ link_at t n
 
-range_more : (a n : ℕ) → range_with_len a (suc n) ≡ range_with_len a n ++ (a + n) ∷ []
+pub range_more : (a n : ℕ) → range_with_len a (suc n) ≡ range_with_len a n ++ (a + n) ∷ []
 range_more a zero =
     let e : a + 0 ≡ a = omega arith in
     rw e refl
@@ -78,15 +79,11 @@ below_here t n =
     let here : eqb (chain_of t n) (chain_of t n) ≡ true = eq-eqb _ _ refl in
     ap (filter (λ k. chain_of t k == chain_of t n)) (rw e at (range_more 0 n)) ∙ filter-append (λ k. chain_of t k == chain_of t n) (range_with_len 0 n) (n ∷ []) ∙ rw here refl
 
-append_nil : {X : Type 0} (xs : List X) → xs ++ [] ≡ xs
-append_nil [] = refl
-append_nil (x ∷ xs) = ap (λ ys. x ∷ ys) (append_nil xs)
-
 pub below_other : (t : Trace) (n c : ℕ) → (chain_of t n ≡ c → ⊥) → below t (suc n) c ≡ below t n c
 below_other t n c other =
     let e : 0 + n ≡ n = omega arith in
     let away : eqb (chain_of t n) c ≡ false = ne_eqb _ _ other in
-    ap (filter (λ k. chain_of t k == c)) (rw e at (range_more 0 n)) ∙ filter-append (λ k. chain_of t k == c) (range_with_len 0 n) (n ∷ []) ∙ rw away (append_nil (filter (λ k. chain_of t k == c) (range_with_len 0 n)))
+    ap (filter (λ k. chain_of t k == c)) (rw e at (range_more 0 n)) ∙ filter-append (λ k. chain_of t k == c) (range_with_len 0 n) (n ∷ []) ∙ rw away (append-nil (filter (λ k. chain_of t k == c) (range_with_len 0 n)))
 
 -- every earlier place stands in one of the chains so far
 chain_of-suc : (t : Trace) (k : ℕ) → chain_of t k ≤ chain_of t (suc k)
@@ -169,17 +166,13 @@ member_next t zero s now =
     rw (start, now) refl
 member_next t (suc k) s now = member_next_from t k s (step_at t k) refl now
 
-or_false : (b : Bool) → (b || false) ≡ b
-or_false true = refl
-or_false false = refl
-
 -- the chain of the place n has one member more, and the others have not
 chain_grown : (t : Trace) (n : ℕ) (s : Step) → step_at t n ≡ Some s → with_member (chain_at t n (chain_of t n)) (marks_of t.version s) ≡ chain_at t (suc n) (chain_of t n)
 chain_grown t n s now =
     let ks = below t n (chain_of t n) in
     let long : length (ks ++ n ∷ []) ≡ length ks + 1 = omega (arith, length-append ks (n ∷ [])) in
-    let failing : list_any (entry_passes t (fails_check t)) (ks ++ n ∷ []) ≡ (list_any (entry_passes t (fails_check t)) ks || entry_passes t (fails_check t) n) = list_any-append (entry_passes t (fails_check t)) ks (n ∷ []) ∙ ap (λ b. list_any (entry_passes t (fails_check t)) ks || b) (or_false (entry_passes t (fails_check t) n)) in
-    let draining : list_any (entry_passes t drains) (ks ++ n ∷ []) ≡ (list_any (entry_passes t drains) ks || entry_passes t drains n) = list_any-append (entry_passes t drains) ks (n ∷ []) ∙ ap (λ b. list_any (entry_passes t drains) ks || b) (or_false (entry_passes t drains n)) in
+    let failing : list_any (entry_passes t (fails_check t)) (ks ++ n ∷ []) ≡ (list_any (entry_passes t (fails_check t)) ks || entry_passes t (fails_check t) n) = list_any-append (entry_passes t (fails_check t)) ks (n ∷ []) ∙ ap (λ b. list_any (entry_passes t (fails_check t)) ks || b) (or-false (entry_passes t (fails_check t) n)) in
+    let draining : list_any (entry_passes t drains) (ks ++ n ∷ []) ≡ (list_any (entry_passes t drains) ks || entry_passes t drains n) = list_any-append (entry_passes t drains) ks (n ∷ []) ∙ ap (λ b. list_any (entry_passes t drains) ks || b) (or-false (entry_passes t drains n)) in
     sym (ap (chain_over t) (below_here t n) ∙ rw (long, failing, draining, now) refl)
 
 chain_same : (t : Trace) (n c : ℕ) → (chain_of t n ≡ c → ⊥) → chain_at t n c ≡ chain_at t (suc n) c

@@ -1,6 +1,6 @@
 -- A tree of entries and the finite map that it stands for.
 use Rattle.std.proofs.Common.{◌≡◌, List, [], ◌∷◌, Some, sym, ◌∙◌, ap, refl, subst}
-use Rattle.std.specs.Prelude.{cond, Option, None, IsSome}
+use Rattle.std.specs.Prelude.{cond, Option, None, IsSome, Result, OnOk, OnErr}
 use Rattle.std.specs.Option.{option_map}
 use Rattle.std.specs.Map.{lookup}
 use Rattle.std.specs.declared.cmp.Ordering.{Ordering}
@@ -10,6 +10,7 @@ use Rattle.std.specs.Cmp.{eq_by_cmp_equiv}
 use Rattle.std.specs.BTreeMap.{BTreeMap, UpdatesBy, WritesThrough, is_at}
 use Rattle.finite_maps.specs.Table.{Table, IsKeyOrder, get, assign, get-insert, get-assign, same_table}
 use Rattle.finite_maps.specs.Maps.{table_of}
+use Rattle.std.proofs.lemmas.Result.{on_ok_weaker, on_err_weaker}
 
 module _ {K X : Type 0} {R : K → K → Ordering} (o : IsKeyOrder R) where
   -- what the map has at a key
@@ -75,5 +76,23 @@ module _ {K X : Type 0} {R : K → K → Ordering} (o : IsKeyOrder R) where
       let p = written_through m n t k v w is h e in
       p.1 ∙ ap (λ x. assign o.total t k (Some x)) d ∙ present-assign t k v p.0
 
-pub not_both : {X : Type 0} (o : Option X) (x : X) → Some x ≡ o → o ≡ None → ⊥
-not_both o x e f = cc
+  -- a change that changes nothing
+  pub rewritten-same : (t : Table R X) (k : K) (f : X → X) → ((x : X) → f x ≡ x) → t ≡ assign o.total t k (option_map f (get t k))
+  rewritten-same t k f same = sym (at (get t k) refl)
+    where
+      at : (x : Option X) → get t k ≡ x → assign o.total t k (option_map f (get t k)) ≡ t
+      at None e = ap (λ x. assign o.total t k (option_map f x)) e ∙ absent-assign t k e
+      at (Some x) e = ap (λ y. assign o.total t k (option_map f y)) e ∙ ap (λ y. assign o.total t k (Some y)) (same x) ∙ present-assign t k x e
+
+  module _ (m n : BTreeMap K X) (t : Table R X) (k : K) (seen : table_of o.total m.entries ≡ t) where
+    -- `get_mut` has found nothing to change
+    pub rewritten_none : (f : X → X) → n ≡ m → None ≡ lookup (is_at (R k)) m.entries → table_of o.total n.entries ≡ assign o.total t k (option_map f (get t k))
+    rewritten_none f same e = ap (λ (b : BTreeMap K X). table_of o.total b.entries) same ∙ seen ∙ sym (absent-rewrite f m.entries t k seen e)
+
+    -- a call has changed what `get_mut` lent where it succeeds, and has left it where it fails
+    module _ (v w : X) (written : WritesThrough R (R k) m w n) (there : Some v ≡ lookup (is_at (R k)) m.entries) {T E : Type 0} (r : Result T E) where
+      pub rewritten_ok : (f : X → X) → OnOk r (w ≡ f v) → OnOk r (table_of o.total n.entries ≡ assign o.total t k (option_map f (get t k)))
+      rewritten_ok f = on_ok_weaker r (rewritten_through f m n t k v w seen written there)
+
+      pub rewritten_err : OnErr r (w ≡ v) → OnErr r (table_of o.total n.entries ≡ t)
+      rewritten_err = on_err_weaker r (left_through m n t k v w seen written there)

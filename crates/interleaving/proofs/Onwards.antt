@@ -15,7 +15,7 @@ use Rattle.interleaving.proofs.Members.{has-later, has-choice, pending-out, pend
 abbrev pub ran : (m : System) → State m → ℕ → State m
 ran m s k = happens m (happens m s (Start k)) (Finish k)
 
-or_swap : (b c d : Bool) → (if c then true else (if b then true else d)) ≡ (if (if b then true else c) then true else d)
+pub or_swap : (b c d : Bool) → (if c then true else (if b then true else d)) ≡ (if (if b then true else c) then true else d)
 or_swap true true d = refl
 or_swap true false d = refl
 or_swap false true d = refl

@@ -40,11 +40,6 @@ pub whole_range : (xs : List ℕ) (n : ℕ) → length xs ≡ n → range_of xs 
 unfolding range_of
 whole_range xs n e = let all : n - 0 ≡ n = omega arith in rw all (take_all n xs (omega arith))
 
--- an empty list that is extended
-pub extended_nothing : (n : ℕ) → resized [] n ≡ replicate n 0
-unfolding resized
-extended_nothing n = let all : n - 0 ≡ n = omega arith in let none : List ℕ = [] in rw (take_all n none (omega arith), all) refl
-
 -- the bytes that have a length
 pub held_length : (held : Option (List ℕ)) (n : ℕ) → option_map length held ≡ Some n → length (unwrap_or held []) ≡ n
 held_length None n e = cc

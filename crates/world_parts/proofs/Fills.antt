@@ -4,7 +4,8 @@ use Rattle.std.specs.Prelude.{Option, cond}
 use Rattle.std.specs.declared.cmp.Ordering.{Ordering}
 use Rattle.std.specs.Ordering.{eq_by_cmp}
 use Rattle.finite_maps.specs.Table.{Table, IsKeyOrder, empty, get, insert, get-insert, same_table}
-use Rattle.finite_maps.proofs.TextMaps.{swapped, is_eq-true}
+use Rattle.finite_maps.proofs.TextMaps.{swapped}
+use Rattle.std.specs.Cmp.{Equal-is}
 
 module _ {K X : Type 0} {R : K → K → Ordering} (o : IsKeyOrder R) where
   -- two values at two keys may be put in either order
@@ -12,7 +13,7 @@ module _ {K X : Type 0} {R : K → K → Ordering} (o : IsKeyOrder R) where
   insert_swap m j k x y apart = same_table o _ _ (λ q.
       get-insert o.total (insert o.total m j x) k y q
       ∙ ap (λ r. cond (eq_by_cmp R q k) (Some y) r) (get-insert o.total m j x q)
-      ∙ swapped (eq_by_cmp R q k) (eq_by_cmp R q j) (Some y) (Some x) (get m q) (λ a b. apart (sym (o.same q j (is_eq-true (R q j) b)) ∙ o.same q k (is_eq-true (R q k) a)))
+      ∙ swapped (eq_by_cmp R q k) (eq_by_cmp R q j) (Some y) (Some x) (get m q) (λ a b. apart (sym (o.same q j ((Equal-is (R q j)).0 b)) ∙ o.same q k ((Equal-is (R q k)).0 a)))
       ∙ ap (λ r. cond (eq_by_cmp R q j) (Some x) r) (sym (get-insert o.total m k y q))
       ∙ sym (get-insert o.total (insert o.total m k y) j x q))
 
