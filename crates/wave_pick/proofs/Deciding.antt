@@ -29,9 +29,9 @@ use Rattle.wave_pick.specs.Lawful.{lawful}
 use Rattle.wave_pick.specs.Rounds.{state_after}
 use Rattle.wave_pick.specs.Waiting.{look_after, DecidingBegins}
 use Rattle.wave_pick.specs.Holds.{Waits, world_after, reaches_after, reach_after}
-use Rattle.wave_pick.proofs.Looked.{append_nothing}
 use Rattle.wave_pick.proofs.Staying.{between_rounds, waited}
 use Rattle.wave_pick.proofs.Waiting.{unmet_stays, value_stays, row_in_reach}
+use Rattle.std.proofs.lemmas.List.{append-nil}
 
 abbrev look : ℕ × List ℕ → Use
 look e = reads (one (name_at e.0 e.1))
@@ -90,7 +90,7 @@ module _ (s u : World) where
     goes_path p = elim (starts_at_root p) as (λ b. Goes s u (map look (cond b (names_from s.nodes 0 (components p.text)) []) ++ g) (map look (cond b (names_from u.nodes 0 (components p.text)) []) ++ h)) [ true ↦ goes_names (components p.text) 0 | false ↦ next ]
 
   goes_one_path : (p : Path) → Goes s u (path_reads s p) (path_reads u p)
-  goes_one_path p = subst (λ f. Goes s u f (path_reads u p)) (append_nothing (path_reads s p)) (subst (λ f. Goes s u (path_reads s p ++ []) f) (append_nothing (path_reads u p)) (goes_path [] [] (goes_nothing []) p))
+  goes_one_path p = subst (λ f. Goes s u f (path_reads u p)) (append-nil (path_reads s p)) (subst (λ f. Goes s u (path_reads s p ++ []) f) (append-nil (path_reads u p)) (goes_path [] [] (goes_nothing []) p))
 
   goes_two_paths : (old new : Path) → Goes s u (path_reads s old ++ path_reads s new) (path_reads u old ++ path_reads u new)
   goes_two_paths old new = goes_path (path_reads s new) (path_reads u new) (goes_one_path new) old

@@ -14,7 +14,7 @@ use Rattle.world_parts.proofs.Collision.{true_of}
 use Rattle.world_parts.proofs.Sharing.{holds_true}
 use Rattle.op_meaning.specs.Footprint.{room_uses}
 use Rattle.op_meaning.specs.Step.{Turn, filled, refused, canceled, runs}
-use Rattle.foot_print.specs.Reach.{written_by, is_met, makes, room_taken, task, look_of, extras_of, unresolved_of, order_of, running_row, accepted_row, wide_row, reach}
+use Rattle.foot_print.specs.Reach.{written_by, is_met, makes, room_taken, task, look_of, extras_of, unresolved_of, order_of, running_row, accepted_row, wide_row}
 use Rattle.foot_print.specs.Replayed.{replayed}
 use Rattle.foot_print.proofs.Agreement.{in_right}
 use Rattle.foot_print.proofs.Cover.{all_covered}
@@ -59,7 +59,7 @@ module _ (t : Trace) (k : ℕ) where
       room (openat p g (suc n)) h = refl
       room _ h = refl
 
-  unresolved_in_world : (s u : World) (x : Option Turn) → unresolved_of t k u x ≡ unresolved_of t k s x
+  pub unresolved_in_world : (s u : World) (x : Option Turn) → unresolved_of t k u x ≡ unresolved_of t k s x
   unresolved_in_world s u None = refl
   unresolved_in_world s u (Some (filled r b at new)) = refl
   unresolved_in_world s u (Some (refused e p)) = refl

@@ -3,8 +3,9 @@ use Rattle.trace_format.specs.Steps.{places}
 use Rattle.wave_pick.specs.Picking.{chosen_at, free_from}
 use Rattle.wave_pick.specs.Scheduling.{AreFirst, HaveSeen, Releases}
 use Rattle.wave_pick.proofs.Between.{begins, chosen_are, remembers_on}
-use Rattle.wave_pick.proofs.Looked.{is_round, take_least}
+use Rattle.wave_pick.proofs.Looked.{is_round}
 use Rattle.wave_pick.proofs.scheduler.Scheduler.pick.Goals as goal
+use Rattle.op_meaning.proofs.Moved.{take-min}
 
 pub returns-clause-wave : goal.returns-clause-wave
 returns-clause-wave c = λ x same firsts.
@@ -14,7 +15,7 @@ returns-clause-wave c = λ x same firsts.
     let s = c.args.self.now in
     let q = s.round in
     let those = take c.min-count.result c.args.pending.now in
-    let e : those ≡ take window c.args.pending.now = ap (λ n. take n c.args.pending.now) c.min-count.ensures ∙ take_least window c.args.pending.now in
+    let e : those ≡ take window c.args.pending.now = ap (λ n. take n c.args.pending.now) c.min-count.ensures ∙ take-min c.args.pending.now window in
     let a : AreFirst t window w q those = record { world = c.requires.first.world; first = e ∙ c.requires.first.first } in
     let begun = c.in_ok-begin.ensures in
     let round = ap (λ z. z.round) begun.rest in
@@ -34,7 +35,7 @@ returns-clause-remembers c =
     let s = c.args.self.now in
     let q = s.round in
     let those = take c.min-count.result c.args.pending.now in
-    let e : those ≡ take window c.args.pending.now = ap (λ n. take n c.args.pending.now) c.min-count.ensures ∙ take_least window c.args.pending.now in
+    let e : those ≡ take window c.args.pending.now = ap (λ n. take n c.args.pending.now) c.min-count.ensures ∙ take-min c.args.pending.now window in
     let a : AreFirst t window w q those = record { world = c.requires.first.world; first = e ∙ c.requires.first.first } in
     let begun = c.in_ok-begin.ensures in
     let round = ap (λ z. z.round) begun.rest in
