@@ -4,7 +4,7 @@ use Rattle.std.specs.Prelude.{IfSome, ◌||◌, ◌==◌, if◌then◌else◌}
 use Rattle.std.specs.List.{list_any, filter, range_with_len, slice_get}
 use Rattle.std.proofs.Math.ListN.{set, length-set}
 use Rattle.std.proofs.lemmas.Bool.{lt-ltb, le-ltb, eq-eqb, ne_eqb, cases_eq, cases_lt, cases_Bool}
-use Rattle.std.proofs.lemmas.List.{get_or_append_left, get_or_push, length-map, get_or-map, get_or-set_same, get_or-set_other, append-nil}
+use Rattle.std.proofs.lemmas.List.{get_or_append_left, get_or_push, length-map, get_or-map, get_or-set_same, get_or-set_other, append-nil, map-id}
 use Rattle.std.proofs.lemmas.Option.{get_or_from_slice_get, slice_get_within, slice_get_read}
 use Rattle.std.proofs.lemmas.List.Elements.{filter-append}
 use Rattle.std.proofs.lemmas.List.Folds.{list_any-append}
@@ -64,13 +64,10 @@ pub record Walked (t : Trace) (n : ℕ) (ms : List Member) (cs : List Chain) (l 
   pub each_chain : cs ≡ map (chain_at t n) (range_with_len 0 (chain_count t n))
   pub link : l ≡ link_at t n
 
-pub range_more : (a n : ℕ) → range_with_len a (suc n) ≡ range_with_len a n ++ (a + n) ∷ []
-range_more a zero =
-    let e : a + 0 ≡ a = omega arith in
-    rw e refl
-range_more a (suc n) =
-    let e : a + 1 + n ≡ a + suc n = omega arith in
-    ap (λ xs. a ∷ xs) (rw e at (range_more (a + 1) n))
+range_more : (a n : ℕ) → range_with_len a (suc n) ≡ range_with_len a n ++ (a + n) ∷ []
+range_more a n =
+    let more : suc n ≡ n + 1 = omega arith in
+    ap (range_with_len a) more ∙ sym (map-id (range_with_len a (n + 1))) ∙ map-range_with_len_more (λ k. k) a n (a + n) refl ∙ ap (λ ks. ks ++ (a + n) ∷ []) (map-id (range_with_len a n))
 
 -- the place n stands in its chain, and in no other
 pub below_here : (t : Trace) (n : ℕ) → below t (suc n) (chain_of t n) ≡ below t n (chain_of t n) ++ n ∷ []
