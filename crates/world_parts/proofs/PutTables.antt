@@ -7,7 +7,6 @@ use Rattle.std.specs.Ordering.{is_eq}
 use mathlib.Core.Path.{sym, subst, ap, ◌∙◌}
 use native.Mathlib.Omega.{arith}
 use Rattle.finite_maps.specs.Table.{Table, IsKeyOrder, get, insert, assign, get-assign, same_table, adjust_number, number_keys, pair_cmp, pair_keys}
-use Rattle.finite_maps.proofs.Maps.{absent-assign, present-assign}
 use Rattle.extent_bytes.specs.Bytes.{overwritten, range_of, resized}
 use Rattle.file_tree.specs.Tree.{Tree, Node, directory, file, new_node, a_file, rewritten_node}
 use Rattle.file_tree.specs.Tree as tree
@@ -23,13 +22,9 @@ use Rattle.world_parts.proofs.Nearer.{placed}
 use Rattle.world_parts.proofs.PutBack.{put_makes_any}
 use Rattle.std.proofs.lemmas.Result.{on_ok_weaker}
 use Rattle.world_parts.proofs.ByteWords.{length-there}
+use Rattle.finite_maps.proofs.Maps.{same-assign}
 
 module _ {K X : Type 0} {R : K → K → Ordering} (o : IsKeyOrder R) (m : Table R X) (k : K) where
-  -- What is put where it is already changes nothing.
-  pub same-assign : (v : Option X) → get m k ≡ v → assign o.total m k v ≡ m
-  same-assign None e = absent-assign o m k e
-  same-assign (Some x) e = present-assign o m k x e
-
   -- What is put last counts.
   pub assign-assign : (u v : Option X) → assign o.total (assign o.total m k u) k v ≡ assign o.total m k v
   assign-assign u v = same_table o _ _ (λ q. get-assign o.total (assign o.total m k u) k v q ∙ (λ i. cond (is_eq (R q k)) v (get-assign o.total m k u q i)) ∙ by (is_eq (R q k)) (get m q) ∙ sym (get-assign o.total m k v q))
