@@ -1,5 +1,5 @@
 -- A view of code: the roles of a trace's places, and what a plan keeps of each step.
-use Rattle.std.specs.Prelude.{ℕ, ◌+◌, ◌==◌, Bool, false, ◌||◌, nat_lt, List, [], ◌∷◌, ◌++◌, map, length, Option, Some, None, is_err, if◌then◌else◌}
+use Rattle.std.specs.Prelude.{ℕ, ◌+◌, ◌==◌, Bool, false, ◌&&◌, ◌||◌, leb, nat_lt, List, [], ◌∷◌, ◌++◌, map, length, Option, Some, None, is_err, if◌then◌else◌}
 use Rattle.std.specs.List.{range_with_len}
 use Rattle.std.proofs.Common.{get_or}
 use Rattle.std.proofs.Math.ListN.{set}
@@ -18,14 +18,14 @@ use Rattle.chain_plan.specs.declared.plan.Linked.{Linked}
 abbrev pub roles : Trace → List Role
 roles t = map (role t) (range_with_len 0 (places t))
 
--- What a plan asks of a step.
-abbrev pub marks_of : Version → Step → Marks
-marks_of v s =
+-- What a plan asks of a step. Whether it fails its tests matters where it follows another one or is linked to the next.
+abbrev pub marks_of : Version → Bool → Step → Marks
+marks_of v follows s =
     record {
       links = action_passes has_link (Some s);
       skips = action_passes (λ e. has e.sqe.flags skip_success) (Some s);
       drains = action_passes (λ e. has e.sqe.flags io_drain) (Some s);
-      fails = action_passes (λ e. is_err (check v e)) (Some s);
+      fails = (action_passes has_link (Some s) || follows) && action_passes (λ e. is_err (check v e)) (Some s);
     }
 
 -- The member that a step of a record follows, if the step before it links to it.
@@ -55,7 +55,7 @@ counted chains c m =
 abbrev pub joined : List Chain → Member → Role
 joined chains m =
     let c = get_or chains m.chain no_members in
-    record { chain = m.chain; member = m.ahead; length = c.length; doomed = c.doomed; quiet = m.quiet; barrier = c.barrier }
+    record { chain = m.chain; member = m.ahead; length = c.length; doomed = leb 2 c.length && c.doomed; quiet = m.quiet; barrier = c.barrier }
 
 -- What the next step may follow: a member with a link flag.
 abbrev pub link_from : Member → ℕ → Bool → Option Linked

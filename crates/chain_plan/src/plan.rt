@@ -1,5 +1,5 @@
 //! The roles of all places, found in one walk over the trace.
-ghost use Rattle.std.specs.Prelude.{◌≡◌, ◌<◌, ◌+◌, ◌^◌, true, length, IfOk, IfSome, Some};
+ghost use Rattle.std.specs.Prelude.{◌≡◌, ◌<◌, ◌+◌, ◌^◌, ◌&&◌, leb, true, length, IfOk, IfSome, Some};
 ghost use Rattle.std.specs.List.{slice_get};
 ghost use Rattle.trace_format.specs.Sides.{is_side_of};
 ghost use Rattle.trace_format.specs.Steps.{places, step_meant, submit};
@@ -35,7 +35,7 @@ struct Chain {
     barrier: bool,
 }
 
-/// What a plan asks of a step.
+/// What a plan asks of a step. An entry by itself isn't tested: it dooms no other one.
 #[derive(Clone, Copy)]
 struct Marks {
     links: bool,
@@ -73,19 +73,21 @@ impl Model for Plan {
         → m.chain < length p.chains.items };
 }
 
-fn marks_of(step: &Step<'_>, version: Version) -> Marks
+/// What is asked of a step that follows another one of its chain, or follows none.
+fn marks_of(step: &Step<'_>, version: Version, follows: bool) -> Marks
     requires { (e : Entry) → (step_meant step.now).action ≡ submit e
         → is_side_of e.sqe e.side ≡ true }
-    ensures { result ≡ marks_of version (step_meant step.now) }
+    ensures { result ≡ marks_of version follows (step_meant step.now) }
 {
     match step.action {
         Action::Submit(entry) => {
             let sqe = entry.sqe();
+            let links = sqe.has(IO_LINK) || sqe.has(IO_HARDLINK);
             Marks {
-                links: sqe.has(IO_LINK) || sqe.has(IO_HARDLINK),
+                links,
                 skips: sqe.has(CQE_SKIP_SUCCESS),
                 drains: sqe.has(IO_DRAIN),
-                fails: check(entry, version).is_err(),
+                fails: (links || follows) && check(entry, version).is_err(),
             }
         }
         Action::Fill {
@@ -160,6 +162,13 @@ fn count_member(chains: &mut Vec<Chain>, chain: u32, marks: Marks) -> Result<(),
     Ok(())
 }
 
+/// Whether a chain has several members, of which one fails its tests.
+fn is_doomed(chain: Chain) -> bool
+    ensures { result ≡ (leb 2 chain.length && chain.doomed) }
+{
+    chain.length >= 2 && chain.doomed
+}
+
 /// What the next step may follow.
 fn link_from(member: Member, record_number: u32, links: bool) -> Option<Linked>
     ensures { result ≡ link_from member record_number links }
@@ -187,8 +196,8 @@ impl Plan {
         let mut linked = None;
         for place in 0..trace.places() {
             let step = trace.step(place);
-            let marks = marks_of(&step, trace.version);
             let ahead = followed(linked, step.record_number);
+            let marks = marks_of(&step, trace.version, ahead.is_some());
             let member = member_after(ahead, chains.len() as u32, marks.skips);
             count_member(&mut chains, member.chain, marks)?;
             linked = link_from(member, step.record_number, marks.links);
@@ -209,7 +218,7 @@ impl Plan {
             chain: member.chain,
             member: member.ahead,
             length: chain.length,
-            doomed: chain.doomed,
+            doomed: is_doomed(chain),
             quiet: member.quiet,
             barrier: chain.barrier,
         }

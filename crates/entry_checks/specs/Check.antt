@@ -1,5 +1,5 @@
 -- The model: what an entry asks for, or the error that its submission gives, each test in the order in which it is made.
-use Rattle.std.specs.Prelude.{ℕ, ℤ, pos, negsuc, bytes_eq, unwrap_or, Bool, false, not, ◌&&◌, ◌||◌, ◌==◌, ltb, leb, ◌-◌, ◌*◌, ◌%◌, ◌^◌, List, [], ◌∷◌, length, take, drop, Option, None, Result, Ok, ok_or, bit_or}
+use Rattle.std.specs.Prelude.{ℕ, ℤ, pos, negsuc, zero, suc, bytes_eq, unwrap_or, Bool, false, not, ◌&&◌, ◌||◌, ◌==◌, ltb, leb, ◌-◌, ◌*◌, ◌%◌, ◌^◌, List, [], ◌∷◌, length, take, drop, Option, None, Some, Result, Ok, ok_or, bit_or, if◌then◌else◌}
 use Rattle.std.specs.List.{list_any, last_or, find}
 use Rattle.std.specs.Option.{option_map}
 use Rattle.sqe_codec.specs.declared.errno.Errno.{Errno}
@@ -8,12 +8,12 @@ use Rattle.sqe_codec.specs.declared.sqe.Sqe.{Sqe}
 use Rattle.trace_format.specs.declared.entry.Entry.{Entry}
 use Rattle.trace_format.specs.declared.version.Version.{Version}
 use Rattle.trace_format.specs.Versions.{rules}
-use Rattle.std.specs.Int.{w16, w32, from_le_bytes, cast_signed}
+use Rattle.std.specs.Int.{w16, w32, from_le_bytes, cast_signed, cast_unsigned}
 use Rattle.trace_format.specs.Paths.{components}
 pub use Rattle.trace_format.specs.Sides.{lengths_in, total, vector_is_short}
 use Rattle.sqe_codec.specs.Answers.{◌>>=◌, ◌>>◌, require}
 pub use Rattle.sqe_codec.specs.Flags.{has, fixed_file, io_drain, io_link, io_hardlink, buffer_select, skip_success}
-use Rattle.entry_checks.specs.Operation.{Operation, nop, readv, writev, fsync, read_fixed, write_fixed, fallocate, openat, close, read, write, renameat, unlinkat, mkdirat, linkat, ftruncate, File, Span, Path, OpenFlags}
+use Rattle.entry_checks.specs.Operation.{Operation, nop, readv, writev, fsync, read_fixed, write_fixed, fallocate, openat, close, read, write, renameat, unlinkat, mkdirat, linkat, ftruncate, File, in_slot, at_descriptor, Span, Path, OpenFlags}
 
 -- The opcodes that are served.
 pub data Opcode : Type 0 where
@@ -68,9 +68,22 @@ check_transfer_flags e = require (e.op_flags == 0) EOPNOTSUPP
 abbrev pub check_no_registered_file : Sqe → Result (Unit {0}) Errno
 check_no_registered_file e = require (not (has e.flags fixed_file)) EBADF
 
+-- The number of a file is taken without its sign, so that a negative one is above all that are there.
+abbrev pub file_number : Sqe → ℕ
+file_number e = cast_unsigned w32 e.fd
+
 -- The file, the span and the flags of open(2) that an entry names.
 abbrev pub file_of : Sqe → File
-file_of e = record { registered = has e.flags fixed_file; number = e.fd }
+file_of e = if has e.flags fixed_file then in_slot (file_number e) else at_descriptor (file_number e)
+
+-- The registered file that a file index names: it is one more than the file's number, and 0 names none.
+abbrev pub slot_of : ℕ → Option ℕ
+slot_of zero = None
+slot_of (suc n) = Some n
+
+-- What a close closes: the registered file of its file index, or its descriptor.
+abbrev pub file_closed : Sqe → File
+file_closed e = unwrap_or (option_map in_slot (slot_of e.file_index)) (at_descriptor (file_number e))
 
 abbrev pub span_of : Sqe → Span
 span_of e = record { index = e.buf_index; address = e.addr; length = e.len }
@@ -116,12 +129,12 @@ check_row v Openat e side = do
   check_no_registered_file e
   require (are_open_flags e.op_flags e.file_index) EINVAL
   check_path side
-  Ok (openat (path_of e.fd side) (open_flags_of e.op_flags) e.file_index)
+  Ok (openat (path_of e.fd side) (open_flags_of e.op_flags) (slot_of e.file_index))
 check_row v Close e side = do
   check_no_registered_file e
   require (e.file_index == 0 || is_zero e.fd) EINVAL
   require (not (e.file_index == 2 ^ 32 - 1)) EINVAL
-  Ok (close e.fd e.file_index)
+  Ok (close (file_closed e))
 check_row v Read e side = do
   check_transfer_flags e
   Ok (read (file_of e) e.off e.len)

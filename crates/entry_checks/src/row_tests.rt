@@ -6,7 +6,7 @@ ghost use Rattle.sqe_codec.specs.declared.errno.Errno.TheVariants.{EINVAL};
 ghost use Rattle.trace_format.specs.Sides.{vector_len};
 ghost use Rattle.entry_checks.specs.Check.{check_transfer_flags, check_no_registered_file};
 ghost use Rattle.entry_checks.specs.Check.{are_open_flags, open_flags_of, is_zero};
-ghost use Rattle.entry_checks.specs.Check.{file_of, span_of};
+ghost use Rattle.entry_checks.specs.Check.{file_closed, file_number, file_of, slot_of, span_of};
 ghost use Rattle.entry_checks.specs.Meant.{flags_meant, file_meant, span_meant};
 ghost use Rattle.entry_checks.specs.Answer.{check_submission, check_vector};
 
@@ -125,13 +125,38 @@ pub(crate) fn numbered_slot(sqe: &Sqe) -> Result<(), Errno>
     require(sqe.file_index != ALLOCATED_SLOT, Errno::EINVAL)
 }
 
+/// The number of the file that an entry names. A negative one is above all that are there.
+fn file_number(sqe: &Sqe) -> u32
+    ensures { result ≡ file_number sqe.now }
+{
+    sqe.fd.cast_unsigned()
+}
+
 /// The file that an entry names.
 pub(crate) fn file_of(sqe: &Sqe) -> FileNumber
     ensures { file_meant result ≡ file_of sqe.now }
 {
-    FileNumber {
-        registered: sqe.has(FIXED_FILE),
-        number: sqe.fd,
+    if sqe.has(FIXED_FILE) {
+        FileNumber::Slot(file_number(sqe))
+    } else {
+        FileNumber::Descriptor(file_number(sqe))
+    }
+}
+
+/// The registered file that an entry's file index names, which is one more than its number.
+pub(crate) fn slot_of(sqe: &Sqe) -> Option<u32>
+    ensures { result ≡ slot_of sqe.now.file_index }
+{
+    sqe.file_index.checked_sub(1)
+}
+
+/// What a close closes: a registered file, or where its file index names none, a descriptor.
+pub(crate) fn file_closed(sqe: &Sqe) -> FileNumber
+    ensures { file_meant result ≡ file_closed sqe.now }
+{
+    match slot_of(sqe) {
+        Some(slot) => FileNumber::Slot(slot),
+        None => FileNumber::Descriptor(file_number(sqe)),
     }
 }
 

@@ -9,8 +9,9 @@ ghost use Rattle.entry_checks.specs.Answer.{answer, checked_row};
 use crate::operation::{Op, PathAt};
 use crate::paths::{check_path, new_path, old_path};
 use crate::row_tests::{
-    file_of, flag_or_none, flags_up_to, new_directory, no_registered_file, numbered_slot,
-    open_flags, open_flags_of, slot_or_descriptor, span_of, submission, transfer, vector, written,
+    file_closed, file_of, flag_or_none, flags_up_to, new_directory, no_registered_file,
+    numbered_slot, open_flags, open_flags_of, slot_of, slot_or_descriptor, span_of, submission,
+    transfer, vector, written,
 };
 use sqe_codec::{Errno, Sqe};
 use trace_format::Version;
@@ -112,7 +113,7 @@ pub(crate) fn openat<'a>(sqe: &Sqe, side: &'a [u8]) -> Result<Op<'a>, Errno>
             text: side,
         },
         flags: open_flags_of(sqe.op_flags),
-        file_index: sqe.file_index,
+        slot: slot_of(sqe),
     })
 }
 
@@ -124,8 +125,7 @@ pub(crate) fn close<'a>(sqe: &Sqe, side: &'a [u8]) -> Result<Op<'a>, Errno>
     slot_or_descriptor(sqe)?;
     numbered_slot(sqe)?;
     Ok(Op::Close {
-        number: sqe.fd,
-        file_index: sqe.file_index,
+        file: file_closed(sqe),
     })
 }
 

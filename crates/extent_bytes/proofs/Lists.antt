@@ -1,11 +1,12 @@
 -- Bytes written over a list, byte by byte.
-use Rattle.std.proofs.Common.{◌≡◌, ℕ, ◌+◌, ◌-◌, ◌<◌, ◌≤◌, List, ◌++◌, length, take, drop, replicate, get_or, arith, sym, ◌∙◌, ap, refl, min, ⊎_elim}
+use Rattle.std.proofs.Common.{◌≡◌, ℕ, ◌+◌, ◌-◌, ◌<◌, ◌≤◌, List, ◌++◌, length, take, drop, replicate, get_or, arith, sym, ◌∙◌, ap, refl, min, ⊎_elim, []}
 use Rattle.std.proofs.lemmas.List.{length-append, length-take, length-drop, length-replicate, get_or-append_right, get_or_append_left, get_or-take, get_or-drop, get_or-replicate, get_or_past, drop-drop, append_assoc}
 use Rattle.std.proofs.lemmas.Grind.{same_number_lists}
 use Rattle.std.proofs.lemmas.Bool.{cases_lt}
 use borrow.Rule.Slice.PartMut.{put_mid}
-use Rattle.extent_bytes.specs.Bytes.{overwritten, zeroed}
+use Rattle.extent_bytes.specs.Bytes.{overwritten, zeroed, range_of, resized}
 use Rattle.extent_bytes.proofs.Lengths.{length-overwritten}
+use Rattle.std.proofs.Math.Seq.{take-nil, drop-nil}
 
 -- a write to a part of a slice
 pub put_mid-overwritten : (xs bs ys : List ℕ) (at k : ℕ) → at + k ≤ length xs → k ≡ length bs → ys ≡ bs → put_mid at k xs ys ≡ overwritten xs at bs
@@ -88,3 +89,17 @@ pub overwritten_all : (xs : List ℕ) (at : ℕ) (bs : List ℕ) → at ≡ 0 �
 overwritten_all xs at bs z e =
     same_number_lists (overwritten xs at bs) bs (length-overwritten_within xs at bs (omega arith) ∙ sym e)
     (λ i l. get_or-overwritten_inside xs at bs i (omega arith) (let n = length-overwritten_within xs at bs (omega arith) in omega (arith, n)) ∙ ap (λ k. get_or bs k 0) (omega arith))
+
+-- a range of no bytes
+pub range_of-none : (lo hi : ℕ) → range_of [] lo hi ≡ []
+unfolding range_of
+range_of-none lo hi = ap (take (hi - lo)) (drop-nil lo) ∙ take-nil (hi - lo)
+
+-- such a range, put over others, changes nothing
+pub none_put : (lo hi : ℕ) → lo ≤ hi → hi ≤ 0 → (xs : List ℕ) → overwritten xs lo (range_of [] lo hi) ≡ xs
+none_put lo hi h l xs = overwritten_none xs lo (range_of [] lo hi) (ap length (range_of-none lo hi)) (omega arith)
+
+-- what is made longer from no bytes is zeros
+pub resized-none : (n : ℕ) → resized [] n ≡ replicate n 0
+unfolding resized
+resized-none n = ap (λ (xs : List ℕ). xs ++ replicate {A = ℕ} (n - 0) 0) (take-nil {A = ℕ} n) ∙ ap (λ m. replicate {A = ℕ} m 0) (omega arith)

@@ -1,4 +1,3 @@
-pub mod Adjusted
 pub mod Ranges
 pub mod Removals
 pub mod Sameness

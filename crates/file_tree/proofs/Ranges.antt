@@ -1,12 +1,12 @@
 -- Ranges of bytes, as far as there are bytes.
 use Rattle.std.proofs.Common.{◌≡◌, ℕ, ◌+◌, ◌-◌, ◌<◌, ◌≤◌, List, [], length, take, drop, sym, ◌∙◌, ap, refl, inl, inr, arith}
-use Rattle.std.specs.Prelude.{◌⊎◌, min, replicate}
+use Rattle.std.specs.Prelude.{◌⊎◌, min, replicate, Option, None, Some, IfSome, unwrap_or}
 use Rattle.std.proofs.lemmas.Bool.{cases_lt}
 use Rattle.std.proofs.lemmas.List.{take_min, drop_min, length-drop, take-append-drop}
-use Rattle.std.proofs.Math.Seq.{take-nil, drop-nil}
 use Rattle.extent_bytes.specs.Bytes.{overwritten, range_of, zeroed}
-use Rattle.extent_bytes.proofs.Lists.{overwritten_none}
+use Rattle.extent_bytes.proofs.Lists.{none_put}
 use Rattle.file_tree.specs.Tree.{Node, directory, file, rewritten_node}
+use Rattle.std.specs.Option.{option_map}
 
 module _ (bytes : List ℕ) (lo hi : ℕ) where
   abbrev end : ℕ
@@ -49,12 +49,16 @@ module _ (bytes : List ℕ) (lo hi : ℕ) where
           let last : min end (length bytes) ≡ end = omega (arith) in
           rw (first, last) refl
 
--- no bytes are in a range of none
-pub range_of-none : (lo hi : ℕ) → range_of [] lo hi ≡ []
-unfolding range_of
-range_of-none lo hi = ap (take (hi - lo)) (drop-nil lo) ∙ take-nil (hi - lo)
+-- the bytes of a range, of what may be no file
+abbrev pub held : ℕ → ℕ → Option (List ℕ) → List ℕ
+held lo hi o = range_of (unwrap_or o []) lo hi
+
+-- what fits by the length of what may be no file fits it
+pub fits : (end : ℕ) (o : Option (List ℕ)) → IfSome (option_map length o) (λ size. end ≤ size) → IfSome o (λ bytes. end ≤ length bytes)
+fits end None h = tt
+fits end (Some bytes) h = h
 
 -- a range of none that is put over a node
 pub nothing_put : (lo hi : ℕ) → lo ≤ hi → hi ≤ 0 → (x : Node) → rewritten_node (λ old. overwritten old lo (range_of [] lo hi)) x ≡ x
 nothing_put lo hi h l (directory ns others) = refl
-nothing_put lo hi h l (file bytes) = ap (λ bs. file bs) (overwritten_none bytes lo (range_of [] lo hi) (ap length (range_of-none lo hi)) (omega arith))
+nothing_put lo hi h l (file bytes) = ap (λ bs. file bs) (none_put lo hi h l bytes)

@@ -7,7 +7,8 @@ use Rattle.std.specs.Ordering.{eq_by_cmp, is_eq}
 use Rattle.std.specs.BTreeMap.{is_at}
 use Rattle.finite_maps.specs.Table.{Table, IsKeyOrder, get, assign, get-assign, same_table}
 use Rattle.finite_maps.specs.Maps.{seen_table}
-use Rattle.finite_maps.proofs.TextMaps.{get-seen_table, is_eq-true}
+use Rattle.finite_maps.proofs.TextMaps.{get-seen_table}
+use Rattle.std.specs.Cmp.{Equal-is}
 
 module _ {K L X : Type 0} {R : L → L → Ordering} (o : IsKeyOrder R) (f : K → L) where
   -- what the tree has at another key
@@ -17,7 +18,7 @@ module _ {K L X : Type 0} {R : L → L → Ordering} (o : IsKeyOrder R) (f : K �
     where
       first : (b : Bool) → is_eq (R k (f e.0)) ≡ b → lookup (is_at (λ j. R q (f j))) (remove_entry (is_at (λ j. R k (f j))) es) ≡ lookup (is_at (λ j. R q (f j))) es
           → lookup (is_at (λ j. R q (f j))) (cond b es (e ∷ remove_entry (is_at (λ j. R k (f j))) es)) ≡ cond (is_eq (R q (f e.0))) (Some e.1) (lookup (is_at (λ j. R q (f j))) es)
-      first true h rest = sym (ap (λ b. cond b (Some e.1) (lookup (is_at (λ j. R q (f j))) es)) (ap (λ x. is_eq (R q x)) (sym (o.same k (f e.0) (is_eq-true _ h))) ∙ n))
+      first true h rest = sym (ap (λ b. cond b (Some e.1) (lookup (is_at (λ j. R q (f j))) es)) (ap (λ x. is_eq (R q x)) (sym (o.same k (f e.0) ((Equal-is (R k (f e.0))).0 h))) ∙ n))
       first false h rest = ap (λ r. cond (is_eq (R q (f e.0))) (Some e.1) r) rest
 
   pub seen-remove_entry : (es ns : List (K × X)) (t : Table R X) (k : L) → seen_table o.total f es ≡ t → ns ≡ remove_entry (is_at (λ j. R k (f j))) es → lookup (is_at (λ j. R k (f j))) ns ≡ None
@@ -27,5 +28,5 @@ module _ {K L X : Type 0} {R : L → L → Ordering} (o : IsKeyOrder R) (f : K �
       ∙ ap (λ (m : Table R X). assign o.total m k None) is
     where
       found : (q : L) (b : Bool) → eq_by_cmp R q k ≡ b → lookup (is_at (λ j. R q (f j))) ns ≡ cond (eq_by_cmp R q k) None (get (seen_table o.total f es) q)
-      found q true h = ap (λ x. lookup (is_at (λ j. R x (f j))) ns) (o.same q k (is_eq-true _ h)) ∙ gone ∙ sym (ap (λ b. cond b None (get (seen_table o.total f es) q)) h)
+      found q true h = ap (λ x. lookup (is_at (λ j. R x (f j))) ns) (o.same q k ((Equal-is (R q k)).0 h)) ∙ gone ∙ sym (ap (λ b. cond b None (get (seen_table o.total f es) q)) h)
       found q false h = ap (λ xs. lookup (is_at (λ j. R q (f j))) xs) e ∙ lookup-other k q es h ∙ sym (get-seen_table o f es q) ∙ sym (ap (λ b. cond b None (get (seen_table o.total f es) q)) h)

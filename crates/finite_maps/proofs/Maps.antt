@@ -1,6 +1,6 @@
 -- A tree of entries and the finite map that it stands for.
 use Rattle.std.proofs.Common.{◌≡◌, List, [], ◌∷◌, Some, sym, ◌∙◌, ap, refl, subst}
-use Rattle.std.specs.Prelude.{cond, Option, None, IsSome}
+use Rattle.std.specs.Prelude.{cond, Option, None, IsSome, Result, OnOk, OnErr}
 use Rattle.std.specs.Option.{option_map}
 use Rattle.std.specs.Map.{lookup}
 use Rattle.std.specs.declared.cmp.Ordering.{Ordering}
@@ -10,6 +10,7 @@ use Rattle.std.specs.Cmp.{eq_by_cmp_equiv}
 use Rattle.std.specs.BTreeMap.{BTreeMap, UpdatesBy, WritesThrough, is_at}
 use Rattle.finite_maps.specs.Table.{Table, IsKeyOrder, get, assign, get-insert, get-assign, same_table}
 use Rattle.finite_maps.specs.Maps.{table_of}
+use Rattle.std.proofs.lemmas.Result.{on_ok_weaker, on_err_weaker}
 
 module _ {K X : Type 0} {R : K → K → Ordering} (o : IsKeyOrder R) where
   -- what the map has at a key
@@ -25,11 +26,11 @@ module _ {K X : Type 0} {R : K → K → Ordering} (o : IsKeyOrder R) where
       ∙ ap (λ r. cond (eq_by_cmp R q k) w r) (sym (get-table_of m.entries q))
       ∙ sym (get-assign o.total (table_of o.total m.entries) k w q))
 
-  -- a map in which nothing is at a key is the map without it
-  pub absent-assign : (t : Table R X) (k : K) → get t k ≡ None → assign o.total t k None ≡ t
-  absent-assign t k e = same_table o _ _ (λ q. get-assign o.total t k None q ∙ at q (R q k) refl)
+  -- what is put where it is already changes nothing
+  pub same-assign : (t : Table R X) (k : K) (v : Option X) → get t k ≡ v → assign o.total t k v ≡ t
+  same-assign t k v e = same_table o _ _ (λ q. get-assign o.total t k v q ∙ at q (R q k) refl)
     where
-      at : (q : K) (r : Ordering) → R q k ≡ r → cond (is_eq r) None (get t q) ≡ get t q
+      at : (q : K) (r : Ordering) → R q k ≡ r → cond (is_eq r) v (get t q) ≡ get t q
       at q Less h = refl
       at q Greater h = refl
       at q Equal h = sym (ap (λ x. get t x) (o.same q k h) ∙ e)
@@ -47,20 +48,11 @@ module _ {K X : Type 0} {R : K → K → Ordering} (o : IsKeyOrder R) where
       let P : Option X → Type 0 = λ r. IsSome r in
       (get-of m.entries t k is ∙ sym e, seen-update m n k (Some w) (h.3 (subst P e refl)) ∙ ap (λ n. assign o.total n k (Some w)) is)
 
-  -- a value that is put where it is already changes nothing
-  pub present-assign : (t : Table R X) (k : K) (v : X) → get t k ≡ Some v → assign o.total t k (Some v) ≡ t
-  present-assign t k v e = same_table o _ _ (λ q. get-assign o.total t k (Some v) q ∙ at q (R q k) refl)
-    where
-      at : (q : K) (r : Ordering) → R q k ≡ r → cond (is_eq r) (Some v) (get t q) ≡ get t q
-      at q Less h = refl
-      at q Greater h = refl
-      at q Equal h = sym (ap (λ x. get t x) (o.same q k h) ∙ e)
-
   -- a change of what isn't there changes nothing
   pub absent-rewrite : (f : X → X) (es : List (K × X)) (t : Table R X) (k : K) → table_of o.total es ≡ t → None ≡ lookup (is_at (R k)) es → assign o.total t k (option_map f (get t k)) ≡ t
   absent-rewrite f es t k is e =
       let none = get-of es t k is ∙ sym e in
-      ap (λ d. assign o.total t k (option_map f d)) none ∙ absent-assign t k none
+      ap (λ d. assign o.total t k (option_map f d)) none ∙ same-assign t k None none
 
   -- a value that is changed through what `get_mut` lent
   pub rewritten_through : (f : X → X) (m n : BTreeMap K X) (t : Table R X) (k : K) (v w : X) → table_of o.total m.entries ≡ t → WritesThrough R (R k) m w n → Some v ≡ lookup (is_at (R k)) m.entries → w ≡ f v
@@ -73,7 +65,25 @@ module _ {K X : Type 0} {R : K → K → Ordering} (o : IsKeyOrder R) where
   pub left_through : (m n : BTreeMap K X) (t : Table R X) (k : K) (v w : X) → table_of o.total m.entries ≡ t → WritesThrough R (R k) m w n → Some v ≡ lookup (is_at (R k)) m.entries → w ≡ v → table_of o.total n.entries ≡ t
   left_through m n t k v w is h e d =
       let p = written_through m n t k v w is h e in
-      p.1 ∙ ap (λ x. assign o.total t k (Some x)) d ∙ present-assign t k v p.0
+      p.1 ∙ ap (λ x. assign o.total t k (Some x)) d ∙ same-assign t k (Some v) p.0
 
-pub not_both : {X : Type 0} (o : Option X) (x : X) → Some x ≡ o → o ≡ None → ⊥
-not_both o x e f = cc
+  -- a change that changes nothing
+  pub rewritten-same : (t : Table R X) (k : K) (f : X → X) → ((x : X) → f x ≡ x) → t ≡ assign o.total t k (option_map f (get t k))
+  rewritten-same t k f same = sym (same-assign t k (option_map f (get t k)) (at (get t k)))
+    where
+      at : (x : Option X) → x ≡ option_map f x
+      at None = refl
+      at (Some x) = ap Some (sym (same x))
+
+  module _ (m n : BTreeMap K X) (t : Table R X) (k : K) (seen : table_of o.total m.entries ≡ t) where
+    -- `get_mut` has found nothing to change
+    pub rewritten_none : (f : X → X) → n ≡ m → None ≡ lookup (is_at (R k)) m.entries → table_of o.total n.entries ≡ assign o.total t k (option_map f (get t k))
+    rewritten_none f same e = ap (λ (b : BTreeMap K X). table_of o.total b.entries) same ∙ seen ∙ sym (absent-rewrite f m.entries t k seen e)
+
+    -- a call has changed what `get_mut` lent where it succeeds, and has left it where it fails
+    module _ (v w : X) (written : WritesThrough R (R k) m w n) (there : Some v ≡ lookup (is_at (R k)) m.entries) {T E : Type 0} (r : Result T E) where
+      pub rewritten_ok : (f : X → X) → OnOk r (w ≡ f v) → OnOk r (table_of o.total n.entries ≡ assign o.total t k (option_map f (get t k)))
+      rewritten_ok f = on_ok_weaker r (rewritten_through f m n t k v w seen written there)
+
+      pub rewritten_err : OnErr r (w ≡ v) → OnErr r (table_of o.total n.entries ≡ t)
+      rewritten_err = on_err_weaker r (left_through m n t k v w seen written there)

@@ -5,7 +5,7 @@ use Rattle.std.specs.Map.{lookup}
 use Rattle.std.specs.declared.cmp.Ordering.{Ordering}
 use Rattle.std.specs.declared.cmp.Ordering.TheVariants.{Less, Equal, Greater}
 use Rattle.std.specs.Ordering.{eq_by_cmp, is_eq, match_ordering}
-use Rattle.std.specs.Cmp.{tied_itself}
+use Rattle.std.specs.Cmp.{tied_itself, Equal-is}
 use Rattle.std.specs.BTreeMap.{is_at, insert_entry}
 use Rattle.finite_maps.specs.Table.{Table, IsKeyOrder, get, insert, get-insert, same_table}
 use Rattle.finite_maps.specs.Maps.{seen_table}
@@ -18,11 +18,6 @@ pub swapped : {X : Type 0} (b c : Bool) (x y z : X) → (b ≡ true → c ≡ tr
 swapped true true x y z n = absurd (n refl refl)
 swapped true false x y z n = refl
 swapped false c x y z n = refl
-
-pub is_eq-true : (r : Ordering) → is_eq r ≡ true → r ≡ Equal
-is_eq-true Less e = cc
-is_eq-true Equal e = refl
-is_eq-true Greater e = cc
 
 -- a new value comes to stand before, in place of, or behind the first one
 chosen : {A : Type 0} (r : Ordering) (b c : Bool) (v y rest behind : A) → (r ≡ Equal → b ≡ c) → (r ≡ Greater → b ≡ true → c ≡ true → ⊥) → behind ≡ cond c v rest
@@ -57,7 +52,7 @@ module _ {K L X : Type 0} {R : L → L → Ordering} (o : IsKeyOrder R) (f : K �
       chosen_ap found (R (f k) (f e.0)) ((k, v) ∷ e ∷ es) ((e.0, v) ∷ es) (e ∷ insert_entry (λ a b. R (f a) (f b)) es k v)
       ∙ chosen (R (f k) (f e.0)) (is_eq (R q (f e.0))) (is_eq (R q (f k))) (Some v) (Some e.1) (found es) (found (insert_entry (λ a b. R (f a) (f b)) es k v))
       (λ h. ap (λ x. is_eq (R q x)) (sym (o.same (f k) (f e.0) h)))
-      (λ h a b. apart o q (f k) (f e.0) h (is_eq-true (R q (f e.0)) a) (is_eq-true (R q (f k)) b))
+      (λ h a b. apart o q (f k) (f e.0) h ((Equal-is (R q (f e.0))).0 a) ((Equal-is (R q (f k))).0 b))
       (lookup-insert_entry es k v q)
 
   -- a value that is put into the tree is put into the map

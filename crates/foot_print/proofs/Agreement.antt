@@ -1,11 +1,11 @@
 -- What agreement on a footprint gives for its parts, and for the file that a number stands for.
-use Rattle.std.specs.Prelude.{◌≡◌, ℕ, ℤ, pos, negsuc, Bool, true, false, cond, ◌||◌, ltb, T, List, [], ◌∷◌, ◌++◌, map, length, Option, Some, None, refl}
+use Rattle.std.specs.Prelude.{◌≡◌, ℕ, Bool, true, false, cond, ◌||◌, ltb, T, List, [], ◌∷◌, ◌++◌, map, length, Option, Some, None, refl}
 use Rattle.std.specs.List.{list_any}
 use Rattle.std.specs.Option.{option_map, option_and_then}
 use mathlib.Core.Path.{sym, subst, ap, ◌∙◌}
 use lib.Dec.{eqb_refl}
 use Rattle.trace_format.specs.declared.trace.Trace.{Trace}
-use Rattle.entry_checks.specs.Operation.{File}
+use Rattle.entry_checks.specs.Operation.{File, in_slot, at_descriptor}
 use Rattle.world_parts.specs.World.{World, slot, descriptor}
 use Rattle.op_meaning.specs.Meaning.{slot_count, held, Handle, handle, handle_of}
 use Rattle.sqe_codec.specs.Answers.{each}
@@ -42,18 +42,17 @@ agree_taken s u true f h = h
 agree_taken s u false f h = record { same = λ a m. h.same a (has_atom-as_reads f a m) }
 
 -- The open file description that a number stands for, and its handle, are the same.
-pub held_same : (t : Trace) (s u : World) (r : ℕ) (b : Bool) (n : ℤ) → Agree (map reads (held_item t r b n)) s u → held t u r b n ≡ held t s r b n
-held_same t s u r true (pos n) h =
+pub held_same : (t : Trace) (s u : World) (r : ℕ) (f : File) → Agree (map reads (held_item t r f)) s u → held t u r f ≡ held t s r f
+held_same t s u r (in_slot n) h =
     elim (ltb n (slot_count t r)) as (λ c. Agree (map reads (cond c (one (slot_at r n) ∷ []) [])) s u → cond c (slot u r n) None ≡ cond c (slot s r n) None) [
       | true ↦ λ k. sym (k.same (slot_at r n) (either_left _ _ (both _ _ (eqb_refl r) (eqb_refl n))))
       | false ↦ λ k. refl
     ] h
-held_same t s u r false (pos n) h =
+held_same t s u r (at_descriptor n) h =
     elim (ltb n (length t.descriptors)) as (λ c. Agree (map reads (cond c (one (descriptor_at n) ∷ []) [])) s u → cond c (descriptor u n) None ≡ cond c (descriptor s n) None) [
       | true ↦ λ k. sym (k.same (descriptor_at n) (either_left _ _ (eqb_refl n)))
       | false ↦ λ k. refl
     ] h
-held_same t s u r b (negsuc n) h = refl
 
 pub agree_head : (s u : World) (a : Atom) (w : Bool) (f : Footprint) → Agree (record { item = one a; written = w } ∷ f) s u → value s a ≡ value u a
 agree_head s u a w f h = h.same a (either_left _ _ (same_atom_refl a))
@@ -61,7 +60,7 @@ agree_head s u a w f h = h.same a (either_left _ _ (same_atom_refl a))
 -- Where two worlds agree on what an operation has of an open file, its handle is the same, and they agree on what it has of the file.
 pub handle_same : (t : Trace) (s u : World) (r : ℕ) (f : File) (content : ℕ → Handle → Footprint) → Agree (on_file t s r f content) s u → handle t u r f ≡ handle t s r f
 handle_same t s u r f content a =
-    ap (λ d. option_and_then (handle_of u) d) (held_same t s u r f.registered f.number (agree_left s u _ _ a)) ∙ at_description (held t s r f.registered f.number) (agree_right s u (file_reads t r f) _ a)
+    ap (λ d. option_and_then (handle_of u) d) (held_same t s u r f (agree_left s u _ _ a)) ∙ at_description (held t s r f) (agree_right s u (file_reads t r f) _ a)
   where
     at_description : (d : Option ℕ) → Agree (each (of_description s content) d) s u → option_and_then (handle_of u) d ≡ option_and_then (handle_of s) d
     at_description None k = refl
@@ -69,7 +68,7 @@ handle_same t s u r f content a =
 
 -- What two worlds agree on of the file.
 pub agree_on_content : (t : Trace) (s u : World) (r : ℕ) (f : File) (content : ℕ → Handle → Footprint) → Agree (on_file t s r f content) s u → (h : Handle) → handle t s r f ≡ Some h → Agree (of_file content h) s u
-agree_on_content t s u r f content a h e = within (held t s r f.registered f.number) e (agree_right s u (file_reads t r f) _ a)
+agree_on_content t s u r f content a h e = within (held t s r f) e (agree_right s u (file_reads t r f) _ a)
   where
     of_handle : (d : ℕ) (o : Option Handle) → o ≡ Some h → Agree (each (of_file content) o) s u → Agree (of_file content h) s u
     of_handle d None e k = absurd (some_apart (sym e))

@@ -1,5 +1,5 @@
 -- In a world whose numbers are initial or of earlier places, all that a place looks up is of earlier places.
-use Rattle.std.specs.Prelude.{◌≡◌, ℕ, ℤ, pos, negsuc, zero, suc, Bool, true, false, cond, not, ◌&&◌, ◌||◌, ◌==◌, ltb, ◌+◌, ◌-◌, ◌<◌, ◌≤◌, min, length, T, List, [], ◌∷◌, ◌++◌, map, Option, Some, None, Result, Ok, Err, refl, IfSome, IsSome}
+use Rattle.std.specs.Prelude.{◌≡◌, ℕ, Bool, true, false, cond, not, ◌&&◌, ◌||◌, ◌==◌, ltb, ◌+◌, ◌-◌, ◌<◌, ◌≤◌, min, length, T, List, [], ◌∷◌, ◌++◌, map, Option, Some, None, Result, Ok, Err, refl, IfSome, IsSome}
 use Rattle.std.specs.Option.{option_map, option_and_then, is_some}
 use Rattle.std.proofs.Common.{inl, inr}
 use mathlib.Core.Path.{sym, subst, ap, ◌∙◌}
@@ -10,7 +10,7 @@ use Rattle.sqe_codec.specs.declared.errno.Errno.TheVariants.{ENAMETOOLONG, EBADF
 use Rattle.trace_format.specs.declared.trace.Trace.{Trace}
 use Rattle.sqe_codec.specs.Answers.{each, each_ok, ◌>>=◌, ◌>>◌, require}
 use Rattle.trace_format.specs.Paths.{components}
-use Rattle.entry_checks.specs.Operation.{Operation, File, Span, Path, OpenFlags, file_limit, at_position}
+use Rattle.entry_checks.specs.Operation.{Operation, File, Span, Path, OpenFlags, file_limit, at_position, in_slot, at_descriptor}
 use Rattle.finite_maps.specs.Table.{get}
 use Rattle.world_parts.specs.World.{World, IsWorld, Description, Opened, opened, opened_by, kind, names, name, slot, descriptor}
 use Rattle.file_tree.specs.Tree.{target}
@@ -82,16 +82,14 @@ module _ (t : Trace) (k : ℕ) (s : World) (w : IsWorld s) (before : IsBefore t 
       go (buffer_byte q c p) m = tt
       go _ m = absurd m
 
-  bound_held : (v : Bool) (r : ℕ) (b : Bool) (n : ℤ) → Bound (map (use_of v) (held_item t r b n))
-  bound_held v r true (pos n) = elim (ltb n (slot_count t r)) as (λ c. Bound (map (use_of v) (cond c (one (Rattle.world_parts.specs.Items.slot_at r n) ∷ []) []))) [ true ↦ bound_one (Rattle.world_parts.specs.Items.slot_at r n) v tt | false ↦ bound_nothing ]
-  bound_held v r false (pos n) = elim (ltb n (length t.descriptors)) as (λ c. Bound (map (use_of v) (cond c (one (Rattle.world_parts.specs.Items.descriptor_at n) ∷ []) []))) [ true ↦ bound_one (Rattle.world_parts.specs.Items.descriptor_at n) v tt | false ↦ bound_nothing ]
-  bound_held v r b (negsuc n) = bound_nothing
+  bound_held : (v : Bool) (r : ℕ) (f : File) → Bound (map (use_of v) (held_item t r f))
+  bound_held v r (in_slot n) = elim (ltb n (slot_count t r)) as (λ c. Bound (map (use_of v) (cond c (one (Rattle.world_parts.specs.Items.slot_at r n) ∷ []) []))) [ true ↦ bound_one (Rattle.world_parts.specs.Items.slot_at r n) v tt | false ↦ bound_nothing ]
+  bound_held v r (at_descriptor n) = elim (ltb n (length t.descriptors)) as (λ c. Bound (map (use_of v) (cond c (one (Rattle.world_parts.specs.Items.descriptor_at n) ∷ []) []))) [ true ↦ bound_one (Rattle.world_parts.specs.Items.descriptor_at n) v tt | false ↦ bound_nothing ]
 
   module _ (r : ℕ) where
-    held_leads : (b : Bool) (n : ℤ) → IfSome (held t s r b n) (λ d. IsSome (opened s d))
-    held_leads true (pos n) = elim (ltb n (slot_count t r)) as (λ c. IfSome (cond c (slot s r n) None) (λ d. IsSome (opened s d))) [ true ↦ w.slots_lead r n | false ↦ tt ]
-    held_leads false (pos n) = elim (ltb n (length t.descriptors)) as (λ c. IfSome (cond c (descriptor s n) None) (λ d. IsSome (opened s d))) [ true ↦ w.descriptors_lead n | false ↦ tt ]
-    held_leads b (negsuc n) = tt
+    held_leads : (f : File) → IfSome (held t s r f) (λ d. IsSome (opened s d))
+    held_leads (in_slot n) = elim (ltb n (slot_count t r)) as (λ c. IfSome (cond c (slot s r n) None) (λ d. IsSome (opened s d))) [ true ↦ w.slots_lead r n | false ↦ tt ]
+    held_leads (at_descriptor n) = elim (ltb n (length t.descriptors)) as (λ c. IfSome (cond c (descriptor s n) None) (λ d. IsSome (opened s d))) [ true ↦ w.descriptors_lead n | false ↦ tt ]
 
     bound_position : (o : ℕ) (h : Handle) → T (ltb h.description (made_description t k)) → Bound (position_written h o)
     bound_position o h e = elim (o == at_position) as (λ b. Bound (cond b (writes (one (position_of h.description)) ∷ []) [])) [ true ↦ bound_one (position_of h.description) true e | false ↦ bound_nothing ]
@@ -100,7 +98,7 @@ module _ (t : Trace) (k : ℕ) (s : World) (w : IsWorld s) (before : IsBefore t 
     BoundContent c = (i : ℕ) (h : Handle) → T (ltb i (made_node t k)) → T (ltb h.description (made_description t k)) → Bound (c i h)
 
     bound_file : (f : File) (c : ℕ → Handle → Footprint) → BoundContent c → Bound (on_file t s r f c)
-    bound_file f c h = bound_all (file_reads t r f) _ (bound_held false r f.registered f.number) (at (held t s r f.registered f.number) (held_leads f.registered f.number))
+    bound_file f c h = bound_all (file_reads t r f) _ (bound_held false r f) (at (held t s r f) (held_leads f))
       where
         content : (d : ℕ) → T (ltb d (made_description t k)) → (y : Option Description) → IfSome (option_map (opened_by s) y) (λ (o : Opened). IsSome o.target.kind)
             → Bound (each (of_file c) (option_map (λ (o : Opened). record { description = d; opened = o }) (option_map (opened_by s) y)))
@@ -112,7 +110,7 @@ module _ (t : Trace) (k : ℕ) (s : World) (w : IsWorld s) (before : IsBefore t 
         at (Some d) l = bound_all (reads (one (description_at d)) ∷ []) _ (bound_one (description_at d) false (description_before d l)) (content d (description_before d l) (get s.descriptions d) (w.descriptions_lead d))
 
     bound_transfer : (f : File) (o : ℕ) (c : ℕ → Handle → Footprint) → BoundContent c → Bound (on_file t s r f c ++ position_use t s r f o)
-    bound_transfer f o c h = bound_all (on_file t s r f c) _ (bound_file f c h) (at (held t s r f.registered f.number) (held_leads f.registered f.number))
+    bound_transfer f o c h = bound_all (on_file t s r f c) _ (bound_file f c h) (at (held t s r f) (held_leads f))
       where
         of_handle : (d : ℕ) → T (ltb d (made_description t k)) → (x : Option Opened) → Bound (each (λ h. position_written h o) (option_map (λ (y : Opened). record { description = d; opened = y }) x))
         of_handle d e None = bound_nothing
@@ -222,10 +220,6 @@ module _ (t : Trace) (k : ℕ) (s : World) (w : IsWorld s) (before : IsBefore t 
     bound_opened g q e None l = elim g.create as (λ b. Bound (cond b (name_written q ++ []) [])) [ true ↦ bound_all (name_written q) [] (bound_name q e) bound_nothing | false ↦ bound_nothing ]
     bound_opened g q e (Some y) l = elim (g.truncate && not (is_directory y.kind)) as (λ b. Bound (cond b (writes (one (size_of y.node)) ∷ writes (range_of y.node 0 file_limit) ∷ []) [])) [ true ↦ bound_cut y.node 0 l | false ↦ bound_nothing ]
 
-    bound_close : (number : ℤ) (index : ℕ) → Bound (close_row t r number index)
-    bound_close number zero = bound_held true r false number
-    bound_close number (suc n) = bound_held true r true (pos n)
-
     bound_paths : (old new : Path) → Bound (path_reads s old ++ path_reads s new)
     bound_paths old new = bound_all (path_reads s old) _ (bound_path old) (bound_path new)
 
@@ -235,13 +229,13 @@ module _ (t : Trace) (k : ℕ) (s : World) (w : IsWorld s) (before : IsBefore t 
 
     shape_bound : (x : Shape) → Bound (shape_row t k r s foreseen x)
     shape_bound idle = bound_nothing
-    shape_bound (looking f) = bound_held false r f.registered f.number
+    shape_bound (looking f) = bound_held false r f
     shape_bound (moving w f o n None) = bound_moved w f o n
     shape_bound (moving w f o n (Some x)) = bound_all _ (span_use (not w) t r x) (bound_moved w f o n) (bound_span (not w) x)
     shape_bound (allocating f o n mode) = bound_file f (allocated_content s foreseen o n mode) (λ i h e d. bound_allocation i o (o + n) (allocation mode) e)
     shape_bound (resizing f n) = bound_file f (resized_content n) (λ i h e d. bound_cut i n e)
-    shape_bound (closing number index) = bound_close number index
-    shape_bound (opening p g index) = bound_all ((path_reads s p ++ []) ++ []) _ (bound_all (path_reads s p ++ []) [] (bound_all (path_reads s p) [] (bound_path p) bound_nothing) bound_nothing) (bound_place (λ (q : Place). open_uses t k foreseen g q q.target) (λ q e l. bound_opened g q e q.target l) (walk s.nodes p) (placed p))
+    shape_bound (closing f) = bound_held true r f
+    shape_bound (opening p g asked) = bound_all ((path_reads s p ++ []) ++ []) _ (bound_all (path_reads s p ++ []) [] (bound_all (path_reads s p) [] (bound_path p) bound_nothing) bound_nothing) (bound_place (λ (q : Place). open_uses t k foreseen g q q.target) (λ q e l. bound_opened g q e q.target l) (walk s.nodes p) (placed p))
     shape_bound (making p) = bound_all (path_reads s p) _ (bound_path p) (bound_place (λ (q : Place). name_written q ++ []) (λ q e l. bound_all (name_written q) [] (bound_name q e) bound_nothing) (walk s.nodes p) (placed p))
     shape_bound (freeing p removes) = bound_all (path_reads s p) _ (bound_path p) (bound_place (λ (q : Place). name_written q ++ cond removes (directory_names q.target) []) (λ q e l. bound_all (name_written q) _ (bound_name q e) (bound_removed removes q.target l)) (walk s.nodes p) (placed p))
     shape_bound (linking old new) = bound_all (path_reads s old ++ path_reads s new) _ (bound_paths old new) (bound_place name_written (λ q e l. bound_name q e) (walk s.nodes new) (placed new))

@@ -1,12 +1,12 @@
 -- Operations that use no more than the slot or descriptor of a file number: nop, fsync and close.
-use Rattle.std.specs.Prelude.{◌≡◌, ℕ, ℤ, pos, negsuc, zero, suc, Bool, true, false, cond, ◌||◌, ltb, T, List, [], ◌∷◌, map, length, Option, None, Ok, refl}
+use Rattle.std.specs.Prelude.{◌≡◌, ℕ, Bool, true, false, cond, ◌||◌, ltb, T, List, [], ◌∷◌, map, length, Option, None, Ok, refl}
 use Rattle.std.specs.Option.{is_some}
 use mathlib.Core.Path.{sym, subst, ap}
 use lib.Dec.{eqb_refl}
 use Rattle.sqe_codec.specs.declared.errno.Errno.TheVariants.{EBADF, EINVAL}
 use Rattle.trace_format.specs.declared.trace.Trace.{Trace}
 use Rattle.sqe_codec.specs.Answers.{◌>>◌, require}
-use Rattle.entry_checks.specs.Operation.{nop, fsync, close, File}
+use Rattle.entry_checks.specs.Operation.{nop, fsync, close, File, in_slot, at_descriptor}
 use Rattle.world_parts.specs.World.{World, slot, set_slot, set_descriptor}
 use Rattle.op_meaning.specs.Meaning.{done, slot_count, held}
 use Rattle.world_parts.specs.Items.{Atom, slot_at, descriptor_at, member_of, Item, one, reads, writes, has_atom, writes_atom, Agree}
@@ -27,10 +27,10 @@ nop_owes t k r s w = record {
 pub fsync_owes : (t : Trace) (k r : ℕ) (s : World) (f : File) → Awaits t k s → Owes t k r (fsync f) s
 fsync_owes t k r s f w = record {
   tells = λ u b a. record {
-    same_meaning = ap (λ x. require (is_some x) EBADF >> Ok (done [])) (held_same t s u r f.registered f.number a);
+    same_meaning = ap (λ x. require (is_some x) EBADF >> Ok (done [])) (held_same t s u r f a);
     same_row = λ c. refl;
   };
-  supports = λ u v a e q. let m = was_required (is_some (held t u r f.registered f.number)) EBADF (Ok (done [])) e q in supports_effect (file_reads t r f) u (done []) e m.1 tt;
+  supports = λ u v a e q. let m = was_required (is_some (held t u r f)) EBADF (Ok (done [])) e q in supports_effect (file_reads t r f) u (done []) e m.1 tt;
 }
 
 -- What a footprint writes of some items, worlds that agree on it agree on.
@@ -42,31 +42,27 @@ agree_written : (s u : World) (xs : List Item) → Agree (map writes xs) s u →
 agree_written s u xs h = record { same = λ a m. h.same a (read_too xs a m) }
 
 -- The slot or descriptor of a number that is written, where it is one.
-writes_slot : (t : Trace) (r n : ℕ) → T (ltb n (slot_count t r)) → T (writes_atom (map writes (held_item t r true (pos n))) (slot_at r n))
+writes_slot : (t : Trace) (r n : ℕ) → T (ltb n (slot_count t r)) → T (writes_atom (map writes (held_item t r (in_slot n))) (slot_at r n))
 writes_slot t r n h = subst (λ b. T (writes_atom (map writes (cond b (one (slot_at r n) ∷ []) [])) (slot_at r n))) (sym (true_of _ h)) (either_left _ _ (same_atom_refl (slot_at r n)))
 
-writes_descriptor : (t : Trace) (r n : ℕ) → T (ltb n (length t.descriptors)) → T (writes_atom (map writes (held_item t r false (pos n))) (descriptor_at n))
+writes_descriptor : (t : Trace) (r n : ℕ) → T (ltb n (length t.descriptors)) → T (writes_atom (map writes (held_item t r (at_descriptor n))) (descriptor_at n))
 writes_descriptor t r n h = subst (λ b. T (writes_atom (map writes (cond b (one (descriptor_at n) ∷ []) [])) (descriptor_at n))) (sym (true_of _ h)) (either_left _ _ (eqb_refl n))
 
 there_first : {A : Type 0} (b : Bool) (x : Option A) → T (is_some (cond b x None)) → T b
 there_first true x h = tt
 there_first false x h = h
 
-pub close_owes : (t : Trace) (k r : ℕ) (s : World) (number : ℤ) (index : ℕ) → Awaits t k s → Owes t k r (close number index) s
-close_owes t k r s (negsuc n) zero w = record {
-  tells = λ u b a. record { same_meaning = refl; same_row = λ c. refl };
-  supports = λ u v a e q. absurd (was_required false EBADF (Ok (done [])) e q).0;
-}
-close_owes t k r s (pos n) zero w = record {
+pub close_owes : (t : Trace) (k r : ℕ) (s : World) (f : File) → Awaits t k s → Owes t k r (close f) s
+close_owes t k r s (at_descriptor n) w = record {
   tells = λ u b a. record {
-    same_meaning = ap (λ x. require (is_some x) EBADF >> Ok (done (set_descriptor n None ∷ []))) (held_same t s u r false (pos n) (agree_written s u (held_item t r false (pos n)) a));
+    same_meaning = ap (λ x. require (is_some x) EBADF >> Ok (done (set_descriptor n None ∷ []))) (held_same t s u r (at_descriptor n) (agree_written s u (held_item t r (at_descriptor n)) a));
     same_row = λ c. refl;
   };
   supports = λ u v a e q.
-      let m = was_required (is_some (held t u r false (pos n))) EBADF (Ok (done (set_descriptor n None ∷ []))) e q in
-      supports_effect (map writes (held_item t r false (pos n))) u (done (set_descriptor n None ∷ [])) e m.1 (writes_descriptor t r n (there_first _ _ m.0), tt);
+      let m = was_required (is_some (held t u r (at_descriptor n))) EBADF (Ok (done (set_descriptor n None ∷ []))) e q in
+      supports_effect (map writes (held_item t r (at_descriptor n))) u (done (set_descriptor n None ∷ [])) e m.1 (writes_descriptor t r n (there_first _ _ m.0), tt);
 }
-close_owes t k r s number (suc n) w = record {
+close_owes t k r s (in_slot n) w = record {
   tells = λ u b a. record {
     same_meaning = after_require (ltb n (slot_count t r)) EINVAL _ _ (λ h. ap (λ x. require (is_some x) EBADF >> Ok (done (set_slot r n None ∷ []))) (slot_same u h a));
     same_row = λ c. refl;
@@ -74,8 +70,8 @@ close_owes t k r s number (suc n) w = record {
   supports = λ u v a e q.
       let m = was_required (ltb n (slot_count t r)) EINVAL _ e q in
       let l = was_required (is_some (slot u r n)) EBADF _ e m.1 in
-      supports_effect (map writes (held_item t r true (pos n))) u (done (set_slot r n None ∷ [])) e l.1 (writes_slot t r n m.0, tt);
+      supports_effect (map writes (held_item t r (in_slot n))) u (done (set_slot r n None ∷ [])) e l.1 (writes_slot t r n m.0, tt);
 }
   where
-    slot_same : (u : World) → T (ltb n (slot_count t r)) → Agree (map writes (held_item t r true (pos n))) s u → slot u r n ≡ slot s r n
+    slot_same : (u : World) → T (ltb n (slot_count t r)) → Agree (map writes (held_item t r (in_slot n))) s u → slot u r n ≡ slot s r n
     slot_same u h a = sym (a.same (slot_at r n) (subst (λ b. T (has_atom (map writes (cond b (one (slot_at r n) ∷ []) [])) (slot_at r n))) (sym (true_of _ h)) (either_left _ _ (same_atom_refl (slot_at r n)))))

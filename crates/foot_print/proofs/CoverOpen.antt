@@ -1,5 +1,5 @@
 -- The footprint of a place that opens a file covers it.
-use Rattle.std.specs.Prelude.{◌≡◌, ℕ, zero, suc, Bool, true, false, cond, not, ◌&&◌, ◌||◌, ◌==◌, ltb, leb, ◌<◌, ◌≤◌, T, List, [], ◌∷◌, ◌++◌, map, length, Option, Some, None, Ok, ok_or, is_none, is_ok, refl, IfSome}
+use Rattle.std.specs.Prelude.{◌≡◌, ℕ, Bool, true, false, cond, not, ◌&&◌, ◌||◌, ◌==◌, ltb, leb, ◌<◌, ◌≤◌, T, List, [], ◌∷◌, ◌++◌, map, length, Option, Some, None, Ok, ok_or, is_none, is_ok, refl, IfSome}
 use Rattle.std.specs.List.{find, range_with_len}
 use Rattle.std.specs.Option.{option_map}
 use mathlib.Core.Path.{sym, subst, ap, ◌∙◌}
@@ -9,12 +9,12 @@ use lib.Dec.{eqb_refl, lt→ltb, le→leb}
 use Rattle.sqe_codec.specs.declared.errno.Errno.TheVariants.{ENOENT, EEXIST, EISDIR, ENOTDIR, EINVAL, EMFILE}
 use Rattle.trace_format.specs.declared.trace.Trace.{Trace}
 use Rattle.sqe_codec.specs.Answers.{◌>>=◌, ◌>>◌, require, each, each_ok}
-use Rattle.entry_checks.specs.Operation.{openat, Path, OpenFlags, file_limit}
+use Rattle.entry_checks.specs.Operation.{openat, Path, OpenFlags, file_limit, File, in_slot, at_descriptor}
 use Rattle.world_parts.specs.World.{World, kind, size, Change, set_name, set_size, make_node, make_description, apply}
 use Rattle.file_tree.specs.Tree.{a_file, Target}
 use Rattle.extent_bytes.specs.Bytes.{resized}
 use Rattle.file_tree.specs.Walk.{Place, walk, is_directory}
-use Rattle.op_meaning.specs.Meaning.{Effect, made_node, made_description, slot_count, Room, in_slot, at_descriptor, lowest_free, room, filled, may_open, found_or_made, open_changes, opened_with, open_as}
+use Rattle.op_meaning.specs.Meaning.{Effect, made_node, made_description, slot_count, lowest_free, room, filled, may_open, found_or_made, open_changes, opened_with, open_as}
 use Rattle.world_parts.specs.Items.{slot_at, descriptor_at, description_at, position_of, size_of, byte_at, one, all_descriptors, reads, writes, Footprint, has_atom, writes_atom, Agree, Holds}
 use Rattle.op_meaning.specs.Footprint.{tried, row, made_where, name_written, path_reads, range_of, room_uses, description_made, open_uses}
 use Rattle.foot_print.specs.Laws.{Awaits, Unused}
@@ -33,39 +33,39 @@ use Rattle.foot_print.proofs.Accepted.{err_apart, ok_same, ok_bind, ok_then, hol
 
 -- The room of openat is decided by what its row has of slots and descriptors.
 module _ (t : Trace) (s u : World) (r : ℕ) where
-  lowest_same : Agree (room_uses t s r zero) s u → lowest_free t u ≡ lowest_free t s
+  lowest_same : Agree (room_uses t s r None) s u → lowest_free t u ≡ lowest_free t s
   lowest_same a = λ i. find (λ n. is_none (sym (a.same (descriptor_at n) tt) i)) (range_with_len 0 (length t.descriptors))
 
-  room_same : (index : ℕ) → Agree (room_uses t s r index) s u → room t u r index ≡ room t s r index
-  room_same zero a = ap (λ x. ok_or (option_map at_descriptor x) EMFILE) (lowest_same a)
-  room_same (suc n) a = refl
+  room_same : (asked : Option ℕ) → Agree (room_uses t s r asked) s u → room t u r asked ≡ room t s r asked
+  room_same None a = ap (λ x. ok_or (option_map at_descriptor x) EMFILE) (lowest_same a)
+  room_same (Some n) a = refl
 
-  room_uses_same : (index : ℕ) → Agree (room_uses t s r index) s u → room_uses t u r index ≡ room_uses t s r index
-  room_uses_same zero a = ap (λ x. reads all_descriptors ∷ each (λ n. writes (one (descriptor_at n)) ∷ []) x) (lowest_same a)
-  room_uses_same (suc n) a = refl
+  room_uses_same : (asked : Option ℕ) → Agree (room_uses t s r asked) s u → room_uses t u r asked ≡ room_uses t s r asked
+  room_uses_same None a = ap (λ x. reads all_descriptors ∷ each (λ n. writes (one (descriptor_at n)) ∷ []) x) (lowest_same a)
+  room_uses_same (Some n) a = refl
 
-openat_tells : (t : Trace) (k r : ℕ) (s u : World) (p : Path) (g : OpenFlags) (index : ℕ) → RowTells t k r s u (openat p g index)
-openat_tells t k r s u p g index x a =
+openat_tells : (t : Trace) (k r : ℕ) (s u : World) (p : Path) (g : OpenFlags) (asked : Option ℕ) → RowTells t k r s u (openat p g asked)
+openat_tells t k r s u p g asked x a =
     let made = made_where (tried x) (description_made t k) in
     let at_place = each_ok (λ (q : Place). open_uses t k (tried x) g q q.target) (walk s.nodes p) in
-    let before = agree_left s u (path_reads s p ++ room_uses t s r index) made (agree_left s u (path_reads s p ++ room_uses t s r index ++ made) at_place a) in
-    let path = agree_left s u (path_reads s p) (room_uses t s r index) before in
-    let rooms = agree_right s u (path_reads s p) (room_uses t s r index) before in
+    let before = agree_left s u (path_reads s p ++ room_uses t s r asked) made (agree_left s u (path_reads s p ++ room_uses t s r asked ++ made) at_place a) in
+    let path = agree_left s u (path_reads s p) (room_uses t s r asked) before in
+    let rooms = agree_right s u (path_reads s p) (room_uses t s r asked) before in
     let walked = walk_same s u p path in
-    let in_room = room_same t s u r index rooms in
+    let in_room = room_same t s u r asked rooms in
     record {
       same_meaning = λ i. in_room i >>= λ at. walked i >>= λ q. may_open g q.target >> Ok (open_as t k r g at q);
-      same_row = λ y i. path_reads_same s u p path i ++ room_uses_same t s u r index rooms i ++ made_where (tried y) (description_made t k) ++ each_ok (λ (q : Place). open_uses t k (tried y) g q q.target) (walked i);
+      same_row = λ y i. path_reads_same s u p path i ++ room_uses_same t s u r asked rooms i ++ made_where (tried y) (description_made t k) ++ each_ok (λ (q : Place). open_uses t k (tried y) g q q.target) (walked i);
     }
 
 -- The row writes the room that is filled.
-room_supported : (t : Trace) (s z : World) (r index d : ℕ) (at : Room) (f : Footprint) → room t s r index ≡ Ok at → Holds f (room_uses t s r index) → SupportsAll f z (filled r at d).changes
-room_supported t s z r zero d at f h w = by (lowest_free t s) h w
+room_supported : (t : Trace) (s z : World) (r d : ℕ) (asked : Option ℕ) (at : File) (f : Footprint) → room t s r asked ≡ Ok at → Holds f (room_uses t s r asked) → SupportsAll f z (filled r at d).changes
+room_supported t s z r d None at f h w = by (lowest_free t s) h w
   where
     by : (o : Option ℕ) → ok_or (option_map at_descriptor o) EMFILE ≡ Ok at → Holds f (reads all_descriptors ∷ each (λ n. writes (one (descriptor_at n)) ∷ []) o) → SupportsAll f z (filled r at d).changes
     by None q k = absurd (err_apart q)
     by (Some n) q k = subst (λ x. SupportsAll f z (filled r x d).changes) (ok_same (at_descriptor n) at q) (k.writes (descriptor_at n) (either_left _ _ (eqb_refl n)), tt)
-room_supported t s z r (suc n) d at f h w = by (ltb n (slot_count t r)) h w
+room_supported t s z r d (Some n) at f h w = by (ltb n (slot_count t r)) h w
   where
     by : (b : Bool) → (require b EINVAL >> Ok (in_slot n)) ≡ Ok at → Holds f (map writes (cond b (one (slot_at r n) ∷ []) [])) → SupportsAll f z (filled r at d).changes
     by true q k = subst (λ x. SupportsAll f z (filled r x d).changes) (ok_same (in_slot n) at q) (k.writes (slot_at r n) (either_left _ _ (both _ _ (eqb_refl r) (eqb_refl n))), tt)
@@ -134,25 +134,25 @@ module _ (t : Trace) (k : ℕ) (s : World) (g : OpenFlags) (w : Unused t k s) (q
       by false c h = absurd c
   target_supported (Some y) l c h = found_supported y l (cuts_a_file (is_directory y.kind) g.create g.truncate (not (g.access == 0)) (second_test _ _ _ c)) h
 
-openat_supports : (t : Trace) (k r : ℕ) (s : World) (p : Path) (g : OpenFlags) (index : ℕ) → Unused t k s
-    → ((i : ℕ) → T (has_atom (row t k r s (tried true) (openat p g index)) (size_of i)) → IfSome (size s i) (λ n. n ≤ file_limit)) → RowSupports t k r s (openat p g index)
-openat_supports t k r s p g index w fits e h =
-    let at = ok_bind (room t s r index) _ e h in
+openat_supports : (t : Trace) (k r : ℕ) (s : World) (p : Path) (g : OpenFlags) (asked : Option ℕ) → Unused t k s
+    → ((i : ℕ) → T (has_atom (row t k r s (tried true) (openat p g asked)) (size_of i)) → IfSome (size s i) (λ n. n ≤ file_limit)) → RowSupports t k r s (openat p g asked)
+openat_supports t k r s p g asked w fits e h =
+    let at = ok_bind (room t s r asked) _ e h in
     let q = ok_bind (walk s.nodes p) _ e at.2 in
     let last = ok_then (may_open g q.0.target) _ e q.2 in
     let made = description_made t k in
     let uses : Place → Footprint = λ x. open_uses t k (tried true) g x x.target in
     let places = each_ok uses (walk s.nodes p) in
-    let looks = path_reads s p ++ room_uses t s r index in
+    let looks = path_reads s p ++ room_uses t s r asked in
     let row_is = looks ++ made ++ places in
-    let rooms = holds_over row_is looks (room_uses t s r index) (holds_over row_is (looks ++ made) looks (holds_left (looks ++ made) places) (holds_left looks made)) (holds_right (path_reads s p) (room_uses t s r index)) in
+    let rooms = holds_over row_is looks (room_uses t s r asked) (holds_over row_is (looks ++ made) looks (holds_left (looks ++ made) places) (holds_left looks made)) (holds_right (path_reads s p) (room_uses t s r asked)) in
     let describes = holds_over row_is (looks ++ made) made (holds_left (looks ++ made) places) (holds_right looks made) in
     let here = holds_over row_is places (uses q.0) (holds_right (looks ++ made) places) (holds_ok uses (walk s.nodes p) q.0 q.1) in
     subst (λ (x : Effect). SupportsAll row_is s x.changes) (ok_same (open_as t k r g at.0 q.0) e last.0)
-    (target_supported t k s g w q.0 row_is fits (filled r at.0 (made_description t k)).changes (λ z. room_supported t s z r index (made_description t k) at.0 row_is at.1 rooms) describes q.0.target (walk_leads s p q.0 q.1) last.1 here)
+    (target_supported t k s g w q.0 row_is fits (filled r at.0 (made_description t k)).changes (λ z. room_supported t s z r (made_description t k) asked at.0 row_is at.1 rooms) describes q.0.target (walk_leads s p q.0 q.1) last.1 here)
 
-pub openat_owes : (t : Trace) (k r : ℕ) (s : World) (p : Path) (g : OpenFlags) (index : ℕ) → Awaits t k s → Owes t k r (openat p g index) s
-openat_owes t k r s p g index w = record {
-  tells = λ u. openat_tells t k r s u p g index;
-  supports = λ u v a. openat_supports t k r u p g index v (sizes_fit (row t k r u (tried true) (openat p g index)) s u w.is_world (subst (λ f. Agree f s u) (sym ((openat_tells t k r s u p g index true a).same_row true)) a));
+pub openat_owes : (t : Trace) (k r : ℕ) (s : World) (p : Path) (g : OpenFlags) (asked : Option ℕ) → Awaits t k s → Owes t k r (openat p g asked) s
+openat_owes t k r s p g asked w = record {
+  tells = λ u. openat_tells t k r s u p g asked;
+  supports = λ u v a. openat_supports t k r u p g asked v (sizes_fit (row t k r u (tried true) (openat p g asked)) s u w.is_world (subst (λ f. Agree f s u) (sym ((openat_tells t k r s u p g asked true a).same_row true)) a));
 }

@@ -14,7 +14,7 @@ use Rattle.world_parts.specs.World.{World, Broken}
 use Rattle.op_meaning.specs.Meaning.{meaning}
 use Rattle.op_meaning.specs.Step.{Turn, filled, refused, canceled, runs, running_turn, entry_turn, turn_under, turn, reply_of, changes_in, step_reply, step_changes, run_reply, changes_of, breaks, failed}
 use Rattle.sqe_codec.specs.Answers.{each}
-use Rattle.world_parts.specs.Items.{Atom, chain_flag, value, Item, one, Use, reads, writes, Footprint, has_atom, Agree}
+use Rattle.world_parts.specs.Items.{chain_flag, one, writes, Agree}
 use Rattle.op_meaning.specs.Footprint.{use_of, row_in, order_uses, turn_uses, ring_at, footprint}
 use Rattle.foot_print.proofs.Agreement.{agree_left, agree_right, agree_head, agree_tail}
 
@@ -24,9 +24,6 @@ pub record Decided (t : Trace) (k r : ℕ) (s u : World) (o : Operation) : Type 
   pub same_row : row_in t k r u o ≡ row_in t k r s o
 
 module _ (t : Trace) (k : ℕ) where
-  c : Role
-  c = role t k
-
   -- In a chain of one place the flag decides nothing.
   alone : (r : ℕ) (e : Entry) (x : Role) (o : Operation) (b : Option Broken) → leb 2 x.length ≡ false → running_turn r e x b o ≡ runs r e o
   alone r e x o None h = refl

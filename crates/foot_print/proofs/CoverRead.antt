@@ -134,8 +134,8 @@ read_same t s u r f o n span w a =
 -- What an operation has of an open file is the same in every world that agrees on it.
 pub on_file_same : (t : Trace) (s u : World) (r : ℕ) (f : File) (c : ℕ → Handle → Footprint) → Agree (on_file t s r f c) s u → on_file t u r f c ≡ on_file t s r f c
 on_file_same t s u r f c a =
-    (λ i. file_reads t r f ++ each (of_description u c) (held_same t s u r f.registered f.number (agree_left s u _ _ a) i))
-    ∙ ap (λ x. file_reads t r f ++ x) (at_description (held t s r f.registered f.number) (agree_right s u (file_reads t r f) _ a))
+    (λ i. file_reads t r f ++ each (of_description u c) (held_same t s u r f (agree_left s u _ _ a) i))
+    ∙ ap (λ x. file_reads t r f ++ x) (at_description (held t s r f) (agree_right s u (file_reads t r f) _ a))
   where
     at_description : (d : Option ℕ) → Agree (each (of_description s c) d) s u → each (of_description u c) d ≡ each (of_description s c) d
     at_description None k = refl

@@ -193,10 +193,6 @@ drop_none : {A : Type 0} (n : ℕ) → ◌≡◌ {A = List A} (drop n []) []
 drop_none zero = refl
 drop_none (suc n) = refl
 
-take_none : {A : Type 0} (n : ℕ) → ◌≡◌ {A = List A} (take n []) []
-take_none zero = refl
-take_none (suc n) = refl
-
 -- A slice is decided by what is found in its range.
 slice_decided : (n at : ℕ) (xs ys : List ℕ) → ((p : ℕ) → at ≤ p → p < at + n → slice_get xs p ≡ slice_get ys p) → take n (drop at xs) ≡ take n (drop at ys)
 slice_decided zero at xs ys h = refl
@@ -219,9 +215,6 @@ span_bytes_same t s u r x a = by (span_start t r x) refl
   where
     n : ℕ
     n = min x.length most_moved
-
-    held : World → List ℕ
-    held w = unwrap_or (buffer w r x.index) []
 
     by : (y : Option ℕ) → span_start t r x ≡ y → ok_or (option_map (λ at. take (min x.length most_moved) (drop at (unwrap_or (buffer u r x.index) []))) y) EFAULT ≡ ok_or (option_map (λ at. take (min x.length most_moved) (drop at (unwrap_or (buffer s r x.index) []))) y) EFAULT
     by None e = refl

@@ -85,7 +85,7 @@ module _ (p : Atom → Bool) where
 
   -- What an operation has of an open file is held where its content is.
   pub over_on_file : (t : Trace) (s : World) (r : ℕ) (f : File) (c d : ℕ → Handle → Footprint) → ((i : ℕ) (h : Handle) → Over p (c i h) (d i h)) → Over p (on_file t s r f c) (on_file t s r f d)
-  over_on_file t s r f c d x = over_both (file_reads t r f) _ (file_reads t r f) _ (over_self (file_reads t r f)) (at (held t s r f.registered f.number))
+  over_on_file t s r f c d x = over_both (file_reads t r f) _ (file_reads t r f) _ (over_self (file_reads t r f)) (at (held t s r f))
     where
       of_handle : (o : Option Handle) → Over p (each (of_file c) o) (each (of_file d) o)
       of_handle None = over_nothing []

@@ -27,7 +27,7 @@ keeps : (t : Trace) (k r : ℕ) (o : Operation) (s : World) → Awaits t k s →
 keeps t k r nop s w = contents_keep t k r s nop w.is_world (λ x e. subst (λ (y : Effect). AllOfContents y.changes) (ok_same (done []) x e) tt)
 keeps t k r (readv f o n) s w = contents_keep t k r s (readv f o n) w.is_world (λ x e. read_contents t s r f o (min n most_moved) (Ok reply) x e)
 keeps t k r (writev f o new) s w = contents_keep t k r s (writev f o new) w.is_world (λ x e. write_contents t s r f o (Ok new) x e)
-keeps t k r (fsync f) s w = contents_keep t k r s (fsync f) w.is_world (λ x e. synced x (is_some (held t s r f.registered f.number)) e)
+keeps t k r (fsync f) s w = contents_keep t k r s (fsync f) w.is_world (λ x e. synced x (is_some (held t s r f)) e)
   where
     synced : (x : Effect) (b : Bool) → (require b EBADF >> Ok (done [])) ≡ Ok x → AllOfContents x.changes
     synced x false e = absurd (err_apart e)
@@ -35,8 +35,8 @@ keeps t k r (fsync f) s w = contents_keep t k r s (fsync f) w.is_world (λ x e. 
 keeps t k r (read_fixed f o z) s w = contents_keep t k r s (read_fixed f o z) w.is_world (λ x e. read_contents t s r f o (min z.length most_moved) (span_destination t r z) x e)
 keeps t k r (write_fixed f o z) s w = contents_keep t k r s (write_fixed f o z) w.is_world (λ x e. write_contents t s r f o (span_bytes t s r z) x e)
 keeps t k r (fallocate f o n mode) s w = contents_keep t k r s (fallocate f o n mode) w.is_world (λ x e. fallocate_contents t s r f o n mode x w.is_world e)
-keeps t k r (openat p g index) s w = openat_keeps t k r s p g index w
-keeps t k r (close number index) s w = contents_keep t k r s (close number index) w.is_world (λ x e. close_contents t s r number index x e)
+keeps t k r (openat p g asked) s w = openat_keeps t k r s p g asked w
+keeps t k r (close f) s w = contents_keep t k r s (close f) w.is_world (λ x e. close_contents t s r f x e)
 keeps t k r (read f o n) s w = contents_keep t k r s (read f o n) w.is_world (λ x e. read_contents t s r f o (min n most_moved) (Ok reply) x e)
 keeps t k r (write f o new) s w = contents_keep t k r s (write f o new) w.is_world (λ x e. write_contents t s r f o (Ok new) x e)
 keeps t k r (renameat old new flags) s w = renameat_keeps t k r s old new flags w.is_world

@@ -1,5 +1,5 @@
 -- Operations on open files leave a world: their changes keep all nodes, names and descriptions.
-use Rattle.std.specs.Prelude.{◌≡◌, ℕ, ℤ, pos, negsuc, zero, suc, Bool, true, false, cond, not, ◌&&◌, ◌==◌, ltb, leb, ◌+◌, ◌-◌, ◌^◌, ◌<◌, ◌≤◌, List, [], ◌∷◌, length, take, Option, Some, None, Result, Ok, ok_or, refl, IfSome, unwrap_or}
+use Rattle.std.specs.Prelude.{◌≡◌, ℕ, Bool, true, false, cond, not, ◌&&◌, ◌==◌, ltb, leb, ◌+◌, ◌-◌, ◌^◌, ◌<◌, ◌≤◌, List, [], ◌∷◌, length, take, Option, Some, None, Result, Ok, ok_or, refl, IfSome, unwrap_or}
 use Rattle.std.specs.Option.{option_map, option_and_then, is_some}
 use Rattle.std.proofs.Math.ListN.{length-take}
 use mathlib.Core.Path.{sym, subst}
@@ -9,7 +9,7 @@ use Rattle.sqe_codec.specs.declared.errno.Errno.{Errno}
 use Rattle.sqe_codec.specs.declared.errno.Errno.TheVariants.{EBADF, EINVAL, EFBIG, EOPNOTSUPP}
 use Rattle.trace_format.specs.declared.trace.Trace.{Trace}
 use Rattle.sqe_codec.specs.Answers.{◌>>◌, require}
-use Rattle.entry_checks.specs.Operation.{file_limit, File, at_position}
+use Rattle.entry_checks.specs.Operation.{file_limit, File, at_position, in_slot, at_descriptor}
 use Rattle.finite_maps.specs.Table.{get}
 use Rattle.world_parts.specs.World.{World, IsWorld, name, slot, bytes, Change, make_node, set_slot, set_descriptor, make_description, set_position, set_size, write_bytes, zero_bytes, write_buffer, break_chain, apply}
 use Rattle.file_tree.specs.Tree.{IsTree, Node, bytes_of_node, rewritten_node}
@@ -144,7 +144,6 @@ ftruncate_contents t s r f n x h =
     let last = ok_require (leb n file_limit) EFBIG _ x b.0 in
     of_effect (done (set_size g.0.opened.target.node n ∷ [])) x last.0 (leb→le n file_limit last.1, tt)
 
-pub close_contents : (t : Trace) (s : World) (r : ℕ) (number : ℤ) (index : ℕ) (x : Effect) → close_meaning t s r number index ≡ Ok x → AllOfContents x.changes
-close_contents t s r (pos n) zero x h = of_effect (done (set_descriptor n None ∷ [])) x (ok_require (is_some (held t s r false (pos n))) EBADF _ x h).0 (tt, tt)
-close_contents t s r (negsuc n) zero x h = of_effect (done []) x (ok_require (is_some (held t s r false (negsuc n))) EBADF _ x h).0 tt
-close_contents t s r number (suc n) x h = of_effect (done (set_slot r n None ∷ [])) x (ok_require (is_some (slot s r n)) EBADF _ x (ok_require (ltb n (slot_count t r)) EINVAL _ x h).0).0 (tt, tt)
+pub close_contents : (t : Trace) (s : World) (r : ℕ) (f : File) (x : Effect) → close_meaning t s r f ≡ Ok x → AllOfContents x.changes
+close_contents t s r (at_descriptor n) x h = of_effect (done (set_descriptor n None ∷ [])) x (ok_require (is_some (held t s r (at_descriptor n))) EBADF _ x h).0 (tt, tt)
+close_contents t s r (in_slot n) x h = of_effect (done (set_slot r n None ∷ [])) x (ok_require (is_some (slot s r n)) EBADF _ x (ok_require (ltb n (slot_count t r)) EINVAL _ x h).0).0 (tt, tt)

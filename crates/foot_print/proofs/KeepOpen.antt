@@ -5,13 +5,13 @@ use native.Mathlib.Omega.{arith}
 use lib.Dec.{eqb_refl}
 use Rattle.trace_format.specs.declared.trace.Access.TheVariants.{Read, Write, Both}
 use Rattle.trace_format.specs.declared.trace.Trace.{Trace}
-use Rattle.entry_checks.specs.Operation.{openat, Path, OpenFlags}
+use Rattle.entry_checks.specs.Operation.{openat, Path, OpenFlags, File, in_slot, at_descriptor}
 use Rattle.world_parts.specs.World.{World, kind, name, opened, set_name, set_size, set_slot, set_descriptor, make_node, make_description, apply}
 use Rattle.file_tree.specs.Tree.{a_directory, a_file, Target, IsTree, rewritten_node}
 use Rattle.extent_bytes.specs.Bytes.{resized}
 use Rattle.finite_maps.specs.Table.{adjust_number}
 use Rattle.file_tree.specs.Walk.{Place, walk, is_directory}
-use Rattle.op_meaning.specs.Meaning.{Effect, made_node, made_description, Room, in_slot, at_descriptor, room, filled, may_open, found_or_made, open_changes, opened_with, access_of, open_as}
+use Rattle.op_meaning.specs.Meaning.{Effect, made_node, made_description, room, filled, may_open, found_or_made, open_changes, opened_with, access_of, open_as}
 use Rattle.world_parts.specs.Items.{description_at}
 use Rattle.foot_print.specs.Laws.{Awaits}
 use Rattle.world_parts.proofs.Collision.{true_of}
@@ -38,7 +38,7 @@ reads_alone g x h c =
     let zero = zero_asked (is_directory x.kind) g.create g.truncate (g.access == 0) (ap is_directory c) (second_test _ _ _ h) in
     ap (λ b. cond b Read (cond (g.access == 1) Write Both)) zero
 
-module _ (t : Trace) (k r : ℕ) (g : OpenFlags) (at : Room) where
+module _ (t : Trace) (k r : ℕ) (g : OpenFlags) (at : File) where
   abbrev d : ℕ
   d = made_description t k
 
@@ -56,7 +56,7 @@ module _ (t : Trace) (k r : ℕ) (g : OpenFlags) (at : Room) where
       there : is_some (opened (apply (make_description d (opened_with g x)) z) d) ≡ true
       there = ap is_some (make_description-value z d (opened_with g x) (description_at d) h) ∙ ap (λ b. is_some (cond b (Some (opened_with g x)) (opened z d))) (true_of _ (eqb_refl d))
 
-      by : (y : Room) → Leaves t k z (make_description d (opened_with g x) ∷ (filled r y d).changes)
+      by : (y : File) → Leaves t k z (make_description d (opened_with g x) ∷ (filled r y d).changes)
       by (in_slot n) = (is_world (apply (set_slot r n (Some d)) (apply (make_description d (opened_with g x)) z)) w (slotting_sound (apply (make_description d (opened_with g x)) z) r n (Some d) there described), (refl, (tt, tt)))
       by (at_descriptor n) = (is_world (apply (set_descriptor n (Some d)) (apply (make_description d (opened_with g x)) z)) w (holding_sound (apply (make_description d (opened_with g x)) z) n (Some d) there described), (refl, (tt, tt)))
 
@@ -84,9 +84,9 @@ module _ (t : Trace) (k r : ℕ) (g : OpenFlags) (at : Room) where
           let o = opened_world cut y (subst IsTree (sym look) w.is_world.tree) (sizing_sound s y.node 0 (omega arith) (sound s w.is_world)) (rewriting-kind (λ bs. resized bs 0) s y.node y.node ∙ l) some_kind (reads_alone g y c) in
           (o.0, (tt, o.1))
 
-pub openat_keeps : (t : Trace) (k r : ℕ) (s : World) (p : Path) (g : OpenFlags) (index : ℕ) → Awaits t k s → Keeps t k r s (openat p g index)
-openat_keeps t k r s p g index w e h =
-    let at = ok_bind (room t s r index) _ e h in
+pub openat_keeps : (t : Trace) (k r : ℕ) (s : World) (p : Path) (g : OpenFlags) (asked : Option ℕ) → Awaits t k s → Keeps t k r s (openat p g asked)
+openat_keeps t k r s p g asked w e h =
+    let at = ok_bind (room t s r asked) _ e h in
     let q = ok_bind (walk s.nodes p) _ e at.2 in
     let last = ok_then (may_open g q.0.target) _ e q.2 in
     subst (λ (x : Effect). Leaves t k s x.changes) (ok_same (open_as t k r g at.0 q.0) e last.0)

@@ -1,10 +1,10 @@
 -- Footprints of places name single items and ranges.
-use Rattle.std.specs.Prelude.{ℕ, ℤ, pos, negsuc, zero, suc, Bool, true, false, cond, not, ◌&&◌, ◌||◌, ◌==◌, ltb, leb, ◌+◌, T, List, [], ◌∷◌, ◌++◌, map, length, Option, Some, None, is_ok}
+use Rattle.std.specs.Prelude.{ℕ, Bool, true, false, cond, not, ◌&&◌, ◌||◌, ◌==◌, ltb, leb, ◌+◌, T, List, [], ◌∷◌, ◌++◌, map, length, Option, Some, None, is_ok}
 use Rattle.chain_plan.specs.declared.role.Role.{Role}
 use Rattle.chain_plan.specs.Chain.{role}
 use Rattle.trace_format.specs.declared.trace.Trace.{Trace}
 use Rattle.sqe_codec.specs.Answers.{each_ok}
-use Rattle.entry_checks.specs.Operation.{Operation, File, Span, Path, OpenFlags, file_limit, at_position}
+use Rattle.entry_checks.specs.Operation.{Operation, File, Span, Path, OpenFlags, file_limit, at_position, in_slot, at_descriptor}
 use Rattle.file_tree.specs.Tree.{Target}
 use Rattle.file_tree.specs.Walk.{Place, walk, names_on, is_directory}
 use Rattle.world_parts.specs.World.{World}
@@ -12,7 +12,7 @@ use Rattle.world_parts.specs.Items.{Atom, chain_flag, slot_at, descriptor_at, po
 use Rattle.world_parts.specs.Cutting.{is_narrow_use, is_narrow}
 use Rattle.op_meaning.specs.Meaning.{meaning, made_node, slot_count, span_start, Handle, handle, handle_of, held, is_file, allocation, Allocation, extend, reserve, punch, zero_extend, zero_within, lowest_free}
 use Rattle.op_meaning.specs.Step.{Turn, filled, refused, canceled, runs, turn}
-use Rattle.op_meaning.specs.Footprint.{Shape, idle, looking, moving, allocating, resizing, closing, opening, making, freeing, linking, renaming, shape, transfer_row, shape_row, use_of, as_reads, Taken, tried, is_accepted, is_foreseen, held_item, file_reads, range_of, transfer_range, position_written, of_file, of_description, on_file, span_use, position_use, would_extend, read_row, write_row, allocation_uses, path_reads, name_written, made_where, room_where, directory_names, room_uses, description_made, open_uses, openat_row, close_row, unlinkat_row, renameat_row, row, row_in, order_uses, turn_uses, ring_at, read_content}
+use Rattle.op_meaning.specs.Footprint.{Shape, idle, looking, moving, allocating, resizing, closing, opening, making, freeing, linking, renaming, shape, transfer_row, shape_row, use_of, as_reads, Taken, tried, is_accepted, is_foreseen, held_item, file_reads, range_of, transfer_range, position_written, of_file, of_description, on_file, span_use, position_use, would_extend, read_row, write_row, allocation_uses, path_reads, name_written, made_where, room_where, directory_names, room_uses, description_made, open_uses, openat_row, unlinkat_row, renameat_row, row, row_in, order_uses, turn_uses, ring_at, read_content}
 use Rattle.foot_print.specs.Parts.{FootprintsAreNarrow}
 use Rattle.foot_print.proofs.Holding.{all_append, all_each, all_each_ok}
 use Rattle.foot_print.proofs.CoverWrites.{content}
@@ -37,14 +37,13 @@ reads_narrow [] h = tt
 reads_narrow (u ∷ f) h = both (is_narrow_use (reads u.item)) _ (read_narrow u.item u.written (left (is_narrow_use u) _ h)) (reads_narrow f (right (is_narrow_use u) _ h))
 
 -- The slot or descriptor of a number, and what an operation has of an open file.
-held_narrow : (g : Item → Use) → ((a : Atom) → T (is_narrow_use (g (one a)))) → (t : Trace) (r : ℕ) (b : Bool) (n : ℤ) → T (is_narrow (map g (held_item t r b n)))
-held_narrow g h t r true (pos n) = elim (ltb n (slot_count t r)) as (λ b. T (is_narrow (map g (cond b (one (slot_at r n) ∷ []) [])))) [ true ↦ both _ _ (h (slot_at r n)) tt | false ↦ tt ]
-held_narrow g h t r false (pos n) = elim (ltb n (length t.descriptors)) as (λ b. T (is_narrow (map g (cond b (one (descriptor_at n) ∷ []) [])))) [ true ↦ both _ _ (h (descriptor_at n)) tt | false ↦ tt ]
-held_narrow g h t r b (negsuc n) = tt
+held_narrow : (g : Item → Use) → ((a : Atom) → T (is_narrow_use (g (one a)))) → (t : Trace) (r : ℕ) (f : File) → T (is_narrow (map g (held_item t r f)))
+held_narrow g h t r (in_slot n) = elim (ltb n (slot_count t r)) as (λ b. T (is_narrow (map g (cond b (one (slot_at r n) ∷ []) [])))) [ true ↦ both _ _ (h (slot_at r n)) tt | false ↦ tt ]
+held_narrow g h t r (at_descriptor n) = elim (ltb n (length t.descriptors)) as (λ b. T (is_narrow (map g (cond b (one (descriptor_at n) ∷ []) [])))) [ true ↦ both _ _ (h (descriptor_at n)) tt | false ↦ tt ]
 
 module _ (t : Trace) (s : World) (r : ℕ) where
   file_narrow : (f : File) (c : ℕ → Handle → Footprint) → ((i : ℕ) (h : Handle) → T (is_narrow (c i h))) → T (is_narrow (on_file t s r f c))
-  file_narrow f c h = both_narrow (file_reads t r f) _ (held_narrow reads (λ a. tt) t r f.registered f.number) (all_each is_narrow_use (of_description s c) (held t s r f.registered f.number) (λ d. all_each is_narrow_use (of_file c) (handle_of s d) (λ (g : Handle). at g (is_file g.opened))))
+  file_narrow f c h = both_narrow (file_reads t r f) _ (held_narrow reads (λ a. tt) t r f) (all_each is_narrow_use (of_description s c) (held t s r f) (λ d. all_each is_narrow_use (of_file c) (handle_of s d) (λ (g : Handle). at g (is_file g.opened))))
     where
       at : (g : Handle) (b : Bool) → T (is_narrow (cond b (c g.opened.target.node g) []))
       at g true = h g.opened.target.node g
@@ -94,25 +93,21 @@ module _ (t : Trace) (s : World) (r : ℕ) where
   roomed_narrow : (x : Taken) (f : Footprint) → T (is_narrow f) → T (is_narrow (room_where x f))
   roomed_narrow x f h = elim (is_foreseen x) as (λ b. T (is_narrow (cond b [] f))) [ true ↦ tt | false ↦ h ]
 
-  room_narrow : (index : ℕ) → T (is_narrow (room_uses t s r index))
-  room_narrow zero = all_each is_narrow_use (λ n. writes (one (descriptor_at n)) ∷ []) (lowest_free t s) (λ n. tt)
-  room_narrow (suc n) = held_narrow writes (λ a. tt) t r true (pos n)
+  room_narrow : (asked : Option ℕ) → T (is_narrow (room_uses t s r asked))
+  room_narrow None = all_each is_narrow_use (λ n. writes (one (descriptor_at n)) ∷ []) (lowest_free t s) (λ n. tt)
+  room_narrow (Some n) = held_narrow writes (λ a. tt) t r (in_slot n)
 
   opened_narrow : (k : ℕ) (x : Taken) (g : OpenFlags) (q : Place) (y : Option Target) → T (is_narrow (open_uses t k x g q y))
   opened_narrow k x g q None = elim g.create as (λ b. T (is_narrow (cond b (name_written q ++ made_where x (writes (one (size_of (made_node t k))) ∷ [])) []))) [ true ↦ made_narrow x (writes (one (size_of (made_node t k))) ∷ []) tt | false ↦ tt ]
   opened_narrow k x g q (Some y) = elim (g.truncate && not (is_directory y.kind)) as (λ b. T (is_narrow (cond b (writes (one (size_of y.node)) ∷ writes (range_of y.node 0 file_limit) ∷ []) []))) [ true ↦ tt | false ↦ tt ]
 
-  opening_narrow : (k : ℕ) (x : Taken) (p : Path) (g : OpenFlags) (index : ℕ) → T (is_narrow (openat_row t s k r x p g index))
-  opening_narrow k x p g index =
-      let room = room_uses t s r index in
+  opening_narrow : (k : ℕ) (x : Taken) (p : Path) (g : OpenFlags) (asked : Option ℕ) → T (is_narrow (openat_row t s k r x p g asked))
+  opening_narrow k x p g asked =
+      let room = room_uses t s r asked in
       let looks = path_reads s p ++ room_where x room in
       both_narrow (looks ++ made_where x (description_made t k)) _
-      (both_narrow looks _ (both_narrow (path_reads s p) _ (path_narrow p) (roomed_narrow x room (room_narrow index))) (made_narrow x (description_made t k) tt))
+      (both_narrow looks _ (both_narrow (path_reads s p) _ (path_narrow p) (roomed_narrow x room (room_narrow asked))) (made_narrow x (description_made t k) tt))
       (all_each_ok is_narrow_use (λ (q : Place). open_uses t k x g q q.target) (walk s.nodes p) (λ q. opened_narrow k x g q q.target))
-
-  closing_narrow : (number : ℤ) (index : ℕ) → T (is_narrow (close_row t r number index))
-  closing_narrow number zero = held_narrow writes (λ a. tt) t r false number
-  closing_narrow number (suc n) = held_narrow writes (λ a. tt) t r true (pos n)
 
   removing_narrow : (p : Path) (removes : Bool) → T (is_narrow (unlinkat_row s p removes))
   removing_narrow p removes = both_narrow (path_reads s p) _ (path_narrow p) (all_each_ok is_narrow_use (λ (q : Place). name_written q ++ cond removes (directory_names q.target) []) (walk s.nodes p) (λ q.
@@ -131,13 +126,13 @@ module _ (t : Trace) (s : World) (r : ℕ) where
 
   shape_narrow : (k : ℕ) (x : Taken) (y : Shape) → T (is_narrow (shape_row t k r s x y))
   shape_narrow k x idle = tt
-  shape_narrow k x (looking f) = held_narrow reads (λ a. tt) t r f.registered f.number
+  shape_narrow k x (looking f) = held_narrow reads (λ a. tt) t r f
   shape_narrow k x (moving w f o n None) = moved_narrow x w f o n
   shape_narrow k x (moving w f o n (Some span)) = both_narrow (transfer_row t s r x w f o n) _ (moved_narrow x w f o n) (span_narrow (not w) span)
   shape_narrow k x (allocating f o n mode) = file_narrow f (λ i h. allocation_uses (is_foreseen x || would_extend s i (o + n)) i o (o + n) (allocation mode)) (λ i h. allocation_narrow (is_foreseen x || would_extend s i (o + n)) i o (o + n) (allocation mode))
   shape_narrow k x (resizing f n) = file_narrow f (λ i h. writes (one (size_of i)) ∷ writes (range_of i n file_limit) ∷ []) (λ i h. tt)
-  shape_narrow k x (closing number index) = closing_narrow number index
-  shape_narrow k x (opening p g index) = opening_narrow k x p g index
+  shape_narrow k x (closing f) = held_narrow writes (λ a. tt) t r f
+  shape_narrow k x (opening p g asked) = opening_narrow k x p g asked
   shape_narrow k x (making p) = both_narrow (path_reads s p) _ (path_narrow p) (all_each_ok is_narrow_use (λ (q : Place). name_written q ++ made_where x (writes (one (names_in (made_node t k))) ∷ [])) (walk s.nodes p) (λ q. made_narrow x (writes (one (names_in (made_node t k))) ∷ []) tt))
   shape_narrow k x (freeing p removes) = removing_narrow p removes
   shape_narrow k x (linking old new) = both_narrow (path_reads s old ++ path_reads s new) _ (both_narrow (path_reads s old) _ (path_narrow old) (path_narrow new)) (all_each_ok is_narrow_use name_written (walk s.nodes new) (λ q. tt))

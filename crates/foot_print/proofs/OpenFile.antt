@@ -35,8 +35,8 @@ with_handle t s u r f c g d a same = ap (λ x. ok_or x EBADF >>= d) (handle_same
 -- What an operation has of an open file is the same in both worlds, where what it has of the file is.
 pub on_file_alike : (t : Trace) (s u : World) (r : ℕ) (f : File) (c d : ℕ → Handle → Footprint) → ((h : Handle) → Agree (of_file c h) s u → of_file d h ≡ of_file c h) → Agree (on_file t s r f c) s u → on_file t u r f d ≡ on_file t s r f c
 on_file_alike t s u r f c d same a =
-    (λ i. file_reads t r f ++ each (of_description u d) (held_same t s u r f.registered f.number (agree_left s u _ _ a) i))
-    ∙ ap (λ x. file_reads t r f ++ x) (at_description (held t s r f.registered f.number) (agree_right s u (file_reads t r f) _ a))
+    (λ i. file_reads t r f ++ each (of_description u d) (held_same t s u r f (agree_left s u _ _ a) i))
+    ∙ ap (λ x. file_reads t r f ++ x) (at_description (held t s r f) (agree_right s u (file_reads t r f) _ a))
   where
     of : (x : Option Handle) → Agree (each (of_file c) x) s u → each (of_file d) x ≡ each (of_file c) x
     of None k = refl
@@ -57,7 +57,7 @@ on_file_same t s u r f c d same a = on_file_alike t s u r f c d by a
 
 -- What a file's part has, what the operation has of the open file has.
 pub in_on_file : (t : Trace) (s : World) (r : ℕ) (f : File) (c : ℕ → Handle → Footprint) (p : Use → Bool) (h : Handle) → handle t s r f ≡ Some h → T (is_file h.opened) → T (list_any p (c h.opened.target.node h)) → T (list_any p (on_file t s r f c))
-in_on_file t s r f c p h e i m = in_right p (file_reads t r f) _ (within (held t s r f.registered f.number) e)
+in_on_file t s r f c p h e i m = in_right p (file_reads t r f) _ (within (held t s r f) e)
   where
     of : (x : Option Handle) → x ≡ Some h → T (list_any p (each (of_file c) x))
     of None k = absurd (some_apart (sym k))
@@ -73,7 +73,7 @@ on_its_file t s u c h i a = subst (λ b. Agree (cond b (c h.opened.target.node h
 
 -- A handle is of an open description.
 pub handle_opened : (t : Trace) (s : World) (r : ℕ) (f : File) (h : Handle) → handle t s r f ≡ Some h → opened s h.description ≡ Some h.opened
-handle_opened t s r f h e = by (held t s r f.registered f.number) e
+handle_opened t s r f h e = by (held t s r f) e
   where
     of : (d : ℕ) (x : Option Opened) → opened s d ≡ x → option_map (λ y. record { description = d; opened = y }) x ≡ Some h → opened s h.description ≡ Some h.opened
     of d None p q = absurd (some_apart (sym q))

@@ -27,7 +27,7 @@ no_content i h = []
 module _ (t : Trace) (r : ℕ) (s : World) where
   -- what is open there is used behind what leads to it
   on_file_is : (f : File) (c : ℕ → Handle → Footprint) → on_file t s r f c ≡ file_seen t s r f ++ each (of_file c) (handle t s r f)
-  on_file_is f c = at (held t s r f.registered f.number)
+  on_file_is f c = at (held t s r f)
     where
       nothing : (x : Option Handle) → each (of_file no_content) x ≡ []
       nothing None = refl

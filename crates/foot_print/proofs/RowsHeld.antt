@@ -1,5 +1,5 @@
 -- Each operation's row as accepted holds its row, and its row where it is unresolved holds the one as accepted.
-use Rattle.std.specs.Prelude.{ℕ, zero, suc, Bool, true, false, cond, not, ◌&&◌, ◌||◌, ◌==◌, ◌+◌, T, List, [], ◌∷◌, ◌++◌, Option, Some, None, Result, Ok, Err, is_ok}
+use Rattle.std.specs.Prelude.{ℕ, Bool, true, false, cond, not, ◌&&◌, ◌||◌, ◌==◌, ◌+◌, T, List, [], ◌∷◌, ◌++◌, Option, Some, None, Result, Ok, Err, is_ok}
 use mathlib.Core.Path.{subst}
 use Rattle.sqe_codec.specs.declared.errno.Errno.{Errno}
 use Rattle.trace_format.specs.declared.trace.Trace.{Trace}
@@ -44,7 +44,7 @@ module _ (t : Trace) (k r : ℕ) (s : World) where
   first : (o : Shape) (earlier : List Footprint) (f : Footprint) → Over always (shape_row t k r s foreseen o) f → Over always (shape_part earlier o) f
   first o earlier f x = over_first always (shape_row t k r s foreseen o) (shape_makes t k o ++ shape_room earlier o) f x
 
-  any_descriptor : (n : ℕ) → Over always (writes all_descriptors ∷ []) (room_uses t s r zero)
+  any_descriptor : (n : ℕ) → Over always (writes all_descriptors ∷ []) (room_uses t s r None)
   any_descriptor n = over_all always (writes all_descriptors ∷ []) (reads all_descriptors ∷ []) _ (over_reads always (writes all_descriptors ∷ [])) (at _)
     where
       at : (x : Option ℕ) → Over always (writes all_descriptors ∷ []) (each (λ m. writes (one (Rattle.world_parts.specs.Items.descriptor_at m)) ∷ []) x)
@@ -54,29 +54,29 @@ module _ (t : Trace) (k r : ℕ) (s : World) where
           number : (a : Atom) → T (always a) → T (same_atom (Rattle.world_parts.specs.Items.descriptor_at m) a || false) → T (member_of all_descriptors a || false)
           number a e h = subst (λ (b : Atom). T (member_of all_descriptors b || false)) (same_atom-eq (Rattle.world_parts.specs.Items.descriptor_at m) a (drop_false _ h)) tt
 
-  room_held : (index : ℕ) (earlier : List Footprint) → Over always (room_at t s r (written_by earlier) index) (room_uses t s r index)
-  room_held zero earlier =
-      elim (written_by earlier all_descriptors) as (λ b. Over always (cond b (writes all_descriptors ∷ []) (room_uses t s r zero)) (room_uses t s r zero)) [
+  room_held : (asked : Option ℕ) (earlier : List Footprint) → Over always (room_at t s r (written_by earlier) asked) (room_uses t s r asked)
+  room_held None earlier =
+      elim (written_by earlier all_descriptors) as (λ b. Over always (cond b (writes all_descriptors ∷ []) (room_uses t s r None)) (room_uses t s r None)) [
         | true ↦ any_descriptor 0
-        | false ↦ over_self always (room_uses t s r zero)
+        | false ↦ over_self always (room_uses t s r None)
       ]
-  room_held (suc n) earlier = over_self always (room_uses t s r (suc n))
+  room_held (Some n) earlier = over_self always (room_uses t s r (Some n))
 
   made_held : (b : Bool) (q f : Footprint) → Over always q f → Over always q (made_where (tried b) f)
   made_held true q f h = h
   made_held false q f h = over_nothing always q
 
-  open_held : (b : Bool) (p : Path) (g : OpenFlags) (index : ℕ) (earlier : List Footprint) → Over always (shape_part earlier (opening p g index)) (openat_row t s k r (tried b) p g index)
-  open_held b p g index earlier =
-      over_all always whole (path_reads s p ++ room_uses t s r index ++ made_where (tried b) (description_made t k)) _
-      (over_all always whole (path_reads s p ++ room_uses t s r index) _
+  open_held : (b : Bool) (p : Path) (g : OpenFlags) (asked : Option ℕ) (earlier : List Footprint) → Over always (shape_part earlier (opening p g asked)) (openat_row t s k r (tried b) p g asked)
+  open_held b p g asked earlier =
+      over_all always whole (path_reads s p ++ room_uses t s r asked ++ made_where (tried b) (description_made t k)) _
+      (over_all always whole (path_reads s p ++ room_uses t s r asked) _
       (over_all always whole (path_reads s p) _ (first o earlier _ (over_first always _ _ _ (over_first always _ _ _ (over_first always (path_reads s p) _ _ (over_self always _)))))
-      (over_second always (shape_row t k r s foreseen o) _ _ (over_second always (shape_makes t k o) _ _ (room_held index earlier))))
+      (over_second always (shape_row t k r s foreseen o) _ _ (over_second always (shape_makes t k o) _ _ (room_held asked earlier))))
       (made_held b whole _ (made (description_made t k) (over_second always (node_made t k) (description_made t k) _ (over_self always _)))))
       (at (walk s.nodes p) whole (first o earlier _ (over_second always ((path_reads s p ++ []) ++ []) _ _ (over_self always _))) (made (writes (one (size_of (made_node t k))) ∷ []) (over_first always (node_made t k) (description_made t k) _ (over_first always (writes (one (size_of (made_node t k))) ∷ []) _ _ (over_self always _)))))
     where
       o : Shape
-      o = opening p g index
+      o = opening p g asked
 
       whole : Footprint
       whole = shape_part earlier o
@@ -120,8 +120,8 @@ module _ (t : Trace) (k r : ℕ) (s : World) where
   shape_held b (moving w f o n (Some x)) earlier = first (moving w f o n (Some x)) earlier _ (over_both always _ (span_use (not w) t r x) _ (span_use (not w) t r x) (moved_held b w f o n) (over_self always _))
   shape_held b (allocating f o n mode) earlier = first (allocating f o n mode) earlier _ (over_on_file always t s r f _ _ (λ i h. allocation_held (would_extend s i (o + n)) i o (o + n) (allocation mode)))
   shape_held b (resizing f n) earlier = first (resizing f n) earlier _ (over_self always _)
-  shape_held b (closing number index) earlier = first (closing number index) earlier _ (over_self always _)
-  shape_held b (opening p g index) earlier = open_held b p g index earlier
+  shape_held b (closing f) earlier = first (closing f) earlier _ (over_self always _)
+  shape_held b (opening p g asked) earlier = open_held b p g asked earlier
   shape_held b (making p) earlier = mkdir_held b p earlier
   shape_held b (freeing p removes) earlier = first (freeing p removes) earlier _ (over_self always _)
   shape_held b (linking old new) earlier = first (linking old new) earlier _ (over_self always _)
@@ -133,17 +133,17 @@ module _ (t : Trace) (k r : ℕ) (s : World) where
   pub accepted_over_row : (o : Operation) (earlier : List Footprint) → Over always (accepted_part earlier o) (row_in t k r s o)
   accepted_over_row o earlier = over_taken always (accepted_part earlier o) (is_ok (meaning t k r s o)) _ (row_held (is_ok (meaning t k r s o)) o earlier)
 
-  room_at_held : (earlier thin : List Footprint) (n : ℕ) → (T (written_by thin all_descriptors) → T (written_by earlier all_descriptors)) → Over always (room_at t s r (written_by earlier) n) (room_at t s r (written_by thin) n)
-  room_at_held earlier thin zero h =
-      elim (written_by earlier all_descriptors) as (λ b. (T (written_by thin all_descriptors) → T b) → Over always (cond b (writes all_descriptors ∷ []) (room_uses t s r zero)) (room_at t s r (written_by thin) zero)) [
-        | true ↦ λ k'. elim (written_by thin all_descriptors) as (λ c. Over always (writes all_descriptors ∷ []) (cond c (writes all_descriptors ∷ []) (room_uses t s r zero))) [ true ↦ over_self always _ | false ↦ any_descriptor 0 ]
-        | false ↦ λ k'. elim (written_by thin all_descriptors) as (λ c. (T c → ⊥) → Over always (room_uses t s r zero) (cond c (writes all_descriptors ∷ []) (room_uses t s r zero))) [ true ↦ λ n. absurd (n tt) | false ↦ λ n. over_self always _ ] k'
+  room_at_held : (earlier thin : List Footprint) (asked : Option ℕ) → (T (written_by thin all_descriptors) → T (written_by earlier all_descriptors)) → Over always (room_at t s r (written_by earlier) asked) (room_at t s r (written_by thin) asked)
+  room_at_held earlier thin None h =
+      elim (written_by earlier all_descriptors) as (λ b. (T (written_by thin all_descriptors) → T b) → Over always (cond b (writes all_descriptors ∷ []) (room_uses t s r None)) (room_at t s r (written_by thin) None)) [
+        | true ↦ λ k'. elim (written_by thin all_descriptors) as (λ c. Over always (writes all_descriptors ∷ []) (cond c (writes all_descriptors ∷ []) (room_uses t s r None))) [ true ↦ over_self always _ | false ↦ any_descriptor 0 ]
+        | false ↦ λ k'. elim (written_by thin all_descriptors) as (λ c. (T c → ⊥) → Over always (room_uses t s r None) (cond c (writes all_descriptors ∷ []) (room_uses t s r None))) [ true ↦ λ n. absurd (n tt) | false ↦ λ n. over_self always _ ] k'
       ] h
-  room_at_held earlier thin (suc n) h = over_self always _
+  room_at_held earlier thin (Some n) h = over_self always _
 
   pub room_thin_held : (earlier thin : List Footprint) (o : Operation) → (T (written_by thin all_descriptors) → T (written_by earlier all_descriptors)) → Over always (room_taken t s r earlier o) (room_taken t s r thin o)
   room_thin_held earlier thin o h = at (room_asked o)
     where
-      at : (x : Option ℕ) → Over always (each (room_at t s r (written_by earlier)) x) (each (room_at t s r (written_by thin)) x)
+      at : (x : Option (Option ℕ)) → Over always (each (room_at t s r (written_by earlier)) x) (each (room_at t s r (written_by thin)) x)
       at None = over_nothing always _
-      at (Some n) = room_at_held earlier thin n h
+      at (Some asked) = room_at_held earlier thin asked h

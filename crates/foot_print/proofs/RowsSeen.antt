@@ -1,5 +1,5 @@
 -- What an operation looks up tells its items, and stands in its row.
-use Rattle.std.specs.Prelude.{◌≡◌, ℕ, zero, suc, Bool, true, false, cond, not, length, T, List, [], ◌∷◌, ◌++◌, Option, Some, None, refl, is_ok, is_none}
+use Rattle.std.specs.Prelude.{◌≡◌, ℕ, Bool, true, false, cond, not, length, T, List, [], ◌∷◌, ◌++◌, Option, Some, None, refl, is_ok, is_none}
 use Rattle.std.specs.List.{find, range_with_len}
 use Rattle.std.specs.Option.{option_map}
 use mathlib.Core.Path.{sym, subst, ap, ◌∙◌, fun_ext}
@@ -18,15 +18,15 @@ use Rattle.foot_print.proofs.Resolving.{no_content}
 use Rattle.foot_print.proofs.Holding.{Over, always, over_self, over_nothing, over_first, over_second, over_on_file}
 
 -- A room at the lowest free descriptor.
-abbrev IsLowest : Option ℕ → Type 0
-IsLowest (Some zero) = Unit {0}
+abbrev IsLowest : Option (Option ℕ) → Type 0
+IsLowest (Some None) = Unit {0}
 IsLowest _ = ⊥
 
 module _ (t : Trace) (r : ℕ) (s u : World) where
   on_file_told : (f : File) (c : ℕ → Handle → Footprint) → Agree (file_seen t s r f) s u → on_file t u r f c ≡ on_file t s r f c
   on_file_told f c a =
-      (λ i. file_reads t r f ++ each (of_description u c) (held_same t s u r f.registered f.number (agree_left s u _ _ a) i))
-      ∙ ap (λ x. file_reads t r f ++ x) (at (held t s r f.registered f.number) (agree_right s u (file_reads t r f) _ a))
+      (λ i. file_reads t r f ++ each (of_description u c) (held_same t s u r f (agree_left s u _ _ a) i))
+      ∙ ap (λ x. file_reads t r f ++ x) (at (held t s r f) (agree_right s u (file_reads t r f) _ a))
     where
       at : (d : Option ℕ) → Agree (each (of_description s no_content) d) s u → each (of_description u c) d ≡ each (of_description s c) d
       at None k = refl
@@ -47,8 +47,8 @@ module _ (t : Trace) (r : ℕ) (s u : World) where
   shape_seen_same (moving w f o n x) a = on_file_told f no_content a
   shape_seen_same (allocating f o n mode) a = on_file_told f no_content a
   shape_seen_same (resizing f n) a = on_file_told f no_content a
-  shape_seen_same (closing number index) a = refl
-  shape_seen_same (opening p g index) a = path_reads_same s u p a
+  shape_seen_same (closing f) a = refl
+  shape_seen_same (opening p g asked) a = path_reads_same s u p a
   shape_seen_same (making p) a = path_reads_same s u p a
   shape_seen_same (freeing p removes) a = path_reads_same s u p a
   shape_seen_same (linking old new) a = two_told old new a
@@ -67,8 +67,8 @@ module _ (t : Trace) (r : ℕ) (s u : World) where
   foreseen_same k (moving w f o n x) a = ap (through w t r x) (moved_same w f o n a)
   foreseen_same k (allocating f o n mode) a = on_file_told f (allocated_content s foreseen o n mode) a
   foreseen_same k (resizing f n) a = on_file_told f (resized_content n) a
-  foreseen_same k (closing number index) a = refl
-  foreseen_same k (opening p g index) a = λ i. (path_reads_same s u p a i ++ []) ++ [] ++ each_ok (opened_at t k foreseen g) (walk_same s u p a i)
+  foreseen_same k (closing f) a = refl
+  foreseen_same k (opening p g asked) a = λ i. (path_reads_same s u p a i ++ []) ++ [] ++ each_ok (opened_at t k foreseen g) (walk_same s u p a i)
   foreseen_same k (making p) a = path_told p (directory_made t k foreseen) a
   foreseen_same k (freeing p removes) a = path_told p (name_freed removes) a
   foreseen_same k (linking old new) a = λ i. two_told old new a i ++ each_ok name_written (walk_same s u new (agree_right s u (path_reads s old) _ a) i)
@@ -82,26 +82,26 @@ module _ (t : Trace) (r : ℕ) (s u : World) where
   lowest_same : ((n : ℕ) → descriptor s n ≡ descriptor u n) → lowest_free t u ≡ lowest_free t s
   lowest_same h = ap (λ (d : ℕ → Option ℕ). find (λ n. is_none (d n)) (range_with_len 0 (length t.descriptors))) (sym (fun_ext h))
 
-  room_uses_same : (index : ℕ) → ((n : ℕ) → descriptor s n ≡ descriptor u n) → room_uses t u r index ≡ room_uses t s r index
-  room_uses_same zero h = ap (λ x. reads all_descriptors ∷ each (λ n. writes (one (descriptor_at n)) ∷ []) x) (lowest_same h)
-  room_uses_same (suc n) h = refl
+  room_uses_same : (asked : Option ℕ) → ((n : ℕ) → descriptor s n ≡ descriptor u n) → room_uses t u r asked ≡ room_uses t s r asked
+  room_uses_same None h = ap (λ x. reads all_descriptors ∷ each (λ n. writes (one (descriptor_at n)) ∷ []) x) (lowest_same h)
+  room_uses_same (Some n) h = refl
 
   -- The room is told by what an earlier reach doesn't write, and by the row.
-  room_at_same : (earlier : List Footprint) (n : ℕ) → (written_by earlier all_descriptors ≡ false → (n : ℕ) → descriptor s n ≡ descriptor u n) → room_at t u r (written_by earlier) n ≡ room_at t s r (written_by earlier) n
-  room_at_same earlier (suc n) h = refl
-  room_at_same earlier zero h =
+  room_at_same : (earlier : List Footprint) (asked : Option ℕ) → (written_by earlier all_descriptors ≡ false → (n : ℕ) → descriptor s n ≡ descriptor u n) → room_at t u r (written_by earlier) asked ≡ room_at t s r (written_by earlier) asked
+  room_at_same earlier (Some n) h = refl
+  room_at_same earlier None h =
       elim (written_by earlier all_descriptors) as (λ b. (b ≡ false → (n : ℕ) → descriptor s n ≡ descriptor u n)
-      → cond b (writes all_descriptors ∷ []) (room_uses t u r zero) ≡ cond b (writes all_descriptors ∷ []) (room_uses t s r zero)) [
+      → cond b (writes all_descriptors ∷ []) (room_uses t u r None) ≡ cond b (writes all_descriptors ∷ []) (room_uses t s r None)) [
         | true ↦ λ g. refl
-        | false ↦ λ g. room_uses_same zero (g refl)
+        | false ↦ λ g. room_uses_same None (g refl)
       ] h
 
   pub room_same : (earlier : List Footprint) (o : Operation) → (written_by earlier all_descriptors ≡ false → (n : ℕ) → descriptor s n ≡ descriptor u n) → room_taken t u r earlier o ≡ room_taken t s r earlier o
   room_same earlier o h = at (room_asked o)
     where
-      at : (x : Option ℕ) → each (room_at t u r (written_by earlier)) x ≡ each (room_at t s r (written_by earlier)) x
+      at : (x : Option (Option ℕ)) → each (room_at t u r (written_by earlier)) x ≡ each (room_at t s r (written_by earlier)) x
       at None = refl
-      at (Some n) = room_at_same earlier n h
+      at (Some asked) = room_at_same earlier asked h
 
 module _ (t : Trace) (k r : ℕ) (s : World) where
   on_file_seen : (f : File) (c : ℕ → Handle → Footprint) → Over always (on_file t s r f c) (file_seen t s r f)
@@ -124,8 +124,8 @@ module _ (t : Trace) (k r : ℕ) (s : World) where
   shape_row_seen b (moving w f o n (Some x)) = over_first always _ (span_use (not w) t r x) _ (moved_seen b w f o n)
   shape_row_seen b (allocating f o n mode) = on_file_seen f (allocated_content s (tried b) o n mode)
   shape_row_seen b (resizing f n) = on_file_seen f (resized_content n)
-  shape_row_seen b (closing number index) = over_nothing always _
-  shape_row_seen b (opening p g index) = over_first always _ _ _ (over_first always _ _ _ (path_first (path_reads s p) (room_uses t s r index)))
+  shape_row_seen b (closing f) = over_nothing always _
+  shape_row_seen b (opening p g asked) = over_first always _ _ _ (over_first always _ _ _ (path_first (path_reads s p) (room_uses t s r asked)))
   shape_row_seen b (making p) = path_first (path_reads s p) _
   shape_row_seen b (freeing p removes) = path_first (path_reads s p) _
   shape_row_seen b (linking old new) = path_first (path_reads s old ++ path_reads s new) _
@@ -142,9 +142,9 @@ module _ (t : Trace) (k r : ℕ) (s : World) where
   seen_in_row o a h = in_row (is_ok (meaning t k r s o)) _ a ((row_seen (is_ok (meaning t k r s o)) o).has a tt h)
 
   -- All descriptors stand in the row of an operation that asks for the lowest free one.
-  row_asks : (b : Bool) (x : Shape) → IsLowest (shape_asked x) → Over always (shape_row t k r s (tried b) x) (room_uses t s r zero)
-  row_asks b (opening p g zero) e = over_first always _ _ _ (over_first always _ _ _ (over_second always (path_reads s p) (room_uses t s r zero) _ (over_self always _)))
-  row_asks b (opening p g (suc n)) e = absurd e
+  row_asks : (b : Bool) (x : Shape) → IsLowest (shape_asked x) → Over always (shape_row t k r s (tried b) x) (room_uses t s r None)
+  row_asks b (opening p g None) e = over_first always _ _ _ (over_first always _ _ _ (over_second always (path_reads s p) (room_uses t s r None) _ (over_self always _)))
+  row_asks b (opening p g (Some n)) e = absurd e
   row_asks b _ e = absurd e
 
   descriptors_in_row : (o : Operation) → IsLowest (room_asked o) → (n : ℕ) → T (has_atom (row_in t k r s o) (descriptor_at n))
@@ -153,7 +153,7 @@ module _ (t : Trace) (k r : ℕ) (s : World) where
   pub room_told : (u : World) (earlier : List Footprint) (o : Operation) → Agree (row_in t k r s o) s u → room_taken t u r earlier o ≡ room_taken t s r earlier o
   room_told u earlier o a = at (room_asked o) refl
     where
-      at : (x : Option ℕ) → room_asked o ≡ x → each (room_at t u r (written_by earlier)) x ≡ each (room_at t s r (written_by earlier)) x
+      at : (x : Option (Option ℕ)) → room_asked o ≡ x → each (room_at t u r (written_by earlier)) x ≡ each (room_at t s r (written_by earlier)) x
       at None e = refl
-      at (Some (suc n)) e = refl
-      at (Some zero) e = room_at_same t r s u earlier zero (λ f n. a.same (descriptor_at n) (descriptors_in_row o (subst IsLowest (sym e) tt) n))
+      at (Some (Some n)) e = refl
+      at (Some None) e = room_at_same t r s u earlier None (λ f n. a.same (descriptor_at n) (descriptors_in_row o (subst IsLowest (sym e) tt) n))

@@ -86,7 +86,7 @@ module _ (t : Trace) (k : ℕ) where
         at g false = tt
 
     on_file_held : (f : File) (c : ℕ → Handle → Footprint) → ((i : ℕ) (h : Handle) → T (list_all is_file_use (c i h))) → Over earlier (unresolved_file t k r f) (on_file t s r f c)
-    on_file_held f c h = over_both earlier (file_reads t r f) (all_files t k) (file_reads t r f) _ (over_self earlier (file_reads t r f)) (files_held _ (content_uses c h (held t s r f.registered f.number)))
+    on_file_held f c h = over_both earlier (file_reads t r f) (all_files t k) (file_reads t r f) _ (over_self earlier (file_reads t r f)) (files_held _ (content_uses c h (held t s r f)))
 
     transfer_held : (f : File) (o : ℕ) (c : ℕ → Handle → Footprint) → ((i : ℕ) (h : Handle) → T (list_all is_file_use (c i h))) → Over earlier (unresolved_file t k r f) (on_file t s r f c ++ position_use t s r f o)
     transfer_held f o c h = over_all earlier (unresolved_file t k r f) (on_file t s r f c) _ (on_file_held f c h)
@@ -160,8 +160,8 @@ module _ (t : Trace) (k : ℕ) where
         go true false = over_nothing earlier _
         go true true = over_second earlier (any_name t k) _ _ (truncated y.node)
 
-    open_held : (p : Path) (g : OpenFlags) (index : ℕ) → Over earlier (any_name t k ++ cut g.truncate) (openat_row t s k r foreseen p g index)
-    open_held p g index = over_all earlier _ ((path_reads s p ++ []) ++ []) _ (over_first earlier (any_name t k) _ _ (names_held _ (all_append is_name_use (path_reads s p ++ []) [] (all_append is_name_use (path_reads s p) [] (path_names p) tt) tt))) (at (walk s.nodes p))
+    open_held : (p : Path) (g : OpenFlags) (asked : Option ℕ) → Over earlier (any_name t k ++ cut g.truncate) (openat_row t s k r foreseen p g asked)
+    open_held p g asked = over_all earlier _ ((path_reads s p ++ []) ++ []) _ (over_first earlier (any_name t k) _ _ (names_held _ (all_append is_name_use (path_reads s p ++ []) [] (all_append is_name_use (path_reads s p) [] (path_names p) tt) tt))) (at (walk s.nodes p))
       where
         at : (w : Result Place Errno) → Over earlier (any_name t k ++ cut g.truncate) (each_ok (λ (q : Place). open_uses t k foreseen g q q.target) w)
         at (Ok q) = opened_held g q q.target
@@ -179,8 +179,8 @@ module _ (t : Trace) (k : ℕ) where
     unresolved_over_shape (moving w f o n (Some x)) = over_both earlier _ (span_use (not w) t r x) _ (span_use (not w) t r x) (moved_held w f o n) (over_self earlier _)
     unresolved_over_shape (allocating f o n mode) = on_file_held f (allocated_content s foreseen o n mode) (λ i h. allocation_uses_files i o (o + n) (allocation mode))
     unresolved_over_shape (resizing f n) = on_file_held f (λ i h. writes (one (size_of i)) ∷ writes (range_of i n file_limit) ∷ []) (λ i h. tt)
-    unresolved_over_shape (closing number index) = over_self earlier _
-    unresolved_over_shape (opening p g index) = open_held p g index
+    unresolved_over_shape (closing f) = over_self earlier _
+    unresolved_over_shape (opening p g asked) = open_held p g asked
     unresolved_over_shape (making p) = names_held _ (all_append is_name_use (path_reads s p) _ (path_names p) (made_names (walk s.nodes p)))
     unresolved_over_shape (freeing p removes) = names_held _ (all_append is_name_use (path_reads s p) _ (path_names p) (unlink_names removes (walk s.nodes p)))
     unresolved_over_shape (linking old new) = names_held _ (all_append is_name_use (path_reads s old ++ path_reads s new) _ (two_paths old new) (written_names (walk s.nodes new)))

@@ -1,5 +1,5 @@
 -- A view of code: the reach of a place behind others, and the items by which it waits for them.
-use Rattle.std.specs.Prelude.{◌≡◌, ◌⊎◌, ℕ, zero, Bool, true, false, ◌∷◌, ◌++◌, [], Option, Some, None, IfSome, is_some}
+use Rattle.std.specs.Prelude.{◌≡◌, ◌⊎◌, ℕ, Bool, true, false, ◌∷◌, ◌++◌, [], Option, Some, None, IfSome, is_some}
 use Rattle.trace_format.specs.declared.trace.Trace.{Trace}
 use Rattle.chain_plan.specs.declared.role.Role.{Role}
 use Rattle.entry_checks.specs.Operation.{Operation, openat}
@@ -15,7 +15,7 @@ use Rattle.foot_print.specs.declared.reaching.Outlook.{Outlook}
 
 -- Whether a turn takes the lowest free descriptor.
 abbrev pub takes_lowest : Operation → Bool
-takes_lowest (openat p g zero) = true
+takes_lowest (openat p g None) = true
 takes_lowest _ = false
 
 abbrev pub turn_takes_lowest : Option Turn → Bool

@@ -1,5 +1,5 @@
 -- The model: what a place may use once earlier places that haven't finished have run.
-use Rattle.std.specs.Prelude.{ℕ, zero, suc, Bool, true, false, List, [], ◌∷◌, ◌++◌, Option, None, Some, if◌then◌else◌}
+use Rattle.std.specs.Prelude.{ℕ, Bool, true, false, List, [], ◌∷◌, ◌++◌, Option, None, Some, if◌then◌else◌}
 use Rattle.std.specs.List.{list_any}
 use Rattle.trace_format.specs.declared.trace.Trace.{Trace}
 use Rattle.sqe_codec.specs.Answers.{each}
@@ -27,8 +27,8 @@ shape_seen t r s (looking f) = []
 shape_seen t r s (moving w f o n x) = file_seen t s r f
 shape_seen t r s (allocating f o n mode) = file_seen t s r f
 shape_seen t r s (resizing f n) = file_seen t s r f
-shape_seen t r s (closing number index) = []
-shape_seen t r s (opening p g index) = path_reads s p
+shape_seen t r s (closing f) = []
+shape_seen t r s (opening p g asked) = path_reads s p
 shape_seen t r s (making p) = path_reads s p
 shape_seen t r s (freeing p removes) = path_reads s p
 shape_seen t r s (linking old new) = path_reads s old ++ path_reads s new
@@ -46,25 +46,25 @@ node_made t k = writes (one (size_of (made_node t k))) ∷ writes (file_bytes (m
 
 -- What an operation that may make a node or a description writes of their numbers.
 abbrev pub shape_makes : Trace → ℕ → Shape → Footprint
-shape_makes t k (opening p g index) = node_made t k ++ description_made t k
+shape_makes t k (opening p g asked) = node_made t k ++ description_made t k
 shape_makes t k (making p) = node_made t k ++ description_made t k
 shape_makes t k _ = []
 
 abbrev pub makes : Trace → ℕ → Operation → Footprint
 makes t k o = shape_makes t k (shape o)
 
--- Where an operation asks for room for a description.
-abbrev pub shape_asked : Shape → Option ℕ
-shape_asked (opening p g index) = Some index
+-- The room for a description that an operation asks for, where it does: in a slot, or at any descriptor.
+abbrev pub shape_asked : Shape → Option (Option ℕ)
+shape_asked (opening p g asked) = Some asked
 shape_asked _ = None
 
-abbrev pub room_asked : Operation → Option ℕ
+abbrev pub room_asked : Operation → Option (Option ℕ)
 room_asked o = shape_asked (shape o)
 
--- The room at a file index, told by which items are written: its slot or its free descriptor; whichever it finds free, where a descriptor is written.
-abbrev pub room_at : Trace → World → ℕ → (Item → Bool) → ℕ → Footprint
-room_at t s r w zero = if w all_descriptors then writes all_descriptors ∷ [] else room_uses t s r zero
-room_at t s r w (suc n) = room_uses t s r (suc n)
+-- The room that is asked for, told by which items are written: its slot or its free descriptor; whichever it finds free, where a descriptor is written.
+abbrev pub room_at : Trace → World → ℕ → (Item → Bool) → Option ℕ → Footprint
+room_at t s r w None = if w all_descriptors then writes all_descriptors ∷ [] else room_uses t s r None
+room_at t s r w (Some n) = room_uses t s r (Some n)
 
 -- The room of an operation, given what the earlier reaches write.
 abbrev pub room_taken : Trace → World → ℕ → List Footprint → Operation → Footprint
@@ -87,8 +87,8 @@ unresolved_shape t k r (looking f) = file_reads t r f
 unresolved_shape t k r (moving w f o n x) = through w t r x (unresolved_file t k r f)
 unresolved_shape t k r (allocating f o n mode) = unresolved_file t k r f
 unresolved_shape t k r (resizing f n) = unresolved_file t k r f
-unresolved_shape t k r (closing number index) = close_row t r number index
-unresolved_shape t k r (opening p g index) = any_name t k ++ (if g.truncate then writes (all_bytes_and_sizes (made_node t k)) ∷ [] else [])
+unresolved_shape t k r (closing f) = close_row t r f
+unresolved_shape t k r (opening p g asked) = any_name t k ++ (if g.truncate then writes (all_bytes_and_sizes (made_node t k)) ∷ [] else [])
 unresolved_shape t k r (making p) = any_name t k
 unresolved_shape t k r (freeing p removes) = any_name t k
 unresolved_shape t k r (linking old new) = any_name t k

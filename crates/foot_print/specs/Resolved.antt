@@ -50,8 +50,8 @@ abbrev pub written_name : code.Place → Footprint
 written_name p = writes (one (name_at p.parent p.name.now)) ∷ writes (one (names_in p.parent)) ∷ []
 
 -- what an open uses beside the names that it looks up
-abbrev pub opening_rest : Trace → ℕ → ℕ → World → Taken → OpenFlags → ℕ → Option code.Place → Footprint
-opening_rest t k r s y g index p = room_where y (room_uses t s r index) ++ made_where y (description_made t k) ++ at_place s (opened_at t k y g) p
+abbrev pub opening_rest : Trace → ℕ → ℕ → World → Taken → OpenFlags → Option ℕ → Option code.Place → Footprint
+opening_rest t k r s y g asked p = room_where y (room_uses t s r asked) ++ made_where y (description_made t k) ++ at_place s (opened_at t k y g) p
 
 -- the uses of an operation beside those that decide them
 abbrev pub rest : Trace → ℕ → ℕ → World → Taken → Resolved → Footprint
@@ -60,8 +60,8 @@ rest t k r s y (Looking f) = file_reads t r (file_meant f)
 rest t k r s y (Moving w x range span) = through w t r (option_map span_meant span) (moved_of s y w range.offset range.count x)
 rest t k r s y (Allocating x range mode) = content_of s (allocated_content s y range.offset range.count mode) x
 rest t k r s y (Resizing x n) = content_of s (resized_content n) x
-rest t k r s y (Closing number index) = close_row t r number index
-rest t k r s y (Opening p g index) = opening_rest t k r s y (flags_meant g) index p
+rest t k r s y (Closing f) = close_row t r (file_meant f)
+rest t k r s y (Opening p g asked) = opening_rest t k r s y (flags_meant g) asked p
 rest t k r s y (Making p) = at_place s (directory_made t k y) p
 rest t k r s y (Freeing p removes) = at_place s (name_freed removes) p
 rest t k r s y (Linking new) = each written_name new

@@ -36,13 +36,12 @@ pub(crate) enum Resolved<'a> {
         size: u64,
     },
     Closing {
-        number: i32,
-        file_index: u32,
+        file: FileNumber,
     },
     Opening {
         found: Option<Place<'a>>,
         flags: OpenAtFlags,
-        file_index: u32,
+        slot: Option<u32>,
     },
     Making {
         found: Option<Place<'a>>,
@@ -109,18 +108,10 @@ pub(crate) fn resolve<'a>(
             let opened = file_seen(site, file, state, footprint)?;
             Ok(Resolved::Resizing { opened, size })
         }
-        Shape::Closing { number, file_index } => Ok(Resolved::Closing { number, file_index }),
-        Shape::Opening {
-            path,
-            flags,
-            file_index,
-        } => {
+        Shape::Closing { file } => Ok(Resolved::Closing { file }),
+        Shape::Opening { path, flags, slot } => {
             let found = names_seen(alloc, path, state, footprint)?;
-            Ok(Resolved::Opening {
-                found,
-                flags,
-                file_index,
-            })
+            Ok(Resolved::Opening { found, flags, slot })
         }
         Shape::Making { path } => {
             let found = names_seen(alloc, path, state, footprint)?;

@@ -7,7 +7,9 @@ ghost use Rattle.op_meaning.specs.Footprint.{row_in, shape_row};
 ghost use Rattle.op_meaning.specs.Site.{IsSite};
 
 use crate::attempt::{Attempt, Taken};
-use crate::file_rows::{allocated_uses, close_row, file_reads, moved_uses, resized_uses, span_use};
+use crate::file_rows::{
+    allocated_uses, file_reads, file_writes, moved_uses, resized_uses, span_use,
+};
 use crate::path_rows::{description_taken, freed_at, made_at, opened_at, room_taken, written_at};
 use crate::resolved::{Resolved, resolve};
 use crate::shape::{Shape, shape_of};
@@ -116,13 +118,9 @@ fn push_rest(
             mode,
         } => allocated_uses(taken, opened, range, mode, state, footprint),
         Resolved::Resizing { opened, size } => resized_uses(opened, size, state, footprint),
-        Resolved::Closing { number, file_index } => close_row(site, number, file_index, footprint),
-        Resolved::Opening {
-            found,
-            flags,
-            file_index,
-        } => {
-            room_taken(attempt, file_index, state, footprint)?;
+        Resolved::Closing { file } => file_writes(site, file, footprint),
+        Resolved::Opening { found, flags, slot } => {
+            room_taken(attempt, slot, state, footprint)?;
             description_taken(attempt, footprint)?;
             opened_at(alloc, attempt, flags, found, state, footprint)
         }

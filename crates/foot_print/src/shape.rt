@@ -33,13 +33,12 @@ pub(crate) enum Shape<'a> {
         size: u64,
     },
     Closing {
-        number: i32,
-        file_index: u32,
+        file: FileNumber,
     },
     Opening {
         path: PathAt<'a>,
         flags: OpenAtFlags,
-        file_index: u32,
+        slot: Option<u32>,
     },
     Making {
         path: PathAt<'a>,
@@ -134,16 +133,8 @@ pub(crate) fn shape_of(op: Op<'_>) -> Shape<'_>
             size,
             mode,
         },
-        Op::Openat {
-            path,
-            flags,
-            file_index,
-        } => Shape::Opening {
-            path,
-            flags,
-            file_index,
-        },
-        Op::Close { number, file_index } => Shape::Closing { number, file_index },
+        Op::Openat { path, flags, slot } => Shape::Opening { path, flags, slot },
+        Op::Close { file } => Shape::Closing { file },
         Op::Renameat { old, new, .. } => Shape::Renaming { old, new },
         Op::Unlinkat {
             path,

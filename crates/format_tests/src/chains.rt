@@ -36,63 +36,46 @@ fn text_of(alloc: Global, records: &[(u8, u16)]) -> Result<Vec<u8>, AllocError> 
     Ok(text)
 }
 
-/// Whether each of the first places is a chain of its own, those from one on doomed.
-fn all_stand_alone(plan: &Plan, places: u32, first_doomed: u32) -> bool
+/// Whether each of the first places is a chain of its own, which is never doomed.
+fn all_stand_alone(plan: &Plan, places: u32) -> bool
     requires { places ≤ length plan.now }
 {
     for place in 0..places {
         let role = plan.role(place);
         let alone = role.chain == place && role.member == 0 && role.length == 1;
-        if !alone || role.quiet || role.barrier || role.doomed != (place >= first_doomed) {
+        if !alone || role.quiet || role.barrier || role.doomed {
             return false;
         }
     }
     true
 }
 
-/// Whether there are so many places, each a chain of its own, those from one on doomed.
-fn plan_stands_alone(
-    alloc: Global,
-    trace: &Trace,
-    places: u32,
-    first_doomed: u32,
-) -> Result<bool, AllocError>
+/// Whether there are so many places, each a chain of its own, which is never doomed.
+fn plan_stands_alone(alloc: Global, trace: &Trace, places: u32) -> Result<bool, AllocError>
     requires { IsSpelled trace.now }
 {
     let plan = Plan::of(alloc, trace)?;
-    let alone = all_stand_alone(&plan, trace.places(), first_doomed);
+    let alone = all_stand_alone(&plan, trace.places());
     Ok(alone && trace.places() == places)
 }
 
 /// The same of a trace of these records.
-fn stand_alone(
-    alloc: Global,
-    records: &[(u8, u16)],
-    places: u32,
-    first_doomed: u32,
-) -> Result<bool, AllocError> {
+fn stand_alone(alloc: Global, records: &[(u8, u16)], places: u32) -> Result<bool, AllocError> {
     let text = text_of(alloc, records)?;
     match read_trace(alloc, text) {
-        Ok(trace) => plan_stands_alone(alloc, &trace, places, first_doomed),
+        Ok(trace) => plan_stands_alone(alloc, &trace, places),
         Err(_) => Ok(false),
     }
 }
 
 #[test]
 fn single_entries_are_chains_of_their_own(rt: HostRuntime) -> Result<(), Fail> {
-    assert!(rt; stand_alone(rt.alloc(), &[(NOP, 2), (NOP, 0), (UNKNOWN, 1)], 3, 2)?);
+    assert!(rt; stand_alone(rt.alloc(), &[(NOP, 2), (NOP, 0), (UNKNOWN, 1)], 3)?);
     Ok(())
 }
 
 #[test]
 fn plan_of_many_places(rt: HostRuntime) -> Result<(), Fail> {
-    assert!(rt;
-        stand_alone(
-            rt.alloc(),
-            &[(NOP, 30_000), (UNKNOWN, 30_000)],
-            60_000,
-            30_000
-        )?
-    );
+    assert!(rt; stand_alone(rt.alloc(), &[(NOP, 30_000), (UNKNOWN, 30_000)], 60_000)?);
     Ok(())
 }

@@ -1,5 +1,5 @@
 -- Which numbers a list has, and which places are pending.
-use Rattle.std.proofs.Common.{◌≡◌, ◌≢◌, ℕ, zero, suc, ◌<◌, ◌≤◌, Bool, true, false, List, [], ◌∷◌, ◌++◌, take, filter, ◌⊎◌, inl, inr, refl, sym, ◌∙◌, ap, subst, arith}
+use Rattle.std.proofs.Common.{◌≡◌, ◌≢◌, ℕ, zero, suc, ◌<◌, ◌≤◌, Bool, true, false, List, [], ◌∷◌, ◌++◌, take, filter, ◌⊎◌, inl, inr, refl, sym, ◌∙◌, ap, subst, arith, if◌then◌else◌, ◌==◌}
 use Rattle.std.proofs.lemmas.Bool.{cases_Bool, cases_eq, false_from_ne_true}
 use Rattle.interleaving.specs.Machine.{has}
 use Rattle.interleaving.specs.Gather.{AllDifferent}
@@ -73,21 +73,42 @@ has-take (suc w) (x ∷ xs) k h = go (has-take w xs k) (has-cases k x (take w xs
     go later (inl e) = ap (has (x ∷ xs)) e ∙ has-here x xs
     go later (inr m) = has-later k x xs (later m)
 
-has-snoc : (xs : List ℕ) (y k : ℕ) → has (xs ++ (y ∷ [])) k ≡ true → (has xs k ≡ true) ⊎ (k ≡ y)
-has-snoc [] y k h = inr (go (has-cases k y [] h))
+-- what lists that are joined have
+pub has-append : (xs ys : List ℕ) (k : ℕ) → has (xs ++ ys) k ≡ (if has xs k then true else has ys k)
+has-append [] ys k = refl
+has-append (x ∷ xs) ys k = ap (λ b. if k == x then true else b) (has-append xs ys k) ∙ joined (k == x)
   where
-    go : (k ≡ y) ⊎ (has [] k ≡ true) → k ≡ y
-    go (inl e) = e
-    go (inr m) = (cc)
-has-snoc (x ∷ xs) y k h = go (has-snoc xs y k) (has-cases k x (xs ++ (y ∷ [])) h)
+    joined : (b : Bool) → (if b then true else (if has xs k then true else has ys k)) ≡ (if (if b then true else has xs k) then true else has ys k)
+    joined true = refl
+    joined false = refl
+
+pub has-front : (xs ys : List ℕ) (k : ℕ) → has xs k ≡ true → has (xs ++ ys) k ≡ true
+has-front xs ys k m = has-append xs ys k ∙ ap (λ b. if b then true else has ys k) m
+
+pub has-back : (xs ys : List ℕ) (k : ℕ) → has ys k ≡ true → has (xs ++ ys) k ≡ true
+has-back [] ys k h = h
+has-back (x ∷ xs) ys k h = has-later k x (xs ++ ys) (has-back xs ys k h)
+
+pub has-middle : (xs : List ℕ) (k : ℕ) (rest : List ℕ) → has (xs ++ k ∷ rest) k ≡ true
+has-middle xs k rest = has-back xs (k ∷ rest) k (has-here k rest)
+
+pub has-either : (xs ys : List ℕ) (k : ℕ) → has (xs ++ ys) k ≡ true → (has xs k ≡ true) ⊎ (has ys k ≡ true)
+has-either xs ys k m = go (cases_Bool (has xs k))
   where
-    go : (has (xs ++ (y ∷ [])) k ≡ true → (has xs k ≡ true) ⊎ (k ≡ y)) → (k ≡ x) ⊎ (has (xs ++ (y ∷ [])) k ≡ true) → (has (x ∷ xs) k ≡ true) ⊎ (k ≡ y)
-    go later (inl e) = inl (ap (has (x ∷ xs)) e ∙ has-here x xs)
-    go later (inr m) = at (later m)
-      where
-        at : (has xs k ≡ true) ⊎ (k ≡ y) → (has (x ∷ xs) k ≡ true) ⊎ (k ≡ y)
-        at (inl f) = inl (has-later k x xs f)
-        at (inr e) = inr e
+    go : (has xs k ≡ true) ⊎ (has xs k ≡ false) → (has xs k ≡ true) ⊎ (has ys k ≡ true)
+    go (inl h) = inl h
+    go (inr n) = inr (ap (λ b. if b then true else has ys k) (sym n) ∙ sym (has-append xs ys k) ∙ m)
+
+pub has-snoc : (xs : List ℕ) (y k : ℕ) → has (xs ++ (y ∷ [])) k ≡ true → (has xs k ≡ true) ⊎ (k ≡ y)
+has-snoc xs y k h = go (has-either xs (y ∷ []) k h)
+  where
+    last : (k ≡ y) ⊎ (has [] k ≡ true) → k ≡ y
+    last (inl e) = e
+    last (inr m) = (cc)
+
+    go : (has xs k ≡ true) ⊎ (has (y ∷ []) k ≡ true) → (has xs k ≡ true) ⊎ (k ≡ y)
+    go (inl m) = inl m
+    go (inr m) = inr (last (has-cases k y [] m))
 
 pub different-filter : (p : ℕ → Bool) (xs : List ℕ) → AllDifferent xs → AllDifferent (filter p xs)
 different-filter p [] h = tt

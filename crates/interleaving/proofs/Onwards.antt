@@ -3,19 +3,20 @@ use Rattle.std.proofs.Common.{◌≡◌, ℕ, zero, suc, ◌+◌, ◌-◌, ◌<�
 use Rattle.std.specs.Prelude.{not}
 use Rattle.std.specs.List.{range_with_len}
 use Rattle.std.proofs.lemmas.Bool.{cases_Bool}
-use Rattle.std.proofs.lemmas.List.{append-nil}
+use Rattle.std.proofs.lemmas.List.{append-nil, map-id}
 use Rattle.std.proofs.lemmas.List.Elements.{filter-append}
 use mathlib.Core.Path.{fun_ext}
 use Rattle.interleaving.specs.System.{System, sequential}
 use Rattle.interleaving.specs.Machine.{Event, Start, Finish, has, State, happens, run, is_free}
 use Rattle.interleaving.specs.Rounds.{pending, in_turn, chosen, round, rounds}
 use Rattle.interleaving.proofs.Members.{has-later, has-choice, pending-out, pending-in}
+use Rattle.std.proofs.lemmas.List.FromFn.{map-range_with_len_more}
 
 -- a place starts and finishes
 abbrev pub ran : (m : System) → State m → ℕ → State m
 ran m s k = happens m (happens m s (Start k)) (Finish k)
 
-or_swap : (b c d : Bool) → (if c then true else (if b then true else d)) ≡ (if (if b then true else c) then true else d)
+pub or_swap : (b c d : Bool) → (if c then true else (if b then true else d)) ≡ (if (if b then true else c) then true else d)
 or_swap true true d = refl
 or_swap true false d = refl
 or_swap false true d = refl
@@ -162,12 +163,9 @@ pending_after_round m n w s = ap (λ done. pending done n) (fun_ext (finished_af
 
 -- At the start all places are pending.
 pub range-snoc : (a n : ℕ) → range_with_len a (suc n) ≡ range_with_len a n ++ (a + n) ∷ []
-range-snoc a zero =
-    let e : a ≡ a + 0 = omega arith in
-    ap (λ x. x ∷ []) e
-range-snoc a (suc n) =
-    let e : (a + 1) + n ≡ a + suc n = omega arith in
-    ap (λ xs. a ∷ xs) (range-snoc (a + 1) n ∙ ap (λ x. range_with_len (a + 1) n ++ x ∷ []) e)
+range-snoc a n =
+    let more : suc n ≡ n + 1 = omega arith in
+    ap (range_with_len a) more ∙ sym (map-id (range_with_len a (n + 1))) ∙ map-range_with_len_more (λ k. k) a n (a + n) refl ∙ ap (λ ks. ks ++ (a + n) ∷ []) (map-id (range_with_len a n))
 
 pub pending-all : (n : ℕ) → pending (has []) n ≡ range_with_len 0 n
 pending-all zero = refl

@@ -1,5 +1,5 @@
 -- Any sets of a round's places occur as what has started and what has finished.
-use Rattle.std.proofs.Common.{◌≡◌, ℕ, Bool, true, false, not, if◌then◌else◌, ◌==◌, List, [], ◌∷◌, ◌++◌, filter, ◌⊎◌, inl, inr, refl, sym, ◌∙◌, ap, subst}
+use Rattle.std.proofs.Common.{◌≡◌, ℕ, true, false, not, if◌then◌else◌, ◌==◌, List, [], ◌∷◌, ◌++◌, filter, ◌⊎◌, inl, inr, refl, sym, ◌∙◌, ap, subst}
 use Rattle.std.proofs.lemmas.Bool.{cases_Bool, false_from_ne_true, not-true, cond-true, cond-false}
 use Rattle.interleaving.specs.System.{System}
 use Rattle.interleaving.specs.Laws.{Laws}
@@ -7,7 +7,7 @@ use Rattle.interleaving.specs.Machine.{Event, Start, Finish, has, State, opening
 use Rattle.interleaving.specs.Gather.{AllDifferent, in_order}
 use Rattle.interleaving.specs.Rounds.{in_turn, chosen, rounds, AreOf, IsRound, AnySetsOccur}
 use Rattle.interleaving.proofs.Members.{has-here, has-other, has-later, has-different, different-choice, different-filter, filter-keeps, has-choice, has-filter}
-use Rattle.interleaving.proofs.Onwards.{run-append, stays_finished}
+use Rattle.interleaving.proofs.Onwards.{run-append, stays_finished, or_swap}
 use Rattle.interleaving.proofs.Rounding.{in_turn_of, rounds_settled}
 
 starts : List ℕ → List Event
@@ -17,12 +17,6 @@ starts (k ∷ ks) = Start k ∷ starts ks
 finishes : List ℕ → List Event
 finishes [] = []
 finishes (k ∷ ks) = Finish k ∷ finishes ks
-
-or_swap : (b c d : Bool) → (if c then true else (if b then true else d)) ≡ (if (if b then true else c) then true else d)
-or_swap true true d = refl
-or_swap true false d = refl
-or_swap false true d = refl
-or_swap false false d = refl
 
 module _ (m : System) where
   started_by : (s : State m) (ks : List ℕ) (j : ℕ) → has (run m s (starts ks)).started j ≡ (if has ks j then true else has s.started j)

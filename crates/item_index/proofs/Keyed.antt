@@ -2,13 +2,12 @@
 use Rattle.std.specs.Prelude.{◌≡◌, ℕ, Bool, true, false, ◌&&◌, ◌||◌, ◌==◌, ltb, List, [], ◌∷◌, cond, filter, refl, Some, None}
 use Rattle.std.specs.List.{list_any, IsDistinct}
 use Rattle.std.specs.List.Sorted.{IsStrictlySortedBy}
-use Rattle.std.specs.Cmp.{IsTotalOrder, eq_by_cmp_equiv}
+use Rattle.std.specs.Cmp.{IsTotalOrder, eq_by_cmp_equiv, Equal-is}
 use Rattle.std.specs.Map.{keys_of, lookup, set_value}
 use Rattle.std.specs.BTreeMap.{insert_entry, is_at}
 use Rattle.std.specs.declared.cmp.Ordering.{Ordering}
-use Rattle.std.specs.declared.cmp.Ordering.TheVariants.{Less, Equal, Greater}
-use Rattle.std.specs.Ordering.{eq_by_cmp, is_eq, is_le, nat_cmp, ordering_then}
-use Rattle.std.proofs.lemmas.Map.Lookups.{exact_pairs, exact_unsigned}
+use Rattle.std.specs.declared.cmp.Ordering.TheVariants.{Equal}
+use Rattle.std.specs.Ordering.{eq_by_cmp, is_eq, is_le, nat_cmp}
 use Rattle.finite_maps.specs.Table.{pair_cmp}
 use Rattle.std.proofs.Common.{not}
 use Rattle.std.proofs.lemmas.Map.{NonePasses, none_passes_from_lookup}
@@ -17,25 +16,13 @@ use Rattle.std.proofs.lemmas.Map.Keys.{IsDistinct-from_sorted, IsDistinct-tail}
 use Rattle.std.proofs.lemmas.Bool.Decides.{nat_tests}
 use mathlib.Core.Path.{ap, sym, ◌∙◌}
 use native.Mathlib.Omega.{arith}
-use Rattle.item_index.proofs.Pieces.{added, or_swap, or_assoc}
-
-is_equal : (o : Ordering) → is_eq o ≡ true → o ≡ Equal
-is_equal Less e = absurd cc
-is_equal Equal e = refl
-is_equal Greater e = absurd cc
-
--- (a and (b or c)) or d, by a
-spread : (a b c : Bool) → (a && (b || c)) ≡ ((a && b) || (a && c))
-spread true b c = refl
-spread false b c = refl
+use Rattle.item_index.proofs.Pieces.{added}
+use mathlib.Core.Bool.{or_comm, or_assoc, and-or_distrib_left}
+use Rattle.world_parts.proofs.Changes.{tied_then}
 
 swap_last : (a b c : Bool) → ((a || b) || c) ≡ ((a || c) || b)
 swap_last true b c = refl
-swap_last false b c = or_swap b c
-
-none : (b : Bool) → (b && false) ≡ false
-none true = refl
-none false = refl
+swap_last false b c = or_comm b c
 
 module _ {K V : Type 0} (cmp : K → K → Ordering) (exact : (x y : K) → cmp x y ≡ Equal → x ≡ y) (h : V → Bool) (k : K) where
   module _ (g : K → Bool) where
@@ -51,13 +38,13 @@ module _ {K V : Type 0} (cmp : K → K → Ordering) (exact : (x y : K) → cmp 
             → cond c (Some x.1) (lookup (is_at (cmp k)) es) ≡ Some old
             → list_any passes (cond c ((x.0, new) ∷ es) (x ∷ set_value (is_at (cmp k)) es new)) ≡ ((passes x || list_any passes es) || (g k && b))
         by true t f e =
-            let same : k ≡ x.0 = exact k x.0 (is_equal (cmp k x.0) t) in
+            let same : k ≡ x.0 = exact k x.0 ((Equal-is (cmp k x.0)).0 t) in
             let was : x.1 ≡ old = cc in
             ap (λ c. (g x.0 && c) || list_any passes es) (l ∙ ap (λ v. h v || b) (sym was))
-            ∙ ap (λ c. c || list_any passes es) (spread (g x.0) (h x.1) b)
+            ∙ ap (λ c. c || list_any passes es) (and-or_distrib_left (g x.0) (h x.1) b)
             ∙ swap_last (passes x) (g x.0 && b) (list_any passes es)
             ∙ ap (λ y. (passes x || list_any passes es) || (g y && b)) (sym same)
-        by false t f e = ap (λ c. passes x || c) (f e) ∙ or_assoc (passes x) (list_any passes es) (g k && b)
+        by false t f e = ap (λ c. passes x || c) (f e) ∙ sym (or_assoc (passes x) (list_any passes es) (g k && b))
 
     pub placed : (es : List (K × V)) (new : V) (b : Bool) → lookup (is_at (cmp k)) es ≡ None → h new ≡ b → list_any passes (insert_entry cmp es k new) ≡ (list_any passes es || (g k && b))
     placed es new b e l = added cmp passes es k new (none_passes_from_lookup (is_at (cmp k)) es e) ∙ ap (λ c. list_any passes es || (g k && c)) l
@@ -84,7 +71,7 @@ module _ {K V : Type 0} (cmp : K → K → Ordering) (exact : (x y : K) → cmp 
         by true t f e =
             let was : v ≡ x.1 = cc in
             let rest : list_any fits es ≡ false = none_fits es (none_past_head (eq_by_cmp_equiv total) k x es d t) in
-            ap h was ∙ sym (ap (λ b. (b && h x.1) || list_any fits es) (sym (tells x.0) ∙ t) ∙ ap (λ b. h x.1 || b) rest ∙ or_swap (h x.1) false)
+            ap h was ∙ sym (ap (λ b. (b && h x.1) || list_any fits es) (sym (tells x.0) ∙ t) ∙ ap (λ b. h x.1 || b) rest ∙ or_comm (h x.1) false)
         by false t f e = f e ∙ ap (λ b. (b && h x.1) || list_any fits es) (sym t ∙ tells x.0)
 
     pub at_some : (total : IsTotalOrder cmp) (es : List (K × V)) (v : V) → IsStrictlySortedBy cmp (keys_of es) → lookup (is_at (cmp k)) es ≡ Some v → h v ≡ list_any fits es
@@ -128,13 +115,5 @@ and_true a true = refl
 and_true a false = refl
 
 -- pairs of numbers as keys
-is_eq-then : (r q : Ordering) → is_eq (ordering_then r q) ≡ (is_eq r && is_eq q)
-is_eq-then Less q = refl
-is_eq-then Equal q = refl
-is_eq-then Greater q = refl
-
-pub exact_pair : (x y : ℕ × ℕ) → pair_cmp x y ≡ Equal → x ≡ y
-exact_pair = exact_pairs nat_cmp nat_cmp exact_unsigned exact_unsigned
-
 pub tells_pair : (k x : ℕ × ℕ) → is_eq (pair_cmp k x) ≡ (x.0 == k.0 && x.1 == k.1)
-tells_pair k x = is_eq-then (nat_cmp k.0 x.0) (nat_cmp k.1 x.1) ∙ (λ i. tells_number k.0 x.0 i && tells_number k.1 x.1 i)
+tells_pair k x = tied_then (nat_cmp k.0 x.0) (nat_cmp k.1 x.1) ∙ (λ i. tells_number k.0 x.0 i && tells_number k.1 x.1 i)

@@ -15,22 +15,13 @@ use mathlib.Core.Path.{ap, sym, subst, ◌∙◌}
 use native.Mathlib.Omega.{arith}
 use Rattle.world_parts.specs.Items.{ranges_meet, within}
 use Rattle.item_index.specs.Spans.{AreApart, covers, crosses, has_some}
-
-pub or_swap : (a b : Bool) → (a || b) ≡ (b || a)
-or_swap true true = refl
-or_swap true false = refl
-or_swap false true = refl
-or_swap false false = refl
+use mathlib.Core.Bool.{or_comm, or_assoc}
 
 -- what is true already: to add it changes nothing
 pub or_already : (a b : Bool) → (b ≡ true → a ≡ true) → a ≡ (a || b)
 or_already true b f = refl
 or_already false true f = f refl
 or_already false false f = refl
-
-pub or_assoc : (a b c : Bool) → (a || (b || c)) ≡ ((a || b) || c)
-or_assoc true b c = refl
-or_assoc false b c = refl
 
 -- what a search up to a limit keeps
 pub up_to : (limit x : ℕ) → leb x limit ≡ not (is_lt (nat_cmp limit x))
@@ -135,8 +126,8 @@ taken p (r ∷ rs) k v e = by (is_eq (nat_cmp k r.0)) refl (taken p rs k v) e
         → (lookup (is_at (nat_cmp k)) rs ≡ Some v → list_any p rs ≡ (list_any p (remove_entry (is_at (nat_cmp k)) rs) || p (k, v)))
         → cond b (Some r.1) (lookup (is_at (nat_cmp k)) rs) ≡ Some v
         → (p r || list_any p rs) ≡ (list_any p (cond b rs (r ∷ remove_entry (is_at (nat_cmp k)) rs)) || p (k, v))
-    by true t f e = ap (λ x. p x || list_any p rs) (pair_of r k v (same_key k r.0 t) e) ∙ or_swap (p (k, v)) (list_any p rs)
-    by false t f e = ap (λ b. p r || b) (f e) ∙ or_assoc (p r) (list_any p (remove_entry (is_at (nat_cmp k)) rs)) (p (k, v))
+    by true t f e = ap (λ x. p x || list_any p rs) (pair_of r k v (same_key k r.0 t) e) ∙ or_comm (p (k, v)) (list_any p rs)
+    by false t f e = ap (λ b. p r || b) (f e) ∙ sym (or_assoc (p r) (list_any p (remove_entry (is_at (nat_cmp k)) rs)) (p (k, v)))
 
 pub fewer : (rs : List (ℕ × ℕ)) (k v : ℕ) → lookup (is_at (nat_cmp k)) rs ≡ Some v → length (remove_entry (is_at (nat_cmp k)) rs) < length rs
 fewer [] k v e = absurd cc
@@ -202,16 +193,16 @@ module _ (low high : ℕ) (some : low < high) where
 
 -- a test of one entry more, whose key is new
 pub added : {K V : Type 0} (cmp : K → K → Ordering) (p : K × V → Bool) (es : List (K × V)) (k : K) (v : V) → AllByRecursion (λ (e : K × V). is_eq (cmp k e.0) ≡ false) es → list_any p (insert_entry cmp es k v) ≡ (list_any p es || p (k, v))
-added cmp p [] k v h = or_swap (p (k, v)) false
+added cmp p [] k v h = or_comm (p (k, v)) false
 added {K} {V} cmp p (e ∷ es) k v h = by (cmp k e.0) refl (added cmp p es k v h.1)
   where
     by : (o : Ordering) → cmp k e.0 ≡ o → list_any p (insert_entry cmp es k v) ≡ (list_any p es || p (k, v)) → list_any p (match_ordering o ((k, v) ∷ e ∷ es) ((e.0, v) ∷ es) (e ∷ insert_entry cmp es k v)) ≡ ((p e || list_any p es) || p (k, v))
-    by Less o f = or_swap (p (k, v)) (p e || list_any p es)
+    by Less o f = or_comm (p (k, v)) (p e || list_any p es)
     by Equal o f =
         let never : is_eq (cmp k e.0) ≡ true = ap is_eq o in
         let n : is_eq (cmp k e.0) ≡ false = h.0 in
         absurd cc
-    by Greater o f = ap (λ b. p e || b) f ∙ or_assoc (p e) (list_any p es) (p (k, v))
+    by Greater o f = ap (λ b. p e || b) f ∙ sym (or_assoc (p e) (list_any p es) (p (k, v)))
 
 -- a range within one piece
 pub within_piece : (low high k v : ℕ) (rs : List (ℕ × ℕ)) → lookup (is_at (nat_cmp k)) rs ≡ Some v → k ≤ low → high ≤ v → (p : ℕ) → covers rs p ≡ (covers rs p || within low high p)
@@ -328,7 +319,7 @@ module _ (start end k v : ℕ) where
     absorbed p =
         let rest = covers (remove_entry (is_at (nat_cmp k)) rs) p in
         ap (λ b. rest || b) (one_range some fits begins touches p)
-        ∙ or_assoc rest (within k v p) (within start end p)
+        ∙ sym (or_assoc rest (within k v p) (within start end p))
         ∙ ap (λ b. b || within start end p) (sym (taken (λ r. within r.0 r.1 p) rs k v l.found))
 
 -- and when there is none

@@ -1,6 +1,6 @@
 -- An operation that asks for no more than one call moves answers no greater count.
 use Rattle.std.proofs.Common.{ℕ, zero, suc, ◌+◌, ◌-◌, ◌<◌, ◌≤◌, ◌^◌, Bool, true, false, not, List, [], ◌∷◌, length, take, drop, Some, None, arith, unwrap_or}
-use Rattle.std.specs.Prelude.{ℤ, Option, Result, Ok, IfOk, IfSome, ok_or, min, leb, ltb, ◌&&◌, is_some, is_none, ◌==◌, if◌then◌else◌}
+use Rattle.std.specs.Prelude.{Option, Result, Ok, IfOk, IfSome, ok_or, min, leb, ltb, ◌&&◌, is_some, is_none, ◌==◌, if◌then◌else◌}
 use Rattle.std.specs.List.{find, range_with_len}
 use Rattle.std.specs.Option.{option_map}
 use Rattle.std.proofs.lemmas.List.{length-take}
@@ -11,12 +11,12 @@ use Rattle.trace_format.specs.declared.trace.Trace.{Trace}
 use Rattle.trace_format.specs.Sides.{most_moved}
 use Rattle.trace_format.specs.Text.{IsSpelled}
 use Rattle.trace_format.proofs.Sizes.{sizes}
-use Rattle.entry_checks.specs.Operation.{Operation, nop, readv, writev, fsync, read_fixed, write_fixed, fallocate, openat, close, read, write, renameat, unlinkat, mkdirat, linkat, ftruncate, File, Span, Path, OpenFlags, asked, file_limit}
+use Rattle.entry_checks.specs.Operation.{Operation, nop, readv, writev, fsync, read_fixed, write_fixed, fallocate, openat, close, read, write, renameat, unlinkat, mkdirat, linkat, ftruncate, File, Span, Path, OpenFlags, asked, file_limit, in_slot, at_descriptor}
 use Rattle.file_tree.specs.Tree.{Target}
 use Rattle.file_tree.specs.Walk.{Place, walk, is_directory}
 use Rattle.world_parts.specs.World.{World, Change, set_name, slot, descriptor, buffer}
 use Rattle.op_meaning.proofs.Fallible.{and_then, and_so, after}
-use Rattle.op_meaning.specs.Meaning.{Effect, Handle, Destination, reply, into, Room, in_slot, at_descriptor, done, delivered, read_effect, write_effect, readable, writable, read_meaning, write_meaning, span_start, span_destination, span_bytes, write_start, held, handle, slot_count, is_bad_offset, can_write, allocation, fallocate_meaning, ftruncate_meaning, may_open, may_remove, may_replace, moved_name, goes_below, room, lowest_free, open_as, close_meaning, move_meaning, exchange_meaning, rename_to, meaning}
+use Rattle.op_meaning.specs.Meaning.{Effect, Handle, Destination, reply, into, done, delivered, read_effect, write_effect, readable, writable, read_meaning, write_meaning, span_start, span_destination, span_bytes, write_start, held, handle, slot_count, is_bad_offset, can_write, allocation, fallocate_meaning, ftruncate_meaning, may_open, may_remove, may_replace, moved_name, goes_below, room, lowest_free, open_as, close_meaning, move_meaning, exchange_meaning, rename_to, meaning}
 
 -- An answer whose count one call can move.
 abbrev pub Small : Effect → Type 0
@@ -55,7 +55,7 @@ span_small t s r x = by (span_start t r x)
     by (Some at) = taken_small (min x.length most_moved) _ (omega arith)
 
 -- The room of an open.
-abbrev FewDescriptors : Room → Type 0
+abbrev FewDescriptors : File → Type 0
 FewDescriptors (in_slot n) = Unit {0}
 FewDescriptors (at_descriptor n) = n ≤ most_moved
 
@@ -71,15 +71,15 @@ found_below p a (suc n) = either (p a) (found_below p (a + 1) n)
         weaker None h = tt
         weaker (Some k) h = omega arith
 
-room_small : (t : Trace) (s : World) (r index : ℕ) → IsSpelled t → IfOk (room t s r index) FewDescriptors
-room_small t s r zero spelled = by (lowest_free t s) (found_below (λ n. is_none (descriptor s n)) 0 (length t.descriptors))
+room_small : (t : Trace) (s : World) (r : ℕ) (asked : Option ℕ) → IsSpelled t → IfOk (room t s r asked) FewDescriptors
+room_small t s r None spelled = by (lowest_free t s) (found_below (λ n. is_none (descriptor s n)) 0 (length t.descriptors))
   where
     by : (o : Option ℕ) → IfSome o (λ k. k < 0 + length t.descriptors) → IfOk (ok_or (option_map at_descriptor o) EMFILE) FewDescriptors
     by None h = tt
     by (Some k) h = let few : length t.descriptors ≤ 1024 = (sizes t spelled).descriptors in omega arith
-room_small t s r (suc n) spelled = after FewDescriptors (require (ltb n (slot_count t r)) EINVAL) _ tt
+room_small t s r (Some n) spelled = after FewDescriptors (require (ltb n (slot_count t r)) EINVAL) _ tt
 
-opened_small : (t : Trace) (k r : ℕ) (g : OpenFlags) (at : Room) (p : Place) → FewDescriptors at → (open_as t k r g at p).count ≤ most_moved
+opened_small : (t : Trace) (k r : ℕ) (g : OpenFlags) (at : File) (p : Place) → FewDescriptors at → (open_as t k r g at p).count ≤ most_moved
 opened_small t k r g (in_slot n) p few = omega arith
 opened_small t k r g (at_descriptor n) p few = few
 
@@ -108,9 +108,9 @@ rename_small s old new flags p q x = either (flags == 2) (not (flags == 1 && is_
     either false m n = after Small (require m EEXIST >> require n EINVAL) _ (move_small s p q x q.target)
 
 -- Closes.
-close_small : (t : Trace) (s : World) (r : ℕ) (number : ℤ) (index : ℕ) → IfOk (close_meaning t s r number index) Small
-close_small t s r number zero = after Small (require (is_some (held t s r false number)) EBADF) _ none
-close_small t s r number (suc n) = after Small (require (ltb n (slot_count t r)) EINVAL) _ (after Small (require (is_some (slot s r n)) EBADF) _ none)
+close_small : (t : Trace) (s : World) (r : ℕ) (f : File) → IfOk (close_meaning t s r f) Small
+close_small t s r (at_descriptor n) = after Small (require (is_some (held t s r (at_descriptor n))) EBADF) _ none
+close_small t s r (in_slot n) = after Small (require (ltb n (slot_count t r)) EINVAL) _ (after Small (require (is_some (slot s r n)) EBADF) _ none)
 
 -- Allocations and sizes.
 fallocate_small : (t : Trace) (s : World) (r : ℕ) (f : File) (o n mode : ℕ) → IfOk (fallocate_meaning t s r f o n mode) Small
@@ -129,13 +129,13 @@ pub small : (t : Trace) (k r : ℕ) (s : World) (o : Operation) → IsSpelled t 
 small t k r s nop spelled le = none
 small t k r s (readv f o n) spelled le = read_small t s r f o (min n most_moved) (Ok reply) le
 small t k r s (writev f o new) spelled le = write_small t s r f o (Ok new) le
-small t k r s (fsync f) spelled le = after Small (require (is_some (held t s r f.registered f.number)) EBADF) _ none
+small t k r s (fsync f) spelled le = after Small (require (is_some (held t s r f)) EBADF) _ none
 small t k r s (read_fixed f o x) spelled le = read_small t s r f o (min x.length most_moved) (span_destination t r x) le
 small t k r s (write_fixed f o x) spelled le = write_small t s r f o (span_bytes t s r x) (span_small t s r x)
 small t k r s (fallocate f o n mode) spelled le = fallocate_small t s r f o n mode
-small t k r s (openat p g index) spelled le =
-    and_so FewDescriptors Small (room t s r index) _ (room_small t s r index spelled) (λ at few. and_then Small (walk s.nodes p) _ (λ q. after Small (may_open g q.target) _ (opened_small t k r g at q few)))
-small t k r s (close number index) spelled le = close_small t s r number index
+small t k r s (openat p g asked) spelled le =
+    and_so FewDescriptors Small (room t s r asked) _ (room_small t s r asked spelled) (λ at few. and_then Small (walk s.nodes p) _ (λ q. after Small (may_open g q.target) _ (opened_small t k r g at q few)))
+small t k r s (close f) spelled le = close_small t s r f
 small t k r s (read f o n) spelled le = read_small t s r f o (min n most_moved) (Ok reply) le
 small t k r s (write f o new) spelled le = write_small t s r f o (Ok new) le
 small t k r s (renameat old new flags) spelled le =

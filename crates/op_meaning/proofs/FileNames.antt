@@ -1,11 +1,11 @@
 -- The names that operations set are names of files.
-use Rattle.std.specs.Prelude.{◌≡◌, ℕ, ℤ, pos, negsuc, zero, suc, ◌+◌, ◌-◌, ◌^◌, min, ◌==◌, ltb, leb, Bool, true, false, not, ◌&&◌, T, List, [], ◌∷◌, ◌++◌, length, take, Option, Some, None, Result, Ok, Err, refl, if◌then◌else◌}
+use Rattle.std.specs.Prelude.{◌≡◌, ℕ, zero, suc, ◌+◌, ◌-◌, ◌^◌, min, ◌==◌, ltb, leb, Bool, true, false, not, ◌&&◌, T, List, [], ◌∷◌, ◌++◌, length, take, Option, Some, None, Result, Ok, Err, refl, if◌then◌else◌}
 use Rattle.std.specs.Option.{is_some, is_none, ok_or}
 use Rattle.sqe_codec.specs.declared.errno.Errno.{Errno}
 use Rattle.sqe_codec.specs.declared.errno.Errno.TheVariants.{EBADF, EEXIST, EFBIG, EINVAL, ENOENT, EOPNOTSUPP, EPERM}
 use Rattle.sqe_codec.specs.Answers.{◌>>=◌, ◌>>◌, require, each}
 use Rattle.trace_format.specs.declared.trace.Trace.{Trace}
-use Rattle.entry_checks.specs.Operation.{Operation, nop, readv, writev, fsync, read_fixed, write_fixed, fallocate, openat, close, read, write, renameat, unlinkat, mkdirat, linkat, ftruncate, File, Path, OpenFlags, file_limit, at_position}
+use Rattle.entry_checks.specs.Operation.{Operation, nop, readv, writev, fsync, read_fixed, write_fixed, fallocate, openat, close, read, write, renameat, unlinkat, mkdirat, linkat, ftruncate, File, Path, OpenFlags, file_limit, at_position, in_slot, at_descriptor}
 use Rattle.trace_format.specs.Sides.{most_moved}
 use Rattle.file_tree.specs.Tree.{Target, a_directory}
 use Rattle.file_tree.specs.Walk.{Place, walk, is_directory}
@@ -16,7 +16,7 @@ use Rattle.entry_checks.specs.Check.{has, io_hardlink, skip_success}
 use Rattle.world_parts.specs.World.{World, Change, quiet, loud, break_chain, slot, set_name, make_node, set_slot, set_descriptor, set_size}
 use Rattle.world_parts.specs.Paths.{is_file_name}
 use Rattle.world_parts.proofs.FileNames.{Named, AllNaming, named_place, named_changes, named_start}
-use Rattle.op_meaning.specs.Meaning.{Effect, done, Handle, handle, held, slot_count, can_write, is_bad_offset, span_destination, span_bytes, new_directory, advance, Destination, reply, into, delivered, read_effect, readable, read_meaning, write_start, write_effect, writable, write_meaning, Allocation, extend, reserve, punch, zero_extend, zero_within, allocation, allocate, Room, in_slot, at_descriptor, room, filled, may_open, open_changes, open_as, close_meaning, may_remove, may_replace, moved_name, move_meaning, exchanged, exchange_meaning, goes_below, rename_to, made_node, made_description, meaning}
+use Rattle.op_meaning.specs.Meaning.{Effect, done, Handle, handle, held, slot_count, can_write, is_bad_offset, span_destination, span_bytes, new_directory, advance, Destination, reply, into, delivered, read_effect, readable, read_meaning, write_start, write_effect, writable, write_meaning, Allocation, extend, reserve, punch, zero_extend, zero_within, allocation, allocate, room, filled, may_open, open_changes, open_as, close_meaning, may_remove, may_replace, moved_name, move_meaning, exchanged, exchange_meaning, goes_below, rename_to, made_node, made_description, meaning}
 use Rattle.op_meaning.specs.Step.{Turn, filled as fills, refused, canceled, runs, breaks, failed, changes_of, changes_in, turn, step_world, run_world}
 
 -- an answer whose changes set no other names
@@ -90,7 +90,7 @@ allocates s i at end punch = (tt, tt)
 allocates s i at end zero_extend = (tt, (tt, tt))
 allocates s i at end zero_within = (tt, tt)
 
-fills_room : (r : ℕ) (at : Room) (d : ℕ) → AllNaming (filled r at d).changes
+fills_room : (r : ℕ) (at : File) (d : ℕ) → AllNaming (filled r at d).changes
 fills_room r (in_slot n) d = (tt, tt)
 fills_room r (at_descriptor n) d = (tt, tt)
 
@@ -98,13 +98,12 @@ opens_at : (g : OpenFlags) (i : ℕ) (p : Place) → T (is_file_name p.name) →
 opens_at g i p good None = (tt, (good, tt))
 opens_at g i p good (Some x) = either g.truncate _ _ (tt, tt) tt
 
-opens : (t : Trace) (k r : ℕ) (g : OpenFlags) (at : Room) (p : Place) → T (is_file_name p.name) → AllNaming (open_as t k r g at p).changes
+opens : (t : Trace) (k r : ℕ) (g : OpenFlags) (at : File) (p : Place) → T (is_file_name p.name) → AllNaming (open_as t k r g at p).changes
 opens t k r g at p good = both (open_changes g (made_node t k) p p.target) _ (opens_at g (made_node t k) p good p.target) (tt, fills_room r at (made_description t k))
 
-closes : (t : Trace) (s : World) (r : ℕ) (number : ℤ) (index : ℕ) → IsNaming (close_meaning t s r number index)
-closes t s r (pos n) zero = tested (is_some (held t s r false (pos n))) EBADF (Ok (done (set_descriptor n None ∷ []))) (accepted (done (set_descriptor n None ∷ [])) (tt, tt))
-closes t s r (negsuc n) zero = tested (is_some (held t s r false (negsuc n))) EBADF (Ok (done [])) nothing
-closes t s r number (suc n) =
+closes : (t : Trace) (s : World) (r : ℕ) (f : File) → IsNaming (close_meaning t s r f)
+closes t s r (at_descriptor n) = tested (is_some (held t s r (at_descriptor n))) EBADF (Ok (done (set_descriptor n None ∷ []))) (accepted (done (set_descriptor n None ∷ [])) (tt, tt))
+closes t s r (in_slot n) =
     let emptied = done (set_slot r n None ∷ []) in
     tested (ltb n (slot_count t r)) EINVAL (require (is_some (slot s r n)) EBADF >> Ok emptied) (tested (is_some (slot s r n)) EBADF (Ok emptied) (accepted emptied (tt, tt)))
 
@@ -129,15 +128,15 @@ names_in : (t : Trace) (k r : ℕ) (s : World) (o : Operation) → IsNaming (mea
 names_in t k r s nop = nothing
 names_in t k r s (readv f o n) = reads t s r f o (min n most_moved) (Ok reply)
 names_in t k r s (writev f o new) = writes t s r f o (Ok new)
-names_in t k r s (fsync f) = tested (is_some (held t s r f.registered f.number)) EBADF (Ok (done [])) nothing
+names_in t k r s (fsync f) = tested (is_some (held t s r f)) EBADF (Ok (done [])) nothing
 names_in t k r s (read_fixed f o x) = reads t s r f o (min x.length most_moved) (span_destination t r x)
 names_in t k r s (write_fixed f o x) = writes t s r f o (span_bytes t s r x)
 names_in t k r s (fallocate f o n mode) =
     bind (ok_or (handle t s r f) EBADF) _ (λ h e. tested (ltb o (2 ^ 63) && not (n == 0) && ltb n (2 ^ 63)) EINVAL _ (bind (ok_or (allocation mode) EOPNOTSUPP) _ (λ a g.
     tested (can_write h.opened.access) EBADF _ (tested (leb (o + n) file_limit) EFBIG _ (accepted (done (allocate s h.opened.target.node o (o + n) a)) (allocates s h.opened.target.node o (o + n) a))))))
-names_in t k r s (openat p g index) =
-    bind (room t s r index) _ (λ at e. bind (walk s.nodes p) _ (λ q h. checked (may_open g q.target) (Ok (open_as t k r g at q)) (accepted (open_as t k r g at q) (opens t k r g at q (named_place s.nodes p q h)))))
-names_in t k r s (close number index) = closes t s r number index
+names_in t k r s (openat p g asked) =
+    bind (room t s r asked) _ (λ at e. bind (walk s.nodes p) _ (λ q h. checked (may_open g q.target) (Ok (open_as t k r g at q)) (accepted (open_as t k r g at q) (opens t k r g at q (named_place s.nodes p q h)))))
+names_in t k r s (close f) = closes t s r f
 names_in t k r s (read f o n) = reads t s r f o (min n most_moved) (Ok reply)
 names_in t k r s (write f o new) = writes t s r f o (Ok new)
 names_in t k r s (renameat old new flags) =

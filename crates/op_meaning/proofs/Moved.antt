@@ -1,15 +1,9 @@
 -- Parts of lists of bytes that transfers move.
-use Rattle.std.proofs.Common.{◌≡◌, ◌≢◌, ℕ, ◌+◌, ◌-◌, ◌≤◌, List, [], length, take, drop, refl, sym, ap, ◌∙◌, arith, inl, inr, take_all}
-use Rattle.std.specs.Prelude.{Result, Ok, Option, Some, None, option_map, unwrap_or, ◌==◌, if◌then◌else◌, min}
-use Rattle.std.proofs.lemmas.List.{length-take, length-drop, drop_all}
-use Rattle.std.proofs.Math.Seq.{take-nil}
-use Rattle.std.proofs.lemmas.Bool.{cases_lt, ne_eqb}
-use Rattle.sqe_codec.specs.declared.errno.Errno.{Errno}
+use Rattle.std.proofs.Common.{◌≡◌, ℕ, ◌+◌, ◌-◌, ◌≤◌, List, length, take, drop, refl, sym, ◌∙◌, arith, inl, inr, take_all}
+use Rattle.std.specs.Prelude.{min}
+use Rattle.std.proofs.lemmas.List.{length-take, length-drop}
+use Rattle.std.proofs.lemmas.Bool.{cases_lt}
 use Rattle.extent_bytes.specs.Bytes.{range_of}
-use Rattle.entry_checks.specs.Operation.{file_limit}
-use Rattle.world_parts.specs.World.{World, write_bytes, apply, apply_all}
-use Rattle.op_meaning.specs.Meaning.{Effect, Handle, done, advance, write_effect}
-use Rattle.op_meaning.specs.Step.{changes_of}
 
 -- The first bytes of a list, as many as it has.
 pub take-min : (bytes : List ℕ) (n : ℕ) → take (min (length bytes) n) bytes ≡ take n bytes
@@ -25,45 +19,6 @@ range_from bytes at n end e =
     let count : end - at ≡ min (length (drop at bytes)) n = omega (arith, length-drop at bytes) in
     rw count (take-min (drop at bytes) n)
 
-no_range : (bytes : List ℕ) (k : ℕ) → range_of bytes k k ≡ []
-unfolding range_of
-no_range bytes k = let e : k - k ≡ 0 = omega arith in rw e refl
-
--- The same, where an offset past that end is moved back to it.
-pub range_within : (bytes : List ℕ) (at n end low : ℕ) → end ≡ min (length bytes) (at + n) → low ≡ min at end → range_of bytes low end ≡ take n (drop at bytes)
-range_within bytes at n end low e l = elim (cases_lt end at) [
-  | inl behind ↦
-      let none : drop at bytes ≡ [] = drop_all at bytes (omega arith) in
-      let here : low ≡ end = omega arith in
-      rw (here, none) (no_range bytes end ∙ sym (take-nil n))
-  | inr within ↦
-      let here : low ≡ at = omega arith in
-      rw here (range_from bytes at n end e)
-]
-
--- The length of a list that may be there.
-pub length-there : (o : Option (List ℕ)) → unwrap_or (option_map length o) 0 ≡ length (unwrap_or o [])
-length-there None = refl
-length-there (Some xs) = refl
-
--- How many those are.
+-- How many bytes there are from an offset on, of so many.
 pub length-taken : (bytes : List ℕ) (at n : ℕ) → length (take n (drop at bytes)) ≤ n
 length-taken bytes at n = omega (arith, length-take n (drop at bytes))
-
-pub length-behind : (bytes : List ℕ) (at n limit : ℕ) → length bytes ≤ limit → length (take n (drop at bytes)) ≤ limit - at
-length-behind bytes at n limit le = omega (arith, length-take n (drop at bytes), length-drop at bytes)
-
--- The changes of a write that is cut at the largest size.
-pub written : (s w v : World) (h : Handle) (o start count : ℕ) (bytes part : List ℕ) → count ≡ min (length bytes) (file_limit - start) → part ≡ take count bytes
-    → w ≡ apply (write_bytes h.opened.target.node start part) s → v ≡ apply_all (advance h o (start + count)) w
-    → v ≡ apply_all (write_effect h o start (take (file_limit - start) bytes)).changes s
-written s w v h o start count bytes part e p x y =
-    let moved : part ≡ take (file_limit - start) bytes = p ∙ ap (λ n. take n bytes) e ∙ take-min bytes (file_limit - start) in
-    let long : count ≡ length part = omega (arith, ap length p, length-take count bytes) in
-    y ∙ (λ i. apply_all (advance h o (start + long i)) (x i)) ∙ ap (λ (xs : List ℕ). apply_all (write_effect h o start xs).changes s) moved
-
--- What a meaning changes that moves some bytes.
-pub changes_more : (x : Result Effect Errno) (n : ℕ) (y : Effect) (s v : World) → x ≡ Ok (if n == 0 then done [] else y) → n ≢ 0 → v ≡ apply_all y.changes s → v ≡ apply_all (changes_of x) s
-changes_more x n y s v e more h =
-    let is : x ≡ Ok y = rw (ne_eqb n 0 more) at e in
-    h ∙ ap (λ z. apply_all (changes_of z) s) (sym is)

@@ -1,15 +1,14 @@
 -- A view of code: what is decided of an operation on an open file before it is done.
-use Rattle.std.specs.Prelude.{◌≡◌, ◌==◌, ◌+◌, ◌-◌, ℕ, List, [], length, take, unwrap_or, Result, Ok, Err, MatchResult, if◌then◌else◌}
+use Rattle.std.specs.Prelude.{◌≡◌, ◌==◌, ◌-◌, ℕ, List, [], length, take, Result, Ok, Err, MatchResult, if◌then◌else◌}
 use Rattle.sqe_codec.specs.declared.errno.Errno.{Errno}
 use Rattle.trace_format.specs.declared.trace.Trace.{Trace}
 use Rattle.entry_checks.specs.Operation.{File, Span, file_limit}
-use Rattle.extent_bytes.specs.Bytes.{range_of}
-use Rattle.world_parts.specs.World.{World, buffer}
-use Rattle.op_meaning.specs.declared.allocating.Allocation.{Allocation}
+use Rattle.world_parts.specs.World.{World}
 use Rattle.op_meaning.specs.declared.handles.OpenFile.{OpenFile}
 use Rattle.op_meaning.specs.declared.transfers.BufferWrite.{BufferWrite}
-use Rattle.op_meaning.specs.Handles.{allocation_meant, handle_meant}
-use Rattle.op_meaning.specs.Meaning.{Effect, allocate, done, into, read_effect, read_meaning, reply, span_destination, write_effect, write_fixed_meaning, write_meaning}
+use Rattle.op_meaning.specs.Decision.{buffer_written}
+use Rattle.op_meaning.specs.Handles.{handle_meant}
+use Rattle.op_meaning.specs.Meaning.{Effect, done, into, read_effect, read_meaning, reply, span_destination, write_effect, write_meaning}
 
 -- the effect of an operation, by the value that was decided on, or its error
 abbrev pub Decides : {A : Type 0} → Result Effect Errno → (A → Effect) → Result A Errno → Type 0
@@ -33,14 +32,6 @@ DecidesWrites t s r f o count result = MatchResult result
     (λ x. (new : List ℕ) → length new ≡ count → write_meaning t s r f o (Ok new) ≡ Ok (if length new == 0 then done [] else write_effect (handle_meant s x.0) o x.1 (take (file_limit - x.1) new)))
     (λ e. (new : List ℕ) → length new ≡ count → write_meaning t s r f o (Ok new) ≡ Err e)
 
--- a write of a range of a buffer of a ring
-abbrev pub write_from_buffer : World → ℕ → ℕ → ℕ → BufferWrite → Effect
-write_from_buffer s r b o w = if w.count == 0 then done [] else write_effect (handle_meant s w.file) o w.start (range_of (unwrap_or (buffer s r b) []) w.at (w.at + w.count))
-
--- of a write of a span's bytes: that range
-abbrev pub DecidesFixedWrite : Trace → World → ℕ → File → ℕ → Span → Result BufferWrite Errno → Type 0
-DecidesFixedWrite t s r f o span result = Decides (write_fixed_meaning t s r f o span) (write_from_buffer s r span.index o) result
-
--- an allocation of so many bytes from an offset on
-abbrev pub allocating : World → ℕ → ℕ → ℕ × Allocation → Effect
-allocating s o n x = done (allocate s x.0 o (o + n) (allocation_meant x.1))
+-- a write of a buffer's bytes, of which there may be none
+abbrev pub buffer_written_if_any : World → ℕ → BufferWrite → Effect
+buffer_written_if_any s r x = if x.count == 0 then done [] else buffer_written s r x

@@ -1,9 +1,9 @@
 -- The model: what each place reads and writes, a row of uses for each operation.
-use Rattle.std.specs.Prelude.{ℕ, ℤ, pos, negsuc, zero, suc, Bool, true, false, not, ◌&&◌, ◌||◌, ◌==◌, ltb, leb, ◌+◌, min, List, [], ◌∷◌, ◌++◌, map, length, Option, Some, None, is_ok, if◌then◌else◌}
+use Rattle.std.specs.Prelude.{ℕ, Bool, true, false, not, ◌&&◌, ◌||◌, ◌==◌, ltb, leb, ◌+◌, min, List, [], ◌∷◌, ◌++◌, map, length, Option, Some, None, is_ok, if◌then◌else◌}
 use Rattle.chain_plan.specs.declared.role.Role.{Role}
 use Rattle.trace_format.specs.declared.trace.Trace.{Trace}
 use Rattle.sqe_codec.specs.Answers.{each, each_ok}
-use Rattle.entry_checks.specs.Operation.{Operation, nop, readv, writev, fsync, read_fixed, write_fixed, fallocate, openat, close, read, write, renameat, unlinkat, mkdirat, linkat, ftruncate, File, Span, Path, OpenFlags, file_limit, at_position}
+use Rattle.entry_checks.specs.Operation.{Operation, nop, readv, writev, fsync, read_fixed, write_fixed, fallocate, openat, close, read, write, renameat, unlinkat, mkdirat, linkat, ftruncate, File, in_slot, at_descriptor, Span, Path, OpenFlags, file_limit, at_position}
 use Rattle.trace_format.specs.Sides.{most_moved}
 use Rattle.chain_plan.specs.Chain.{role}
 use Rattle.trace_format.specs.Steps.{Step, step_at}
@@ -41,13 +41,12 @@ abbrev pub room_where : Taken → Footprint → Footprint
 room_where x f = if is_foreseen x then [] else f
 
 -- The slot or descriptor of a file number, so far as there is one.
-abbrev pub held_item : Trace → ℕ → Bool → ℤ → List Item
-held_item t r true (pos n) = if ltb n (slot_count t r) then one (slot_at r n) ∷ [] else []
-held_item t r false (pos n) = if ltb n (length t.descriptors) then one (descriptor_at n) ∷ [] else []
-held_item t r b (negsuc n) = []
+abbrev pub held_item : Trace → ℕ → File → List Item
+held_item t r (in_slot n) = if ltb n (slot_count t r) then one (slot_at r n) ∷ [] else []
+held_item t r (at_descriptor n) = if ltb n (length t.descriptors) then one (descriptor_at n) ∷ [] else []
 
 abbrev pub file_reads : Trace → ℕ → File → Footprint
-file_reads t r f = map reads (held_item t r f.registered f.number)
+file_reads t r f = map reads (held_item t r f)
 
 -- A range of a file's bytes, below the largest size.
 abbrev pub range_of : ℕ → ℕ → ℕ → Item
@@ -68,7 +67,7 @@ abbrev pub of_description : World → (ℕ → Handle → Footprint) → ℕ →
 of_description s f d = reads (one (description_at d)) ∷ each (of_file f) (handle_of s d)
 
 abbrev pub on_file : Trace → World → ℕ → File → (ℕ → Handle → Footprint) → Footprint
-on_file t s r f content = file_reads t r f ++ each (of_description s content) (held t s r f.registered f.number)
+on_file t s r f content = file_reads t r f ++ each (of_description s content) (held t s r f)
 
 abbrev pub span_use : Bool → Trace → ℕ → Span → Footprint
 span_use w t r x = each (λ at. use_of w (buffer_bytes r x.index at (at + x.length)) ∷ []) (span_start t r x)
@@ -133,9 +132,9 @@ directory_names None = []
 directory_names (Some y) = if is_directory y.kind then reads (one (names_in y.node)) ∷ [] else []
 
 -- The room of openat: its slot, or all descriptors and the lowest free one.
-abbrev pub room_uses : Trace → World → ℕ → ℕ → Footprint
-room_uses t s r zero = reads all_descriptors ∷ each (λ n. writes (one (descriptor_at n)) ∷ []) (lowest_free t s)
-room_uses t s r (suc n) = map writes (held_item t r true (pos n))
+abbrev pub room_uses : Trace → World → ℕ → Option ℕ → Footprint
+room_uses t s r None = reads all_descriptors ∷ each (λ n. writes (one (descriptor_at n)) ∷ []) (lowest_free t s)
+room_uses t s r (Some n) = map writes (held_item t r (in_slot n))
 
 abbrev pub description_made : Trace → ℕ → Footprint
 description_made t k = writes (one (description_at (made_description t k))) ∷ writes (one (position_of (made_description t k))) ∷ []
@@ -148,12 +147,11 @@ open_uses t k x g q (Some y) = if g.truncate && not (is_directory y.kind) then w
 abbrev pub opened_at : Trace → ℕ → Taken → OpenFlags → Place → Footprint
 opened_at t k x g q = open_uses t k x g q q.target
 
-abbrev pub openat_row : Trace → World → ℕ → ℕ → Taken → Path → OpenFlags → ℕ → Footprint
-openat_row t s k r x p g index = path_reads s p ++ room_where x (room_uses t s r index) ++ made_where x (description_made t k) ++ each_ok (opened_at t k x g) (walk s.nodes p)
+abbrev pub openat_row : Trace → World → ℕ → ℕ → Taken → Path → OpenFlags → Option ℕ → Footprint
+openat_row t s k r x p g asked = path_reads s p ++ room_where x (room_uses t s r asked) ++ made_where x (description_made t k) ++ each_ok (opened_at t k x g) (walk s.nodes p)
 
-abbrev pub close_row : Trace → ℕ → ℤ → ℕ → Footprint
-close_row t r number zero = map writes (held_item t r false number)
-close_row t r number (suc n) = map writes (held_item t r true (pos n))
+abbrev pub close_row : Trace → ℕ → File → Footprint
+close_row t r f = map writes (held_item t r f)
 
 -- A name that may be freed: of a directory, where that may be removed or replaced, the number of names too.
 abbrev pub name_freed : Bool → Place → Footprint
@@ -182,8 +180,8 @@ pub data Shape : Type 0 where
   moving : (into_file : Bool) (file : File) (offset count : ℕ) (span : Option Span) → Shape
   allocating : (file : File) (offset size mode : ℕ) → Shape
   resizing : (file : File) (size : ℕ) → Shape
-  closing : (number : ℤ) (file_index : ℕ) → Shape
-  opening : (path : Path) (flags : OpenFlags) (file_index : ℕ) → Shape
+  closing : (file : File) → Shape
+  opening : (path : Path) (flags : OpenFlags) (slot : Option ℕ) → Shape
   making : (path : Path) → Shape
   freeing : (path : Path) (removes_directory : Bool) → Shape
   linking : (old new : Path) → Shape
@@ -197,8 +195,8 @@ shape (fsync f) = looking f
 shape (read_fixed f o x) = moving false f o (min x.length most_moved) (Some x)
 shape (write_fixed f o x) = moving true f o (min x.length most_moved) (Some x)
 shape (fallocate f o n mode) = allocating f o n mode
-shape (openat p g index) = opening p g index
-shape (close number index) = closing number index
+shape (openat p g asked) = opening p g asked
+shape (close f) = closing f
 shape (read f o n) = moving false f o (min n most_moved) None
 shape (write f o new) = moving true f o (length new) None
 shape (renameat old new flags) = renaming old new
@@ -223,8 +221,8 @@ shape_row t k r s x (looking f) = file_reads t r f
 shape_row t k r s x (moving w f o n span) = through w t r span (transfer_row t s r x w f o n)
 shape_row t k r s x (allocating f o n mode) = fallocate_row t s r x f o n mode
 shape_row t k r s x (resizing f n) = ftruncate_row t s r f n
-shape_row t k r s x (closing number index) = close_row t r number index
-shape_row t k r s x (opening p g index) = openat_row t s k r x p g index
+shape_row t k r s x (closing f) = close_row t r f
+shape_row t k r s x (opening p g asked) = openat_row t s k r x p g asked
 shape_row t k r s x (making p) = mkdirat_row t s k x p
 shape_row t k r s x (freeing p removes) = unlinkat_row s p removes
 shape_row t k r s x (linking old new) = linkat_row s old new

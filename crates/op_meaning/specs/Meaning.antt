@@ -1,5 +1,5 @@
 -- The model: what each operation answers and changes, its tests in order and then its effect.
-use Rattle.std.specs.Prelude.{ℕ, ℤ, pos, negsuc, zero, suc, Bool, true, false, not, ◌&&◌, ◌||◌, ◌==◌, ltb, leb, ◌+◌, ◌-◌, ◌^◌, min, max, List, [], ◌∷◌, ◌++◌, length, take, drop, Option, Some, None, Result, Ok, Err, ok_or, is_some, is_none, unwrap_or, if◌then◌else◌}
+use Rattle.std.specs.Prelude.{ℕ, Bool, true, false, not, ◌&&◌, ◌||◌, ◌==◌, ltb, leb, ◌+◌, ◌-◌, ◌^◌, min, max, List, [], ◌∷◌, ◌++◌, length, take, drop, Option, Some, None, Result, Ok, Err, ok_or, is_some, is_none, unwrap_or, if◌then◌else◌}
 use Rattle.std.specs.List.{slice_get, find, range_with_len}
 use Rattle.std.specs.Option.{option_and_then, option_map}
 use Rattle.sqe_codec.specs.declared.errno.Errno.{Errno}
@@ -10,7 +10,7 @@ use Rattle.trace_format.specs.declared.trace.Trace.{Trace}
 use Rattle.trace_format.specs.declared.trace.Ring.{Ring}
 use Rattle.trace_format.specs.declared.trace.Buffer.{Buffer}
 use Rattle.sqe_codec.specs.Answers.{◌>>=◌, ◌>>◌, require}
-use Rattle.entry_checks.specs.Operation.{Operation, nop, readv, writev, fsync, read_fixed, write_fixed, fallocate, openat, close, read, write, renameat, unlinkat, mkdirat, linkat, ftruncate, File, Span, Path, OpenFlags, file_limit, at_position}
+use Rattle.entry_checks.specs.Operation.{Operation, nop, readv, writev, fsync, read_fixed, write_fixed, fallocate, openat, close, read, write, renameat, unlinkat, mkdirat, linkat, ftruncate, File, in_slot, at_descriptor, Span, Path, OpenFlags, file_limit, at_position}
 use Rattle.trace_format.specs.Sides.{most_moved}
 use Rattle.file_tree.specs.Tree.{a_directory, a_file, Target}
 use Rattle.world_parts.specs.World.{World, Opened, opened, position, bytes, name_count, slot, descriptor, buffer, Change, set_name, make_node, set_slot, set_descriptor, make_description, set_position, set_size, write_bytes, zero_bytes, write_buffer}
@@ -44,10 +44,9 @@ abbrev pub span_start : Trace → ℕ → Span → Option ℕ
 span_start t r x = option_and_then (λ (b : Buffer). if leb b.address x.address && leb (x.address + x.length) (b.address + b.len) then Some (x.address - b.address) else None) (registered_buffer t r x.index)
 
 -- The open file description that a file number stands for: in a slot of the ring, or at a descriptor.
-abbrev pub held : Trace → World → ℕ → Bool → ℤ → Option ℕ
-held t s r true (pos n) = if ltb n (slot_count t r) then slot s r n else None
-held t s r false (pos n) = if ltb n (length t.descriptors) then descriptor s n else None
-held t s r b (negsuc n) = None
+abbrev pub held : Trace → World → ℕ → File → Option ℕ
+held t s r (in_slot n) = if ltb n (slot_count t r) then slot s r n else None
+held t s r (at_descriptor n) = if ltb n (length t.descriptors) then descriptor s n else None
 
 -- A file that is open: its description and what that says.
 pub record Handle : Type 0 where
@@ -58,7 +57,7 @@ abbrev pub handle_of : World → ℕ → Option Handle
 handle_of s d = option_map (λ o. record { description = d; opened = o }) (opened s d)
 
 abbrev pub handle : Trace → World → ℕ → File → Option Handle
-handle t s r f = option_and_then (handle_of s) (held t s r f.registered f.number)
+handle t s r f = option_and_then (handle_of s) (held t s r f)
 
 abbrev pub can_read : Access → Bool
 can_read Write = false
@@ -198,19 +197,15 @@ ftruncate_meaning t s r f n = do
   require (leb n file_limit) EFBIG
   Ok (done (set_size h.opened.target.node n ∷ []))
 
--- Where openat puts a description: into a slot of the ring, or at the lowest free descriptor, whose number it answers.
-pub data Room : Type 0 where
-  in_slot : (slot : ℕ) → Room
-  at_descriptor : (number : ℕ) → Room
-
 abbrev pub lowest_free : Trace → World → Option ℕ
 lowest_free t s = find (λ n. is_none (descriptor s n)) (range_with_len 0 (length t.descriptors))
 
-abbrev pub room : Trace → World → ℕ → ℕ → Result Room Errno
-room t s r zero = ok_or (option_map at_descriptor (lowest_free t s)) EMFILE
-room t s r (suc n) = require (ltb n (slot_count t r)) EINVAL >> Ok (in_slot n)
+-- Where openat puts a description: into the slot that it names, or at the lowest free descriptor, whose number it answers.
+abbrev pub room : Trace → World → ℕ → Option ℕ → Result File Errno
+room t s r None = ok_or (option_map at_descriptor (lowest_free t s)) EMFILE
+room t s r (Some n) = require (ltb n (slot_count t r)) EINVAL >> Ok (in_slot n)
 
-abbrev pub filled : ℕ → Room → ℕ → Effect
+abbrev pub filled : ℕ → File → ℕ → Effect
 filled r (in_slot n) d = done (set_slot r n (Some d) ∷ [])
 filled r (at_descriptor n) d = record { count = n; bytes = []; changes = set_descriptor n (Some d) ∷ [] }
 
@@ -238,25 +233,21 @@ access_of n = if n == 0 then Read else if n == 1 then Write else Both
 abbrev pub opened_with : OpenFlags → Target → Opened
 opened_with g x = record { target = x; access = access_of g.access; append = g.append }
 
-abbrev pub open_as : Trace → ℕ → ℕ → OpenFlags → Room → Place → Effect
+abbrev pub open_as : Trace → ℕ → ℕ → OpenFlags → File → Place → Effect
 open_as t k r g at p =
     let last = filled r at (made_description t k) in
     record last { changes = open_changes g (made_node t k) p p.target ++ make_description (made_description t k) (opened_with g (found_or_made (made_node t k) p.target)) ∷ last.changes }
 
-abbrev pub openat_meaning : Trace → World → ℕ → ℕ → Path → OpenFlags → ℕ → Result Effect Errno
-openat_meaning t s k r path g index = do
-  at ← room t s r index
+abbrev pub openat_meaning : Trace → World → ℕ → ℕ → Path → OpenFlags → Option ℕ → Result Effect Errno
+openat_meaning t s k r path g asked = do
+  at ← room t s r asked
   p ← walk s.nodes path
   may_open g p.target
   Ok (open_as t k r g at p)
 
-abbrev pub close_meaning : Trace → World → ℕ → ℤ → ℕ → Result Effect Errno
-close_meaning t s r number zero = require (is_some (held t s r false number)) EBADF >> Ok (done (emptied number))
-  where
-    emptied : ℤ → List Change
-    emptied (pos n) = set_descriptor n None ∷ []
-    emptied (negsuc n) = []
-close_meaning t s r number (suc n) = do
+abbrev pub close_meaning : Trace → World → ℕ → File → Result Effect Errno
+close_meaning t s r (at_descriptor n) = require (is_some (held t s r (at_descriptor n))) EBADF >> Ok (done (set_descriptor n None ∷ []))
+close_meaning t s r (in_slot n) = do
   require (ltb n (slot_count t r)) EINVAL
   require (is_some (slot s r n)) EBADF
   Ok (done (set_slot r n None ∷ []))
@@ -338,12 +329,12 @@ abbrev pub meaning : Trace → ℕ → ℕ → World → Operation → Result Ef
 meaning t k r s nop = Ok (done [])
 meaning t k r s (readv f o n) = readv_meaning t s r f o n
 meaning t k r s (writev f o new) = write_meaning t s r f o (Ok new)
-meaning t k r s (fsync f) = require (is_some (held t s r f.registered f.number)) EBADF >> Ok (done [])
+meaning t k r s (fsync f) = require (is_some (held t s r f)) EBADF >> Ok (done [])
 meaning t k r s (read_fixed f o x) = read_fixed_meaning t s r f o x
 meaning t k r s (write_fixed f o x) = write_fixed_meaning t s r f o x
 meaning t k r s (fallocate f o n mode) = fallocate_meaning t s r f o n mode
-meaning t k r s (openat p g index) = openat_meaning t s k r p g index
-meaning t k r s (close number index) = close_meaning t s r number index
+meaning t k r s (openat p g asked) = openat_meaning t s k r p g asked
+meaning t k r s (close f) = close_meaning t s r f
 meaning t k r s (read f o n) = readv_meaning t s r f o n
 meaning t k r s (write f o new) = write_meaning t s r f o (Ok new)
 meaning t k r s (renameat old new flags) = renameat_meaning s old new flags

@@ -1,12 +1,13 @@
 -- A view of code: what an operation does to names.
-use Rattle.std.specs.Prelude.{ℕ, [], ◌∷◌, Result, Ok, Err}
+use Rattle.std.specs.Prelude.{ℕ, [], ◌∷◌, Some, Result, Ok, Err}
 use Rattle.std.specs.Option.{option_map}
 use Rattle.sqe_codec.specs.declared.errno.Errno.{Errno}
-use Rattle.file_tree.specs.Tree.{Tree, target}
+use Rattle.trace_format.specs.declared.trace.Trace.{Trace}
+use Rattle.file_tree.specs.Tree.{Tree, a_directory, target}
 use Rattle.file_tree.specs.Found.{place_meant}
 use Rattle.file_tree.specs.declared.walk.Place.{Place}
-use Rattle.world_parts.specs.World.{World, Change, set_name}
-use Rattle.op_meaning.specs.Meaning.{Effect, done, exchanged, move_meaning}
+use Rattle.world_parts.specs.World.{World, Change, make_node, set_name}
+use Rattle.op_meaning.specs.Meaning.{Effect, done, exchanged, made_node, move_meaning, new_directory}
 use Rattle.op_meaning.specs.declared.names.NameChange.{NameChange}
 use Rattle.op_meaning.specs.declared.names.NameChanges.{NameChanges}
 use Rattle.op_meaning.specs.declared.names.NameChanges.TheVariants.{Nothing, One, Two}
@@ -31,3 +32,7 @@ move_meant s p q i = move_meaning s (place_meant s.nodes p) (place_meant s.nodes
 
 abbrev pub exchange_meant : Tree → Place → Place → ℕ → ℕ → Effect
 exchange_meant tree p q i j = exchanged (place_meant tree p) (place_meant tree q) (target tree i) (target tree j)
+
+-- a directory that a place makes where a path leads
+abbrev pub directory_made : Trace → ℕ → Place → Effect
+directory_made t k p = done (make_node (made_node t k) a_directory ∷ set_name p.parent p.name.now (Some (new_directory (made_node t k))) ∷ [])

@@ -21,6 +21,10 @@ answered (Err e) = Err e
 abbrev pub Answers : Result Effect Errno → Result Done Errno → Type 0
 Answers x o = answered o ≡ answer_of x
 
+-- the same, of an operation that is done
+abbrev pub Gives : Effect → Done → Type 0
+Gives x d = Answers (Ok x) (Ok d)
+
 -- the world that an operation leaves
 abbrev pub world_after : World → Result Effect Errno → World
 world_after s x = apply_all (changes_of x) s

@@ -27,6 +27,15 @@ pub(crate) struct AllocationRequest {
     pub mode: u32,
 }
 
+/// A range of a file that is allocated: from an offset up to an end.
+#[derive(Clone, Copy)]
+pub(crate) struct RangeAllocation {
+    pub node: u32,
+    pub offset: u64,
+    pub end: u64,
+    pub allocation: Allocation,
+}
+
 /// What a mode asks for; none where the mode isn't served.
 pub fn allocation_of(mode: u32) -> Option<Allocation>
     ensures { option_map allocation_meant result ≡ allocation mode }

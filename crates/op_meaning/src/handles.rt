@@ -1,9 +1,8 @@
 //! Files that are open, and ranges of registered buffers.
-ghost use Rattle.std.specs.Prelude.{◌≡◌, ◌==◌, ◌+◌, ◌<◌, ◌≤◌, ◌^◌, ◌<ℤ◌, IfSome};
-ghost use Rattle.std.specs.Prelude.{MatchOption, false, length, pos, true};
+ghost use Rattle.std.specs.Prelude.{◌≡◌, ◌==◌, ◌+◌, ◌<◌, ◌≤◌, ◌^◌, IfSome, length};
 ghost use Rattle.std.specs.Option.{option_map};
 ghost use Rattle.entry_checks.specs.Meant.{file_meant, span_meant};
-ghost use Rattle.entry_checks.specs.Operation.{at_position, file_limit};
+ghost use Rattle.entry_checks.specs.Operation.{at_descriptor, at_position, file_limit, in_slot};
 ghost use Rattle.file_tree.specs.Walk as walk;
 ghost use Rattle.op_meaning.specs.Handles.{found, handle_meant};
 ghost use Rattle.op_meaning.specs.Meaning.{bytes_in, can_read, can_write, handle, held};
@@ -35,20 +34,9 @@ pub fn slot_count(trace: &Trace, ring: u8) -> usize
     }
 }
 
-/// A number that isn't negative.
-pub(crate) fn unsigned(number: i32) -> Option<u32>
-    ensures { MatchOption result (number <ℤ pos 0) (λ n. number ≡ pos n) }
-{
-    if number < 0 {
-        None
-    } else {
-        Some(number as u32)
-    }
-}
-
 /// The number of the open file description that a registered file of a ring holds.
-pub(crate) fn held_by_slot(trace: &Trace, ring: u8, slot: u32, state: &State) -> Option<u32>
-    ensures { result ≡ held trace.now state.now ring true (pos slot) }
+fn held_by_slot(trace: &Trace, ring: u8, slot: u32, state: &State) -> Option<u32>
+    ensures { result ≡ held trace.now state.now ring (in_slot slot) }
 {
     if (slot as usize) < slot_count(trace, ring) {
         state.slot(ring, slot)
@@ -59,7 +47,7 @@ pub(crate) fn held_by_slot(trace: &Trace, ring: u8, slot: u32, state: &State) ->
 
 /// The number of the open file description that a descriptor of the process holds.
 pub(crate) fn held_by_descriptor(trace: &Trace, descriptor: u32, state: &State) -> Option<u32>
-    ensures { result ≡ held trace.now state.now 0 false (pos descriptor) }
+    ensures { result ≡ held trace.now state.now 0 (at_descriptor descriptor) }
 {
     if (descriptor as usize) < trace.descriptors.as_slice().len() {
         state.descriptor(descriptor)
@@ -71,13 +59,11 @@ pub(crate) fn held_by_descriptor(trace: &Trace, descriptor: u32, state: &State) 
 /// The number of the open file description that a file number stands for: in a slot of the ring, or
 /// at a descriptor.
 pub fn held(trace: &Trace, ring: u8, file: FileNumber, state: &State) -> Option<u32>
-    ensures { result ≡ held trace.now state.now ring file.registered file.number }
+    ensures { result ≡ held trace.now state.now ring (file_meant file) }
 {
-    let number = unsigned(file.number)?;
-    if file.registered {
-        held_by_slot(trace, ring, number, state)
-    } else {
-        held_by_descriptor(trace, number, state)
+    match file {
+        FileNumber::Slot(slot) => held_by_slot(trace, ring, slot, state),
+        FileNumber::Descriptor(number) => held_by_descriptor(trace, number, state),
     }
 }
 
@@ -100,7 +86,7 @@ pub(crate) fn open_file(
 }
 
 /// Whether an access lets its holder read.
-pub fn can_read(access: Access) -> bool
+pub(crate) fn can_read(access: Access) -> bool
     ensures { result ≡ can_read access }
 {
     match access {
@@ -110,7 +96,7 @@ pub fn can_read(access: Access) -> bool
 }
 
 /// Whether an access lets its holder write.
-pub fn can_write(access: Access) -> bool
+pub(crate) fn can_write(access: Access) -> bool
     ensures { result ≡ can_write access }
 {
     match access {
@@ -131,7 +117,12 @@ pub fn is_directory(node: u32, state: &State) -> bool
 }
 
 /// The open file that a read is from, or why it is refused.
-pub fn readable(trace: &Trace, ring: u8, file: FileNumber, state: &State) -> Result<OpenFile, Errno>
+pub(crate) fn readable(
+    trace: &Trace,
+    ring: u8,
+    file: FileNumber,
+    state: &State,
+) -> Result<OpenFile, Errno>
     ensures { found state.now result ≡ readable trace.now state.now ring (file_meant file) }
 {
     let file = open_file(trace, ring, file, state).ok_or(Errno::EBADF)?;
@@ -145,7 +136,12 @@ pub fn readable(trace: &Trace, ring: u8, file: FileNumber, state: &State) -> Res
 }
 
 /// The open file that a write is to, or why it is refused.
-pub fn writable(trace: &Trace, ring: u8, file: FileNumber, state: &State) -> Result<OpenFile, Errno>
+pub(crate) fn writable(
+    trace: &Trace,
+    ring: u8,
+    file: FileNumber,
+    state: &State,
+) -> Result<OpenFile, Errno>
     ensures { found state.now result ≡ writable trace.now state.now ring (file_meant file) }
 {
     let file = open_file(trace, ring, file, state).ok_or(Errno::EBADF)?;
@@ -156,7 +152,7 @@ pub fn writable(trace: &Trace, ring: u8, file: FileNumber, state: &State) -> Res
 }
 
 /// Whether no file position can be this offset, which doesn't stand for the position either.
-pub fn is_bad_offset(offset: u64) -> bool
+pub(crate) fn is_bad_offset(offset: u64) -> bool
     ensures { result ≡ is_bad_offset offset }
 {
     offset >= REFUSED && offset != AT_POSITION
@@ -178,7 +174,7 @@ pub fn size(node: u32, state: &State) -> u64
 }
 
 /// Where a transfer starts: at its offset, or at the position.
-pub fn transfer_start(file: &OpenFile, offset: u64, state: &State) -> u64
+pub(crate) fn transfer_start(file: &OpenFile, offset: u64, state: &State) -> u64
     ensures { result ≡ transfer_start state.now (handle_meant state.now file.now) offset }
 {
     if !is_at_position(offset) {
@@ -188,7 +184,7 @@ pub fn transfer_start(file: &OpenFile, offset: u64, state: &State) -> u64
 }
 
 /// A registered buffer of a ring that is no empty entry.
-pub fn registered_buffer(trace: &Trace, ring: u8, index: u16) -> Option<Buffer>
+pub(crate) fn registered_buffer(trace: &Trace, ring: u8, index: u16) -> Option<Buffer>
     ensures { result ≡ registered_buffer trace.now ring index }
 {
     let registered = trace.rings.as_slice().get(ring as usize)?;

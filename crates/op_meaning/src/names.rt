@@ -1,11 +1,8 @@
 //! Changes of names, decided on before they are made.
-ghost use Rattle.std.specs.Prelude.{◌≡◌, IfOk, OnOk};
-ghost use Rattle.op_meaning.specs.NameChanges.{change_meant, changes_meant, decision_meant};
-ghost use Rattle.op_meaning.specs.Outcomes.{Answers, world_after};
+ghost use Rattle.std.specs.Prelude.{◌≡◌, OnOk};
+ghost use Rattle.op_meaning.specs.NameChanges.{change_meant, changes_meant};
 ghost use Rattle.world_parts.specs.World.{apply, apply_all};
 
-use crate::outcome::{Outcome, finished};
-use sqe_codec::Errno;
 use std::alloc::{AllocError, Global};
 use world_parts::State;
 
@@ -34,7 +31,7 @@ fn change_name(alloc: Global, change: NameChange<'_>, state: &mut State) -> Resu
 }
 
 /// Makes changes of names.
-fn change_names(
+pub(crate) fn change_names(
     alloc: Global,
     changes: NameChanges<'_>,
     state: &mut State,
@@ -49,28 +46,5 @@ fn change_names(
             change_name(alloc, first, state)?;
             change_name(alloc, second, state)
         }
-    }
-}
-
-/// Does what was decided on, or answers the error.
-///
-/// # Errors
-///
-/// Want of memory.
-pub(crate) fn carry_out(
-    alloc: Global,
-    decision: Result<NameChanges<'_>, Errno>,
-    state: &mut State,
-) -> Result<Outcome, AllocError>
-    ensures answer { IfOk result (Answers (decision_meant state.old.nodes decision.entry)) }
-    ensures state { OnOk result
-        (state.new ≡ world_after state.old (decision_meant state.old.nodes decision.entry)) }
-{
-    match decision {
-        Ok(changes) => {
-            change_names(alloc, changes, state)?;
-            Ok(finished(alloc))
-        }
-        Err(error) => Ok(Err(error)),
     }
 }

@@ -1,20 +1,21 @@
 //! The operations on names: UNLINKAT, MKDIRAT, LINKAT and RENAMEAT.
-ghost use Rattle.std.specs.Prelude.{◌≡◌, IfOk, OnOk};
+ghost use Rattle.std.specs.Prelude.{◌≡◌, ℕ, OnOk};
 ghost use Rattle.entry_checks.specs.Meant.{path_meant};
 ghost use Rattle.file_tree.specs.Tree.{Tree, target};
 ghost use Rattle.file_tree.specs.Walk as walk;
+ghost use Rattle.op_meaning.specs.Deciding.{Decides};
 ghost use Rattle.op_meaning.specs.Meaning as meaning;
 ghost use Rattle.op_meaning.specs.Meaning.{linkat_meaning, mkdirat_meaning};
 ghost use Rattle.op_meaning.specs.Meaning.{renameat_meaning, unlinkat_meaning};
-ghost use Rattle.op_meaning.specs.NameChanges.{changes_meant, decision_meant};
+ghost use Rattle.op_meaning.specs.NameChanges.{changes_meant, decision_meant, directory_made};
 ghost use Rattle.op_meaning.specs.NameChanges.{move_meant, exchange_meant};
-ghost use Rattle.op_meaning.specs.Outcomes.{Answers, world_after};
 ghost use Rattle.op_meaning.specs.Site.{IsSite};
+ghost use Rattle.trace_format.specs.declared.trace.Trace.{Trace};
+ghost use Rattle.world_parts.specs.World.{apply_all};
 
 use crate::handles::is_directory;
 use crate::made::made_node;
-use crate::names::{NameChange, NameChanges, carry_out};
-use crate::outcome::{Outcome, finished};
+use crate::names::{NameChange, NameChanges};
 use crate::site::Site;
 use entry_checks::PathAt;
 use file_tree::{Kind, Place};
@@ -41,7 +42,12 @@ fn may_remove(state: &State, removes_directory: bool, node: u32) -> Result<(), E
     }
 }
 
-/// The name that UNLINKAT takes away.
+/// The name that UNLINKAT takes away, after unlink(2) and rmdir(2): that of a directory without
+/// names where it `removes_directory`, that of a file where it doesn't.
+///
+/// # Errors
+///
+/// That of the first test that fails: those of the walk, ENOENT, EISDIR, ENOTDIR, ENOTEMPTY.
 pub(crate) fn unlinking<'a>(
     path: PathAt<'a>,
     removes_directory: bool,
@@ -62,61 +68,43 @@ pub(crate) fn unlinking<'a>(
     }))
 }
 
-/// Takes a name away: that of a directory without names where it `removes_directory`, that of a
-/// file where it doesn't, after unlink(2) and rmdir(2).
+/// Where MKDIRAT makes a directory, after mkdir(2).
 ///
 /// # Errors
 ///
-/// Want of memory. The outcome has the error of the first test that fails: those of the walk,
-/// ENOENT, EISDIR, ENOTDIR, ENOTEMPTY.
-pub(crate) fn unlinkat(
-    alloc: Global,
-    path: PathAt<'_>,
-    removes_directory: bool,
-    state: &mut State,
-) -> Result<Outcome, AllocError>
-    ensures answer { IfOk result
-        (Answers (unlinkat_meaning state.old (path_meant path.entry) removes_directory)) }
-    ensures state { OnOk result (state.new ≡ world_after state.old
-        (unlinkat_meaning state.old (path_meant path.entry) removes_directory)) }
+/// That of the first test that fails: those of the walk, EEXIST.
+pub(crate) fn making<'a>(path: PathAt<'a>, state: &State) -> Result<Place<'a>, Errno>
+    ensures { (t : Trace) (k : ℕ) → Decides
+        (mkdirat_meaning t state.now k (path_meant path.entry)) (directory_made t k) result }
 {
-    carry_out(alloc, unlinking(path, removes_directory, state), state)
+    let place = state.walk(path.directory, path.text)?;
+    if place.node.is_some() {
+        return Err(Errno::EEXIST);
+    }
+    Ok(place)
 }
 
-/// Makes a directory without names, after mkdir(2).
-///
-/// # Errors
-///
-/// Want of memory. The outcome has the error of the first test that fails: those of the walk,
-/// EEXIST.
-pub(crate) fn mkdirat(
+/// Makes a directory without names where a path leads.
+pub(crate) fn make_directory(
     alloc: Global,
     site: Site<'_>,
-    path: PathAt<'_>,
+    place: Place<'_>,
     state: &mut State,
-) -> Result<Outcome, AllocError>
+) -> Result<(), AllocError>
     requires site { IsSite site }
-    ensures answer { IfOk result
-        (Answers (mkdirat_meaning site.entry.trace.now state.old site.entry.place
-        (path_meant path.entry))) }
-    ensures state { OnOk result (state.new ≡ world_after state.old
-        (mkdirat_meaning site.entry.trace.now state.old site.entry.place
-        (path_meant path.entry))) }
+    ensures { OnOk result (state.new ≡ apply_all
+        (directory_made site.entry.trace.now site.entry.place place.entry).changes state.old) }
 {
-    let found = match state.walk(path.directory, path.text) {
-        Ok(found) => found,
-        Err(error) => return Ok(Err(error)),
-    };
-    if found.node.is_some() {
-        return Ok(Err(Errno::EEXIST));
-    }
     let node = made_node(site.trace, site.place);
     state.add_node(alloc, node, Kind::Directory)?;
-    state.set_name(alloc, found.parent, found.name, Some(node))?;
-    Ok(finished(alloc))
+    state.set_name(alloc, place.parent, place.name, Some(node))
 }
 
-/// The second name that LINKAT gives a file.
+/// The second name that LINKAT gives a file, after link(2).
+///
+/// # Errors
+///
+/// That of the first test that fails: those of the walks, ENOENT, EEXIST, EPERM.
 pub(crate) fn linking<'a>(
     old: PathAt<'a>,
     new: PathAt<'a>,
@@ -141,26 +129,6 @@ pub(crate) fn linking<'a>(
         name: to.name,
         node: Some(node),
     }))
-}
-
-/// Gives a file a second name, after link(2).
-///
-/// # Errors
-///
-/// Want of memory. The outcome has the error of the first test that fails: those of the walks,
-/// ENOENT, EEXIST, EPERM.
-pub(crate) fn linkat(
-    alloc: Global,
-    old: PathAt<'_>,
-    new: PathAt<'_>,
-    state: &mut State,
-) -> Result<Outcome, AllocError>
-    ensures answer { IfOk result
-        (Answers (linkat_meaning state.old (path_meant old.entry) (path_meant new.entry))) }
-    ensures state { OnOk result (state.new ≡ world_after state.old
-        (linkat_meaning state.old (path_meant old.entry) (path_meant new.entry))) }
-{
-    carry_out(alloc, linking(old, new, state), state)
 }
 
 /// The tests of a rename onto a name that is there.
@@ -236,7 +204,12 @@ fn exchanged<'a>(from: Place<'a>, to: Place<'a>, node: u32, there: u32) -> NameC
     )
 }
 
-/// What RENAMEAT does to two names.
+/// What RENAMEAT does to two names, after renameat2(2): it moves one, or exchanges both.
+///
+/// # Errors
+///
+/// That of the first test that fails: those of the walks, ENOENT, EEXIST, EINVAL, ENOTDIR, EISDIR,
+/// ENOTEMPTY.
 pub(crate) fn renaming<'a>(
     old: PathAt<'a>,
     new: PathAt<'a>,
@@ -267,25 +240,4 @@ pub(crate) fn renaming<'a>(
         return Err(Errno::EINVAL);
     }
     moving(state, from, to, node)
-}
-
-/// Moves a name, or exchanges two, after renameat2(2).
-///
-/// # Errors
-///
-/// Want of memory. The outcome has the error of the first test that fails: those of the walks,
-/// ENOENT, EEXIST, EINVAL, ENOTDIR, EISDIR, ENOTEMPTY.
-pub(crate) fn renameat(
-    alloc: Global,
-    old: PathAt<'_>,
-    new: PathAt<'_>,
-    flags: u32,
-    state: &mut State,
-) -> Result<Outcome, AllocError>
-    ensures answer { IfOk result
-        (Answers (renameat_meaning state.old (path_meant old.entry) (path_meant new.entry) flags)) }
-    ensures state { OnOk result (state.new ≡ world_after state.old
-        (renameat_meaning state.old (path_meant old.entry) (path_meant new.entry) flags)) }
-{
-    carry_out(alloc, renaming(old, new, flags, state), state)
 }

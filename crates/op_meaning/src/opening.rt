@@ -1,60 +1,56 @@
 //! The operation that opens files: OPENAT.
-ghost use Rattle.std.specs.Prelude.{◌≡◌, IfOk, OnOk};
+ghost use Rattle.std.specs.Prelude.{◌≡◌, ℕ, IfOk, OnOk};
 ghost use Rattle.std.specs.Option.{option_map};
-ghost use Rattle.entry_checks.specs.Meant.{flags_meant, path_meant};
+ghost use Rattle.entry_checks.specs.Meant.{file_meant, flags_meant, path_meant};
 ghost use Rattle.file_tree.specs.Found.{place_meant};
 ghost use Rattle.file_tree.specs.Tree.{target};
 ghost use Rattle.op_meaning.specs.Meaning as meaning;
-ghost use Rattle.op_meaning.specs.Meaning.{found_or_made};
-ghost use Rattle.op_meaning.specs.Opening.{room_found, room_meant, IsOpening};
-ghost use Rattle.op_meaning.specs.Opening.{changes_at, openat_meant};
-ghost use Rattle.op_meaning.specs.Outcomes.{Answers, world_after};
+ghost use Rattle.op_meaning.specs.Deciding.{Decides};
+ghost use Rattle.op_meaning.specs.Meaning.{found_or_made, openat_meaning};
+ghost use Rattle.op_meaning.specs.Opening.{changes_at, opened_as, room_found};
+ghost use Rattle.op_meaning.specs.Outcomes.{Gives};
 ghost use Rattle.op_meaning.specs.Site.{IsSite};
 ghost use Rattle.trace_format.specs.Text.{IsSpelled};
 ghost use Rattle.world_parts.specs.World.{apply_all};
 
 use crate::handles::{is_directory, slot_count};
 use crate::made::{descriptor_count, made_description, made_node};
-use crate::outcome::{Outcome, counted, finished};
+use crate::outcome::{Done, counted, finished};
 use crate::site::Site;
-use entry_checks::{OpenAtFlags, PathAt};
+use entry_checks::{FileNumber, OpenAtFlags, PathAt};
 use file_tree::{Kind, Place};
 use sqe_codec::Errno;
 use std::alloc::{AllocError, Global};
 use trace_format::{Access, Description, Trace};
 use world_parts::State;
 
-/// Where an open file description goes: into a slot of the ring, or to a descriptor of the process.
-#[derive(Clone, Copy)]
-pub(crate) enum Room {
-    Slot(u32),
-    Descriptor(u32),
-}
-
-/// What OPENAT opens, and where the description goes.
+/// What OPENAT opens, how, and where the description goes.
 #[derive(Clone, Copy)]
 pub(crate) struct Opening<'a> {
     pub place: Place<'a>,
-    pub room: Room,
+    pub flags: OpenAtFlags,
+    pub room: FileNumber,
 }
 
-/// The room for a description: the slot before `file_index`, or where that is 0 the lowest free
+/// The room for a description: the slot that is asked for, or where none is the lowest free
 /// descriptor.
-fn find_room(trace: &Trace, ring: u8, file_index: u32, state: &State) -> Result<Room, Errno>
+fn find_room(
+    trace: &Trace,
+    ring: u8,
+    asked: Option<u32>,
+    state: &State,
+) -> Result<FileNumber, Errno>
     requires { IsSpelled trace.now }
-    ensures { room_found result ≡ meaning.room trace.now state.now ring file_index }
+    ensures { room_found result ≡ meaning.room trace.now state.now ring asked }
 {
-    if file_index == 0 {
-        return match state.lowest_free(descriptor_count(trace)) {
-            Some(number) => Ok(Room::Descriptor(number)),
+    match asked {
+        Some(slot) if slot as usize >= slot_count(trace, ring) => Err(Errno::EINVAL),
+        Some(slot) => Ok(FileNumber::Slot(slot)),
+        None => match state.lowest_free(descriptor_count(trace)) {
+            Some(number) => Ok(FileNumber::Descriptor(number)),
             None => Err(Errno::EMFILE),
-        };
+        },
     }
-    let slot = file_index - 1;
-    if slot as usize >= slot_count(trace, ring) {
-        return Err(Errno::EINVAL);
-    }
-    Ok(Room::Slot(slot))
 }
 
 /// The tests of an opening on a node that is there.
@@ -86,23 +82,30 @@ fn may_open(state: &State, flags: OpenAtFlags, node: Option<u32>) -> Result<(), 
     }
 }
 
-/// What OPENAT opens.
+/// What OPENAT opens, after open(2), and where the description goes: into the slot that is asked
+/// for, or where none is to the lowest free descriptor.
+///
+/// # Errors
+///
+/// That of the first test that fails: EMFILE, EINVAL, those of the walk, ENOENT, EEXIST, EISDIR,
+/// ENOTDIR.
 pub(crate) fn find_opening<'a>(
     trace: &Trace,
     ring: u8,
     path: PathAt<'a>,
     flags: OpenAtFlags,
-    file_index: u32,
+    asked: Option<u32>,
     state: &State,
 ) -> Result<Opening<'a>, Errno>
     requires { IsSpelled trace.now }
-    ensures { IsOpening trace.now state.now ring (path_meant path.entry)
-        (flags_meant flags) file_index result }
+    ensures { (k : ℕ) → Decides
+        (openat_meaning trace.now state.now k ring (path_meant path.entry) (flags_meant flags) asked)
+        (opened_as trace.now k ring state.now.nodes) result }
 {
-    let room = find_room(trace, ring, file_index, state)?;
+    let room = find_room(trace, ring, asked, state)?;
     let place = state.walk(path.directory, path.text)?;
     may_open(state, flags, place.node)?;
-    Ok(Opening { place, room })
+    Ok(Opening { place, flags, room })
 }
 
 /// The access that the flags of open(2) ask for: 0 to read, 1 to write, 2 for both.
@@ -142,59 +145,50 @@ fn open_node(
 }
 
 /// Puts a description into its room. Answers the number of the descriptor.
-pub(crate) fn fill(
+fn fill(
     alloc: Global,
     ring: u8,
-    room: Room,
+    room: FileNumber,
     description: u32,
     state: &mut State,
-) -> Result<Outcome, AllocError>
-    ensures answer { IfOk result
-        (Answers (Ok (meaning.filled ring (room_meant room) description))) }
+) -> Result<Done, AllocError>
+    ensures answer { IfOk result (Gives (meaning.filled ring (file_meant room) description)) }
     ensures state { OnOk result (state.new
-        ≡ apply_all (meaning.filled ring (room_meant room) description).changes state.old) }
+        ≡ apply_all (meaning.filled ring (file_meant room) description).changes state.old) }
 {
     match room {
-        Room::Slot(slot) => {
+        FileNumber::Slot(slot) => {
             state.set_slot(ring, slot, Some(description))?;
             Ok(finished(alloc))
         }
-        Room::Descriptor(number) => {
+        FileNumber::Descriptor(number) => {
             state.set_descriptor(number, Some(description))?;
             Ok(counted(alloc, number))
         }
     }
 }
 
-/// Opens a file, after open(2), into a slot of the ring before `file_index`, or where that is 0 at
-/// the lowest free descriptor, whose number it answers.
+/// Opens a file: makes a description of it and puts that into its room. Answers the number of the
+/// descriptor.
 ///
 /// # Errors
 ///
-/// Want of memory. The outcome has the error of the first test that fails: EMFILE, EINVAL, those of
-/// the walk, ENOENT, EEXIST, EISDIR, ENOTDIR.
-pub(crate) fn openat(
+/// Want of memory.
+pub(crate) fn open(
     alloc: Global,
     site: Site<'_>,
-    path: PathAt<'_>,
-    flags: OpenAtFlags,
-    file_index: u32,
+    opening: Opening<'_>,
     state: &mut State,
-) -> Result<Outcome, AllocError>
+) -> Result<Done, AllocError>
     requires site { IsSite site }
-    ensures answer { IfOk result
-        (Answers (openat_meant site.entry.trace.now state.old site.entry.place site.entry.ring
-        path.entry flags file_index)) }
-    ensures state { OnOk result (state.new ≡ world_after state.old
-        (openat_meant site.entry.trace.now state.old site.entry.place site.entry.ring
-        path.entry flags file_index)) }
+    ensures answer { IfOk result (Gives (opened_as site.entry.trace.now site.entry.place
+        site.entry.ring state.old.nodes opening.entry)) }
+    ensures state { OnOk result (state.new ≡ apply_all (opened_as site.entry.trace.now
+        site.entry.place site.entry.ring state.old.nodes opening.entry).changes state.old) }
 {
-    let opening = match find_opening(site.trace, site.ring, path, flags, file_index, state) {
-        Ok(opening) => opening,
-        Err(error) => return Ok(Err(error)),
-    };
+    let Opening { place, flags, room } = opening;
     let made = made_node(site.trace, site.place);
-    let node = open_node(alloc, made, opening.place, flags, state)?;
+    let node = open_node(alloc, made, place, flags, state)?;
     let number = made_description(site.trace, site.place);
     let description = Description {
         node,
@@ -203,5 +197,5 @@ pub(crate) fn openat(
         position: 0,
     };
     state.add_description(number, description)?;
-    fill(alloc, site.ring, opening.room, number, state)
+    fill(alloc, site.ring, room, number, state)
 }

@@ -16,19 +16,19 @@ pub(crate) struct Done {
 /// What an operation answers: that it is done, or the error of the first test that fails.
 pub(crate) type Outcome = Result<Done, Errno>;
 
-/// An operation that answers a count and no bytes. It takes no memory.
-pub(crate) fn counted(alloc: Global, count: u32) -> Outcome
-    ensures { answered result ≡ Ok (count, []) }
+/// What answers a count and no bytes. It takes no memory.
+pub(crate) fn counted(alloc: Global, count: u32) -> Done
+    ensures { answered (Ok result) ≡ Ok (count, []) }
 {
-    Ok(Done {
+    Done {
         count,
         bytes: ReadBytes::none(alloc),
-    })
+    }
 }
 
-/// An operation that is done and moved nothing. It takes no memory.
-pub(crate) fn finished(alloc: Global) -> Outcome
-    ensures { answered result ≡ Ok (0, []) }
+/// What is done and moved nothing. It takes no memory.
+pub(crate) fn finished(alloc: Global) -> Done
+    ensures { answered (Ok result) ≡ Ok (0, []) }
 {
     counted(alloc, 0)
 }

@@ -1,35 +1,30 @@
-//! Reads and writes.
-ghost use Rattle.std.specs.Prelude.{◌≡◌, ◌+◌, ◌-◌, ◌^◌, ◌<◌, ◌≤◌, IfOk, OnOk, Ok};
+//! Reads and writes: what they do, or why the world refuses them.
+ghost use Rattle.std.specs.Prelude.{◌≡◌, ◌+◌, ◌^◌, ◌<◌, ◌≤◌, IfOk, Ok};
 ghost use Rattle.std.specs.Prelude.{drop, length, min, take, unwrap_or, []};
 ghost use Rattle.entry_checks.specs.Meant.{file_meant, span_meant};
 ghost use Rattle.entry_checks.specs.Operation.{file_limit};
-ghost use Rattle.extent_bytes.specs.Bytes.{range_of};
-ghost use Rattle.op_meaning.specs.Deciding.{DecidesReads, DecidesFixedReads};
-ghost use Rattle.op_meaning.specs.Deciding.{DecidesWrites, DecidesFixedWrite};
+ghost use Rattle.op_meaning.specs.Deciding.{buffer_written_if_any, Decides, DecidesReads};
+ghost use Rattle.op_meaning.specs.Deciding.{DecidesFixedReads, DecidesWrites};
+ghost use Rattle.op_meaning.specs.Decision.{effect_of, IsWithinLimits};
 ghost use Rattle.op_meaning.specs.Handles.{handle_meant};
-ghost use Rattle.op_meaning.specs.Meaning.{advance, bytes_in, transfer_start};
-ghost use Rattle.op_meaning.specs.Meaning.{write_meaning, write_start, readv_meaning};
-ghost use Rattle.op_meaning.specs.Meaning.{read_fixed_meaning, write_fixed_meaning};
-ghost use Rattle.op_meaning.specs.Outcomes.{Answers, world_after};
+ghost use Rattle.op_meaning.specs.Meaning.{read_fixed_meaning, readv_meaning};
+ghost use Rattle.op_meaning.specs.Meaning.{write_fixed_meaning, write_meaning, write_start};
 ghost use Rattle.trace_format.specs.Sides.{most_moved};
-ghost use Rattle.world_parts.specs.World.{apply_all};
 ghost use Rattle.world_parts.specs.World as world;
 
+use crate::decision::Decision;
 use crate::handles::{
-    OpenFile, is_at_position, is_bad_offset, readable, size, span_start, transfer_start, writable,
+    OpenFile, is_bad_offset, readable, size, span_start, transfer_start, writable,
 };
 use crate::limits::{LARGEST, MOST_MOVED};
-use crate::outcome::{Done, Outcome, counted, finished};
 use crate::site::Site;
 use entry_checks::{BufferSpan, FileNumber};
-use extent_bytes::ReadBytes;
 use sqe_codec::Errno;
-use std::alloc::{AllocError, Global};
 use trace_format::Trace;
 use world_parts::State;
 
 /// The open file that a read at an offset is from, or why it is refused.
-pub fn readable_at(
+pub(crate) fn readable_at(
     trace: &Trace,
     ring: u8,
     file: FileNumber,
@@ -47,7 +42,7 @@ pub fn readable_at(
 
 /// The open file that a read at an offset is from, and where in the registered buffer its bytes go,
 /// or why it is refused.
-pub fn readable_into(
+pub(crate) fn readable_into(
     trace: &Trace,
     ring: u8,
     file: FileNumber,
@@ -66,108 +61,84 @@ pub fn readable_into(
     Ok((file, at))
 }
 
-/// Where so many bytes of a file from an offset on end, as far as it has them.
-fn end_in_file(node: u32, start: u64, count: u32, state: &State) -> u64
-    ensures bytes { range_of (bytes_in state.now node) start result
-        ≡ take count (drop start (bytes_in state.now node)) }
-    ensures count { result - start ≡ length (take count (drop start (bytes_in state.now node))) }
-    ensures most { result - start ≤ count }
-    ensures place { result - start ≤ file_limit - start }
-{
-    size(node, state).min(start.saturating_add(u64::from(count)))
+/// A read of so many bytes of an open file, at an offset or at its position, into the reply.
+#[derive(Clone, Copy)]
+pub(crate) struct FileRead {
+    pub file: OpenFile,
+    pub offset: u64,
+    pub count: u32,
 }
 
-/// The bytes of a file from an offset on, as many as asked for, as far as it has them.
-fn bytes_from(
-    alloc: Global,
-    node: u32,
-    start: u64,
-    count: u32,
-    state: &State,
-) -> Result<ReadBytes, AllocError>
-    ensures bytes { IfOk result
-        (λ taken. taken ≡ take count (drop start (bytes_in state.now node))) }
-    ensures count { IfOk result (λ taken. length taken ≤ count) }
-    ensures place { IfOk result (λ taken. length taken ≤ file_limit - start) }
-{
-    state.read_shared(alloc, node, start, end_in_file(node, start, count, state))
-}
-
-/// Moves the position of an open file to the end of a transfer that used it.
-fn advance(file: &OpenFile, offset: u64, end: u64, state: &mut State)
-    ensures { state.new
-        ≡ apply_all (advance (handle_meant state.old file.now) offset end) state.old }
-{
-    if is_at_position(offset) {
-        state.set_position(file.number, end);
-    }
-}
-
-/// Reads bytes of a file into the reply: READ and READV.
-pub(crate) fn read(
-    alloc: Global,
+/// What READ and READV do: nothing where no bytes are asked for.
+///
+/// # Errors
+///
+/// That of the first test that fails: EBADF, EISDIR, EINVAL.
+pub(crate) fn reading<'a>(
     site: Site<'_>,
     file: FileNumber,
     offset: u64,
     total: u64,
-    state: &mut State,
-) -> Result<Outcome, AllocError>
-    ensures answer { IfOk result
-        (Answers (readv_meaning site.entry.trace.now state.old site.entry.ring (file_meant file)
-        offset total)) }
-    ensures state { OnOk result (state.new ≡ world_after state.old
-        (readv_meaning site.entry.trace.now state.old site.entry.ring (file_meant file)
-        offset total)) }
+    state: &State,
+) -> Result<Decision<'a>, Errno>
+    ensures meaning { Decides
+        (readv_meaning site.entry.trace.now state.now site.entry.ring (file_meant file)
+        offset total)
+        (effect_of site.entry.trace.now site.entry.place site.entry.ring state.now) result }
+    ensures limits { IfOk result (IsWithinLimits state.now site.entry.ring) }
 {
-    let file = match readable_at(site.trace, site.ring, file, offset, state) {
-        Ok(file) => file,
-        Err(error) => return Ok(Err(error)),
-    };
+    let file = readable_at(site.trace, site.ring, file, offset, state)?;
     let count = total.min(u64::from(MOST_MOVED)) as u32;
     if count == 0 {
-        return Ok(finished(alloc));
+        return Ok(Decision::Nothing);
     }
-    let start = transfer_start(&file, offset, state);
-    let bytes = bytes_from(alloc, file.description.node, start, count, state)?;
-    advance(&file, offset, start + bytes.len(), state);
-    Ok(Ok(Done {
-        count: bytes.len() as u32,
-        bytes,
+    Ok(Decision::Read(FileRead {
+        file,
+        offset,
+        count,
     }))
 }
 
-/// Reads bytes of a file into a registered buffer: READ_FIXED.
-pub(crate) fn read_fixed(
-    alloc: Global,
+/// A read of so many bytes of an open file into a registered buffer, from an offset of it on.
+#[derive(Clone, Copy)]
+pub(crate) struct BufferRead {
+    pub file: OpenFile,
+    pub offset: u64,
+    pub count: u32,
+    pub index: u16,
+    pub at: u64,
+}
+
+/// What READ_FIXED does: nothing where no bytes are asked for.
+///
+/// # Errors
+///
+/// That of the first test that fails: EBADF, EISDIR, EFAULT, EINVAL.
+pub(crate) fn reading_fixed<'a>(
     site: Site<'_>,
     file: FileNumber,
     offset: u64,
     span: BufferSpan,
-    state: &mut State,
-) -> Result<Outcome, AllocError>
-    ensures answer { IfOk result (Answers
-        (read_fixed_meaning site.entry.trace.now state.old site.entry.ring (file_meant file)
-        offset (span_meant span))) }
-    ensures state { OnOk result (state.new ≡ world_after state.old
-        (read_fixed_meaning site.entry.trace.now state.old site.entry.ring (file_meant file)
-        offset (span_meant span))) }
+    state: &State,
+) -> Result<Decision<'a>, Errno>
+    ensures meaning { Decides
+        (read_fixed_meaning site.entry.trace.now state.now site.entry.ring (file_meant file)
+        offset (span_meant span))
+        (effect_of site.entry.trace.now site.entry.place site.entry.ring state.now) result }
+    ensures limits { IfOk result (IsWithinLimits state.now site.entry.ring) }
 {
-    let (file, at) = match readable_into(site.trace, site.ring, file, offset, span, state) {
-        Ok(found) => found,
-        Err(error) => return Ok(Err(error)),
-    };
+    let (file, at) = readable_into(site.trace, site.ring, file, offset, span, state)?;
     let count = span.length.min(MOST_MOVED);
     if count == 0 {
-        return Ok(finished(alloc));
+        return Ok(Decision::Nothing);
     }
-    let start = transfer_start(&file, offset, state);
-    let node = file.description.node;
-    let end = end_in_file(node, start, count, state);
-    let moved = end.saturating_sub(start);
-    let index = u32::from(span.index);
-    state.fill_from_file(alloc, node, start, end, site.ring, index, at)?;
-    advance(&file, offset, start + moved, state);
-    Ok(counted(alloc, moved as u32))
+    Ok(Decision::ReadFixed(BufferRead {
+        file,
+        offset,
+        count,
+        index: span.index,
+        at,
+    }))
 }
 
 /// Where a write starts: at the end of a file that is open to append.
@@ -182,7 +153,7 @@ fn write_start(file: &OpenFile, offset: u64, state: &State) -> u64
 }
 
 /// The open file that a write of so many bytes is to, and where it starts, or why it is refused.
-pub fn writable_at(
+pub(crate) fn writable_at(
     trace: &Trace,
     ring: u8,
     file: FileNumber,
@@ -204,34 +175,46 @@ pub fn writable_at(
     Ok((file, start))
 }
 
-/// Writes bytes to a file: WRITE and WRITEV.
-pub(crate) fn write(
-    alloc: Global,
+/// A write of bytes to an open file, at an offset or at its position: where in the file it starts,
+/// and the bytes, as many as the largest size of a file leaves room for.
+#[derive(Clone, Copy)]
+pub(crate) struct FileWrite<'a> {
+    pub file: OpenFile,
+    pub offset: u64,
+    pub start: u64,
+    pub bytes: &'a [u8],
+}
+
+/// What WRITE and WRITEV do: nothing where there are no bytes.
+///
+/// # Errors
+///
+/// That of the first test that fails: EBADF, EINVAL, EFBIG.
+pub(crate) fn writing<'a>(
     site: Site<'_>,
     file: FileNumber,
     offset: u64,
-    bytes: &[u8],
-    state: &mut State,
-) -> Result<Outcome, AllocError>
-    requires { length bytes.now ≤ most_moved }
-    ensures answer { IfOk result
-        (Answers (write_meaning site.entry.trace.now state.old site.entry.ring (file_meant file)
-        offset (Ok bytes.now))) }
-    ensures state { OnOk result (state.new ≡ world_after state.old
-        (write_meaning site.entry.trace.now state.old site.entry.ring (file_meant file)
-        offset (Ok bytes.now))) }
+    bytes: &'a [u8],
+    state: &State,
+) -> Result<Decision<'a>, Errno>
+    ensures meaning { Decides
+        (write_meaning site.entry.trace.now state.now site.entry.ring (file_meant file) offset
+        (Ok bytes.now))
+        (effect_of site.entry.trace.now site.entry.place site.entry.ring state.now) result }
+    ensures limits { length bytes.now ≤ most_moved
+        → IfOk result (IsWithinLimits state.now site.entry.ring) }
 {
-    let (file, start) = match writable_at(site.trace, site.ring, file, offset, bytes.len(), state) {
-        Ok(found) => found,
-        Err(error) => return Ok(Err(error)),
-    };
+    let (file, start) = writable_at(site.trace, site.ring, file, offset, bytes.len(), state)?;
     if bytes.is_empty() {
-        return Ok(finished(alloc));
+        return Ok(Decision::Nothing);
     }
     let count = bytes.len().min((LARGEST - start) as usize);
-    state.write(file.description.node, start, &bytes[..count])?;
-    advance(&file, offset, start + count as u64, state);
-    Ok(counted(alloc, count as u32))
+    Ok(Decision::Write(FileWrite {
+        file,
+        offset,
+        start,
+        bytes: &bytes[..count],
+    }))
 }
 
 /// How many bytes of a span, which starts at an offset of its buffer, a transfer moves.
@@ -247,13 +230,16 @@ fn count_in_buffer(ring: u8, span: BufferSpan, at: u64, state: &State) -> u64
         .min(u64::from(span.length.min(MOST_MOVED)))
 }
 
-/// A write of bytes of a registered buffer: the open file and where in it they go, where in the
-/// buffer they start, and how many there are.
-struct BufferWrite {
-    file: OpenFile,
-    start: u64,
-    at: u64,
-    count: u64,
+/// A write of bytes of a registered buffer to an open file: where in the file it starts, the buffer,
+/// where in it the bytes start, and how many there are, as the largest size of a file leaves room.
+#[derive(Clone, Copy)]
+pub(crate) struct BufferWrite {
+    pub file: OpenFile,
+    pub offset: u64,
+    pub start: u64,
+    pub index: u16,
+    pub at: u64,
+    pub count: u64,
 }
 
 /// The write that a span asks for, cut at the largest size of a file, or why it is refused.
@@ -265,10 +251,11 @@ fn writable_from(
     span: BufferSpan,
     state: &State,
 ) -> Result<BufferWrite, Errno>
-    ensures meaning { DecidesFixedWrite trace.now state.now ring (file_meant file) offset
-        (span_meant span) result }
+    ensures meaning { Decides
+        (write_fixed_meaning trace.now state.now ring (file_meant file) offset (span_meant span))
+        (buffer_written_if_any state.now ring) result }
     ensures inside { IfOk result (λ w. 0 < w.count
-        → w.at + w.count ≤ length (unwrap_or (world.buffer state.now ring span.index) [])) }
+        → w.at + w.count ≤ length (unwrap_or (world.buffer state.now ring w.index) [])) }
     ensures fits { IfOk result (λ w. 0 < w.count → w.start + w.count ≤ file_limit) }
     ensures most { IfOk result (λ w. (w.at < 2 ^ 32) × (w.count ≤ most_moved)) }
 {
@@ -284,43 +271,35 @@ fn writable_from(
     }
     Ok(BufferWrite {
         file,
+        offset,
         start,
+        index: span.index,
         at,
         count: count.min(LARGEST.saturating_sub(start)),
     })
 }
 
-/// Writes bytes of a registered buffer to a file: WRITE_FIXED.
-pub(crate) fn write_fixed(
-    alloc: Global,
+/// What WRITE_FIXED does: nothing where there are no bytes.
+///
+/// # Errors
+///
+/// That of the first test that fails: EBADF, EFAULT, EINVAL, EFBIG.
+pub(crate) fn writing_fixed<'a>(
     site: Site<'_>,
     file: FileNumber,
     offset: u64,
     span: BufferSpan,
-    state: &mut State,
-) -> Result<Outcome, AllocError>
-    ensures answer { IfOk result (Answers
-        (write_fixed_meaning site.entry.trace.now state.old site.entry.ring (file_meant file)
-        offset (span_meant span))) }
-    ensures state { OnOk result (state.new ≡ world_after state.old
-        (write_fixed_meaning site.entry.trace.now state.old site.entry.ring (file_meant file)
-        offset (span_meant span))) }
+    state: &State,
+) -> Result<Decision<'a>, Errno>
+    ensures meaning { Decides
+        (write_fixed_meaning site.entry.trace.now state.now site.entry.ring (file_meant file)
+        offset (span_meant span))
+        (effect_of site.entry.trace.now site.entry.place site.entry.ring state.now) result }
+    ensures limits { IfOk result (IsWithinLimits state.now site.entry.ring) }
 {
-    let BufferWrite {
-        file,
-        start,
-        at,
-        count,
-    } = match writable_from(site.trace, site.ring, file, offset, span, state) {
-        Ok(found) => found,
-        Err(error) => return Ok(Err(error)),
-    };
-    if count == 0 {
-        return Ok(finished(alloc));
+    let write = writable_from(site.trace, site.ring, file, offset, span, state)?;
+    if write.count == 0 {
+        return Ok(Decision::Nothing);
     }
-    let node = file.description.node;
-    let index = u32::from(span.index);
-    state.write_from_buffer(site.ring, index, at, at + count, node, start)?;
-    advance(&file, offset, start + count, state);
-    Ok(counted(alloc, count as u32))
+    Ok(Decision::WriteFixed(write))
 }

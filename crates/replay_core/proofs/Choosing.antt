@@ -1,10 +1,10 @@
 -- The places of a round may run on parts of the world that the round begins with.
-use Rattle.std.proofs.Common.{◌≡◌, ◌≢◌, ℕ, zero, suc, ◌<◌, ◌≤◌, Bool, true, false, List, [], ◌∷◌, ◌++◌, map, take, filter, length, length-append, cond, ◌⊎◌, inl, inr, refl, sym, ap, subst, ◌∙◌, arith}
+use Rattle.std.proofs.Common.{◌≡◌, ◌≢◌, ℕ, zero, suc, ◌<◌, ◌≤◌, Bool, true, false, List, [], ◌∷◌, ◌++◌, map, take, length, length-append, cond, refl, sym, ap, subst, ◌∙◌, arith}
 use Rattle.interleaving.specs.Rounds.{pending}
 use Rattle.std.specs.Prelude.{T, not, Option, Some, None, slice_get}
-use Rattle.interleaving.specs.Machine.{State, has, opening}
+use Rattle.interleaving.specs.Machine.{has}
 use Rattle.interleaving.specs.Gather.{AllDifferent, SideBySide}
-use Rattle.interleaving.proofs.Members.{has-here, has-other, has-later, has-different, has-cases, has-choice}
+use Rattle.interleaving.proofs.Members.{has-other, has-different, has-choice, has-middle}
 use Rattle.interleaving.proofs.Rounding.{rounds_gathered_lem}
 use Rattle.trace_format.specs.declared.trace.Trace.{Trace}
 use Rattle.trace_format.specs.Steps.{places}
@@ -21,20 +21,10 @@ use Rattle.wave_pick.specs.declared.wave.Chosen.{Chosen}
 use Rattle.std.specs.Option.{option_map}
 use Rattle.std.proofs.lemmas.Option.{slice_get-map}
 use Rattle.wave_pick.specs.Rounds.{state_after, wave_after}
+use Rattle.std.proofs.lemmas.List.{length-take}
+use Rattle.replay_core.proofs.Lists.{length-filter}
 
 -- Lists of different numbers.
-pub has-middle : (xs : List ℕ) (k : ℕ) (rest : List ℕ) → has (xs ++ k ∷ rest) k ≡ true
-has-middle [] k rest = has-here k rest
-has-middle (x ∷ xs) k rest = has-later k x (xs ++ k ∷ rest) (has-middle xs k rest)
-
-pub has-front : (xs ys : List ℕ) (j : ℕ) → has xs j ≡ true → has (xs ++ ys) j ≡ true
-has-front [] ys j h = (cc)
-has-front (x ∷ xs) ys j h = go (has-cases j x xs h) (has-front xs ys j)
-  where
-    go : (j ≡ x) ⊎ (has xs j ≡ true) → (has xs j ≡ true → has (xs ++ ys) j ≡ true) → has (x ∷ (xs ++ ys)) j ≡ true
-    go (inl e) later = ap (has (x ∷ (xs ++ ys))) e ∙ has-here x (xs ++ ys)
-    go (inr m) later = has-later j x (xs ++ ys) (later m)
-
 pub different-front : (xs : List ℕ) (k : ℕ) (rest : List ℕ) → AllDifferent (xs ++ k ∷ rest) → has xs k ≡ false
 different-front [] k rest h = refl
 different-front (x ∷ xs) k rest h = has-other k x xs (has-different k x (xs ++ k ∷ rest) h.0 (has-middle xs k rest)) ∙ different-front xs k rest h.1
@@ -98,24 +88,11 @@ pending-few done (suc n) = go (done n) (pending-few done n)
     go true h = omega arith
     go false h = omega (arith, length-append (pending done n) (n ∷ []))
 
-filter-few : (p : ℕ → Bool) (xs : List ℕ) → length (filter p xs) ≤ length xs
-filter-few p [] = omega arith
-filter-few p (x ∷ xs) = go (p x) (filter-few p xs)
-  where
-    go : (b : Bool) → length (filter p xs) ≤ length xs → length (cond b (x ∷ filter p xs) (filter p xs)) ≤ suc (length xs)
-    go true h = omega arith
-    go false h = omega arith
-
-take-few : (w : ℕ) (xs : List ℕ) → length (take w xs) ≤ length xs
-take-few zero xs = omega arith
-take-few (suc w) [] = omega arith
-take-few (suc w) (x ∷ xs) = let h = take-few w xs in omega arith
-
 pub wave-few : (t : Trace) (window r : ℕ) → length (wave_after t window r) ≤ places t
 wave-few t window r =
     let s = state_after t window r in
     let ps = pending (has s.finished) (places t) in
-    let a = filter-few (Rattle.interleaving.specs.Machine.is_free (replayed t) s) (take window ps) in
-    let b = take-few window ps in
+    let a = length-filter (Rattle.interleaving.specs.Machine.is_free (replayed t) s) (take window ps) in
+    let b = length-take window ps in
     let c = pending-few (has s.finished) (places t) in
     omega arith

@@ -6,7 +6,7 @@ use Rattle.std.specs.Cmp.{unsigned_tied}
 use Rattle.std.proofs.lemmas.Bool.{cases_eq, ne_eqb, eq-eqb}
 use Rattle.interleaving.specs.Machine.{has}
 use Rattle.interleaving.specs.Gather.{AllDifferent}
-use Rattle.interleaving.proofs.Members.{has-here, has-later, has-different}
+use Rattle.interleaving.proofs.Members.{has-here, has-later, has-different, has-middle, has-front}
 use Rattle.finite_maps.specs.Table.{get, number_keys, get-insert}
 use Rattle.trace_format.specs.declared.trace.Trace.{Trace}
 use Rattle.trace_format.specs.Text.{IsSpelled}
@@ -23,10 +23,12 @@ use Rattle.foot_print.proofs.Putting.{ready_more}
 use Rattle.sqe_codec.specs.Answers.{each}
 use Rattle.replay_core.specs.declared.run.Run.{Run}
 use Rattle.replay_core.specs.Jobs.{AreOf}
-use Rattle.replay_core.proofs.Lists.{get-push, map-push, take-more}
+use Rattle.replay_core.proofs.Lists.{take-more}
 use Rattle.wave_pick.specs.Rounds.{state_after, wave_after}
 use Rattle.replay_core.specs.Progressing.{out_for, parts_of, AreOut}
-use Rattle.replay_core.proofs.Choosing.{side, chosen_awaits, chosen_free, has-middle, has-front, different-front}
+use Rattle.replay_core.proofs.Choosing.{side, chosen_awaits, chosen_free, different-front}
+use Rattle.wave_pick.proofs.Lists.{get-push}
+use Rattle.std.proofs.lemmas.List.{map_push}
 
 module _ (t : Trace) (s : World) where
   holed-more : (ps : List Part) (q : Part) (u : World) → holed_by (footprints t s (ps ++ q ∷ [])) u ≡ holed (footprint t q.place s) (holed_by (footprints t s ps) u)
@@ -138,10 +140,10 @@ of-more t jobs more run e is of k other at = go (get-push jobs run other k (ap (
     go (inr same) = ap (λ (x : Run). x.trace.value) (sym same) ∙ is
 
 pub parts-more : (jobs more : List Run) (run : Run) → more ≡ jobs ++ run ∷ [] → parts_of more ≡ parts_of jobs ++ run.part ∷ []
-parts-more jobs more run e = ap parts_of e ∙ map-push (λ (x : Run). x.part) jobs run
+parts-more jobs more run e = ap parts_of e ∙ map_push (λ (x : Run). x.part) jobs run
 
 pub wave-more : (t : Trace) (window r n : ℕ) (jobs more : List Run) (run : Run) (k : ℕ) → more ≡ jobs ++ run ∷ [] → places (parts_of jobs) ≡ take n (wave_after t window r) → slice_get (wave_after t window r) n ≡ Some k → run.part.place ≡ k
     → places (parts_of more) ≡ take (suc n) (wave_after t window r)
 wave-more t window r n jobs more run k e wave at is =
-    ap places (parts-more jobs more run e) ∙ map-push (λ (p : Part). p.place) (parts_of jobs) run.part ∙ (λ i. wave i ++ is i ∷ [])
+    ap places (parts-more jobs more run e) ∙ map_push (λ (p : Part). p.place) (parts_of jobs) run.part ∙ (λ i. wave i ++ is i ∷ [])
     ∙ sym (take-more (wave_after t window r) n ∙ ap (λ o. take n (wave_after t window r) ++ each (λ (x : ℕ). x ∷ []) o) at)

@@ -19,6 +19,7 @@ use Rattle.wave_pick.specs.Rounds.{state_after, wave_after}
 use Rattle.replay_core.specs.Progressing.{IsFront}
 use Rattle.replay_core.proofs.Fronts.{filter-same, filter-all, front_open}
 use Rattle.replay_core.proofs.Stepping.{next_state}
+use Rattle.interleaving.proofs.Members.{has-append}
 
 order : (a b : ℕ) → (a < b) ⊎ ((b < a) ⊎ (a ≡ b))
 order a b = grind arith
@@ -79,16 +80,11 @@ abbrev pub others_than : List ℕ → ℕ → Bool
 others_than ns k = not (has ns k)
 
 has-one_more : (ns : List ℕ) (n k : ℕ) → has (ns ++ n ∷ []) k ≡ (if has ns k then true else k == n)
-has-one_more [] n k = one (k == n)
+has-one_more ns n k = has-append ns (n ∷ []) k ∙ ap (λ b. if has ns k then true else b) (one (k == n))
   where
     one : (b : Bool) → (if b then true else false) ≡ b
     one true = refl
     one false = refl
-has-one_more (m ∷ ns) n k = ap (λ b. if k == m then true else b) (has-one_more ns n k) ∙ swap (k == m) (has ns k)
-  where
-    swap : (b c : Bool) → (if b then true else (if c then true else k == n)) ≡ (if (if b then true else c) then true else k == n)
-    swap true c = refl
-    swap false c = refl
 
 filter-twice : (p q : ℕ → Bool) (xs : List ℕ) → filter q (filter p xs) ≡ filter (λ k. if p k then q k else false) xs
 filter-twice p q [] = refl

@@ -1,6 +1,6 @@
 -- What there is once all places are done, and before any is.
 use Rattle.std.proofs.Common.{◌≡◌, ℕ, zero, suc, ◌+◌, ◌<◌, ◌≤◌, Bool, false, List, [], ◌∷◌, ◌++◌, take, filter, length, replicate, ◌⊎◌, inl, inr, refl, sym, ap, subst, ◌∙◌, Some, arith}
-use Rattle.std.specs.Prelude.{slice_get, Option}
+use Rattle.std.specs.Prelude.{slice_get}
 use Rattle.std.proofs.lemmas.List.{length-replicate}
 use Rattle.interleaving.specs.System.{sequential}
 use Rattle.interleaving.specs.Machine.{State, opening, is_free, IsSequential}
@@ -23,9 +23,6 @@ use Rattle.wave_pick.specs.Rounds.{state_after, wave_after}
 use Rattle.replay_core.specs.Progressing.{Keeps, Stands}
 use Rattle.replay_core.proofs.Lists.{take-more, take-whole, mapped-so-far}
 use Rattle.replay_core.proofs.Fronts.{front_is}
-
-some-same : {A : Type 0} (x y : A) → ◌≡◌ {A = Option A} (Some x) (Some y) → x ≡ y
-some-same x y e = cc
 
 module _ (t : Trace) (spelled : IsSpelled t) (p : Progress) (h : Stands t p) where
   abbrev x : State (replayed t)

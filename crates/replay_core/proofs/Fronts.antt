@@ -3,12 +3,12 @@ use Rattle.std.proofs.Common.{◌≡◌, ℕ, zero, suc, ◌+◌, ◌-◌, ◌<�
 use Rattle.std.specs.Prelude.{not, cond, slice_get, All}
 use Rattle.std.specs.List.{range_with_len}
 use Rattle.std.proofs.lemmas.Bool.{false_from_ne_true}
-use Rattle.std.proofs.lemmas.List.{append-nil, append_assoc}
+use Rattle.std.proofs.lemmas.List.{append_assoc, take_all}
 use Rattle.std.proofs.lemmas.List.Elements.{filter-append}
 use Rattle.std.proofs.lemmas.Option.{get_or_from_slice_get}
-use Rattle.interleaving.specs.Machine.{State, has, run, opening}
+use Rattle.interleaving.specs.Machine.{State, has, opening}
 use Rattle.interleaving.specs.Rounds.{pending, in_turn}
-use Rattle.interleaving.proofs.Members.{has-here, has-later, has-cases, has-pending, has-filter}
+use Rattle.interleaving.proofs.Members.{has-here, has-later, has-cases, has-pending, has-filter, has-front, has-back, has-either}
 use Rattle.interleaving.proofs.Onwards.{stays_finished, finished_by, pending-later, range-snoc, pending-all}
 use Rattle.trace_format.specs.declared.trace.Trace.{Trace}
 use Rattle.trace_format.specs.Steps.{places}
@@ -16,7 +16,6 @@ use Rattle.trace_format.specs.Text.{IsSpelled}
 use Rattle.foot_print.specs.Replayed.{replayed}
 use Rattle.wave_pick.specs.Rounds.{state_after, wave_after}
 use Rattle.replay_core.specs.Progressing.{IsFront}
-use Rattle.replay_core.proofs.Choosing.{has-front}
 use Rattle.replay_core.proofs.Stepping.{next_state}
 
 -- Ranges.
@@ -28,22 +27,6 @@ in_range a (suc n) k h = go (has-cases k a (range_with_len (a + 1) n) h) (in_ran
     go (inl e) later = (omega (arith, e), omega (arith, e))
     go (inr m) later = let l = later m in (omega (arith, l.0), omega (arith, l.1))
 
-has-back : (xs ys : List ℕ) (k : ℕ) → has ys k ≡ true → has (xs ++ ys) k ≡ true
-has-back [] ys k h = h
-has-back (x ∷ xs) ys k h = has-later k x (xs ++ ys) (has-back xs ys k h)
-
-has-either : (xs ys : List ℕ) (k : ℕ) → has (xs ++ ys) k ≡ true → (has xs k ≡ true) ⊎ (has ys k ≡ true)
-has-either [] ys k h = inr h
-has-either (x ∷ xs) ys k h = go (has-cases k x (xs ++ ys) h) (has-either xs ys k)
-  where
-    go : (k ≡ x) ⊎ (has (xs ++ ys) k ≡ true) → (has (xs ++ ys) k ≡ true → (has xs k ≡ true) ⊎ (has ys k ≡ true)) → (has (x ∷ xs) k ≡ true) ⊎ (has ys k ≡ true)
-    go (inl e) later = inl (ap (has (x ∷ xs)) e ∙ has-here x xs)
-    go (inr m) later = at (later m)
-      where
-        at : (has xs k ≡ true) ⊎ (has ys k ≡ true) → (has (x ∷ xs) k ≡ true) ⊎ (has ys k ≡ true)
-        at (inl i) = inl (has-later k x xs i)
-        at (inr i) = inr i
-
 -- Tests that are the same on a list.
 pub filter-same : (p q : ℕ → Bool) (xs : List ℕ) → ((k : ℕ) → has xs k ≡ true → p k ≡ q k) → filter p xs ≡ filter q xs
 filter-same p q [] h = refl
@@ -52,14 +35,6 @@ filter-same p q (x ∷ xs) h = λ i. cond (h x (has-here x xs) i) (x ∷ filter-
 pub filter-all : (p : ℕ → Bool) (xs : List ℕ) → ((k : ℕ) → has xs k ≡ true → p k ≡ true) → filter p xs ≡ xs
 filter-all p [] h = refl
 filter-all p (x ∷ xs) h = ap (λ b. cond b (x ∷ filter p xs) (filter p xs)) (h x (has-here x xs)) ∙ ap (λ zs. x ∷ zs) (filter-all p xs (λ k m. h k (has-later k x xs m)))
-
-pub length-filter : (p : ℕ → Bool) (xs : List ℕ) → length (filter p xs) ≤ length xs
-length-filter p [] = omega arith
-length-filter p (x ∷ xs) = go (p x) (length-filter p xs)
-  where
-    go : (b : Bool) → length (filter p xs) ≤ length xs → length (cond b (x ∷ filter p xs) (filter p xs)) ≤ suc (length xs)
-    go true h = omega arith
-    go false h = omega arith
 
 take-within : (w : ℕ) (xs ys : List ℕ) → length xs ≤ w → (length xs ≡ w) ⊎ (ys ≡ []) → take w (xs ++ ys) ≡ xs
 take-within zero [] ys h f = refl
@@ -73,9 +48,6 @@ take-within (suc w) (x ∷ xs) ys h f = ap (λ zs. x ∷ zs) (take-within w xs y
     less (inl e) = inl (omega (arith, e))
     less (inr e) = inr e
 
-take-front : (w : ℕ) (xs : List ℕ) → length xs ≤ w → take w xs ≡ xs
-take-front w xs h = ap (take w) (sym (append-nil xs)) ∙ take-within w xs [] h (inr refl)
-
 module _ (t : Trace) (window : ℕ) (x : State (replayed t)) (front : List ℕ) (next : ℕ) (h : IsFront t window x front next) where
   empty_behind : (length front ≡ window) ⊎ (next ≡ places t) → (length front ≡ window) ⊎ (range_with_len next (places t - next) ≡ [])
   empty_behind (inl e) = inl e
@@ -88,7 +60,7 @@ module _ (t : Trace) (window : ℕ) (x : State (replayed t)) (front : List ℕ) 
   front_is = ap (take window) h.all ∙ take-within window front (range_with_len next (places t - next)) h.few (empty_behind h.full)
 
   pub same_window : take window front ≡ take window (pending (has x.finished) (places t))
-  same_window = take-front window front h.few ∙ sym front_is
+  same_window = take_all window front h.few ∙ sym front_is
 
   -- its places are unfinished ones of the trace
   pub front_open : (k : ℕ) → has front k ≡ true → (k < places t) × (has x.finished k ≡ false)

@@ -1,11 +1,11 @@
 -- What is noted of each place from round to round.
 use Rattle.std.proofs.Common.{◌≡◌, ◌≢◌, ℕ, zero, suc, ◌+◌, ◌<◌, Bool, true, false, List, [], ◌∷◌, map, take, drop, filter, length, get_or, ◌⊎◌, inl, inr, refl, sym, ap, subst, ◌∙◌, Some, arith}
-use Rattle.std.specs.Prelude.{Option, None, not, slice_get, replicate, if◌then◌else◌}
+use Rattle.std.specs.Prelude.{Option, None, not, slice_get, if◌then◌else◌}
 use Rattle.std.specs.List.{range_with_len, cons_option}
 use Rattle.std.specs.Option.{option_map, option_or}
 use Rattle.std.proofs.Math.ListN.{set}
 use Rattle.std.proofs.lemmas.Bool.{cases_Bool, cases_eq, false_from_ne_true}
-use Rattle.std.proofs.lemmas.List.{length-map, length-replicate}
+use Rattle.std.proofs.lemmas.List.{length-map}
 use Rattle.std.proofs.lemmas.Option.{slice_get_within}
 use Rattle.interleaving.specs.Machine.{State, has, opening, is_free}
 use Rattle.interleaving.specs.Rounds.{pending, in_turn, round}
@@ -29,8 +29,9 @@ use Rattle.replay_core.specs.declared.round_log.WaitedFor.{WaitedFor}
 use Rattle.replay_core.specs.Progressing.{IsFront, Stands}
 use Rattle.replay_core.specs.Waits.{is_shown, waited_before, waited_for, waited_meant}
 use Rattle.replay_core.specs.Noted.{noted_after, AreNoted, noted}
-use Rattle.replay_core.proofs.Lists.{take-whole, mapped-so-far, set-here, set-other}
+use Rattle.replay_core.proofs.Lists.{take-whole, mapped-so-far}
 use Rattle.replay_core.proofs.Fronts.{front_is, front_open}
+use Rattle.wave_pick.proofs.Lists.{set-here, set-other}
 
 no-more : (b : Bool) (v : Option Holder) → (if b then option_or None v else v) ≡ v
 no-more true v = refl
@@ -207,18 +208,6 @@ module _ (t : Trace) (window : ℕ) where
         many = many ∙ before.many;
         noted = λ k within. ap (λ ws. slice_get ws k) is ∙ noted_at t (state_after t window r) front (map (option_map waited_meant) old) k (noted_after t window r k) (before.noted k within) ∙ ap Some (step r front next h k lt);
       })
-
--- Before the first round.
-get-replicate : (n k : ℕ) → k < n → ◌≡◌ {A = Option (Option Holder)} (slice_get (replicate n None) k) (Some None)
-get-replicate zero k lt = absurd (omega arith)
-get-replicate (suc n) zero lt = refl
-get-replicate (suc n) (suc k) lt = get-replicate n k (omega arith)
-
-pub none_noted : (t : Trace) (window : ℕ) (ws : List (Option WaitedFor)) → map (option_map waited_meant) ws ≡ replicate (places t) None → AreNoted t window 0 ws
-none_noted t window ws e = record {
-  many = sym (length-map ws (option_map waited_meant)) ∙ ap length e ∙ length-replicate (places t) None;
-  noted = λ k lt. ap (λ os. slice_get os k) e ∙ get-replicate (places t) k lt;
-}
 
 -- Once all places are done.
 module _ (t : Trace) (spelled : IsSpelled t) (p : Progress) (h : Stands t p) (over : (p.front.items ≡ []) ⊎ (p.round ≡ places t)) where

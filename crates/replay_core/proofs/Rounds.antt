@@ -21,9 +21,10 @@ use Rattle.replay_core.specs.declared.run.Run.{Run}
 use Rattle.replay_core.specs.Jobs.{AreOf, IsOutcome}
 use Rattle.wave_pick.specs.Rounds.{state_after}
 use Rattle.replay_core.specs.Progressing.{parts_of, AreOut, AreDealt, Keeps}
-use Rattle.replay_core.proofs.Lists.{drop-here, get-some}
+use Rattle.replay_core.proofs.Lists.{drop-here}
 use Rattle.replay_core.proofs.Stepping.{Steps, steps-begin, steps-on, steps-end}
 use Rattle.replay_core.proofs.Returning.{Returns, all_home, reply_is}
+use Rattle.wave_pick.proofs.Lists.{get-some}
 
 module _ (t : Trace) (spelled : IsSpelled t) (window r : ℕ) where
   pub begins : (jobs : List Run) (d : Divided) (replies : List Reply) (rounds : List ℕ) (done : List Bool) → r < places t → AreDealt t window r jobs d

@@ -20,8 +20,8 @@ use Rattle.wave_pick.proofs.Numbers.{number_is}
 use Rattle.wave_pick.specs.Rounds.{round_of, waves, state_after, wave_after}
 use Rattle.replay_core.specs.declared.progress.Progress.{Progress}
 use Rattle.replay_core.specs.Progressing.{HasRun, IsSameRound, Keeps}
-use Rattle.replay_core.proofs.Lists.{set-here, set-other}
 use Rattle.replay_core.proofs.Choosing.{chosen_within}
+use Rattle.wave_pick.proofs.Lists.{set-here, set-other}
 
 -- One place more is kept.
 pub keeps_more : (t : Trace) (window : ℕ) (x : State (replayed t)) (replies : List Reply) (rounds : List ℕ) (done : List Bool) (k r : ℕ) (reply : Reply)

@@ -1,5 +1,5 @@
 -- Bytes that are summed a piece at a time, zeros, sums that are known, and the buffers that an image shows.
-use Rattle.std.proofs.Common.{◌≡◌, ℕ, zero, suc, ◌+◌, ◌-◌, ◌<◌, ◌≤◌, List, [], ◌∷◌, ◌++◌, All, length, take, replicate, get_or, refl, sym, ap, subst, ◌∙◌, arith, Option, Some, None, Bool, true, false, T, ◌&&◌, cond}
+use Rattle.std.proofs.Common.{◌≡◌, ℕ, zero, suc, ◌+◌, ◌-◌, ◌<◌, ◌≤◌, List, [], ◌∷◌, ◌++◌, All, length, take, get_or, refl, sym, ap, subst, ◌∙◌, arith, Option, Some, T, cond}
 use Rattle.std.proofs.lemmas.List.{append-nil, append_assoc, take_more, take-append-drop, drop-take, take-take, take_all}
 use Rattle.std.proofs.lemmas.List.Elements.{All-cons, All-contains, All-contains_itself, All-head, All-map, All-nil, All-push, All-tail, All-weaker, Contains-append_left, Contains-append_right, Contains-push, filter_map-append}
 use Rattle.std.proofs.lemmas.Map.Lookups.{CmpEqualImpliesEq, exact_pairs, exact_unsigned}
@@ -9,14 +9,13 @@ use Rattle.std.specs.BTreeSet.{insert_key}
 use Rattle.std.specs.List.{Contains, cons_option, filter_map, flat_map}
 use Rattle.std.specs.Map.{lookup}
 use Rattle.std.specs.Ordering.{match_ordering, nat_cmp}
-use Rattle.std.specs.Prelude.{unwrap_or}
 use Rattle.std.specs.Option.{option_map}
 use Rattle.std.specs.declared.cmp.Ordering.{Ordering}
 use Rattle.std.specs.declared.cmp.Ordering.TheVariants.{Less, Equal, Greater}
 use Rattle.std.specs.Ordering.{is_eq, is_lt, ordering_reverse, ordering_then}
 use Rattle.std.specs.Cmp.{IsTotalOrder, tied_itself}
 use Rattle.std.specs.FinMap.Entries.{find, is_sorted, below_all}
-use Rattle.extent_bytes.specs.Bytes.{range_of, resized}
+use Rattle.extent_bytes.specs.Bytes.{range_of}
 use Rattle.finite_maps.specs.Table.{pair_cmp_total}
 use Rattle.world_parts.specs.World.{World}
 use Rattle.world_parts.specs.Image.{image_of, buffer_entry}
@@ -26,6 +25,7 @@ use Rattle.replay_report.specs.Report.{IsLong}
 use Rattle.replay_report.specs.declared.sums.Holder.{Holder}
 use Rattle.replay_report.specs.Sums.{HaveSame}
 use Rattle.replay_report.proofs.ReportLemmas.{list_grown}
+use Rattle.world_parts.proofs.Collision.{left, right}
 
 -- the first bytes and the piece after them
 pub one_piece_more : (xs : List ℕ) (low high : ℕ) → low ≤ high → take high xs ≡ take low xs ++ range_of xs low high
@@ -39,16 +39,6 @@ one_piece_more xs low high le =
 pub whole_range : (xs : List ℕ) (n : ℕ) → length xs ≡ n → range_of xs 0 n ≡ xs
 unfolding range_of
 whole_range xs n e = let all : n - 0 ≡ n = omega arith in rw all (take_all n xs (omega arith))
-
--- an empty list that is extended
-pub extended_nothing : (n : ℕ) → resized [] n ≡ replicate n 0
-unfolding resized
-extended_nothing n = let all : n - 0 ≡ n = omega arith in let none : List ℕ = [] in rw (take_all n none (omega arith), all) refl
-
--- the bytes that have a length
-pub held_length : (held : Option (List ℕ)) (n : ℕ) → option_map length held ≡ Some n → length (unwrap_or held []) ≡ n
-held_length None n e = cc
-held_length (Some xs) n e = cc
 
 -- what holds of each entry holds of the one that a look-up finds
 pub entry_known : {K X : Type 0} (R : K → K → Ordering) → CmpEqualImpliesEq R → (P : K × X → Type 0) (es : List (K × X)) → All P es → (k : K) (v : X) → lookup (is_at (R k)) es ≡ Some v → P (k, v)
@@ -75,14 +65,6 @@ is_less : (r : Ordering) → T (is_lt r) → r ≡ Less
 is_less Less h = refl
 is_less Equal h = absurd h
 is_less Greater h = absurd h
-
-left : (a b : Bool) → T (a && b) → T a
-left true b h = tt
-left false b h = h
-
-right : (a b : Bool) → T (a && b) → T b
-right true b h = h
-right false b h = absurd h
 
 module _ {K X : Type 0} {R : K → K → Ordering} (o : IsTotalOrder R) where
   below_at : (q : K) (es : List (K × X)) → T (below_all R q es) → (k : ℕ) (d : K × X) → k < length es → R q (get_or es k d).0 ≡ Less

@@ -48,17 +48,31 @@ impl Sums {
     ) -> Result<Self, AllocError>
         ensures { IfOk result (AreSumsOf world.now) }
     {
-        let mut shown = BTreeSet::new(alloc);
+        let mut shown = Box::new(alloc, BTreeSet::new(alloc))?;
         add_files(&mut shown, names)?;
         add_buffers(&mut shown, buffers)?;
-        let mut zeros = Zeros::new();
         let mut sums = Sums {
             known: BTreeMap::new(alloc),
         };
-        for (_, holder) in &shown {
-            sums.add(alloc, world, *holder, &mut zeros)?;
-        }
+        sums.add_all(alloc, world, &shown)?;
         Ok(sums)
+    }
+
+    /// Adds the sums of files and buffers, from the shortest on.
+    fn add_all(
+        &mut self,
+        alloc: Global,
+        world: &State,
+        shown: &BTreeSet<(u64, Holder)>,
+    ) -> Result<(), AllocError>
+        requires { AreSumsOf world.now self.old }
+        ensures { OnOk result (AreSumsOf world.now self.new) }
+    {
+        let mut zeros = Zeros::new();
+        for (_, holder) in shown {
+            self.add(alloc, world, *holder, &mut zeros)?;
+        }
+        Ok(())
     }
 
     /// Adds the sum of a file, or of a buffer of zeros. Any other buffer is summed where it is
@@ -180,11 +194,19 @@ fn is_blank_file(alloc: Global, world: &State, node: u32, len: u64) -> Result<bo
     if len > MAX_LEN {
         return Ok(false);
     }
-    let mut zeros = Extents::new(alloc);
-    zeros.set_len(len)?;
-    let zeros = ReadBytes::of(alloc, &zeros, 0, len)?;
+    let zeros = zeros_of(alloc, len)?;
     let bytes = world.read_shared(alloc, node, 0, len)?;
     Ok(bytes.same(&zeros))
+}
+
+/// So many zeros.
+fn zeros_of(alloc: Global, len: u64) -> Result<ReadBytes, AllocError>
+    requires { len ≤ MAX_LEN }
+    ensures { IfOk result (λ zeros. zeros ≡ replicate len 0) }
+{
+    let mut zeros = Extents::new(alloc);
+    zeros.set_len(len)?;
+    ReadBytes::of(alloc, &zeros, 0, len)
 }
 
 /// The same of a buffer.

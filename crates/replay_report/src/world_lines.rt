@@ -1,14 +1,16 @@
 //! The lines of what the world shows at the end.
 ghost use Rattle.std.specs.Prelude.{◌≡◌, ◌++◌, All, IfSome, OnOk, Some, [], is_some, length};
-ghost use Rattle.std.specs.Prelude.{string_bytes, unwrap_or};
+ghost use Rattle.std.specs.Prelude.{codes, string_bytes, true, unwrap_or};
+ghost use Rattle.std.specs.Fmt.{decimal};
 ghost use Rattle.std.specs.List.{flat_map};
 ghost use Rattle.std.specs.Option.{option_map};
 ghost use Rattle.sqe_codec.specs.Answers.{each};
 ghost use Rattle.replay_report.specs.Sums.{AreSumsOf, held};
-ghost use Rattle.world_parts.specs.World.{bytes, size};
-ghost use Rattle.replay_report.specs.Report.{IsLong, IsSized, buffer_line, description_text};
-ghost use Rattle.replay_report.specs.Report.{descriptor_line};
-ghost use Rattle.replay_report.specs.Report.{file_sum, name_line, slot_line, sum_text, world_lines};
+ghost use Rattle.world_parts.specs.World.{buffer, bytes, size};
+ghost use Rattle.replay_report.specs.Report.{IsLong, IsSized, buffer_line, buffer_sum};
+ghost use Rattle.replay_report.specs.Report.{description_text, descriptor_line, escaped};
+ghost use Rattle.replay_report.specs.Report.{file_sum, line, name_line, slot_line, sum_text};
+ghost use Rattle.replay_report.specs.Report.{world_lines};
 ghost use Rattle.world_parts.specs.Image.{image_of};
 
 use crate::escaping::escaped;
@@ -26,17 +28,32 @@ pub(crate) fn push_world(
     ensures { OnOk result (string_bytes text.new
         ≡ string_bytes text.old ++ world_lines world.now sums) }
 {
-    let image = world.image(alloc)?;
-    if !sums {
-        return push_image(alloc, text, world, &image, None);
+    let image = Box::new(alloc, world.image(alloc)?)?;
+    if sums {
+        push_summed(alloc, text, world, &image)
+    } else {
+        push_image(alloc, text, world, &image, None)
     }
+}
+
+/// The lines of the image of a world, with sums.
+fn push_summed(
+    alloc: Global,
+    text: &mut String,
+    world: &State,
+    image: &Image,
+) -> Result<(), AllocError>
+    requires { image.now ≡ image_of world.now }
+    ensures { OnOk result (string_bytes text.new
+        ≡ string_bytes text.old ++ world_lines world.now true) }
+{
     let made = Sums::of(
         alloc,
         world,
         image.names.as_slice(),
         image.buffers.as_slice(),
     )?;
-    push_image(alloc, text, world, &image, Some(&made))
+    push_image(alloc, text, world, image, Some(&made))
 }
 
 /// The lines of the image of a world, with the sums that were made ahead where they are asked for.
@@ -54,11 +71,23 @@ fn push_image(
 {
     text.push_str("tree\n")?;
     push_names(alloc, text, world, image.names.as_slice(), sums)?;
-    text.push_str("slots\n")?;
-    push_slots(text, image.slots.as_slice())?;
-    push_descriptors(text, image.descriptors.as_slice())?;
+    push_tables(text, image.slots.as_slice(), image.descriptors.as_slice())?;
     text.push_str("buffers\n")?;
     push_buffers(alloc, text, world, image.buffers.as_slice(), sums)
+}
+
+/// The lines of the full slots and of the full descriptors.
+fn push_tables(
+    text: &mut String,
+    slots: &[SlotEntry],
+    descriptors: &[DescriptorEntry],
+) -> Result<(), AllocError>
+    ensures { OnOk result (string_bytes text.new ≡ string_bytes text.old ++ line (codes "slots")
+        ++ flat_map slot_line slots.now ++ flat_map descriptor_line descriptors.now) }
+{
+    text.push_str("slots\n")?;
+    push_slots(text, slots)?;
+    push_descriptors(text, descriptors)
 }
 
 fn push_names(
@@ -91,16 +120,33 @@ fn push_name(
     ensures { OnOk result (string_bytes text.new
         ≡ string_bytes text.old ++ name_line world.now (is_some sums.entry) name.now) }
 {
-    let path = escaped(alloc, name.path.as_slice())?;
-    let node = name.node;
     match name.size {
-        None => writeln!(text, "dir {path}"),
+        None => {
+            let path = escaped(alloc, name.path.as_slice())?;
+            writeln!(text, "dir {path}")
+        }
         Some(len) => {
-            write!(text, "file {path} node={node} size={len}")?;
-            push_file_sum(alloc, text, world, node, len, sums)?;
+            push_file(alloc, text, name.path.as_slice(), name.node, len)?;
+            push_file_sum(alloc, text, world, name.node, len, sums)?;
             text.push_str("\n")
         }
     }
+}
+
+/// The name of a file, its node and its size.
+fn push_file(
+    alloc: Global,
+    text: &mut String,
+    path: &[u8],
+    node: u32,
+    size: u64,
+) -> Result<(), AllocError>
+    ensures { OnOk result (string_bytes text.new ≡ string_bytes text.old
+        ++ codes "file " ++ escaped path.now ++ codes " node=" ++ decimal node ++ codes " size="
+        ++ decimal size) }
+{
+    let path = escaped(alloc, path)?;
+    write!(text, "file {path} node={node} size={size}")
 }
 
 /// The sum of a file of this length, where sums are asked for. A large file isn't read.
@@ -238,9 +284,34 @@ fn push_buffer(
 {
     let BufferEntry { ring, index, len } = entry;
     write!(text, "buffer {ring} {index} len={len}")?;
-    if let Some(sums) = sums {
-        let holder = Holder::Buffer { ring, index };
-        push_sum(alloc, text, world, holder, len, sums)?;
-    }
+    push_buffer_sum(alloc, text, world, entry, sums)?;
     text.push_str("\n")
+}
+
+/// The sum of a buffer, where sums are asked for.
+fn push_buffer_sum(
+    alloc: Global,
+    text: &mut String,
+    world: &State,
+    entry: BufferEntry,
+    sums: Option<&Sums>,
+) -> Result<(), AllocError>
+    requires sums { IfSome sums (λ s. AreSumsOf world.now s.now) }
+    requires entry { IsLong world.now entry }
+    ensures { OnOk result (string_bytes text.new ≡ string_bytes text.old
+        ++ buffer_sum (is_some sums.entry)
+        (unwrap_or (buffer world.now entry.ring entry.index) [])) }
+{
+    let BufferEntry { ring, index, len } = entry;
+    match sums {
+        None => Ok(()),
+        Some(sums) => push_sum(
+            alloc,
+            text,
+            world,
+            Holder::Buffer { ring, index },
+            len,
+            sums,
+        ),
+    }
 }

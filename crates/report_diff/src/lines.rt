@@ -9,7 +9,7 @@ ghost use Rattle.report_diff.specs.Lines.{words};
 use std::alloc::{AllocError, Global};
 
 /// What a line is, by its first word.
-#[derive(Clone, Copy, Debug, PartialEq, Eq)]
+#[derive(Clone, Copy, PartialEq, Eq)]
 pub(crate) enum Kind {
     /// The heading of a report, a ring or a section, or the end of a report.
     Heading,
@@ -22,7 +22,7 @@ pub(crate) enum Kind {
 }
 
 /// A part of a report, with counts of its own.
-#[derive(Clone, Copy, Debug, PartialEq, Eq)]
+#[derive(Clone, Copy, PartialEq, Eq)]
 pub(crate) enum Section {
     Entries,
     Tree,

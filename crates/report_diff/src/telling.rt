@@ -12,7 +12,7 @@ use crate::lines::{Section, line_kind, subject};
 use std::alloc::{AllocError, Global};
 
 /// How a line compares.
-#[derive(Clone, Copy, Debug, PartialEq, Eq)]
+#[derive(Clone, Copy, PartialEq, Eq)]
 pub(crate) enum Outcome {
     Equal,
     Different,
@@ -21,7 +21,7 @@ pub(crate) enum Outcome {
 }
 
 /// How a line of a section compares.
-#[derive(Clone, Copy, Debug, PartialEq, Eq)]
+#[derive(Clone, Copy, PartialEq, Eq)]
 pub(crate) struct Finding {
     pub(crate) section: Section,
     pub(crate) outcome: Outcome,

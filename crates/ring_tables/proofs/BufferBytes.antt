@@ -1,24 +1,10 @@
 -- Changes of the bytes of a buffer.
-use Rattle.std.proofs.Common.{◌≡◌, ℕ, ◌+◌, ◌-◌, ◌<◌, ◌≤◌, List, [], ◌++◌, length, take, drop, replicate, min, arith, sym, ◌∙◌, ap, ⊎_elim}
+use Rattle.std.proofs.Common.{◌≡◌, ℕ, ◌+◌, ◌-◌, ◌<◌, ◌≤◌, List, ◌++◌, length, take, drop, replicate, min, arith, sym, ◌∙◌, ap, ⊎_elim}
 use Rattle.std.proofs.lemmas.List.{length-append, length-take, length-drop, length-replicate, append-nil, take_all, drop_all, take-append-le, take-replicate}
-use Rattle.std.proofs.Math.Seq.{take-append_seam, take-append-add, take-nil, drop-nil}
+use Rattle.std.proofs.Math.Seq.{take-append_seam, take-append-add}
 use Rattle.std.proofs.lemmas.Bool.{cases_lt}
-use Rattle.extent_bytes.specs.Bytes.{overlaid, overwritten, range_of, resized, zeroed}
+use Rattle.extent_bytes.specs.Bytes.{overlaid, overwritten, zeroed}
 use Rattle.extent_bytes.proofs.Lists.{overwritten_none}
-
--- a range of no bytes
-pub range_of-nothing : (low high : ℕ) → range_of [] low high ≡ []
-unfolding range_of
-range_of-nothing low high = ap (take (high - low)) (drop-nil low) ∙ take-nil (high - low)
-
--- such a range, put over others, changes nothing
-pub nothing_put : (low high : ℕ) → low ≤ high → high ≤ 0 → (old : List ℕ) → overwritten old low (range_of [] low high) ≡ old
-nothing_put low high h l old = overwritten_none old low (range_of [] low high) (ap length (range_of-nothing low high)) (omega arith)
-
--- what is made longer from no bytes is zeros
-pub resized-nothing : (n : ℕ) → resized [] n ≡ replicate n 0
-unfolding resized
-resized-nothing n = ap (λ (xs : List ℕ). xs ++ replicate {A = ℕ} (n - 0) 0) (take-nil {A = ℕ} n) ∙ ap (λ m. replicate {A = ℕ} m 0) (omega arith)
 
 -- bytes that lie past a buffer change nothing
 pub overlaid-past : (old : List ℕ) (at : ℕ) (new : List ℕ) → length old ≤ at → overlaid old at new ≡ old

@@ -1,15 +1,14 @@
 -- The bytes of a buffer that was looked up.
-use Rattle.std.proofs.Common.{◌≡◌, ℕ, List, [], Some, None, ap, sym, ◌∙◌, refl}
-use Rattle.std.specs.Prelude.{Option, unwrap_or}
-use Rattle.std.specs.Option.{option_map}
+use Rattle.std.proofs.Common.{◌≡◌, ℕ, List, [], Some, None, ap, sym, ◌∙◌}
+use Rattle.std.specs.Prelude.{unwrap_or}
 use Rattle.std.specs.Map.{lookup}
 use Rattle.std.specs.BTreeMap.{is_at}
 use Rattle.extent_bytes.specs.Bytes.{range_of}
-use Rattle.finite_maps.specs.Table.{Table, assign, get, pair_cmp, pair_keys}
+use Rattle.finite_maps.specs.Table.{Table, pair_cmp, pair_keys}
 use Rattle.finite_maps.specs.Maps.{table_of}
-use Rattle.finite_maps.proofs.Maps.{absent-assign, get-of, present-assign}
-use Rattle.ring_tables.specs.Contents.{bytes_at, rewritten_at}
-use Rattle.ring_tables.proofs.BufferBytes.{range_of-nothing}
+use Rattle.finite_maps.proofs.Maps.{get-of}
+use Rattle.ring_tables.specs.Contents.{bytes_at}
+use Rattle.extent_bytes.proofs.Lists.{range_of-none}
 
 pub bytes_at-found : (es : List ((ℕ × ℕ) × List ℕ)) (t : Table pair_cmp (List ℕ)) (ring index : ℕ) (bytes : List ℕ) → table_of pair_keys.total es ≡ t → Some bytes ≡ lookup (is_at (pair_cmp (ring, index))) es → bytes_at t ring index ≡ bytes
 bytes_at-found es t ring index bytes is e = ap (λ o. unwrap_or o []) (get-of pair_keys es t (ring, index) is ∙ sym e)
@@ -19,13 +18,4 @@ bytes_at-absent es t ring index is e = ap (λ o. unwrap_or o []) (get-of pair_ke
 
 -- a range where there is no buffer
 pub range_of-absent : (es : List ((ℕ × ℕ) × List ℕ)) (t : Table pair_cmp (List ℕ)) (ring index low high : ℕ) → table_of pair_keys.total es ≡ t → None ≡ lookup (is_at (pair_cmp (ring, index))) es → [] ≡ range_of (bytes_at t ring index) low high
-range_of-absent es t ring index low high is e = sym (ap (λ xs. range_of xs low high) (bytes_at-absent es t ring index is e) ∙ range_of-nothing low high)
-
--- a change that changes nothing
-pub rewritten-same : (t : Table pair_cmp (List ℕ)) (ring index : ℕ) (f : List ℕ → List ℕ) → ((bs : List ℕ) → f bs ≡ bs) → t ≡ rewritten_at f t ring index
-rewritten-same t ring index f same = sym (at (get t (ring, index)) refl)
-  where
-    at : (o : Option (List ℕ)) → get t (ring, index) ≡ o → rewritten_at f t ring index ≡ t
-    at None e = ap (λ o. assign pair_keys.total t (ring, index) (option_map f o)) e ∙ absent-assign pair_keys t (ring, index) e
-    at (Some bs) e =
-        ap (λ o. assign pair_keys.total t (ring, index) (option_map f o)) e ∙ ap (λ xs. assign pair_keys.total t (ring, index) (Some xs)) (same bs) ∙ present-assign pair_keys t (ring, index) bs e
+range_of-absent es t ring index low high is e = sym (ap (λ xs. range_of xs low high) (bytes_at-absent es t ring index is e) ∙ range_of-none low high)

@@ -22,6 +22,7 @@ use Rattle.trace_format.proofs.Spots.{length-steps}
 use Rattle.trace_format.proofs.Sums.{places_in-push}
 use Rattle.trace_format.proofs.Spelled.{Spelt, at_place, at_test, test_passed, at_done, at_choice}
 use Rattle.trace_format.proofs.Apart.{Keeps, AnyText, keeps_any, keeps_bytes, Own, apart, of_several, each, length-several}
+use native.Mathlib.Numerals.{add-one-le}
 
 -- ---- records
 
@@ -94,9 +95,6 @@ enter_within {B = B} keeps rings used place text y has s =
       within = subst (λ (r : Record). used + places_in (r ∷ []) ≤ places_limit) (sym e.1) within;
     }
 
-next_within : (n m : ℕ) → n < m → n + 1 ≤ m
-next_within n m h = omega (arith, h)
-
 fill_within : {B : List ℕ → Type 0} → Keeps B → (rings : List Ring) (used place : ℕ) (text : List ℕ) (r : Record) → used < places_limit → B text → Spelt (fill rings) place text r → RecordWithin B (length rings) used r
 unfolding fill
 fill_within {B = B} keeps rings used place text r room has s =
@@ -107,7 +105,7 @@ fill_within {B = B} keeps rings used place text r room has s =
     let bytes = apart keeps len.rest_has (at_test len.spelled) in
     let e = at_done bytes.spelled in
     let one : places_in (Fill ring.x buffer.x offset.x bytes.x ∷ []) ≡ 1 = refl in
-    let within : used + places_in (Fill ring.x buffer.x offset.x bytes.x ∷ []) ≤ places_limit = subst (λ (n : ℕ). used + n ≤ places_limit) (sym one) (next_within used places_limit room) in
+    let within : used + places_in (Fill ring.x buffer.x offset.x bytes.x ∷ []) ≤ places_limit = subst (λ (n : ℕ). used + n ≤ places_limit) (sym one) (add-one-le room) in
     record {
       facts = inr (record { ring = ring.x; buffer = buffer.x; offset = offset.x; bytes = bytes.x; is = e.1; in_rings = ltb-true _ _ (test_passed ring.spelled) });
       within = subst (λ (r : Record). used + places_in (r ∷ []) ≤ places_limit) (sym e.1) within;

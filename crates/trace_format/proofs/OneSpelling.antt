@@ -1,9 +1,9 @@
 -- Each part of a trace is spelled in one way.
 use Rattle.std.proofs.Common.{◌≡◌, ℕ, zero, suc, min, ◌-◌, eqb, ◌+◌, ◌≤◌, ◌^◌, Bool, true, false, cond, List, [], ◌∷◌, ◌++◌, length, None, Some, append_assoc, refl, sym, ap, subst, ◌∙◌, arith, inl, inr}
-use Rattle.std.specs.Prelude.{codes, ◌&&◌, ◌==◌}
+use Rattle.std.specs.Prelude.{codes, ◌==◌}
 use Rattle.std.specs.List.{flat_map}
 use Rattle.std.specs.Int.{w8, w16, w32, w64, to_le_bytes}
-use Rattle.std.proofs.lemmas.Bool.{eqb-true, eqb-false, leb-true}
+use Rattle.std.proofs.lemmas.Bool.{eqb-true, eqb-false, leb-true, and_parts}
 use Rattle.std.proofs.lemmas.Slice.Eq.{bytes_eq-Decides}
 use Rattle.sqe_codec.specs.Fields.{IsBytes, entry_bytes, entry_of}
 use Rattle.sqe_codec.proofs.Parts.{bytes_back}
@@ -33,10 +33,6 @@ file_kind place text y fits s =
     let bytes = at_bytes stored.fits stored.spelled in
     let e = at_done bytes.spelled in
     ap kind_of e.1
-
-and_true : (a b : Bool) → (a && b) ≡ true → (a ≡ true) × (b ≡ true)
-and_true true b e = (refl, e)
-and_true false b e = absurd cc
 
 pub once_slot : (descriptions : ℕ) → Once (slot descriptions) slot_bytes
 unfolding slot
@@ -124,7 +120,7 @@ pub once_item : (earlier : List Item) → Once (item earlier) item_bytes
 unfolding item path_text
 once_item earlier place text y fits s =
     let kind = then (λ n. n ∷ []) once_u8 fits (at_place s) in
-    let range = and_true _ _ (test_passed kind.spelled) in
+    let range = and_parts _ _ (test_passed kind.spelled) in
     let path = then path_text (once_path earlier) kind.fits (at_test kind.spelled) in
     let made = split path.fits path.spelled in
     let e = at_done made.spelled in
@@ -213,7 +209,7 @@ pub once_record : (rings : List Ring) (used : ℕ) → Once (one_record rings us
 unfolding one_record
 once_record rings used place text y fits s =
     let kind = then (λ n. n ∷ []) once_u8 fits (at_place s) in
-    let range = and_true _ _ (test_passed kind.spelled) in
+    let range = and_parts _ _ (test_passed kind.spelled) in
     elim (at_choice (at_test (at_test kind.spelled))) [
       | inl a ↦ first_byte kind.x 1 text kind.rest y (eqb-true _ _ a.0) (once_enter (length rings) used kind.place kind.rest y kind.fits a.1) kind.parts
       | inr b ↦

@@ -1,6 +1,6 @@
 -- A step of a list of records is the one that its spot names.
 use Rattle.std.proofs.Common.{◌≡◌, ℕ, zero, suc, ◌+◌, ◌-◌, ◌<◌, ◌≤◌, List, [], ◌∷◌, ◌++◌, length, get_or, take, Some, refl, sym, ap, ◌∙◌, arith, inl, inr, length-append, append_assoc}
-use Rattle.std.proofs.lemmas.List.{length-map, take_more, length-take-le}
+use Rattle.std.proofs.lemmas.List.{length-map, take_more, length-take-le, append-nil}
 use Rattle.std.specs.List.{slice_get}
 use Rattle.std.proofs.lemmas.Bool.{cases_lt}
 use Rattle.std.proofs.lemmas.List.FromFn.{map-range_with_len_more, length-map-range_with_len, get_or-map-range_with_len}
@@ -46,14 +46,10 @@ places_in-spots_from n (r ∷ rs) =
 pub length-steps : (t : Trace) → length (steps t) ≡ places_in t.records
 length-steps t = omega (arith, length-spots_from 0 t.records, places_in-spots_from 0 t.records)
 
-append_nil : {X : Type 0} (xs : List X) → xs ++ [] ≡ xs
-append_nil [] = refl
-append_nil (x ∷ xs) = ap (λ ys. x ∷ ys) (append_nil xs)
-
 pub spots_from-push : (n : ℕ) (xs : List Record) (x : Record) → spots_from n (xs ++ x ∷ []) ≡ spots_from n xs ++ record_spots (n + length xs) (step_count x)
 spots_from-push n [] x =
     let e : n + length {A = Record} [] ≡ n = omega arith in
-    rw e (append_nil (record_spots n (step_count x)))
+    rw e (append-nil (record_spots n (step_count x)))
 spots_from-push n (r ∷ rs) x =
     let e : n + length (r ∷ rs) ≡ suc n + length rs = omega arith in
     rw (e, spots_from-push (suc n) rs x) (sym (append_assoc (record_spots n (step_count r)) (spots_from (suc n) rs) (record_spots (suc n + length rs) (step_count x))))

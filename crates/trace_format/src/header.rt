@@ -2,7 +2,7 @@
 ghost use Rattle.std.specs.Prelude.{◌≤◌, IfOk};
 ghost use Rattle.trace_format.specs.Counts.{places_limit};
 ghost use Rattle.trace_format.specs.Read.{Gives};
-ghost use Rattle.trace_format.specs.Sources.{counts_meant, reading_from, with_rest};
+ghost use Rattle.trace_format.specs.Sources.{counts_meant, reading_from, sizes, with_rest};
 ghost use Rattle.trace_format.specs.Text.{header};
 
 use crate::fault::{Kind, ReadError, refused};
@@ -20,21 +20,12 @@ pub(crate) struct Counts {
     pub descriptors: u16,
 }
 
-#[tactic(auto, unfolding(crate::specs::Text::header))]
-pub(crate) fn counts_of(source: Source<'_>) -> Result<(Counts, Source<'_>), ReadError>
+/// The counts behind the version.
+fn sizes_of(version: Version, source: Source<'_>) -> Result<(Counts, Source<'_>), ReadError>
     ensures read { Gives (λ x. with_rest (counts_meant x.0, x.1)) result
-        (reading_from source.entry header) }
+        (reading_from source.entry (sizes version)) }
     ensures records { IfOk result (λ x. x.0.records ≤ places_limit) }
 {
-    let (magic, source) = bytes_of(source, 8)?;
-    if magic != b"URINGTRC".as_slice() {
-        return Err(refused(Kind::Magic, 0));
-    }
-    let place = source.place;
-    let (number, source) = u32_of(source)?;
-    let Some(version) = Version::of(number) else {
-        return Err(refused(Kind::Version, place));
-    };
     let (items, source) = u32_to(source, 65_535)?;
     let (descriptions, source) = u32_to(source, 65_535)?;
     let (rings, source) = u32_to(source, 64)?;
@@ -51,4 +42,22 @@ pub(crate) fn counts_of(source: Source<'_>) -> Result<(Counts, Source<'_>), Read
         },
         source,
     ))
+}
+
+#[tactic(auto, unfolding(crate::specs::Text::header))]
+pub(crate) fn counts_of(source: Source<'_>) -> Result<(Counts, Source<'_>), ReadError>
+    ensures read { Gives (λ x. with_rest (counts_meant x.0, x.1)) result
+        (reading_from source.entry header) }
+    ensures records { IfOk result (λ x. x.0.records ≤ places_limit) }
+{
+    let (magic, source) = bytes_of(source, 8)?;
+    if magic != b"URINGTRC".as_slice() {
+        return Err(refused(Kind::Magic, 0));
+    }
+    let place = source.place;
+    let (number, source) = u32_of(source)?;
+    match Version::of(number) {
+        Some(version) => sizes_of(version, source),
+        None => Err(refused(Kind::Version, place)),
+    }
 }

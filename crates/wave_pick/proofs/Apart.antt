@@ -1,5 +1,5 @@
 -- The places of a round don't collide.
-use Rattle.std.proofs.Common.{◌≡◌, Bool, true, false, ◌⊎◌, inl, inr, refl}
+use Rattle.std.proofs.Common.{◌≡◌, Bool, true, false, ◌⊎◌, inl, inr}
 use Rattle.std.specs.Prelude.{T}
 use Rattle.interleaving.specs.System.{Apart}
 use Rattle.interleaving.proofs.Rounding.{rounds_gathered_lem}
@@ -13,14 +13,11 @@ use Rattle.op_meaning.specs.Footprint.{footprint}
 use Rattle.foot_print.specs.Replayed.{replayed}
 use Rattle.wave_pick.specs.Lawful.{lawful}
 use Rattle.wave_pick.specs.Rounds.{state_after, NoneCollide}
-
-unless : (b : Bool) → (T b → ⊥) → b ≡ false
-unless true h = absurd (h tt)
-unless false h = refl
+use Rattle.foot_print.proofs.Writing.{is_false}
 
 -- Footprints that are apart don't collide.
 pub apart_free : (t : Trace) (f g : Footprint) → Apart (replayed t) f g → collide f g ≡ false
-apart_free t f g h = unless (collide f g) (λ c. met (atom_of_collide f g c))
+apart_free t f g h = is_false (collide f g) (λ c. met (atom_of_collide f g c))
   where
     clash : (b : Bool) → b ≡ false → T b → ⊥
     clash true e x = (cc)

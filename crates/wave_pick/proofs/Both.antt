@@ -7,7 +7,7 @@ use native.Mathlib.Omega.{arith}
 use lib.Dec.{ltb→lt, lt→ltb, leb→le, le→leb, eqb→eq}
 use Rattle.world_parts.specs.Items.{Atom, size_of, byte_at, name_at, names_in, position_of, description_at, descriptor_at, buffer_byte, Item, one, file_bytes, buffer_bytes, all_names, all_bytes_and_sizes, all_positions, all_descriptions, all_descriptors, within, member_of, share, Use, Footprint, same_atom}
 use Rattle.world_parts.proofs.Collision.{both, left, right, same_atom-eq}
-use Rattle.world_parts.proofs.Sharing.{holds_true}
+use Rattle.world_parts.proofs.Sharing.{holds_true, below_both}
 use Rattle.wave_pick.specs.Holding.{shared_item, shared_by, shared_with, shared_of}
 use Rattle.wave_pick.specs.Holders.{SharedIsBoth, SharedWhereColliding}
 use Rattle.wave_pick.proofs.Clear.{same_by}
@@ -32,11 +32,6 @@ below_lower d n m g h =
     let a = ltb→lt d n g in
     let b = ltb→lt d m h in
     lt→ltb d (min n m) (omega arith)
-
-below_either : (d n m : ℕ) → T (ltb d (min n m)) → T (ltb d n) × T (ltb d m)
-below_either d n m h =
-    let a : d < min n m = ltb→lt d (min n m) h in
-    (lt→ltb d n (omega arith), lt→ltb d m (omega arith))
 
 -- An atom of both is one of what they share.
 abbrev InShared : Item → Item → Atom → Type 0
@@ -136,27 +131,27 @@ of_files : (n : ℕ) (y : Item) → OfShared (all_bytes_and_sizes n) y
 of_files n (one b) a s h = (of_one b (all_bytes_and_sizes n) a s h, h)
 of_files n (file_bytes i low high) (byte_at k p) s h = (subst (λ m. T (ltb m n)) (eqb→eq i k (left (i == k) _ h)) (left (ltb i n) _ s), h)
 of_files n (file_bytes i low high) _ s h = absurd h
-of_files n (all_bytes_and_sizes m) (size_of i) s h = below_either i n m h
-of_files n (all_bytes_and_sizes m) (byte_at i p) s h = below_either i n m h
+of_files n (all_bytes_and_sizes m) (size_of i) s h = below_both i n m h
+of_files n (all_bytes_and_sizes m) (byte_at i p) s h = below_both i n m h
 of_files n (all_bytes_and_sizes m) _ s h = absurd h
 of_files n _ a s h = absurd s
 
 of_names : (n : ℕ) (y : Item) → OfShared (all_names n) y
 of_names n (one b) a s h = (of_one b (all_names n) a s h, h)
-of_names n (all_names m) (name_at d x) s h = below_either d n m h
-of_names n (all_names m) (names_in d) s h = below_either d n m h
+of_names n (all_names m) (name_at d x) s h = below_both d n m h
+of_names n (all_names m) (names_in d) s h = below_both d n m h
 of_names n (all_names m) _ s h = absurd h
 of_names n _ a s h = absurd s
 
 of_positions : (n : ℕ) (y : Item) → OfShared (all_positions n) y
 of_positions n (one b) a s h = (of_one b (all_positions n) a s h, h)
-of_positions n (all_positions m) (position_of d) s h = below_either d n m h
+of_positions n (all_positions m) (position_of d) s h = below_both d n m h
 of_positions n (all_positions m) _ s h = absurd h
 of_positions n _ a s h = absurd s
 
 of_descriptions : (n : ℕ) (y : Item) → OfShared (all_descriptions n) y
 of_descriptions n (one b) a s h = (of_one b (all_descriptions n) a s h, h)
-of_descriptions n (all_descriptions m) (description_at d) s h = below_either d n m h
+of_descriptions n (all_descriptions m) (description_at d) s h = below_both d n m h
 of_descriptions n (all_descriptions m) _ s h = absurd h
 of_descriptions n _ a s h = absurd s
 

@@ -1,5 +1,5 @@
 -- The items that decide come one after another: where a world keeps the first ones, it keeps the next one.
-use Rattle.std.specs.Prelude.{◌≡◌, ℕ, ℤ, pos, negsuc, suc, Bool, true, false, cond, ltb, length, T, List, [], ◌∷◌, ◌++◌, map, Option, Some, None, Result, Ok, Err, refl, if◌then◌else◌}
+use Rattle.std.specs.Prelude.{◌≡◌, ℕ, suc, Bool, true, false, cond, ltb, length, T, List, [], ◌∷◌, ◌++◌, map, Option, Some, None, Result, Ok, Err, refl, if◌then◌else◌}
 use Rattle.std.proofs.Common.{◌⊎◌, inl, inr}
 use Rattle.std.proofs.lemmas.Bool.{cases_Bool}
 use mathlib.Core.Path.{sym, subst, ap, ◌∙◌}
@@ -11,14 +11,14 @@ use Rattle.trace_format.specs.declared.trace.Trace.{Trace}
 use Rattle.trace_format.specs.Paths.{components}
 use Rattle.trace_format.specs.Steps.{places}
 use Rattle.trace_format.specs.Text.{IsSpelled}
-use Rattle.entry_checks.specs.Operation.{Operation, File, Path}
+use Rattle.entry_checks.specs.Operation.{Operation, File, Path, in_slot, at_descriptor}
 use Rattle.file_tree.specs.Walk.{names_from, directory_at, fits_name, starts_at_root}
 use Rattle.world_parts.specs.World.{World, name, slot, descriptor}
 use Rattle.world_parts.specs.Items.{Atom, slot_at, descriptor_at, description_at, name_at, one, member_of, Use, reads, Footprint, has_atom, Agree}
 use Rattle.world_parts.proofs.Collision.{true_of}
 use Rattle.world_parts.proofs.Sharing.{holds_true}
-use Rattle.op_meaning.specs.Meaning.{slot_count, Handle, held, handle_of, is_file}
-use Rattle.op_meaning.specs.Footprint.{Shape, idle, looking, moving, allocating, resizing, closing, opening, making, freeing, linking, renaming, shape, held_item, of_file, of_description, path_reads}
+use Rattle.op_meaning.specs.Meaning.{slot_count, Handle, handle_of, is_file}
+use Rattle.op_meaning.specs.Footprint.{Shape, idle, looking, moving, allocating, resizing, closing, opening, making, freeing, linking, renaming, shape, of_file, of_description, path_reads}
 use Rattle.op_meaning.specs.Step.{Turn, filled, refused, canceled, runs}
 use Rattle.foot_print.specs.Reach.{is_met, shape_seen, seen, file_seen, is_taken_to_run, look_of, task, order_of, running_row, accepted_row, wide_row}
 use Rattle.foot_print.specs.Replayed.{replayed}
@@ -29,9 +29,9 @@ use Rattle.wave_pick.specs.Lawful.{lawful}
 use Rattle.wave_pick.specs.Rounds.{state_after}
 use Rattle.wave_pick.specs.Waiting.{look_after, DecidingBegins}
 use Rattle.wave_pick.specs.Holds.{Waits, world_after, reaches_after, reach_after}
-use Rattle.wave_pick.proofs.Looked.{append_nothing}
 use Rattle.wave_pick.proofs.Staying.{between_rounds, waited}
 use Rattle.wave_pick.proofs.Waiting.{unmet_stays, value_stays, row_in_reach}
+use Rattle.std.proofs.lemmas.List.{append-nil}
 
 abbrev look : ℕ × List ℕ → Use
 look e = reads (one (name_at e.0 e.1))
@@ -90,7 +90,7 @@ module _ (s u : World) where
     goes_path p = elim (starts_at_root p) as (λ b. Goes s u (map look (cond b (names_from s.nodes 0 (components p.text)) []) ++ g) (map look (cond b (names_from u.nodes 0 (components p.text)) []) ++ h)) [ true ↦ goes_names (components p.text) 0 | false ↦ next ]
 
   goes_one_path : (p : Path) → Goes s u (path_reads s p) (path_reads u p)
-  goes_one_path p = subst (λ f. Goes s u f (path_reads u p)) (append_nothing (path_reads s p)) (subst (λ f. Goes s u (path_reads s p ++ []) f) (append_nothing (path_reads u p)) (goes_path [] [] (goes_nothing []) p))
+  goes_one_path p = subst (λ f. Goes s u f (path_reads u p)) (append-nil (path_reads s p)) (subst (λ f. Goes s u (path_reads s p ++ []) f) (append-nil (path_reads u p)) (goes_path [] [] (goes_nothing []) p))
 
   goes_two_paths : (old new : Path) → Goes s u (path_reads s old ++ path_reads s new) (path_reads u old ++ path_reads u new)
   goes_two_paths old new = goes_path (path_reads s new) (path_reads u new) (goes_one_path new) old
@@ -104,24 +104,17 @@ module _ (s u : World) where
     goes_description None = goes_nothing []
     goes_description (Some d) = goes_cons (reads (one (description_at d))) _ _ (λ a. subst (λ f. Goes s u f (each (of_file (λ i h. [])) (handle_of u d))) (sym (no_content (handle_of s d))) (goes_nothing _))
 
-    abbrev held_goes : Bool → ℤ → Type 0
-    held_goes b n = Goes s u (map reads (held_item t r b n) ++ each (of_description s (λ i h. [])) (held t s r b n)) (map reads (held_item t r b n) ++ each (of_description u (λ i h. [])) (held t u r b n))
-
-    goes_held : (b : Bool) (n : ℤ) → held_goes b n
-    goes_held true (pos n) =
+    goes_file : (f : File) → Goes s u (file_seen t s r f) (file_seen t u r f)
+    goes_file (in_slot n) =
         elim (ltb n (slot_count t r)) as (λ c. Goes s u (map reads (cond c (one (slot_at r n) ∷ []) []) ++ each (of_description s (λ i h. [])) (cond c (slot s r n) None)) (map reads (cond c (one (slot_at r n) ∷ []) []) ++ each (of_description u (λ i h. [])) (cond c (slot u r n) None))) [
           | true ↦ goes_cons (reads (one (slot_at r n))) _ _ (λ a. subst (λ x. Goes s u (each (of_description s (λ i h. [])) (slot s r n)) (each (of_description u (λ i h. [])) x)) (agree_head s u (slot_at r n) false [] a) (goes_description (slot s r n)))
           | false ↦ goes_nothing []
         ]
-    goes_held false (pos n) =
+    goes_file (at_descriptor n) =
         elim (ltb n (length t.descriptors)) as (λ c. Goes s u (map reads (cond c (one (descriptor_at n) ∷ []) []) ++ each (of_description s (λ i h. [])) (cond c (descriptor s n) None)) (map reads (cond c (one (descriptor_at n) ∷ []) []) ++ each (of_description u (λ i h. [])) (cond c (descriptor u n) None))) [
           | true ↦ goes_cons (reads (one (descriptor_at n))) _ _ (λ a. subst (λ x. Goes s u (each (of_description s (λ i h. [])) (descriptor s n)) (each (of_description u (λ i h. [])) x)) (agree_head s u (descriptor_at n) false [] a) (goes_description (descriptor s n)))
           | false ↦ goes_nothing []
         ]
-    goes_held b (negsuc n) = goes_nothing []
-
-    goes_file : (f : File) → Goes s u (file_seen t s r f) (file_seen t u r f)
-    goes_file f = goes_held f.registered f.number
 
     goes_shape : (x : Shape) → Goes s u (shape_seen t r s x) (shape_seen t r u x)
     goes_shape idle = goes_nothing []
@@ -129,8 +122,8 @@ module _ (s u : World) where
     goes_shape (moving w f o n x) = goes_file f
     goes_shape (allocating f o n mode) = goes_file f
     goes_shape (resizing f n) = goes_file f
-    goes_shape (closing number index) = goes_nothing []
-    goes_shape (opening p g index) = goes_one_path p
+    goes_shape (closing f) = goes_nothing []
+    goes_shape (opening p g asked) = goes_one_path p
     goes_shape (making p) = goes_one_path p
     goes_shape (freeing p removes) = goes_one_path p
     goes_shape (linking old new) = goes_two_paths old new

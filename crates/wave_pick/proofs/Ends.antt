@@ -1,5 +1,5 @@
 -- The run that orders and rounds are compared with is the model's.
-use Rattle.std.proofs.Common.{◌≡◌, ℕ, zero, suc, ◌<◌, ◌≤◌, List, [], ◌∷◌, ◌++◌, length, length-append, Some, ◌⊎◌, inl, inr, refl, sym, ap, ◌∙◌, arith}
+use Rattle.std.proofs.Common.{◌≡◌, ℕ, zero, suc, ◌<◌, ◌≤◌, [], ◌∷◌, ◌++◌, length, length-append, Some, ◌⊎◌, inl, inr, refl, sym, ap, ◌∙◌, arith}
 use Rattle.std.specs.Prelude.{Option, slice_get}
 use Rattle.std.proofs.lemmas.Bool.{cases_eq}
 use Rattle.std.specs.Option.{option_map}
@@ -14,23 +14,8 @@ use Rattle.op_meaning.specs.declared.reply.Reply.{Reply}
 use Rattle.op_meaning.specs.Step.{turn, step_reply, run_world, run_replies, sequential_reply}
 use Rattle.foot_print.specs.Replayed.{replayed}
 use Rattle.wave_pick.specs.Sequential.{RunsAsTheModel, EndsAsTheModel}
-
-module _ {X : Type 0} where
-  get-before : (xs ys : List X) (k : ℕ) → k < length xs → slice_get (xs ++ ys) k ≡ slice_get xs k
-  get-before [] ys k lt = absurd (omega arith)
-  get-before (x ∷ xs) ys zero lt = refl
-  get-before (x ∷ xs) ys (suc k) lt = get-before xs ys k (omega arith)
-
-  get-last : (xs : List X) (y : X) (k : ℕ) → k ≡ length xs → slice_get (xs ++ y ∷ []) k ≡ Some y
-  get-last [] y zero e = refl
-  get-last [] y (suc k) e = absurd (omega (arith, e))
-  get-last (x ∷ xs) y zero e = absurd (omega (arith, e))
-  get-last (x ∷ xs) y (suc k) e = get-last xs y k (omega (arith, e))
-
-  get-some : (xs : List X) (k : ℕ) → k < length xs → (x : X) × (slice_get xs k ≡ Some x)
-  get-some [] k lt = absurd (omega arith)
-  get-some (x ∷ xs) zero lt = (x, refl)
-  get-some (x ∷ xs) (suc k) lt = get-some xs k (omega arith)
+use Rattle.trace_format.proofs.Spots.{slice_get-append_left, slice_get-append_right}
+use Rattle.wave_pick.proofs.Lists.{get-some}
 
 mapped : {A B : Type 0} (f : A → B) (o : Option A) (x : A) → o ≡ Some x → option_map f o ≡ Some (f x)
 mapped f o x e = ap (option_map f) e
@@ -59,11 +44,11 @@ kept_so_far t (suc n) le = go (kept_so_far t n (omega arith)) (has_reply t n (ru
         }
       where
         at : (k : ℕ) → k < suc n → (k ≡ n) ⊎ (k ≡ n → ⊥) → (reply : Reply) → sequential_reply t n ≡ Some reply → KeptSoFar t n → slice_get (run_replies t n ++ reply ∷ []) k ≡ sequential_reply t k
-        at k lt (inl e) reply is h = get-last (run_replies t n) reply k (e ∙ sym h.many) ∙ sym is ∙ ap (sequential_reply t) (sym e)
+        at k lt (inl e) reply is h = slice_get-append_right (run_replies t n) (reply ∷ []) k 0 (omega (arith, (e ∙ sym h.many))) ∙ sym is ∙ ap (sequential_reply t) (sym e)
         at k lt (inr ne) reply is h =
             let less : k < n = omega (arith, ne) in
             let within : k < length (run_replies t n) = omega (arith, h.many) in
-            get-before (run_replies t n) (reply ∷ []) k within ∙ h.kept k less
+            slice_get-append_left (run_replies t n) (reply ∷ []) k within ∙ h.kept k less
 
 same_worlds : (t : Trace) (n : ℕ) → sequential (replayed t) n ≡ run_world t n
 same_worlds t n = one_by_one (replayed t) (run_world t) refl (λ k. refl) n

@@ -1,5 +1,5 @@
 -- Of a scheduler's tables: what stays of them where one place is written, and what an index with one reach more covers.
-use Rattle.std.specs.Prelude.{◌≡◌, ◌≢◌, ℕ, zero, suc, ◌<◌, Bool, true, false, ◌&&◌, ◌||◌, T, List, [], ◌∷◌, ◌++◌, map, length, slice_get, Option, Some, refl}
+use Rattle.std.specs.Prelude.{◌≡◌, ℕ, zero, suc, ◌<◌, Bool, true, false, ◌&&◌, ◌||◌, T, List, [], ◌∷◌, ◌++◌, map, length, slice_get, Option, Some, refl}
 use Rattle.std.specs.List.{list_any}
 use Rattle.std.proofs.Common.{◌⊎◌, inl, inr, sym, ap, subst, ◌∙◌, arith}
 use Rattle.std.proofs.Math.ListN.{set}
@@ -14,21 +14,9 @@ use Rattle.item_index.specs.declared.ahead.Ahead.{Ahead}
 use Rattle.interleaving.specs.Machine.{has}
 use Rattle.wave_pick.specs.Scheduling.{AddsReach, Covers, Flags, HaveReaches, IsIndex}
 use Rattle.wave_pick.specs.declared.scheduler.Scheduler.{Scheduler}
-use Rattle.wave_pick.proofs.Within.{has_more}
-
--- A list in which one element is written.
-module _ {X : Type 0} where
-  pub set_there : (xs : List X) (k : ℕ) (x : X) → k < length xs → slice_get (set xs k x) k ≡ Some x
-  set_there [] k x lt = absurd (omega arith)
-  set_there (z ∷ xs) zero x lt = refl
-  set_there (z ∷ xs) (suc k) x lt = set_there xs k x (omega arith)
-
-  pub set_apart : (xs : List X) (k j : ℕ) (x : X) → j ≢ k → slice_get (set xs k x) j ≡ slice_get xs j
-  set_apart [] k j x apart = refl
-  set_apart (z ∷ xs) zero zero x apart = absurd (apart refl)
-  set_apart (z ∷ xs) zero (suc j) x apart = refl
-  set_apart (z ∷ xs) (suc k) zero x apart = refl
-  set_apart (z ∷ xs) (suc k) (suc j) x apart = set_apart xs k j x (λ e. apart (ap suc e))
+use Rattle.interleaving.proofs.Members.{has-snoc}
+use mathlib.Core.Bool.{or-false}
+use Rattle.wave_pick.proofs.Lists.{set-here, get-push}
 
 pub set_true : (xs : List Bool) (k j : ℕ) → slice_get xs j ≡ Some true → slice_get (set xs k true) j ≡ Some true
 set_true [] k j e = e
@@ -40,7 +28,7 @@ set_true (x ∷ xs) (suc k) (suc j) e = set_true xs k j e
 -- One place more is to be looked at.
 module _ (ks : List ℕ) (k : ℕ) (again later next : List Bool) (f : Flags ks again later) where
   these_more : ((j : ℕ) → slice_get later j ≡ Some true → slice_get next j ≡ Some true) → (k < length later → slice_get next k ≡ Some true) → (j : ℕ) → has (ks ++ k ∷ []) j ≡ true → j < length again → slice_get next j ≡ Some true
-  these_more still here j h lt = go (has_more j ks k h)
+  these_more still here j h lt = go (has-snoc ks k j h)
     where
       go : (has ks j ≡ true) ⊎ (j ≡ k) → slice_get next j ≡ Some true
       go (inl e) = still j (f.these j e lt)
@@ -50,7 +38,7 @@ module _ (ks : List ℕ) (k : ℕ) (again later next : List Bool) (f : Flags ks 
   flags_more e = record {
     many = ap length e ∙ length-set later k true ∙ f.many;
     still = λ j h. still j (f.still j h);
-    these = these_more still (λ lt. ap (λ xs. slice_get xs k) e ∙ set_there later k true lt);
+    these = these_more still (λ lt. ap (λ xs. slice_get xs k) e ∙ set-here later k true lt);
   }
     where
       still : (j : ℕ) → slice_get later j ≡ Some true → slice_get next j ≡ Some true
@@ -123,24 +111,11 @@ module _ (s : Scheduler) (does : Footprint → Bool) where
   pub one_at_is : (ks : List ℕ) (gs : List Footprint) → HaveReaches s ks gs → one_at s.reaches.items ks does ≡ list_any does gs
   one_at_is ks gs e = any_at ks ∙ any_in (map (slice_get s.reaches.items) ks) gs e
 
-or_nothing : (b : Bool) → (b || false) ≡ b
-or_nothing true = refl
-or_nothing false = refl
-
 written_more : (rs : List Footprint) (r : Footprint) (x : Item) → written_by (rs ++ r ∷ []) x ≡ (written_by rs x || writes_item r x)
-written_more rs r x = list_any-append (λ g. writes_item g x) rs (r ∷ []) ∙ ap (λ b. written_by rs x || b) (or_nothing (writes_item r x))
+written_more rs r x = list_any-append (λ g. writes_item g x) rs (r ∷ []) ∙ ap (λ b. written_by rs x || b) (or-false (writes_item r x))
 
 touched_more : (rs : List Footprint) (r : Footprint) (x : Item) → touched_by (rs ++ r ∷ []) x ≡ (touched_by rs x || touches_item r x)
-touched_more rs r x = list_any-append (λ g. touches_item g x) rs (r ∷ []) ∙ ap (λ b. touched_by rs x || b) (or_nothing (touches_item r x))
-
-get_more : (xs : List Footprint) (x y : Footprint) (j : ℕ) → slice_get (xs ++ x ∷ []) j ≡ Some y → (slice_get xs j ≡ Some y) ⊎ (x ≡ y)
-get_more [] x y zero e = inr (some-same e)
-  where
-    some-same : {f h : Footprint} → ◌≡◌ {A = Option Footprint} (Some f) (Some h) → f ≡ h
-    some-same e = cc
-get_more [] x y (suc j) e = (cc)
-get_more (z ∷ xs) x y zero e = inl e
-get_more (z ∷ xs) x y (suc j) e = get_more xs x y j e
+touched_more rs r x = list_any-append (λ g. touches_item g x) rs (r ∷ []) ∙ ap (λ b. touched_by rs x || b) (or-false (touches_item r x))
 
 -- The index of one reach more.
 module _ (s later : Scheduler) (exact : later.exact ≡ s.exact) (reaches : List Footprint) (i : IsIndex s reaches) (r : Footprint) where
@@ -152,7 +127,7 @@ module _ (s later : Scheduler) (exact : later.exact ≡ s.exact) (reaches : List
     alone = λ e.
         let before = i.alone (sym exact ∙ e) in
         (λ x. adds.writes x ∙ ap (λ b. b || writes_item r x) (before.0 x) ∙ sym (written_more reaches r x), λ x. adds.touches x ∙ ap (λ b. b || touches_item r x) (before.1 x) ∙ sym (touched_more reaches r x));
-    among = λ e y g at. here (i.among (sym exact ∙ e)) g y (get_more reaches r g y at);
+    among = λ e y g at. here (i.among (sym exact ∙ e)) g y (get-push reaches r g y at);
   }
     where
       here : covered s.ahead → (g : Footprint) (y : ℕ) → (slice_get reaches y ≡ Some g) ⊎ (r ≡ g) → Covers later.ahead g
@@ -163,7 +138,7 @@ module _ (s later : Scheduler) (exact : later.exact ≡ s.exact) (reaches : List
   pub index_covers : s.exact ≡ false → later.ahead ≡ s.ahead → Covers s.ahead r → IsIndex later (reaches ++ r ∷ [])
   index_covers others same c = record {
     alone = λ e. let both : true ≡ false = sym e ∙ exact ∙ others in (cc);
-    among = λ e y g at. subst (λ a. Covers a g) (sym same) (here (i.among others) g y (get_more reaches r g y at));
+    among = λ e y g at. subst (λ a. Covers a g) (sym same) (here (i.among others) g y (get-push reaches r g y at));
   }
     where
       here : covered s.ahead → (g : Footprint) (y : ℕ) → (slice_get reaches y ≡ Some g) ⊎ (r ≡ g) → Covers s.ahead g

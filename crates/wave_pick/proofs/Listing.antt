@@ -7,15 +7,13 @@ use Rattle.std.proofs.lemmas.Bool.{cases_eq, false_from_ne_true}
 use Rattle.std.proofs.lemmas.List.{length-set, map-append}
 use Rattle.interleaving.specs.Machine.{has}
 use Rattle.interleaving.specs.Gather.{AllDifferent}
-use Rattle.interleaving.proofs.Members.{has-cases}
+use Rattle.interleaving.proofs.Members.{has-cases, has-front, has-middle, has-snoc}
 use Rattle.world_parts.specs.Items.{Footprint}
-use Rattle.wave_pick.specs.Scheduling.{AddsReach, Flags, HasReach, IsAgain, IsListed, Keeps, Lists, Releases, Renews, Wakes}
+use Rattle.wave_pick.specs.Scheduling.{Flags, HasReach, IsAgain, IsListed, Lists, Releases, Renews, Wakes}
 use Rattle.wave_pick.specs.declared.scheduler.Scheduler.{Scheduler}
-use Rattle.wave_pick.specs.declared.scheduler.View.{View}
 use Rattle.wave_pick.specs.declared.wave.Chosen.{Chosen}
-use Rattle.wave_pick.proofs.Knowing.{set_apart, set_there}
 use Rattle.wave_pick.proofs.Passing.{not_both}
-use Rattle.wave_pick.proofs.Within.{has_before, has_last, has_more}
+use Rattle.wave_pick.proofs.Lists.{set-here, set-other}
 
 abbrev Listed : Type 0
 Listed = Vec ℕ Global
@@ -27,17 +25,17 @@ some_items e = cc
 module _ (s later : Scheduler) (k on : ℕ) (old new : Listed) (there : slice_get s.resting.items on ≡ Some old) (within : on < length s.resting.items) (more : new.items ≡ old.items ++ k ∷ []) (resting : later.resting.items ≡ set s.resting.items on new) (again : later.again.items ≡ set s.again.items k false)
     (rest : later ≡ record s { again = later.again; resting = later.resting }) where
   abbrev now : option_map (λ (v : Listed). v.items) (slice_get later.resting.items on) ≡ Some (old.items ++ k ∷ [])
-  now = ap (λ xs. option_map (λ (v : Listed). v.items) (slice_get xs on)) resting ∙ ap (option_map (λ (v : Listed). v.items)) (set_there s.resting.items on new within) ∙ ap (λ xs. Some xs) more
+  now = ap (λ xs. option_map (λ (v : Listed). v.items) (slice_get xs on)) resting ∙ ap (option_map (λ (v : Listed). v.items)) (set-here s.resting.items on new within) ∙ ap (λ xs. Some xs) more
 
   still_listed : (i j : ℕ) → (i ≡ on) ⊎ (i ≢ on) → IsListed s i j → IsListed later i j
   still_listed i j (inl e) l = record {
     list = old.items ++ k ∷ [];
     at = ap (λ n. option_map (λ (v : Listed). v.items) (slice_get later.resting.items n)) e ∙ now;
-    has_it = has_before j old.items (k ∷ []) (ap (λ xs. has xs j) (some_items (sym (ap (option_map (λ (v : Listed). v.items)) there) ∙ ap (λ n. option_map (λ (v : Listed). v.items) (slice_get s.resting.items n)) (sym e) ∙ l.at)) ∙ l.has_it);
+    has_it = has-front old.items (k ∷ []) j (ap (λ xs. has xs j) (some_items (sym (ap (option_map (λ (v : Listed). v.items)) there) ∙ ap (λ n. option_map (λ (v : Listed). v.items) (slice_get s.resting.items n)) (sym e) ∙ l.at)) ∙ l.has_it);
   }
   still_listed i j (inr ne) l = record {
     list = l.list;
-    at = ap (λ xs. option_map (λ (v : Listed). v.items) (slice_get xs i)) resting ∙ ap (option_map (λ (v : Listed). v.items)) (set_apart s.resting.items on i new ne) ∙ l.at;
+    at = ap (λ xs. option_map (λ (v : Listed). v.items) (slice_get xs i)) resting ∙ ap (option_map (λ (v : Listed). v.items)) (set-other s.resting.items on i new ne) ∙ l.at;
     has_it = l.has_it;
   }
 
@@ -45,9 +43,9 @@ module _ (s later : Scheduler) (k on : ℕ) (old new : Listed) (there : slice_ge
   lists_there = record {
     many_again = ap length again ∙ length-set s.again.items k false;
     many_resting = ap length resting ∙ length-set s.resting.items on new;
-    still = λ j ne e. ap (λ xs. slice_get xs j) again ∙ set_apart s.again.items k j false ne ∙ e;
+    still = λ j ne e. ap (λ xs. slice_get xs j) again ∙ set-other s.again.items k j false ne ∙ e;
     listed = λ i j l. still_listed i j (cases_eq i on) l;
-    rests = inr (on, refl, record { list = old.items ++ k ∷ []; at = now; has_it = has_last k old.items });
+    rests = inr (on, refl, record { list = old.items ++ k ∷ []; at = now; has_it = has-middle old.items k [] });
     rest = rest;
   }
 
@@ -59,7 +57,7 @@ module _ (s later : Scheduler) (k : ℕ) (old new : Listed) (there : slice_get s
     many_resting = ap length resting ∙ length-set s.resting.items k new;
     still = λ j e. flags.still j e;
     woken = λ j l lt. flags.these j (ap (λ xs. has xs j) (some_items (sym (ap (option_map (λ (v : Listed). v.items)) there) ∙ l.at)) ∙ l.has_it) lt;
-    others = λ j ne. ap (λ xs. slice_get xs j) resting ∙ set_apart s.resting.items k j new ne;
+    others = λ j ne. ap (λ xs. slice_get xs j) resting ∙ set-other s.resting.items k j new ne;
     rest = rest;
   }
 
@@ -94,18 +92,18 @@ different_parts : (k : ℕ) (xs : List ℕ) → AllDifferent (xs ++ k ∷ []) �
 different_parts k [] d = (tt, refl)
 different_parts k (x ∷ xs) d =
     let before = different_parts k xs d.1 in
-    ((false_from_ne_true _ (λ h. not_both (has_before x xs (k ∷ []) h) d.0), before.0), false_from_ne_true _ (λ h. apart before.1 d.0 (has-cases k x xs h)))
+    ((false_from_ne_true _ (λ h. not_both (has-front xs (k ∷ []) x h) d.0), before.0), false_from_ne_true _ (λ h. apart before.1 d.0 (has-cases k x xs h)))
   where
     apart : has xs k ≡ false → has (xs ++ k ∷ []) x ≡ false → (k ≡ x) ⊎ (has xs k ≡ true) → ⊥
-    apart none last (inl e) = not_both (ap (λ j. has (xs ++ j ∷ []) x) e ∙ has_last x xs) last
+    apart none last (inl e) = not_both (ap (λ j. has (xs ++ j ∷ []) x) e ∙ has-middle xs x []) last
     apart none last (inr h) = not_both h none
 
 -- One place more is released.
 module _ (ks : List ℕ) (k : ℕ) (s mid taken later : Scheduler) (chosen : List Chosen) (r : Releases ks s mid chosen) (w : Wakes k taken later) (reaches : taken.reaches.items ≡ set mid.reaches.items k None) (same : taken ≡ record mid { reaches = taken.reaches }) where
   more_of : (j : ℕ) → has (ks ++ k ∷ []) j ≡ false → (has ks j ≡ false) × (j ≢ k)
   more_of j none = (
-    false_from_ne_true _ (λ h. not_both (has_before j ks (k ∷ []) h) none),
-    λ e. not_both (ap (λ i. has (ks ++ i ∷ []) j) (sym e) ∙ has_last j ks) none,
+    false_from_ne_true _ (λ h. not_both (has-front ks (k ∷ []) j h) none),
+    λ e. not_both (ap (λ i. has (ks ++ i ∷ []) j) (sym e) ∙ has-middle ks j []) none,
   )
 
   taken_again : (j : ℕ) → IsAgain mid j → IsAgain taken j
@@ -118,7 +116,7 @@ module _ (ks : List ℕ) (k : ℕ) (s mid taken later : Scheduler) (chosen : Lis
   others_of j none =
       let m = more_of j none in
       let before = r.others j m.0 in (
-        later_reaches j ∙ ap (λ xs. slice_get xs j) reaches ∙ set_apart mid.reaches.items k j None m.1 ∙ before.0,
+        later_reaches j ∙ ap (λ xs. slice_get xs j) reaches ∙ set-other mid.reaches.items k j None m.1 ∙ before.0,
         w.others j m.1 ∙ ap (λ (x : Scheduler). slice_get x.resting.items j) same ∙ before.1,
       )
 
@@ -134,7 +132,7 @@ module _ (ks : List ℕ) (k : ℕ) (s mid taken later : Scheduler) (chosen : Lis
   }) (subst (λ n. j < n) (sym same_many) lt)
 
   first_or_last : (i : ℕ) → has (ks ++ k ∷ []) i ≡ true → (has ks i ≡ true) ⊎ ((i ≡ k) × (has ks i ≡ false))
-  first_or_last i h = go (Rattle.std.proofs.lemmas.Bool.cases_Bool (has ks i)) (has_more i ks k h)
+  first_or_last i h = go (Rattle.std.proofs.lemmas.Bool.cases_Bool (has ks i)) (has-snoc ks k i h)
     where
       go : (has ks i ≡ true) ⊎ (has ks i ≡ false) → (has ks i ≡ true) ⊎ (i ≡ k) → (has ks i ≡ true) ⊎ ((i ≡ k) × (has ks i ≡ false))
       go (inl e) m = inl e
@@ -157,9 +155,9 @@ module _ (ks : List ℕ) (k : ℕ) (s mid taken later : Scheduler) (chosen : Lis
       others = others_of;
       chosen_are = λ reach d all.
           let parts = different_parts k ks d in
-          let at : slice_get mid.reaches.items k ≡ Some (Some (reach k)) = (r.others k parts.1).0 ∙ all k (has_last k ks) in
+          let at : slice_get mid.reaches.items k ≡ Some (Some (reach k)) = (r.others k parts.1).0 ∙ all k (has-middle ks k []) in
           was (reach k) at
-          ∙ ap (λ cs. cs ++ record { place = k; footprint = reach k } ∷ []) (r.chosen_are reach parts.0 (λ j h. all j (has_before j ks (k ∷ []) h)))
+          ∙ ap (λ cs. cs ++ record { place = k; footprint = reach k } ∷ []) (r.chosen_are reach parts.0 (λ j h. all j (has-front ks (k ∷ []) j h)))
           ∙ sym (map-append (λ j. record { place = j; footprint = reach j }) ks (k ∷ []));
     }
 
@@ -175,44 +173,3 @@ none_taken reach e d = other (ap (λ y. Some y) (sym d) ∙ e)
   where
     other : {Y : Type 0} {g : Footprint} → ◌≡◌ {A = Option (Option Footprint)} (Some None) (Some (Some g)) → Y
     other e = (cc)
-
--- Before the first one.
-pub releases_none : (s : Scheduler) → Releases [] s s []
-releases_none s = record {
-  same = record { round = refl; exact = refl; reaches = refl; again = refl; resting = refl };
-  ahead = refl;
-  still = λ k e. e;
-  woken = λ i k h l lt. (cc);
-  others = λ i none. (refl, refl);
-  chosen_are = λ reach d all. refl;
-}
-
--- What is seen of a place is kept: its reach is added, renewed, and it is listed.
-pub keeps_view : (k : ℕ) (v : View) (s added renewed later : Scheduler) → AddsReach s.ahead added.ahead v.reach → added ≡ record s { ahead = added.ahead; added = added.added } → Renews k v.reach added renewed → Lists k v.on renewed later → Keeps k v s later
-keeps_view k v s added renewed later adds same r l = record {
-  same = record {
-    round = ap (λ (x : Scheduler). x.round) l.rest ∙ ap (λ (x : Scheduler). x.round) r.rest ∙ ap (λ (x : Scheduler). x.round) same;
-    exact = ap (λ (x : Scheduler). x.exact) l.rest ∙ ap (λ (x : Scheduler). x.exact) r.rest ∙ ap (λ (x : Scheduler). x.exact) same;
-    reaches = ap (λ (x : Scheduler). length x.reaches.items) l.rest ∙ ap length r.reaches ∙ length-set added.reaches.items k (Some v.reach) ∙ ap (λ (x : Scheduler). length x.reaches.items) same;
-    again = l.many_again ∙ r.many_again ∙ ap (λ (x : Scheduler). length x.again.items) same;
-    resting = l.many_resting ∙ r.many_resting ∙ ap (λ (x : Scheduler). length x.resting.items) same;
-  };
-  index = subst (λ a. AddsReach s.ahead a v.reach) (sym (ap (λ (x : Scheduler). x.ahead) l.rest ∙ ap (λ (x : Scheduler). x.ahead) r.rest)) adds;
-  reaches = ap (λ (x : Scheduler). x.reaches.items) l.rest ∙ r.reaches ∙ ap (λ (x : Scheduler). set x.reaches.items k (Some v.reach)) same;
-  still = λ j ne e. l.still j ne (r.still j (ap (λ (x : Scheduler). slice_get x.again.items j) same ∙ e));
-  listed = λ i j ne e. l.listed i j (record {
-    list = e.list;
-    at = ap (option_map (λ (v : Listed). v.items)) (r.others i ne ∙ ap (λ (x : Scheduler). slice_get x.resting.items i) same) ∙ e.at;
-    has_it = e.has_it;
-  });
-  woken = λ j ne lt e. woken j ne (r.woken j (record { list = e.list; at = ap (λ (x : Scheduler). option_map (λ (v : Listed). v.items) (slice_get x.resting.items k)) same ∙ e.at; has_it = e.has_it }) (subst (λ n. j < n) (sym (ap (λ (x : Scheduler). length x.again.items) same)) lt));
-  rests = rests l.rests;
-}
-  where
-    woken : (j : ℕ) → j ≢ k → IsAgain renewed j ⊎ (HasReach added k v.reach × IsListed renewed k j) → IsAgain later j ⊎ (HasReach s k v.reach × IsListed later k j)
-    woken j ne (inl e) = inl (l.still j ne e)
-    woken j ne (inr p) = inr (ap (λ (x : Scheduler). slice_get x.reaches.items k) (sym same) ∙ p.0, l.listed k j p.1)
-
-    rests : (IsAgain renewed k → IsAgain later k) ⊎ ((i : ℕ) × (v.on ≡ Some i) × IsListed later i k) → (IsAgain s k → IsAgain later k) ⊎ ((i : ℕ) × (v.on ≡ Some i) × IsListed later i k)
-    rests (inl f) = inl (λ e. f (r.still k (ap (λ (x : Scheduler). slice_get x.again.items k) same ∙ e)))
-    rests (inr p) = inr p

@@ -1,5 +1,5 @@
 -- The reach of an earlier place writes nothing that a place makes.
-use Rattle.std.specs.Prelude.{◌≡◌, ℕ, ℤ, pos, negsuc, zero, suc, Bool, true, false, cond, not, ◌||◌, ◌+◌, ◌<◌, ◌≤◌, ltb, leb, length, T, List, [], ◌∷◌, ◌++◌, map, Option, Some, None, refl}
+use Rattle.std.specs.Prelude.{◌≡◌, ℕ, suc, Bool, true, false, cond, not, ◌||◌, ◌+◌, ◌<◌, ◌≤◌, ltb, leb, length, T, List, [], ◌∷◌, ◌++◌, map, Option, Some, None, refl}
 use Rattle.std.proofs.Common.{◌⊎◌, inl, inr}
 use Rattle.std.proofs.lemmas.Bool.{cases_Bool}
 use mathlib.Core.Path.{sym, subst}
@@ -8,13 +8,13 @@ use lib.Dec.{ltb→lt, lt→ltb, eqb→eq}
 use Rattle.trace_format.specs.declared.trace.Trace.{Trace}
 use Rattle.sqe_codec.specs.Answers.{each}
 use Rattle.chain_plan.specs.Chain.{role}
-use Rattle.entry_checks.specs.Operation.{Operation, File, Span, file_limit}
+use Rattle.entry_checks.specs.Operation.{Operation, File, Span, file_limit, in_slot, at_descriptor}
 use Rattle.world_parts.specs.World.{World}
 use Rattle.world_parts.specs.Items.{Atom, chain_flag, ring_order, slot_at, descriptor_at, description_at, position_of, size_of, byte_at, name_at, names_in, buffer_byte, Item, one, file_bytes, buffer_bytes, all_names, all_bytes_and_sizes, all_positions, all_descriptions, all_descriptors, member_of, Use, reads, writes, Footprint, has_atom}
 use Rattle.world_parts.proofs.Collision.{left, true_of, writes-has, same_atom-eq}
 use Rattle.world_parts.proofs.Sharing.{holds_true}
 use Rattle.op_meaning.specs.Meaning.{made_node, made_description, slot_count, span_start, lowest_free}
-use Rattle.op_meaning.specs.Footprint.{Shape, idle, looking, moving, allocating, resizing, closing, opening, making, freeing, linking, renaming, shape, use_of, held_item, file_reads, span_use, description_made, close_row, room_uses, ring_at}
+use Rattle.op_meaning.specs.Footprint.{Shape, idle, looking, moving, allocating, resizing, closing, opening, making, freeing, linking, renaming, shape, use_of, held_item, file_reads, span_use, description_made, room_uses, ring_at}
 use Rattle.op_meaning.specs.Step.{Turn, filled, refused, canceled, runs}
 use Rattle.foot_print.specs.Reach.{shape_makes, room_asked, room_at, unresolved_shape, written_by, is_met, node_made, makes, all_files, any_name, unresolved_file, unresolved_row, unresolved_of, extras_of, task, look_of, order_of, running_row, accepted_row, wide_row, is_taken_to_run, reach}
 use Rattle.foot_print.specs.Replayed.{is_earlier, Known}
@@ -94,10 +94,9 @@ module _ (t : Trace) where
     of_made_file (byte_at j p) h = subst (λ n. T (ltb n (made_node t (suc k)))) (eqb→eq (made_node t k) j (left _ _ h)) node_here
     of_made_file _ h = absurd h
 
-    held : (v : Bool) (r : ℕ) (b : Bool) (n : ℤ) → Bound (map (use_of v) (held_item t r b n))
-    held v r true (pos n) = elim (ltb n (slot_count t r)) as (λ c. Bound (map (use_of v) (cond c (one (slot_at r n) ∷ []) []))) [ true ↦ atom (slot_at r n) v tt | false ↦ nothing ]
-    held v r false (pos n) = elim (ltb n (length t.descriptors)) as (λ c. Bound (map (use_of v) (cond c (one (descriptor_at n) ∷ []) []))) [ true ↦ atom (descriptor_at n) v tt | false ↦ nothing ]
-    held v r b (negsuc n) = nothing
+    held : (v : Bool) (r : ℕ) (f : File) → Bound (map (use_of v) (held_item t r f))
+    held v r (in_slot n) = elim (ltb n (slot_count t r)) as (λ c. Bound (map (use_of v) (cond c (one (slot_at r n) ∷ []) []))) [ true ↦ atom (slot_at r n) v tt | false ↦ nothing ]
+    held v r (at_descriptor n) = elim (ltb n (length t.descriptors)) as (λ c. Bound (map (use_of v) (cond c (one (descriptor_at n) ∷ []) []))) [ true ↦ atom (descriptor_at n) v tt | false ↦ nothing ]
 
     order : Bound (order_of t k)
     order = all (use_of (role t k).barrier (one (ring_order (ring_at t k))) ∷ []) _ (atom (ring_order (ring_at t k)) (role t k).barrier tt)
@@ -112,15 +111,15 @@ module _ (t : Trace) where
         (atom (position_of (made_description t k)) true description_here))))
 
     makes_bound : (x : Shape) → Bound (shape_makes t k x)
-    makes_bound (opening p g index) = made
+    makes_bound (opening p g asked) = made
     makes_bound (making p) = made
     makes_bound _ = nothing
 
-    room_bound : (s : World) (r : ℕ) (earlier : List Footprint) (x : Option ℕ) → Bound (each (room_at t s r (written_by earlier)) x)
+    room_bound : (s : World) (r : ℕ) (earlier : List Footprint) (x : Option (Option ℕ)) → Bound (each (room_at t s r (written_by earlier)) x)
     room_bound s r earlier None = nothing
-    room_bound s r earlier (Some (suc n)) = held true r true (pos n)
-    room_bound s r earlier (Some zero) =
-        elim (written_by earlier all_descriptors) as (λ b. Bound (cond b (writes all_descriptors ∷ []) (room_uses t s r zero))) [
+    room_bound s r earlier (Some (Some n)) = held true r (in_slot n)
+    room_bound s r earlier (Some None) =
+        elim (written_by earlier all_descriptors) as (λ b. Bound (cond b (writes all_descriptors ∷ []) (room_uses t s r None))) [
           | true ↦ item all_descriptors true of_descriptors
           | false ↦ all (reads all_descriptors ∷ []) _ (item all_descriptors false of_descriptors) (at (lowest_free t s))
         ]
@@ -137,26 +136,22 @@ module _ (t : Trace) where
         at (Some p) = item (buffer_bytes r x.index p (p + x.length)) v (of_buffer r x.index p (p + x.length))
 
     file_bound : (r : ℕ) (f : File) → Bound (unresolved_file t k r f)
-    file_bound r f = all (file_reads t r f) (all_files t k) (held false r f.registered f.number)
+    file_bound r f = all (file_reads t r f) (all_files t k) (held false r f)
         (all (writes (all_bytes_and_sizes (made_node t k)) ∷ []) _ (item _ true of_files)
         (all (writes (all_positions (made_description t k)) ∷ []) _ (item _ true of_positions) (item _ false of_descriptions)))
-
-    close_bound : (r : ℕ) (number : ℤ) (index : ℕ) → Bound (close_row t r number index)
-    close_bound r number zero = held true r false number
-    close_bound r number (suc n) = held true r true (pos n)
 
     names_bound : Bound (any_name t k)
     names_bound = item _ true of_names
 
     shape_bound : (r : ℕ) (x : Shape) → Bound (unresolved_shape t k r x)
     shape_bound r idle = nothing
-    shape_bound r (looking f) = held false r f.registered f.number
+    shape_bound r (looking f) = held false r f
     shape_bound r (moving w f o n None) = file_bound r f
     shape_bound r (moving w f o n (Some x)) = all (unresolved_file t k r f) _ (file_bound r f) (span_bound (not w) r x)
     shape_bound r (allocating f o n mode) = file_bound r f
     shape_bound r (resizing f n) = file_bound r f
-    shape_bound r (closing number index) = close_bound r number index
-    shape_bound r (opening p g index) = all (any_name t k) _ names_bound
+    shape_bound r (closing f) = held true r f
+    shape_bound r (opening p g asked) = all (any_name t k) _ names_bound
         (elim g.truncate as (λ b. Bound (cond b (writes (all_bytes_and_sizes (made_node t k)) ∷ []) [])) [ true ↦ item _ true of_files | false ↦ nothing ])
     shape_bound r (making p) = names_bound
     shape_bound r (freeing p removes) = names_bound
@@ -237,7 +232,7 @@ module _ (t : Trace) where
         || (own_one (position_of (made_description t k)) (below_itself (made_description t k)) j || false))))
 
     makes_unmet : (x : Shape) → is_met (shape_makes t k x) (reach t i s earlier ∷ []) ≡ false
-    makes_unmet (opening p g index) = own_unmet
+    makes_unmet (opening p g asked) = own_unmet
     makes_unmet (making p) = own_unmet
     makes_unmet _ = refl
 

@@ -2,11 +2,11 @@
 use Rattle.std.specs.Prelude.{◌≡◌, ◌≢◌, ℕ, suc, ◌<◌, ◌≤◌, Bool, true, false, List, [], ◌∷◌, ◌++◌, map, take, length, slice_get, Option, Some, refl, if◌then◌else◌}
 use Rattle.std.proofs.Common.{◌⊎◌, inl, inr, sym, ap, subst, ◌∙◌, arith}
 use Rattle.std.proofs.lemmas.Bool.{cases_eq, cases_Bool, false_from_ne_true}
-use Rattle.std.proofs.lemmas.List.{map-append}
+use Rattle.std.proofs.lemmas.List.{map-append, append-nil}
 use Rattle.interleaving.specs.System.{is_clear}
 use Rattle.interleaving.specs.Machine.{has}
 use Rattle.interleaving.specs.Rounds.{pending}
-use Rattle.interleaving.proofs.Members.{has-pending, has-take}
+use Rattle.interleaving.proofs.Members.{has-pending, has-take, has-front, has-middle, has-snoc}
 use Rattle.interleaving.proofs.Skipping.{clear-of}
 use Rattle.trace_format.specs.declared.trace.Trace.{Trace}
 use Rattle.trace_format.specs.Steps.{places}
@@ -21,11 +21,12 @@ use Rattle.wave_pick.specs.Scheduling.{AddsReach, AreBefore, AreFirst, Covers, H
 use Rattle.wave_pick.specs.Holds.{HoldsBack, Waits, world_after, footprint_after, reaches_after, reach_after}
 use Rattle.wave_pick.specs.declared.scheduler.Scheduler.{Scheduler}
 use Rattle.wave_pick.specs.declared.scheduler.View.{View}
-use Rattle.wave_pick.proofs.Knowing.{covers_still, index_covers, index_grew, set_apart, set_there}
-use Rattle.wave_pick.proofs.Looked.{append_nothing, free_more, pending_reaches, take_pending}
+use Rattle.wave_pick.proofs.Knowing.{covers_still, index_covers, index_grew}
+use Rattle.wave_pick.proofs.Looked.{free_more, pending_reaches, take_pending}
 use Rattle.wave_pick.proofs.Resting.{rests_on_stays}
 use Rattle.wave_pick.proofs.Seeing.{has-got}
-use Rattle.wave_pick.proofs.Within.{before_pending, has_before, has_last, has_more, pending_has}
+use Rattle.wave_pick.proofs.Within.{before_pending, pending_has}
+use Rattle.wave_pick.proofs.Lists.{set-here, set-other}
 
 -- A place that waits from one round to the next with the same reach.
 stays_so : (t : Trace) (window p k : ℕ) → Waits t window (suc p) k → reach_after t window (suc p) k ≡ reach_after t window p k → StaysAsIs t window p (suc p) k
@@ -142,8 +143,8 @@ module _ (t : Trace) (spelled : IsSpelled t) (window : ℕ) (w : World) (q : ℕ
 
     later_than : (j : ℕ) → has (take x first ++ k ∷ []) j ≡ false → (has (take x first) j ≡ false) × (j ≢ k)
     later_than j none = (
-      false_from_ne_true _ (λ h. not_both (has_before j (take x first) (k ∷ []) h) none),
-      λ e. not_both (ap (λ i. has (take x first ++ i ∷ []) j) (sym e) ∙ has_last j (take x first)) none,
+      false_from_ne_true _ (λ h. not_both (has-front (take x first) (k ∷ []) j h) none),
+      λ e. not_both (ap (λ i. has (take x first ++ i ∷ []) j) (sym e) ∙ has-middle (take x first) j []) none,
     )
 
     -- A look at it, which is kept.
@@ -152,10 +153,10 @@ module _ (t : Trace) (spelled : IsSpelled t) (window : ℕ) (w : World) (q : ℕ
       in_room = let many = room.reaches in let low = is_place in omega (arith, many, low)
 
       reach_there : slice_get later.reaches.items k ≡ Some (Some v.reach)
-      reach_there = ap (λ xs. slice_get xs k) keeps.reaches ∙ set_there s.reaches.items k (Some v.reach) in_room
+      reach_there = ap (λ xs. slice_get xs k) keeps.reaches ∙ set-here s.reaches.items k (Some v.reach) in_room
 
       reach_apart : (j : ℕ) → j ≢ k → slice_get later.reaches.items j ≡ slice_get s.reaches.items j
-      reach_apart j ne = ap (λ xs. slice_get xs j) keeps.reaches ∙ set_apart s.reaches.items k j (Some v.reach) ne
+      reach_apart j ne = ap (λ xs. slice_get xs j) keeps.reaches ∙ set-other s.reaches.items k j (Some v.reach) ne
 
       known_now : IsKnown t window q k later
       known_now = record { reach = reach_there ∙ ap (λ f. Some (Some f)) view.reach; rests = go keeps.rests }
@@ -220,20 +221,17 @@ module _ (t : Trace) (spelled : IsSpelled t) (window : ℕ) (w : World) (q : ℕ
       pub look_step : HaveSeen t window q (take x first ++ k ∷ []) later (if v.free then free ++ k ∷ [] else free)
       look_step = record {
         index = subst (IsIndex later) (ap (λ f. map reach_of (take x first) ++ f ∷ []) view.reach ∙ sym (map-append reach_of (take x first) (k ∷ []))) (index_grew s later keeps.same.exact (map reach_of (take x first)) h.index v.reach keeps.index);
-        seen = λ j e. known j (has_more j (take x first) k e);
+        seen = λ j e. known j (has-snoc (take x first) k j e);
         others = λ j low waits none. let l = later_than j none in others j l.1 low (h.others j low waits l.0);
         free_are = one_more v.free ∙ more_free free v.free view.free h.free_are;
       }
         where
           one_more : (b : Bool) → (if b then free ++ k ∷ [] else free) ≡ free ++ (if b then k ∷ [] else [])
           one_more true = refl
-          one_more false = sym (append_nothing free)
+          one_more false = sym (append-nil free)
 
     -- It rests, and is passed over.
     module _ (s : Scheduler) (free : List ℕ) (h : HaveSeen t window q (take x first) s free) (calm : slice_get s.again.items k ≡ Some false) where
-      not_again : IsAgain s k → slice_get s.again.items k ≡ Some true
-      not_again e = e
-
       rests_still : RestsStill t window q k s.exact s
       rests_still = go (h.others k is_place waits_there not_earlier)
         where
@@ -320,7 +318,7 @@ module _ (t : Trace) (spelled : IsSpelled t) (window : ℕ) (w : World) (q : ℕ
         pub pass_step : HaveSeen t window q (take x first ++ k ∷ []) later free
         pass_step = record {
           index = subst (IsIndex later) (sym (map-append reach_of (take x first) (k ∷ []))) (index (cases_Bool s.exact));
-          seen = λ j e. known_then j (has_more j (take x first) k e);
+          seen = λ j e. known_then j (has-snoc (take x first) k j e);
           others = λ j low waits none. others_then j (h.others j low waits (later_than j none).0);
-          free_are = sym (append_nothing free) ∙ more_free free false held h.free_are;
+          free_are = sym (append-nil free) ∙ more_free free false held h.free_are;
         }

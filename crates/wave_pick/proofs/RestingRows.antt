@@ -1,5 +1,5 @@
 -- What a place keeps that rests on one whose reach writes for all: whether it may run, whether a descriptor is written, and its rows.
-use Rattle.std.proofs.Common.{◌≡◌, ℕ, zero, suc, ◌<◌, ◌≤◌, Bool, true, false, if◌then◌else◌, List, [], ◌∷◌, ◌++◌, inl, inr, refl, sym, ap, subst, ◌∙◌, arith}
+use Rattle.std.proofs.Common.{◌≡◌, ℕ, suc, ◌<◌, ◌≤◌, Bool, true, false, if◌then◌else◌, List, [], ◌∷◌, ◌++◌, inl, inr, refl, sym, ap, subst, ◌∙◌, arith}
 use Rattle.std.specs.Prelude.{T, ◌&&◌, leb, Option, Some, None}
 use Rattle.std.proofs.lemmas.Bool.{cases_Bool}
 use Rattle.trace_format.specs.declared.trace.Trace.{Trace}
@@ -13,7 +13,7 @@ use Rattle.world_parts.proofs.Collision.{true_of, same_atom-eq, first_writes-col
 use Rattle.world_parts.proofs.Sharing.{holds_true}
 use Rattle.op_meaning.specs.Step.{Turn, filled, refused, canceled, runs, turn}
 use Rattle.foot_print.specs.Outlook.{takes_lowest, turn_takes_lowest}
-use Rattle.foot_print.specs.Reach.{written_by, makes, room_taken, task, is_canceled, is_taken_to_run, extras_of, unresolved_of, order_of}
+use Rattle.foot_print.specs.Reach.{written_by, makes, room_taken, task, is_canceled, is_taken_to_run, extras_of, order_of}
 use Rattle.foot_print.specs.Replayed.{replayed}
 use Rattle.foot_print.proofs.Agreement.{in_left}
 use Rattle.foot_print.proofs.Holding.{drop_false}
@@ -27,7 +27,7 @@ use Rattle.wave_pick.proofs.Orders.{writes_chain}
 use Rattle.wave_pick.proofs.Resting.{written_before, stays_before, same_reach}
 use Rattle.wave_pick.proofs.Staying.{waited, keeps_round}
 use Rattle.wave_pick.proofs.Waiting.{until, turn_stays, look_next}
-use Rattle.wave_pick.proofs.Wide.{wide_stays}
+use Rattle.wave_pick.proofs.Wide.{wide_stays, unresolved_in_world}
 use Rattle.wave_pick.proofs.Witness.{row_witness_holds}
 
 runs_unless : (b : Bool) → (if b then false else true) ≡ true → b ≡ false
@@ -67,16 +67,9 @@ same_extras t k s u earlier later (Some (canceled p)) e = refl
 same_extras t k s u earlier later (Some (runs r x o)) e = ap (λ f. makes t k o ++ f) (room o e)
   where
     room : (o : Operation) → takes_lowest o ≡ false → room_taken t u r later o ≡ room_taken t s r earlier o
-    room (openat p g zero) h = absurd (cc h)
-    room (openat p g (suc n)) h = refl
+    room (openat p g None) h = absurd (cc h)
+    room (openat p g (Some n)) h = refl
     room _ h = refl
-
-same_unresolved : (t : Trace) (k : ℕ) (s u : World) (x : Option Turn) → unresolved_of t k u x ≡ unresolved_of t k s x
-same_unresolved t k s u None = refl
-same_unresolved t k s u (Some (filled r b at new)) = refl
-same_unresolved t k s u (Some (refused x p)) = refl
-same_unresolved t k s u (Some (canceled p)) = refl
-same_unresolved t k s u (Some (runs r x o)) = refl
 
 module _ (t : Trace) (spelled : IsSpelled t) (window : ℕ) where
   -- Where no reach before a place writes a descriptor, none does while it waits.
@@ -139,7 +132,7 @@ module _ (t : Trace) (spelled : IsSpelled t) (window : ℕ) where
       pub rows_next : ReachRowsStay t window p k
       rows_next = elim h.descriptors [
         | inl e ↦ record {
-          wide = λ j. order_of t k ++ (same_unresolved t k s u (task t k) j ++ extras_next e j);
+          wide = λ j. order_of t k ++ (unresolved_in_world t k s u (task t k) j ++ extras_next e j);
           accepted = λ d j. order_of t k ++ ((look_next t spelled window p k waits (record { may_run = run; unmet = d }) j).items ++ extras_next e j);
         }
         | inr d ↦ wide_stays t spelled window p k waits run (elim d [

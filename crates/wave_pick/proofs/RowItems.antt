@@ -1,5 +1,5 @@
 -- With the same look, the rows of a place in two worlds have the same items, but for what it makes.
-use Rattle.std.specs.Prelude.{◌≡◌, ℕ, zero, suc, Bool, true, false, cond, not, ◌+◌, T, List, [], ◌∷◌, ◌++◌, Option, Some, None, Result, Ok, Err, is_ok, refl}
+use Rattle.std.specs.Prelude.{◌≡◌, ℕ, Bool, true, false, cond, not, ◌+◌, T, List, [], ◌∷◌, ◌++◌, Option, Some, None, Result, Ok, Err, is_ok, refl}
 use Rattle.std.proofs.Common.{◌⊎◌, inl, inr}
 use mathlib.Core.Path.{sym, subst, ap}
 use Rattle.sqe_codec.specs.declared.errno.Errno.{Errno}
@@ -46,7 +46,7 @@ has_nothing f = record { has = λ a h. absurd h }
 
 module _ (t : Trace) (k r : ℕ) (s : World) where
   has_on_file : (f : File) (c d : ℕ → Handle → Footprint) → ((i : ℕ) (h : Handle) → Has (c i h) (d i h)) → Has (on_file t s r f c) (on_file t s r f d)
-  has_on_file f c d x = has_both (file_reads t r f) _ (file_reads t r f) _ (has_self (file_reads t r f)) (at (held t s r f.registered f.number))
+  has_on_file f c d x = has_both (file_reads t r f) _ (file_reads t r f) _ (has_self (file_reads t r f)) (at (held t s r f))
     where
       of_handle : (o : Option Handle) → Has (each (of_file c) o) (each (of_file d) o)
       of_handle None = has_nothing []
@@ -77,18 +77,18 @@ module _ (t : Trace) (k r : ℕ) (s : World) where
   allocation_has b i at end (Some zero_within) = has_self _
   allocation_has b i at end None = has_self _
 
-  room_has : (index : ℕ) → Has (room_uses t s r index) (room_at t s r (written_by []) index)
-  room_has zero = has_self (room_uses t s r zero)
-  room_has (suc n) = has_self (room_uses t s r (suc n))
+  room_has : (asked : Option ℕ) → Has (room_uses t s r asked) (room_at t s r (written_by []) asked)
+  room_has None = has_self (room_uses t s r None)
+  room_has (Some n) = has_self (room_uses t s r (Some n))
 
-  open_has : (b : Bool) (p : Path) (g : OpenFlags) (index : ℕ) → Has (shape_row t k r s (tried b) (opening p g index)) (shape_items (opening p g index))
-  open_has b p g index =
-      has_all whole (shape_row t k r s foreseen (opening p g index)) _
-      (has_all whole ((path_reads s p ++ []) ++ []) _ (has_all whole (path_reads s p ++ []) [] (has_all whole (path_reads s p) [] (has_first _ _ _ (has_first _ _ _ (has_first (path_reads s p) _ _ (has_self (path_reads s p))))) (has_nothing whole)) (has_nothing whole)) (has_second (path_reads s p ++ room_uses t s r index ++ made_where (tried b) (description_made t k)) _ _ (at (walk s.nodes p))))
-      (has_first _ _ _ (has_first _ _ _ (has_second (path_reads s p) _ _ (room_has index))))
+  open_has : (b : Bool) (p : Path) (g : OpenFlags) (asked : Option ℕ) → Has (shape_row t k r s (tried b) (opening p g asked)) (shape_items (opening p g asked))
+  open_has b p g asked =
+      has_all whole (shape_row t k r s foreseen (opening p g asked)) _
+      (has_all whole ((path_reads s p ++ []) ++ []) _ (has_all whole (path_reads s p ++ []) [] (has_all whole (path_reads s p) [] (has_first _ _ _ (has_first _ _ _ (has_first (path_reads s p) _ _ (has_self (path_reads s p))))) (has_nothing whole)) (has_nothing whole)) (has_second (path_reads s p ++ room_uses t s r asked ++ made_where (tried b) (description_made t k)) _ _ (at (walk s.nodes p))))
+      (has_first _ _ _ (has_first _ _ _ (has_second (path_reads s p) _ _ (room_has asked))))
     where
       whole : Footprint
-      whole = shape_row t k r s (tried b) (opening p g index)
+      whole = shape_row t k r s (tried b) (opening p g asked)
 
       placed : (q : Place) (y : Option Target) → Has (open_uses t k (tried b) g q y) (open_uses t k foreseen g q y)
       placed q None = elim g.create as (λ c. Has (cond c (name_written q ++ made_where (tried b) (writes (one (size_of (made_node t k))) ∷ [])) []) (cond c (name_written q ++ []) [])) [ true ↦ has_first (name_written q) _ _ (has_self (name_written q)) | false ↦ has_nothing [] ]
@@ -116,8 +116,8 @@ module _ (t : Trace) (k r : ℕ) (s : World) where
   shape_has b (moving w f o n (Some x)) = only (moving w f o n (Some x)) _ (has_both _ (span_use (not w) t r x) _ (span_use (not w) t r x) (moved_has b w f o n) (has_self _))
   shape_has b (allocating f o n mode) = only (allocating f o n mode) _ (has_on_file f _ _ (λ i h. allocation_has (would_extend s i (o + n)) i o (o + n) (allocation mode)))
   shape_has b (resizing f n) = only (resizing f n) _ (has_self _)
-  shape_has b (closing number index) = only (closing number index) _ (has_self _)
-  shape_has b (opening p g index) = open_has b p g index
+  shape_has b (closing f) = only (closing f) _ (has_self _)
+  shape_has b (opening p g asked) = open_has b p g asked
   shape_has b (making p) = only (making p) _ (mkdir_has b p)
   shape_has b (freeing p removes) = only (freeing p removes) _ (has_self _)
   shape_has b (linking old new) = only (linking old new) _ (has_self _)
@@ -143,10 +143,10 @@ module _ (t : Trace) (k : ℕ) (s u : World) where
   ]
 
   -- The room of openat has all descriptors in both worlds.
-  rooms : (r : ℕ) (x : Option ℕ) → Has (each (room_at t u r (written_by [])) x) (each (room_at t s r (written_by [])) x)
+  rooms : (r : ℕ) (x : Option (Option ℕ)) → Has (each (room_at t u r (written_by [])) x) (each (room_at t s r (written_by [])) x)
   rooms r None = has_nothing []
-  rooms r (Some zero) = record { has = λ a h. either_left (member_of all_descriptors a) _ (any_room (lowest_free t s) a h) }
-  rooms r (Some (suc n)) = has_self (room_uses t s r (suc n))
+  rooms r (Some None) = record { has = λ a h. either_left (member_of all_descriptors a) _ (any_room (lowest_free t s) a h) }
+  rooms r (Some (Some n)) = has_self (room_uses t s r (Some n))
 
   operation_items : (r : ℕ) (o : Operation) → taken t k r u o ≡ taken t k r s o → Has (makes t k o ++ row_in t k r u o) (row_in t k r s o)
   operation_items r o same = record { has = at }

@@ -1,5 +1,5 @@
 -- The wide row of a waiting place, and its row as accepted, stay from round to round.
-use Rattle.std.specs.Prelude.{◌≡◌, ℕ, zero, suc, Bool, true, false, T, List, [], ◌∷◌, ◌++◌, Option, Some, None, refl, if◌then◌else◌}
+use Rattle.std.specs.Prelude.{◌≡◌, ℕ, suc, Bool, true, false, T, List, [], ◌∷◌, ◌++◌, Option, Some, None, refl, if◌then◌else◌}
 use mathlib.Core.Path.{sym, ap, ◌∙◌}
 use Rattle.std.proofs.lemmas.Bool.{cases_Bool}
 use Rattle.std.proofs.Common.{◌⊎◌, inl, inr}
@@ -14,7 +14,7 @@ use Rattle.world_parts.proofs.Collision.{true_of}
 use Rattle.world_parts.proofs.Sharing.{holds_true}
 use Rattle.op_meaning.specs.Footprint.{room_uses}
 use Rattle.op_meaning.specs.Step.{Turn, filled, refused, canceled, runs}
-use Rattle.foot_print.specs.Reach.{written_by, is_met, makes, room_taken, task, look_of, extras_of, unresolved_of, order_of, running_row, accepted_row, wide_row, reach}
+use Rattle.foot_print.specs.Reach.{written_by, is_met, makes, room_taken, task, look_of, extras_of, unresolved_of, order_of, running_row, accepted_row, wide_row}
 use Rattle.foot_print.specs.Replayed.{replayed}
 use Rattle.foot_print.proofs.Agreement.{in_right}
 use Rattle.foot_print.proofs.Cover.{all_covered}
@@ -37,8 +37,8 @@ module _ (t : Trace) (k : ℕ) where
   extras_by_writing s earlier others same (Some (runs r e o)) = ap (λ f. makes t k o ++ f) (room o)
     where
       room : (o : Operation) → room_taken t s r earlier o ≡ room_taken t s r others o
-      room (openat p g zero) = ap (λ b. if b then writes all_descriptors ∷ [] else room_uses t s r zero) same
-      room (openat p g (suc n)) = refl
+      room (openat p g None) = ap (λ b. if b then writes all_descriptors ∷ [] else room_uses t s r None) same
+      room (openat p g (Some n)) = refl
       room _ = refl
 
   extras_in_world : (s u : World) (earlier : List Footprint) (x : Option Turn) → ((a : Atom) → NoneWrites (replayed t) earlier a → has_atom (extras_of t k s earlier x) a ≡ true → value s a ≡ value u a)
@@ -49,17 +49,17 @@ module _ (t : Trace) (k : ℕ) where
   extras_in_world s u earlier (Some (canceled p)) same = refl
   extras_in_world s u earlier (Some (runs r e o)) same = ap (λ f. makes t k o ++ f) (room o same)
     where
-      descriptors_there : (b : Bool) (n : ℕ) → T (has_atom (if b then writes all_descriptors ∷ [] else room_uses t s r zero) (descriptor_at n))
+      descriptors_there : (b : Bool) (n : ℕ) → T (has_atom (if b then writes all_descriptors ∷ [] else room_uses t s r None) (descriptor_at n))
       descriptors_there true n = tt
       descriptors_there false n = tt
 
       room : (o : Operation) → ((a : Atom) → NoneWrites (replayed t) earlier a → has_atom (makes t k o ++ room_taken t s r earlier o) a ≡ true → value s a ≡ value u a) → room_taken t u r earlier o ≡ room_taken t s r earlier o
-      room (openat p g zero) h = room_same t r s u earlier (openat p g zero) (λ e n. h (descriptor_at n) (unwritten t earlier all_descriptors (descriptor_at n) e tt)
-          (true_of _ (in_right (λ (v : Use). member_of v.item (descriptor_at n)) (makes t k (openat p g zero)) (room_taken t s r earlier (openat p g zero)) (descriptors_there (written_by earlier all_descriptors) n))))
-      room (openat p g (suc n)) h = refl
+      room (openat p g None) h = room_same t r s u earlier (openat p g None) (λ e n. h (descriptor_at n) (unwritten t earlier all_descriptors (descriptor_at n) e tt)
+          (true_of _ (in_right (λ (v : Use). member_of v.item (descriptor_at n)) (makes t k (openat p g None)) (room_taken t s r earlier (openat p g None)) (descriptors_there (written_by earlier all_descriptors) n))))
+      room (openat p g (Some n)) h = refl
       room _ h = refl
 
-  unresolved_in_world : (s u : World) (x : Option Turn) → unresolved_of t k u x ≡ unresolved_of t k s x
+  pub unresolved_in_world : (s u : World) (x : Option Turn) → unresolved_of t k u x ≡ unresolved_of t k s x
   unresolved_in_world s u None = refl
   unresolved_in_world s u (Some (filled r b at new)) = refl
   unresolved_in_world s u (Some (refused e p)) = refl

@@ -5,32 +5,10 @@ use Rattle.std.proofs.Common.{◌⊎◌, inl, inr, sym, ap, subst, ◌∙◌, ar
 use Rattle.std.proofs.lemmas.Bool.{cases_eq, cases_Bool}
 use Rattle.interleaving.specs.Machine.{has}
 use Rattle.interleaving.specs.Rounds.{pending}
-use Rattle.interleaving.proofs.Members.{has-here, has-later, has-cases, has-take, has-pending, pending-in, pending-out}
+use Rattle.interleaving.proofs.Members.{has-here, has-later, has-cases, has-take, has-pending, pending-in, pending-out, has-front, has-middle}
 
 -- One element more.
 module _ (k : ℕ) where
-  pub has_before : (xs ys : List ℕ) → has xs k ≡ true → has (xs ++ ys) k ≡ true
-  has_before [] ys h = (cc)
-  has_before (x ∷ xs) ys h = elim (has-cases k x xs h) [
-    | inl e ↦ ap (λ j. has (j ∷ xs ++ ys) k) (sym e) ∙ has-here k (xs ++ ys)
-    | inr later ↦ has-later k x (xs ++ ys) (has_before xs ys later)
-  ]
-
-  pub has_last : (xs : List ℕ) → has (xs ++ k ∷ []) k ≡ true
-  has_last [] = has-here k []
-  has_last (x ∷ xs) = has-later k x (xs ++ k ∷ []) (has_last xs)
-
-  pub has_more : (xs : List ℕ) (y : ℕ) → has (xs ++ y ∷ []) k ≡ true → (has xs k ≡ true) ⊎ (k ≡ y)
-  has_more [] y h = elim (has-cases k y [] h) [ inl e ↦ inr e | inr none ↦ (cc) ]
-  has_more (x ∷ xs) y h = elim (has-cases k x (xs ++ y ∷ []) h) [
-    | inl e ↦ inl (ap (λ j. has (j ∷ xs) k) (sym e) ∙ has-here k xs)
-    | inr later ↦ further (has_more xs y later)
-  ]
-    where
-      further : (has xs k ≡ true) ⊎ (k ≡ y) → (has (x ∷ xs) k ≡ true) ⊎ (k ≡ y)
-      further (inl h) = inl (has-later k x xs h)
-      further (inr e) = inr e
-
   -- of those that are taken
   take_before : (w : ℕ) (xs ys : List ℕ) → has (take w xs) k ≡ true → has (take w (xs ++ ys)) k ≡ true
   take_before zero xs ys h = h
@@ -73,8 +51,8 @@ module _ (done : ℕ → Bool) (w k : ℕ) where
       go : (k < n → done k ≡ false → has (pending done n) k ≡ true) → (done n ≡ true) ⊎ (done n ≡ false) → (k ≡ n) ⊎ (k ≢ n) → has (pending done (suc n)) k ≡ true
       go before (inl d) (inl e) = let both : true ≡ false = sym d ∙ ap done (sym e) ∙ waits in (cc)
       go before (inl d) (inr ne) = ap (λ xs. has xs k) (pending-out done n d) ∙ before (omega (arith, ne, lt)) waits
-      go before (inr d) (inl e) = ap (λ xs. has xs k) (pending-in done n d ∙ ap (λ j. pending done n ++ j ∷ []) (sym e)) ∙ has_last k (pending done n)
-      go before (inr d) (inr ne) = ap (λ xs. has xs k) (pending-in done n d) ∙ has_before k (pending done n) (n ∷ []) (before (omega (arith, ne, lt)) waits)
+      go before (inr d) (inl e) = ap (λ xs. has xs k) (pending-in done n d ∙ ap (λ j. pending done n ++ j ∷ []) (sym e)) ∙ has-middle (pending done n) k []
+      go before (inr d) (inr ne) = ap (λ xs. has xs k) (pending-in done n d) ∙ has-front (pending done n) (n ∷ []) k (before (omega (arith, ne, lt)) waits)
 
   pub within_first : (n : ℕ) → k < n → done k ≡ false → length (pending done k) < w → has (take w (pending done n)) k ≡ true
   within_first zero lt waits few = absurd (omega arith)

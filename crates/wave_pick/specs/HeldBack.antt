@@ -1,5 +1,5 @@
 -- A view of code: the places that are held back, each with the one that holds it back, and how they are found one after another.
-use Rattle.std.specs.Prelude.{◌≡◌, ℕ, List, [], ◌∷◌, ◌++◌, map, take, find, reverse, Option, Some, None, if◌then◌else◌}
+use Rattle.std.specs.Prelude.{◌≡◌, ℕ, Bool, true, false, List, [], ◌∷◌, ◌++◌, map, take, find, reverse, Option, Some, None, if◌then◌else◌}
 use Rattle.std.specs.List.{filter_map}
 use Rattle.std.specs.Option.{option_map, option_and_then, option_to_list}
 use Rattle.interleaving.specs.Machine.{State, has}
@@ -15,6 +15,11 @@ use Rattle.foot_print.specs.Replayed.{replayed}
 use Rattle.wave_pick.specs.Holding.{Holder, shared_item, shared_of, holder_in}
 use Rattle.wave_pick.specs.declared.holding.Held.{Held}
 use Rattle.wave_pick.specs.declared.holding.Waiting.{Waiting}
+
+-- Whether an item is a single atom.
+abbrev pub is_single : items.Item → Bool
+is_single (items.one a) = true
+is_single x = false
 
 -- What two items share, if they share an atom.
 abbrev pub shared_if : items.Item → items.Item → Option items.Item

@@ -1,13 +1,12 @@
 //! What two footprints share.
-ghost use Rattle.std.specs.Prelude.{◌≡◌, IfOk, None, Some, map, if◌then◌else◌};
+ghost use Rattle.std.specs.Prelude.{◌≡◌, IfOk, false, map, true};
 ghost use Rattle.std.specs.Option.{option_map};
-ghost use Rattle.wave_pick.specs.HeldBack.{shared_if};
+ghost use Rattle.wave_pick.specs.HeldBack.{is_single, shared_if};
 ghost use Rattle.wave_pick.specs.Holding as model;
-ghost use Rattle.world_parts.specs.Items as items;
 ghost use Rattle.world_parts.specs.Uses.{item_meant, use_meant};
 
 use std::alloc::{AllocError, Global};
-use world_parts::{Footprint, Item, Use};
+use world_parts::{Footprint, Item, Use, share};
 
 /// What the first use of a footprint that collides with one of another shares with that one.
 ///
@@ -66,92 +65,96 @@ fn shared(alloc: Global, one: &Item, other: &Item) -> Result<Option<Item>, Alloc
     ensures { IfOk result (λ found. option_map item_meant found
         ≡ shared_if (item_meant one.now) (item_meant other.now)) }
 {
-    match (one, other) {
-        (Item::Chain(chain), Item::Chain(other)) => {
-            Ok((other == chain).then_some(Item::Chain(*chain)))
-        }
-        (Item::Ring(ring), Item::Ring(other)) => Ok((other == ring).then_some(Item::Ring(*ring))),
-        (Item::Slot(ring, slot), Item::Slot(other_ring, other)) => {
-            Ok((other_ring == ring && other == slot).then_some(Item::Slot(*ring, *slot)))
-        }
-        (Item::Descriptor(number), Item::Descriptor(other)) => {
-            Ok((other == number).then_some(Item::Descriptor(*number)))
-        }
-        (Item::Descriptor(number), Item::AllDescriptors)
-        | (Item::AllDescriptors, Item::Descriptor(number)) => Ok(Some(Item::Descriptor(*number))),
-        (Item::AllDescriptors, Item::AllDescriptors) => Ok(Some(Item::AllDescriptors)),
-        (Item::Description(number), Item::Description(other)) => {
-            Ok((other == number).then_some(Item::Description(*number)))
-        }
-        (Item::Description(number), Item::AllDescriptions(below))
-        | (Item::AllDescriptions(below), Item::Description(number)) => {
-            Ok((number < below).then_some(Item::Description(*number)))
-        }
-        (Item::AllDescriptions(below), Item::AllDescriptions(other)) => {
-            Ok((0 < *below.min(other)).then_some(Item::AllDescriptions(*below.min(other))))
-        }
-        (Item::Position(description), Item::Position(other)) => {
-            Ok((other == description).then_some(Item::Position(*description)))
-        }
-        (Item::Position(description), Item::AllPositions(below))
-        | (Item::AllPositions(below), Item::Position(description)) => {
-            Ok((description < below).then_some(Item::Position(*description)))
-        }
-        (Item::AllPositions(below), Item::AllPositions(other)) => {
-            Ok((0 < *below.min(other)).then_some(Item::AllPositions(*below.min(other))))
-        }
-        (Item::Size(node), Item::Size(other)) => Ok((other == node).then_some(Item::Size(*node))),
-        (Item::Size(node), Item::AllBytesAndSizes(below))
-        | (Item::AllBytesAndSizes(below), Item::Size(node)) => {
-            Ok((node < below).then_some(Item::Size(*node)))
-        }
-        (Item::Bytes(node, low, high), Item::AllBytesAndSizes(below))
-        | (Item::AllBytesAndSizes(below), Item::Bytes(node, low, high)) => {
-            Ok((node < below && low < high).then_some(Item::Bytes(*node, *low, *high)))
-        }
-        (Item::AllBytesAndSizes(below), Item::AllBytesAndSizes(other)) => {
-            Ok((0 < *below.min(other)).then_some(Item::AllBytesAndSizes(*below.min(other))))
-        }
-        (Item::Bytes(node, low, high), Item::Bytes(other, from, to)) => {
-            let low = *low.max(from);
-            let high = *high.min(to);
-            Ok((node == other && low < high).then_some(Item::Bytes(*node, low, high)))
-        }
-        (Item::Buffer(ring, index, low, high), Item::Buffer(other_ring, other, from, to)) => {
-            let low = *low.max(from);
-            let high = *high.min(to);
-            let here = ring == other_ring && index == other && low < high;
-            Ok(here.then_some(Item::Buffer(*ring, *index, low, high)))
-        }
-        (Item::Names(directory), Item::Names(other)) => {
-            Ok((other == directory).then_some(Item::Names(*directory)))
-        }
-        (Item::Names(directory), Item::AllNames(below))
-        | (Item::AllNames(below), Item::Names(directory)) => {
-            Ok((directory < below).then_some(Item::Names(*directory)))
-        }
-        (Item::AllNames(below), Item::AllNames(other)) => {
-            Ok((0 < *below.min(other)).then_some(Item::AllNames(*below.min(other))))
-        }
-        (Item::Name(directory, name), Item::Name(other_directory, other)) => {
-            let here = other_directory == directory && other.as_slice() == name.as_slice();
-            name_if(here, *directory, name)
-        }
-        (Item::Name(directory, name), Item::AllNames(below))
-        | (Item::AllNames(below), Item::Name(directory, name)) => {
-            name_if(directory < below, *directory, name)
-        }
-        _ => Ok(None),
+    if !share(one, other) {
+        return Ok(None);
+    }
+    Ok(Some(shared_item(alloc, one, other)?))
+}
+
+/// What two items share that share a part of a world: the single part that one of them is, or else
+/// what is in both.
+fn shared_item(alloc: Global, one: &Item, other: &Item) -> Result<Item, AllocError>
+    ensures { IfOk result (λ item. item_meant item
+        ≡ model.shared_item (item_meant one.now) (item_meant other.now)) }
+{
+    if is_single(one) {
+        copied(alloc, one)
+    } else if is_single(other) {
+        copied(alloc, other)
+    } else {
+        Ok(common(one, other))
     }
 }
 
-/// A name of a directory as an item, if it is to be one.
-fn name_if(wanted: bool, directory: u32, name: &Vec<u8>) -> Result<Option<Item>, AllocError>
-    ensures { IfOk result (λ found. option_map item_meant found
-        ≡ (if wanted then Some (items.one (items.name_at directory name.now.items)) else None)) }
+/// Whether an item is a single part of a world.
+fn is_single(item: &Item) -> bool
+    ensures { result ≡ is_single (item_meant item.now) }
 {
-    if !wanted {
-        return Ok(None);
+    match item {
+        Item::Chain(_)
+        | Item::Ring(_)
+        | Item::Slot(_, _)
+        | Item::Descriptor(_)
+        | Item::Description(_)
+        | Item::Position(_)
+        | Item::Size(_)
+        | Item::Name(_, _)
+        | Item::Names(_) => true,
+        _ => false,
     }
-    Ok(Some(Item::Name(directory, name.clone()?)))
+}
+
+/// The same single part once more.
+fn copied(alloc: Global, item: &Item) -> Result<Item, AllocError>
+    requires { is_single (item_meant item.now) ≡ true }
+    ensures { IfOk result (λ copy. item_meant copy ≡ item_meant item.now) }
+{
+    match item {
+        Item::Chain(chain) => Ok(Item::Chain(*chain)),
+        Item::Ring(ring) => Ok(Item::Ring(*ring)),
+        Item::Slot(ring, slot) => Ok(Item::Slot(*ring, *slot)),
+        Item::Descriptor(number) => Ok(Item::Descriptor(*number)),
+        Item::Description(number) => Ok(Item::Description(*number)),
+        Item::Position(number) => Ok(Item::Position(*number)),
+        Item::Size(node) => Ok(Item::Size(*node)),
+        Item::Name(directory, name) => Ok(Item::Name(*directory, name.clone()?)),
+        Item::Names(directory) => Ok(Item::Names(*directory)),
+        _ => Ok(Item::AllDescriptors),
+    }
+}
+
+/// What is in both of two items that share a part of a world, where neither is a single part.
+fn common(one: &Item, other: &Item) -> Item
+    requires one { is_single (item_meant one.now) ≡ false }
+    requires other { is_single (item_meant other.now) ≡ false }
+    ensures { item_meant result ≡ model.shared_item (item_meant one.now) (item_meant other.now) }
+{
+    match (one, other) {
+        (Item::Bytes(node, low, high), Item::Bytes(_, from, to)) => {
+            Item::Bytes(*node, *low.max(from), *high.min(to))
+        }
+        (Item::Bytes(node, low, high), _)
+        | (Item::AllBytesAndSizes(_), Item::Bytes(node, low, high)) => {
+            Item::Bytes(*node, *low, *high)
+        }
+        (Item::AllBytesAndSizes(below), Item::AllBytesAndSizes(other)) => {
+            Item::AllBytesAndSizes(*below.min(other))
+        }
+        (Item::AllBytesAndSizes(below), _) => Item::AllBytesAndSizes(*below),
+        (Item::Buffer(ring, index, low, high), Item::Buffer(_, _, from, to)) => {
+            Item::Buffer(*ring, *index, *low.max(from), *high.min(to))
+        }
+        (Item::Buffer(ring, index, low, high), _) => Item::Buffer(*ring, *index, *low, *high),
+        (Item::AllNames(below), Item::AllNames(other)) => Item::AllNames(*below.min(other)),
+        (Item::AllNames(below), _) => Item::AllNames(*below),
+        (Item::AllPositions(below), Item::AllPositions(other)) => {
+            Item::AllPositions(*below.min(other))
+        }
+        (Item::AllPositions(below), _) => Item::AllPositions(*below),
+        (Item::AllDescriptions(below), Item::AllDescriptions(other)) => {
+            Item::AllDescriptions(*below.min(other))
+        }
+        (Item::AllDescriptions(below), _) => Item::AllDescriptions(*below),
+        _ => Item::AllDescriptors,
+    }
 }

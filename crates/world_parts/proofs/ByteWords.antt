@@ -1,14 +1,19 @@
 -- Each byte of a file after a change.
-use Rattle.std.specs.Prelude.{◌≡◌, ℕ, zero, suc, Bool, true, false, cond, not, ◌&&◌, ltb, leb, min, ◌+◌, ◌-◌, ◌<◌, ◌≤◌, T, List, [], ◌∷◌, ◌++◌, length, take, replicate, refl, slice_index_or, ◌⊎◌}
+use Rattle.std.specs.Prelude.{◌≡◌, ℕ, zero, suc, Bool, true, false, cond, not, ◌&&◌, ltb, leb, min, ◌+◌, ◌-◌, ◌<◌, ◌≤◌, T, List, [], ◌∷◌, ◌++◌, length, take, replicate, refl, slice_index_or, ◌⊎◌, Option, Some, None, unwrap_or}
 use mathlib.Core.Path.{sym, subst, ap, ◌∙◌}
 use mathlib.Core.Logic.{inl, inr}
 use native.Mathlib.Omega.{arith}
-use Rattle.std.proofs.lemmas.List.{get_or-take, length-replicate}
+use Rattle.std.proofs.lemmas.List.{get_or-take, length-replicate, get_or_past}
 use lib.Dec.{nltb→le, nleb→lt, ltb→lt, leb→le}
-use Rattle.extent_bytes.specs.Bytes.{overwritten, resized, zeroed}
+use Rattle.extent_bytes.specs.Bytes.{overwritten, resized, zeroed, range_of}
 use Rattle.extent_bytes.proofs.Lengths.{length-resized}
-use Rattle.extent_bytes.proofs.Lists.{get_or-overwritten_below, get_or-overwritten_inside, get_or-overwritten_above}
+use Rattle.extent_bytes.proofs.Lists.{get_or-overwritten_below, get_or-overwritten_inside, get_or-overwritten_above, get_or-part}
 use Rattle.world_parts.specs.Items.{within}
+use Rattle.std.specs.Option.{option_map}
+use Rattle.std.specs.List.{slice_get}
+use Rattle.std.proofs.lemmas.Option.{slice_get-get_or, slice_get_past}
+use Rattle.std.proofs.lemmas.Bool.{cases_lt}
+use Rattle.std.proofs.Common.{⊎_elim}
 
 pub zeros-byte : (n p : ℕ) → ◌≡◌ {A = ℕ} (slice_index_or (replicate n 0) p 0) 0
 zeros-byte zero p = refl
@@ -26,9 +31,7 @@ unfolding resized
 byte-resized old at p h = padded-byte (take at old) (at - length old) p ∙ get_or-take at old p 0 h
 
 pub past_end : (xs : List ℕ) (p : ℕ) → length xs ≤ p → slice_index_or xs p 0 ≡ 0
-past_end [] p h = refl
-past_end (x ∷ xs) zero h = absurd (omega arith)
-past_end (x ∷ xs) (suc p) h = past_end xs p (omega arith)
+past_end xs p h = get_or_past xs p 0 h
 
 -- Each byte of a file that was cut or extended.
 pub each-resized : (bs : List ℕ) (n p : ℕ) → slice_index_or (resized bs n) p 0 ≡ cond (leb n p) 0 (slice_index_or bs p 0)
@@ -78,3 +81,25 @@ byte-zeroed old low high p =
     both m k mm kk (inr (e, inl c)) (inl (f, a, b)) = absurd (omega (arith, mm, kk))
     both m k mm kk (inr (e, inr c)) (inl (f, a, b)) = ap (λ b. cond b 0 x) e ∙ past_end old p (omega (arith, mm, kk)) ∙ sym (ap (λ b. cond b 0 x) f)
     both m k mm kk (inr (e, c)) (inr (f, d)) = ap (λ b. cond b 0 x) (e ∙ sym f)
+
+-- Lists of one length that have the same byte at an offset, or none there.
+pub get_alike : (xs ys : List ℕ) (p : ℕ) → length xs ≡ length ys → slice_index_or xs p 0 ≡ slice_index_or ys p 0 → slice_get xs p ≡ slice_get ys p
+get_alike xs ys p l e =
+    ⊎_elim
+    (λ (k : p < length ys). slice_get-get_or xs p 0 (omega arith) ∙ ap (λ b. Some b) e ∙ sym (slice_get-get_or ys p 0 k))
+    (λ (k : length ys ≤ p). slice_get_past xs p (omega arith) ∙ sym (slice_get_past ys p k))
+    (cases_lt p (length ys))
+
+-- A byte of a range.
+pub byte-range : (xs : List ℕ) (low high p : ℕ) → low ≤ p → p < high → slice_index_or (range_of xs low high) (p - low) 0 ≡ slice_index_or xs p 0
+unfolding range_of
+byte-range xs low high p a b = get_or-part xs low high (p - low) p (omega arith) (omega arith)
+
+-- How long bytes are that may be there.
+pub length-there : (o : Option (List ℕ)) → unwrap_or (option_map length o) 0 ≡ length (unwrap_or o [])
+length-there None = refl
+length-there (Some bs) = refl
+
+pub size-some : (o : Option (List ℕ)) (size : ℕ) → Some size ≡ option_map length o → length (unwrap_or o []) ≡ size
+size-some None size e = cc
+size-some (Some bs) size e = let same : size ≡ length bs = cc in sym same

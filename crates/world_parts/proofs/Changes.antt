@@ -1,11 +1,11 @@
 -- What a change does to each atom: its value afterwards is a function of its value before.
 use Rattle.std.specs.Prelude.{◌≡◌, ℕ, Bool, true, false, cond, ◌&&◌, ◌==◌, max, ◌+◌, ◌-◌, T, List, length, Option, Some, None, refl, slice_index_or}
 use Rattle.std.specs.Option.{option_map, option_and_then, is_some}
-use Rattle.std.specs.Ordering.{nat_cmp}
+use Rattle.std.specs.Ordering.{nat_cmp, is_eq, eq_by_cmp, ordering_then}
 use Rattle.std.specs.Cmp.{unsigned_tied}
 use mathlib.Core.Path.{sym, subst, ap, ◌∙◌}
 use lib.Dec.{eqb→eq}
-use Rattle.finite_maps.specs.Table.{Table, get, get-assign, number_keys}
+use Rattle.finite_maps.specs.Table.{Table, get, get-assign, number_keys, pair_cmp}
 use Rattle.world_parts.specs.World.{World, Description, kind, names, bytes, name, name_count, others, opened, opened_by, set_position, write_bytes, apply}
 use Rattle.file_tree.specs.Tree.{Node, kind_of_node, names_of_node, others_of_node, count_of_node, bytes_of_node, byte_of, rewritten_node}
 use Rattle.file_tree.specs.Tree.{Names}
@@ -16,6 +16,17 @@ use Rattle.extent_bytes.specs.Bytes.{overwritten}
 use Rattle.world_parts.specs.Items.{Atom, description_at, position_of, size_of, byte_at, name_at, names_in, Value, value, within}
 use Rattle.world_parts.proofs.ByteWords.{byte-overwritten}
 use Rattle.extent_bytes.proofs.Lengths.{length-overwritten}
+use Rattle.std.specs.declared.cmp.Ordering.TheVariants.{Less, Equal, Greater}
+use Rattle.std.specs.declared.cmp.Ordering.{Ordering}
+
+-- Pairs of numbers are compared one after the other.
+pub tied_then : (o p : Ordering) → is_eq (ordering_then o p) ≡ (is_eq o && is_eq p)
+tied_then Less p = refl
+tied_then Equal p = refl
+tied_then Greater p = refl
+
+pub pair_tied : (q m r n : ℕ) → eq_by_cmp pair_cmp (q, m) (r, n) ≡ (q == r && m == n)
+pair_tied q m r n = tied_then (nat_cmp q r) (nat_cmp m n) ∙ (λ i. unsigned_tied q r i && unsigned_tied m n i)
 
 adjusted_by : {X : Type 0} (f : X → X) (m : Table nat_cmp X) (k q : ℕ) (b : Bool) → (q == k) ≡ b → cond b (option_map f (get m k)) (get m q) ≡ cond b (option_map f (get m q)) (get m q)
 adjusted_by f m k q true e = ap (λ i. option_map f (get m i)) (sym (eqb→eq q k (subst T (sym e) tt)))

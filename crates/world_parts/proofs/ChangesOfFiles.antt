@@ -1,18 +1,13 @@
 -- What zeros in a file and bytes put into a buffer do to each atom.
-use Rattle.std.specs.Prelude.{◌≡◌, ℕ, Bool, true, false, cond, not, ◌&&◌, ◌==◌, ltb, min, ◌+◌, ◌-◌, ◌<◌, ◌≤◌, T, List, length, Option, Some, None, refl, slice_index_or}
+use Rattle.std.specs.Prelude.{◌≡◌, ℕ, Bool, true, false, cond, not, ◌&&◌, ◌==◌, ltb, ◌+◌, ◌-◌, ◌<◌, ◌≤◌, T, List, length, Option, Some, None, refl, slice_index_or}
 use Rattle.std.specs.List.{slice_get}
 use Rattle.std.specs.Option.{option_map, option_and_then}
-use Rattle.std.specs.declared.cmp.Ordering.{Ordering}
-use Rattle.std.specs.declared.cmp.Ordering.TheVariants.{Less, Equal, Greater}
-use Rattle.std.specs.Ordering.{eq_by_cmp, nat_cmp, is_eq, ordering_then}
-use Rattle.std.specs.Cmp.{unsigned_tied}
 use mathlib.Core.Path.{sym, subst, ap, ◌∙◌}
 use native.Mathlib.Omega.{arith}
 use Rattle.std.proofs.lemmas.List.{get_or-take}
 use Rattle.std.proofs.lemmas.Option.{slice_get-get_or, slice_get_past}
-use Rattle.std.proofs.Math.ListN.{length-take}
 use lib.Dec.{nltb→le, ltb→lt, eqb→eq}
-use Rattle.finite_maps.specs.Table.{get, get-assign, pair_keys, pair_cmp}
+use Rattle.finite_maps.specs.Table.{get, get-assign, pair_keys}
 use Rattle.world_parts.specs.World.{World, byte, size, buffer, zero_bytes, write_buffer, apply}
 use Rattle.file_tree.specs.Tree.{Node, bytes_of_node, byte_of, rewritten_node}
 use Rattle.file_tree.specs.Tree.{directory}
@@ -21,17 +16,9 @@ use Rattle.finite_maps.specs.Table.{adjust_number}
 use Rattle.extent_bytes.specs.Bytes.{overwritten, overlaid, zeroed}
 use Rattle.world_parts.specs.Items.{Atom, description_at, size_of, byte_at, name_at, names_in, buffer_size, buffer_byte, Value, value, within}
 use Rattle.world_parts.proofs.Collision.{left, right}
-use Rattle.world_parts.proofs.Changes.{transformed, opened_kept, name_kept, rewriting-kind, rewriting-names, rewriting-count}
+use Rattle.world_parts.proofs.Changes.{transformed, opened_kept, name_kept, rewriting-kind, rewriting-names, rewriting-count, pair_tied}
 use Rattle.world_parts.proofs.ByteWords.{byte-overwritten, byte-zeroed}
-use Rattle.extent_bytes.proofs.Lengths.{length-overwritten, length-zeroed}
-
-tied_then : (o p : Ordering) → is_eq (ordering_then o p) ≡ is_eq o && is_eq p
-tied_then Less p = refl
-tied_then Equal p = refl
-tied_then Greater p = refl
-
-pair_tied : (q m r n : ℕ) → eq_by_cmp pair_cmp (q, m) (r, n) ≡ (q == r && m == n)
-pair_tied q m r n = tied_then (nat_cmp q r) (nat_cmp m n) ∙ (λ i. unsigned_tied q r i && unsigned_tied m n i)
+use Rattle.extent_bytes.proofs.Lengths.{length-zeroed, length-overlaid}
 
 -- A function of bytes that gives zero at zero acts on the bytes of what may be no file.
 module _ (f : List ℕ → List ℕ) (g : ℕ → ℕ) (p : ℕ) (each_byte : (bs : List ℕ) → slice_index_or (f bs) p 0 ≡ g (slice_index_or bs p 0)) (at_zero : g 0 ≡ 0) where
@@ -83,14 +70,11 @@ abbrev pub buffered : ℕ → ℕ → ℕ → List ℕ → (a : Atom) → Value 
 buffered r b at new (buffer_byte q c p) x = cond (q == r && c == b) (put_at at new p x) x
 buffered r b at new a x = x
 
-length-overlaid : (old new : List ℕ) (at : ℕ) → length (overlaid old at new) ≡ length old
-length-overlaid old new at = length-take (length old) (overwritten old at new) ∙ ap (min (length old)) (length-overwritten old at new) ∙ omega arith
-
 byte-overlaid : (old new : List ℕ) (at p : ℕ) → slice_get (overlaid old at new) p ≡ put_at at new p (slice_get old p)
 byte-overlaid old new at p = by (ltb p (length old)) refl
   where
     l : length (overlaid old at new) ≡ length old
-    l = length-overlaid old new at
+    l = length-overlaid old at new
 
     by : (b : Bool) → ltb p (length old) ≡ b → slice_get (overlaid old at new) p ≡ put_at at new p (slice_get old p)
     by true e =
@@ -118,7 +102,7 @@ write_buffer-value s r b at new (buffer_size q c) = ap (option_map length) (buff
   where
     by : (z : Bool) (x : Option (List ℕ)) → option_map length (cond z (option_map (λ bs. overlaid bs at new) x) x) ≡ option_map length x
     by true None = refl
-    by true (Some bs) = ap (λ n. Some n) (length-overlaid bs new at)
+    by true (Some bs) = ap (λ n. Some n) (length-overlaid bs at new)
     by false x = refl
 write_buffer-value s r b at new (buffer_byte q c p) = ap (λ x. option_and_then (λ bs. slice_get bs p) x) (buffer_after s r b at new q c) ∙ by (q == r && c == b) (buffer s q c)
   where

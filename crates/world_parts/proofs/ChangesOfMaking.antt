@@ -1,13 +1,10 @@
 -- What making a node or a description does to each atom; filling and emptying slots and descriptors; cutting and extending a file.
 use Rattle.std.specs.Prelude.{◌≡◌, ℕ, true, false, cond, ◌&&◌, ◌==◌, leb, T, List, length, Option, Some, None, refl, IfSome}
 use Rattle.std.specs.Option.{option_map, option_and_then}
-use Rattle.std.specs.Ordering.{nat_cmp, is_eq, eq_by_cmp, ordering_then}
-use Rattle.std.specs.declared.cmp.Ordering.{Ordering}
-use Rattle.std.specs.declared.cmp.Ordering.TheVariants.{Less, Equal, Greater}
 use Rattle.std.specs.Cmp.{unsigned_tied}
 use mathlib.Core.Path.{sym, subst, ap, ◌∙◌}
 use lib.Dec.{eqb→eq, eqb_refl}
-use Rattle.finite_maps.specs.Table.{get, insert, get-insert, get-assign, number_keys, pair_keys, pair_cmp}
+use Rattle.finite_maps.specs.Table.{get, insert, get-insert, get-assign, number_keys, pair_keys}
 use Rattle.world_parts.specs.World.{World, Description, kind, names, others, byte, name, Opened, opened, opened_by, new_description, make_node, make_description, set_slot, set_descriptor, set_size, apply}
 use Rattle.file_tree.specs.Tree.{target}
 use Rattle.file_tree.specs.Tree.{Node, Kind, a_directory, a_file, kind_of_node, names_of_node, others_of_node, count_of_node, bytes_of_node, byte_of, new_node, rewritten_node}
@@ -17,7 +14,7 @@ use Rattle.file_tree.specs.Tree.{file}
 use Rattle.extent_bytes.specs.Bytes.{resized}
 use Rattle.finite_maps.specs.Table.{adjust_number}
 use Rattle.world_parts.specs.Items.{Atom, slot_at, descriptor_at, description_at, position_of, size_of, byte_at, name_at, names_in, Value, value}
-use Rattle.world_parts.proofs.Changes.{transformed, opened_kept, name_kept, rewriting-kind, rewriting-names, rewriting-count}
+use Rattle.world_parts.proofs.Changes.{transformed, opened_kept, name_kept, rewriting-kind, rewriting-names, rewriting-count, pair_tied}
 use Rattle.world_parts.proofs.ByteWords.{each-resized}
 use Rattle.extent_bytes.proofs.Lengths.{length-resized}
 
@@ -131,16 +128,8 @@ abbrev pub slotted : ℕ → ℕ → Option ℕ → (a : Atom) → Value a → V
 slotted r n x (slot_at q m) v = cond (q == r && m == n) x v
 slotted r n x a v = v
 
-tied_pair : (q m r n : ℕ) → eq_by_cmp pair_cmp (q, m) (r, n) ≡ (q == r && m == n)
-tied_pair q m r n = split (nat_cmp q r) ∙ (λ i. unsigned_tied q r i && unsigned_tied m n i)
-  where
-    split : (o : Ordering) → is_eq (ordering_then o (nat_cmp m n)) ≡ (is_eq o && is_eq (nat_cmp m n))
-    split Less = refl
-    split Equal = refl
-    split Greater = refl
-
 pub set_slot-value : (s : World) (r n : ℕ) (x : Option ℕ) (a : Atom) → value (apply (set_slot r n x) s) a ≡ slotted r n x a (value s a)
-set_slot-value s r n x (slot_at q m) = get-assign pair_keys.total s.slots (r, n) x (q, m) ∙ ap (λ b. cond b x (get s.slots (q, m))) (tied_pair q m r n)
+set_slot-value s r n x (slot_at q m) = get-assign pair_keys.total s.slots (r, n) x (q, m) ∙ ap (λ b. cond b x (get s.slots (q, m))) (pair_tied q m r n)
 set_slot-value s r n x _ = refl
 
 -- A descriptor that is filled or emptied.

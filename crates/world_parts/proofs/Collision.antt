@@ -5,7 +5,7 @@ use Rattle.std.specs.Str.{bytes_eq}
 use Rattle.std.proofs.lemmas.Slice.Eq.{bytes_eq-Decides}
 use mathlib.Core.Path.{sym, subst, ap, ◌∙◌}
 use native.Mathlib.Omega.{arith}
-use lib.Dec.{ltb→lt, lt→ltb, leb→le, eqb→eq, eqb_refl}
+use lib.Dec.{ltb→lt, lt→ltb, leb→le, eqb→eq, eqb_refl, not_T}
 use Rattle.world_parts.specs.Items.{Atom, chain_flag, ring_order, slot_at, descriptor_at, description_at, position_of, size_of, byte_at, name_at, names_in, buffer_size, buffer_byte, same_atom, Item, one, file_bytes, buffer_bytes, all_names, all_bytes_and_sizes, all_positions, all_descriptions, all_descriptors, within, member_of, ranges_meet, share, Use, Footprint, has_atom, writes_atom, collide}
 
 pub both : (a b : Bool) → T a → T b → T (a && b)
@@ -31,10 +31,6 @@ either_right false b p = p
 pub not_both : (b : Bool) → T (not b) → T b → ⊥
 not_both true h k = h
 not_both false h k = k
-
-none : (b : Bool) → (T b → ⊥) → T (not b)
-none true h = h tt
-none false h = tt
 
 -- Two ranges that hold an offset meet.
 meets : (low high from to p : ℕ) → T (within low high p) → T (within from to p) → T (ranges_meet low high from to)
@@ -176,10 +172,10 @@ second_writes-collide f g a h k =
 
 -- Of two footprints that don't collide, each writes nothing that the other has.
 pub first_unwritten : (f g : Footprint) (a : Atom) → T (not (collide f g)) → T (has_atom g a) → T (not (writes_atom f a))
-first_unwritten f g a h m = none _ (λ w. not_both _ h (first_writes-collide f g a w m))
+first_unwritten f g a h m = not_T _ (λ w. not_both _ h (first_writes-collide f g a w m))
 
 pub second_unwritten : (f g : Footprint) (a : Atom) → T (not (collide f g)) → T (has_atom f a) → T (not (writes_atom g a))
-second_unwritten f g a h m = none _ (λ w. not_both _ h (second_writes-collide f g a m w))
+second_unwritten f g a h m = not_T _ (λ w. not_both _ h (second_writes-collide f g a m w))
 
 -- What a footprint writes, it has.
 pub writes-has : (f : Footprint) (a : Atom) → T (writes_atom f a) → T (has_atom f a)

@@ -3,26 +3,25 @@ use Rattle.std.specs.Prelude.{◌≡◌, ℕ, true, false, cond, ◌&&◌, ◌==
 use Rattle.std.specs.List.{slice_get}
 use Rattle.std.specs.Option.{option_map, option_and_then}
 use Rattle.std.specs.Ordering.{eq_by_cmp, is_eq}
-use Rattle.std.specs.Cmp.{tied_itself}
+use Rattle.std.specs.Cmp.{tied_itself, Equal-is}
 use mathlib.Core.Path.{sym, subst, ap, ◌∙◌}
 use mathlib.Core.Logic.{inl, inr}
 use native.Mathlib.Omega.{arith}
 use lib.Dec.{eqb→eq, eqb_refl, leb→le, ltb→lt, le→leb, lt→ltb}
 use Rattle.std.proofs.Common.{⊎_elim}
 use Rattle.std.proofs.lemmas.Bool.{cases_lt}
-use Rattle.std.proofs.lemmas.List.{get_or-take, get_or-drop, length-take, length-drop, length-replicate}
+use Rattle.std.proofs.lemmas.List.{length-take, length-drop, length-replicate}
 use Rattle.std.proofs.lemmas.Option.{slice_get-get_or, slice_get_past, unwrap_or-slice_get}
 use Rattle.extent_bytes.specs.Bytes.{overwritten, range_of}
 use Rattle.extent_bytes.proofs.Lengths.{length-overwritten}
 use Rattle.finite_maps.specs.Table.{Table, get, insert, get-insert, get-assign, adjust_number, pair_keys, pair_cmp}
-use Rattle.finite_maps.proofs.TextMaps.{is_eq-true}
 use Rattle.file_tree.specs.Tree.{Node, directory, file, a_file, bytes_of_node, rewritten_node}
 use Rattle.ring_tables.specs.Contents.{rewritten_at}
 use Rattle.world_parts.specs.World.{World, size, bytes, byte, buffer}
 use Rattle.world_parts.specs.Items.{Atom, byte_at, buffer_size, buffer_byte, file_bytes, buffer_bytes, member_of, within, value}
 use Rattle.world_parts.specs.Cutting.{Shows}
 use Rattle.world_parts.specs.Copying.{outline, IsShadow, IsNearer, IsCopied}
-use Rattle.world_parts.proofs.ByteWords.{byte-overwritten, past_end}
+use Rattle.world_parts.proofs.ByteWords.{byte-overwritten, past_end, byte-range, get_alike}
 use Rattle.world_parts.proofs.Changes.{adjusted}
 use Rattle.world_parts.proofs.Collision.{both, left, right, true_of}
 use Rattle.world_parts.proofs.Copies.{shown_none, put_there, chosen, either_way, nothing_moved}
@@ -33,10 +32,6 @@ use Rattle.world_parts.proofs.Trees.{some_apart, some_same}
 pub length-range : (cs : List ℕ) (lo hi : ℕ) → length (range_of cs lo hi) ≡ min (hi - lo) (length cs - lo)
 unfolding range_of
 length-range cs lo hi = length-take (hi - lo) (drop lo cs) ∙ ap (min (hi - lo)) (length-drop lo cs)
-
-byte-range : (cs : List ℕ) (lo hi o : ℕ) → lo ≤ o → o < hi → slice_index_or (range_of cs lo hi) (o - lo) 0 ≡ slice_index_or cs o 0
-unfolding range_of
-byte-range cs lo hi o a b = get_or-take (hi - lo) (drop lo cs) (o - lo) 0 (omega arith) ∙ get_or-drop lo cs (o - lo) 0 ∙ ap (λ k. slice_index_or cs k 0) (omega arith)
 
 -- Bytes over which a range of others of the same length is put, at its place.
 module _ (bs cs part : List ℕ) (lo hi : ℕ) (same : length bs ≡ length cs) (from : lo ≤ length cs) (is : part ≡ range_of cs lo hi) where
@@ -145,14 +140,6 @@ no_bytes_copied s p i low high sh none same = record { nearer = nothing_moved s 
 
 -- Buffers.
 
--- Lists of one length that have the same byte at an offset, or none there.
-same_at : (xs ys : List ℕ) (o : ℕ) → length xs ≡ length ys → slice_index_or xs o 0 ≡ slice_index_or ys o 0 → slice_get xs o ≡ slice_get ys o
-same_at xs ys o l e =
-    ⊎_elim
-    (λ (k : o < length ys). slice_get-get_or xs o 0 (omega arith) ∙ ap (λ b. Some b) e ∙ sym (slice_get-get_or ys o 0 k))
-    (λ (k : length ys ≤ o). slice_get_past xs o (omega arith) ∙ sym (slice_get_past ys o k))
-    (cases_lt o (length ys))
-
 -- A part with another buffer at a place: it is as long as the world's, and bytes that agreed still do.
 module _ (s p : World) (sh : IsShadow s p) (r b : ℕ) (new : List ℕ) (buffers : Table pair_cmp (List ℕ))
     (after : (c : ℕ × ℕ) → get buffers c ≡ cond (eq_by_cmp pair_cmp c (r, b)) (Some new) (get p.buffers c))
@@ -165,7 +152,7 @@ module _ (s p : World) (sh : IsShadow s p) (r b : ℕ) (new : List ℕ) (buffers
   at_buffer P t c f h =
       subst P (sym (after (t, c)))
       (either_way (eq_by_cmp pair_cmp (t, c) (r, b)) P (Some new) (buffer p t c)
-      (λ e. (let q = pair_keys.same (t, c) (r, b) (is_eq-true (pair_cmp (t, c) (r, b)) (true_of _ e)) in f (ap (λ x. x.0) q) (ap (λ x. x.1) q))) h)
+      (λ e. (let q = pair_keys.same (t, c) (r, b) ((Equal-is (pair_cmp (t, c) (r, b))).0 (true_of _ e)) in f (ap (λ x. x.0) q) (ap (λ x. x.1) q))) h)
 
   pub buffer_there : buffer with_buffer r b ≡ Some new
   buffer_there = after (r, b) ∙ chosen (eq_by_cmp pair_cmp (r, b) (r, b)) (Some new) (buffer p r b) (subst (λ o. T (is_eq o)) (sym (tied_itself pair_keys.total (r, b))) tt)
@@ -187,13 +174,6 @@ module _ (s p : World) (sh : IsShadow s p) (r b : ℕ) (new : List ℕ) (buffers
 pub no_length : (x : Option (List ℕ)) → false ≡ is_some (option_map length x) → x ≡ None
 no_length None e = refl
 no_length (Some bs) e = absurd (subst T (sym e) tt)
-
-pub length_there : (s : World) (r b n : ℕ) → Some n ≡ option_map length (buffer s r b) → length (unwrap_or (buffer s r b) []) ≡ n
-length_there s r b n e = by (buffer s r b) e
-  where
-    by : (x : Option (List ℕ)) → Some n ≡ option_map length x → length (unwrap_or x []) ≡ n
-    by None h = absurd (some_apart h)
-    by (Some cs) h = sym (some_same n (length cs) h)
 
 -- A buffer that is shown is as long as the world's.
 pub shown_length : (s p : World) → IsShadow s p → (r b : ℕ) → true ≡ is_some (option_map length (buffer p r b)) → option_map length (buffer p r b) ≡ option_map length (buffer s r b)
@@ -261,7 +241,7 @@ module _ (s p : World) (sh : IsShadow s p) (r b n lo hi : ℕ) (part : List ℕ)
 
     stays : (o : ℕ) → value s (buffer_byte r b o) ≡ value p (buffer_byte r b o) → value s (buffer_byte r b o) ≡ slice_get (overwritten bs lo part) o
     stays o h =
-        of_world o ∙ same_at cs (overwritten bs lo part) o (sym long)
+        of_world o ∙ get_alike cs (overwritten bs lo part) o (sym long)
         (over_stays bs cs part lo hi lengths_agree begins range_is o (by_index cs bs o (sym (of_world o) ∙ h ∙ ap (λ x. option_and_then (λ bs. slice_get bs o) x) in_part)))
 
     range_nearer : IsNearer s p with_range
@@ -276,7 +256,7 @@ module _ (s p : World) (sh : IsShadow s p) (r b n lo hi : ℕ) (part : List ℕ)
         let there : buffer with_range r b ≡ Some (overwritten bs lo part) = buffer_there s p sh r b (overwritten bs lo part) with_range.buffers buffer_after (ap (option_map length) in_world ∙ ap (λ m. Some m) (sym long)) stays in
         subst (λ u. value s (buffer_byte u c o) ≡ value with_range (buffer_byte u c o)) (eqb→eq r t (left _ _ k))
         (subst (λ u. value s (buffer_byte r u o) ≡ value with_range (buffer_byte r u o)) (eqb→eq b c (right (r == t) _ k))
-        (of_world o ∙ same_at cs (overwritten bs lo part) o (sym long) (over_agrees bs cs part lo hi lengths_agree begins range_is o (omega arith) (λ m. g o (omega arith) d)) ∙ sym (ap (λ x. option_and_then (λ bs. slice_get bs o) x) there)))
+        (of_world o ∙ get_alike cs (overwritten bs lo part) o (sym long) (over_agrees bs cs part lo hi lengths_agree begins range_is o (omega arith) (λ m. g o (omega arith) d)) ∙ sym (ap (λ x. option_and_then (λ bs. slice_get bs o) x) there)))
     range_item low high f g _ h = absurd h
 
   pub range_copied : (low high : ℕ) → lo ≤ low → ((o : ℕ) → o < n → o < high → o < hi) → IsCopied s p with_range (buffer_bytes r b low high)

@@ -3,7 +3,7 @@ use Rattle.std.specs.Prelude.{◌≡◌, ℕ, zero, suc, Bool, true, false, cond
 use Rattle.std.specs.Option.{option_map}
 use Rattle.std.specs.Ordering.{nat_cmp, is_eq, eq_by_cmp}
 use Rattle.std.specs.declared.cmp.Ordering.{Ordering}
-use Rattle.std.specs.Cmp.{tied_itself}
+use Rattle.std.specs.Cmp.{tied_itself, Equal-is}
 use Rattle.std.specs.Cmp.Lexicographic.{slice_cmp}
 use Rattle.std.specs.FinMap.Entries.{find, length_without, length-put}
 use mathlib.Core.Path.{sym, subst, ap, ◌∙◌}
@@ -11,7 +11,6 @@ use mathlib.Core.Logic.{inl, inr}
 use native.Mathlib.Omega.{arith}
 use lib.Dec.{eqb→eq, eqb_refl}
 use Rattle.finite_maps.specs.Table.{get, count, insert, remove, get-insert, get-remove, text_keys, adjust_number}
-use Rattle.finite_maps.proofs.TextMaps.{is_eq-true}
 use Rattle.file_tree.specs.Tree.{Names, Node, directory, file, Kind, a_directory, a_file, Target, target, shown_node}
 use Rattle.world_parts.specs.World.{World, kind, name}
 use Rattle.world_parts.specs.Items.{name_at, one}
@@ -136,7 +135,7 @@ module _ (s p : World) (sh : IsShadow s p) (d : ℕ) (n : List ℕ) (j : ℕ) (t
 
     looks : (m : List ℕ) → (look_in (Some new) m ≡ get ns m) ⊎ ((i : ℕ) × (look_in (Some new) m ≡ Some i) × (looked_up s d m ≡ Some i) × (kind p i ≡ kind s i))
     looks m = elim (eq_by_cmp text_cmp m n) as (λ b. eq_by_cmp text_cmp m n ≡ b → (look_in (Some new) m ≡ get ns m) ⊎ ((i : ℕ) × (look_in (Some new) m ≡ Some i) × (looked_up s d m ≡ Some i) × (kind p i ≡ kind s i))) [
-      | true ↦ λ h. inr (j, get-insert text_keys.total ns n j m ∙ ap (λ b. cond b (Some j) (get ns m)) h, ap (looked_up s d) (text_keys.same m n (is_eq-true (text_cmp m n) h)) ∙ there, same_kinds)
+      | true ↦ λ h. inr (j, get-insert text_keys.total ns n j m ∙ ap (λ b. cond b (Some j) (get ns m)) h, ap (looked_up s d) (text_keys.same m n ((Equal-is (text_cmp m n)).0 h)) ∙ there, same_kinds)
       | false ↦ λ h. inl (get-insert text_keys.total ns n j m ∙ ap (λ b. cond b (Some j) (get ns m)) h)
     ] refl
 
@@ -172,10 +171,6 @@ name_shown s p d n sh h = record { nearer = nothing_moved s p sh; item = one_ite
 
 pub no_name_copied : (s p : World) (d : ℕ) (n : List ℕ) → IsShadow s p → looked_up s d n ≡ None → IsCopied s p p (one (name_at d n))
 no_name_copied s p d n sh e = record { nearer = nothing_moved s p sh; item = one_item s p (name_at d n) (shown_none (name p d n) (name s d n) (sh.names d n) (ap (option_map (target s.nodes)) e)) }
-
-pub not_shown : (o : Option ℕ) → false ≡ is_some o → o ≡ None
-not_shown None e = refl
-not_shown (Some i) e = absurd (subst T (sym e) tt)
 
 -- What a look-up by number found.
 pub number_of : (s : World) (d : ℕ) (n : List ℕ) (r : Option ℕ) → r ≡ option_map (λ (t : Target). t.node) (name s d n) → looked_up s d n ≡ r

@@ -26,10 +26,10 @@ use Rattle.file_tree.specs.Walk.{Place, fits_name, walk_from, directory_at, walk
 use Rattle.world_parts.specs.World.{World, Change, set_name, make_node, set_slot, set_descriptor, make_description, set_position, set_size, write_bytes, zero_bytes, write_buffer, break_chain, apply, apply_all}
 use Rattle.world_parts.specs.Start.{start, with_items, with_node, name_at, bare}
 use Rattle.world_parts.specs.Paths.{is_file_name, HasFileNames}
-use Rattle.world_parts.proofs.Values.{some_apart}
 use Rattle.world_parts.proofs.Collision.{both}
 use Rattle.world_parts.proofs.Changes.{adjusted}
 use Rattle.world_parts.proofs.Ways.{looked}
+use Rattle.world_parts.proofs.Trees.{some_apart}
 
 -- a name that leads somewhere is the name of a file
 abbrev pub Named : Tree → Type 0

@@ -1,10 +1,12 @@
 -- Lists of values put into a map, each at a key of its own.
-use Rattle.std.proofs.Common.{◌≡◌, ℕ, suc, ◌+◌, List, [], ◌∷◌, ◌++◌, length, Some, None, sym, ◌∙◌, ap, refl, arith}
+use Rattle.std.proofs.Common.{◌≡◌, ℕ, suc, ◌+◌, List, [], ◌∷◌, ◌++◌, length, Some, None, sym, ◌∙◌, ap, refl, arith, ◌<◌, take, get_or}
 use Rattle.std.specs.Prelude.{Option, cond}
 use Rattle.std.specs.declared.cmp.Ordering.{Ordering}
 use Rattle.std.specs.Ordering.{eq_by_cmp}
 use Rattle.finite_maps.specs.Table.{Table, IsKeyOrder, empty, get, insert, get-insert, same_table}
-use Rattle.finite_maps.proofs.TextMaps.{swapped, is_eq-true}
+use Rattle.finite_maps.proofs.TextMaps.{swapped}
+use Rattle.std.specs.Cmp.{Equal-is}
+use Rattle.std.proofs.lemmas.List.{take_more, length-take-le}
 
 module _ {K X : Type 0} {R : K → K → Ordering} (o : IsKeyOrder R) where
   -- two values at two keys may be put in either order
@@ -12,7 +14,7 @@ module _ {K X : Type 0} {R : K → K → Ordering} (o : IsKeyOrder R) where
   insert_swap m j k x y apart = same_table o _ _ (λ q.
       get-insert o.total (insert o.total m j x) k y q
       ∙ ap (λ r. cond (eq_by_cmp R q k) (Some y) r) (get-insert o.total m j x q)
-      ∙ swapped (eq_by_cmp R q k) (eq_by_cmp R q j) (Some y) (Some x) (get m q) (λ a b. apart (sym (o.same q j (is_eq-true (R q j) b)) ∙ o.same q k (is_eq-true (R q k) a)))
+      ∙ swapped (eq_by_cmp R q k) (eq_by_cmp R q j) (Some y) (Some x) (get m q) (λ a b. apart (sym (o.same q j ((Equal-is (R q j)).0 b)) ∙ o.same q k ((Equal-is (R q k)).0 a)))
       ∙ ap (λ r. cond (eq_by_cmp R q j) (Some x) r) (sym (get-insert o.total m k y q))
       ∙ sym (get-insert o.total (insert o.total m k y) j x q))
 
@@ -48,6 +50,14 @@ module _ {K X A : Type 0} {R : K → K → Ordering} (o : IsKeyOrder R) (value :
       ap (λ t. keep o t (key n) (value b)) (filled-push key one (suc n) xs a m)
       ∙ keep_swap o (filled key (suc n) xs m) (key (suc n + length xs)) (key n) (value a) (value b) (λ h. let same = one (suc n + length xs) n h in absurd (omega arith))
       ∙ ap (λ i. keep o (filled key n (b ∷ xs) m) (key i) (value a)) e
+
+  -- the same of what a walk over a list comes to
+  pub filled_next : (key : ℕ → K) → ((i j : ℕ) → key i ≡ key j → i ≡ j) → (m : Table R X) (from : List A → Table R X) → ((xs : List A) → from xs ≡ filled key 0 xs m) → (xs : List A) (i : ℕ) (d : A) → i < length xs
+      → from (take (i + 1) xs) ≡ keep o (from (take i xs)) (key i) (value (get_or xs i d))
+  filled_next key one m from is xs i d lt =
+      let here : 0 + length (take i xs) ≡ i = omega (arith, length-take-le i xs) in
+      ap from (take_more xs i d lt) ∙ is (take i xs ++ get_or xs i d ∷ []) ∙ filled-push key one 0 (take i xs) (get_or xs i d) m
+      ∙ (λ j. keep o (sym (is (take i xs)) j) (key (here j)) (value (get_or xs i d)))
 
   -- two lists may be put in either order
   filled-swap : (key other : ℕ → K) → ((i j : ℕ) → other i ≡ key j → ⊥) → (n k : ℕ) (xs ys : List A) (m : Table R X) → filled key n xs (filled other k ys m) ≡ filled other k ys (filled key n xs m)

@@ -1,8 +1,7 @@
 -- What each change leaves of a world.
-use Rattle.std.specs.Prelude.{◌≡◌, ℕ, Bool, true, false, cond, ◌&&◌, ◌==◌, ◌≤◌, T, List, [], ◌∷◌, ◌++◌, Option, Some, None, refl, IfSome}
-use Rattle.std.specs.Option.{option_map, option_and_then, is_some}
+use Rattle.std.specs.Prelude.{◌≡◌, ℕ, true, false, cond, ◌&&◌, ◌==◌, ◌≤◌, T, List, [], ◌∷◌, Option, Some, None, refl, IfSome}
+use Rattle.std.specs.Option.{option_map, is_some}
 use Rattle.std.specs.Ordering.{nat_cmp}
-use Rattle.std.specs.Str.{bytes_eq}
 use Rattle.std.specs.Cmp.{unsigned_tied}
 use mathlib.Core.Path.{sym, subst, ap, ◌∙◌}
 use native.Mathlib.Omega.{arith}
@@ -10,7 +9,7 @@ use lib.Dec.{eqb→eq}
 use Rattle.trace_format.specs.declared.trace.Access.{Access}
 use Rattle.entry_checks.specs.Operation.{file_limit}
 use Rattle.finite_maps.specs.Table.{Table, get, get-insert, number_keys}
-use Rattle.world_parts.specs.World.{World, IsWorld, kind, name, name_count, others, size, Opened, opened, slot, descriptor, Change, set_name, make_node, set_slot, set_descriptor, make_description, set_position, set_size, write_bytes, zero_bytes, write_buffer, break_chain, new_description, node_of, apply, apply_all}
+use Rattle.world_parts.specs.World.{World, IsWorld, kind, name, name_count, others, size, Opened, opened, slot, descriptor, Change, set_name, make_node, set_slot, set_descriptor, make_description, set_position, set_size, write_bytes, zero_bytes, break_chain, new_description, node_of, apply, apply_all}
 use Rattle.file_tree.specs.Tree.{IsTree, Kind, a_directory, a_file, Target, new_node, renamed_node, rewritten_node}
 use Rattle.extent_bytes.specs.Bytes.{resized, overwritten, zeroed}
 use Rattle.finite_maps.specs.Table.{adjust_number}
@@ -85,9 +84,6 @@ describing_sound s n o h l r w = record {
   all_shown = w.all_shown;
 }
   where
-    after : World
-    after = apply (make_description n o) s
-
     seen : (e : ℕ) → opened (apply (make_description n o) s) e ≡ cond (e == n) (Some o) (opened s e)
     seen e = make_description-value s n o (description_at e) h
 

@@ -26,9 +26,9 @@ use Rattle.file_tree.specs.Walk.{fits_name, walk_from, directory_at, is_director
 use Rattle.world_parts.specs.Known.{Known, known_at, directory_of, Enters, Knows, IsLastName, IsNewPlace}
 use Rattle.world_parts.specs.World.{World}
 use Rattle.world_parts.specs.Start.{name_at}
-use Rattle.world_parts.proofs.Values.{some_apart, same_some}
 use Rattle.world_parts.proofs.Changes.{adjusted}
 use Rattle.world_parts.proofs.Ways.{looked, same_number}
+use Rattle.world_parts.proofs.Trees.{some_apart, some_same}
 
 -- The names of a path.
 
@@ -86,7 +86,7 @@ new_place_walk tree path parent n p =
     ∙ ap (λ (b : Bool). require b ENAMETOOLONG >> Ok (record { parent = parent; name = n; target = name tree parent n })) p.fits
 
 directory_enters : (tree : Tree) (known : Known) (path : List ℕ) (d : ℕ) → Knows tree known → Some d ≡ directory_of known path → Enters tree 0 (components path) d
-directory_enters tree known [] d knows is = sym (same_some d 0 is)
+directory_enters tree known [] d knows is = sym (some_same d 0 is)
 directory_enters tree known (b ∷ bs) d knows is =
     let known_so : Some d ≡ known_at known (b ∷ bs) = is ∙ ap (λ c. cond c (Some 0) (known_at known (b ∷ bs))) (ne_eqb (length (b ∷ bs)) 0 (λ e. omega arith)) in
     subst (λ (o : Option ℕ). IfSome o (Enters tree 0 (components (b ∷ bs)))) (sym known_so) (knows (b ∷ bs))

@@ -12,8 +12,5 @@ module _ {A B : Type 0} (f : A → List B) (whole : List B) where
       append_assoc done more (flat_map f after) ∙ ap (λ y. done ++ (y ++ flat_map f after)) m ∙ ap (λ xs. done ++ flat_map f xs) (sym e) ∙ h
 
   -- an entry without a line
-  pub no_more_lines : (done : List B) (before after : List A) (x : A) → before ≡ x ∷ after → [] ≡ f x → done ++ flat_map f before ≡ whole → done ++ flat_map f after ≡ whole
-  no_more_lines done before after x e m h = ap (λ y. done ++ (y ++ flat_map f after)) m ∙ ap (λ xs. done ++ flat_map f xs) (sym e) ∙ h
-
   pub all_lines : (done : List B) (left : List A) → left ≡ [] → done ++ flat_map f left ≡ whole → done ≡ whole
   all_lines done left e h = sym (append-nil done) ∙ ap (λ xs. done ++ flat_map f xs) (sym e) ∙ h

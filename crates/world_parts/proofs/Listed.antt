@@ -21,20 +21,16 @@ use Rattle.file_tree.specs.Walk.{fits_name}
 use Rattle.world_parts.specs.World.{World}
 use Rattle.world_parts.specs.Image.{paths_below, by_path}
 use Rattle.world_parts.specs.Paths.{path_of, is_file_name, HasFileNames}
-use Rattle.world_parts.proofs.Collision.{left, right}
-use Rattle.world_parts.proofs.Values.{some_apart}
+use Rattle.world_parts.proofs.Collision.{left, right, true_of}
 use Rattle.world_parts.proofs.Listing.{paths_at}
 use Rattle.world_parts.proofs.Members.{In, in_flat_map, in_flat_map-at, entry_of, get_entry, put_either, put_here, put_over}
 use Rattle.world_parts.proofs.Ways.{Leads, AllFit}
+use Rattle.world_parts.proofs.Trees.{some_apart}
 
 -- names that may stand in a directory
 abbrev pub AllNames : List (List ℕ) → Type 0
 AllNames [] = Unit {0}
 AllNames (n ∷ ns) = T (is_file_name n) × AllNames ns
-
-is_true : (b : Bool) → T b → b ≡ true
-is_true true h = refl
-is_true false h = absurd h
 
 is_false : (b : Bool) → T (not b) → b ≡ false
 is_false true h = absurd h
@@ -42,7 +38,7 @@ is_false false h = refl
 
 pub all_fit : (ns : List (List ℕ)) → AllNames ns → AllFit ns
 all_fit [] h = tt
-all_fit (n ∷ ns) h = (is_true (fits_name n) (left _ (not (has_slash n)) (right (nat_le 1 (length n)) _ h.0)), all_fit ns h.1)
+all_fit (n ∷ ns) h = (true_of (fits_name n) (left _ (not (has_slash n)) (right (nat_le 1 (length n)) _ h.0)), all_fit ns h.1)
 
 no_slashes : (n : List ℕ) → has_slash n ≡ false → All (λ b. (b == 47) ≡ false) n
 no_slashes [] h = All-nil (λ (b : ℕ). (b == 47) ≡ false)

@@ -10,8 +10,8 @@ use mathlib.Core.Path.{sym, subst, ap, ◌∙◌}
 use mathlib.Core.Logic.{inl, inr}
 use native.Mathlib.Omega.{arith}
 use Rattle.finite_maps.specs.Table.{Table, IsKeyOrder, get, insert, get-insert}
-use Rattle.world_parts.proofs.Values.{some_apart, same_some}
 use Rattle.world_parts.proofs.Collision.{left, right}
+use Rattle.world_parts.proofs.Trees.{some_apart, some_same}
 
 -- an element of a list
 abbrev pub In : {A : Type 0} → A → List A → Type 0
@@ -97,7 +97,7 @@ module _ {K X : Type 0} {R : K → K → Ordering} (o : IsKeyOrder R) where
   found_in : (q : K) (x : X) (es : List (K × X)) → find R q es ≡ Some x → In (q, x) es
   found_in q x [] h = absurd (some_apart (sym h))
   found_in q x (e ∷ es) h = elim (eq_by_cmp R q e.0) as (λ b. eq_by_cmp R q e.0 ≡ b → cond b (Some e.1) (find R q es) ≡ Some x → In (q, x) (e ∷ es)) [
-    | true ↦ λ t k. inl (λ i. (sym (o.same q e.0 ((Equal-is (R q e.0)).0 t)) i, same_some e.1 x k i))
+    | true ↦ λ t k. inl (λ i. (sym (o.same q e.0 ((Equal-is (R q e.0)).0 t)) i, some_same e.1 x k i))
     | false ↦ λ t k. inr (found_in q x es k)
   ] refl h
 
@@ -111,7 +111,7 @@ module _ {K X : Type 0} {R : K → K → Ordering} (o : IsKeyOrder R) where
   -- what a table has at a key after a value was put at one: that value where the keys are one, else what it had
   pub put_either : (m : Table R X) (k : K) (v : X) (q : K) (x : X) → get (insert o.total m k v) q ≡ Some x → ((k ≡ q) × (v ≡ x)) ⊎ (get m q ≡ Some x)
   put_either m k v q x h = elim (eq_by_cmp R q k) as (λ b. eq_by_cmp R q k ≡ b → cond b (Some v) (get m q) ≡ Some x → ((k ≡ q) × (v ≡ x)) ⊎ (get m q ≡ Some x)) [
-    | true ↦ λ t e. inl (sym (o.same q k ((Equal-is (R q k)).0 t)), same_some v x e)
+    | true ↦ λ t e. inl (sym (o.same q k ((Equal-is (R q k)).0 t)), some_same v x e)
     | false ↦ λ t e. inr e
   ] refl (sym (get-insert o.total m k v q) ∙ h)
 

@@ -5,9 +5,9 @@ use mathlib.Core.Logic.{inl, inr}
 use native.Mathlib.Omega.{arith}
 use Rattle.extent_bytes.specs.Bytes.{overwritten, range_of}
 use Rattle.extent_bytes.proofs.Lengths.{length-overwritten, length-range_of}
-use Rattle.extent_bytes.proofs.Lists.{get_or-overwritten_below, get_or-overwritten_inside, get_or-overwritten_above, get_or-part}
+use Rattle.extent_bytes.proofs.Lists.{get_or-overwritten_below, get_or-overwritten_inside, get_or-overwritten_above}
 use Rattle.world_parts.specs.Putting.{pasted}
-use Rattle.world_parts.proofs.ByteWords.{place_of}
+use Rattle.world_parts.proofs.ByteWords.{place_of, byte-range}
 use Rattle.world_parts.specs.Items.{within}
 
 pub length-pasted : (old new : List ℕ) (low high : ℕ) → length (pasted old new low high) ≡ length old
@@ -16,10 +16,6 @@ length-pasted old new low high =
     let start = min low end in
     let count : length (range_of new start end) ≡ end - start = length-range_of new start end (omega arith) in
     length-overwritten old start (range_of new start end) ∙ omega (arith, count)
-
-byte-taken : (xs : List ℕ) (low high p : ℕ) → low ≤ p → p < high → slice_index_or (range_of xs low high) (p - low) 0 ≡ slice_index_or xs p 0
-unfolding range_of
-byte-taken xs low high p a b = get_or-part xs low high (p - low) p (omega arith) (omega arith)
 
 -- Where an offset lies beside a range, or past the end of one of the lists.
 abbrev pub Past : List ℕ → List ℕ → ℕ → ℕ → ℕ → Type 0
@@ -37,7 +33,7 @@ byte-pasted old new low high p = at (min (min high (length old)) (length new)) (
         count = length-range_of new start end (omega arith)
 
         copied : start ≤ p → p < end → slice_index_or (range_of new start end) (p - start) 0 ≡ slice_index_or new p 0
-        copied a b = byte-taken new start end p a b
+        copied a b = byte-range new start end p a b
 
         past : end ≤ p → Past old new low high p
         past h = where_past (place_of low high p) (place_of 0 (length old) p) (place_of 0 (length new) p)

@@ -1,5 +1,5 @@
 -- Bytes put over those of a buffer, or of a file that grows first.
-use Rattle.std.proofs.Common.{◌≡◌, ℕ, ◌+◌, ◌-◌, ◌<◌, ◌≤◌, List, [], length, take, drop, min, arith, sym, subst, ◌∙◌, ap, refl, ⊎_elim}
+use Rattle.std.proofs.Common.{◌≡◌, ℕ, ◌+◌, ◌-◌, ◌<◌, ◌≤◌, List, length, take, drop, min, arith, sym, subst, ◌∙◌, ap, refl, ⊎_elim}
 use Rattle.std.specs.Prelude.{Bool, true, false, cond, ◌==◌, T, Option, Some, None, IfSome, unwrap_or}
 use Rattle.std.specs.Option.{option_map, option_and_then}
 use Rattle.std.specs.Ordering.{nat_cmp}
@@ -102,8 +102,3 @@ reaches (Some m) n k a h = omega arith
 pub ends_before : (o : Option ℕ) (n k : ℕ) → n ≤ k → unwrap_or o n < n → IfSome o (λ m. m < k)
 ends_before None n k a h = tt
 ends_before (Some m) n k a h = omega arith
-
--- how long a buffer is that may be there
-pub length-there : (o : Option (List ℕ)) → unwrap_or (option_map length o) 0 ≡ length (unwrap_or o [])
-length-there None = refl
-length-there (Some bs) = refl

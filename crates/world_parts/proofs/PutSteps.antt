@@ -18,11 +18,11 @@ use Rattle.file_tree.specs.Tree.{Node, Names, directory, file, renamed_node, rew
 use Rattle.world_parts.specs.World.{Description}
 use Rattle.world_parts.specs.Items.{within}
 use Rattle.world_parts.specs.Putting.{sized, listed, pasted, redescribed, repositioned}
-use Rattle.world_parts.proofs.Values.{some_apart, same_some}
-use Rattle.world_parts.proofs.ByteWords.{each-resized, past_end, place_of, byte-zeroed}
+use Rattle.world_parts.proofs.ByteWords.{each-resized, past_end, place_of, byte-zeroed, get_alike}
 use Rattle.world_parts.proofs.Pasting.{length-pasted, byte-pasted, Past}
 use Rattle.world_parts.proofs.Raw.{head_of, long, byte_in, lists, entry}
 use Rattle.world_parts.proofs.Nearer.{OneOf, NodeNear, placed}
+use Rattle.world_parts.proofs.Trees.{some_apart, some_same}
 
 -- A node that is made as long as another one is, or no file where that is none.
 sized_byte : (y : Option Node) (bs : List ℕ) (n p : ℕ) → long y ≡ Some n → OneOf (slice_index_or (resized bs n) p 0) (byte_in y p) (slice_index_or bs p 0)
@@ -32,7 +32,7 @@ sized_byte (Some (file cs)) bs n p e = by (leb n p) refl
   where
     by : (b : Bool) → leb n p ≡ b → OneOf (slice_index_or (resized bs n) p 0) (slice_index_or cs p 0) (slice_index_or bs p 0)
     by true h =
-        let past : length cs ≤ p = (let l = leb→le n p (subst T (sym h) tt) in let same = same_some (length cs) n e in omega arith) in
+        let past : length cs ≤ p = (let l = leb→le n p (subst T (sym h) tt) in let same = some_same (length cs) n e in omega arith) in
         inl (each-resized bs n p ∙ ap (λ b. cond b 0 (slice_index_or bs p 0)) h ∙ sym (past_end cs p past))
     by false h = inr (each-resized bs n p ∙ ap (λ b. cond b 0 (slice_index_or bs p 0)) h)
 
@@ -166,7 +166,7 @@ module _ (y : Option Node) (new : List ℕ) (low high : ℕ) (given : (p : ℕ) 
       ends : (z : Option Node) (n : ℕ) → long z ≡ Some n → n ≤ p → byte_in z p ≡ 0
       ends None n e h = refl
       ends (Some (directory ns o)) n e h = refl
-      ends (Some (file cs)) n e h = past_end cs p (let same = same_some (length cs) n e in omega arith)
+      ends (Some (file cs)) n e h = past_end cs p (let same = some_same (length cs) n e in omega arith)
 
       by : ((slice_index_or (pasted (zeroed bs (max low (length new)) high) new low high) p 0 ≡ slice_index_or new p 0) × (low ≤ p) × (p < high) × (p < length new)) ⊎ ((slice_index_or (pasted (zeroed bs (max low (length new)) high) new low high) p 0 ≡ slice_index_or (zeroed bs (max low (length new)) high) p 0) × Past (zeroed bs (max low (length new)) high) new low high p)
           → slice_index_or (pasted (zeroed bs (max low (length new)) high) new low high) p 0 ≡ byte_in y p
@@ -187,14 +187,6 @@ module _ (y : Option Node) (new : List ℕ) (low high : ℕ) (given : (p : ℕ) 
               ap (λ c. cond c 0 (slice_index_or bs p 0)) e ∙ past_end bs p (omega arith) ∙ sym (ends y (length bs) (sym l) (omega arith))
 
 -- A buffer that has the bytes of a range from another one, as far as both go.
-get_alike : (xs ys : List ℕ) (p : ℕ) → length xs ≡ length ys → slice_index_or xs p 0 ≡ slice_index_or ys p 0 → slice_get xs p ≡ slice_get ys p
-get_alike xs ys p l e = by (place_of 0 (length xs) p)
-  where
-    by : ((within 0 (length xs) p ≡ true) × (0 ≤ p) × (p < length xs)) ⊎ ((within 0 (length xs) p ≡ false) × ((p < 0) ⊎ (length xs ≤ p))) → slice_get xs p ≡ slice_get ys p
-    by (inl (q, a, b)) = slice_get-get_or xs p 0 b ∙ ap Some e ∙ sym (slice_get-get_or ys p 0 (omega arith))
-    by (inr (q, inl a)) = absurd (omega arith)
-    by (inr (q, inr a)) = slice_get_past xs p a ∙ sym (slice_get_past ys p (omega arith))
-
 abbrev pub byte_got : Option (List ℕ) → ℕ → Option ℕ
 byte_got x p = option_and_then (λ bs. slice_get bs p) x
 
@@ -257,7 +249,7 @@ module _ (y v : Option (List ℕ)) (low high : ℕ) (given : (p : ℕ) → T (wi
       by (Some bs) (Some zs) l g = at (place_of 0 (length bs) p)
         where
           same : length bs ≡ length zs
-          same = same_some (length bs) (length zs) l
+          same = some_same (length bs) (length zs) l
 
           kept : length (pasted bs (unwrap_or v []) low high) ≡ length bs
           kept = length-pasted bs (unwrap_or v []) low high

@@ -7,9 +7,8 @@ use Rattle.std.specs.Ordering.{is_eq}
 use mathlib.Core.Path.{sym, subst, ap, ◌∙◌}
 use native.Mathlib.Omega.{arith}
 use Rattle.finite_maps.specs.Table.{Table, IsKeyOrder, get, insert, assign, get-assign, same_table, adjust_number, number_keys, pair_cmp, pair_keys}
-use Rattle.finite_maps.proofs.Maps.{absent-assign, present-assign}
 use Rattle.extent_bytes.specs.Bytes.{overwritten, range_of, resized}
-use Rattle.file_tree.specs.Tree.{Tree, Node, directory, file, new_node, a_directory, a_file, rewritten_node}
+use Rattle.file_tree.specs.Tree.{Tree, Node, directory, file, new_node, a_file, rewritten_node}
 use Rattle.file_tree.specs.Tree as tree
 use Rattle.ring_tables.specs.Contents.{rewritten_at}
 use Rattle.world_parts.specs.Putting.{sized, listed, pasted, with_nodes, with_items}
@@ -22,13 +21,10 @@ use Rattle.world_parts.specs.declared.footprint.Use.{Use}
 use Rattle.world_parts.proofs.Nearer.{placed}
 use Rattle.world_parts.proofs.PutBack.{put_makes_any}
 use Rattle.std.proofs.lemmas.Result.{on_ok_weaker}
+use Rattle.world_parts.proofs.ByteWords.{length-there}
+use Rattle.finite_maps.proofs.Maps.{same-assign}
 
 module _ {K X : Type 0} {R : K → K → Ordering} (o : IsKeyOrder R) (m : Table R X) (k : K) where
-  -- What is put where it is already changes nothing.
-  pub same-assign : (v : Option X) → get m k ≡ v → assign o.total m k v ≡ m
-  same-assign None e = absent-assign o m k e
-  same-assign (Some x) e = present-assign o m k x e
-
   -- What is put last counts.
   pub assign-assign : (u v : Option X) → assign o.total (assign o.total m k u) k v ≡ assign o.total m k v
   assign-assign u v = same_table o _ _ (λ q. get-assign o.total (assign o.total m k u) k v q ∙ (λ i. cond (is_eq (R q k)) v (get-assign o.total m k u q i)) ∙ by (is_eq (R q k)) (get m q) ∙ sym (get-assign o.total m k v q))
@@ -115,22 +111,14 @@ rewritten_at-alike m r b size f g e h = ap (assign pair_keys.total m (r, b)) (by
     by None e = refl
     by (Some bs) e = ap Some (h bs (let same : size ≡ length bs = cc in sym same))
 
-pub length-some : (o : Option (List ℕ)) → unwrap_or (option_map length o) 0 ≡ length (unwrap_or o [])
-length-some None = refl
-length-some (Some bs) = refl
-
-pub size-some : (o : Option (List ℕ)) (size : ℕ) → Some size ≡ option_map length o → length (unwrap_or o []) ≡ size
-size-some None size e = cc
-size-some (Some bs) size e = let same : size ≡ length bs = cc in sym same
-
 -- The range that is put in from another list, as far as both go.
 module _ (o : Option (List ℕ)) (low high size start end : ℕ) (e : end ≡ min (min high size) (unwrap_or (option_map length o) 0)) (s : start ≡ min low end) where
   pub piece_there : end ≤ length (unwrap_or o [])
-  piece_there = (let count = length-some o in omega arith)
+  piece_there = (let count = length-there o in omega arith)
 
   pub piece-pasted : (bs : List ℕ) → length bs ≡ size → overwritten bs start (range_of (unwrap_or o []) start end) ≡ pasted bs (unwrap_or o []) low high
   piece-pasted bs same =
-      let f : end ≡ min (min high (length bs)) (length (unwrap_or o [])) = e ∙ (λ j. min (min high (sym same j)) (length-some o j)) in
+      let f : end ≡ min (min high (length bs)) (length (unwrap_or o [])) = e ∙ (λ j. min (min high (sym same j)) (length-there o j)) in
       let t : start ≡ min low (min (min high (length bs)) (length (unwrap_or o []))) = s ∙ ap (min low) f in
       (λ j. overwritten bs (t j) (range_of (unwrap_or o []) (t j) (f j)))
 

@@ -8,7 +8,8 @@ use Rattle.file_tree.specs.Tree.{Node, Names, target, directory, file, names_of_
 use Rattle.file_tree.specs.Found.{node_of}
 use Rattle.world_parts.specs.World.{World, Description, Opened, opened_by}
 use Rattle.world_parts.specs.Items.{Atom, chain_flag, slot_at, descriptor_at, description_at, position_of, size_of, byte_at, name_at, names_in, buffer_size, buffer_byte, Value, value}
-use Rattle.world_parts.proofs.Values.{same_some, same_bytes, same_buffer}
+use Rattle.world_parts.proofs.Values.{same_bytes, same_buffer}
+use Rattle.world_parts.proofs.Trees.{some_same}
 
 -- What a description says, apart from its position.
 pub record Head : Type 0 where
@@ -89,7 +90,7 @@ same_node (Some (file bs)) None z b c n g h = cc
 same_node (Some (directory m o)) (Some (file bs)) z b c n g h = cc
 same_node (Some (file bs)) (Some (directory m o)) z b c n g h = cc
 same_node (Some (directory m o)) (Some (directory k q)) z b c n g h = λ i. Some (directory (same_table text_keys m k n i) ((g ∙ sym h) i))
-same_node (Some (file bs)) (Some (file cs)) z b c n g h = ap (λ q. Some (file q)) (same_bytes bs cs (same_some _ _ z) b)
+same_node (Some (file bs)) (Some (file cs)) z b c n g h = ap (λ q. Some (file q)) (same_bytes bs cs (some_same _ _ z) b)
 
 abbrev rebuilt : Option Head → Option ℕ → Option Description
 rebuilt (Some o) (Some p) = Some (record { node = o.node; access = o.access; append = o.append; position = p })

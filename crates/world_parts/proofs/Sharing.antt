@@ -19,10 +19,10 @@ meeting low high from to h =
 start_within : (low high : ℕ) → T (ltb low high) → T (within low high low)
 start_within low high h = both _ _ (le→leb low low (omega arith)) h
 
-below_both : (n m : ℕ) → T (ltb 0 (min n m)) → T (ltb 0 n) × T (ltb 0 m)
-below_both n m h =
-    let l : 0 < min n m = ltb→lt 0 (min n m) h in
-    (lt→ltb 0 n (omega arith), lt→ltb 0 m (omega arith))
+pub below_both : (d n m : ℕ) → T (ltb d (min n m)) → T (ltb d n) × T (ltb d m)
+below_both d n m h =
+    let l : d < min n m = ltb→lt d (min n m) h in
+    (lt→ltb d n (omega arith), lt→ltb d m (omega arith))
 
 beside_one : (x : Item) (a : Atom) → T (member_of x a) → Common x (one a)
 beside_one x a h = (a, h, same_atom_refl a)
@@ -38,7 +38,7 @@ common_file i low high _ h = absurd h
 common_files : (n : ℕ) (y : Item) → T (share (all_bytes_and_sizes n) y) → Common (all_bytes_and_sizes n) y
 common_files n (one b) h = beside_one (all_bytes_and_sizes n) b h
 common_files n (file_bytes i low high) h = (byte_at i low, left (ltb i n) _ h, both _ _ (eqb_refl i) (start_within low high (right (ltb i n) _ h)))
-common_files n (all_bytes_and_sizes m) h = let b = below_both n m h in (size_of 0, b.0, b.1)
+common_files n (all_bytes_and_sizes m) h = let b = below_both 0 n m h in (size_of 0, b.0, b.1)
 common_files n _ h = absurd h
 
 common_buffer : (r b low high : ℕ) (y : Item) → T (share (buffer_bytes r b low high) y) → Common (buffer_bytes r b low high) y
@@ -52,17 +52,17 @@ common_buffer r b low high _ h = absurd h
 
 common_names : (n : ℕ) (y : Item) → T (share (all_names n) y) → Common (all_names n) y
 common_names n (one b) h = beside_one (all_names n) b h
-common_names n (all_names m) h = let b = below_both n m h in (names_in 0, b.0, b.1)
+common_names n (all_names m) h = let b = below_both 0 n m h in (names_in 0, b.0, b.1)
 common_names n _ h = absurd h
 
 common_positions : (n : ℕ) (y : Item) → T (share (all_positions n) y) → Common (all_positions n) y
 common_positions n (one b) h = beside_one (all_positions n) b h
-common_positions n (all_positions m) h = let b = below_both n m h in (position_of 0, b.0, b.1)
+common_positions n (all_positions m) h = let b = below_both 0 n m h in (position_of 0, b.0, b.1)
 common_positions n _ h = absurd h
 
 common_descriptions : (n : ℕ) (y : Item) → T (share (all_descriptions n) y) → Common (all_descriptions n) y
 common_descriptions n (one b) h = beside_one (all_descriptions n) b h
-common_descriptions n (all_descriptions m) h = let b = below_both n m h in (description_at 0, b.0, b.1)
+common_descriptions n (all_descriptions m) h = let b = below_both 0 n m h in (description_at 0, b.0, b.1)
 common_descriptions n _ h = absurd h
 
 common_descriptors : (y : Item) → T (share all_descriptors y) → Common all_descriptors y

@@ -10,7 +10,7 @@ use Rattle.trace_format.specs.declared.trace.Buffer.{Buffer}
 use Rattle.finite_maps.specs.Table.{Table, empty, insert, number_keys, pair_keys, pair_cmp}
 use Rattle.world_parts.specs.World.{World, Description}
 use Rattle.world_parts.specs.Start.{descriptions_from, descriptors_from, slots_from, buffers_from, ring_slots, ring_buffers, with_node, with_items}
-use Rattle.world_parts.proofs.Fills.{keep, filled, filled-push, rows_filled, rows_filled-push}
+use Rattle.world_parts.proofs.Fills.{keep, filled, rows_filled, rows_filled-push, filled_next}
 
 -- what a slot or a descriptor holds
 abbrev pub held : ℕ → Option ℕ
@@ -71,40 +71,16 @@ same_number r i j h = ap (λ (p : ℕ × ℕ). p.1) h
 -- one more of each
 
 pub descriptions-more : (ds : List Description) (i : ℕ) (d : Description) → i < length ds → descriptions_from 0 (take (i + 1) ds) ≡ insert number_keys.total (descriptions_from 0 (take i ds)) i (get_or ds i d)
-descriptions-more ds i d lt =
-    let here : 0 + length (take i ds) ≡ i = omega (arith, length-take-le i ds) in
-    ap (descriptions_from 0) (take_more ds i d lt)
-    ∙ descriptions_filled 0 (take i ds ++ get_or ds i d ∷ [])
-    ∙ filled-push number_keys Some (λ i. i) (λ i j h. h) 0 (take i ds) (get_or ds i d) empty
-    ∙ ap (λ (t : Table nat_cmp Description). insert number_keys.total t (0 + length (take i ds)) (get_or ds i d)) (sym (descriptions_filled 0 (take i ds)))
-    ∙ ap (λ (k : ℕ). insert number_keys.total (descriptions_from 0 (take i ds)) k (get_or ds i d)) here
+descriptions-more ds i d lt = filled_next number_keys Some (λ i. i) (λ i j h. h) empty (descriptions_from 0) (descriptions_filled 0) ds i d lt
 
 pub descriptors-more : (ds : List ℕ) (i d : ℕ) → i < length ds → descriptors_from 0 (take (i + 1) ds) ≡ keep number_keys (descriptors_from 0 (take i ds)) i (held (get_or ds i d))
-descriptors-more ds i d lt =
-    let here : 0 + length (take i ds) ≡ i = omega (arith, length-take-le i ds) in
-    ap (descriptors_from 0) (take_more ds i d lt)
-    ∙ descriptors_filled 0 (take i ds ++ get_or ds i d ∷ [])
-    ∙ filled-push number_keys held (λ i. i) (λ i j h. h) 0 (take i ds) (get_or ds i d) empty
-    ∙ ap (λ (t : Table nat_cmp ℕ). keep number_keys t (0 + length (take i ds)) (held (get_or ds i d))) (sym (descriptors_filled 0 (take i ds)))
-    ∙ ap (λ (k : ℕ). keep number_keys (descriptors_from 0 (take i ds)) k (held (get_or ds i d))) here
+descriptors-more ds i d lt = filled_next number_keys held (λ i. i) (λ i j h. h) empty (descriptors_from 0) (descriptors_filled 0) ds i d lt
 
 pub slots-more : (r : ℕ) (ds : List ℕ) (m : Table pair_cmp ℕ) (i d : ℕ) → i < length ds → slots_from r 0 (take (i + 1) ds) m ≡ keep pair_keys (slots_from r 0 (take i ds) m) (r, i) (held (get_or ds i d))
-slots-more r ds m i d lt =
-    let here : 0 + length (take i ds) ≡ i = omega (arith, length-take-le i ds) in
-    ap (λ (l : List ℕ). slots_from r 0 l m) (take_more ds i d lt)
-    ∙ slots_filled r 0 (take i ds ++ get_or ds i d ∷ []) m
-    ∙ filled-push pair_keys held (λ i. (r, i)) (same_number r) 0 (take i ds) (get_or ds i d) m
-    ∙ ap (λ (t : Table pair_cmp ℕ). keep pair_keys t (r, 0 + length (take i ds)) (held (get_or ds i d))) (sym (slots_filled r 0 (take i ds) m))
-    ∙ ap (λ (k : ℕ). keep pair_keys (slots_from r 0 (take i ds) m) (r, k) (held (get_or ds i d))) here
+slots-more r ds m i d lt = filled_next pair_keys held (λ i. (r, i)) (same_number r) m (λ l. slots_from r 0 l m) (λ l. slots_filled r 0 l m) ds i d lt
 
 pub buffers-more : (r : ℕ) (bs : List Buffer) (m : Table pair_cmp (List ℕ)) (i : ℕ) (b : Buffer) → i < length bs → buffers_from r 0 (take (i + 1) bs) m ≡ keep pair_keys (buffers_from r 0 (take i bs) m) (r, i) (zeros (get_or bs i b))
-buffers-more r bs m i b lt =
-    let here : 0 + length (take i bs) ≡ i = omega (arith, length-take-le i bs) in
-    ap (λ (l : List Buffer). buffers_from r 0 l m) (take_more bs i b lt)
-    ∙ buffers_filled r 0 (take i bs ++ get_or bs i b ∷ []) m
-    ∙ filled-push pair_keys zeros (λ i. (r, i)) (same_number r) 0 (take i bs) (get_or bs i b) m
-    ∙ ap (λ (t : Table pair_cmp (List ℕ)). keep pair_keys t (r, 0 + length (take i bs)) (zeros (get_or bs i b))) (sym (buffers_filled r 0 (take i bs) m))
-    ∙ ap (λ (k : ℕ). keep pair_keys (buffers_from r 0 (take i bs) m) (r, k) (zeros (get_or bs i b))) here
+buffers-more r bs m i b lt = filled_next pair_keys zeros (λ i. (r, i)) (same_number r) m (λ l. buffers_from r 0 l m) (λ l. buffers_filled r 0 l m) bs i b lt
 
 pub ring_slots-more : (xs : List Ring) (i : ℕ) (x : Ring) → i < length xs → ring_slots 0 (take (i + 1) xs) ≡ slots_from i 0 (get_or xs i x).slots (ring_slots 0 (take i xs))
 ring_slots-more xs i x lt =

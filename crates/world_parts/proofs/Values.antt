@@ -1,8 +1,8 @@
 -- Two worlds with the same atoms are one.
-use Rattle.std.specs.Prelude.{◌≡◌, ℕ, suc, ◌+◌, T, List, [], ◌∷◌, length, Option, Some, None, refl, slice_index_or}
+use Rattle.std.specs.Prelude.{◌≡◌, ℕ, suc, ◌+◌, List, [], ◌∷◌, length, Option, Some, None, refl, slice_index_or}
 use Rattle.std.specs.List.{slice_get}
-use Rattle.std.specs.Option.{option_map, option_and_then, is_some}
-use mathlib.Core.Path.{sym, subst, ap, ◌∙◌}
+use Rattle.std.specs.Option.{option_map, option_and_then}
+use mathlib.Core.Path.{sym, ap, ◌∙◌}
 use native.Mathlib.Omega.{arith}
 use Rattle.finite_maps.specs.Table.{get, count, same_table, number_keys, pair_keys, text_keys}
 use Rattle.world_parts.specs.World.{World, Description, Opened, opened_by}
@@ -13,12 +13,7 @@ use Rattle.file_tree.specs.Tree.{directory}
 use Rattle.file_tree.specs.Tree.{file}
 use Rattle.world_parts.specs.Items.{chain_flag, slot_at, descriptor_at, description_at, position_of, size_of, byte_at, name_at, names_in, buffer_size, buffer_byte}
 use Rattle.world_parts.specs.Laws.{AtomsMakeTheWorld}
-
-pub some_apart : {A : Type 0} {x : A} → ¬ (Some x ≡ None)
-some_apart e = subst (λ o. T (is_some o)) e tt
-
-pub same_some : {A : Type 0} (x y : A) → Some x ≡ Some y → x ≡ y
-same_some x y e = ap (λ o. elim o [ Some z ↦ z | None ↦ x ]) e
+use Rattle.world_parts.proofs.Trees.{some_apart, some_same}
 
 -- Lists of one length with the same bytes at each offset.
 pub same_bytes : (xs ys : List ℕ) → length xs ≡ length ys → ((p : ℕ) → slice_index_or xs p 0 ≡ slice_index_or ys p 0) → xs ≡ ys
@@ -31,7 +26,7 @@ same_gets : (xs ys : List ℕ) → ((p : ℕ) → slice_get xs p ≡ slice_get y
 same_gets [] [] h = refl
 same_gets [] (y ∷ ys) h = absurd (some_apart (sym (h 0)))
 same_gets (x ∷ xs) [] h = absurd (some_apart (h 0))
-same_gets (x ∷ xs) (y ∷ ys) h = λ i. same_some x y (h 0) i ∷ same_gets xs ys (λ p. h (suc p)) i
+same_gets (x ∷ xs) (y ∷ ys) h = λ i. some_same x y (h 0) i ∷ same_gets xs ys (λ p. h (suc p)) i
 
 -- The node that a target names.
 node_of : Option Target → Option ℕ
@@ -67,8 +62,8 @@ same_node s u (Some (directory m o)) (Some (file bs)) z b c n = absurd (some_apa
 same_node s u (Some (file bs)) (Some (directory m o)) z b c n = absurd (some_apart z)
 same_node s u (Some (directory m o)) (Some (directory k p)) z b c n =
     let shown = same_names s u m k n in
-    λ i. Some (directory (shown i) (same_rest m k o p shown (same_some _ _ c) i))
-same_node s u (Some (file bs)) (Some (file cs)) z b c n = ap (λ q. Some (file q)) (same_bytes bs cs (same_some _ _ z) b)
+    λ i. Some (directory (shown i) (same_rest m k o p shown (some_same _ _ c) i))
+same_node s u (Some (file bs)) (Some (file cs)) z b c n = ap (λ q. Some (file q)) (same_bytes bs cs (some_same _ _ z) b)
 
 abbrev rebuilt : Option Opened → Option ℕ → Option Description
 rebuilt (Some o) (Some p) = Some (record { node = o.target.node; access = o.access; append = o.append; position = p })

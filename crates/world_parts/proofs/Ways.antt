@@ -15,8 +15,7 @@ use Rattle.file_tree.specs.Tree.{Tree, Node, Names, directory, file, names, name
 use Rattle.file_tree.specs.Found.{node_of}
 use Rattle.file_tree.specs.Walk.{fits_name, walk_from, directory_at, is_directory}
 use Rattle.world_parts.specs.Paths.{come_to}
-use Rattle.world_parts.proofs.Values.{some_apart, same_some}
-use Rattle.world_parts.proofs.Trees.{above_over}
+use Rattle.world_parts.proofs.Trees.{above_over, some_apart, some_same}
 
 -- the node that a name of a directory leads to
 abbrev pub looked : Tree → ℕ → List ℕ → Option ℕ
@@ -30,7 +29,7 @@ Leads tree d (n ∷ ns) i = (e : ℕ) × (looked tree d n ≡ Some e) × Leads t
 pub leads_one : (tree : Tree) (d : ℕ) (ns : List (List ℕ)) (i j : ℕ) → Leads tree d ns i → Leads tree d ns j → i ≡ j
 leads_one tree d [] i j g h = sym g ∙ h
 leads_one tree d (n ∷ ns) i j g h =
-    let e : g.0 ≡ h.0 = same_some g.0 h.0 (sym g.1 ∙ h.1) in
+    let e : g.0 ≡ h.0 = some_same g.0 h.0 (sym g.1 ∙ h.1) in
     leads_one tree h.0 ns i j (subst (λ k. Leads tree k ns i) e g.2) h.2
 
 leads_more : (tree : Tree) (d : ℕ) (ns : List (List ℕ)) (e : ℕ) (n : List ℕ) (f : ℕ) → Leads tree d ns e → looked tree e n ≡ Some f → Leads tree d (ns ++ n ∷ []) f

@@ -281,8 +281,8 @@ fn is_same(one: &Item, other: &Item) -> bool
     }
 }
 
-/// Whether two items share a part of a world.
-fn share(one: &Item, other: &Item) -> bool
+/// Whether two items share a part of a world. It takes no memory.
+pub fn share(one: &Item, other: &Item) -> bool
     ensures { result ≡ items.share (item_meant one.now) (item_meant other.now) }
 {
     match (one, other) {

@@ -2,7 +2,7 @@ use Rattle.std.proofs.Common.{◌≡◌, suc, ◌<◌, ◌≤◌, ◌++◌, ◌�
 use Rattle.std.specs.Prelude.{slice_get, Option}
 use Rattle.std.specs.Option.{option_map}
 use Rattle.std.proofs.Math.ListN.{set, length-set}
-use Rattle.std.proofs.lemmas.List.{length_push, length-map, map-set}
+use Rattle.std.proofs.lemmas.List.{length_push, length-map, map-set, drop_all}
 use Rattle.std.proofs.lemmas.Option.{slice_get_read, slice_get-map, get_or_from_slice_get}
 use Rattle.std.proofs.lemmas.Iterator.Adapters.{YieldsList-from_vec}
 use Rattle.std.proofs.lemmas.Iterator.Consumers.{YieldsList-turn, YieldsList-end}
@@ -11,7 +11,7 @@ use Rattle.wave_pick.specs.declared.holding.Held.{Held}
 use Rattle.replay_core.specs.declared.round_log.WaitedFor.{WaitedFor}
 use Rattle.replay_core.specs.Waits.{waited_meant}
 use Rattle.replay_core.specs.Noted.{noted}
-use Rattle.replay_core.proofs.Lists.{drop-here, drop-whole}
+use Rattle.replay_core.proofs.Lists.{drop-here}
 use Rattle.replay_core.proofs.round_log.write_held.Goals.{In-Some, In-None}
 use Rattle.replay_core.proofs.round_log.write_held.Goals as goal
 
@@ -71,4 +71,4 @@ returns-clause-noted c =
     let end = YieldsList-end (YieldsList-from_vec {s = c.into_iter-found-iterator.result} c.into_vec-found-items.result.items begin.0 (begin.1 ∙ c.into_vec-found-items.result.ok.0)) c.loop-found.yielded c.loop-found.found-iterator c.loop-found.yielded_by c.next.result c.next.new.self c.in-None.is c.next.ensures.steps in
     let hs = map held_meant c.args.held in
     let few : length hs ≤ length c.loop-found.yielded = omega (arith, end.1, length-map c.args.held held_meant, ap length c.into_vec-found-items.ensures) in
-    ap (noted (map (option_map waited_meant) c.loop-found.waits.items)) (sym (drop-whole hs (length c.loop-found.yielded) few)) ∙ c.loop-found.invariant.rest
+    ap (noted (map (option_map waited_meant) c.loop-found.waits.items)) (sym (drop_all (length c.loop-found.yielded) hs few)) ∙ c.loop-found.invariant.rest

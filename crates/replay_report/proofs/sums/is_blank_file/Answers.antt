@@ -1,14 +1,12 @@
-use Rattle.std.proofs.Common.{◌≡◌, ℕ, List, [], replicate, sym, ap, ◌∙◌}
+use Rattle.std.proofs.Common.{ℕ, List, [], sym, ◌∙◌}
 use Rattle.std.specs.Prelude.{unwrap_or}
-use Rattle.extent_bytes.specs.Bytes.{resized}
 use Rattle.world_parts.specs.World.{bytes}
-use Rattle.replay_report.proofs.SumLemmas.{extended_nothing, held_length, whole_range}
+use Rattle.replay_report.proofs.SumLemmas.{whole_range}
 use Rattle.replay_report.proofs.sums.is_blank_file.Goals as goal
+use Rattle.world_parts.proofs.ByteWords.{size-some}
 
 pub returns : goal.returns
 returns c = λ same.
     let len : ℕ = c.args.len in
     let all : List ℕ = unwrap_or (bytes c.args.world.now c.args.node) [] in
-    let zeros : c.set_len.new.self ≡ replicate len 0 = c.in_ok-set_len.ensures.ok ∙ ap (λ old. resized old len) c.new-zeros.ensures ∙ extended_nothing len in
-    sym (whole_range all len (held_length (bytes c.args.world.now c.args.node) len c.requires)) ∙ sym c.in_ok-bytes.ensures ∙ c.same.ensures.0 same
-    ∙ c.in_ok-zeros.ensures ∙ whole_range c.set_len.new.self len c.in_ok-set_len.ensures.len ∙ zeros
+    sym (whole_range all len (size-some (bytes c.args.world.now c.args.node) len (sym c.requires))) ∙ sym c.in_ok-bytes.ensures ∙ c.same.ensures.0 same ∙ c.in_ok-zeros.ensures

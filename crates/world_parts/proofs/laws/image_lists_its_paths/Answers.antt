@@ -1,4 +1,4 @@
-use Rattle.std.specs.Prelude.{◌≡◌, ℕ, Bool, true, false, ◌||◌, ◌⊎◌, List, [], ◌∷◌, Some, refl}
+use Rattle.std.specs.Prelude.{◌≡◌, ℕ, ◌⊎◌, List, [], ◌∷◌, Some, refl}
 use Rattle.std.specs.Ordering.{nat_cmp}
 use Rattle.std.specs.Cmp.Lexicographic.{slice_cmp}
 use mathlib.Core.Path.{sym, subst, ap, ◌∙◌}
@@ -12,22 +12,19 @@ use Rattle.world_parts.specs.World.{World, IsWorld}
 use Rattle.world_parts.specs.Image.{all_paths, paths_below, name_entry}
 use Rattle.world_parts.specs.Paths.{path_of, come_to, led_to, HasFileNames, Lists, IsPathTo}
 use Rattle.world_parts.specs.declared.image.NameEntry.{NameEntry}
-use Rattle.world_parts.proofs.Values.{some_apart}
 use Rattle.world_parts.proofs.Members.{In, contained, element, in_map, in_map-at, entry_of, get_entry}
 use Rattle.world_parts.proofs.Ways.{Leads, leads_one, tree_has_no_loop, leads_short, walk_of_leads, leads_of_walk}
 use Rattle.world_parts.proofs.Listed.{all_fit, components_of, names_led, way_of_listed, listed_of_way, from_by_path, in_by_path}
 use Rattle.world_parts.proofs.laws.image_lists_its_paths.Goals as goal
-
-at_root : (b : Bool) → (b || true) ≡ true
-at_root true = refl
-at_root false = refl
+use Rattle.world_parts.proofs.Trees.{some_apart}
+use mathlib.Core.Bool.{or-true}
 
 module _ (s : World) (w : IsWorld s) (f : HasFileNames s) (p : List ℕ) (i : ℕ) where
   abbrev listed : List (List ℕ × ℕ)
   listed = paths_below (count s.nodes) s.nodes [] 0
 
   walked : led_to s p ≡ come_to (walk_from s.nodes 0 (components p))
-  walked = ap (λ b. come_to (require b EBADF >> walk_from s.nodes 0 (components p))) (at_root _)
+  walked = ap (λ b. come_to (require b EBADF >> walk_from s.nodes 0 (components p))) (or-true _)
 
   -- a listed path with its names
   way : (j : ℕ) → In (p, j) listed → (n : List ℕ) × (ns : List (List ℕ)) × (path_of (n ∷ ns) ≡ p) × Leads s.nodes 0 (n ∷ ns) j

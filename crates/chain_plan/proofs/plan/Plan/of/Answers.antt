@@ -1,5 +1,7 @@
 use Rattle.std.proofs.Common.{arith, ap, length, ◌∙◌}
 use Rattle.trace_format.proofs.Facts.{spelled_fits}
+use Rattle.trace_format.specs.Steps.{step_meant}
+use Rattle.chain_plan.specs.Plan.{marks_of}
 use Rattle.chain_plan.proofs.Walk.{walks_on, chains_long, member_short, chain_short, members_within, walked_roles, length-roles}
 use Rattle.chain_plan.proofs.plan.Plan.of.Goals as goal
 
@@ -18,7 +20,7 @@ count_member-requires c = chain_short _ _ _ _ _ c.loop-place.invariant (omega (a
 
 pub loop-place-preserved : goal.loop-place-preserved
 loop-place-preserved c =
-    walks_on _ _ _ _ _ _ _ _ _ _ _ _ _ c.loop-place.invariant c.step-step.ensures c.marks_of-marks.ensures c.followed-ahead.ensures (omega (arith, c.len.ensures, c.loop-place.chains.ok.0)) c.member_after-member.ensures c.in_ok-count_member.ensures c.link_from-linked.ensures c.in_ok-push.ensures.items
+    walks_on _ _ _ _ _ _ _ _ _ _ _ _ _ c.loop-place.invariant c.step-step.ensures (c.marks_of-marks.ensures ∙ ap (λ b. marks_of c.args.trace.now.version b (step_meant c.step-step.result)) c.is_some.ensures) c.followed-ahead.ensures (omega (arith, c.len.ensures, c.loop-place.chains.ok.0)) c.member_after-member.ensures c.in_ok-count_member.ensures c.link_from-linked.ensures c.in_ok-push.ensures.items
 
 pub invariant_of-result : goal.invariant_of-result
 invariant_of-result c = members_within _ _ _ _ _ c.loop-place.invariant

@@ -4,9 +4,9 @@ use Rattle.std.proofs.lemmas.Result.{IfOk-weaker}
 use Rattle.extent_bytes.specs.Bytes.{range_of}
 use Rattle.file_tree.specs.Tree.{Node, bytes_of_node}
 use Rattle.file_tree.specs.Nodes.{node_of}
-use Rattle.file_tree.proofs.Ranges.{range_of-none}
 use Rattle.file_tree.proofs.node.Node.cut.Goals.{in-Directory, in-File}
 use Rattle.file_tree.proofs.node.Node.cut.Goals as goal
+use Rattle.extent_bytes.proofs.Lists.{range_of-none}
 
 abbrev held : ℕ → ℕ → Node → List ℕ
 held lo hi n = range_of (unwrap_or (bytes_of_node n) []) lo hi

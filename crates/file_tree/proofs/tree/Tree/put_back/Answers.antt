@@ -1,35 +1,26 @@
-use Rattle.std.proofs.Common.{◌≤◌, ◌+◌, ℕ, List, length, Some, sym, subst, ◌∙◌}
-use Rattle.std.specs.Prelude.{Option, None, IfSome}
+use Rattle.std.proofs.Common.{◌≤◌, ◌+◌, length, sym, subst, ◌∙◌}
+use Rattle.std.specs.Prelude.{Option, IfSome}
 use Rattle.std.specs.Option.{option_and_then, option_map}
-use Rattle.std.proofs.lemmas.Result.{on_ok_weaker, on_err_weaker}
 use Rattle.extent_bytes.specs.Bytes.{overwritten}
 use Rattle.finite_maps.specs.Table.{number_keys}
-use Rattle.finite_maps.proofs.Maps.{get-of}
+use Rattle.finite_maps.proofs.Maps.{get-of, rewritten_none, rewritten_err, rewritten_ok}
 use Rattle.file_tree.specs.Tree.{Node, bytes_of_node, rewritten_node}
-use Rattle.file_tree.proofs.Adjusted.{adjusted, adjusted-none, adjusted-not}
 use Rattle.file_tree.proofs.tree.Tree.put_back.Goals as goal
+use Rattle.file_tree.proofs.Ranges.{fits}
 
 pub returns-in_default-clause-ok : goal.returns-in_default-clause-ok
 returns-in_default-clause-ok c =
-    adjusted-none c.self.inside.nodes c.get_mut.follows.lender-at-none c.args.self.now c.args.node c.self.view_is (rewritten_node (λ old. overwritten old c.args.lo c.args.part)) c.get_mut.follows.holds-at-none c.in_default.ensures.value
+    rewritten_none number_keys c.self.inside.nodes c.get_mut.follows.lender-at-none c.args.self.now c.args.node c.self.view_is (rewritten_node (λ old. overwritten old c.args.lo c.args.part)) c.get_mut.follows.holds-at-none c.in_default.ensures.value
 
 pub returns-clause-ok : goal.returns-clause-ok
 returns-clause-ok c =
     let w = c.put_back.new.self in
-    on_ok_weaker c.put_back.result
-    (adjusted c.self.inside.nodes (c.get_mut.follows.lender w) c.args.self.now c.args.node c.self.view_is c.in-Some.found.now w (c.get_mut.follows.holds w) c.in-Some.ensures.value (rewritten_node (λ old. overwritten old c.args.lo c.args.part)))
-    c.put_back.ensures.ok
+    rewritten_ok number_keys c.self.inside.nodes (c.get_mut.follows.lender w) c.args.self.now c.args.node c.self.view_is c.in-Some.found.now w (c.get_mut.follows.holds w) c.in-Some.ensures.value c.put_back.result (rewritten_node (λ old. overwritten old c.args.lo c.args.part)) c.put_back.ensures.ok
 
 pub returns-clause-err : goal.returns-clause-err
 returns-clause-err c =
     let w = c.put_back.new.self in
-    on_err_weaker c.put_back.result
-    (adjusted-not c.self.inside.nodes (c.get_mut.follows.lender w) c.args.self.now c.args.node c.self.view_is c.in-Some.found.now w (c.get_mut.follows.holds w) c.in-Some.ensures.value)
-    c.put_back.ensures.err
-
-fits : (end : ℕ) (o : Option (List ℕ)) → IfSome (option_map length o) (λ size. end ≤ size) → IfSome o (λ bytes. end ≤ length bytes)
-fits end None h = tt
-fits end (Some bytes) h = h
+    rewritten_err number_keys c.self.inside.nodes (c.get_mut.follows.lender w) c.args.self.now c.args.node c.self.view_is c.in-Some.found.now w (c.get_mut.follows.holds w) c.in-Some.ensures.value c.put_back.result c.put_back.ensures.err
 
 pub put_back-requires : goal.put_back-requires
 put_back-requires c =

@@ -1,12 +1,8 @@
-use Rattle.std.proofs.Common.{ℕ, List, [], ap, sym, ◌∙◌}
-use Rattle.std.specs.Prelude.{Option, unwrap_or}
+use Rattle.std.proofs.Common.{ap, sym, ◌∙◌}
 use Rattle.std.proofs.lemmas.Result.{IfOk-weaker}
-use Rattle.extent_bytes.specs.Bytes.{range_of}
-use Rattle.file_tree.proofs.Ranges.{range_of-none}
 use Rattle.file_tree.proofs.tree.Tree.read_shared.Goals as goal
-
-abbrev held : ℕ → ℕ → Option (List ℕ) → List ℕ
-held lo hi o = range_of (unwrap_or o []) lo hi
+use Rattle.extent_bytes.proofs.Lists.{range_of-none}
+use Rattle.file_tree.proofs.Ranges.{held}
 
 pub returns-in_default : goal.returns-in_default
 returns-in_default c = c.none.ensures ∙ sym (ap (held c.args.lo c.args.hi) (sym c.in_default.ensures) ∙ range_of-none c.args.lo c.args.hi)

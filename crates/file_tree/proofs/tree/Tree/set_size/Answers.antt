@@ -1,23 +1,19 @@
-use Rattle.std.proofs.lemmas.Result.{on_ok_weaker, on_err_weaker}
 use Rattle.extent_bytes.specs.Bytes.{resized}
 use Rattle.file_tree.specs.Tree.{rewritten_node}
-use Rattle.file_tree.proofs.Adjusted.{adjusted, adjusted-none, adjusted-not}
 use Rattle.file_tree.proofs.tree.Tree.set_size.Goals as goal
+use Rattle.finite_maps.proofs.Maps.{rewritten_none, rewritten_err, rewritten_ok}
+use Rattle.finite_maps.specs.Table.{number_keys}
 
 pub returns-in_default-clause-ok : goal.returns-in_default-clause-ok
 returns-in_default-clause-ok c =
-    adjusted-none c.self.inside.nodes c.get_mut.follows.lender-at-none c.args.self.now c.args.node c.self.view_is (rewritten_node (λ old. resized old c.args.size)) c.get_mut.follows.holds-at-none c.in_default.ensures.value
+    rewritten_none number_keys c.self.inside.nodes c.get_mut.follows.lender-at-none c.args.self.now c.args.node c.self.view_is (rewritten_node (λ old. resized old c.args.size)) c.get_mut.follows.holds-at-none c.in_default.ensures.value
 
 pub returns-clause-ok : goal.returns-clause-ok
 returns-clause-ok c =
     let w = c.set_size.new.self in
-    on_ok_weaker c.set_size.result
-    (adjusted c.self.inside.nodes (c.get_mut.follows.lender w) c.args.self.now c.args.node c.self.view_is c.in-Some.found.now w (c.get_mut.follows.holds w) c.in-Some.ensures.value (rewritten_node (λ old. resized old c.args.size)))
-    c.set_size.ensures.ok
+    rewritten_ok number_keys c.self.inside.nodes (c.get_mut.follows.lender w) c.args.self.now c.args.node c.self.view_is c.in-Some.found.now w (c.get_mut.follows.holds w) c.in-Some.ensures.value c.set_size.result (rewritten_node (λ old. resized old c.args.size)) c.set_size.ensures.ok
 
 pub returns-clause-err : goal.returns-clause-err
 returns-clause-err c =
     let w = c.set_size.new.self in
-    on_err_weaker c.set_size.result
-    (adjusted-not c.self.inside.nodes (c.get_mut.follows.lender w) c.args.self.now c.args.node c.self.view_is c.in-Some.found.now w (c.get_mut.follows.holds w) c.in-Some.ensures.value)
-    c.set_size.ensures.err
+    rewritten_err number_keys c.self.inside.nodes (c.get_mut.follows.lender w) c.args.self.now c.args.node c.self.view_is c.in-Some.found.now w (c.get_mut.follows.holds w) c.in-Some.ensures.value c.set_size.result c.set_size.ensures.err

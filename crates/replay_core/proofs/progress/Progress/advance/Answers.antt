@@ -2,9 +2,10 @@ use Rattle.std.proofs.Common.{◌≡◌, ◌⊎◌, ◌≤◌, length, filter, a
 use Rattle.std.specs.Prelude.{not}
 use Rattle.interleaving.specs.Machine.{has}
 use Rattle.wave_pick.specs.Rounds.{state_after}
-use Rattle.replay_core.proofs.Fronts.{length-filter, left_is, front_after}
+use Rattle.replay_core.proofs.Fronts.{left_is, front_after}
 use Rattle.replay_core.proofs.Dropping.{rises-front, done_is_ran}
 use Rattle.replay_core.proofs.progress.Progress.advance.Goals as goal
+use Rattle.replay_core.proofs.Lists.{length-filter}
 
 pub drop_ran-requires-clause-rises : goal.drop_ran-requires-clause-rises
 drop_ran-requires-clause-rises c =

@@ -16,10 +16,11 @@ use Rattle.replay_core.specs.declared.progress.Progress.{Progress}
 use Rattle.wave_pick.specs.Rounds.{state_after, wave_after}
 use Rattle.replay_core.specs.Progressing.{parts_of, AreOut}
 use Rattle.replay_core.proofs.Lists.{drop-here, take-whole}
-use Rattle.replay_core.proofs.Choosing.{chosen_at, chosen_within, has-middle}
+use Rattle.replay_core.proofs.Choosing.{chosen_at, chosen_within}
 use Rattle.replay_core.proofs.Cutting.{HasCut, one_cut, is_home, of-more, parts-more, wave-more}
 use Rattle.replay_core.proofs.progress.Progress.deal.Goals.{In-Some}
 use Rattle.replay_core.proofs.progress.Progress.deal.Goals as goal
+use Rattle.interleaving.proofs.Members.{has-middle}
 
 -- the place of this turn
 is_next : (c : In-Some) → (slice_get (wave_after c.args.trace.now c.args.self.now.window c.args.self.now.round) (length c.loop-chosen.yielded) ≡ Some c.in-Some.chosen.place)

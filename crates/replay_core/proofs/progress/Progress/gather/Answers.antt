@@ -1,7 +1,7 @@
 use Rattle.std.proofs.Common.{◌≡◌, ℕ, suc, ◌<◌, ◌≤◌, true, length, drop, ap, sym, subst, ◌∙◌, arith, Some, List, [], ◌∷◌, ◌++◌, refl}
 use Rattle.std.specs.Prelude.{slice_get}
 use Rattle.std.proofs.Math.ListN.{set}
-use Rattle.std.proofs.lemmas.List.{length_push, length-map}
+use Rattle.std.proofs.lemmas.List.{length_push, length-map, drop_all}
 use Rattle.std.proofs.lemmas.Option.{slice_get_read}
 use Rattle.std.proofs.lemmas.Iterator.Adapters.{YieldsList-from_vec}
 use Rattle.std.proofs.lemmas.Iterator.Consumers.{YieldsList-turn, YieldsList-end}
@@ -12,11 +12,10 @@ use Rattle.world_parts.specs.Part.{Part, Divided}
 use Rattle.replay_core.specs.declared.run.Run.{Run}
 use Rattle.wave_pick.specs.Rounds.{state_after}
 use Rattle.replay_core.specs.Progressing.{parts_of}
-use Rattle.replay_core.proofs.Lists.{drop-whole}
 use Rattle.replay_core.proofs.Returning.{Returns, HasReturned, left_is_world, part_is_out, part_is_narrow, part_fits, put_one}
 use Rattle.replay_core.proofs.Stepping.{as_kept, same_round-on, has_run}
 use Rattle.replay_core.proofs.Rounds.{begins, goes_on, ends, IsOutcomeAt, outcome_at}
-use Rattle.replay_core.proofs.progress.Progress.gather.Goals.{In_ok-reply, In_ok-put, In-None}
+use Rattle.replay_core.proofs.progress.Progress.gather.Goals.{In_ok-reply, In-None}
 use Rattle.replay_core.proofs.progress.Progress.gather.Goals as goal
 
 pub loop-outcome-init : goal.loop-outcome-init
@@ -129,7 +128,7 @@ over c =
     let many = c.requires.outcomes.0 in
     let parts_many = length-map c.args.jobs.value.items (λ (run : Run). run.part) in
     let le : length (parts_of c.args.jobs.value.items) ≤ length c.loop-outcome.yielded = omega (arith, end.1, many, parts_many) in
-    subst (λ (ps : List Part). Returns c.args.trace.now c.args.self.now.window c.args.self.now.round ps s.world s.replies.items s.rounds.items s.done.items) (drop-whole (parts_of c.args.jobs.value.items) (length c.loop-outcome.yielded) le) c.loop-outcome.invariant.returns
+    subst (λ (ps : List Part). Returns c.args.trace.now c.args.self.now.window c.args.self.now.round ps s.world s.replies.items s.rounds.items s.done.items) (drop_all (length c.loop-outcome.yielded) (parts_of c.args.jobs.value.items) le) c.loop-outcome.invariant.returns
 
 pub returns : goal.returns
 returns c =

@@ -1,6 +1,6 @@
 use Rattle.std.proofs.Common.{◌+◌, ◌<◌, length, drop, get_or, [], ◌∷◌, ap, sym, subst, refl, ◌∙◌, arith}
 use Rattle.std.proofs.Math.ListN.{set}
-use Rattle.std.proofs.lemmas.List.{drop_more}
+use Rattle.std.proofs.lemmas.List.{drop_more, drop_all}
 use Rattle.interleaving.specs.Machine.{State}
 use Rattle.interleaving.proofs.Members.{has-here}
 use Rattle.interleaving.proofs.Onwards.{ran}
@@ -10,7 +10,6 @@ use Rattle.world_parts.specs.Part.{Part, Divided}
 use Rattle.foot_print.specs.Replayed.{replayed}
 use Rattle.op_meaning.specs.Step.{step_world, step_reply}
 use Rattle.wave_pick.specs.Rounds.{state_after}
-use Rattle.replay_core.proofs.Lists.{drop-whole}
 use Rattle.replay_core.proofs.Stepping.{Steps, StepsHere, steps-begin, steps-on, steps-end, as_kept, same_round-on, has_run}
 use Rattle.replay_core.proofs.progress.Progress.run_here.Given.{Over}
 use Rattle.replay_core.proofs.progress.Progress.run_here.Goals.{In-loop-place}
@@ -95,7 +94,7 @@ returns g c =
     let old = c.args.self.now in
     let s = c.loop-place.self in
     let over : StepsHere t old.window old.round [] s.spare.values s.replies.items s.rounds.items s.done.items =
-    subst (λ ks. StepsHere t old.window old.round ks s.spare.values s.replies.items s.rounds.items s.done.items) (drop-whole c.args.ran.now c.loop-place.place-index c.loop-place-test.false) c.loop-place.invariant.steps in
+    subst (λ ks. StepsHere t old.window old.round ks s.spare.values s.replies.items s.rounds.items s.done.items) (drop_all c.loop-place.place-index c.args.ran.now c.loop-place-test.false) c.loop-place.invariant.steps in
     let world = over.world ∙ ap (λ (x : State (replayed t)). x.world) over.steps.leads in
     record {
       ran = has_run t old _ (steps-end t old.window old.round over.state s.replies.items s.rounds.items s.done.items over.steps)

@@ -1,13 +1,12 @@
 use Rattle.std.proofs.Common.{◌≡◌, ◌≤◌, ℕ, List, length, ap, subst, sym, ◌∙◌}
-use Rattle.std.proofs.lemmas.Result.{on_ok_weaker, on_err_weaker}
+use Rattle.std.proofs.lemmas.Result.{on_ok_weaker}
 use Rattle.extent_bytes.specs.Bytes.{overwritten, range_of}
 use Rattle.finite_maps.specs.Table.{pair_keys}
-use Rattle.finite_maps.specs.Maps.{table_of}
-use Rattle.finite_maps.proofs.Maps.{absent-rewrite, rewritten_through, left_through}
+use Rattle.finite_maps.proofs.Maps.{rewritten_through, rewritten_none, rewritten_err, rewritten-same}
 use Rattle.ring_tables.specs.Contents.{bytes_at, rewritten_at}
-use Rattle.ring_tables.proofs.BufferBytes.{nothing_put}
-use Rattle.ring_tables.proofs.Looked.{bytes_at-absent, bytes_at-found, rewritten-same}
+use Rattle.ring_tables.proofs.Looked.{bytes_at-absent, bytes_at-found}
 use Rattle.ring_tables.proofs.buffers.Buffers.copy_range.Goals as goal
+use Rattle.extent_bytes.proofs.Lists.{none_put}
 
 -- the change that the range is
 abbrev change : ℕ → ℕ → List ℕ → List ℕ → List ℕ
@@ -17,13 +16,12 @@ pub returns-in_default-clause-ok : goal.returns-in_default-clause-ok
 returns-in_default-clause-ok c =
     let none = bytes_at-absent c.source.inside.entries.entries c.args.source.now c.args.ring c.args.index c.source.view_is c.in_default.ensures.value in
     let empty : c.args.hi ≤ 0 = subst (λ (bs : List ℕ). c.args.hi ≤ length bs) none c.requires.there in
-    rewritten-same c.args.self.now c.args.ring c.args.index (change c.args.lo c.args.hi (bytes_at c.args.source.now c.args.ring c.args.index))
-    (subst (λ xs. (bs : List ℕ) → change c.args.lo c.args.hi xs bs ≡ bs) (sym none) (nothing_put c.args.lo c.args.hi c.requires.forward empty))
+    rewritten-same pair_keys c.args.self.now (c.args.ring, c.args.index) (change c.args.lo c.args.hi (bytes_at c.args.source.now c.args.ring c.args.index))
+    (subst (λ xs. (bs : List ℕ) → change c.args.lo c.args.hi xs bs ≡ bs) (sym none) (none_put c.args.lo c.args.hi c.requires.forward empty))
 
 pub returns-in_default-get_mut-clause-ok : goal.returns-in_default-get_mut-clause-ok
 returns-in_default-get_mut-clause-ok c =
-    ap (λ m. table_of pair_keys.total m.entries) c.get_mut.follows.holds-at-none ∙ c.self.view_is
-    ∙ sym (absent-rewrite pair_keys (change c.args.lo c.args.hi (bytes_at c.args.source.now c.args.ring c.args.index)) c.self.inside.entries.entries c.args.self.now (c.args.ring, c.args.index) c.self.view_is c.in_default-get_mut.ensures.value)
+    rewritten_none pair_keys c.self.inside.entries c.get_mut.follows.lender-at-none c.args.self.now (c.args.ring, c.args.index) c.self.view_is (change c.args.lo c.args.hi (bytes_at c.args.source.now c.args.ring c.args.index)) c.get_mut.follows.holds-at-none c.in_default-get_mut.ensures.value
 
 pub copy_range-requires-clause-there : goal.copy_range-requires-clause-there
 copy_range-requires-clause-there c =
@@ -46,6 +44,4 @@ returns-clause-ok c =
 pub returns-clause-err : goal.returns-clause-err
 returns-clause-err c =
     let w = c.copy_range.new.self in
-    on_err_weaker c.copy_range.result
-    (left_through pair_keys c.self.inside.entries (c.get_mut.follows.lender w) c.args.self.now (c.args.ring, c.args.index) c.in-Some-get_mut.buffer.now w c.self.view_is (c.get_mut.follows.holds w) c.in-Some-get_mut.ensures.value)
-    c.copy_range.ensures.err
+    rewritten_err pair_keys c.self.inside.entries (c.get_mut.follows.lender w) c.args.self.now (c.args.ring, c.args.index) c.self.view_is c.in-Some-get_mut.buffer.now w (c.get_mut.follows.holds w) c.in-Some-get_mut.ensures.value c.copy_range.result c.copy_range.ensures.err

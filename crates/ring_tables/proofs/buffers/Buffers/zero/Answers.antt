@@ -1,16 +1,14 @@
-use Rattle.std.proofs.Common.{◌-◌, min, replicate, ap, sym, ◌∙◌}
-use Rattle.std.proofs.lemmas.Result.{on_ok_weaker, on_err_weaker}
+use Rattle.std.proofs.Common.{◌-◌, min, replicate, ap, ◌∙◌}
+use Rattle.std.proofs.lemmas.Result.{on_ok_weaker}
 use Rattle.extent_bytes.specs.Bytes.{overlaid}
 use Rattle.finite_maps.specs.Table.{pair_keys}
-use Rattle.finite_maps.specs.Maps.{table_of}
-use Rattle.finite_maps.proofs.Maps.{absent-rewrite, rewritten_through, left_through}
+use Rattle.finite_maps.proofs.Maps.{rewritten_through, rewritten_none, rewritten_err}
 use Rattle.ring_tables.proofs.BufferBytes.{zeroed-overlaid}
 use Rattle.ring_tables.proofs.buffers.Buffers.zero.Goals as goal
 
 pub returns-in_default-clause-ok : goal.returns-in_default-clause-ok
 returns-in_default-clause-ok c =
-    ap (λ m. table_of pair_keys.total m.entries) c.get_mut.follows.holds-at-none ∙ c.self.view_is
-    ∙ sym (absent-rewrite pair_keys (λ old. overlaid old c.args.lo (replicate (c.args.hi - c.args.lo) 0)) c.self.inside.entries.entries c.args.self.now (c.args.ring, c.args.index) c.self.view_is c.in_default.ensures.value)
+    rewritten_none pair_keys c.self.inside.entries c.get_mut.follows.lender-at-none c.args.self.now (c.args.ring, c.args.index) c.self.view_is (λ old. overlaid old c.args.lo (replicate (c.args.hi - c.args.lo) 0)) c.get_mut.follows.holds-at-none c.in_default.ensures.value
 
 pub returns-clause-ok : goal.returns-clause-ok
 returns-clause-ok c =
@@ -25,6 +23,4 @@ returns-clause-ok c =
 pub returns-clause-err : goal.returns-clause-err
 returns-clause-err c =
     let new = c.zero.new.self in
-    on_err_weaker c.zero.result
-    (left_through pair_keys c.self.inside.entries (c.get_mut.follows.lender new) c.args.self.now (c.args.ring, c.args.index) c.in-Some.buffer.now new c.self.view_is (c.get_mut.follows.holds new) c.in-Some.ensures.value)
-    c.zero.ensures.err
+    rewritten_err pair_keys c.self.inside.entries (c.get_mut.follows.lender new) c.args.self.now (c.args.ring, c.args.index) c.self.view_is c.in-Some.buffer.now new (c.get_mut.follows.holds new) c.in-Some.ensures.value c.zero.result c.zero.ensures.err

@@ -6,8 +6,9 @@ use Rattle.world_parts.specs.Items.{buffer_bytes}
 use Rattle.world_parts.specs.World as world
 use Rattle.world_parts.proofs.Copies.{copied_to}
 use Rattle.world_parts.proofs.CopiesOfNodes.{copied_after}
-use Rattle.world_parts.proofs.CopiesOfBytes.{range_copied, no_range_copied, length_there}
+use Rattle.world_parts.proofs.CopiesOfBytes.{range_copied, no_range_copied}
 use Rattle.world_parts.proofs.state.State.copy_buffer.Goals as goal
+use Rattle.world_parts.proofs.ByteWords.{size-some}
 
 pub returns-in_default : goal.returns-in_default
 returns-in_default c =
@@ -18,13 +19,13 @@ returns-in_default c =
 
 pub copy_buffer_range-requires-clause-there : goal.copy_buffer_range-requires-clause-there
 copy_buffer_range-requires-clause-there c =
-    let l = length_there c.args.from.now c.args.ring c.args.index c.in-Some.len c.in-Some.ensures in
+    let l = size-some (world.buffer c.args.from.now c.args.ring c.args.index) c.in-Some.len c.in-Some.ensures in
     omega (arith, c.min-end.ensures, l)
 
 pub copy_buffer_range-requires-clause-inside : goal.copy_buffer_range-requires-clause-inside
 copy_buffer_range-requires-clause-inside c =
     let q = c.copy_buffer_len.new.self in
-    let l = length_there q c.args.ring c.args.index c.in-Some.len (c.in-Some.ensures ∙ sym c.in_ok-copy_buffer_len.ensures.len) in
+    let l = size-some (world.buffer q c.args.ring c.args.index) c.in-Some.len (c.in-Some.ensures ∙ sym c.in_ok-copy_buffer_len.ensures.len) in
     omega (arith, c.min-end.ensures, l)
 
 pub returns : goal.returns

@@ -7,8 +7,8 @@ use Rattle.world_parts.specs.World as world
 use Rattle.world_parts.proofs.Copies.{copied_to}
 use Rattle.world_parts.proofs.CopiesOfNodes.{copied_after, same_size}
 use Rattle.world_parts.proofs.CopiesOfBytes.{bytes_copied, no_bytes_copied}
-use Rattle.world_parts.proofs.PutTables.{size-some}
 use Rattle.world_parts.proofs.state.State.copy_bytes.Goals as goal
+use Rattle.world_parts.proofs.ByteWords.{size-some}
 
 pub returns-in_default : goal.returns-in_default
 returns-in_default c =

@@ -10,22 +10,15 @@ returns-in_default-clause-opened c = no_opening_copied c.args.from.now c.args.se
 pub returns-in_default-clause-position : goal.returns-in_default-clause-position
 returns-in_default-clause-position c = no_position_copied c.args.from.now c.args.self.now c.requires c.args.number c.in_default.ensures
 
-pub returns-clause-opened : goal.returns-clause-opened
-returns-clause-opened c =
+pub returns : goal.returns
+returns c =
     let s = c.args.from.now in
     let p = c.args.self.now in
     let q = c.copy_node.new.self in
     let near = c.in_ok-copy_node.ensures.nearer in
-    on_ok_weaker c.add_description.result
-    (copied_to s p _ c.add_description.new.self (one (description_at c.args.number)) (copied_after s p q _ (one (description_at c.args.number)) near (opening_copied s q near.shadow c.args.number c.in-Some.description c.in-Some.ensures c.in_ok-copy_node.ensures.node)))
-    c.add_description.ensures
-
-pub returns-clause-position : goal.returns-clause-position
-returns-clause-position c =
-    let s = c.args.from.now in
-    let p = c.args.self.now in
-    let q = c.copy_node.new.self in
-    let near = c.in_ok-copy_node.ensures.nearer in
-    on_ok_weaker c.add_description.result
-    (copied_to s p _ c.add_description.new.self (one (position_of c.args.number)) (copied_after s p q _ (one (position_of c.args.number)) near (position_copied s q near.shadow c.args.number c.in-Some.description c.in-Some.ensures c.in_ok-copy_node.ensures.node)))
-    c.add_description.ensures
+    let description = one (description_at c.args.number) in
+    let position = one (position_of c.args.number) in
+    record {
+      opened = on_ok_weaker c.add_description.result (copied_to s p _ c.add_description.new.self description (copied_after s p q _ description near (opening_copied s q near.shadow c.args.number c.in-Some.description c.in-Some.ensures c.in_ok-copy_node.ensures.node))) c.add_description.ensures;
+      position = on_ok_weaker c.add_description.result (copied_to s p _ c.add_description.new.self position (copied_after s p q _ position near (position_copied s q near.shadow c.args.number c.in-Some.description c.in-Some.ensures c.in_ok-copy_node.ensures.node))) c.add_description.ensures;
+    }

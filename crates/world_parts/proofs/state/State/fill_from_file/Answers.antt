@@ -6,8 +6,9 @@ use Rattle.extent_bytes.specs.Bytes.{overlaid, overwritten, range_of}
 use Rattle.finite_maps.specs.Table.{assign, pair_keys}
 use Rattle.file_tree.specs.Tree as tree
 use Rattle.world_parts.specs.World.{World, buffer, bytes}
-use Rattle.world_parts.proofs.Placing.{range_of-clipped, length-range_of-most, length-there, shared_over, copied_over}
+use Rattle.world_parts.proofs.Placing.{range_of-clipped, length-range_of-most, shared_over, copied_over}
 use Rattle.world_parts.proofs.state.State.fill_from_file.Goals as goal
+use Rattle.world_parts.proofs.ByteWords.{length-there}
 
 pub returns-then-saturating_sub-le-MOST_COPIED : goal.returns-then-saturating_sub-le-MOST_COPIED
 returns-then-saturating_sub-le-MOST_COPIED c =

@@ -4,8 +4,9 @@ use Rattle.std.proofs.lemmas.Result.{on_ok_weaker}
 use Rattle.world_parts.specs.Items.{one, name_at}
 use Rattle.world_parts.specs.Copying.{looked_up}
 use Rattle.world_parts.proofs.Copies.{copied_to}
-use Rattle.world_parts.proofs.CopiesOfNames.{name_copied, name_shown, not_shown, number_of}
+use Rattle.world_parts.proofs.CopiesOfNames.{name_copied, name_shown, number_of}
 use Rattle.world_parts.proofs.state.State.show_name.Goals as goal
+use Rattle.extent_bytes.proofs.Outcomes.{none_of}
 
 pub returns-then-is_some : goal.returns-then-is_some
 returns-then-is_some c =
@@ -20,5 +21,5 @@ returns c =
     let p = c.args.self.now in
     let d = c.args.directory in
     let n = c.args.name.now in
-    let hidden = not_shown (looked_up p d n) (c.if-is_some.ensures ∙ ap is_some (sym (number_of p d n c.name.result c.name.ensures))) in
+    let hidden = none_of (looked_up p d n) (sym (c.if-is_some.ensures ∙ ap is_some (sym (number_of p d n c.name.result c.name.ensures)))) in
     on_ok_weaker c.show.result (copied_to s p _ c.show.new.self (one (name_at d n)) (name_copied s p c.requires.shadow d n c.args.node c.requires.leads hidden c.requires.directory c.requires.node)) c.show.ensures

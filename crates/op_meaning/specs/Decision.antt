@@ -1,0 +1,65 @@
+-- A view of code: what an operation does that is accepted, as it was decided on.
+use Rattle.std.specs.Prelude.{ℕ, ◌+◌, ◌^◌, ◌<◌, ◌≤◌, [], ◌∷◌, None, length, unwrap_or}
+use Rattle.entry_checks.specs.Operation.{file_limit}
+use Rattle.entry_checks.specs.declared.operation.FileNumber.{FileNumber}
+use Rattle.entry_checks.specs.declared.operation.FileNumber.TheVariants.{Slot, Descriptor}
+use Rattle.extent_bytes.specs.Bytes.{range_of}
+use Rattle.trace_format.specs.declared.trace.Trace.{Trace}
+use Rattle.trace_format.specs.Sides.{most_moved}
+use Rattle.world_parts.specs.World.{World, buffer, set_descriptor, set_size, set_slot}
+use Rattle.op_meaning.specs.declared.allocating.RangeAllocation.{RangeAllocation}
+use Rattle.op_meaning.specs.declared.decision.Decision.{Decision}
+use Rattle.op_meaning.specs.declared.decision.Decision.TheVariants.{Nothing, Read, Write, ReadFixed, WriteFixed, Allocate, Resize, Open, Empty, MakeDirectory, ChangeNames}
+use Rattle.op_meaning.specs.declared.transfers.BufferRead.{BufferRead}
+use Rattle.op_meaning.specs.declared.transfers.BufferWrite.{BufferWrite}
+use Rattle.op_meaning.specs.declared.transfers.FileRead.{FileRead}
+use Rattle.op_meaning.specs.declared.transfers.FileWrite.{FileWrite}
+use Rattle.op_meaning.specs.Handles.{allocation_meant, handle_meant}
+use Rattle.op_meaning.specs.Meaning.{Effect, allocate, done, into, read_effect, reply, write_effect}
+use Rattle.op_meaning.specs.NameChanges.{changes_meant, directory_made}
+use Rattle.op_meaning.specs.Opening.{opened_as}
+
+-- a read into the reply, in which no ring has a part, and one into a buffer of a ring
+abbrev pub bytes_read : World → FileRead → Effect
+bytes_read s x = read_effect s 0 (handle_meant s x.file) x.offset x.count reply
+
+abbrev pub buffer_filled : World → ℕ → BufferRead → Effect
+buffer_filled s r x = read_effect s r (handle_meant s x.file) x.offset x.count (into x.index x.at)
+
+-- a write of bytes, and one of a range of a buffer of a ring
+abbrev pub bytes_written : World → FileWrite → Effect
+bytes_written s x = write_effect (handle_meant s x.file) x.offset x.start x.bytes.now
+
+abbrev pub buffer_written : World → ℕ → BufferWrite → Effect
+buffer_written s r x = write_effect (handle_meant s x.file) x.offset x.start (range_of (unwrap_or (buffer s r x.index) []) x.at (x.at + x.count))
+
+-- an allocation of a range of a file
+abbrev pub allocated : World → RangeAllocation → Effect
+allocated s x = done (allocate s x.node x.offset x.end (allocation_meant x.allocation))
+
+-- a slot of a ring, or a descriptor, that becomes empty
+abbrev pub emptied : ℕ → FileNumber → Effect
+emptied r (Slot n) = done (set_slot r n None ∷ [])
+emptied r (Descriptor n) = done (set_descriptor n None ∷ [])
+
+-- the effect of what was decided on, at a place of a ring
+abbrev pub effect_of : Trace → ℕ → ℕ → World → Decision → Effect
+effect_of t k r s Nothing = done []
+effect_of t k r s (Read x) = bytes_read s x
+effect_of t k r s (Write x) = bytes_written s x
+effect_of t k r s (ReadFixed x) = buffer_filled s r x
+effect_of t k r s (WriteFixed x) = buffer_written s r x
+effect_of t k r s (Allocate x) = allocated s x
+effect_of t k r s (Resize i n) = done (set_size i n ∷ [])
+effect_of t k r s (Open x) = opened_as t k r s.nodes x
+effect_of t k r s (Empty x) = emptied r x
+effect_of t k r s (MakeDirectory p) = directory_made t k p
+effect_of t k r s (ChangeNames x) = changes_meant s.nodes x
+
+-- whether what was decided on keeps to the limits: it writes no more than one call moves, from within the buffer, and makes no file longer than the largest
+abbrev pub IsWithinLimits : World → ℕ → Decision → Type 0
+IsWithinLimits s r (Write x) = (x.start + length x.bytes.now ≤ file_limit) × (length x.bytes.now ≤ most_moved)
+IsWithinLimits s r (WriteFixed x) = (x.at < 2 ^ 32) × (x.at + x.count ≤ length (unwrap_or (buffer s r x.index) [])) × (x.start + x.count ≤ file_limit) × (x.count ≤ most_moved)
+IsWithinLimits s r (Allocate x) = x.end ≤ file_limit
+IsWithinLimits s r (Resize i n) = n ≤ file_limit
+IsWithinLimits s r _ = Unit {0}

@@ -1,0 +1,71 @@
+//! What operations do that are accepted, decided on before it is done.
+ghost use Rattle.std.specs.Prelude.{◌≡◌, IfOk, OnOk};
+ghost use Rattle.op_meaning.specs.Decision.{effect_of, IsWithinLimits};
+ghost use Rattle.op_meaning.specs.Outcomes.{Gives};
+ghost use Rattle.op_meaning.specs.Site.{IsSite};
+ghost use Rattle.world_parts.specs.World.{apply_all};
+
+use crate::allocating::RangeAllocation;
+use crate::names::{NameChanges, change_names};
+use crate::naming::make_directory;
+use crate::open_files::{allocate, empty};
+use crate::opening::{Opening, open};
+use crate::outcome::{Done, finished};
+use crate::site::Site;
+use crate::transferring::{read, read_fixed, write, write_fixed};
+use crate::transfers::{BufferRead, BufferWrite, FileRead, FileWrite};
+use entry_checks::FileNumber;
+use file_tree::Place;
+use std::alloc::{AllocError, Global};
+use world_parts::State;
+
+/// What an operation does that is accepted, with all that its tests found out. It borrows the bytes
+/// and the names of its entry.
+#[derive(Clone, Copy)]
+pub(crate) enum Decision<'a> {
+    Nothing,
+    Read(FileRead),
+    Write(FileWrite<'a>),
+    ReadFixed(BufferRead),
+    WriteFixed(BufferWrite),
+    Allocate(RangeAllocation),
+    Resize { node: u32, size: u64 },
+    Open(Opening<'a>),
+    Empty(FileNumber),
+    MakeDirectory(Place<'a>),
+    ChangeNames(NameChanges<'a>),
+}
+
+/// Does what was decided on where an entry stands.
+///
+/// # Errors
+///
+/// Want of memory; the state can then only be dropped.
+pub(crate) fn carry_out(
+    alloc: Global,
+    site: Site<'_>,
+    decision: Decision<'_>,
+    state: &mut State,
+) -> Result<Done, AllocError>
+    requires site { IsSite site }
+    requires limits { IsWithinLimits state.old site.ring decision }
+    ensures answer { IfOk result (Gives (effect_of site.entry.trace.now site.entry.place
+        site.entry.ring state.old decision.entry)) }
+    ensures state { OnOk result (state.new ≡ apply_all (effect_of site.entry.trace.now
+        site.entry.place site.entry.ring state.old decision.entry).changes state.old) }
+{
+    match decision {
+        Decision::Nothing => {}
+        Decision::Read(asked) => return read(alloc, asked, state),
+        Decision::Write(asked) => return write(alloc, asked, state),
+        Decision::ReadFixed(asked) => return read_fixed(alloc, site.ring, asked, state),
+        Decision::WriteFixed(asked) => return write_fixed(alloc, site.ring, asked, state),
+        Decision::Allocate(range) => allocate(range, state)?,
+        Decision::Resize { node, size } => state.set_size(node, size)?,
+        Decision::Open(opening) => return open(alloc, site, opening, state),
+        Decision::Empty(file) => empty(site.ring, file, state)?,
+        Decision::MakeDirectory(place) => make_directory(alloc, site, place, state)?,
+        Decision::ChangeNames(changes) => change_names(alloc, changes, state)?,
+    }
+    Ok(finished(alloc))
+}
