@@ -5,6 +5,7 @@ pub mod Lists
 pub mod Whole
 pub mod PageFacts
 pub mod NextPage
+pub mod Passes
 pub mod Overlays
 pub mod Moves
 pub mod Compares

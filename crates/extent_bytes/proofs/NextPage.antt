@@ -6,14 +6,17 @@ use Rattle.std.specs.List.{slice_get}
 use Rattle.std.specs.Prelude.{IfSome, ◌∷◌}
 use Rattle.std.proofs.lemmas.Grind.{common_steps}
 
-cmp_of_le : (a b : ℕ) → a ≤ b → is_gt (nat_cmp a b) ≡ false
+pub cmp_of_le : (a b : ℕ) → a ≤ b → is_gt (nat_cmp a b) ≡ false
 cmp_of_le a b h = grind (arith, common_steps)
 
 cmp_of_lt : (a b : ℕ) → a < b → nat_cmp a b ≡ Less
 cmp_of_lt a b h = grind (arith, common_steps)
 
-le_of_cmp : (a b : ℕ) → is_gt (nat_cmp a b) ≡ false → a ≤ b
+pub le_of_cmp : (a b : ℕ) → is_gt (nat_cmp a b) ≡ false → a ≤ b
 le_of_cmp a b h = grind (arith, common_steps)
+
+pub lt_of_cmp : (a b : ℕ) → nat_cmp a b ≡ Less → a < b
+lt_of_cmp a b h = grind (arith, common_steps)
 
 -- the first entry of a range is the least
 pub first_is_least : {X : Type 0} (r t : List (ℕ × X)) (k : ℕ) (v : X) (a b j : ℕ) (S : Type 0) → r ≡ (k, v) ∷ t

@@ -26,6 +26,10 @@ pub none_of : {X : Type 0} (o : Option X) → is_some o ≡ false → o ≡ None
 none_of None h = refl
 none_of (Some x) h = cc
 
+pub some_not_none : {X : Type 0} (P : Type 0) (o : Option X) → o ≡ None → IsSome o → P
+some_not_none P None e s = cc
+some_not_none P (Some x) e s = cc
+
 -- what an append leaves where it succeeds
 pub ok_items : {T E X : Type 0} (r : Result T E) (xs ys zs ws : List X) → zs ≡ (if is_ok r then ys else xs) → ys ≡ ws → OnOk r (zs ≡ ws)
 ok_items (Ok x) xs ys zs ws h e = h ∙ e

@@ -3,7 +3,7 @@ ghost use Rattle.std.specs.Prelude.{◌≡◌, ℕ, ◌+◌, ◌-◌, ◌*◌, �
 ghost use Rattle.extent_bytes.specs.Pages.{page_of, SameRange, PageMoved};
 
 use crate::page::Page;
-use crate::page_map::{PAGE, Pages, next_stored, put_range};
+use crate::page_map::{PAGE, Pages, put_range};
 use std::alloc::{AllocError, Global};
 use std::collections::BTreeMap;
 
@@ -13,13 +13,11 @@ pub(crate) fn shared(pages: &Pages, alloc: Global, from: u64, to: u64) -> Result
     ensures { IfOk result (λ part.
         (j : ℕ) → from + j < to → page_of part j ≡ page_of pages.now (from + j)) }
 {
-    let mut part = BTreeMap::new(alloc);
-    let mut at = from;
-    while let Some((number, page)) = next_stored(pages, at, to) {
-        part.insert(number - from, page.clone()?)?;
-        at = number + 1;
+    let mut part = Vec::new(alloc);
+    for (number, page) in pages.range(from..to) {
+        part.push((*number - from, page.clone()?))?;
     }
-    Ok(part)
+    part.into_iter().collect(alloc)
 }
 
 // The bytes of the page of a number that lie from `start` up to `end`, written from `target` on.
@@ -61,10 +59,8 @@ fn moved(
 {
     let mut moved = BTreeMap::new(alloc);
     let last = end.div_ceil(PAGE);
-    let mut at = start / PAGE;
-    while let Some((number, page)) = next_stored(pages, at, last) {
-        move_page(&mut moved, alloc, page, number, start, end, target)?;
-        at = number + 1;
+    for (number, page) in pages.range(start / PAGE..last) {
+        move_page(&mut moved, alloc, page, *number, start, end, target)?;
     }
     Ok(moved)
 }

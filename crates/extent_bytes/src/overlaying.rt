@@ -1,6 +1,7 @@
 // Bytes put over a range of a map of pages. After a refusal of memory the bytes are as they were.
 ghost use Rattle.std.specs.Prelude.{◌≡◌, ℕ, ◌+◌, ◌-◌, ◌*◌, ◌/◌, ◌<◌, ◌≤◌, ◌^◌, min};
-ghost use Rattle.std.specs.Prelude.{length, slice_index, IsSome, OnOk, OnErr};
+ghost use Rattle.std.specs.Prelude.{◌≢◌, length, slice_index, None, Some, IsSome, IsTrue};
+ghost use Rattle.std.specs.Prelude.{OnOk, OnErr};
 ghost use Rattle.extent_bytes.specs.Pages.{page_of, byte_at, blank_page, SameBytes};
 ghost use Rattle.extent_bytes.specs.Pages.{SameBelow, Overlaid, WrittenAt, Completed};
 
@@ -51,6 +52,21 @@ fn reserve(pages: &mut Pages, number: u64, blank: &Page) -> Result<(), AllocErro
     Ok(())
 }
 
+// Whether each page from `first` up to `end` is stored.
+fn is_full(pages: &Pages, first: u64, end: u64) -> bool
+    requires { first ≤ end }
+    ensures { IsTrue result → (j : ℕ) → first ≤ j → j < end → IsSome (page_of pages.now j) }
+{
+    let mut next = first;
+    for (number, _) in pages.range(first..end) {
+        if *number != next {
+            return false;
+        }
+        next += 1;
+    }
+    next == end
+}
+
 // Has a page stored wherever the patch has one.
 fn make_room(
     pages: &mut Pages,
@@ -64,21 +80,54 @@ fn make_room(
     ensures ok { OnOk result ((j : ℕ) → first + j < end →
         IsSome (page_of patch.now j) → IsSome (page_of pages.new (first + j))) }
 {
-    if patch.is_empty() {
+    if patch.is_empty() || is_full(pages, first, end) {
         return Ok(());
     }
     let blank = Page::blank(alloc)?;
-    let mut at = 0;
-    while let Some(number) = next_page(patch, at, end - first) {
-        reserve(pages, first + number, &blank)?;
-        at = number + 1;
+    for (number, _) in patch.range(0..end - first) {
+        reserve(pages, first + *number, &blank)?;
     }
     Ok(())
 }
 
+// Takes those pages from `first` up to `end` away that the patch lacks.
+fn remove_others(pages: &mut Pages, patch: &Pages, first: u64, end: u64)
+    requires { first ≤ end }
+    ensures gone { (j : ℕ) → first + j < end →
+        page_of patch.now j ≡ None → page_of pages.new (first + j) ≡ None }
+    ensures kept { (j : ℕ) → IsSome (page_of patch.now j) →
+        page_of pages.new (first + j) ≡ page_of pages.old (first + j) }
+    ensures below { (j : ℕ) → j < first → page_of pages.new j ≡ page_of pages.old j }
+    ensures above { (j : ℕ) → end ≤ j → page_of pages.new j ≡ page_of pages.old j }
+{
+    let mut at = first;
+    while let Some(number) = next_page(pages, at, end) {
+        if !patch.contains_key(&(number - first)) {
+            pages.remove(&number);
+        }
+        at = number + 1;
+    }
+}
+
+// Puts the patch's page of a number in its place, if that is below `end`.
+fn adopt_page(pages: &mut Pages, first: u64, end: u64, number: u64, page: Page)
+    requires forward { first ≤ end }
+    requires room { first + number < end → IsSome (page_of pages.old (first + number)) }
+    ensures taken { first + number < end → page_of pages.new (first + number) ≡ Some page }
+    ensures others { (j : ℕ) → j ≢ first + number → page_of pages.new j ≡ page_of pages.old j }
+    ensures above { (j : ℕ) → end ≤ j → page_of pages.new j ≡ page_of pages.old j }
+{
+    if end - first <= number {
+        return;
+    }
+    if let Some(place) = pages.get_mut(&(first + number)) {
+        *place = page;
+    }
+}
+
 // Puts the patch's pages in place of those from `first` up to `end`. It takes no memory, since each
 // has its place already.
-fn adopt(pages: &mut Pages, mut patch: Pages, first: u64, end: u64)
+fn adopt(pages: &mut Pages, patch: Pages, first: u64, end: u64)
     requires forward { first ≤ end }
     requires room { (j : ℕ) → first + j < end →
         IsSome (page_of patch j) → IsSome (page_of pages.old (first + j)) }
@@ -86,19 +135,11 @@ fn adopt(pages: &mut Pages, mut patch: Pages, first: u64, end: u64)
     ensures below { (j : ℕ) → j < first → page_of pages.new j ≡ page_of pages.old j }
     ensures above { (j : ℕ) → end ≤ j → page_of pages.new j ≡ page_of pages.old j }
 {
-    let mut at = first;
-    while let Some(number) = next_page(pages, at, end) {
-        match patch.remove(&(number - first)) {
-            Some(page) => {
-                if let Some(place) = pages.get_mut(&number) {
-                    *place = page;
-                }
-            }
-            None => {
-                pages.remove(&number);
-            }
-        }
-        at = number + 1;
+    if !is_full(&patch, 0, end - first) {
+        remove_others(pages, &patch, first, end);
+    }
+    for (number, page) in patch {
+        adopt_page(pages, first, end, number, page);
     }
 }
 

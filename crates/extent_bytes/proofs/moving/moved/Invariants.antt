@@ -1,15 +1,12 @@
-use Rattle.std.proofs.Common.{◌≡◌, ℕ, ◌+◌, ◌-◌, ◌*◌, ◌/◌, ◌<◌, ◌≤◌}
+use Rattle.std.proofs.Common.{◌≡◌, ℕ, ◌+◌, ◌-◌, ◌/◌, ◌<◌, None}
 use Rattle.extent_bytes.specs.Pages.{byte_at}
+use Rattle.extent_bytes.proofs.Passes.{AreWithin, page_among}
 use Rattle.extent_bytes.proofs.moving.moved.Given as goal
 
--- the bytes of the pages below `at` are moved, and zeros lie behind them
+-- the bytes of the pages that are not among those left are moved
 abbrev pub invariant-loop-number : goal.invariant-loop-number
 invariant-loop-number l = record {
-  first : l.start / 4096 ≤ l.at;
-  within : l.at ≤ l.last;
-  done : (i : ℕ) → i < l.end - l.start → l.start + i < l.at * 4096 → byte_at l.moved (l.target + i) ≡ byte_at l.pages (l.start + i);
-  rest : (i : ℕ) → l.at * 4096 ≤ l.start + i → byte_at l.moved (l.target + i) ≡ 0;
+  left : AreWithin l.pages (l.start / 4096) l.last l.number-iterator;
+  done : (i : ℕ) → i < l.end - l.start → page_among l.number-iterator ((l.start + i) / 4096) ≡ None →
+      byte_at l.moved (l.target + i) ≡ byte_at l.pages (l.start + i);
 }
-
-abbrev pub decreases-loop-number : goal.decreases-loop-number
-decreases-loop-number l = l.last - l.at
