@@ -1,8 +1,8 @@
 -- Bytes of two maps compared.
 use Rattle.std.proofs.Common.{◌%◌, IsSome, ◌≡◌, ℕ, ◌+◌, ◌-◌, ◌*◌, ◌/◌, ◌<◌, ◌≤◌, ◌↔◌, List, Bool, length, take, drop, get_or, arith, sym, ◌∙◌, ap, min, max, ⊎_elim, Some, None, refl}
-use Rattle.std.specs.Prelude.{IsTrue, All, nat_eq}
+use Rattle.std.specs.Prelude.{◌∷◌, IsTrue, All, nat_eq}
 use Rattle.std.specs.Cmp.Lexicographic.{pointwise}
-use Rattle.std.proofs.lemmas.Bool.{cases_lt}
+use Rattle.std.proofs.lemmas.Bool.{cases_eq, cases_lt}
 use Rattle.std.proofs.lemmas.Bool.Decides.{Decides-eqb}
 use Rattle.std.proofs.lemmas.Slice.Eq.{slice_eq-Decides}
 use Rattle.std.proofs.lemmas.List.Elements.{All-get_or, All-from_get_or}
@@ -11,6 +11,7 @@ use Rattle.extent_bytes.specs.Pages.{StoredAgree, PageMap, page_of, page_byte, b
 use Rattle.extent_bytes.proofs.Outcomes.{some_is}
 use Rattle.extent_bytes.proofs.Lists.{get_or-part, length-part}
 use Rattle.extent_bytes.proofs.PageFacts.{byte_at-page, byte_at-stored}
+use Rattle.extent_bytes.proofs.Passes.{among_rest, page_among}
 
 -- a part of a stored page against bytes
 pub stored_holds : (m : PageMap) (k offset : ℕ) (page bs xs : List ℕ) (r : Bool) → offset + length bs ≤ 4096 → length page ≡ 4096 → page_of m k ≡ Some page
@@ -58,19 +59,16 @@ part_agrees other k start end target from to page long first last forward a b =
           ∙ sym (get_or-part page (from - k * 4096) (to - k * 4096) i ((start + (from - start + i)) % 4096) g (omega arith))),
     )
 
--- the stored pages below the next one agree, and then that one
-pub agree_more : (m other : PageMap) (start end target at number last : ℕ) (page : List ℕ) → page_of m number ≡ Some page → number < last → (end + 4095) / 4096 ≡ last
-    → ((j : ℕ) → at ≤ j → j < last → IsSome (page_of m j) → number ≤ j)
+-- the stored pages that were compared agree, and then the next one
+pub agree_more : (m other : PageMap) (start end target number : ℕ) (page : List ℕ) (es t : List (ℕ × List ℕ)) → es ≡ (number, page) ∷ t → page_of m number ≡ Some page
     → PageAgrees page number start end other target
-    → ((i : ℕ) → start + i < end → start + i < at * 4096 → IsSome (page_of m ((start + i) / 4096)) → byte_at other (target + i) ≡ byte_at m (start + i))
-    → (i : ℕ) → start + i < end → start + i < (number + 1) * 4096 → IsSome (page_of m ((start + i) / 4096)) → byte_at other (target + i) ≡ byte_at m (start + i)
-agree_more m other start end target at number last page stored h e least agrees before i l k s =
+    → ((i : ℕ) → start + i < end → page_among es ((start + i) / 4096) ≡ None → IsSome (page_of m ((start + i) / 4096)) → byte_at other (target + i) ≡ byte_at m (start + i))
+    → (i : ℕ) → start + i < end → page_among t ((start + i) / 4096) ≡ None → IsSome (page_of m ((start + i) / 4096)) → byte_at other (target + i) ≡ byte_at m (start + i)
+agree_more m other start end target number page es t e stored agrees before i l none s =
     ⊎_elim
-    (λ (q : start + i < at * 4096). before i l q s)
-    (λ (q : at * 4096 ≤ start + i).
-    let u : number ≤ (start + i) / 4096 = least ((start + i) / 4096) (omega arith) (omega arith) s in
-    let d : (start + i) / 4096 ≡ number = omega arith in agrees i l d ∙ sym (byte_at-stored m (start + i) number page stored d))
-    (cases_lt (start + i) (at * 4096))
+    (λ (d : (start + i) / 4096 ≡ number). agrees i l d ∙ sym (byte_at-stored m (start + i) number page stored d))
+    (λ ne. before i l (among_rest ((start + i) / 4096) number page es t e ne ∙ none) s)
+    (cases_eq ((start + i) / 4096) number)
 
 -- one stored page agrees if all do
 pub agree_at : (m other : PageMap) (start end target k : ℕ) (page : List ℕ) → page_of m k ≡ Some page → StoredAgree m start end other target → PageAgrees page k start end other target

@@ -3,7 +3,7 @@ ghost use Rattle.std.specs.Prelude.{◌+◌, ◌*◌, ◌/◌, ◌<◌, ◌≤�
 ghost use Rattle.extent_bytes.specs.Pages.{HoldsAt, PageAgrees, StoredAgree};
 
 use crate::page::{PAGE_SIZE, Page, is_blank};
-use crate::page_map::{PAGE, Pages, next_stored};
+use crate::page_map::{PAGE, Pages};
 
 // Whether the bytes are those of one page, from a place in it on.
 fn page_holds(pages: &Pages, number: u64, offset: usize, bytes: &[u8]) -> bool
@@ -76,12 +76,10 @@ pub(crate) fn stored_agree(
     ensures { IsTrue result ↔ StoredAgree pages.now start end other.now other_start }
 {
     let last = end.div_ceil(PAGE);
-    let mut at = start / PAGE;
-    while let Some((number, page)) = next_stored(pages, at, last) {
-        if !page_agrees(page, number, start, end, other, other_start) {
+    for (number, page) in pages.range(start / PAGE..last) {
+        if !page_agrees(page, *number, start, end, other, other_start) {
             return false;
         }
-        at = number + 1;
     }
     true
 }
