@@ -14,24 +14,6 @@ pub(crate) type Pages = BTreeMap<u64, Page>;
 
 pub(crate) const PAGE: u64 = PAGE_SIZE as u64;
 
-// The first stored page from `from` on and below `to`, and its number.
-pub(crate) fn next_stored(pages: &Pages, from: u64, to: u64) -> Option<(u64, &Page)>
-    requires { from ≤ to }
-    ensures page { IfSome result (λ found. page_of pages.now found.0 ≡ Some found.1.now) }
-    ensures within { IfSome result (λ found. (from ≤ found.0) × (found.0 < to)) }
-    ensures least { IfSome result (λ found.
-        (j : ℕ) → from ≤ j → j < to → IsSome (page_of pages.now j) → found.0 ≤ j) }
-    ensures none { IfNone result ((j : ℕ) → from ≤ j → j < to → page_of pages.now j ≡ None) }
-{
-    if from == to {
-        return None;
-    }
-    match pages.range(from..to).next() {
-        Some((number, page)) => Some((*number, page)),
-        None => None,
-    }
-}
-
 // The number of the first stored page from `from` on and below `to`.
 pub(crate) fn next_page(pages: &Pages, from: u64, to: u64) -> Option<u64>
     requires { from ≤ to }
@@ -41,8 +23,11 @@ pub(crate) fn next_page(pages: &Pages, from: u64, to: u64) -> Option<u64>
         (j : ℕ) → from ≤ j → j < to → IsSome (page_of pages.now j) → k ≤ j) }
     ensures none { IfNone result ((j : ℕ) → from ≤ j → j < to → page_of pages.now j ≡ None) }
 {
-    match next_stored(pages, from, to) {
-        Some((number, _)) => Some(number),
+    if from == to {
+        return None;
+    }
+    match pages.range(from..to).next() {
+        Some((number, _)) => Some(*number),
         None => None,
     }
 }
