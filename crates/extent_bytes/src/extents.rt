@@ -5,7 +5,7 @@ ghost use Rattle.extent_bytes.specs.Bytes.{overwritten, zeroed, resized, range_o
 
 use crate::comparing::stored_agree;
 use crate::moving::aligned;
-use crate::page_map::{PAGE, append_part, part_of_page};
+use crate::page_map::{PAGE, append_part, copy_of_part, part_of_page};
 use crate::stored::Stored;
 use std::alloc::{AllocError, Global};
 use std::marker::Model;
@@ -67,8 +67,13 @@ impl Extents {
     {
         let pages = self.stored.pages();
         let end = self.start + hi;
-        let mut bytes = Vec::with_capacity(self.alloc, (hi - lo) as usize)?;
         let mut at = self.start + lo;
+        let start = at % PAGE;
+        let stop = start + (hi - lo);
+        if stop <= PAGE {
+            return copy_of_part(pages, self.alloc, at / PAGE, start as usize, stop as usize);
+        }
+        let mut bytes = Vec::with_capacity(self.alloc, (hi - lo) as usize)?;
         while at < end {
             let offset = at % PAGE;
             let count = (PAGE - offset).min(end - at);

@@ -1,8 +1,8 @@
 // Stored pages by their numbers. Page k holds the bytes from 4,096 * k on, and one that is not
 // stored is zeros.
 ghost use Rattle.std.specs.Prelude.{◌≡◌, ℕ, ◌+◌, ◌-◌, ◌*◌, ◌<◌, ◌≤◌, ◌^◌, ◌++◌, length, vec_len};
-ghost use Rattle.std.specs.Prelude.{slice_index, replicate, None, Some, IsSome, IfSome, IfNone};
-ghost use Rattle.std.specs.Prelude.{OnOk, OnErr};
+ghost use Rattle.std.specs.Prelude.{slice_index, replicate, None, IsSome, IfSome, IfNone};
+ghost use Rattle.std.specs.Prelude.{IfOk, OnOk, OnErr};
 ghost use Rattle.extent_bytes.specs.Pages.{page_of, bytes_of, PageWritten, PageCopied};
 ghost use Rattle.extent_bytes.specs.Pages.{SameBytes, SameBelow, Overlaid};
 
@@ -161,6 +161,25 @@ pub(crate) fn part_of_page(pages: &Pages, number: u64, from: usize, to: usize) -
             Some(&stored[from..to])
         }
         None => None,
+    }
+}
+
+// A copy of a part of one page.
+pub(crate) fn copy_of_part(
+    pages: &Pages,
+    alloc: Global,
+    number: u64,
+    from: usize,
+    to: usize,
+) -> Result<Vec<u8>, AllocError>
+    requires forward { from ≤ to }
+    requires inside { to ≤ PAGE_SIZE }
+    ensures { IfOk result (λ bytes.
+        bytes.items ≡ bytes_of pages.now (number * 4096 + from) (to - from)) }
+{
+    match part_of_page(pages, number, from, to) {
+        Some(part) => Vec::from_slice(alloc, part),
+        None => Vec::from_elem(alloc, 0, to - from),
     }
 }
 
