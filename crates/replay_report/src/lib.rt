@@ -4,6 +4,7 @@
 #![tactic(auto)]
 
 mod entries;
+mod entry_line;
 mod escaping;
 mod places;
 mod report;

@@ -28,11 +28,11 @@ pub fn report_text(
     ensures { IfOk result (λ text. text.items
         ≡ report_of trace.now state.now replies.now sums) }
 {
-    let mut text = String::from_str(alloc, "uring-report 1\n")?;
+    let mut text = Vec::from_slice(alloc, b"uring-report 1\n")?;
     push_rings(alloc, &mut text, trace, replies)?;
     push_world(alloc, &mut text, state, sums)?;
-    text.push_str("end\n")?;
-    Ok(text.into_bytes())
+    text.extend_from_slice(b"end\n")?;
+    Ok(text)
 }
 
 /// The line of a check: how many places and rings a trace has.

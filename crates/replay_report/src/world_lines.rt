@@ -18,13 +18,21 @@ use crate::sums::{Holder, MOST_SUMMED, Sums};
 use std::alloc::{AllocError, Global};
 use world_parts::{BufferEntry, DescriptorEntry, Image, NameEntry, SlotEntry, State};
 
-/// The lines of what the world shows.
+/// The lines of what the world shows, which are made apart.
 pub(crate) fn push_world(
     alloc: Global,
-    text: &mut String,
+    text: &mut Vec<u8>,
     world: &State,
     sums: bool,
 ) -> Result<(), AllocError>
+    ensures { OnOk result (text.new.items ≡ text.old.items ++ world_lines world.now sums) }
+{
+    let mut lines = String::new(alloc);
+    push_lines(alloc, &mut lines, world, sums)?;
+    text.extend_from_slice(lines.as_bytes())
+}
+
+fn push_lines(alloc: Global, text: &mut String, world: &State, sums: bool) -> Result<(), AllocError>
     ensures { OnOk result (string_bytes text.new
         ≡ string_bytes text.old ++ world_lines world.now sums) }
 {

@@ -1,4 +1,4 @@
-use Rattle.std.proofs.Common.{◌≡◌, ◌∙◌, ap, sym, string_bytes, ◌++◌, ◌<◌, length, get_or, take, refl, append_assoc, arith}
+use Rattle.std.proofs.Common.{◌≡◌, ◌∙◌, ap, sym, ◌++◌, ◌<◌, length, get_or, take, refl, append_assoc, arith}
 use Rattle.std.specs.List.{flat_map, range_with_len}
 use Rattle.std.proofs.lemmas.List.{take_all}
 use Rattle.std.proofs.lemmas.Option.{slice_get_read}
@@ -24,8 +24,8 @@ loop-place-preserved c =
     let stands = listed_stands t c.args.ring ks i 0 c.requires.places c.loop-place-test.true in
     let within : place < length replies = omega (arith, listed_within t c.args.ring ks i 0 c.requires.places c.loop-place-test.true) in
     let here = place_line-read t replies c.args.ring place (step_meant c.step.result) c.index-replies-place.result stands c.step.ensures (slice_get_read replies (length replies) place c.index-replies-place.result refl within c.index-replies-place.is) in
-    list_grown (string_bytes c.writeln.new.self) (string_bytes c.loop-place.text) (string_bytes c.push_step.new.text) (place_line t replies c.args.ring) ks i 0 c.loop-place-test.true c.loop-place.invariant
-    (c.in_ok-push_step.ensures ∙ ap (λ text. string_bytes c.loop-place.text ++ text) (sym here))
+    list_grown c.push_heading.new.text.items c.loop-place.text.items c.push_step.new.text.items (place_line t replies c.args.ring) ks i 0 c.loop-place-test.true c.loop-place.invariant
+    (c.in_ok-push_step.ensures ∙ ap (λ text. c.loop-place.text.items ++ text) (sym here))
 
 pub returns : goal.returns
 returns c =
@@ -35,4 +35,4 @@ returns c =
     let lines = place_line t replies c.args.ring in
     let all : flat_map lines (take c.loop-place.place-index ks) ≡ flat_map lines (range_with_len 0 (places t)) =
     ap (flat_map lines) (take_all c.loop-place.place-index ks c.loop-place-test.false ∙ c.requires.places) ∙ ring_lines-listed t replies c.args.ring in
-    rw all at c.loop-place.invariant ∙ ap (λ text. text ++ flat_map lines (range_with_len 0 (places t))) c.in_ok-writeln.ensures.bytes ∙ simp append_assoc
+    rw all at c.loop-place.invariant ∙ ap (λ text. text ++ flat_map lines (range_with_len 0 (places t))) c.in_ok-push_heading.ensures ∙ simp append_assoc

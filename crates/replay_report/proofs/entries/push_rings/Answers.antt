@@ -1,4 +1,4 @@
-use Rattle.std.proofs.Common.{◌<◌, length, string_bytes, arith}
+use Rattle.std.proofs.Common.{◌<◌, length, arith}
 use Rattle.replay_report.specs.Report.{ring_lines}
 use Rattle.replay_report.proofs.PlacesLemmas.{list_read, rings_listed}
 use Rattle.replay_report.proofs.ReportLemmas.{range_grown}
@@ -15,4 +15,4 @@ push_ring-requires-clause-places c =
 
 pub loop-ring-preserved : goal.loop-ring-preserved
 loop-ring-preserved c =
-    range_grown (string_bytes c.args.text.now) (string_bytes c.loop-ring.text) (string_bytes c.push_ring.new.text) (ring_lines c.args.trace.now c.args.replies.now) c.loop-ring.ring c.loop-ring.invariant c.in_ok-push_ring.ensures
+    range_grown c.args.text.now.items c.loop-ring.text.items c.push_ring.new.text.items (ring_lines c.args.trace.now c.args.replies.now) c.loop-ring.ring c.loop-ring.invariant c.in_ok-push_ring.ensures
