@@ -1,5 +1,6 @@
 //! Bytes that were read.
-ghost use Rattle.std.specs.Prelude.{◌≡◌, ◌-◌, ◌≤◌, ◌↔◌, [], length, take, IfOk, IsTrue};
+ghost use Rattle.std.specs.Prelude.{◌≡◌, ◌-◌, ◌<◌, ◌≤◌, ◌↔◌, [], length, take, IfOk, IsTrue};
+ghost use Rattle.std.specs.Prelude.{IfNone, IfSome};
 ghost use Rattle.extent_bytes.specs.Bytes.{range_of};
 
 use crate::extents::{Extents, MAX_LEN};
@@ -9,7 +10,7 @@ use std::marker::Model;
 /// The most bytes that are copied. More are shared: half a page, so that a page that is changed
 /// after it was read, and so copied then, has cost no more than twice what a copy of the bytes
 /// would have.
-const MOST_COPIED: u64 = 2_048;
+pub const MOST_COPIED: u64 = 2_048;
 
 /// The most bytes that [`ReadBytes::front`] shows.
 pub const FRONT: usize = 64;
@@ -88,6 +89,18 @@ impl ReadBytes {
         match &self.kept {
             Kept::Plain(bytes) => bytes.len() as u64,
             Kept::Shared(shared) => shared.list.len(),
+        }
+    }
+
+    /// All of them, where they are a copy. It takes no memory.
+    pub fn few(&self) -> Option<&[u8]>
+        ensures all { IfSome result (λ few. few.now ≡ self.now) }
+        ensures few { IfSome result (λ few. length few.now ≤ MOST_COPIED) }
+        ensures many { IfNone result (MOST_COPIED < length self.now) }
+    {
+        match &self.kept {
+            Kept::Plain(bytes) => Some(bytes),
+            Kept::Shared(_) => None,
         }
     }
 

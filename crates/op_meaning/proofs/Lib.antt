@@ -8,3 +8,4 @@ pub mod Turns
 mod SpanWrites
 mod Worked
 pub mod FileNames
+pub mod LinesStay

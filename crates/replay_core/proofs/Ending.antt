@@ -43,18 +43,18 @@ module _ (t : Trace) (spelled : IsSpelled t) (p : Progress) (h : Stands t p) whe
     pub end_world : p.world ≡ whole (sequential_world t)
     end_world = h.world ∙ ap whole ((is_sequential over).0 ∙ (runs_as_the_model t).worlds (places t))
 
-    kept : (k : ℕ) → k < places t → (slice_get p.replies.items k ≡ step_reply t k (run_world t k)) × (slice_get p.rounds.items k ≡ Some (round_of (waves t p.window) k))
+    kept : (k : ℕ) → k < places t → (slice_get p.replies k ≡ step_reply t k (run_world t k)) × (slice_get p.rounds.items k ≡ Some (round_of (waves t p.window) k))
     kept k lt =
         let found = h.keeps.finished k (step_reply t k (sequential (replayed t) k)) lt ((is_sequential over).1 k lt) in
         (found.0 ∙ ap (step_reply t k) ((runs_as_the_model t).worlds k), found.1)
 
-    replies_so_far : (n : ℕ) → n ≤ places t → take n p.replies.items ≡ run_replies t n
+    replies_so_far : (n : ℕ) → n ≤ places t → take n p.replies ≡ run_replies t n
     replies_so_far zero le = refl
     replies_so_far (suc n) le =
-        take-more p.replies.items n ∙ (λ i. replies_so_far n (omega arith) i ++ each (λ (r : Reply). r ∷ []) ((kept n (omega arith)).0 i))
+        take-more p.replies n ∙ (λ i. replies_so_far n (omega arith) i ++ each (λ (r : Reply). r ∷ []) ((kept n (omega arith)).0 i))
 
-    pub end_replies : p.replies.items ≡ sequential_replies t
-    end_replies = sym (take-whole p.replies.items (places t) h.keeps.many_replies) ∙ replies_so_far (places t) (omega arith)
+    pub end_replies : p.replies ≡ sequential_replies t
+    end_replies = sym (take-whole p.replies (places t) h.keeps.many_replies) ∙ replies_so_far (places t) (omega arith)
 
     pub end_rounds : p.rounds.items ≡ picked.rounds t p.window
     end_rounds = sym (take-whole p.rounds.items (places t) h.keeps.many_rounds) ∙ mapped-so-far (round_of (waves t p.window)) p.rounds.items (places t) (λ k lt. (kept k lt).1)

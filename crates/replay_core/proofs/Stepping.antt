@@ -101,10 +101,10 @@ pub same_round-on : (before now after : Progress) → IsSameRound before now →
 same_round-on before now after p q = (q.0 ∙ p.0, q.1 ∙ p.1, q.2 ∙ p.2, q.3 ∙ p.3, q.4 ∙ p.4)
 
 -- once a round is over
-pub has_run : (t : Trace) (before after : Progress) → Keeps t before.window (state_after t before.window (before.round + 1)) after.replies.items after.rounds.items after.done.items
+pub has_run : (t : Trace) (before after : Progress) → Keeps t before.window (state_after t before.window (before.round + 1)) after.replies after.rounds.items after.done.items
     → after.world ≡ whole (state_after t before.window (before.round + 1)).world → IsSameRound before after → HasRun t before after
 has_run t before after keeps world rest = record {
   world = world;
-  keeps = subst (λ (n : ℕ). Keeps t n (state_after t n (before.round + 1)) after.replies.items after.rounds.items after.done.items) (sym rest.0) keeps;
+  keeps = subst (λ (n : ℕ). Keeps t n (state_after t n (before.round + 1)) after.replies after.rounds.items after.done.items) (sym rest.0) keeps;
   rest = rest;
 }

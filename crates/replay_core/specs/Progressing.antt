@@ -40,7 +40,7 @@ pub record IsFront (t : Trace) (window : ℕ) (x : State (replayed t)) (front : 
 
 -- What a replay keeps of each place after r rounds.
 abbrev pub KeptAfter : Trace → ℕ → Progress → Type 0
-KeptAfter t r p = Keeps t p.window (state_after t p.window r) p.replies.items p.rounds.items p.done.items
+KeptAfter t r p = Keeps t p.window (state_after t p.window r) p.replies p.rounds.items p.done.items
 
 -- Its scheduler has picked the first r rounds, and remembers what it has to for the next one.
 abbrev pub HasPicked : Trace → ℕ → Progress → Type 0

@@ -20,7 +20,7 @@ use crate::run::Run;
 use crate::serial::Replay;
 use chain_plan::Plan;
 use extent_bytes::ReadBytes;
-use op_meaning::Reply;
+use op_meaning::{Replies, Reply};
 use std::alloc::{AllocError, Global};
 use std::snapshot::Snapshot;
 use std::sync::Wait;
@@ -40,7 +40,7 @@ pub(crate) struct Progress {
     /// Has all of the world while a round runs on it, and else nothing.
     spare: Part,
     /// The reply and the round of each place that is done.
-    replies: Vec<Reply>,
+    replies: Replies,
     rounds: Vec<u32>,
     done: Vec<bool>,
     /// The first places that aren't done, as many as the window has, and the first place behind
@@ -64,10 +64,10 @@ fn places_of(alloc: Global, wave: &Wave) -> Result<Vec<u32>, AllocError>
 }
 
 /// A reply for each place, of which nothing is said.
-fn blank_replies(alloc: Global, places: u32) -> Result<Vec<Reply>, AllocError>
-    ensures { IfOk result (λ replies. length replies.items ≡ places) }
+fn blank_replies(alloc: Global, places: u32) -> Result<Replies, AllocError>
+    ensures { IfOk result (λ replies. length replies ≡ places) }
 {
-    let mut replies = Vec::new(alloc);
+    let mut replies = Replies::new(alloc);
     for _place in 0..places {
         replies.push(Reply {
             res: 0,
@@ -182,20 +182,22 @@ impl Progress {
     }
 
     /// Keeps the reply of a place that the round has run.
-    fn keep(&mut self, place: u32, reply: Reply)
-        requires replies { place < length self.old.replies.items }
+    fn keep(&mut self, place: u32, reply: Reply) -> Result<(), AllocError>
+        requires replies { place < length self.old.replies }
         requires rounds { place < length self.old.rounds.items }
         requires done { place < length self.old.done.items }
-        ensures replies { self.new.replies.items ≡ set self.old.replies.items place reply }
-        ensures rounds { self.new.rounds.items ≡ set self.old.rounds.items place self.old.round }
-        ensures done { self.new.done.items ≡ set self.old.done.items place true }
+        ensures replies { OnOk result (self.new.replies ≡ set self.old.replies place reply) }
+        ensures rounds { OnOk result
+            (self.new.rounds.items ≡ set self.old.rounds.items place self.old.round) }
+        ensures done { OnOk result (self.new.done.items ≡ set self.old.done.items place true) }
         ensures worlds { (self.new.world ≡ self.old.world) × (self.new.spare ≡ self.old.spare) }
         ensures rest { IsSameRound self.old self.new }
     {
         let index = place as usize;
-        self.replies[index] = reply;
+        self.replies.set(index, reply)?;
         self.rounds[index] = self.round;
         self.done[index] = true;
+        Ok(())
     }
 
     /// Runs the places of a round one after another on all of the world.
@@ -217,7 +219,7 @@ impl Progress {
         self.world.exchange(&mut self.spare);
         for place in ran {
             let reply = gate.run(alloc, *place, trace, &plan.role(*place), &mut self.spare)?;
-            self.keep(*place, reply);
+            self.keep(*place, reply)?;
         }
         self.world.exchange(&mut self.spare);
         Ok(())
@@ -271,7 +273,7 @@ impl Progress {
             let (reply, part) = outcome?;
             let place = part.place;
             self.world.put(alloc, part)?;
-            self.keep(place, reply);
+            self.keep(place, reply)?;
         }
         Ok(())
     }
@@ -418,7 +420,7 @@ impl Progress {
     {
         Replay {
             world: self.world,
-            replies: Series::from_vec(self.replies),
+            replies: self.replies,
             rounds: Series::from_vec(self.rounds),
         }
     }

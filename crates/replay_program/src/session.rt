@@ -329,7 +329,7 @@ fn report(alloc: Global, trace: &Trace, replay: &Replay, sums: bool) -> Result<V
     ensures err { IfErr result (λ fault. fault ≡ ReplayFault.Memory) }
 {
     let state = replay.world.state();
-    match report_text(alloc, trace, state, replay.replies.as_slice(), sums) {
+    match report_text(alloc, trace, state, &replay.replies, sums) {
         Ok(text) => Ok(text),
         Err(AllocError) => Err(ReplayFault::Memory),
     }

@@ -8,7 +8,7 @@ ghost use Rattle.replay_report.specs.Report.{action_line, entry_line, line, ring
 
 use crate::entry_line::{SHOWN, push_line};
 use crate::places::PlacesByRing;
-use op_meaning::Reply;
+use op_meaning::{Replies, ReplyRef};
 use std::alloc::{AllocError, Global};
 use trace_format::{Action, Step, Trace};
 
@@ -17,7 +17,7 @@ pub(crate) fn push_rings(
     alloc: Global,
     text: &mut Vec<u8>,
     trace: &Trace,
-    replies: &[Reply],
+    replies: &Replies,
 ) -> Result<(), AllocError>
     requires { length replies.now ≡ places trace.now }
     ensures { OnOk result (text.new.items ≡ text.old.items
@@ -37,7 +37,7 @@ fn push_ring(
     ring: usize,
     ring_places: &[u32],
     trace: &Trace,
-    replies: &[Reply],
+    replies: &Replies,
 ) -> Result<(), AllocError>
     requires replies { length replies.now ≡ places trace.now }
     requires places { ring_places.now ≡ places_of_ring trace.now ring }
@@ -46,8 +46,8 @@ fn push_ring(
 {
     push_heading(alloc, text, ring)?;
     for place in ring_places {
-        let reply = &replies[*place as usize];
-        push_step(text, *place, trace.step(*place), reply)?;
+        let reply = replies.get(*place as usize);
+        push_step(text, *place, trace.step(*place), &reply)?;
     }
     Ok(())
 }
@@ -65,7 +65,7 @@ fn push_step(
     text: &mut Vec<u8>,
     place: u32,
     step: Step<'_>,
-    reply: &Reply,
+    reply: &ReplyRef<'_>,
 ) -> Result<(), AllocError>
     ensures { OnOk result (text.new.items
         ≡ text.old.items ++ action_line place (step_meant step.entry).action reply.now) }
@@ -80,12 +80,12 @@ fn push_entry(
     text: &mut Vec<u8>,
     place: u32,
     user_data: u64,
-    reply: &Reply,
+    reply: &ReplyRef<'_>,
 ) -> Result<(), AllocError>
     ensures { OnOk result (text.new.items
         ≡ text.old.items ++ entry_line place user_data reply.now) }
 {
     // One byte more than is shown tells whether there are more.
-    let front = reply.bytes.front(SHOWN + 1);
-    push_line(text, place, user_data, reply.res, reply.posted, front)
+    let front = reply.front(SHOWN + 1);
+    push_line(text, place, user_data, reply.res(), reply.posted(), front)
 }

@@ -5,7 +5,7 @@ ghost use Rattle.trace_format.specs.Steps.{places};
 
 use crate::entries::push_rings;
 use crate::world_lines::push_world;
-use op_meaning::Reply;
+use op_meaning::Replies;
 use std::alloc::{AllocError, Global};
 use trace_format::Trace;
 use world_parts::State;
@@ -21,7 +21,7 @@ pub fn report_text(
     alloc: Global,
     trace: &Trace,
     state: &State,
-    replies: &[Reply],
+    replies: &Replies,
     sums: bool,
 ) -> Result<Vec<u8>, AllocError>
     requires replies { length replies.now ≡ places trace.now }

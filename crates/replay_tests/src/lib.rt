@@ -9,6 +9,8 @@ mod footprints;
 #[cfg(test)]
 mod places;
 #[cfg(test)]
+mod replies;
+#[cfg(test)]
 mod rounds;
 #[cfg(test)]
 mod running;

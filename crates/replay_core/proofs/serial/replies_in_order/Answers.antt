@@ -9,6 +9,6 @@ loop-place-preserved c =
     let k = c.loop-place.place in
     record {
       state = rw add-one (c.in_ok-run_on_state.ensures.state ∙ ap (step_world t k) c.loop-place.invariant.state);
-      replies = run_replies-more t k c.loop-place.replies.items c.push.new.self.items c.in_ok-run_on_state.field-0 c.loop-place.invariant.replies
-          (c.in_ok-run_on_state.ensures.reply ∙ ap (step_reply t k) c.loop-place.invariant.state) c.in_ok-push.ensures.items;
+      replies = run_replies-more t k c.loop-place.replies c.push.new.self c.in_ok-run_on_state.field-0 c.loop-place.invariant.replies
+          (c.in_ok-run_on_state.ensures.reply ∙ ap (step_reply t k) c.loop-place.invariant.state) c.in_ok-push.ensures.ok;
     }

@@ -6,5 +6,5 @@ use Rattle.replay_core.proofs.serial.replies_in_order.Given as goal
 abbrev pub invariant-loop-place : goal.invariant-loop-place
 invariant-loop-place l = record {
   state : l.state ≡ run_world l.trace l.place;
-  replies : l.replies.items ≡ run_replies l.trace l.place;
+  replies : l.replies ≡ run_replies l.trace l.place;
 }

@@ -1,15 +1,14 @@
-use Rattle.std.proofs.Common.{◌≡◌, ◌∙◌, ap, sym, ◌++◌, ◌<◌, length, get_or, take, refl, append_assoc, arith}
+use Rattle.std.proofs.Common.{◌≡◌, ◌∙◌, ap, sym, ◌++◌, get_or, take, append_assoc, arith}
 use Rattle.std.specs.List.{flat_map, range_with_len}
 use Rattle.std.proofs.lemmas.List.{take_all}
-use Rattle.std.proofs.lemmas.Option.{slice_get_read}
 use Rattle.trace_format.specs.Steps.{places, step_meant}
 use Rattle.replay_report.specs.Report.{place_line}
 use Rattle.replay_report.proofs.PlacesLemmas.{listed_stands, listed_within}
 use Rattle.replay_report.proofs.ReportLemmas.{list_grown, place_line-read, ring_lines-listed}
 use Rattle.replay_report.proofs.entries.push_ring.Goals as goal
 
-pub bounds-replies-place : goal.bounds-replies-place
-bounds-replies-place c = omega (arith, listed_within c.args.trace.now c.args.ring c.args.ring_places.now c.loop-place.place-index 0 c.requires.places c.loop-place-test.true)
+pub get-reply-requires : goal.get-reply-requires
+get-reply-requires c = omega (arith, listed_within c.args.trace.now c.args.ring c.args.ring_places.now c.loop-place.place-index 0 c.requires.places c.loop-place-test.true)
 
 pub step-requires : goal.step-requires
 step-requires c = listed_within c.args.trace.now c.args.ring c.args.ring_places.now c.loop-place.place-index 0 c.requires.places c.loop-place-test.true
@@ -22,8 +21,7 @@ loop-place-preserved c =
     let i = c.loop-place.place-index in
     let place = get_or ks i 0 in
     let stands = listed_stands t c.args.ring ks i 0 c.requires.places c.loop-place-test.true in
-    let within : place < length replies = omega (arith, listed_within t c.args.ring ks i 0 c.requires.places c.loop-place-test.true) in
-    let here = place_line-read t replies c.args.ring place (step_meant c.step.result) c.index-replies-place.result stands c.step.ensures (slice_get_read replies (length replies) place c.index-replies-place.result refl within c.index-replies-place.is) in
+    let here = place_line-read t replies c.args.ring place (step_meant c.step.result) c.get-reply.result stands c.step.ensures c.get-reply.ensures in
     list_grown c.push_heading.new.text.items c.loop-place.text.items c.push_step.new.text.items (place_line t replies c.args.ring) ks i 0 c.loop-place-test.true c.loop-place.invariant
     (c.in_ok-push_step.ensures ∙ ap (λ text. c.loop-place.text.items ++ text) (sym here))
 

@@ -24,7 +24,7 @@ loop-outcome-init c =
     record {
       next = tt;
       finite = tt;
-      returns = begins c.args.trace.now c.requires.trace s.window s.round c.args.jobs.value.items s.world s.replies.items s.rounds.items s.done.items c.requires.round c.requires.dealt c.requires.keeps;
+      returns = begins c.args.trace.now c.requires.trace s.window s.round c.args.jobs.value.items s.world s.replies s.rounds.items s.done.items c.requires.round c.requires.dealt c.requires.keeps;
       rest = (refl, refl, refl, refl, refl);
     }
 
@@ -41,11 +41,11 @@ left : (c : In_ok-reply) → List Part
 left c = drop (suc (length c.loop-outcome.yielded)) (parts_of c.args.jobs.value.items)
 
 -- what holds before the part of this turn is put back
-before : (c : In_ok-reply) → Returns c.args.trace.now c.args.self.now.window c.args.self.now.round ((is_outcome c).part ∷ left c) c.loop-outcome.self.world c.loop-outcome.self.replies.items c.loop-outcome.self.rounds.items c.loop-outcome.self.done.items
+before : (c : In_ok-reply) → Returns c.args.trace.now c.args.self.now.window c.args.self.now.round ((is_outcome c).part ∷ left c) c.loop-outcome.self.world c.loop-outcome.self.replies c.loop-outcome.self.rounds.items c.loop-outcome.self.done.items
 unfolding left
 before c =
     let s = c.loop-outcome.self in
-    subst (λ (ps : List Part). Returns c.args.trace.now c.args.self.now.window c.args.self.now.round ps s.world s.replies.items s.rounds.items s.done.items) (is_outcome c).here c.loop-outcome.invariant.returns
+    subst (λ (ps : List Part). Returns c.args.trace.now c.args.self.now.window c.args.self.now.round ps s.world s.replies s.rounds.items s.done.items) (is_outcome c).here c.loop-outcome.invariant.returns
 
 returned : (c : In_ok-reply) → HasReturned c.args.trace.now (state_after c.args.trace.now c.args.self.now.window c.args.self.now.round).world (before c).state.world (is_outcome c).part (left c) c.loop-outcome.self.world c.in_ok-reply.part
 returned c = record { out = (before c).out; run = (is_outcome c).back_is }
@@ -106,21 +106,21 @@ loop-outcome-preserved c =
     let here : c.part.inside.place ≡ o.part.place = ap (λ (q : Part). q.place) c.part.view_is ∙ ap (λ (q : Part). q.place) o.back_is in
     let count : suc (length c.loop-outcome.yielded) ≡ length (c.loop-outcome.yielded ++ c.in-Some.outcome ∷ []) = omega (arith, length_push c.loop-outcome.yielded c.in-Some.outcome) in
     let after = put_one t (state_after t window r).world (before d).state.world o.part (left d) s.world part (returned d) c.put.new.self c.put.result c.in_ok-put.field-0 c.in_ok-put.was c.put.ensures.world c.in_ok-put.ensures.home in
-    let next = goes_on t c.requires.trace window r o.part (left d) s.world c.put.new.self s.replies.items s.rounds.items s.done.items reply part (before d) o.back_is after o.answer in
-    let kept = c.keep.ensures in
+    let next = goes_on t c.requires.trace window r o.part (left d) s.world c.put.new.self s.replies s.rounds.items s.done.items reply part (before d) o.back_is after o.answer in
+    let kept = c.in_ok-keep.ensures in
     record {
       next = tt;
       finite = tt;
       returns =
-          subst (λ (n : ℕ). Returns t window r (drop n parts_are) c.keep.new.self.world c.keep.new.self.replies.items c.keep.new.self.rounds.items c.keep.new.self.done.items) count
-          (subst (λ (w : Divided). Returns t window r (left d) w c.keep.new.self.replies.items c.keep.new.self.rounds.items c.keep.new.self.done.items) (sym kept.worlds.0)
-          (as_kept (Returns t window r (left d) c.put.new.self) (kept.replies ∙ ap (λ (k : ℕ). set s.replies.items k reply) here)
+          subst (λ (n : ℕ). Returns t window r (drop n parts_are) c.keep.new.self.world c.keep.new.self.replies c.keep.new.self.rounds.items c.keep.new.self.done.items) count
+          (subst (λ (w : Divided). Returns t window r (left d) w c.keep.new.self.replies c.keep.new.self.rounds.items c.keep.new.self.done.items) (sym kept.worlds.0)
+          (as_kept (Returns t window r (left d) c.put.new.self) (kept.replies ∙ ap (λ (k : ℕ). set s.replies k reply) here)
           (kept.rounds ∙ (λ i. set s.rounds.items (here i) (c.loop-outcome.invariant.rest.1 i))) (kept.done ∙ ap (λ (k : ℕ). set s.done.items k true) here) next));
       rest = same_round-on c.args.self.now s c.keep.new.self c.loop-outcome.invariant.rest kept.rest;
     }
 
 -- when all are back
-over : (c : In-None) → Returns c.args.trace.now c.args.self.now.window c.args.self.now.round [] c.loop-outcome.self.world c.loop-outcome.self.replies.items c.loop-outcome.self.rounds.items c.loop-outcome.self.done.items
+over : (c : In-None) → Returns c.args.trace.now c.args.self.now.window c.args.self.now.round [] c.loop-outcome.self.world c.loop-outcome.self.replies c.loop-outcome.self.rounds.items c.loop-outcome.self.done.items
 over c =
     let s = c.loop-outcome.self in
     let begin = c.into_iter-outcome-iterator.ensures.into_iter_gives in
@@ -128,10 +128,10 @@ over c =
     let many = c.requires.outcomes.0 in
     let parts_many = length-map c.args.jobs.value.items (λ (run : Run). run.part) in
     let le : length (parts_of c.args.jobs.value.items) ≤ length c.loop-outcome.yielded = omega (arith, end.1, many, parts_many) in
-    subst (λ (ps : List Part). Returns c.args.trace.now c.args.self.now.window c.args.self.now.round ps s.world s.replies.items s.rounds.items s.done.items) (drop_all (length c.loop-outcome.yielded) (parts_of c.args.jobs.value.items) le) c.loop-outcome.invariant.returns
+    subst (λ (ps : List Part). Returns c.args.trace.now c.args.self.now.window c.args.self.now.round ps s.world s.replies s.rounds.items s.done.items) (drop_all (length c.loop-outcome.yielded) (parts_of c.args.jobs.value.items) le) c.loop-outcome.invariant.returns
 
 pub returns : goal.returns
 returns c =
     let s = c.loop-outcome.self in
-    let end = ends c.args.trace.now c.requires.trace c.args.self.now.window c.args.self.now.round s.world s.replies.items s.rounds.items s.done.items (over (goal.at.returns c).In-None) in
+    let end = ends c.args.trace.now c.requires.trace c.args.self.now.window c.args.self.now.round s.world s.replies s.rounds.items s.done.items (over (goal.at.returns c).In-None) in
     record { ran = has_run c.args.trace.now c.args.self.now s end.0 end.1 c.loop-outcome.invariant.rest }

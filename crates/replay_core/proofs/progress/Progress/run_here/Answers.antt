@@ -23,8 +23,8 @@ loop-place-init g c =
       steps = record {
         state = state_after t s.window s.round;
         world = ap (λ (p : Part). p.values) c.exchange.ensures.part ∙ ap (λ (d : Divided). d.world) c.requires.begins.world;
-        steps = subst (λ ks. Steps t s.window s.round ks (state_after t s.window s.round) s.replies.items s.rounds.items s.done.items) (sym c.requires.ran)
-            (steps-begin t c.requires.trace s.window s.round s.replies.items s.rounds.items s.done.items c.requires.round c.requires.begins.keeps);
+        steps = subst (λ ks. Steps t s.window s.round ks (state_after t s.window s.round) s.replies s.rounds.items s.done.items) (sym c.requires.ran)
+            (steps-begin t c.requires.trace s.window s.round s.replies s.rounds.items s.done.items c.requires.round c.requires.begins.keeps);
       };
       home = ap (λ (d : Divided). d.out) c.exchange.ensures.world ∙ ap (λ (d : Divided). d.out) c.requires.begins.world;
       rest = (refl, refl, refl, refl, refl);
@@ -32,10 +32,10 @@ loop-place-init g c =
 
 -- what holds before the place of this turn runs
 before : (g : Over) (c : In-loop-place g) → StepsHere c.args.trace.now c.args.self.now.window c.args.self.now.round
-    (get_or c.args.ran.now c.loop-place.place-index 0 ∷ drop (c.loop-place.place-index + 1) c.args.ran.now) c.loop-place.self.spare.values c.loop-place.self.replies.items c.loop-place.self.rounds.items c.loop-place.self.done.items
+    (get_or c.args.ran.now c.loop-place.place-index 0 ∷ drop (c.loop-place.place-index + 1) c.args.ran.now) c.loop-place.self.spare.values c.loop-place.self.replies c.loop-place.self.rounds.items c.loop-place.self.done.items
 before g c =
     let s = c.loop-place.self in
-    subst (λ ks. StepsHere c.args.trace.now c.args.self.now.window c.args.self.now.round ks s.spare.values s.replies.items s.rounds.items s.done.items)
+    subst (λ ks. StepsHere c.args.trace.now c.args.self.now.window c.args.self.now.round ks s.spare.values s.replies s.rounds.items s.done.items)
     (drop_more c.args.ran.now c.loop-place.place-index 0 c.loop-place-test.true) c.loop-place.invariant.steps
 
 -- the place is one of the trace
@@ -76,13 +76,13 @@ loop-place-preserved g c =
     let ks = drop (c.loop-place.place-index + 1) c.args.ran.now in
     let k = get_or c.args.ran.now c.loop-place.place-index 0 in
     let h = before g (goal.at.loop-place-preserved g c).In-loop-place in
-    let kept = c.keep.ensures in
+    let kept = c.in_ok-keep.ensures in
     record {
       steps = record {
         state = ran (replayed t) h.state k;
         world = ap (λ (p : Part). p.values) (kept.worlds.1 ∙ c.in_ok-reply.ensures.values) ∙ ap (step_world t k) h.world;
         steps = as_kept (Steps t window r ks (ran (replayed t) h.state k)) kept.replies (kept.rounds ∙ ap (set s.rounds.items k) c.loop-place.invariant.rest.1) kept.done
-            (steps-on t window r k ks h.state s.replies.items s.rounds.items s.done.items c.in_ok-reply.reply h.steps (c.in_ok-reply.ensures.reply ∙ ap (step_reply t k) h.world));
+            (steps-on t window r k ks h.state s.replies s.rounds.items s.done.items c.in_ok-reply.reply h.steps (c.in_ok-reply.ensures.reply ∙ ap (step_reply t k) h.world));
       };
       home = ap (λ (d : Divided). d.out) kept.worlds.0 ∙ c.loop-place.invariant.home;
       rest = same_round-on c.args.self.now s c.keep.new.self c.loop-place.invariant.rest kept.rest;
@@ -93,10 +93,10 @@ returns g c =
     let t = c.args.trace.now in
     let old = c.args.self.now in
     let s = c.loop-place.self in
-    let over : StepsHere t old.window old.round [] s.spare.values s.replies.items s.rounds.items s.done.items =
-    subst (λ ks. StepsHere t old.window old.round ks s.spare.values s.replies.items s.rounds.items s.done.items) (drop_all c.loop-place.place-index c.args.ran.now c.loop-place-test.false) c.loop-place.invariant.steps in
+    let over : StepsHere t old.window old.round [] s.spare.values s.replies s.rounds.items s.done.items =
+    subst (λ ks. StepsHere t old.window old.round ks s.spare.values s.replies s.rounds.items s.done.items) (drop_all c.loop-place.place-index c.args.ran.now c.loop-place-test.false) c.loop-place.invariant.steps in
     let world = over.world ∙ ap (λ (x : State (replayed t)). x.world) over.steps.leads in
     record {
-      ran = has_run t old _ (steps-end t old.window old.round over.state s.replies.items s.rounds.items s.done.items over.steps)
+      ran = has_run t old _ (steps-end t old.window old.round over.state s.replies s.rounds.items s.done.items over.steps)
           (c.exchange-2.ensures.world ∙ (λ i. record { world = world i; out = c.loop-place.invariant.home i })) c.loop-place.invariant.rest;
     }

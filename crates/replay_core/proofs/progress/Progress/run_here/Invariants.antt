@@ -6,7 +6,7 @@ use Rattle.replay_core.proofs.progress.Progress.run_here.Given as goal
 
 abbrev pub invariant-loop-place : goal.invariant-loop-place
 invariant-loop-place g l = record {
-  steps : StepsHere l.trace l.fn.self.window l.fn.self.round (drop l.place-index l.ran) l.self.spare.values l.self.replies.items l.self.rounds.items l.self.done.items;
+  steps : StepsHere l.trace l.fn.self.window l.fn.self.round (drop l.place-index l.ran) l.self.spare.values l.self.replies l.self.rounds.items l.self.done.items;
   home : l.self.world.out ≡ empty;
   rest : IsSameRound l.fn.self l.self;
 }
