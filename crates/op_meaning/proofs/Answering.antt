@@ -10,7 +10,7 @@ use Rattle.trace_format.specs.Sides.{most_moved}
 use Rattle.op_meaning.specs.declared.outcome.Done.{Done}
 use Rattle.op_meaning.specs.Meaning.{Effect}
 use Rattle.op_meaning.specs.Outcomes.{answered, answer_of, fails_as, reply_with}
-use Rattle.op_meaning.specs.Step.{failed, breaks, result_of, bytes_read, changes_of}
+use Rattle.op_meaning.specs.Step.{failed, breaks, result_of, bytes_of, changes_of}
 
 -- An operation fails by its answer alone.
 pub fails : (o : Operation) (x : Result Effect Errno) → fails_as (asked o) (answer_of x) ≡ failed o x
@@ -22,7 +22,7 @@ fails o (Ok x) = by (asked o) refl
 fails o (Err e) = refl
 
 -- Its reply too.
-pub replies : (posted : Bool) (x : Result Effect Errno) → reply_with posted (answer_of x) ≡ record { res = result_of x; bytes = bytes_read x; posted = posted }
+pub replies : (posted : Bool) (x : Result Effect Errno) → reply_with posted (answer_of x) ≡ record { res = result_of x; bytes = bytes_of x; posted = posted }
 replies posted (Ok x) = refl
 replies posted (Err e) = refl
 

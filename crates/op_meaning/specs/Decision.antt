@@ -16,7 +16,7 @@ use Rattle.op_meaning.specs.declared.transfers.FileRead.{FileRead}
 use Rattle.op_meaning.specs.declared.transfers.FileWrite.{FileWrite}
 use Rattle.op_meaning.specs.Handles.{allocation_meant, handle_meant}
 use Rattle.op_meaning.specs.Meaning.{Effect, allocate, done, into, read_effect, reply, write_effect}
-use Rattle.op_meaning.specs.NameChanges.{changes_meant, directory_made}
+use Rattle.op_meaning.specs.NameChanges.{changes_meant, directory_effect}
 use Rattle.op_meaning.specs.Opening.{opened_as}
 
 -- a read into the reply, in which no ring has a part, and one into a buffer of a ring
@@ -53,7 +53,7 @@ effect_of t k r s (Allocate x) = allocated s x
 effect_of t k r s (Resize i n) = done (set_size i n ∷ [])
 effect_of t k r s (Open x) = opened_as t k r s.nodes x
 effect_of t k r s (Empty x) = emptied r x
-effect_of t k r s (MakeDirectory p) = directory_made t k p
+effect_of t k r s (MakeDirectory p) = directory_effect t k p
 effect_of t k r s (ChangeNames x) = changes_meant s.nodes x
 
 -- whether what was decided on keeps to the limits: it writes no more than one call moves, from within the buffer, and makes no file longer than the largest

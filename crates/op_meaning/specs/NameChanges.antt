@@ -34,5 +34,5 @@ abbrev pub exchange_meant : Tree → Place → Place → ℕ → ℕ → Effect
 exchange_meant tree p q i j = exchanged (place_meant tree p) (place_meant tree q) (target tree i) (target tree j)
 
 -- a directory that a place makes where a path leads
-abbrev pub directory_made : Trace → ℕ → Place → Effect
-directory_made t k p = done (make_node (made_node t k) a_directory ∷ set_name p.parent p.name.now (Some (new_directory (made_node t k))) ∷ [])
+abbrev pub directory_effect : Trace → ℕ → Place → Effect
+directory_effect t k p = done (make_node (made_node t k) a_directory ∷ set_name p.parent p.name.now (Some (new_directory (made_node t k))) ∷ [])

@@ -7,7 +7,7 @@ ghost use Rattle.op_meaning.specs.Deciding.{Decides};
 ghost use Rattle.op_meaning.specs.Meaning as meaning;
 ghost use Rattle.op_meaning.specs.Meaning.{linkat_meaning, mkdirat_meaning};
 ghost use Rattle.op_meaning.specs.Meaning.{renameat_meaning, unlinkat_meaning};
-ghost use Rattle.op_meaning.specs.NameChanges.{changes_meant, decision_meant, directory_made};
+ghost use Rattle.op_meaning.specs.NameChanges.{changes_meant, decision_meant, directory_effect};
 ghost use Rattle.op_meaning.specs.NameChanges.{move_meant, exchange_meant};
 ghost use Rattle.op_meaning.specs.Site.{IsSite};
 ghost use Rattle.trace_format.specs.declared.trace.Trace.{Trace};
@@ -75,7 +75,7 @@ pub(crate) fn unlinking<'a>(
 /// That of the first test that fails: those of the walk, EEXIST.
 pub(crate) fn making<'a>(path: PathAt<'a>, state: &State) -> Result<Place<'a>, Errno>
     ensures { (t : Trace) (k : ℕ) → Decides
-        (mkdirat_meaning t state.now k (path_meant path.entry)) (directory_made t k) result }
+        (mkdirat_meaning t state.now k (path_meant path.entry)) (directory_effect t k) result }
 {
     let place = state.walk(path.directory, path.text)?;
     if place.node.is_some() {
@@ -93,7 +93,7 @@ pub(crate) fn make_directory(
 ) -> Result<(), AllocError>
     requires site { IsSite site }
     ensures { OnOk result (state.new ≡ apply_all
-        (directory_made site.entry.trace.now site.entry.place place.entry).changes state.old) }
+        (directory_effect site.entry.trace.now site.entry.place place.entry).changes state.old) }
 {
     let node = made_node(site.trace, site.place);
     state.add_node(alloc, node, Kind::Directory)?;
