@@ -3,9 +3,9 @@ use Rattle.replay_program.proofs.SessionLemmas.{length-replies, sequential_text}
 use Rattle.replay_program.proofs.session.report.Goals as goal
 
 pub report_text-requires : goal.report_text-requires
-report_text-requires c = record { replies = length-replies c.args.trace.now c.as_slice.result.now (c.as_slice.ensures ∙ c.requires.replies) }
+report_text-requires c = record { replies = length-replies c.args.trace.now c.args.replay.now.replies c.requires.replies }
 
 pub returns-in-Ok-clause-ok : goal.returns-in-Ok-clause-ok
 returns-in-Ok-clause-ok c =
-    sequential_text c.args.trace.now c.state-state.result.now c.as_slice.result.now c.args.sums c.in-Ok.text.items
-    (c.state-state.ensures ∙ ap (λ d. d.world) c.requires.world) (c.as_slice.ensures ∙ c.requires.replies) c.in-Ok.ensures
+    sequential_text c.args.trace.now c.state-state.result.now c.args.replay.now.replies c.args.sums c.in-Ok.text.items
+    (c.state-state.ensures ∙ ap (λ d. d.world) c.requires.world) c.requires.replies c.in-Ok.ensures
