@@ -19,6 +19,9 @@ use std::alloc::Global;
 /// How many steps a trace has at most.
 const PLACES: u32 = 1_048_576;
 
+/// How many bytes an entry takes at least: its 64, and the length of its side bytes.
+const SMALLEST_ENTRY: usize = 68;
+
 #[tactic(auto, unfolding(crate::specs::Text::entry))]
 fn entry_of(source: Source<'_>) -> Result<(Entry, Source<'_>), ReadError>
     ensures { Gives with_rest result (reading_from source.entry entry) }
@@ -46,7 +49,8 @@ fn entries_of(
         (reading_from source.entry (several count (λ _. entry) [])) }
     ensures len { IfOk result (λ x. vec_len x.0 ≡ count) }
 {
-    let mut entries = Vec::new(alloc);
+    let most = usize::from(count).min(source.rest.len() / SMALLEST_ENTRY);
+    let mut entries = Vec::with_capacity(alloc, most)?;
     let mut source = source;
     for _ in 0..count {
         let (entry, after) = entry_of(source)?;
