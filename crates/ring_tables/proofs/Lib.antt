@@ -1,2 +1,3 @@
 pub mod BufferBytes
 mod Looked
+mod Sameness

@@ -88,15 +88,6 @@ impl Descriptors {
     pub fn same(&self, other: &Descriptors) -> bool
         ensures { IsTrue result ↔ (self.now ≡ other.now) }
     {
-        let mut others = other.iter();
-        for (number, description) in self.iter() {
-            let Some((other_number, other_description)) = others.next() else {
-                return false;
-            };
-            if number != other_number || description != other_description {
-                return false;
-            }
-        }
-        others.next().is_none()
+        self.entries.len() == other.entries.len() && self.entries == other.entries
     }
 }

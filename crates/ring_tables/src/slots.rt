@@ -72,15 +72,6 @@ impl Slots {
     pub fn same(&self, other: &Slots) -> bool
         ensures { IsTrue result ↔ (self.now ≡ other.now) }
     {
-        let mut others = other.iter();
-        for (key, description) in self.iter() {
-            let Some((other_key, other_description)) = others.next() else {
-                return false;
-            };
-            if key != other_key || description != other_description {
-                return false;
-            }
-        }
-        others.next().is_none()
+        self.entries.len() == other.entries.len() && self.entries == other.entries
     }
 }
