@@ -146,11 +146,14 @@ fn execute(
         ≡ turn_world site.entry.trace.now site.entry.place state.old
         (running_as state.old site.entry.ring entry.now role_there.now (meant op.entry))) }
 {
-    match state.broken(role_there.chain) {
-        Some(broken) if role_there.length >= 2 => {
-            Ok(refused(alloc, Errno::ECANCELED, posts(broken)))
-        }
-        _ => run(alloc, site, entry, op, role_there, state),
+    let broken = if role_there.length >= 2 {
+        state.broken(role_there.chain)
+    } else {
+        None
+    };
+    match broken {
+        Some(broken) => Ok(refused(alloc, Errno::ECANCELED, posts(broken))),
+        None => run(alloc, site, entry, op, role_there, state),
     }
 }
 
