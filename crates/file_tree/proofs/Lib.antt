@@ -1,4 +1,7 @@
+pub mod Listing
 pub mod Ranges
 pub mod Removals
 pub mod Sameness
+pub mod Short
+pub mod Split
 pub mod Walks

@@ -18,7 +18,7 @@ impl Tree {
     pub fn bytes(&self, node: u32) -> Option<&Extents>
         ensures { option_copied result ≡ tree.bytes self.now node }
     {
-        self.nodes.get(&node)?.bytes()
+        self.node(node)?.bytes()
     }
 
     /// The size of a file in bytes, at most 2^40; none where the node is no file.

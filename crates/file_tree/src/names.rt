@@ -1,29 +1,34 @@
 //! The names of a directory.
-ghost use Rattle.std.specs.Prelude.{◌≡◌, ◌==◌, map, Option, IfNone, IsOk, OnErr, OnOk};
+ghost use Rattle.std.specs.Prelude.{◌≡◌, ◌==◌, Option, IfNone, IsOk, OnErr, OnOk};
 ghost use Rattle.finite_maps.specs.Table.{assign, count, empty, get, text_keys};
 
+use crate::descending::Descending;
+use crate::short_name::ShortName;
 use std::alloc::{AllocError, Global};
 use std::collections::BTreeMap;
-use std::collections::btree_map::Iter;
 use std::marker::Model;
 
-/// The names of a directory, each with the number of its node.
+/// The names of a directory, each with the number of its node: the short ones, which are found by
+/// number, and the long ones.
 #[derive(Drop)]
 pub struct Names {
-    nodes: BTreeMap<Vec<u8>, u32>,
+    short: BTreeMap<ShortName, u32>,
+    long: BTreeMap<Vec<u8>, u32>,
 }
 
 impl Model for Names {
+    ghost use Rattle.std.specs.Prelude.{map};
     ghost use Rattle.file_tree.specs.Tree.{Names};
-    ghost use Rattle.finite_maps.specs.Table.{text_keys};
-    ghost use Rattle.finite_maps.specs.Maps.{seen_table};
     ghost use Rattle.file_tree.specs.Codes.{names_code};
+    ghost use Rattle.file_tree.specs.Listed.{as_name, names_in, AreShort, AreLong};
 
     ghost Value = { Names };
 
     ghost coded = { names_code };
 
-    ghost view = { λ n. seen_table text_keys.total (λ k. k.items) n.nodes.entries };
+    ghost view = { λ n. names_in n.short.entries (map as_name n.long.entries) };
+
+    ghost invariant = { λ n. AreShort n.short.entries × AreLong (map as_name n.long.entries) };
 }
 
 impl Names {
@@ -32,7 +37,8 @@ impl Names {
         ensures { result ≡ empty }
     {
         Names {
-            nodes: BTreeMap::new(alloc),
+            short: BTreeMap::new(alloc),
+            long: BTreeMap::new(alloc),
         }
     }
 
@@ -40,14 +46,17 @@ impl Names {
     pub fn get(&self, name: &[u8]) -> Option<u32>
         ensures { result ≡ get self.now name.now }
     {
-        self.nodes.get(name).copied()
+        match ShortName::new(name) {
+            Some(short) => self.short.get(&short).copied(),
+            None => self.long.get(name).copied(),
+        }
     }
 
     /// How many names there are.
     pub fn len(&self) -> usize
         ensures { result ≡ count self.now }
     {
-        self.nodes.len()
+        self.short.len() + self.long.len()
     }
 
     /// Whether there is no name.
@@ -57,11 +66,12 @@ impl Names {
         self.len() == 0
     }
 
-    /// The names in the order of their bytes, each with the number of its node.
-    pub fn iter(&self) -> Iter<'_, Vec<u8>, u32>
-        ensures { map (λ e. (e.0.items, e.1)) result ≡ self.now.entries }
+    /// The names from the last one back, in the order of their bytes, each with the number of its
+    /// node.
+    pub fn descending(&self) -> Descending<'_>
+        ensures { result ≡ self.now }
     {
-        self.nodes.iter()
+        Descending::new(self.short.iter(), self.long.iter())
     }
 
     /// Lets a name lead to a node, or to none.
@@ -75,11 +85,20 @@ impl Names {
         ensures err { OnErr result (self.new ≡ self.old) }
         ensures removal { IfNone node (IsOk result) }
     {
-        let Some(node) = node else {
-            self.nodes.remove(name);
-            return Ok(());
-        };
-        self.nodes.insert(Vec::from_slice(alloc, name)?, node)?;
+        match (ShortName::new(name), node) {
+            (Some(short), Some(node)) => {
+                self.short.insert(short, node)?;
+            }
+            (None, Some(node)) => {
+                self.long.insert(Vec::from_slice(alloc, name)?, node)?;
+            }
+            (Some(short), None) => {
+                self.short.remove(&short);
+            }
+            (None, None) => {
+                self.long.remove(name);
+            }
+        }
         Ok(())
     }
 }
@@ -92,6 +111,12 @@ impl PartialEq for Names {
     ghost laws = { same_names_laws };
 
     fn eq(&self, other: &Names) -> bool {
-        self.nodes.len() == other.nodes.len() && self.nodes == other.nodes
+        if self.short.len() != other.short.len() {
+            return false;
+        }
+        if self.long.len() != other.long.len() {
+            return false;
+        }
+        self.short == other.short && self.long == other.long
     }
 }

@@ -2,7 +2,8 @@
 ghost use Rattle.std.specs.Prelude.{◌≡◌, ◌==◌, ◌↔◌, unwrap_or, IfNone};
 ghost use Rattle.std.specs.Prelude.{IfOk, IsOk, IsTrue, OnErr, OnOk};
 ghost use Rattle.std.specs.Option.{option_copied, option_map};
-ghost use Rattle.finite_maps.specs.Table.{adjust_number, count, empty, insert, number_keys, remove};
+ghost use Rattle.finite_maps.specs.Table.{adjust_number, count, empty, get, insert};
+ghost use Rattle.finite_maps.specs.Table.{number_keys, remove};
 ghost use Rattle.file_tree.specs.Kinds.{kind_meant};
 ghost use Rattle.file_tree.specs.Tree.{directory, new_node, renamed_node, shown_node};
 ghost use Rattle.file_tree.specs.Tree as tree;
@@ -10,14 +11,15 @@ ghost use Rattle.file_tree.specs.Found.{node_of};
 
 use crate::names::Names;
 use crate::node::{Content, Kind, Node};
+use finite_maps::value_at;
+use indexmap::IndexMap;
 use std::alloc::{AllocError, Global};
-use std::collections::BTreeMap;
 use std::marker::Model;
 
 /// Directories and files by their numbers. The root is directory 0.
 #[derive(Drop)]
 pub struct Tree {
-    pub(crate) nodes: BTreeMap<u32, Node>,
+    pub(crate) nodes: IndexMap<u32, Node>,
 }
 
 impl Model for Tree {
@@ -39,7 +41,7 @@ impl Tree {
         ensures { result ≡ empty }
     {
         Tree {
-            nodes: BTreeMap::new(alloc),
+            nodes: IndexMap::new(alloc),
         }
     }
 
@@ -52,9 +54,16 @@ impl Tree {
         ensures { IfOk result
             (λ tree. tree ≡ insert number_keys.total empty 0 (directory empty 0)) }
     {
-        let mut nodes = BTreeMap::new(alloc);
+        let mut nodes = IndexMap::new(alloc);
         nodes.insert(0, Node::new(alloc, Kind::Directory))?;
         Ok(Tree { nodes })
+    }
+
+    /// A node by its number.
+    pub(crate) fn node(&self, number: u32) -> Option<&Node>
+        ensures { option_copied result ≡ get self.now number }
+    {
+        value_at(&self.nodes, number)
     }
 
     /// How many nodes there are, those without names too.
@@ -68,21 +77,21 @@ impl Tree {
     pub fn same(&self, other: &Tree) -> bool
         ensures { IsTrue result ↔ (self.now ≡ other.now) }
     {
-        self.nodes.len() == other.nodes.len() && self.nodes == other.nodes
+        self.nodes == other.nodes
     }
 
     /// What a node is; none where there is no such node.
     pub fn kind(&self, node: u32) -> Option<Kind>
         ensures { option_map kind_meant result ≡ tree.kind self.now node }
     {
-        Some(self.nodes.get(&node)?.kind())
+        Some(self.node(node)?.kind())
     }
 
     /// The names that a directory shows; none where the node is none.
     pub fn names(&self, node: u32) -> Option<&Names>
         ensures { option_copied result ≡ tree.names self.now node }
     {
-        match &self.nodes.get(&node)?.content {
+        match &self.node(node)?.content {
             Content::Directory { names, .. } => Some(names),
             Content::File(_) => None,
         }
@@ -99,7 +108,7 @@ impl Tree {
     pub fn is_empty(&self, node: u32) -> bool
         ensures { result ≡ (unwrap_or (tree.name_count self.now node) 0 == 0) }
     {
-        match self.nodes.get(&node) {
+        match self.node(node) {
             Some(found) => found.is_empty(),
             None => true,
         }
@@ -113,7 +122,7 @@ impl Tree {
     pub fn name_count(&self, node: u32) -> Result<Option<usize>, AllocError>
         ensures { IfOk result (λ count. count ≡ tree.name_count self.now node) }
     {
-        match self.nodes.get(&node) {
+        match self.node(node) {
             Some(found) => found.name_count(),
             None => Ok(None),
         }
@@ -157,7 +166,7 @@ impl Tree {
     pub fn remove_node(&mut self, number: u32)
         ensures { self.new ≡ remove self.old number }
     {
-        self.nodes.remove(&number);
+        self.nodes.swap_remove(&number);
     }
 
     /// Lets a name of a directory lead to a node, or to none, which takes no memory. Where there is

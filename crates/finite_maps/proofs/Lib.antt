@@ -1,3 +1,4 @@
+pub mod Indexed
 pub mod Maps
 pub mod Ordered
 pub mod TextMaps

@@ -18,13 +18,16 @@ module _ {K X : Type 0} {R : K → K → Ordering} (o : IsKeyOrder R) where
   get-table_of [] q = refl
   get-table_of (e ∷ es) q = get-insert o.total (table_of o.total es) e.0 e.1 q ∙ ap (λ r. cond (is_at (R q) e.0) (Some e.1) r) (get-table_of es q)
 
-  -- a value that is put into the tree, or taken out, is put into the map, or taken out
-  pub seen-update : (m n : BTreeMap K X) (k : K) (w : Option X) → UpdatesBy R (R k) m n w
-      → table_of o.total n.entries ≡ assign o.total (table_of o.total m.entries) k w
-  seen-update m n k w u = same_table o _ _ (λ q.
-      get-table_of n.entries q ∙ u.0 q ∙ ap (λ b. cond b w (lookup (is_at (R q)) m.entries)) ((eq_by_cmp_equiv o.total).symm k q)
-      ∙ ap (λ r. cond (eq_by_cmp R q k) w r) (sym (get-table_of m.entries q))
-      ∙ sym (get-assign o.total (table_of o.total m.entries) k w q))
+  -- other entries: another value at a key, or none, and at each other key what was there
+  abbrev pub Changed : List (K × X) → List (K × X) → K → Option X → Type 0
+  Changed es fs k w = (q : K) → lookup (is_at (R q)) fs ≡ cond (is_at (R k) q) w (lookup (is_at (R q)) es)
+
+  -- a value that is put among the entries, or taken out, is put into the map, or taken out
+  pub seen-changed : (es fs : List (K × X)) (t : Table R X) (k : K) (w : Option X) → table_of o.total es ≡ t → Changed es fs k w → table_of o.total fs ≡ assign o.total t k w
+  seen-changed es fs t k w is u = same_table o _ _ (λ q.
+      get-table_of fs q ∙ u q ∙ ap (λ b. cond b w (lookup (is_at (R q)) es)) ((eq_by_cmp_equiv o.total).symm k q)
+      ∙ ap (λ r. cond (eq_by_cmp R q k) w r) (sym (get-table_of es q))
+      ∙ sym (get-assign o.total (table_of o.total es) k w q)) ∙ ap (λ t. assign o.total t k w) is
 
   -- what is put where it is already changes nothing
   pub same-assign : (t : Table R X) (k : K) (v : Option X) → get t k ≡ v → assign o.total t k v ≡ t
@@ -36,17 +39,10 @@ module _ {K X : Type 0} {R : K → K → Ordering} (o : IsKeyOrder R) where
       at q Equal h = sym (ap (λ x. get t x) (o.same q k h) ∙ e)
 
   pub seen-assign : (m n : BTreeMap K X) (t : Table R X) (k : K) (w : Option X) → table_of o.total m.entries ≡ t → UpdatesBy R (R k) m n w → table_of o.total n.entries ≡ assign o.total t k w
-  seen-assign m n t k w is u = seen-update m n k w u ∙ ap (λ t. assign o.total t k w) is
+  seen-assign m n t k w is u = seen-changed m.entries n.entries t k w is u.0
 
   pub get-of : (es : List (K × X)) (t : Table R X) (q : K) → table_of o.total es ≡ t → get t q ≡ lookup (is_at (R q)) es
   get-of es t q e = ap (λ n. get n q) (sym e) ∙ get-table_of es q
-
-  -- a value that is written through what `get_mut` lent
-  pub written_through : (m n : BTreeMap K X) (t : Table R X) (k : K) (v w : X) → table_of o.total m.entries ≡ t → WritesThrough R (R k) m w n → Some v ≡ lookup (is_at (R k)) m.entries
-      → (get t k ≡ Some v) × (table_of o.total n.entries ≡ assign o.total t k (Some w))
-  written_through m n t k v w is h e =
-      let P : Option X → Type 0 = λ r. IsSome r in
-      (get-of m.entries t k is ∙ sym e, seen-update m n k (Some w) (h.3 (subst P e refl)) ∙ ap (λ n. assign o.total n k (Some w)) is)
 
   -- a change of what isn't there changes nothing
   pub absent-rewrite : (f : X → X) (es : List (K × X)) (t : Table R X) (k : K) → table_of o.total es ≡ t → None ≡ lookup (is_at (R k)) es → assign o.total t k (option_map f (get t k)) ≡ t
@@ -54,18 +50,29 @@ module _ {K X : Type 0} {R : K → K → Ordering} (o : IsKeyOrder R) where
       let none = get-of es t k is ∙ sym e in
       ap (λ d. assign o.total t k (option_map f d)) none ∙ same-assign t k None none
 
+  -- entries in which the value of a key is another
+  module _ (es fs : List (K × X)) (t : Table R X) (k : K) (v w : X) (is : table_of o.total es ≡ t) (there : Some v ≡ lookup (is_at (R k)) es) (changed : Changed es fs k (Some w)) where
+    -- the value is changed
+    pub rewritten : (f : X → X) → w ≡ f v → table_of o.total fs ≡ assign o.total t k (option_map f (get t k))
+    rewritten f d =
+        seen-changed es fs t k (Some w) is changed ∙ ap (λ x. assign o.total t k (Some x)) d
+        ∙ ap (λ y. assign o.total t k (option_map f y)) (there ∙ sym (get-of es t k is))
+
+    -- the value is as it was
+    pub left : w ≡ v → table_of o.total fs ≡ t
+    left d =
+        seen-changed es fs t k (Some w) is changed ∙ ap (λ x. assign o.total t k (Some x)) d
+        ∙ same-assign t k (Some v) (get-of es t k is ∙ sym there)
+
+  written : (m n : BTreeMap K X) (k : K) (v w : X) → WritesThrough R (R k) m w n → Some v ≡ lookup (is_at (R k)) m.entries → Changed m.entries n.entries k (Some w)
+  written m n k v w h e =
+      let P : Option X → Type 0 = λ r. IsSome r in
+      (h.3 (subst P e refl)).0
+
   -- a value that is changed through what `get_mut` lent
   pub rewritten_through : (f : X → X) (m n : BTreeMap K X) (t : Table R X) (k : K) (v w : X) → table_of o.total m.entries ≡ t → WritesThrough R (R k) m w n → Some v ≡ lookup (is_at (R k)) m.entries → w ≡ f v
       → table_of o.total n.entries ≡ assign o.total t k (option_map f (get t k))
-  rewritten_through f m n t k v w is h e d =
-      let p = written_through m n t k v w is h e in
-      p.1 ∙ ap (λ x. assign o.total t k (Some x)) d ∙ ap (λ y. assign o.total t k (option_map f y)) (sym p.0)
-
-  -- a value that is left as it was
-  pub left_through : (m n : BTreeMap K X) (t : Table R X) (k : K) (v w : X) → table_of o.total m.entries ≡ t → WritesThrough R (R k) m w n → Some v ≡ lookup (is_at (R k)) m.entries → w ≡ v → table_of o.total n.entries ≡ t
-  left_through m n t k v w is h e d =
-      let p = written_through m n t k v w is h e in
-      p.1 ∙ ap (λ x. assign o.total t k (Some x)) d ∙ same-assign t k (Some v) p.0
+  rewritten_through f m n t k v w is h e = rewritten m.entries n.entries t k v w is e (written m n k v w h e) f
 
   -- a change that changes nothing
   pub rewritten-same : (t : Table R X) (k : K) (f : X → X) → ((x : X) → f x ≡ x) → t ≡ assign o.total t k (option_map f (get t k))
@@ -81,9 +88,9 @@ module _ {K X : Type 0} {R : K → K → Ordering} (o : IsKeyOrder R) where
     rewritten_none f same e = ap (λ (b : BTreeMap K X). table_of o.total b.entries) same ∙ seen ∙ sym (absent-rewrite f m.entries t k seen e)
 
     -- a call has changed what `get_mut` lent where it succeeds, and has left it where it fails
-    module _ (v w : X) (written : WritesThrough R (R k) m w n) (there : Some v ≡ lookup (is_at (R k)) m.entries) {T E : Type 0} (r : Result T E) where
+    module _ (v w : X) (through : WritesThrough R (R k) m w n) (there : Some v ≡ lookup (is_at (R k)) m.entries) {T E : Type 0} (r : Result T E) where
       pub rewritten_ok : (f : X → X) → OnOk r (w ≡ f v) → OnOk r (table_of o.total n.entries ≡ assign o.total t k (option_map f (get t k)))
-      rewritten_ok f = on_ok_weaker r (rewritten_through f m n t k v w seen written there)
+      rewritten_ok f = on_ok_weaker r (rewritten_through f m n t k v w seen through there)
 
       pub rewritten_err : OnErr r (w ≡ v) → OnErr r (table_of o.total n.entries ≡ t)
-      rewritten_err = on_err_weaker r (left_through m n t k v w seen written there)
+      rewritten_err = on_err_weaker r (left m.entries n.entries t k v w seen there (written m n k v w through there))

@@ -89,8 +89,7 @@ fn positions_tell_descriptions_apart(rt: HostRuntime) -> Result<(), Fail> {
 fn one_goes(descriptions: &mut Descriptions) -> bool {
     descriptions.remove(0);
     descriptions.remove(6);
-    let one_left = descriptions.position(0).is_none() && descriptions.position(1) == Some(10);
-    one_left && descriptions.iter().count() == 1
+    descriptions.position(0).is_none() && descriptions.position(1) == Some(10)
 }
 
 #[test]

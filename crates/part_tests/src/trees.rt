@@ -131,21 +131,15 @@ fn nodes_taken_out(rt: HostRuntime) -> Result<(), Fail> {
     Ok(())
 }
 
-/// Whether the root lists its two names in order, and a file none.
+/// Whether the root lists its two names from the last one back, and a file none.
 fn lists_in_order(tree: &Tree) -> bool {
     let Some(names) = tree.names(0) else {
         return false;
     };
-    let mut listed = names.iter();
-    let Some((first, file)) = listed.next() else {
-        return false;
-    };
-    let Some((second, directory)) = listed.next() else {
-        return false;
-    };
+    let mut listed = names.descending();
     names.len() == 2
-        && (first.as_slice(), *file) == (b"a".as_slice(), 1)
-        && (second.as_slice(), *directory) == (b"d".as_slice(), 2)
+        && listed.next() == Some((b"d".as_slice(), 2))
+        && listed.next() == Some((b"a".as_slice(), 1))
         && listed.next().is_none()
         && tree.names(1).is_none()
 }
@@ -217,6 +211,66 @@ fn copied_ranges_of_files(rt: HostRuntime) -> Result<(), Fail> {
     let mut tree = small_tree(rt.alloc())?;
     tree.write(1, 0, b"ABCDEF")?;
     assert!(rt; copies_the_middle(rt.alloc(), &source, &mut tree)?);
+    Ok(())
+}
+
+/// Names that begin alike, in order: of one and two bytes, of 14 to 17, and another.
+const ALIKE: [&[u8]; 7] = [
+    b"a",
+    b"a\0",
+    b"aaaaaaaaaaaaaa",
+    b"aaaaaaaaaaaaaaa",
+    b"aaaaaaaaaaaaaaaa",
+    b"aaaaaaaaaaaaaaaaa",
+    b"b",
+];
+
+/// Gives a directory these names, the last one first.
+fn add_alike(alloc: Global, tree: &mut Tree, directory: u32) -> Result<(), AllocError> {
+    for (place, name) in ALIKE.iter().enumerate().rev() {
+        tree.set_name(alloc, directory, name, Some(place as u32))?;
+    }
+    Ok(())
+}
+
+/// Whether a directory has these names in order, but for one that goes.
+fn lists_alike(alloc: Global, tree: &mut Tree) -> Result<bool, AllocError> {
+    add_alike(alloc, tree, 3)?;
+    tree.set_name(alloc, 3, ALIKE[3], None)?;
+    let Some(names) = tree.names(3) else {
+        return Ok(false);
+    };
+    let mut listed = names.descending();
+    for place in [6, 5, 4, 2, 1, 0] {
+        if listed.next() != Some((ALIKE[place], place as u32)) {
+            return Ok(false);
+        }
+    }
+    Ok(listed.next().is_none() && names.len() == 6 && names.get(ALIKE[3]).is_none())
+}
+
+#[test]
+fn names_that_begin_alike(rt: HostRuntime) -> Result<(), Fail> {
+    let mut tree = small_tree(rt.alloc())?;
+    assert!(rt; lists_alike(rt.alloc(), &mut tree)?);
+    Ok(())
+}
+
+/// Whether nodes are found whose numbers lie far apart, also where one has gone and come again.
+fn finds_far_nodes(alloc: Global, tree: &mut Tree) -> Result<bool, AllocError> {
+    tree.add_node(alloc, 4_000_000_000, Kind::Directory)?;
+    tree.remove_node(1);
+    let gone = tree.kind(1).is_none();
+    tree.add_node(alloc, 1, Kind::Directory)?;
+    let far = tree.kind(4_000_000_000) == Some(Kind::Directory);
+    let again = tree.kind(1) == Some(Kind::Directory) && tree.kind(4) == Some(Kind::File);
+    Ok(gone && far && again && tree.kind(5).is_none() && tree.node_count() == 6)
+}
+
+#[test]
+fn nodes_far_apart(rt: HostRuntime) -> Result<(), Fail> {
+    let mut tree = small_tree(rt.alloc())?;
+    assert!(rt; finds_far_nodes(rt.alloc(), &mut tree)?);
     Ok(())
 }
 

@@ -3,9 +3,9 @@ ghost use Rattle.std.specs.Prelude.{◌≡◌, ◌↔◌, IsTrue, OnErr, OnOk};
 ghost use Rattle.std.specs.Option.{option_map};
 ghost use Rattle.finite_maps.specs.Table.{adjust_number, empty, get, insert, number_keys, remove};
 
+use finite_maps::value_at;
+use indexmap::IndexMap;
 use std::alloc::{AllocError, Global};
-use std::collections::BTreeMap;
-use std::collections::btree_map::Iter;
 use std::marker::Model;
 use trace_format::Description;
 
@@ -14,7 +14,7 @@ use trace_format::Description;
 /// A call that answers [`AllocError`] leaves the descriptions as they were.
 #[derive(Drop)]
 pub struct Descriptions {
-    entries: BTreeMap<u32, Description>,
+    entries: IndexMap<u32, Description>,
 }
 
 impl Model for Descriptions {
@@ -32,23 +32,13 @@ impl Model for Descriptions {
     ghost view = { λ d. table_of number_keys.total d.entries.entries };
 }
 
-// Whether two descriptions say the same.
-fn alike(one: &Description, other: &Description) -> bool
-    ensures { IsTrue result ↔ (one.now ≡ other.now) }
-{
-    one.node == other.node
-        && one.access == other.access
-        && one.append == other.append
-        && one.position == other.position
-}
-
 impl Descriptions {
     /// No descriptions.
     pub fn new(alloc: Global) -> Self
         ensures { result ≡ empty }
     {
         Descriptions {
-            entries: BTreeMap::new(alloc),
+            entries: IndexMap::new(alloc),
         }
     }
 
@@ -56,7 +46,7 @@ impl Descriptions {
     pub fn get(&self, number: u32) -> Option<Description>
         ensures { result ≡ get self.now number }
     {
-        self.entries.get(&number).copied()
+        value_at(&self.entries, number).copied()
     }
 
     /// Puts a description at a number, in place of the one that was there.
@@ -72,7 +62,7 @@ impl Descriptions {
     pub fn remove(&mut self, number: u32)
         ensures { self.new ≡ remove self.old number }
     {
-        self.entries.remove(&number);
+        self.entries.swap_remove(&number);
     }
 
     /// The position of a description, in bytes.
@@ -93,26 +83,10 @@ impl Descriptions {
         description.position = position;
     }
 
-    /// The descriptions in the order of their numbers.
-    pub fn iter(&self) -> Iter<'_, u32, Description>
-        ensures { result ≡ self.now.entries }
-    {
-        self.entries.iter()
-    }
-
     /// Whether both have the same descriptions at the same numbers. It takes no memory.
     pub fn same(&self, other: &Descriptions) -> bool
         ensures { IsTrue result ↔ (self.now ≡ other.now) }
     {
-        let mut others = other.iter();
-        for (number, description) in self.iter() {
-            let Some((other_number, other_description)) = others.next() else {
-                return false;
-            };
-            if number != other_number || !alike(description, other_description) {
-                return false;
-            }
-        }
-        others.next().is_none()
+        self.entries == other.entries
     }
 }

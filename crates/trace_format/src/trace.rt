@@ -41,7 +41,7 @@ pub enum Access {
 }
 
 /// An initial open file description, as open(2) has them.
-#[derive(Clone, Copy, Debug)]
+#[derive(Clone, Copy, Debug, PartialEq)]
 pub struct Description {
     /// The number of the item that made its file or directory, 0 for the root directory.
     pub node: u32,

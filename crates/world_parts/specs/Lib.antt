@@ -1,6 +1,7 @@
 pub mod Codes
 pub mod Copying
 pub mod Cutting
+pub mod Flags
 pub mod Image
 pub mod Items
 pub mod Known

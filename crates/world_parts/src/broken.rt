@@ -27,3 +27,15 @@ impl Model for Flag {
 
     ghost view = { λ f. broken_meant f.broken };
 }
+
+impl PartialEq for Flag {
+    ghost use Rattle.world_parts.specs.Flags.{same_flag, same_flag_laws};
+
+    ghost eq = { same_flag };
+
+    ghost laws = { same_flag_laws };
+
+    fn eq(&self, other: &Flag) -> bool {
+        self.broken == other.broken
+    }
+}

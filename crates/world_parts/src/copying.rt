@@ -13,9 +13,9 @@ ghost use Rattle.world_parts.specs.World as world;
 use crate::footprint::{Item, Use};
 use crate::state::State;
 use file_tree::Tree;
+use indexmap::IndexMap;
 use ring_tables::{Buffers, Descriptions, Descriptors, Slots};
 use std::alloc::{AllocError, Global};
-use std::collections::BTreeMap;
 
 impl State {
     /// A state in which nothing is.
@@ -28,7 +28,7 @@ impl State {
             slots: Slots::new(alloc),
             descriptors: Descriptors::new(alloc),
             buffers: Buffers::new(alloc),
-            broken: BTreeMap::new(alloc),
+            broken: IndexMap::new(alloc),
         }
     }
 

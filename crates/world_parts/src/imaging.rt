@@ -10,6 +10,7 @@ ghost use Rattle.world_parts.specs.World.{buffer, bytes};
 use crate::broken::Flag;
 use crate::image::{BufferEntry, DescriptorEntry, Image, NameEntry, SlotEntry};
 use crate::state::State;
+use indexmap::IndexMap;
 use std::alloc::{AllocError, Global};
 use std::collections::BTreeMap;
 use trace_format::Series;
@@ -35,20 +36,11 @@ fn joined(alloc: Global, directory: &[u8], name: &[u8]) -> Result<Vec<u8>, Alloc
 }
 
 /// Whether the same chains broke, and in the same way.
-fn same_chains(chains: &BTreeMap<u32, Flag>, others: &BTreeMap<u32, Flag>) -> bool
+fn same_chains(chains: &IndexMap<u32, Flag>, others: &IndexMap<u32, Flag>) -> bool
     ensures { IsTrue result ↔ (table_of number_keys.total chains.now.entries
         ≡ table_of number_keys.total others.now.entries) }
 {
-    let mut left = others.iter();
-    for (chain, flag) in chains.iter() {
-        let Some((other_chain, other_flag)) = left.next() else {
-            return false;
-        };
-        if chain != other_chain || flag.broken != other_flag.broken {
-            return false;
-        }
-    }
-    left.next().is_none()
+    chains == others
 }
 
 impl State {
@@ -137,10 +129,10 @@ impl State {
         let Some(names) = self.nodes.names(directory) else {
             return Ok(());
         };
-        for (name, node) in names.iter().rev() {
+        for (name, node) in names.descending() {
             pending.push(Pending {
                 path: joined(alloc, path, name)?,
-                node: *node,
+                node,
                 levels: below,
             })?;
         }

@@ -161,7 +161,7 @@ impl State {
         }) }
     {
         let Some(broken) = part.broken(chain) else {
-            self.broken.remove(&chain);
+            self.broken.swap_remove(&chain);
             return Ok(());
         };
         self.break_chain(chain, broken)

@@ -14,9 +14,9 @@ ghost use Rattle.world_parts.specs.World as change;
 use crate::known::Known;
 use crate::state::State;
 use file_tree::{Kind, Tree};
+use indexmap::IndexMap;
 use ring_tables::{Buffers, Descriptions, Descriptors, Slots};
 use std::alloc::{AllocError, Global};
-use std::collections::BTreeMap;
 use trace_format::{Buffer, Description, Item, Node, Ring, Trace};
 
 fn descriptions_of(alloc: Global, descriptions: &[Description]) -> Result<Descriptions, AllocError>
@@ -153,7 +153,7 @@ impl State {
             slots: Slots::new(alloc),
             descriptors: Descriptors::new(alloc),
             buffers: Buffers::new(alloc),
-            broken: BTreeMap::new(alloc),
+            broken: IndexMap::new(alloc),
         })
     }
 

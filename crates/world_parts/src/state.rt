@@ -17,10 +17,10 @@ ghost use Rattle.world_parts.specs.World as world;
 use crate::broken::{Broken, Flag};
 use extent_bytes::{Extents, ReadBytes};
 use file_tree::{Kind, Place, Steps, Tree};
+use indexmap::IndexMap;
 use ring_tables::{Buffers, Descriptions, Descriptors, Slots};
 use sqe_codec::Errno;
 use std::alloc::{AllocError, Global};
-use std::collections::BTreeMap;
 use std::marker::Model;
 use trace_format::Description;
 
@@ -36,7 +36,7 @@ pub struct State {
     pub(crate) slots: Slots,
     pub(crate) descriptors: Descriptors,
     pub(crate) buffers: Buffers,
-    pub(crate) broken: BTreeMap<u32, Flag>,
+    pub(crate) broken: IndexMap<u32, Flag>,
 }
 
 impl Model for State {

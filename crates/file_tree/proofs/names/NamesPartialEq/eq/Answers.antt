@@ -1,27 +1,43 @@
-use Rattle.std.proofs.Common.{ap, sym, ◌∙◌, length}
+use Rattle.std.proofs.Common.{sym, ◌∙◌}
+use Rattle.std.specs.Prelude.{map}
 use Rattle.std.specs.Cmp.Derive.Mapped.{pointwise-map}
-use Rattle.std.specs.Cmp.Lexicographic.{pointwise}
-use Rattle.std.proofs.lemmas.Bool.Decides.{same_from_decides}
 use Rattle.std.proofs.lemmas.List.{length-map}
-use Rattle.finite_maps.specs.Table.{text_keys}
-use Rattle.file_tree.specs.Same.{same_name, same_names, same_names_decides}
-use Rattle.finite_maps.proofs.Ordered.{seen_entries_of}
-use Rattle.file_tree.proofs.Sameness.{other_counts_decide}
+use Rattle.file_tree.specs.Listed.{as_name}
+use Rattle.file_tree.specs.Same.{same_name, same_names}
+use Rattle.file_tree.proofs.Split.{sorted_seen_names, told_by_short, told_by_long, told_by_first, told_by_both}
 use Rattle.file_tree.proofs.names.NamesPartialEq.eq.Goals as goal
 
 pub returns-then-len : goal.returns-then-len
 returns-then-len c =
-    let mine = seen_entries_of text_keys (λ k. k.items) c.self.inside.nodes.entries c.args.self.now c.len.ensures.ordered c.self.view_is in
-    let others = seen_entries_of text_keys (λ k. k.items) c.other.inside.nodes.entries c.args.other.now c.len-2.ensures.ordered c.other.view_is in
-    c.eq.ensures ∙ sym (pointwise-map (λ e. (e.0.items, e.1)) same_name c.self.inside.nodes.entries c.other.inside.nodes.entries) ∙ (λ i. pointwise same_name (mine i) (others i))
+    let long = map as_name c.self.inside.long.entries in
+    let other = map as_name c.other.inside.long.entries in
+    told_by_short c.self.inside.short.entries long c.other.inside.short.entries other c.self.invariant.0 c.self.invariant.1 c.other.invariant.0 c.other.invariant.1 c.len.ensures.ordered c.len-2.ensures.ordered
+    (λ e. c.if-len.true (c.len.ensures.len ∙ e ∙ sym c.len-2.ensures.len))
+    ∙ (λ i. same_names (c.self.view_is i) (c.other.view_is i))
 
-pub returns-else-len : goal.returns-else-len
-returns-else-len c =
-    let mine = seen_entries_of text_keys (λ k. k.items) c.self.inside.nodes.entries c.args.self.now c.len.ensures.ordered c.self.view_is in
-    let others = seen_entries_of text_keys (λ k. k.items) c.other.inside.nodes.entries c.args.other.now c.len-2.ensures.ordered c.other.view_is in
-    same_from_decides _ (same_names c.args.self.now c.args.other.now)
-    (other_counts_decide c.args.self.now c.args.other.now c.len.result c.len-2.result
-    (c.len.ensures.len ∙ sym (length-map c.self.inside.nodes.entries (λ e. (e.0.items, e.1))) ∙ ap length mine)
-    (c.len-2.ensures.len ∙ sym (length-map c.other.inside.nodes.entries (λ e. (e.0.items, e.1))) ∙ ap length others)
-    c.if-len.false)
-    (same_names_decides c.args.self.now c.args.other.now)
+pub returns-then-len-2 : goal.returns-then-len-2
+returns-then-len-2 c =
+    let long = c.self.inside.long.entries in
+    let other = c.other.inside.long.entries in
+    told_by_long c.self.inside.short.entries (map as_name long) c.other.inside.short.entries (map as_name other) c.self.invariant.0 c.self.invariant.1 c.other.invariant.0 c.other.invariant.1 c.len.ensures.ordered c.len-2.ensures.ordered
+    (sorted_seen_names long c.len-3.ensures.ordered) (sorted_seen_names other c.len-4.ensures.ordered)
+    (λ e. c.if-len-2.true (c.len-3.ensures.len ∙ sym (length-map long as_name) ∙ e ∙ length-map other as_name ∙ sym c.len-4.ensures.len))
+    ∙ (λ i. same_names (c.self.view_is i) (c.other.view_is i))
+
+pub returns-then-eq : goal.returns-then-eq
+returns-then-eq c =
+    let long = c.self.inside.long.entries in
+    let other = c.other.inside.long.entries in
+    c.eq-then-eq.ensures ∙ sym (pointwise-map as_name same_name long other)
+    ∙ told_by_both c.self.inside.short.entries (map as_name long) c.other.inside.short.entries (map as_name other) c.self.invariant.0 c.self.invariant.1 c.other.invariant.0 c.other.invariant.1 c.len.ensures.ordered c.len-2.ensures.ordered
+    (sorted_seen_names long c.len-3.ensures.ordered) (sorted_seen_names other c.len-4.ensures.ordered) (sym c.eq.ensures ∙ c.if-eq.true)
+    ∙ (λ i. same_names (c.self.view_is i) (c.other.view_is i))
+
+pub returns-else-eq : goal.returns-else-eq
+returns-else-eq c =
+    let long = c.self.inside.long.entries in
+    let other = c.other.inside.long.entries in
+    c.if-eq.false
+    ∙ told_by_first c.self.inside.short.entries (map as_name long) c.other.inside.short.entries (map as_name other) c.self.invariant.0 c.self.invariant.1 c.other.invariant.0 c.other.invariant.1 c.len.ensures.ordered c.len-2.ensures.ordered
+    (sorted_seen_names long c.len-3.ensures.ordered) (sorted_seen_names other c.len-4.ensures.ordered) (sym c.eq.ensures ∙ c.if-eq.false)
+    ∙ (λ i. same_names (c.self.view_is i) (c.other.view_is i))

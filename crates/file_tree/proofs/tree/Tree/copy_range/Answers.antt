@@ -4,7 +4,8 @@ use Rattle.std.specs.Option.{option_and_then, option_map}
 use Rattle.std.proofs.lemmas.Result.{on_ok_weaker}
 use Rattle.extent_bytes.specs.Bytes.{overwritten, range_of}
 use Rattle.finite_maps.specs.Table.{adjust_number, number_keys}
-use Rattle.finite_maps.proofs.Maps.{get-of, rewritten_none, rewritten_err, rewritten_through, rewritten-same}
+use Rattle.finite_maps.proofs.Indexed.{get-of, rewritten_none, rewritten_err, rewritten_through}
+use Rattle.finite_maps.proofs.Maps.{rewritten-same}
 use Rattle.file_tree.specs.Tree.{Node, bytes_of_node, rewritten_node}
 use Rattle.file_tree.specs.Tree as tree
 use Rattle.file_tree.proofs.Ranges.{nothing_put, fits}
@@ -23,11 +24,11 @@ returns-in_default-clause-ok c =
 
 pub returns-in_default-get_mut-clause-ok : goal.returns-in_default-get_mut-clause-ok
 returns-in_default-get_mut-clause-ok c =
-    rewritten_none number_keys c.self.inside.nodes c.get_mut.follows.lender-at-none c.args.self.now c.args.node c.self.view_is (change c.args.lo c.args.hi (tree.bytes c.args.source.now c.args.node)) c.get_mut.follows.holds-at-none c.in_default-get_mut.ensures.value
+    rewritten_none c.self.inside.nodes c.get_mut.follows.lender-at-none c.args.self.now c.args.node c.self.view_is (change c.args.lo c.args.hi (tree.bytes c.args.source.now c.args.node)) c.get_mut.follows.holds-at-none c.in_default-get_mut.ensures.value
 
 pub copy_range-requires-clause-inside : goal.copy_range-requires-clause-inside
 copy_range-requires-clause-inside c =
-    let kept = get-of number_keys c.self.inside.nodes.entries c.args.self.now c.args.node c.self.view_is in
+    let kept = get-of c.self.inside.nodes.entries c.args.self.now c.args.node c.self.view_is in
     let P : Option Node → Type 0 = λ o. IfSome (option_map length (option_and_then bytes_of_node o)) (λ size. c.args.hi ≤ size) in
     fits c.args.hi (bytes_of_node c.in-Some-get_mut.found.now) (subst P (kept ∙ sym c.in-Some-get_mut.ensures.value) c.requires.inside)
 
@@ -36,11 +37,11 @@ returns-clause-ok c =
     let w = c.copy_range.new.self in
     on_ok_weaker c.copy_range.result
     (λ e.
-    rewritten_through number_keys (change c.args.lo c.args.hi (Some c.in-Some.bytes.now)) c.self.inside.nodes (c.get_mut.follows.lender w) c.args.self.now c.args.node c.in-Some-get_mut.found.now w c.self.view_is (c.get_mut.follows.holds w) c.in-Some-get_mut.ensures.value e
+    rewritten_through c.self.inside.nodes (c.get_mut.follows.lender w) c.args.self.now c.args.node c.self.view_is c.in-Some-get_mut.found.now w (c.get_mut.follows.holds w) c.in-Some-get_mut.ensures.value (change c.args.lo c.args.hi (Some c.in-Some.bytes.now)) e
     ∙ ap (λ o. adjust_number (change c.args.lo c.args.hi o) c.args.self.now c.args.node) c.in-Some.ensures)
     c.copy_range.ensures.ok
 
 pub returns-clause-err : goal.returns-clause-err
 returns-clause-err c =
     let w = c.copy_range.new.self in
-    rewritten_err number_keys c.self.inside.nodes (c.get_mut.follows.lender w) c.args.self.now c.args.node c.self.view_is c.in-Some-get_mut.found.now w (c.get_mut.follows.holds w) c.in-Some-get_mut.ensures.value c.copy_range.result c.copy_range.ensures.err
+    rewritten_err c.self.inside.nodes (c.get_mut.follows.lender w) c.args.self.now c.args.node c.self.view_is c.in-Some-get_mut.found.now w (c.get_mut.follows.holds w) c.in-Some-get_mut.ensures.value c.copy_range.result c.copy_range.ensures.err

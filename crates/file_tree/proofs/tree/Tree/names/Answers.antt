@@ -1,8 +1,6 @@
 use Rattle.std.proofs.Common.{Some, ap, sym, ◌∙◌}
 use Rattle.std.specs.Prelude.{Option}
 use Rattle.std.specs.Option.{option_and_then, option_copied}
-use Rattle.finite_maps.specs.Table.{number_keys}
-use Rattle.finite_maps.proofs.Maps.{get-of}
 use Rattle.file_tree.specs.Tree.{Node, Names, names_of_node}
 use Rattle.file_tree.specs.Nodes.{node_of}
 use Rattle.file_tree.proofs.tree.Tree.names.Goals as goal
@@ -11,16 +9,12 @@ abbrev held : Option Node → Option Names
 held o = option_and_then names_of_node o
 
 pub returns-in_err-names : goal.returns-in_err-names
-returns-in_err-names c =
-    let kept = get-of number_keys c.self.inside.nodes.entries c.args.self.now c.args.node c.self.view_is in
-    ap option_copied c.from_residual.ensures ∙ sym (ap held (kept ∙ sym c.in_err-names.ensures.value))
+returns-in_err-names c = ap option_copied c.from_residual.ensures ∙ ap held c.in_err-names.ensures
 
 pub returns-in-Directory : goal.returns-in-Directory
 returns-in-Directory c =
-    let kept = get-of number_keys c.self.inside.nodes.entries c.args.self.now c.args.node c.self.view_is in
-    sym (ap held (kept ∙ sym c.in_ok-names.ensures.value ∙ ap (λ x. Some x) (sym c.branch.view_is) ∙ ap (λ x. Some (node_of x)) c.in-Directory.is))
+    sym (ap held (sym c.in_ok-names.ensures ∙ ap (λ x. Some x) (sym c.branch.view_is) ∙ ap (λ x. Some (node_of x)) c.in-Directory.is))
 
 pub returns-in-File : goal.returns-in-File
 returns-in-File c =
-    let kept = get-of number_keys c.self.inside.nodes.entries c.args.self.now c.args.node c.self.view_is in
-    sym (ap held (kept ∙ sym c.in_ok-names.ensures.value ∙ ap (λ x. Some x) (sym c.branch.view_is) ∙ ap (λ x. Some (node_of x)) c.in-File.is))
+    sym (ap held (sym c.in_ok-names.ensures ∙ ap (λ x. Some x) (sym c.branch.view_is) ∙ ap (λ x. Some (node_of x)) c.in-File.is))

@@ -1,18 +1,17 @@
 use Rattle.file_tree.specs.Tree.{renamed_node}
 use Rattle.file_tree.proofs.tree.Tree.set_name.Goals as goal
-use Rattle.finite_maps.proofs.Maps.{rewritten_none, rewritten_err, rewritten_ok}
-use Rattle.finite_maps.specs.Table.{number_keys}
+use Rattle.finite_maps.proofs.Indexed.{rewritten_none, rewritten_err, rewritten_ok}
 
 pub returns-in_default-clause-ok : goal.returns-in_default-clause-ok
 returns-in_default-clause-ok c =
-    rewritten_none number_keys c.self.inside.nodes c.get_mut.follows.lender-at-none c.args.self.now c.args.directory c.self.view_is (renamed_node c.args.name.now c.args.node) c.get_mut.follows.holds-at-none c.in_default.ensures.value
+    rewritten_none c.self.inside.nodes c.get_mut.follows.lender-at-none c.args.self.now c.args.directory c.self.view_is (renamed_node c.args.name.now c.args.node) c.get_mut.follows.holds-at-none c.in_default.ensures.value
 
 pub returns-clause-ok : goal.returns-clause-ok
 returns-clause-ok c =
     let w = c.set_name.new.self in
-    rewritten_ok number_keys c.self.inside.nodes (c.get_mut.follows.lender w) c.args.self.now c.args.directory c.self.view_is c.in-Some.found.now w (c.get_mut.follows.holds w) c.in-Some.ensures.value c.set_name.result (renamed_node c.args.name.now c.args.node) c.set_name.ensures.ok
+    rewritten_ok c.self.inside.nodes (c.get_mut.follows.lender w) c.args.self.now c.args.directory c.self.view_is c.in-Some.found.now w (c.get_mut.follows.holds w) c.in-Some.ensures.value c.set_name.result (renamed_node c.args.name.now c.args.node) c.set_name.ensures.ok
 
 pub returns-clause-err : goal.returns-clause-err
 returns-clause-err c =
     let w = c.set_name.new.self in
-    rewritten_err number_keys c.self.inside.nodes (c.get_mut.follows.lender w) c.args.self.now c.args.directory c.self.view_is c.in-Some.found.now w (c.get_mut.follows.holds w) c.in-Some.ensures.value c.set_name.result c.set_name.ensures.err
+    rewritten_err c.self.inside.nodes (c.get_mut.follows.lender w) c.args.self.now c.args.directory c.self.view_is c.in-Some.found.now w (c.get_mut.follows.holds w) c.in-Some.ensures.value c.set_name.result c.set_name.ensures.err

@@ -1,19 +1,18 @@
 use Rattle.extent_bytes.specs.Bytes.{overwritten}
 use Rattle.file_tree.specs.Tree.{rewritten_node}
 use Rattle.file_tree.proofs.tree.Tree.write.Goals as goal
-use Rattle.finite_maps.proofs.Maps.{rewritten_none, rewritten_err, rewritten_ok}
-use Rattle.finite_maps.specs.Table.{number_keys}
+use Rattle.finite_maps.proofs.Indexed.{rewritten_none, rewritten_err, rewritten_ok}
 
 pub returns-in_default-clause-ok : goal.returns-in_default-clause-ok
 returns-in_default-clause-ok c =
-    rewritten_none number_keys c.self.inside.nodes c.get_mut.follows.lender-at-none c.args.self.now c.args.node c.self.view_is (rewritten_node (λ old. overwritten old c.args.at c.args.bytes.now)) c.get_mut.follows.holds-at-none c.in_default.ensures.value
+    rewritten_none c.self.inside.nodes c.get_mut.follows.lender-at-none c.args.self.now c.args.node c.self.view_is (rewritten_node (λ old. overwritten old c.args.at c.args.bytes.now)) c.get_mut.follows.holds-at-none c.in_default.ensures.value
 
 pub returns-clause-ok : goal.returns-clause-ok
 returns-clause-ok c =
     let w = c.write.new.self in
-    rewritten_ok number_keys c.self.inside.nodes (c.get_mut.follows.lender w) c.args.self.now c.args.node c.self.view_is c.in-Some.found.now w (c.get_mut.follows.holds w) c.in-Some.ensures.value c.write.result (rewritten_node (λ old. overwritten old c.args.at c.args.bytes.now)) c.write.ensures.ok
+    rewritten_ok c.self.inside.nodes (c.get_mut.follows.lender w) c.args.self.now c.args.node c.self.view_is c.in-Some.found.now w (c.get_mut.follows.holds w) c.in-Some.ensures.value c.write.result (rewritten_node (λ old. overwritten old c.args.at c.args.bytes.now)) c.write.ensures.ok
 
 pub returns-clause-err : goal.returns-clause-err
 returns-clause-err c =
     let w = c.write.new.self in
-    rewritten_err number_keys c.self.inside.nodes (c.get_mut.follows.lender w) c.args.self.now c.args.node c.self.view_is c.in-Some.found.now w (c.get_mut.follows.holds w) c.in-Some.ensures.value c.write.result c.write.ensures.err
+    rewritten_err c.self.inside.nodes (c.get_mut.follows.lender w) c.args.self.now c.args.node c.self.view_is c.in-Some.found.now w (c.get_mut.follows.holds w) c.in-Some.ensures.value c.write.result c.write.ensures.err

@@ -1,7 +1,6 @@
-use Rattle.std.proofs.Common.{◌∙◌}
-use Rattle.finite_maps.specs.Table.{number_keys}
-use Rattle.finite_maps.proofs.Ordered.{entries_agree}
+use Rattle.std.proofs.Common.{rules}
+use Rattle.finite_maps.proofs.Indexed.{same_maps_decide}
 use Rattle.ring_tables.proofs.descriptions.Descriptions.same.Goals as goal
 
-pub loop-number-init : goal.loop-number-init
-loop-number-init c = entries_agree number_keys c.args.self.now c.args.other.now c.into_iter-number-iterator.result c.iter-others.result (c.into_iter-number-iterator.ensures.into_iter_gives ∙ c.iter-number-items.ensures) c.iter-others.ensures
+pub returns : goal.returns
+returns c = same_maps_decide (λ x y. search rules) c.self.inside.entries c.other.inside.entries c.args.self.now c.args.other.now c.self.view_is c.other.view_is c.eq.result c.eq.ensures

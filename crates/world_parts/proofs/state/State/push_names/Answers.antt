@@ -1,21 +1,10 @@
-use Rattle.std.proofs.Common.{◌≡◌, ℕ, suc, List, ◌∷◌, ◌++◌, ap, sym, ◌∙◌, arith}
-use Rattle.std.specs.Prelude.{Vec}
-use Rattle.std.specs.declared.alloc.Global.{Global}
+use Rattle.std.proofs.Common.{◌≡◌, suc, ◌∷◌, ◌++◌, ap, sym, ◌∙◌, arith}
 use Rattle.std.specs.List.{flat_map}
-use Rattle.std.specs.Iterator.Adapters.{rev_source}
-use Rattle.std.proofs.lemmas.List.Folds.{flat_map-map}
-use Rattle.file_tree.specs.Tree.{Tree, names}
+use Rattle.file_tree.specs.Tree.{Names, names}
 use Rattle.world_parts.specs.Image.{paths_below}
 use Rattle.world_parts.specs.Pending.{paths_pending}
 use Rattle.world_parts.proofs.Listing.{paths_at, paths_below-names, one_pushed}
 use Rattle.world_parts.proofs.state.State.push_names.Goals as goal
-
--- the name and the node of an entry of a directory, and the paths that it stands for
-abbrev seen : Vec ℕ Global × ℕ → List ℕ × ℕ
-seen e = (e.0.items, e.1)
-
-abbrev listed : ℕ → Tree → List ℕ → Vec ℕ Global × ℕ → List (List ℕ × ℕ)
-listed below tree path e = paths_at below tree path (seen e)
 
 pub loop-name-init : goal.loop-name-init
 loop-name-init c =
@@ -24,10 +13,7 @@ loop-name-init c =
     let below = c.in-Some.below in
     let level : c.args.levels ≡ suc below = omega (arith, c.in-Some.ensures.0, c.in-Some.ensures.1) in
     ap (λ y. y ++ paths_pending tree c.args.pending.now.items)
-    (ap (λ i. flat_map (listed below tree path) (rev_source i)) c.into_iter-name-iterator.ensures.into_iter_gives
-    ∙ ap (flat_map (listed below tree path)) c.rev-name-items.ensures.source
-    ∙ sym (flat_map-map (paths_at below tree path) seen c.iter.result)
-    ∙ ap (flat_map (paths_at below tree path)) c.iter.ensures
+    (ap (λ (ns : Names). flat_map (paths_at below tree path) ns.entries) (c.into_iter-name-iterator.ensures.into_iter_gives ∙ c.descending-name-items.ensures)
     ∙ sym (paths_below-names c.args.levels below tree path c.args.directory c.in-Some-names.names.now level (ap (λ w. names w.nodes c.args.directory) (sym c.self.view_is) ∙ sym c.in-Some-names.ensures)))
 
 pub loop-name-preserved : goal.loop-name-preserved
@@ -36,15 +22,15 @@ loop-name-preserved c =
     let path = c.args.path.now in
     let below = c.in-Some.below in
     let name = c.in-Some-2.name.now in
-    let node = c.in-Some-2.node.now in
-    one_pushed tree (listed below tree path) (rev_source c.loop-name.name-iterator) (rev_source c.next.new.self) (name, node)
+    let node = c.in-Some-2.node in
+    one_pushed tree (paths_at below tree path) c.loop-name.name-iterator.entries c.next.new.self.entries (name, node)
     c.loop-name.pending.items c.push.new.self.items (record { path = c.in_ok-joined.field-0; node = node; levels = below })
     (paths_below c.args.levels tree path c.args.directory ++ paths_pending tree c.args.pending.now.items)
     c.in-Some-2.ensures.steps c.in_ok-push.ensures.items
-    (ap (λ q. (q, node) ∷ paths_below below tree q node) (c.in_ok-joined.ensures ∙ ap (λ n. path ++ 47 ∷ n) c.deref.ensures.value))
+    (ap (λ q. (q, node) ∷ paths_below below tree q node) c.in_ok-joined.ensures)
     c.loop-name.invariant
 
 pub returns : goal.returns
 returns c =
     let tree = c.args.self.now.nodes in
-    ap (λ xs. flat_map (listed c.in-Some.below tree c.args.path.now) xs ++ paths_pending tree c.loop-name.pending.items) (sym c.in-None.ensures.steps.0) ∙ c.loop-name.invariant
+    ap (λ xs. flat_map (paths_at c.in-Some.below tree c.args.path.now) xs ++ paths_pending tree c.loop-name.pending.items) (sym c.in-None.ensures.steps.0) ∙ c.loop-name.invariant

@@ -1,0 +1,10 @@
+use Rattle.std.proofs.Common.{◌∙◌}
+use Rattle.std.specs.Ordering.{nat_cmp}
+use Rattle.std.specs.Cmp.Lexicographic.{slice_cmp}
+use Rattle.file_tree.proofs.Short.{filled_cmp}
+use Rattle.file_tree.proofs.short_name.ShortName.order.Goals as goal
+
+pub returns : goal.returns
+returns c =
+    c.order_of.ensures ∙ filled_cmp c.self.inside.bytes c.other.inside.bytes c.self.invariant c.other.invariant
+    ∙ (λ i. slice_cmp nat_cmp (c.self.view_is i) (c.other.view_is i))
