@@ -14,11 +14,11 @@ use Rattle.std.specs.BTreeMap.{insert_entry}
 use Rattle.std.specs.FinMap.Entries.{put, find, by_order}
 use Rattle.std.proofs.lemmas.Bool.{cases_lt}
 use Rattle.std.proofs.lemmas.Map.Keys.{sorted_head, sorted_tail}
-use Rattle.finite_maps.specs.Table.{text_keys, get, assign, count, get-insert, get-assign, same_table}
+use Rattle.finite_maps.specs.Table.{pair_decides, text_keys, get, assign, count, get-insert, get-assign, same_table}
 use Rattle.finite_maps.specs.Maps.{table_of}
 use Rattle.finite_maps.proofs.Ordered.{entries_of, entries_agree}
 use Rattle.file_tree.specs.Tree.{Names}
-use Rattle.file_tree.specs.Same.{pair_decides, same_name, same_names, same_names_decides}
+use Rattle.file_tree.specs.Same.{same_name, same_names, same_names_decides}
 use Rattle.std.specs.Bool.{Decides}
 use Rattle.std.specs.Cmp.{unsigned_Decides}
 use Rattle.std.specs.Cmp.Lexicographic.{pointwise, pointwise_decides, bytes_decides}

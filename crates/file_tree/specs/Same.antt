@@ -1,11 +1,11 @@
 -- A helper: whether names, and nodes, are the same.
 use Rattle.std.specs.Prelude.{◌≡◌, ℕ, Bool, true, false, ◌&&◌, List, nat_eq}
 use Rattle.std.specs.Bool.{Decides}
-use Rattle.std.specs.Cmp.{IsPartialEquivalence, unsigned_Decides, both_ways, first_so, second_so}
+use Rattle.std.specs.Cmp.{IsPartialEquivalence, unsigned_Decides, both_ways}
 use Rattle.std.specs.Cmp.Lexicographic.{pointwise, pointwise_decides, bytes_decides}
 use mathlib.Core.Bool.{true≢false}
 use mathlib.Core.Path.{sym, ap, ◌∙◌}
-use Rattle.finite_maps.specs.Table.{same_entries_table}
+use Rattle.finite_maps.specs.Table.{same_entries_table, pair_decides}
 use Rattle.file_tree.specs.Tree.{Names, Node, directory, file}
 
 -- The same name of the same node.
@@ -22,17 +22,6 @@ same_node (directory ns o) (file cs) = false
 same_node (file bs) (directory ms p) = false
 
 -- Each test says whether its two values are equal.
-
-pub pair_decides : {A B : Type 0} {E : A → A → Bool} {F : B → B → Bool} → ((x y : A) → Decides (E x y) (x ≡ y)) → ((x y : B) → Decides (F x y) (x ≡ y))
-    → (p q : A × B) → Decides (E p.0 q.0 && F p.1 q.1) (p ≡ q)
-pair_decides {E = E} {F = F} d e p q =
-    (λ h. pair ((d p.0 q.0).0 (first_so _ _ h)) ((e p.1 q.1).0 (second_so _ _ h)), λ h. both (E p.0 q.0) ((d p.0 q.0).1 (ap (λ r. r.0) h)) ((e p.1 q.1).1 (ap (λ r. r.1) h)))
-  where
-    pair : p.0 ≡ q.0 → p.1 ≡ q.1 → p ≡ q
-    pair a b i = (a i, b i)
-
-    both : (s : Bool) → s ≡ true → F p.1 q.1 ≡ true → (s && F p.1 q.1) ≡ true
-    both s a b = ap (λ t. t && F p.1 q.1) a ∙ b
 
 pub same_names_decides : (ns ms : Names) → Decides (same_names ns ms) (ns ≡ ms)
 same_names_decides ns ms =

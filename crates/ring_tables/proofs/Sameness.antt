@@ -1,5 +1,5 @@
 -- Whether two finite maps of numbers are equal, told by the trees that hold them.
-use Rattle.std.proofs.Common.{◌≡◌, ◌↔◌, ℕ, Bool, true, false, length, refl, sym, ap, ◌∙◌}
+use Rattle.std.proofs.Common.{◌≡◌, ◌↔◌, ℕ, Bool, length, sym, ap, ◌∙◌}
 use Rattle.std.specs.Prelude.{◌≢◌, ◌&&◌, nat_eq, IsTrue}
 use Rattle.std.specs.Bool.{Decides}
 use Rattle.std.specs.Cmp.{unsigned_Decides}
@@ -9,20 +9,6 @@ use Rattle.std.specs.BTreeMap.{BTreeMap}
 use Rattle.std.proofs.lemmas.Map.Lookups.{btree_map_eq-Decides}
 use Rattle.finite_maps.specs.Table.{Table, IsKeyOrder}
 use Rattle.finite_maps.proofs.Ordered.{entries_agree}
-
-both : (x y : Bool) → (x && y) ≡ true → (x ≡ true) × (y ≡ true)
-both true y h = (refl, h)
-both false y h = absurd (cc h)
-
-and_both : (x y : Bool) → x ≡ true → y ≡ true → (x && y) ≡ true
-and_both x y e f = rw (e, f) refl
-
--- a ring and a number are compared one after the other
-pub pair_decides : (a b : ℕ × ℕ) → Decides (nat_eq a.0 b.0 && nat_eq a.1 b.1) (a ≡ b)
-pair_decides a b = (
-  (λ h. let t = both _ _ h in λ i. ((unsigned_Decides a.0 b.0).0 t.0 i, (unsigned_Decides a.1 b.1).0 t.1 i)),
-  (λ h. and_both _ _ ((unsigned_Decides a.0 b.0).1 (ap (λ (p : ℕ × ℕ). p.0) h)) ((unsigned_Decides a.1 b.1).1 (ap (λ (p : ℕ × ℕ). p.1) h))),
-)
 
 module _ {K : Type 0} {R : K → K → Ordering} (t u : Table R ℕ) where
   pub entries_tell : {E : K → K → Bool} → IsKeyOrder R → ((a b : K) → Decides (E a b) (a ≡ b)) → (m n : BTreeMap K ℕ) → m.entries ≡ t.entries → n.entries ≡ u.entries → (r : Bool) → r ≡ pointwise (λ (p q : K × ℕ). E p.0 q.0 && nat_eq p.1 q.1) m.entries n.entries → IsTrue r ↔ (t ≡ u)
