@@ -9,3 +9,4 @@ pub mod Dropping
 pub mod Ending
 pub mod Places
 pub mod Noting
+pub mod Crossing
