@@ -3,6 +3,7 @@ ghost use Rattle.std.specs.Prelude.{◌≡◌, ◌≢◌, ◌⊎◌, ◌≤◌, 
 ghost use Rattle.std.specs.Prelude.{OnErr, string_bytes};
 ghost use Rattle.std.specs.Io.KnownBytes.{Appends, Keeps};
 ghost use Rattle.op_meaning.specs.Step.{sequential_replies, sequential_world};
+ghost use Rattle.replay_core.specs.Rounds.{IsReplay};
 ghost use Rattle.replay_core.specs.Serial.{IsSequential};
 ghost use Rattle.trace_format.specs.Grammar.{fault};
 ghost use Rattle.trace_format.specs.Text.{IsRefusal, IsSpelled, SpellsTrace};
@@ -220,8 +221,29 @@ fn compared_with<T: Threads + Wait + Sync>(
     ensures ok { IfOk result (λ verdict. verdict ≡ Verdict.Equal) }
     ensures err { IfErr result WantsMemoryOrThread }
 {
-    let parallel = replay(rt, alloc, trace, workers, window, &NoGate)?;
+    let parallel = boxed_replay(rt, alloc, trace, workers, window)?;
     Ok(verdict(serial, &parallel))
+}
+
+/// The run in rounds, in a box, which is let go in one step.
+fn boxed_replay<T: Threads + Wait + Sync>(
+    rt: &T,
+    alloc: Global,
+    trace: &Trace,
+    workers: u32,
+    window: u32,
+) -> Result<Box<Replay>, ReplayFault>
+    requires trace { IsSpelled trace.now }
+    requires workers { (1 ≤ workers) × (workers ≤ 64) }
+    requires window { (1 ≤ window) × (window ≤ 4096) }
+    ensures ok { IfOk result (λ parallel. IsReplay trace.now window parallel.value) }
+    ensures err { IfErr result WantsMemoryOrThread }
+{
+    let parallel = replay(rt, alloc, trace, workers, window, &NoGate)?;
+    match Box::new(alloc, parallel) {
+        Ok(parallel) => Ok(parallel),
+        Err(_) => Err(ReplayFault::Memory),
+    }
 }
 
 /// Writes what a comparison found.
