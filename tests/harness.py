@@ -12,6 +12,8 @@ EXAMPLES = os.path.join(TOP, "examples")
 BUILT = os.path.join(TOP, "crates", "uring_replay", "out", "uring_replay")
 # A run that has not ended by then hangs.
 SECONDS = 120
+# The system counts a process's own time by ticks of some hundredths of a second or less, so a shorter run may seem to take none.
+SHORTEST = 0.02
 
 
 class Answer(NamedTuple):
@@ -56,10 +58,10 @@ class Program(NamedTuple):
             return Answer(status, output.read(), errors.read())
 
     def seconds(self, words: Words, given: Input) -> float:
-        """The processor time of a run on an input, without what the system took; infinite where the run failed."""
+        """The processor time of a run on an input, without what the system took; infinite where the run failed, and no less than what ticks tell apart."""
         with opened(given) as source:
             status, seconds = ended(subprocess.Popen([self.file, *words], stdin=source, stdout=subprocess.DEVNULL))
-            return seconds if status == 0 else math.inf
+            return max(seconds, SHORTEST) if status == 0 else math.inf
 
 
 RUNS = [0]
