@@ -1,8 +1,6 @@
-//! Entries, traces, checks, chains and compared reports, as tests: their values are from hand.
+//! Entries, traces, checks and compared reports, as tests: their values are from hand.
 #![tactic(auto)]
 
-#[cfg(test)]
-mod chains;
 #[cfg(test)]
 mod checks;
 #[cfg(test)]

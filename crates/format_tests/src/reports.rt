@@ -2,10 +2,9 @@
 
 use report_diff::{Comparison, DiffFault, Refusal, compare};
 use std::alloc::Global;
-use std::test::Fail;
 
 #[test]
-fn every_outcome_is_told(rt: HostRuntime) -> Result<(), Fail> {
+fn every_outcome_is_told(rt: HostRuntime) {
     let first = "uring-report 1
 ring 0
 0 user=1 res=5 posted data=6162
@@ -54,14 +53,11 @@ tree 2 equal, 2 different, 0 outside
 slots 0 equal, 0 different, 0 outside
 buffers 0 equal, 0 different, 0 outside
 ";
-    let Comparison { text, alike } = compared(rt.alloc(), first, second)?;
-    assert_eq!(rt; str::from_utf8(text.as_slice())?, told);
-    assert!(rt; !alike);
-    Ok(())
+    assert!(rt; tells(rt.alloc(), first, second, told));
 }
 
 #[test]
-fn slots_of_their_ring_compare(rt: HostRuntime) -> Result<(), Fail> {
+fn slots_of_their_ring_compare(rt: HostRuntime) {
     let first =
         "uring-report 1\nslots\nslot 0 1 pos=0\ndescriptor 3 pos=4\nbuffers\nbuffer 0 1 len=2\nend\n";
     let second =
@@ -72,32 +68,45 @@ tree 0 equal, 0 different, 0 outside
 slots 2 equal, 1 different, 0 outside
 buffers 1 equal, 0 different, 0 outside
 ";
-    let Comparison { text, alike } = compared(rt.alloc(), first, second)?;
-    assert_eq!(rt; str::from_utf8(text.as_slice())?, told);
-    assert!(rt; !alike);
-    let Comparison { alike, .. } = compared(rt.alloc(), first, first)?;
-    assert!(rt; alike);
-    Ok(())
+    assert!(rt; tells(rt.alloc(), first, second, told) && are_alike(rt.alloc(), first));
 }
 
 #[test]
-fn one_report_is_refused(rt: HostRuntime) -> Result<(), Fail> {
+fn one_report_is_refused(rt: HostRuntime) {
     let report = "uring-report 1\nring 0\nend\n";
     let half = "uring-report 1\nring 0\n";
-    assert!(rt; is_refused(compared(rt.alloc(), "", report), Refusal::SecondHeading));
-    assert!(rt; is_refused(compared(rt.alloc(), "end\n", report), Refusal::FirstHeading));
-    assert!(rt; is_refused(compared(rt.alloc(), half, half), Refusal::FirstEnd));
-    assert!(rt; compared(rt.alloc(), report, half).is_ok());
-    Ok(())
+    assert!(rt;
+        is_refused(rt.alloc(), "", report, Refusal::SecondHeading)
+            && is_refused(rt.alloc(), "end\n", report, Refusal::FirstHeading)
+            && is_refused(rt.alloc(), half, half, Refusal::FirstEnd)
+            && compared(rt.alloc(), report, half).is_ok()
+    );
 }
 
 fn compared(alloc: Global, first: &str, second: &str) -> Result<Comparison, DiffFault> {
-    let input = format!(in alloc; "{first}{second}")?;
-    compare(alloc, input.as_bytes())
+    let mut input = Vec::from_slice(alloc, first.as_bytes())?;
+    input.extend_from_slice(second.as_bytes())?;
+    compare(alloc, &input)
 }
 
-fn is_refused(compared: Result<Comparison, DiffFault>, why: Refusal) -> bool {
-    match compared {
+/// Whether two reports differ, and this is told.
+fn tells(alloc: Global, first: &str, second: &str, told: &str) -> bool {
+    match compared(alloc, first, second) {
+        Ok(found) => !found.alike && found.text.as_slice() == told.as_bytes(),
+        Err(_) => false,
+    }
+}
+
+/// Whether a report does not differ from itself.
+fn are_alike(alloc: Global, report: &str) -> bool {
+    match compared(alloc, report, report) {
+        Ok(found) => found.alike,
+        Err(_) => false,
+    }
+}
+
+fn is_refused(alloc: Global, first: &str, second: &str, why: Refusal) -> bool {
+    match compared(alloc, first, second) {
         Ok(_) => false,
         Err(fault) => fault == DiffFault::Refused(why),
     }

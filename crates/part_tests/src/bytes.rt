@@ -9,9 +9,9 @@ use std::test::Fail;
 fn digits(alloc: Global) -> Result<Box<Extents>, AllocError>
     ensures { IfOk result (λ list. length list.value ≡ 10) }
 {
-    let mut list = Extents::new(alloc);
+    let mut list = Box::new(alloc, Extents::new(alloc))?;
     list.write(0, b"0123456789")?;
-    Ok(Box::new(alloc, list)?)
+    Ok(list)
 }
 
 /// Whether a list has these bytes from a place on.
@@ -21,57 +21,6 @@ fn shows(list: &Extents, at: u64, bytes: &[u8]) -> Result<bool, AllocError> {
         return Ok(false);
     }
     Ok(list.read(at, end)?.as_slice() == bytes)
-}
-
-/// Whether the digits 2 to 4, cut out and put back, are those digits, and zeros between.
-fn cut_and_put_back(list: &mut Extents) -> Result<bool, AllocError>
-    requires { length list.old ≡ 10 }
-{
-    let part = list.cut(2, 5)?;
-    let was_cut = shows(&part, 0, b"234")? && shows(list, 0, b"01\0\0\056789")?;
-    list.put_back(2, part)?;
-    Ok(was_cut && shows(list, 0, b"0123456789")?)
-}
-
-#[test]
-fn puts_back_what_was_cut(rt: HostRuntime) -> Result<(), Fail> {
-    let mut list = digits(rt.alloc())?;
-    assert!(rt; cut_and_put_back(&mut list)?);
-    Ok(())
-}
-
-/// Whether the digits 2 to 4, shared, stay what they were where the list is written to.
-fn share_and_write(list: &mut Extents) -> Result<bool, AllocError>
-    requires { length list.old ≡ 10 }
-{
-    let part = list.share(2, 5)?;
-    list.write(2, b"x")?;
-    Ok(shows(&part, 0, b"234")? && shows(list, 0, b"01x3456789")?)
-}
-
-#[test]
-fn keeps_what_was_shared(rt: HostRuntime) -> Result<(), Fail> {
-    let mut list = digits(rt.alloc())?;
-    assert!(rt; share_and_write(&mut list)?);
-    Ok(())
-}
-
-/// Whether the digits 2 to 4 lie over the letters of another list in the same place.
-fn copies_digits(list: &Extents, letters: &mut Extents) -> Result<bool, AllocError>
-    requires list { length list.now ≡ 10 }
-    requires letters { length letters.old ≡ 10 }
-{
-    letters.copy_range(list, 2, 5)?;
-    Ok(shows(letters, 0, b"ab234fghij")? && shows(list, 0, b"0123456789")?)
-}
-
-#[test]
-fn copies_a_range(rt: HostRuntime) -> Result<(), Fail> {
-    let list = digits(rt.alloc())?;
-    let mut letters = digits(rt.alloc())?;
-    letters.write(0, b"abcdefghij")?;
-    assert!(rt; copies_digits(&list, &mut letters)?);
-    Ok(())
 }
 
 /// Whether a list of many pages, cut out whole, written to and put back, has what was written.
@@ -98,8 +47,10 @@ fn share_and_shorten(list: &mut Extents) -> Result<bool, AllocError>
 
 /// Whether a list that shares the whole of another, of many pages, keeps what that loses.
 fn keeps_all(list: &mut Extents) -> Result<bool, AllocError>
-    requires { length list.old ≡ 20003 }
+    requires { length list.old ≡ 10 }
 {
+    list.write(9_000, b"x")?;
+    list.write(20_000, b"abc")?;
     let shared = list.share(0, 20_003)?;
     let moved = cut_and_write(list)? && share_and_shorten(list)?;
     Ok(moved && shows(&shared, 9_000, b"x\0")? && shows(&shared, 20_000, b"abc")?)
@@ -109,142 +60,97 @@ fn keeps_all(list: &mut Extents) -> Result<bool, AllocError>
 #[test]
 fn moves_whole_lists(rt: HostRuntime) -> Result<(), Fail> {
     let mut list = digits(rt.alloc())?;
-    list.write(9_000, b"x")?;
-    list.write(20_000, b"abc")?;
     assert!(rt; keeps_all(&mut list)?);
-    Ok(())
-}
-
-#[test]
-fn shows_no_old_bytes(rt: HostRuntime) -> Result<(), Fail> {
-    let mut list = digits(rt.alloc())?;
-    list.set_len(16)?;
-    list.zero(1, 3)?;
-    list.set_len(4)?;
-    list.set_len(6)?;
-    assert!(rt; shows(&list, 0, b"0\0\03\0\0")?);
     Ok(())
 }
 
 /// Whether a list of the greatest length, cut in two, written to at its end and put back, has just
 /// those bytes that are written last.
 fn cut_and_zero(list: &mut Extents) -> Result<bool, AllocError>
-    requires { length list.old ≡ MAX_LEN }
-    ensures { IfOk result (λ _. length list.new ≡ MAX_LEN) }
+    requires { length list.old ≡ 10 }
 {
+    list.set_len(MAX_LEN)?;
     let mut part = list.cut(4, MAX_LEN)?;
     part.write(1_099_511_627_770, b"xy")?;
     list.zero(1, MAX_LEN)?;
     list.put_back(4, part)?;
-    shows(list, 0, b"0\0\0\0456789\0")
+    Ok(shows(list, 0, b"0\0\0\0456789\0")? && shows(list, 1_099_511_627_772, b"\0\0xy")?)
 }
 
 // Were zeros stored, these lists would not fit into any memory.
 #[test]
 fn stores_no_zeros(rt: HostRuntime) -> Result<(), Fail> {
     let mut list = digits(rt.alloc())?;
-    list.set_len(MAX_LEN)?;
     assert!(rt; cut_and_zero(&mut list)?);
-    assert_eq!(rt; list.len(), 1_099_511_627_776);
-    assert!(rt; shows(&list, 1_099_511_627_772, b"\0\0xy")?);
     Ok(())
 }
 
-#[test]
-fn writes_zeros_over_bytes(rt: HostRuntime) -> Result<(), Fail> {
-    let mut list = digits(rt.alloc())?;
-    list.write(4, b"\0\0\0")?;
-    list.write(5_000, b"\0\0")?;
-    list.write(5_001, b"x")?;
-    assert!(rt; shows(&list, 0, b"0123\0\0\0789")?);
-    assert!(rt; shows(&list, 4_998, b"\0\0\0x")?);
-    Ok(())
+/// Whether ten bytes are those of a list that has them in another place of a page.
+fn is_part(list: &Extents, other: &Extents) -> Result<bool, AllocError>
+    requires { length list.now ≡ 4100 }
+{
+    Ok(list.share(4_090, 4_100)?.same(other))
 }
 
-#[test]
-fn ends_at_the_greatest_size(rt: HostRuntime) -> Result<(), Fail> {
-    let mut list = digits(rt.alloc())?;
-    list.write(1_099_511_627_774, b"xy")?;
-    assert_eq!(rt; list.len(), 1_099_511_627_776);
-    assert!(rt; shows(&list, 1_099_511_627_773, b"\0xy")?);
-    Ok(())
-}
-
-/// Whether two lists are equal just where their lengths and bytes are.
-fn lengths_and_bytes_tell(list: &mut Extents, other: &mut Extents) -> Result<bool, AllocError> {
-    list.set_len(MAX_LEN)?;
+/// Whether two lists are equal just where their lengths and bytes are, whatever was written there
+/// before, and also where these lie in other places of a page.
+fn lengths_and_bytes_tell(list: &mut Extents, other: &mut Extents) -> Result<bool, AllocError>
+    requires list { length list.old ≡ 10 }
+    requires other { length other.old ≡ 10 }
+{
     list.write(4_090, b"0123456789")?;
+    let other_place = is_part(list, other)?;
+    list.set_len(MAX_LEN)?;
+    list.write(50_000, b"\0\0")?;
     other.write(4_089, b"00123456789")?;
     let unlike_lengths = !list.same(other);
     other.set_len(MAX_LEN)?;
     let unlike_bytes = !list.same(other) && !other.same(list);
-    other.zero(4_089, 4_090)?;
-    Ok(unlike_lengths && unlike_bytes && list.same(other) && other.same(list))
+    other.write(4_089, b"\0")?;
+    let told_apart = unlike_lengths && unlike_bytes;
+    Ok(other_place && told_apart && list.same(other) && other.same(list))
 }
 
 #[test]
 fn compares_bytes(rt: HostRuntime) -> Result<(), Fail> {
-    let mut list = Extents::new(rt.alloc());
-    let mut other = Extents::new(rt.alloc());
+    let mut list = digits(rt.alloc())?;
+    let mut other = digits(rt.alloc())?;
     assert!(rt; lengths_and_bytes_tell(&mut list, &mut other)?);
     Ok(())
 }
 
-#[test]
-fn compares_parts(rt: HostRuntime) -> Result<(), Fail> {
-    let list = digits(rt.alloc())?;
-    let mut other = Extents::new(rt.alloc());
-    other.write(4_090, b"0123456789")?;
-    assert!(rt; other.share(4_090, 4_100)?.same(&list));
-    Ok(())
-}
-
-/// Whether bytes that were read have these from a place on.
-fn gives(alloc: Global, read: &ReadBytes, at: u64, bytes: &[u8]) -> Result<bool, AllocError> {
-    let end = at.saturating_add(bytes.len() as u64);
-    if end > read.len() {
-        return Ok(false);
-    }
-    Ok(read.read(alloc, at, end)?.as_slice() == bytes)
-}
-
-#[test]
-fn keeps_few_bytes_that_were_read(rt: HostRuntime) -> Result<(), Fail> {
-    let mut list = digits(rt.alloc())?;
-    let few = ReadBytes::of(rt.alloc(), &list, 2, 6)?;
-    list.write(3, b"x")?;
-    assert!(rt; few.front(64) == b"2345".as_slice());
-    assert!(rt; gives(rt.alloc(), &few, 1, b"34")?);
-    Ok(())
-}
-
-#[test]
-fn keeps_many_bytes_that_were_read(rt: HostRuntime) -> Result<(), Fail> {
-    let mut list = digits(rt.alloc())?;
-    list.set_len(MAX_LEN)?;
-    let many = ReadBytes::of(rt.alloc(), &list, 2, MAX_LEN)?;
-    list.write(9, b"x")?;
-    assert!(rt; many.len() == 1_099_511_627_774 && many.front(3) == b"234".as_slice());
-    assert!(rt; gives(rt.alloc(), &many, 6, b"89\0\0")?);
-    Ok(())
-}
-
-/// Whether bytes that were read are equal to themselves, and to no others.
-fn reads_differ(alloc: Global, list: &mut Extents) -> Result<bool, AllocError>
+/// Whether bytes 2 to 5 of the digits, and all from 2 on, stay what they were where the list is
+/// written to, so that these are no longer what is read then.
+fn stay(
+    alloc: Global,
+    list: &mut Extents,
+    few: &ReadBytes,
+    many: &ReadBytes,
+) -> Result<bool, AllocError>
     requires { length list.old ≡ MAX_LEN }
 {
+    list.write(3, b"x")?;
+    if many.len() != 1_099_511_627_774 || few.front(64) != b"2345".as_slice() {
+        return Ok(false);
+    }
+    let later = ReadBytes::of(alloc, list, 2, MAX_LEN)?;
+    let told_apart = !many.same(&later) && !many.same(few);
+    Ok(told_apart && many.read(alloc, 0, 10)?.as_slice() == b"23456789\0\0".as_slice())
+}
+
+/// Whether few bytes that were read, and many, stay where the list is written to.
+fn reads_stay(alloc: Global, list: &mut Extents) -> Result<bool, AllocError>
+    requires { length list.old ≡ 10 }
+{
+    list.set_len(MAX_LEN)?;
     let few = ReadBytes::of(alloc, list, 2, 6)?;
     let many = ReadBytes::of(alloc, list, 2, MAX_LEN)?;
-    list.write(9, b"x")?;
-    let later = ReadBytes::of(alloc, list, 2, MAX_LEN)?;
-    let alike = many.same(&many) && few.same(&few);
-    Ok(alike && !many.same(&later) && !many.same(&few))
+    stay(alloc, list, &few, &many)
 }
 
 #[test]
-fn compares_bytes_that_were_read(rt: HostRuntime) -> Result<(), Fail> {
+fn keeps_bytes_that_were_read(rt: HostRuntime) -> Result<(), Fail> {
     let mut list = digits(rt.alloc())?;
-    list.set_len(MAX_LEN)?;
-    assert!(rt; reads_differ(rt.alloc(), &mut list)?);
+    assert!(rt; reads_stay(rt.alloc(), &mut list)?);
     Ok(())
 }
