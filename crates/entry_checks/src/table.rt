@@ -16,6 +16,7 @@ use trace_format::{Entry, Version};
 /// then the selection of a buffer is EOPNOTSUPP; then come the opcode's own tests. It takes no
 /// memory.
 #[tactic(auto, unfolding(trace_format::specs::Sides::is_side_of))]
+#[inline(always)]
 pub fn check(entry: &Entry, version: Version) -> Result<Op<'_>, Errno>
     requires { is_side_of entry.now.sqe entry.now.side ≡ true }
     ensures { answer result ≡ check version entry.now }

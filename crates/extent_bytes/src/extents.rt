@@ -59,6 +59,7 @@ impl Extents {
     }
 
     /// The bytes from `lo` up to `hi`.
+    #[inline(always)]
     pub fn read(&self, lo: u64, hi: u64) -> Result<Vec<u8>, AllocError>
         requires forward { lo ≤ hi }
         requires inside { hi ≤ length self.now }

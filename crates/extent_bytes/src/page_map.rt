@@ -45,6 +45,7 @@ pub(crate) fn discard(pages: &mut Pages, from: u64, to: u64)
 }
 
 // Writes the bytes into one page. Zeros are not stored where there is no page.
+#[inline(always)]
 pub(crate) fn put_bytes(
     pages: &mut Pages,
     alloc: Global,

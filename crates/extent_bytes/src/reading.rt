@@ -63,6 +63,7 @@ impl ReadBytes {
     /// # Errors
     ///
     /// Want of memory.
+    #[inline(always)]
     pub fn of(alloc: Global, list: &Extents, lo: u64, hi: u64) -> Result<Self, AllocError>
         requires forward { lo ≤ hi }
         requires inside { hi ≤ length list.now }

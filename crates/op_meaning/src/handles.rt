@@ -58,6 +58,7 @@ pub(crate) fn held_by_descriptor(trace: &Trace, descriptor: u32, state: &State) 
 
 /// The number of the open file description that a file number stands for: in a slot of the ring, or
 /// at a descriptor.
+#[inline(always)]
 pub fn held(trace: &Trace, ring: u8, file: FileNumber, state: &State) -> Option<u32>
     ensures { result ≡ held trace.now state.now ring (file_meant file) }
 {
@@ -117,6 +118,7 @@ pub fn is_directory(node: u32, state: &State) -> bool
 }
 
 /// The open file that a read is from, or why it is refused.
+#[inline(always)]
 pub(crate) fn readable(
     trace: &Trace,
     ring: u8,

@@ -77,6 +77,7 @@ fn list(lists: &mut Vec<ReadBytes>, many: ReadBytes) -> Result<Spot, AllocError>
 }
 
 /// Keeps the bytes of a reply behind those of others, and gives the line that stands for it.
+#[inline(always)]
 fn kept(copied: &mut Vec<u8>, lists: &mut Vec<ReadBytes>, reply: Reply) -> Result<Line, AllocError>
     ensures copied { Extends copied.old.items copied.new.items }
     ensures lists { Extends lists.old.items lists.new.items }
@@ -116,6 +117,7 @@ impl Replies {
     /// # Errors
     ///
     /// Want of memory.
+    #[inline(always)]
     pub fn push(&mut self, reply: Reply) -> Result<(), AllocError>
         ensures ok { OnOk result (self.new ≡ self.old ++ reply ∷ []) }
         ensures err { OnErr result (self.new ≡ self.old) }

@@ -29,6 +29,7 @@ use world_parts::State;
 /// # Errors
 ///
 /// That of the first test that fails.
+#[inline(always)]
 fn decide<'a>(site: Site<'_>, op: Op<'a>, state: &State) -> Result<Decision<'a>, Errno>
     requires { IsSpelled site.trace.now }
     ensures meaning { Decides

@@ -1,18 +1,11 @@
 ghost use Rattle.std.specs.Prelude.{Some};
 ghost use Rattle.replay_program.specs.Limits.{IsServed};
 
-use crate::examples::{
-    BUFFER_SELECTION_PERSONALITY_AND_RW_FLAGS_OF_READ, DRAIN_WAITS_FOR_EVERY_EARLIER_STEP,
-    EXCHANGE_OF_FILE_AND_DIRECTORY, FIXED_BUFFER_RANGE_FILL_AND_FIXED_WRITE,
-    GENERAL_TESTS_GIVE_EINVAL, LONG_DATA_ODD_NAMES_AND_A_LARGE_FILE,
-    NEIGHBOURING_WRITES_DO_NOT_COLLIDE, NO_RECORDS, OPEN_WRITE_CLOSE_CHAIN_THEN_EMPTY_SLOT,
-    OVERLAPPING_READS_SHARE_A_ROUND, READ_BEFORE_WRITE_PAST_END_ON_OTHER_RING, READ_FOUR_BYTES,
-    SUM_OF_A_SMALL_FILE, TWO_WRITTEN_RANGES_IN_ONE_PAGE, WRITE_PAST_END_THEN_READ_ON_OTHER_RING,
-};
+use crate::examples::{NEIGHBOURING_WRITES_DO_NOT_COLLIDE, READ_FOUR_BYTES};
 use replay_core::{ReplayFault, Verdict};
 use replay_program::{
-    Failed, FromStd, Mode, Options, ReportsFault, RunFault, Sink, Source, Task, UsageKind,
-    read_words, run, run_alone, run_diff, told,
+    Failed, FromStd, Mode, Options, ReportsFault, RunFault, Sink, Source, Task, read_words, run,
+    run_alone, run_diff, told,
 };
 use report_diff::Refusal;
 use std::io;
@@ -89,31 +82,6 @@ fn reads_words(rt: HostRuntime) {
 }
 
 #[test]
-fn refuses_words(rt: HostRuntime) {
-    let cases: [(&[&str], UsageKind); 14] = [
-        (["serial", "--help"].as_slice(), UsageKind::Help),
-        (["run", "--workers", "0"].as_slice(), UsageKind::Wrong),
-        (["run", "--workers", "65"].as_slice(), UsageKind::Wrong),
-        (["compare", "--window", "0"].as_slice(), UsageKind::Wrong),
-        (["compare", "--window", "4097"].as_slice(), UsageKind::Wrong),
-        (["compare", "--sums"].as_slice(), UsageKind::Wrong),
-        ([].as_slice(), UsageKind::Wrong),
-        (["parallel"].as_slice(), UsageKind::Wrong),
-        (["serial", "--sums", "trace"].as_slice(), UsageKind::Wrong),
-        (["serial", "--workers", "2"].as_slice(), UsageKind::Wrong),
-        (["rounds", "--window", "0"].as_slice(), UsageKind::Wrong),
-        (["check", "--sums"].as_slice(), UsageKind::Wrong),
-        (["diff", "--sums"].as_slice(), UsageKind::Wrong),
-        (["diff", "--help"].as_slice(), UsageKind::Help),
-    ];
-    for (words, kind) in cases {
-        let usage = read_words(rt.alloc(), words).expect_err(&rt, "usage");
-        assert_eq!(rt; usage.kind, kind);
-        assert!(rt; !usage.text.is_empty());
-    }
-}
-
-#[test]
 fn statuses_and_lines(rt: HostRuntime) -> Result<(), Fail> {
     let refused = TraceFault {
         kind: Kind::NoParent,
@@ -149,39 +117,6 @@ fn statuses_and_lines(rt: HostRuntime) -> Result<(), Fail> {
         assert_eq!(rt; fault.status(), status);
         let text = fault.to_string(rt.alloc())?;
         assert_eq!(rt; text.as_str(), line);
-    }
-    Ok(())
-}
-
-#[test]
-fn writes_reports(rt: HostRuntime) -> Result<(), Fail> {
-    let alloc = rt.alloc();
-    let cases = [
-        READ_FOUR_BYTES,
-        WRITE_PAST_END_THEN_READ_ON_OTHER_RING,
-        READ_BEFORE_WRITE_PAST_END_ON_OTHER_RING,
-        SUM_OF_A_SMALL_FILE,
-        NO_RECORDS,
-        NEIGHBOURING_WRITES_DO_NOT_COLLIDE,
-        OVERLAPPING_READS_SHARE_A_ROUND,
-        TWO_WRITTEN_RANGES_IN_ONE_PAGE,
-        GENERAL_TESTS_GIVE_EINVAL,
-        BUFFER_SELECTION_PERSONALITY_AND_RW_FLAGS_OF_READ,
-        LONG_DATA_ODD_NAMES_AND_A_LARGE_FILE,
-        OPEN_WRITE_CLOSE_CHAIN_THEN_EMPTY_SLOT,
-        EXCHANGE_OF_FILE_AND_DIRECTORY,
-        FIXED_BUFFER_RANGE_FILL_AND_FIXED_WRITE,
-        DRAIN_WAITS_FOR_EVERY_EARLIER_STEP,
-    ];
-    for case in cases {
-        let trace = hex::decode(alloc, case.trace).expect(&rt, "a trace");
-        for (options, report) in [(SERIAL, case.report), (SUMS, case.sums)] {
-            let mut reader = FromStd::new(trace.as_slice());
-            let mut writer = FromStd::new(Vec::new(alloc));
-            let done = run_alone(alloc, &mut reader, &mut writer, &options);
-            assert_eq!(rt; done, Ok(()));
-            assert_eq!(rt; writer.stream.as_slice(), report.as_bytes());
-        }
     }
     Ok(())
 }
@@ -260,16 +195,6 @@ fn compares_two_reports(rt: HostRuntime) {
         slots 0 equal, 0 different, 0 outside\n\
         buffers 0 equal, 0 different, 0 outside\n";
     let reports =
-        "uring-report 1\n0 user=7 res=4 posted\nend\nuring-report 1\n0 user=7 res=4 posted op=1\nend\n";
-    let mut reader = FromStd::new(reports.as_bytes());
-    let mut writer = FromStd::new(Vec::new(alloc));
-    let done = run_diff(alloc, &mut reader, &mut writer);
-    assert_eq!(rt; done, Ok(()));
-    let text = format!(in alloc; "entries 1 equal, 0 different, 0 outside\n{counts}").expect(
-        &rt, "memory",
-    );
-    assert_eq!(rt; writer.stream.as_slice(), text.as_bytes());
-    let reports =
         "uring-report 1\n0 user=7 res=4 posted\nend\nuring-report 1\n0 user=7 res=5 posted op=1\nend\n";
     let mut reader = FromStd::new(reports.as_bytes());
     let mut writer = FromStd::new(Vec::new(alloc));
@@ -291,30 +216,6 @@ fn writes_nothing_for_one_report(rt: HostRuntime) {
     let refused = ReportsFault::Refused(Refusal::SecondHeading);
     assert_eq!(rt; done, Err(RunFault::Reports(refused)));
     assert!(rt; writer.stream.is_empty());
-}
-
-#[test]
-fn writes_the_line_of_a_check(rt: HostRuntime) -> Result<(), Fail> {
-    let alloc = rt.alloc();
-    let cases = [
-        (READ_FOUR_BYTES, "ok 1 places 1 rings\n"),
-        (
-            WRITE_PAST_END_THEN_READ_ON_OTHER_RING,
-            "ok 2 places 2 rings\n",
-        ),
-        // Three places of one record.
-        (GENERAL_TESTS_GIVE_EINVAL, "ok 3 places 1 rings\n"),
-        (SUM_OF_A_SMALL_FILE, "ok 0 places 1 rings\n"),
-    ];
-    for (case, line) in cases {
-        let trace = hex::decode(alloc, case.trace).expect(&rt, "a trace");
-        let mut reader = FromStd::new(trace.as_slice());
-        let mut writer = FromStd::new(Vec::new(alloc));
-        let done = run_alone(alloc, &mut reader, &mut writer, &CHECK);
-        assert_eq!(rt; done, Ok(()));
-        assert_eq!(rt; writer.stream.as_slice(), line.as_bytes());
-    }
-    Ok(())
 }
 
 #[test]

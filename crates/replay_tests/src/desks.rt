@@ -1,4 +1,4 @@
-//! Jobs are dealt and their results gathered, by one thread and by two.
+//! Jobs are dealt and their results gathered, by two threads.
 ghost use Rattle.std.specs.Prelude.{◌≡◌, ◌*◌, length, IfOk, IfSome, None, true, false};
 ghost use Rattle.deal_desk.specs.Desks.{hand_of, IsSeatOf, IsIdleSeatOf};
 ghost use Rattle.deal_desk.specs.Hands.{HasSeats};
@@ -55,57 +55,6 @@ fn turn(desk: &Desk<Double>, seat: &mut DeskSeat<Double>) -> Option<u32>
     Some(place)
 }
 
-// One seat draws each job in order, and then none.
-#[test]
-fn desk_three(rt: HostRuntime) -> Result<(), Fail> {
-    let (desk, mut seat) = Desk::new(rt.alloc(), three(rt.alloc())?)?;
-    let zero = turn(&desk, &mut seat);
-    let one = turn(&desk, &mut seat);
-    let two = turn(&desk, &mut seat);
-    assert_eq!(rt; [zero, one, two], [Some(0), Some(1), Some(2)]);
-    assert!(rt; desk.draw(&mut seat).is_none() && seat.is_dry());
-    let results = desk.close(rt.alloc(), seat)?;
-    assert_eq!(rt; results.as_slice(), [20, 40, 60].as_slice());
-    Ok(())
-}
-
-// The empty list has a desk too.
-#[test]
-fn desk_of_no_jobs(rt: HostRuntime) -> Result<(), Fail> {
-    let jobs: Vec<Double> = Vec::new(rt.alloc());
-    let (desk, mut seat) = Desk::new(rt.alloc(), jobs)?;
-    assert!(rt; desk.draw(&mut seat).is_none() && seat.is_dry());
-    let results = desk.close(rt.alloc(), seat)?;
-    assert!(rt; results.is_empty());
-    Ok(())
-}
-
-// Two seats of one thread, whose draws take turns.
-#[test]
-fn desk_two_seats(rt: HostRuntime) -> Result<(), Fail> {
-    let (desk, mut left) = Desk::new(rt.alloc(), three(rt.alloc())?)?;
-    let mut right = desk.seat(&mut left);
-    let Some((zero, first)) = desk.draw(&mut left) else {
-        panic!(rt; "no first job")
-    };
-    let Some((one, second)) = desk.draw(&mut right) else {
-        panic!(rt; "no second job")
-    };
-    desk.put(&mut left, zero, first.value());
-    let Some((two, third)) = desk.draw(&mut left) else {
-        panic!(rt; "no third job")
-    };
-    desk.put(&mut right, one, second.value());
-    assert!(rt; desk.draw(&mut right).is_none());
-    desk.put(&mut left, two, third.value());
-    assert!(rt; desk.draw(&mut left).is_none());
-    assert_eq!(rt; [zero, one, two], [0, 1, 2]);
-    desk.merge(&mut left, right);
-    let results = desk.close(rt.alloc(), left)?;
-    assert_eq!(rt; results.as_slice(), [20, 40, 60].as_slice());
-    Ok(())
-}
-
 // Two turns, at a seat of a thread's own.
 fn two_turns(desk: &Desk<Double>, mut seat: DeskSeat<Double>) -> DeskSeat<Double>
     requires desk { IsSeatOf desk.now seat }
@@ -160,7 +109,7 @@ fn two_threads(rt: HostRuntime) -> Result<(), Fail> {
         },
     );
     let mut left = merged.ok_or("no thread")?;
-    assert!(rt; desk.draw(&mut left).is_none());
+    assert!(rt; desk.draw(&mut left).is_none() && left.is_dry());
     let results = desk.close(rt.alloc(), left)?;
     assert_eq!(rt; results.as_slice(), [20, 40, 60].as_slice());
     Ok(())

@@ -1,6 +1,7 @@
 //! Footprints and reaches of places, and which of them collide.
-ghost use Rattle.std.specs.Prelude.{◌≡◌};
+ghost use Rattle.std.specs.Prelude.{◌≡◌, ◌<◌};
 ghost use Rattle.chain_plan.specs.Plan.{roles};
+ghost use Rattle.trace_format.specs.Steps.{places};
 ghost use Rattle.trace_format.specs.Text.{IsSpelled};
 
 use crate::text::{Submitted, make_directory, read, remove_directory, trace_of, write};
@@ -135,7 +136,21 @@ fn first_reach(alloc: Global, trace: &Trace, earlier: &[Footprint]) -> Result<Fo
     }
     let plan = Plan::of(alloc, trace)?;
     let world = World::of(alloc, trace)?;
-    Ok(reach(alloc, 0, trace, &plan, &world, earlier)?)
+    reach_in(alloc, trace, &plan, &world, earlier)
+}
+
+fn reach_in(
+    alloc: Global,
+    trace: &Trace,
+    plan: &Plan,
+    world: &World,
+    earlier: &[Footprint],
+) -> Result<Footprint, Fail>
+    requires trace { IsSpelled trace.now }
+    requires place { 0 < places trace.now }
+    requires plan { plan.now ≡ roles trace.now }
+{
+    Ok(reach(alloc, 0, trace, plan, world, earlier)?)
 }
 
 /// The reach of a read of the empty slot, behind earlier reaches.
@@ -144,19 +159,27 @@ fn reached(alloc: Global, earlier: &[Footprint]) -> Result<Footprint, Fail> {
     first_reach(alloc, &trace, earlier)
 }
 
+/// Whether that reach writes the first byte of the first file, as a transfer that may do so does.
+fn reaches_the_file(alloc: Global, earlier: &[Footprint]) -> Result<bool, Fail> {
+    let reached = reached(alloc, earlier)?;
+    Ok(is_written(alloc, &reached, Item::Bytes(2, 0, 1))?)
+}
+
+/// The reach of a place that fills the slot.
+fn filling(alloc: Global) -> Result<Footprint, AllocError> {
+    let mut footprint = Footprint::new(alloc);
+    footprint.writes(Item::Slot(0, 1))?;
+    Ok(footprint)
+}
+
+/// The same behind a place that fills the slot.
+fn reaches_behind_a_filling(alloc: Global) -> Result<bool, Fail> {
+    reaches_the_file(alloc, &[filling(alloc)?])
+}
+
 #[test]
 fn a_read_of_a_slot_that_may_be_filled_reaches_all_bytes(rt: HostRuntime) -> Result<(), Fail> {
-    let known = reached(rt.alloc(), &[])?;
-    assert_eq!(rt;
-        is_written(rt.alloc(), &known, Item::Bytes(2, 0, 1))?,
-        false
-    );
-    let mut filling = Footprint::new(rt.alloc());
-    filling.writes(Item::Slot(0, 1))?;
-    let unknown = reached(rt.alloc(), &[filling])?;
-    assert_eq!(rt;
-        is_written(rt.alloc(), &unknown, Item::Bytes(2, 0, 1))?,
-        true
-    );
+    assert!(rt; !reaches_the_file(rt.alloc(), &[])?);
+    assert!(rt; reaches_behind_a_filling(rt.alloc())?);
     Ok(())
 }

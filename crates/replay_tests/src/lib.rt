@@ -1,5 +1,5 @@
-//! Desks, worlds, footprints, places and replays of small traces, as tests: their values are from
-//! hand, and the rounds of `schedules` from the plain choice of places.
+//! Desks, worlds, footprints and replays of small traces, as tests: their values are from
+//! hand.
 #![tactic(auto)]
 
 #[cfg(test)]
@@ -7,15 +7,11 @@ mod desks;
 #[cfg(test)]
 mod footprints;
 #[cfg(test)]
-mod places;
+mod picks;
 #[cfg(test)]
 mod replies;
 #[cfg(test)]
 mod rounds;
-#[cfg(test)]
-mod running;
-#[cfg(test)]
-mod schedules;
 #[cfg(test)]
 mod text;
 #[cfg(test)]

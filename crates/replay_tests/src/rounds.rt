@@ -2,6 +2,7 @@
 ghost use Rattle.std.specs.Prelude.{IfOk};
 ghost use Rattle.trace_format.specs.Text.{IsSpelled};
 
+use crate::text::six_places;
 use chain_plan::Role;
 use op_meaning::{Reply, run_entry};
 use replay_core::comparing::verdict;
@@ -93,7 +94,7 @@ impl Gate for Refusing {
 
 /// Runs each place on a worker of its own, as far as there are so many.
 #[derive(Drop)]
-pub(crate) struct Eager;
+struct Eager;
 
 impl Gate for Eager {
     fn run(
@@ -219,7 +220,7 @@ fn limits_are_tested_in_order(rt: HostRuntime) -> Result<(), Fail> {
 
 #[test]
 fn both_runs_are_equal(rt: HostRuntime) -> Result<(), Fail> {
-    let trace = two_nops(rt.alloc())?;
+    let trace = six_places(rt.alloc())?;
     for workers in [1, 2, 64] {
         let alone = compared(&rt, rt.alloc(), &trace, workers, &NoGate);
         assert!(rt; matches!(alone, Ok(Verdict::Equal)));

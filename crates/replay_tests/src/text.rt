@@ -2,34 +2,26 @@
 ghost use Rattle.std.specs.Prelude.{IfOk};
 ghost use Rattle.trace_format.specs.Text.{IsSpelled};
 
-use sqe_codec::{FIXED_FILE, Sqe, pack};
+use sqe_codec::{FIXED_FILE, IO_DRAIN, IO_LINK, Sqe, pack};
 use std::alloc::{AllocError, Global};
 use std::test::Fail;
 use trace_format::{Trace, read_trace};
 
 // The opcodes and flags, as `linux/io_uring.h` and `linux/fcntl.h` have them.
-pub(crate) const OPENAT: u8 = 18;
+const READ: u8 = 22;
 
-pub(crate) const CLOSE: u8 = 19;
+const WRITE: u8 = 23;
 
-pub(crate) const READ: u8 = 22;
+const UNLINKAT: u8 = 36;
 
-pub(crate) const WRITE: u8 = 23;
+const MKDIRAT: u8 = 37;
 
-pub(crate) const RENAMEAT: u8 = 35;
+const AT_REMOVEDIR: u32 = 0x200;
 
-pub(crate) const UNLINKAT: u8 = 36;
-
-pub(crate) const MKDIRAT: u8 = 37;
-
-pub(crate) const AT_REMOVEDIR: u32 = 0x200;
-
-pub(crate) const AT_FDCWD: i32 = -100;
-
-pub(crate) const O_RDWR: u32 = 2;
+const AT_FDCWD: i32 = -100;
 
 /// An entry with nothing set: a NOP.
-pub(crate) const BLANK: Sqe = Sqe {
+const BLANK: Sqe = Sqe {
     opcode: 0,
     flags: 0,
     ioprio: 0,
@@ -79,74 +71,6 @@ pub(crate) fn write(slot: i32, off: u64, bytes: &[u8; 4]) -> Submitted<'_> {
     Submitted { sqe, side: bytes }
 }
 
-/// A read of four bytes by an ordinary descriptor.
-pub(crate) fn read_descriptor(descriptor: i32) -> Submitted<'static> {
-    let sqe = Sqe {
-        opcode: READ,
-        fd: descriptor,
-        len: 4,
-        ..BLANK
-    };
-    Submitted { sqe, side: &[] }
-}
-
-/// Opens a file to read and write, into the slot before a file index, or with index 0 as the lowest
-/// free descriptor.
-pub(crate) fn open(path: &[u8], file_index: u32) -> Submitted<'_> {
-    let sqe = Sqe {
-        opcode: OPENAT,
-        fd: AT_FDCWD,
-        op_flags: O_RDWR,
-        file_index,
-        ..BLANK
-    };
-    Submitted { sqe, side: path }
-}
-
-/// Closes the slot before a file index, or with index 0 a descriptor.
-pub(crate) fn close(descriptor: i32, file_index: u32) -> Submitted<'static> {
-    let sqe = Sqe {
-        opcode: CLOSE,
-        fd: descriptor,
-        file_index,
-        ..BLANK
-    };
-    Submitted { sqe, side: &[] }
-}
-
-/// Renames: the length of the old path, the old path and the new one.
-pub(crate) fn rename(paths: &[u8]) -> Submitted<'_> {
-    let sqe = Sqe {
-        opcode: RENAMEAT,
-        fd: AT_FDCWD,
-        len: 0xffff_ff9c,
-        ..BLANK
-    };
-    Submitted { sqe, side: paths }
-}
-
-/// Removes a name of a file.
-pub(crate) fn unlink(path: &[u8]) -> Submitted<'_> {
-    let sqe = Sqe {
-        opcode: UNLINKAT,
-        fd: AT_FDCWD,
-        ..BLANK
-    };
-    Submitted { sqe, side: path }
-}
-
-/// An entry with more flags.
-pub(crate) fn flagged(entry: Submitted<'_>, flags: u32) -> Submitted<'_> {
-    let sqe = Sqe {
-        flags: entry.sqe.flags | (flags & 0xff) as u8,
-        ..entry.sqe
-    };
-    Submitted {
-        sqe,
-        side: entry.side,
-    }
-}
-
 /// A NOP with flags.
 pub(crate) fn nop(flags: u32) -> Submitted<'static> {
     let sqe = Sqe {
@@ -178,7 +102,7 @@ pub(crate) fn remove_directory(path: &[u8]) -> Submitted<'_> {
 }
 
 /// Adds an entry with the bytes beside it.
-pub(crate) fn push_entry(text: &mut Vec<u8>, sqe: &Sqe, side: &[u8]) -> Result<(), AllocError> {
+fn push_entry(text: &mut Vec<u8>, sqe: &Sqe, side: &[u8]) -> Result<(), AllocError> {
     text.extend_from_slice(&pack(sqe))?;
     text.extend_from_slice(&(side.len() as u64).to_le_bytes()[..4])?;
     text.extend_from_slice(side)
@@ -207,20 +131,26 @@ fn head(alloc: Global) -> Result<Vec<u8>, AllocError> {
 pub(crate) fn trace_of(alloc: Global, entries: &[Submitted<'_>]) -> Result<Box<Trace>, Fail>
     ensures { IfOk result (λ trace. IsSpelled trace.value) }
 {
-    trace_behind(alloc, head(alloc)?, entries)
-}
-
-/// The trace of a head that ends in a record's ring, with these entries in that record.
-pub(crate) fn trace_behind(
-    alloc: Global,
-    mut text: Vec<u8>,
-    entries: &[Submitted<'_>],
-) -> Result<Box<Trace>, Fail>
-    ensures { IfOk result (λ trace. IsSpelled trace.value) }
-{
+    let mut text = head(alloc)?;
     text.extend_from_slice(&(entries.len() as u64).to_le_bytes()[..2])?;
     for entry in entries {
         push_entry(&mut text, &entry.sqe, entry.side)?;
     }
     Ok(Box::new(alloc, read_trace(alloc, text)?)?)
+}
+
+/// Two writes that share bytes 2 and 3 of a file, a chain of two NOPs, a NOP, and one that drains
+/// its ring.
+pub(crate) fn six_places(alloc: Global) -> Result<Box<Trace>, Fail>
+    ensures { IfOk result (λ trace. IsSpelled trace.value) }
+{
+    let entries = [
+        write(0, 0, b"abcd"),
+        write(0, 2, b"efgh"),
+        nop(IO_LINK),
+        nop(0),
+        nop(0),
+        nop(IO_DRAIN),
+    ];
+    trace_of(alloc, &entries)
 }

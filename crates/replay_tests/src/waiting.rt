@@ -1,33 +1,15 @@
 //! For which place, and by which item, each place of a trace waited last.
-ghost use Rattle.std.specs.Prelude.{IfOk};
 ghost use Rattle.trace_format.specs.Text.{IsSpelled};
 
-use crate::text::{nop, trace_of, write};
+use crate::text::six_places;
 use replay_core::ReplayFault;
 use replay_core::round_log::{RoundLog, WaitedFor, log_rounds};
-use sqe_codec::{IO_DRAIN, IO_LINK};
 use std::alloc::Global;
 use std::sync::Wait;
 use std::test::Fail;
 use std::thread::Threads;
 use trace_format::Trace;
 use world_parts::Item;
-
-/// Two writes that share bytes 2 and 3 of a file, a chain of two NOPs, a NOP, and one that drains
-/// its ring.
-fn six_places(alloc: Global) -> Result<Box<Trace>, Fail>
-    ensures { IfOk result (λ trace. IsSpelled trace.value) }
-{
-    let entries = [
-        write(0, 0, b"abcd"),
-        write(0, 2, b"efgh"),
-        nop(IO_LINK),
-        nop(0),
-        nop(0),
-        nop(IO_DRAIN),
-    ];
-    trace_of(alloc, &entries)
-}
 
 /// Whether it is this place, with these bytes of node 2.
 fn is_for_bytes(wait: &Option<WaitedFor>, place: u32, low: u64, high: u64) -> bool {
@@ -96,32 +78,6 @@ fn places_wait_for_the_latest_that_holds_them(rt: HostRuntime) -> Result<(), Fai
     let log = log_of(&rt, rt.alloc(), 64)?;
     assert_eq!(rt; log.rounds.as_slice(), [0, 1, 0, 1, 0, 2].as_slice());
     assert!(rt; are_for_latest(log.waits.as_slice()));
-    Ok(())
-}
-
-/// Whether the second write waits for the first one, and no other place for any.
-fn is_one_for_bytes(waits: &[Option<WaitedFor>]) -> bool {
-    match waits {
-        [None, second, None, None, None, None] => is_for_bytes(second, 0, 2, 4),
-        _ => false,
-    }
-}
-
-/// With a window of 2 only the second write is seen in the round before its own.
-#[test]
-fn places_wait_where_the_window_shows_them(rt: HostRuntime) -> Result<(), Fail> {
-    let two = log_of(&rt, rt.alloc(), 2)?;
-    assert_eq!(rt; two.rounds.as_slice(), [0, 1, 1, 2, 2, 3].as_slice());
-    assert!(rt; is_one_for_bytes(two.waits.as_slice()));
-    Ok(())
-}
-
-/// With a window of 1 no place is.
-#[test]
-fn no_place_waits_where_the_window_shows_one(rt: HostRuntime) -> Result<(), Fail> {
-    let one = log_of(&rt, rt.alloc(), 1)?;
-    assert_eq!(rt; one.rounds.as_slice(), [0, 1, 2, 3, 4, 5].as_slice());
-    assert!(rt; matches!(one.waits.as_slice(), [None, None, None, None, None, None]));
     Ok(())
 }
 

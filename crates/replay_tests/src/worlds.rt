@@ -143,13 +143,6 @@ fn broken(alloc: Global) -> Result<World, Fail> {
 }
 
 #[test]
-fn a_broken_chain_is_in_the_world(rt: HostRuntime) -> Result<(), Fail> {
-    let world = broken(rt.alloc())?;
-    assert_eq!(rt; world.state().broken(7), Some(Broken::Quiet));
-    Ok(())
-}
-
-#[test]
 fn a_broken_chain_tells_worlds_apart(rt: HostRuntime) -> Result<(), Fail> {
     let other = start(rt.alloc())?;
     assert!(rt; !other.same(&broken(rt.alloc())?));

@@ -43,6 +43,7 @@ impl Descriptions {
     }
 
     /// What a description says.
+    #[inline(always)]
     pub fn get(&self, number: u32) -> Option<Description>
         ensures { result ≡ get self.now number }
     {

@@ -41,6 +41,7 @@ impl Descriptors {
     }
 
     /// The open file description that a descriptor holds.
+    #[inline(always)]
     pub fn get(&self, number: u32) -> Option<u32>
         ensures { result ≡ get self.now number }
     {

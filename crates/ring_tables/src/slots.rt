@@ -40,6 +40,7 @@ impl Slots {
     }
 
     /// The open file description that a slot of a ring holds.
+    #[inline(always)]
     pub fn get(&self, ring: u8, slot: u32) -> Option<u32>
         ensures { result ≡ get self.now (ring, slot) }
     {

@@ -122,6 +122,7 @@ impl State {
     /// # Errors
     ///
     /// Want of memory.
+    #[inline(always)]
     pub fn write(&mut self, node: u32, at: u64, bytes: &[u8]) -> Result<(), AllocError>
         requires { at + length bytes.now ≤ file_limit }
         ensures { OnOk result (self.new ≡ apply (change.write_bytes node at bytes.now) self.old) }

@@ -85,6 +85,7 @@ impl Footprint {
     /// # Errors
     ///
     /// Want of memory.
+    #[inline(always)]
     pub fn push(&mut self, used: Use) -> Result<(), AllocError>
         ensures { OnOk result (self.new ≡ self.old ++ use_meant used ∷ []) }
     {
