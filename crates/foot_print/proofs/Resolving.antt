@@ -13,7 +13,7 @@ use Rattle.file_tree.specs.declared.walk.Place as code
 use Rattle.foot_print.specs.Reach.{file_seen, shape_seen}
 use Rattle.foot_print.specs.Resolved.{at_place, content_of, moved_of, written_name, rest, row_behind, Completes}
 use Rattle.foot_print.specs.declared.resolved.Resolved.{Resolved}
-use Rattle.op_meaning.specs.Footprint.{Taken, file_reads, of_file, of_description, on_file, position_written, read_content, write_content, through, transfer_row, path_reads, name_written, name_freed, renameat_row, Shape, shape, shape_row, row_in, tried, as_reads}
+use Rattle.op_meaning.specs.Footprint.{Taken, file_reads, of_file, of_description, on_file, position_written, read_content, write_content, through, transfer_row, path_reads, name_written, name_freed, linkat_row, renameat_row, Shape, shape, shape_row, row_in, tried, as_reads}
 use Rattle.op_meaning.specs.Handles.{handle_meant}
 use Rattle.op_meaning.specs.Meaning.{handle, handle_of, held, is_file, meaning, Handle}
 use Rattle.op_meaning.specs.declared.handles.OpenFile.{OpenFile}
@@ -47,6 +47,9 @@ module _ (t : Trace) (r : ℕ) (s : World) where
         ∙ (λ i. (file_seen t s r f ++ each (of_file c) (there i)) ++ each (λ h. position_written h o) (there i))
         ∙ ap (λ g. g ++ each (λ h. position_written h o) (handle t s r f)) (sym (on_file_is f c))
 
+    pub content_completes : (c : ℕ → Handle → Footprint) → file_seen t s r f ++ content_of s c x ≡ on_file t s r f c
+    content_completes c = ap (λ h. file_seen t s r f ++ each (of_file c) h) there ∙ sym (on_file_is f c)
+
     moved : (y : Taken) (w : Bool) (o n : ℕ) → file_seen t s r f ++ moved_of s y w o n x ≡ transfer_row t s r y w f o n
     moved y false o n = with_position (read_content o n) o
     moved y true o n = with_position (write_content s y o n) o
@@ -57,7 +60,7 @@ module _ (t : Trace) (r : ℕ) (s : World) where
 
 -- what is used where two paths lead
 module _ (s : World) where
-  at_end : (p : Path) (x : Option code.Place) → option_map (place_meant s.nodes) x ≡ result_ok (walk s.nodes p) → (f : Place → Footprint) → at_place s f x ≡ each_ok f (walk s.nodes p)
+  pub at_end : (p : Path) (x : Option code.Place) → option_map (place_meant s.nodes) x ≡ result_ok (walk s.nodes p) → (f : Place → Footprint) → at_place s f x ≡ each_ok f (walk s.nodes p)
   at_end p x found f = ap (each f) found ∙ of (walk s.nodes p)
     where
       of : (y : Result Place Errno) → each f (result_ok y) ≡ each_ok f y
@@ -67,6 +70,16 @@ module _ (s : World) where
   written_at : (x : Option code.Place) → each written_name x ≡ at_place s name_written x
   written_at None = refl
   written_at (Some q) = refl
+
+  pub opening_completes : (p : Path) (x : Option code.Place) → option_map (place_meant s.nodes) x ≡ result_ok (walk s.nodes p) → (room made : Footprint) (f : Place → Footprint)
+      → path_reads s p ++ (room ++ made ++ at_place s f x) ≡ path_reads s p ++ room ++ made ++ each_ok f (walk s.nodes p)
+  opening_completes p x found room made f =
+      sym (append_assoc (path_reads s p) (room ++ made) (at_place s f x))
+      ∙ (λ i. sym (append_assoc (path_reads s p) room made) i ++ at_end p x found f i)
+
+  pub linking_completes : (old new : Path) (x : Option code.Place) → option_map (place_meant s.nodes) x ≡ result_ok (walk s.nodes new)
+      → (path_reads s old ++ path_reads s new) ++ each written_name x ≡ linkat_row s old new
+  linking_completes old new x to = ap (λ g. path_reads s old ++ path_reads s new ++ g) (written_at x ∙ at_end new x to name_written)
 
   pub renaming_completes : (old new : Path) (x y : Option code.Place) → option_map (place_meant s.nodes) x ≡ result_ok (walk s.nodes old) → option_map (place_meant s.nodes) y ≡ result_ok (walk s.nodes new)
       → (path_reads s old ++ path_reads s new) ++ (each written_name x ++ at_place s (name_freed true) y) ≡ renameat_row s old new

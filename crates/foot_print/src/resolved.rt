@@ -82,60 +82,51 @@ pub(crate) fn resolve<'a>(
             offset,
             count,
             span,
-        } => {
-            let opened = file_seen(site, file, state, footprint)?;
-            Ok(Resolved::Moving {
-                into_file,
-                opened,
-                range: FileRange { offset, count },
-                span,
-            })
-        }
+        } => Ok(Resolved::Moving {
+            into_file,
+            opened: file_seen(site, file, state, footprint)?,
+            range: FileRange { offset, count },
+            span,
+        }),
         Shape::Allocating {
             file,
             offset,
             size: count,
             mode,
-        } => {
-            let opened = file_seen(site, file, state, footprint)?;
-            Ok(Resolved::Allocating {
-                opened,
-                range: FileRange { offset, count },
-                mode,
-            })
-        }
-        Shape::Resizing { file, size } => {
-            let opened = file_seen(site, file, state, footprint)?;
-            Ok(Resolved::Resizing { opened, size })
-        }
+        } => Ok(Resolved::Allocating {
+            opened: file_seen(site, file, state, footprint)?,
+            range: FileRange { offset, count },
+            mode,
+        }),
+        Shape::Resizing { file, size } => Ok(Resolved::Resizing {
+            opened: file_seen(site, file, state, footprint)?,
+            size,
+        }),
         Shape::Closing { file } => Ok(Resolved::Closing { file }),
-        Shape::Opening { path, flags, slot } => {
-            let found = names_seen(alloc, path, state, footprint)?;
-            Ok(Resolved::Opening { found, flags, slot })
-        }
-        Shape::Making { path } => {
-            let found = names_seen(alloc, path, state, footprint)?;
-            Ok(Resolved::Making { found })
-        }
+        Shape::Opening { path, flags, slot } => Ok(Resolved::Opening {
+            found: names_seen(alloc, path, state, footprint)?,
+            flags,
+            slot,
+        }),
+        Shape::Making { path } => Ok(Resolved::Making {
+            found: names_seen(alloc, path, state, footprint)?,
+        }),
         Shape::Freeing {
             path,
             removes_directory,
-        } => {
-            let found = names_seen(alloc, path, state, footprint)?;
-            Ok(Resolved::Freeing {
-                found,
-                removes_directory,
-            })
-        }
+        } => Ok(Resolved::Freeing {
+            found: names_seen(alloc, path, state, footprint)?,
+            removes_directory,
+        }),
         Shape::Linking { old, new } => {
             names_seen(alloc, old, state, footprint)?;
-            let new = names_seen(alloc, new, state, footprint)?;
-            Ok(Resolved::Linking { new })
+            Ok(Resolved::Linking {
+                new: names_seen(alloc, new, state, footprint)?,
+            })
         }
-        Shape::Renaming { old, new } => {
-            let old = names_seen(alloc, old, state, footprint)?;
-            let new = names_seen(alloc, new, state, footprint)?;
-            Ok(Resolved::Renaming { old, new })
-        }
+        Shape::Renaming { old, new } => Ok(Resolved::Renaming {
+            old: names_seen(alloc, old, state, footprint)?,
+            new: names_seen(alloc, new, state, footprint)?,
+        }),
     }
 }
