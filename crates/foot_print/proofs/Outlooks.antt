@@ -24,7 +24,7 @@ use Rattle.op_meaning.specs.Step.{Turn, refused, canceled, runs, posts, doomed_t
 use Rattle.foot_print.specs.Reach.{is_canceled, look_of, shape_seen, seen, task, running_row}
 use Rattle.foot_print.specs.Foreseen.{meets_written, may_run, entry_reach, unresolved_given, accepted_given, operation_given, reach_given, undoomed, member_runs}
 use Rattle.foot_print.specs.Outlook.{takes_lowest, turn_takes_lowest, IsFirstWritten, WaitsBy, items_awaited, IsOutlook, Awaits, AwaitsAsOperation, AwaitsAsEntry}
-use Rattle.foot_print.specs.declared.reaching.Awaited.TheVariants.{Reach, Items}
+use Rattle.foot_print.specs.declared.reaching.Awaited.TheVariants.{Items}
 use Rattle.foot_print.specs.declared.reaching.Outlook.{Outlook}
 use Rattle.foot_print.proofs.Given.{submitted_given}
 
@@ -102,21 +102,19 @@ module _ (order : Footprint) (t : Trace) (k r : ℕ) (s : World) (w : Item → B
     decided : meets_written w (seen t r s p) ≡ false
     decided = sym (ap (meets_written w) told_by) ∙ none_written w d none
 
-    pub accepted_reach : (f : Footprint) → meets_written w row ≡ true → f ≡ accepted_given order t k r s w x → f ≡ operation_given order t k r s w p
-    accepted_reach f met e =
-        let there = sym met ∙ ap (meets_written w) own in
-        e ∙ ap (accepted_given order t k r s w) shaped ∙ (λ i. given (sym decided i) (there i))
+    pub decided_reach : {E : Type 0} (o : Result Outlook E) → IfOk o (λ o. o.reach ≡ (if meets_written w row then accepted_given order t k r s w (shape p) else row)) → IfOk o (λ o. o.reach ≡ operation_given order t k r s w p)
+    decided_reach (Ok o) e = e ∙ (λ i. if meets_written w (own i) then accepted_given order t k r s w (shape p) else own i) ∙ (λ i. given (sym decided i) (meets_written w (order ++ row_in t k r s p)))
+    decided_reach (Err e) _ = tt
 
-    pub accepted_awaits : (f : Footprint) (takes : Bool) → takes ≡ takes_lowest p → AwaitsAsOperation order t k r s w p true (record { reach = f; waits_by = Items row; takes_lowest = takes })
-    accepted_awaits f takes e = record { by = inr (decided, own); told = refl; lowest = e }
-
-    pub running_reach : meets_written w row ≡ false → row ≡ operation_given order t k r s w p
-    running_reach unmet =
-        let there = sym unmet ∙ ap (meets_written w) own in
-        own ∙ (λ i. given (sym decided i) (there i))
-
-    pub running_awaits : (takes : Bool) → takes ≡ takes_lowest p → AwaitsAsOperation order t k r s w p true (record { reach = row; waits_by = Reach; takes_lowest = takes })
-    running_awaits takes e = record { by = inr (decided, own); told = refl; lowest = e }
+    pub decided_awaits : {E : Type 0} (o : Result Outlook E) → IfOk o (λ o. items_awaited o.waits_by o.reach ≡ Some row) → IfOk o (λ o. o.takes_lowest ≡ takes_lowest p) → IfOk o (λ o. AwaitsAsOperation order t k r s w p true o)
+    decided_awaits (Ok o) e l =
+        let waits : IsFirstWritten w (seen t r s p) row ⊎ ((meets_written w (seen t r s p) ≡ false) × (row ≡ order ++ row_in t k r s p)) = inr (decided, own) in
+        record {
+          by = subst (λ a. IfSome a (λ f. IsFirstWritten w (seen t r s p) f ⊎ ((meets_written w (seen t r s p) ≡ false) × (f ≡ order ++ row_in t k r s p)))) (sym e) waits;
+          told = ap is_some e;
+          lowest = l;
+        }
+    decided_awaits (Err e) _ l = tt
 
 module _ (t : Trace) (k : ℕ) (s : World) (w : Item → Bool) (o : Outlook) where
   -- the items that are awaited, by the place's task and its turn

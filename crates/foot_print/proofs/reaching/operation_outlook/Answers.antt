@@ -24,29 +24,7 @@ returns-in-Some-clause-awaits c =
     let shape = shape_meant c.shape_of-shape.result in
     let looked = c.in_ok-resolved.ensures.seen ∙ ap (λ f. f ++ shape_seen a.site.trace.now a.site.ring a.state.now shape) c.new-deciding.ensures in
     outlooks.undecided_awaits order a.site.trace.now a.site.place a.site.ring a.state.now (written_before a.behind.now) (meant a.op) shape c.shape_of-shape.ensures c.resolve.new.footprint looked
-    c.in-Some.known c.in_ok-unresolved_reach.field-0 c.truncate.new.self c.takes_lowest-takes_lowest.result (sym c.first_met.ensures.first ∙ c.in-Some.is) c.truncate.ensures c.takes_lowest-takes_lowest.ensures
-
-pub returns-then-meets-clause-reach : goal.returns-then-meets-clause-reach
-returns-then-meets-clause-reach c =
-    let a = c.args in
-    let order = order_uses a.site.ring a.role_there.now in
-    let shape = shape_meant c.shape_of-shape.result in
-    let looked = c.in_ok-resolved.ensures.seen ∙ ap (λ f. f ++ shape_seen a.site.trace.now a.site.ring a.state.now shape) c.new-deciding.ensures in
-    let behind = row_completed a.site.trace.now a.site.place a.site.ring a.state.now (meant a.op) shape c.resolve.new.footprint c.in_ok-resolved.resolved c.shape_of-shape.ensures looked c.in_ok-resolved.ensures.rest in
-    let own = c.in_ok-append.ensures ∙ (λ i. c.in_ok-row.ensures i ++ (c.in_ok-uses_behind.ensures ∙ behind) i) in
-    outlooks.accepted_reach order a.site.trace.now a.site.place a.site.ring a.state.now (written_before a.behind.now) (meant a.op) shape c.shape_of-shape.ensures c.resolve.new.footprint looked
-    c.append.new.self (sym c.first_met.ensures.first ∙ c.in_default.is) own c.in_ok-accepted_reach.field-0 (sym c.meets.ensures ∙ c.if-meets.true) c.in_ok-accepted_reach.ensures
-
-pub returns-then-meets-clause-awaits : goal.returns-then-meets-clause-awaits
-returns-then-meets-clause-awaits c =
-    let a = c.args in
-    let order = order_uses a.site.ring a.role_there.now in
-    let shape = shape_meant c.shape_of-shape.result in
-    let looked = c.in_ok-resolved.ensures.seen ∙ ap (λ f. f ++ shape_seen a.site.trace.now a.site.ring a.state.now shape) c.new-deciding.ensures in
-    let behind = row_completed a.site.trace.now a.site.place a.site.ring a.state.now (meant a.op) shape c.resolve.new.footprint c.in_ok-resolved.resolved c.shape_of-shape.ensures looked c.in_ok-resolved.ensures.rest in
-    let own = c.in_ok-append.ensures ∙ (λ i. c.in_ok-row.ensures i ++ (c.in_ok-uses_behind.ensures ∙ behind) i) in
-    outlooks.accepted_awaits order a.site.trace.now a.site.place a.site.ring a.state.now (written_before a.behind.now) (meant a.op) shape c.shape_of-shape.ensures c.resolve.new.footprint looked
-    c.append.new.self (sym c.first_met.ensures.first ∙ c.in_default.is) own c.in_ok-accepted_reach.field-0 c.takes_lowest-takes_lowest.result c.takes_lowest-takes_lowest.ensures
+    c.in-Some.known c.in_ok-unresolved_reach.field-0 c.truncate.new.self c.takes_lowest.result (sym c.first_met.ensures.first ∙ c.in-Some.is) c.truncate.ensures c.takes_lowest.ensures
 
 pub returns-clause-reach : goal.returns-clause-reach
 returns-clause-reach c =
@@ -55,9 +33,9 @@ returns-clause-reach c =
     let shape = shape_meant c.shape_of-shape.result in
     let looked = c.in_ok-resolved.ensures.seen ∙ ap (λ f. f ++ shape_seen a.site.trace.now a.site.ring a.state.now shape) c.new-deciding.ensures in
     let behind = row_completed a.site.trace.now a.site.place a.site.ring a.state.now (meant a.op) shape c.resolve.new.footprint c.in_ok-resolved.resolved c.shape_of-shape.ensures looked c.in_ok-resolved.ensures.rest in
-    let own = c.in_ok-append.ensures ∙ (λ i. c.in_ok-row.ensures i ++ (c.in_ok-uses_behind.ensures ∙ behind) i) in
-    outlooks.running_reach order a.site.trace.now a.site.place a.site.ring a.state.now (written_before a.behind.now) (meant a.op) shape c.shape_of-shape.ensures c.resolve.new.footprint looked
-    c.append.new.self (sym c.first_met.ensures.first ∙ c.in_default.is) own (sym c.meets.ensures ∙ c.if-meets.false)
+    let own = c.in_ok-row.ensures ∙ ap (λ f. order ++ f) behind in
+    outlooks.decided_reach order a.site.trace.now a.site.place a.site.ring a.state.now (written_before a.behind.now) (meant a.op) shape c.shape_of-shape.ensures c.resolve.new.footprint looked
+    c.in_ok-row.row (sym c.first_met.ensures.first ∙ c.in_default.is) own c.decided_outlook.result c.decided_outlook.ensures.reach
 
 pub returns-clause-awaits : goal.returns-clause-awaits
 returns-clause-awaits c =
@@ -66,6 +44,6 @@ returns-clause-awaits c =
     let shape = shape_meant c.shape_of-shape.result in
     let looked = c.in_ok-resolved.ensures.seen ∙ ap (λ f. f ++ shape_seen a.site.trace.now a.site.ring a.state.now shape) c.new-deciding.ensures in
     let behind = row_completed a.site.trace.now a.site.place a.site.ring a.state.now (meant a.op) shape c.resolve.new.footprint c.in_ok-resolved.resolved c.shape_of-shape.ensures looked c.in_ok-resolved.ensures.rest in
-    let own = c.in_ok-append.ensures ∙ (λ i. c.in_ok-row.ensures i ++ (c.in_ok-uses_behind.ensures ∙ behind) i) in
-    outlooks.running_awaits order a.site.trace.now a.site.place a.site.ring a.state.now (written_before a.behind.now) (meant a.op) shape c.shape_of-shape.ensures c.resolve.new.footprint looked
-    c.append.new.self (sym c.first_met.ensures.first ∙ c.in_default.is) own c.takes_lowest-takes_lowest.result c.takes_lowest-takes_lowest.ensures
+    let own = c.in_ok-row.ensures ∙ ap (λ f. order ++ f) behind in
+    outlooks.decided_awaits order a.site.trace.now a.site.place a.site.ring a.state.now (written_before a.behind.now) (meant a.op) shape c.shape_of-shape.ensures c.resolve.new.footprint looked
+    c.in_ok-row.row (sym c.first_met.ensures.first ∙ c.in_default.is) own c.decided_outlook.result c.decided_outlook.ensures.awaited c.decided_outlook.ensures.lowest
