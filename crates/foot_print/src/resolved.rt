@@ -1,13 +1,16 @@
 //! What an operation's file or paths lead to, looked up once.
-ghost use Rattle.std.specs.Prelude.{◌≡◌, ◌++◌, IfOk, OnOk};
+ghost use Rattle.std.specs.Prelude.{◌≡◌, ◌++◌, ℕ, IfOk, OnOk};
+ghost use Rattle.entry_checks.specs.Meant.{path_meant};
 ghost use Rattle.foot_print.specs.Reach.{shape_seen};
 ghost use Rattle.foot_print.specs.Resolved.{Completes};
 ghost use Rattle.foot_print.specs.Shapes.{shape_meant};
+ghost use Rattle.op_meaning.specs.Footprint as rows;
+ghost use Rattle.trace_format.specs.declared.trace.Trace.{Trace};
 
 use crate::file_rows::{FileRange, file_seen};
 use crate::path_rows::names_seen;
 use crate::shape::Shape;
-use entry_checks::{BufferSpan, FileNumber, OpenAtFlags};
+use entry_checks::{BufferSpan, FileNumber, OpenAtFlags, PathAt};
 use file_tree::Place;
 use op_meaning::{OpenFile, Site};
 use std::alloc::{AllocError, Global};
@@ -118,15 +121,47 @@ pub(crate) fn resolve<'a>(
             found: names_seen(alloc, path, state, footprint)?,
             removes_directory,
         }),
-        Shape::Linking { old, new } => {
-            names_seen(alloc, old, state, footprint)?;
-            Ok(Resolved::Linking {
-                new: names_seen(alloc, new, state, footprint)?,
-            })
-        }
-        Shape::Renaming { old, new } => Ok(Resolved::Renaming {
-            old: names_seen(alloc, old, state, footprint)?,
-            new: names_seen(alloc, new, state, footprint)?,
-        }),
+        Shape::Linking { old, new } => linking_seen(alloc, old, new, state, footprint),
+        Shape::Renaming { old, new } => renaming_seen(alloc, old, new, state, footprint),
     }
+}
+
+/// Walks both paths of a link.
+fn linking_seen<'a>(
+    alloc: Global,
+    old: PathAt<'a>,
+    new: PathAt<'a>,
+    state: &State,
+    footprint: &mut Footprint,
+) -> Result<Resolved<'a>, AllocError>
+    ensures seen { OnOk result (footprint.new ≡ footprint.old
+        ++ rows.path_reads state.now (path_meant old.entry)
+        ++ rows.path_reads state.now (path_meant new.entry)) }
+    ensures rest { (t : Trace) (r : ℕ) → IfOk result (Completes t r state.now
+        (rows.linking (path_meant old.entry) (path_meant new.entry))) }
+{
+    names_seen(alloc, old, state, footprint)?;
+    Ok(Resolved::Linking {
+        new: names_seen(alloc, new, state, footprint)?,
+    })
+}
+
+/// Walks both paths of a rename.
+fn renaming_seen<'a>(
+    alloc: Global,
+    old: PathAt<'a>,
+    new: PathAt<'a>,
+    state: &State,
+    footprint: &mut Footprint,
+) -> Result<Resolved<'a>, AllocError>
+    ensures seen { OnOk result (footprint.new ≡ footprint.old
+        ++ rows.path_reads state.now (path_meant old.entry)
+        ++ rows.path_reads state.now (path_meant new.entry)) }
+    ensures rest { (t : Trace) (r : ℕ) → IfOk result (Completes t r state.now
+        (rows.renaming (path_meant old.entry) (path_meant new.entry))) }
+{
+    Ok(Resolved::Renaming {
+        old: names_seen(alloc, old, state, footprint)?,
+        new: names_seen(alloc, new, state, footprint)?,
+    })
 }

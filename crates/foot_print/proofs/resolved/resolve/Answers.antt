@@ -8,8 +8,8 @@ use Rattle.foot_print.specs.Resolved.{Completes}
 use Rattle.foot_print.specs.Shapes.{shape_meant}
 use Rattle.foot_print.specs.declared.shape.Shape.{Shape}
 use Rattle.foot_print.specs.declared.resolved.Resolved.{Resolved}
-use Rattle.foot_print.specs.declared.resolved.Resolved.TheVariants.{Moving, Allocating, Resizing, Opening, Making, Freeing, Linking, Renaming}
-use Rattle.foot_print.proofs.Resolving.{transfer_completes, content_completes, at_end, opening_completes, linking_completes, renaming_completes}
+use Rattle.foot_print.specs.declared.resolved.Resolved.TheVariants.{Moving, Allocating, Resizing, Opening, Making, Freeing}
+use Rattle.foot_print.proofs.Resolving.{transfer_completes, content_completes, at_end, opening_completes}
 use Rattle.foot_print.proofs.resolved.resolve.Goals as goal
 
 -- a shape's row is completed by what completes that of the shape in an arm
@@ -72,19 +72,3 @@ returns-in_ok-names_seen-in-Freeing-clause-rest c =
     let p = c.in_ok-names_seen-in-Freeing in
     let path = path_meant i.path in
     of_arm t c.args.site.ring s c.args.shape _ (Freeing p.field-0 i.removes_directory) i.is (λ k y. ap (λ g. path_reads s path ++ g) (at_end s path p.field-0 p.ensures.found (name_freed i.removes_directory)))
-
-pub returns-in_ok-names_seen-in-Linking-2-clause-rest : goal.returns-in_ok-names_seen-in-Linking-2-clause-rest
-returns-in_ok-names_seen-in-Linking-2-clause-rest c =
-    let s = c.args.state.now in
-    let i = c.in-Linking in
-    let p = c.in_ok-names_seen-in-Linking-2 in
-    of_arm c.args.site.trace.now c.args.site.ring s c.args.shape _ (Linking p.field-0) i.is (λ k y. linking_completes s (path_meant i.old) (path_meant i.new) p.field-0 p.ensures.found)
-
-pub returns-in_ok-names_seen-in-Renaming-2-clause-rest : goal.returns-in_ok-names_seen-in-Renaming-2-clause-rest
-returns-in_ok-names_seen-in-Renaming-2-clause-rest c =
-    let s = c.args.state.now in
-    let i = c.in-Renaming in
-    let from = c.in_ok-names_seen-in-Renaming in
-    let to = c.in_ok-names_seen-in-Renaming-2 in
-    of_arm c.args.site.trace.now c.args.site.ring s c.args.shape _ (Renaming from.field-0 to.field-0) i.is
-    (λ k y. renaming_completes s (path_meant i.old) (path_meant i.new) from.field-0 to.field-0 from.ensures.found to.ensures.found)
