@@ -1,9 +1,11 @@
-//! Desks, worlds, footprints and replays of small traces, as tests: their values are from
-//! hand.
+//! Desks, worlds, footprints and replays of small traces, and runs of the program, as tests: their
+//! values are from hand.
 #![tactic(auto)]
 
 #[cfg(test)]
 mod desks;
+#[cfg(test)]
+mod examples;
 #[cfg(test)]
 mod footprints;
 #[cfg(test)]
@@ -12,6 +14,8 @@ mod picks;
 mod replies;
 #[cfg(test)]
 mod rounds;
+#[cfg(test)]
+mod runs;
 #[cfg(test)]
 mod text;
 #[cfg(test)]

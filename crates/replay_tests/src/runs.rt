@@ -1,15 +1,13 @@
-ghost use Rattle.std.specs.Prelude.{Some};
+//! What the program does with its words, and with what it reads.
 ghost use Rattle.replay_program.specs.Limits.{IsServed};
 
 use crate::examples::{NEIGHBOURING_WRITES_DO_NOT_COLLIDE, READ_FOUR_BYTES};
 use replay_core::{ReplayFault, Verdict};
 use replay_program::{
-    Failed, FromStd, Mode, Options, ReportsFault, RunFault, Sink, Source, Task, read_words, run,
-    run_alone, run_diff, told,
+    FromStd, Mode, Options, ReportsFault, RunFault, Task, read_words, run, run_alone, run_diff,
+    told,
 };
 use report_diff::Refusal;
-use std::io;
-use std::io::Read;
 use std::process::Abort;
 use std::sync::Wait;
 use std::test::Fail;
@@ -232,135 +230,4 @@ fn writes_nothing_for_a_refused_trace(rt: HostRuntime) -> Result<(), Fail> {
     assert_eq!(rt; done, Err(RunFault::Trace(short)));
     assert!(rt; writer.stream.is_empty());
     Ok(())
-}
-
-/// A reader that gives a byte a call, and fails at one call.
-#[derive(Drop)]
-struct SlowReader<'a> {
-    bytes: &'a [u8],
-    turns: u64,
-    failures: u64,
-}
-
-impl Source for SlowReader<'_> {
-    ghost left = { λ reader. Some reader.bytes.now };
-
-    ghost failures = { λ reader. reader.failures };
-
-    fn read_some(&mut self, buffer: &mut [u8]) -> Result<usize, Failed> {
-        if self.turns == 0 {
-            self.failures += 1;
-            return Err(Failed);
-        }
-        self.turns -= 1;
-        match self.bytes {
-            [first, rest @ ..] if !buffer.is_empty() => {
-                buffer[0] = *first;
-                self.bytes = rest;
-                Ok(1)
-            }
-            _ => Ok(0),
-        }
-    }
-}
-
-#[test]
-fn stops_at_a_failed_read(rt: HostRuntime) {
-    let alloc = rt.alloc();
-    let trace = hex::decode(alloc, READ_FOUR_BYTES.trace).expect(&rt, "a trace");
-    // One call for each of the 177 bytes, and one that finds the end.
-    for turns in 0..179u64 {
-        let mut reader = SlowReader {
-            bytes: trace.as_slice(),
-            turns,
-            failures: 0,
-        };
-        let mut writer = FromStd::new(Vec::new(alloc));
-        let done = run_alone(alloc, &mut reader, &mut writer, &SERIAL);
-        if turns < 178 {
-            assert_eq!(rt; done, Err(RunFault::Read));
-            assert!(rt; writer.stream.is_empty());
-        } else {
-            assert_eq!(rt; done, Ok(()));
-            assert_eq!(rt; writer.stream.as_slice(), READ_FOUR_BYTES.report.as_bytes());
-        }
-    }
-}
-
-/// A writer that takes a byte a call, and at one call fails or takes none.
-#[derive(Drop)]
-struct SlowWriter {
-    taken: Vec<u8>,
-    turns: u64,
-    takes_none: bool,
-    failures: u64,
-}
-
-impl Sink for SlowWriter {
-    ghost written = { λ writer. Some writer.taken.items };
-
-    ghost failures = { λ writer. writer.failures };
-
-    fn write_some(&mut self, bytes: &[u8]) -> Result<usize, Failed> {
-        if self.turns > 0 {
-            if let [first, ..] = bytes {
-                if self.taken.push(*first).is_ok() {
-                    self.turns -= 1;
-                    return Ok(1);
-                }
-            }
-        }
-        self.failures += 1;
-        if self.takes_none { Ok(0) } else { Err(Failed) }
-    }
-}
-
-#[test]
-fn stops_at_a_failed_write(rt: HostRuntime) -> Result<(), Fail> {
-    let alloc = rt.alloc();
-    let trace = hex::decode(alloc, READ_FOUR_BYTES.trace).expect(&rt, "a trace");
-    let report = READ_FOUR_BYTES.report.as_bytes();
-    for takes_none in [false, true] {
-        for turns in 0..report.len() + 1 {
-            let mut reader = FromStd::new(trace.as_slice());
-            let mut writer = SlowWriter {
-                taken: Vec::new(alloc),
-                turns: turns as u64,
-                takes_none,
-                failures: 0,
-            };
-            let done = run_alone(alloc, &mut reader, &mut writer, &SERIAL);
-            let front = report.get(..turns).ok_or("a front of the report")?;
-            assert_eq!(rt; writer.taken.as_slice(), front);
-            if turns < report.len() {
-                assert_eq!(rt; done, Err(RunFault::Write));
-            } else {
-                assert_eq!(rt; done, Ok(()));
-            }
-        }
-    }
-    Ok(())
-}
-
-/// A reader of std that is interrupted.
-struct Interrupted;
-
-impl Read for Interrupted {
-    fn read(&mut self, _buffer: &mut [u8]) -> io::Result<usize> {
-        Err(io::Error::from(io::ErrorKind::Interrupted))
-    }
-}
-
-#[test]
-fn takes_interrupted_for_a_failure(rt: HostRuntime) {
-    let alloc = rt.alloc();
-    let mut reader = FromStd::new(Interrupted);
-    let mut writer = FromStd::new(Vec::new(alloc));
-    let done = run_alone(alloc, &mut reader, &mut writer, &SERIAL);
-    assert_eq!(rt; done, Err(RunFault::Read));
-    assert!(rt; writer.stream.is_empty());
-    let FromStd {
-        stream: Interrupted,
-        failures: _,
-    } = reader;
 }

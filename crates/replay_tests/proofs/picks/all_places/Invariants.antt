@@ -1,6 +1,6 @@
 use Rattle.std.proofs.Common.{ℕ, ◌<◌, All}
 use Rattle.trace_format.specs.Steps.{places}
-use Rattle.replay_tests.proofs.schedules.waiting.Given as goal
+use Rattle.replay_tests.proofs.picks.all_places.Given as goal
 
 abbrev pub invariant-loop-place : goal.invariant-loop-place
-invariant-loop-place l = All (λ (k : ℕ). k < places l.trace) l.waiting.items
+invariant-loop-place l = All (λ (k : ℕ). k < places l.trace) l.all.items
