@@ -1,18 +1,19 @@
 //! The operations on names: UNLINKAT, MKDIRAT, LINKAT and RENAMEAT.
-ghost use Rattle.std.specs.Prelude.{◌≡◌, ℕ, OnOk};
+ghost use Rattle.std.specs.Prelude.{◌≡◌, IfOk, OnOk};
 ghost use Rattle.entry_checks.specs.Meant.{path_meant};
 ghost use Rattle.file_tree.specs.Tree.{Tree, target};
 ghost use Rattle.file_tree.specs.Walk as walk;
 ghost use Rattle.op_meaning.specs.Deciding.{Decides};
+ghost use Rattle.op_meaning.specs.Decision.{effect_of, IsWithinLimits};
 ghost use Rattle.op_meaning.specs.Meaning as meaning;
 ghost use Rattle.op_meaning.specs.Meaning.{linkat_meaning, mkdirat_meaning};
 ghost use Rattle.op_meaning.specs.Meaning.{renameat_meaning, unlinkat_meaning};
 ghost use Rattle.op_meaning.specs.NameChanges.{changes_meant, decision_meant, directory_effect};
 ghost use Rattle.op_meaning.specs.NameChanges.{move_meant, exchange_meant};
 ghost use Rattle.op_meaning.specs.Site.{IsSite};
-ghost use Rattle.trace_format.specs.declared.trace.Trace.{Trace};
 ghost use Rattle.world_parts.specs.World.{apply_all};
 
+use crate::decision::Decision;
 use crate::handles::is_directory;
 use crate::made::made_node;
 use crate::names::{NameChange, NameChanges};
@@ -68,20 +69,26 @@ pub(crate) fn unlinking<'a>(
     }))
 }
 
-/// Where MKDIRAT makes a directory, after mkdir(2).
+/// What MKDIRAT does, after mkdir(2): it makes a directory where its path leads.
 ///
 /// # Errors
 ///
 /// That of the first test that fails: those of the walk, EEXIST.
-pub(crate) fn making<'a>(path: PathAt<'a>, state: &State) -> Result<Place<'a>, Errno>
-    ensures { (t : Trace) (k : ℕ) → Decides
-        (mkdirat_meaning t state.now k (path_meant path.entry)) (directory_effect t k) result }
+pub(crate) fn making<'a>(
+    site: Site<'_>,
+    path: PathAt<'a>,
+    state: &State,
+) -> Result<Decision<'a>, Errno>
+    ensures meaning { Decides
+        (mkdirat_meaning site.entry.trace.now state.now site.entry.place (path_meant path.entry))
+        (effect_of site.entry.trace.now site.entry.place site.entry.ring state.now) result }
+    ensures limits { IfOk result (IsWithinLimits state.now site.entry.ring) }
 {
     let place = state.walk(path.directory, path.text)?;
     if place.node.is_some() {
         return Err(Errno::EEXIST);
     }
-    Ok(place)
+    Ok(Decision::MakeDirectory(place))
 }
 
 /// Makes a directory without names where a path leads.

@@ -3,32 +3,39 @@ ghost use Rattle.std.specs.Prelude.{◌≡◌, ◌≤◌, [], ◌∷◌, IfOk, O
 ghost use Rattle.entry_checks.specs.Meant.{file_meant};
 ghost use Rattle.entry_checks.specs.Operation.{at_descriptor, file_limit, fsync, in_slot};
 ghost use Rattle.op_meaning.specs.Deciding.{Decides};
-ghost use Rattle.op_meaning.specs.Decision.{allocated, emptied};
-ghost use Rattle.op_meaning.specs.Meaning.{close_meaning, done, extended};
+ghost use Rattle.op_meaning.specs.Decision.{allocated, effect_of, emptied, IsWithinLimits};
+ghost use Rattle.op_meaning.specs.Meaning.{close_meaning, extended};
 ghost use Rattle.op_meaning.specs.Meaning.{fallocate_meaning, ftruncate_meaning, meaning};
-ghost use Rattle.world_parts.specs.World.{apply_all, set_size};
+ghost use Rattle.world_parts.specs.World.{apply_all};
 
 use crate::allocating::{Allocation, AllocationRequest, RangeAllocation, allocation_of};
+use crate::decision::Decision;
 use crate::handles::{can_write, held, held_by_descriptor, open_file, size, slot_count};
 use crate::limits::{LARGEST, REFUSED};
 use crate::site::Site;
 use entry_checks::FileNumber;
 use sqe_codec::Errno;
 use std::alloc::AllocError;
-use trace_format::Trace;
 use world_parts::State;
 
-/// Whether FSYNC is accepted. Nothing is lost here, so that it has nothing to do.
+/// What FSYNC does where it is accepted: nothing is lost here, so that it has nothing to do.
 ///
 /// # Errors
 ///
 /// EBADF where no file is open.
-pub(crate) fn syncing(site: Site<'_>, file: FileNumber, state: &State) -> Result<(), Errno>
-    ensures { Decides (meaning site.entry.trace.now site.entry.place site.entry.ring state.now
-        (fsync (file_meant file))) (λ _. done []) result }
+pub(crate) fn syncing<'a>(
+    site: Site<'_>,
+    file: FileNumber,
+    state: &State,
+) -> Result<Decision<'a>, Errno>
+    ensures meaning { Decides
+        (meaning site.entry.trace.now site.entry.place site.entry.ring state.now
+        (fsync (file_meant file)))
+        (effect_of site.entry.trace.now site.entry.place site.entry.ring state.now) result }
+    ensures limits { IfOk result (IsWithinLimits state.now site.entry.ring) }
 {
     match held(site.trace, site.ring, file, state) {
-        Some(_) => Ok(()),
+        Some(_) => Ok(Decision::Nothing),
         None => Err(Errno::EBADF),
     }
 }
@@ -38,21 +45,20 @@ pub(crate) fn syncing(site: Site<'_>, file: FileNumber, state: &State) -> Result
 /// # Errors
 ///
 /// That of the first test that fails: EBADF, EINVAL, EOPNOTSUPP, EFBIG.
-pub(crate) fn allocatable(
-    trace: &Trace,
-    ring: u8,
+pub(crate) fn allocating<'a>(
+    site: Site<'_>,
     file: FileNumber,
     request: AllocationRequest,
     state: &State,
-) -> Result<RangeAllocation, Errno>
+) -> Result<Decision<'a>, Errno>
     ensures meaning { Decides
-        (fallocate_meaning trace.now state.now ring (file_meant file)
+        (fallocate_meaning site.entry.trace.now state.now site.entry.ring (file_meant file)
         request.offset request.size request.mode)
-        (allocated state.now) result }
-    ensures place { IfOk result (λ x. x.end ≤ file_limit) }
+        (effect_of site.entry.trace.now site.entry.place site.entry.ring state.now) result }
+    ensures limits { IfOk result (IsWithinLimits state.now site.entry.ring) }
 {
     let AllocationRequest { offset, size, mode } = request;
-    let file = open_file(trace, ring, file, state).ok_or(Errno::EBADF)?;
+    let file = open_file(site.trace, site.ring, file, state).ok_or(Errno::EBADF)?;
     if offset >= REFUSED || size == 0 || size >= REFUSED {
         return Err(Errno::EINVAL);
     }
@@ -64,12 +70,12 @@ pub(crate) fn allocatable(
     if end > LARGEST {
         return Err(Errno::EFBIG);
     }
-    Ok(RangeAllocation {
+    Ok(Decision::Allocate(RangeAllocation {
         node: file.description.node,
         offset,
         end,
         allocation,
-    })
+    }))
 }
 
 /// Makes a file as long as an offset at least.
@@ -103,49 +109,54 @@ pub(crate) fn allocate(range: RangeAllocation, state: &mut State) -> Result<(), 
     }
 }
 
-/// The node that FTRUNCATE cuts, or extends with zeros, to a size.
+/// What FTRUNCATE cuts, or extends with zeros, to a size.
 ///
 /// # Errors
 ///
 /// That of the first test that fails: EBADF, EINVAL, EFBIG.
-pub(crate) fn resizable(
-    trace: &Trace,
-    ring: u8,
+pub(crate) fn resizing<'a>(
+    site: Site<'_>,
     file: FileNumber,
     size: u64,
     state: &State,
-) -> Result<u32, Errno>
-    ensures meaning { Decides (ftruncate_meaning trace.now state.now ring (file_meant file) size)
-        (λ node. done (set_size node size ∷ [])) result }
-    ensures place { IfOk result (λ _. size ≤ file_limit) }
+) -> Result<Decision<'a>, Errno>
+    ensures meaning { Decides
+        (ftruncate_meaning site.entry.trace.now state.now site.entry.ring (file_meant file) size)
+        (effect_of site.entry.trace.now site.entry.place site.entry.ring state.now) result }
+    ensures limits { IfOk result (IsWithinLimits state.now site.entry.ring) }
 {
-    let file = open_file(trace, ring, file, state).ok_or(Errno::EBADF)?;
+    let file = open_file(site.trace, site.ring, file, state).ok_or(Errno::EBADF)?;
     if size >= REFUSED || !can_write(file.description.access) {
         return Err(Errno::EINVAL);
     }
     if size > LARGEST {
         return Err(Errno::EFBIG);
     }
-    Ok(file.description.node)
+    Ok(Decision::Resize {
+        node: file.description.node,
+        size,
+    })
 }
 
 /// The descriptor of the process that CLOSE frees.
-fn closing_descriptor(site: Site<'_>, number: u32, state: &State) -> Result<FileNumber, Errno>
-    ensures { Decides
+fn closing_descriptor<'a>(site: Site<'_>, number: u32, state: &State) -> Result<Decision<'a>, Errno>
+    ensures meaning { Decides
         (close_meaning site.entry.trace.now state.now site.entry.ring (at_descriptor number))
-        (emptied site.entry.ring) result }
+        (effect_of site.entry.trace.now site.entry.place site.entry.ring state.now) result }
+    ensures limits { IfOk result (IsWithinLimits state.now site.entry.ring) }
 {
     if held_by_descriptor(site.trace, number, state).is_none() {
         return Err(Errno::EBADF);
     }
-    Ok(FileNumber::Descriptor(number))
+    Ok(Decision::Empty(FileNumber::Descriptor(number)))
 }
 
 /// The registered file of a ring that CLOSE takes out.
-fn closing_slot(site: Site<'_>, slot: u32, state: &State) -> Result<FileNumber, Errno>
-    ensures { Decides
+fn closing_slot<'a>(site: Site<'_>, slot: u32, state: &State) -> Result<Decision<'a>, Errno>
+    ensures meaning { Decides
         (close_meaning site.entry.trace.now state.now site.entry.ring (in_slot slot))
-        (emptied site.entry.ring) result }
+        (effect_of site.entry.trace.now site.entry.place site.entry.ring state.now) result }
+    ensures limits { IfOk result (IsWithinLimits state.now site.entry.ring) }
 {
     if slot as usize >= slot_count(site.trace, site.ring) {
         return Err(Errno::EINVAL);
@@ -153,7 +164,7 @@ fn closing_slot(site: Site<'_>, slot: u32, state: &State) -> Result<FileNumber, 
     if state.slot(site.ring, slot).is_none() {
         return Err(Errno::EBADF);
     }
-    Ok(FileNumber::Slot(slot))
+    Ok(Decision::Empty(FileNumber::Slot(slot)))
 }
 
 /// What CLOSE empties: a slot of the ring, or a descriptor.
@@ -161,10 +172,15 @@ fn closing_slot(site: Site<'_>, slot: u32, state: &State) -> Result<FileNumber, 
 /// # Errors
 ///
 /// That of the first test that fails: EINVAL, EBADF.
-pub(crate) fn closing(site: Site<'_>, file: FileNumber, state: &State) -> Result<FileNumber, Errno>
-    ensures { Decides
+pub(crate) fn closing<'a>(
+    site: Site<'_>,
+    file: FileNumber,
+    state: &State,
+) -> Result<Decision<'a>, Errno>
+    ensures meaning { Decides
         (close_meaning site.entry.trace.now state.now site.entry.ring (file_meant file))
-        (emptied site.entry.ring) result }
+        (effect_of site.entry.trace.now site.entry.place site.entry.ring state.now) result }
+    ensures limits { IfOk result (IsWithinLimits state.now site.entry.ring) }
 {
     match file {
         FileNumber::Slot(slot) => closing_slot(site, slot, state),

@@ -1,11 +1,12 @@
 //! The operation that opens files: OPENAT.
-ghost use Rattle.std.specs.Prelude.{◌≡◌, ℕ, IfOk, OnOk};
+ghost use Rattle.std.specs.Prelude.{◌≡◌, IfOk, OnOk};
 ghost use Rattle.std.specs.Option.{option_map};
 ghost use Rattle.entry_checks.specs.Meant.{file_meant, flags_meant, path_meant};
 ghost use Rattle.file_tree.specs.Found.{place_meant};
 ghost use Rattle.file_tree.specs.Tree.{target};
 ghost use Rattle.op_meaning.specs.Meaning as meaning;
 ghost use Rattle.op_meaning.specs.Deciding.{Decides};
+ghost use Rattle.op_meaning.specs.Decision.{effect_of, IsWithinLimits};
 ghost use Rattle.op_meaning.specs.Meaning.{found_or_made, openat_meaning};
 ghost use Rattle.op_meaning.specs.Opening.{changes_at, opened_as, room_found};
 ghost use Rattle.op_meaning.specs.Outcomes.{Gives};
@@ -13,6 +14,7 @@ ghost use Rattle.op_meaning.specs.Site.{IsSite};
 ghost use Rattle.trace_format.specs.Text.{IsSpelled};
 ghost use Rattle.world_parts.specs.World.{apply_all};
 
+use crate::decision::Decision;
 use crate::handles::{is_directory, slot_count};
 use crate::made::{descriptor_count, made_description, made_node};
 use crate::outcome::{Done, counted, finished};
@@ -90,22 +92,23 @@ fn may_open(state: &State, flags: OpenAtFlags, node: Option<u32>) -> Result<(), 
 /// That of the first test that fails: EMFILE, EINVAL, those of the walk, ENOENT, EEXIST, EISDIR,
 /// ENOTDIR.
 pub(crate) fn find_opening<'a>(
-    trace: &Trace,
-    ring: u8,
+    site: Site<'_>,
     path: PathAt<'a>,
     flags: OpenAtFlags,
     asked: Option<u32>,
     state: &State,
-) -> Result<Opening<'a>, Errno>
-    requires { IsSpelled trace.now }
-    ensures { (k : ℕ) → Decides
-        (openat_meaning trace.now state.now k ring (path_meant path.entry) (flags_meant flags) asked)
-        (opened_as trace.now k ring state.now.nodes) result }
+) -> Result<Decision<'a>, Errno>
+    requires { IsSpelled site.trace.now }
+    ensures meaning { Decides
+        (openat_meaning site.entry.trace.now state.now site.entry.place site.entry.ring
+        (path_meant path.entry) (flags_meant flags) asked)
+        (effect_of site.entry.trace.now site.entry.place site.entry.ring state.now) result }
+    ensures limits { IfOk result (IsWithinLimits state.now site.entry.ring) }
 {
-    let room = find_room(trace, ring, asked, state)?;
+    let room = find_room(site.trace, site.ring, asked, state)?;
     let place = state.walk(path.directory, path.text)?;
     may_open(state, flags, place.node)?;
-    Ok(Opening { place, flags, room })
+    Ok(Decision::Open(Opening { place, flags, room }))
 }
 
 /// The access that the flags of open(2) ask for: 0 to read, 1 to write, 2 for both.

@@ -1,19 +1,23 @@
 //! The table of the operations: what each does, or why the world refuses it.
-ghost use Rattle.std.specs.Prelude.{◌≡◌, ◌≤◌, IfOk, IfSome, is_ok, OnOk};
+ghost use Rattle.std.specs.Prelude.{◌≡◌, ◌≤◌, ℕ, IfOk, IfSome, is_ok, OnOk};
 ghost use Rattle.entry_checks.specs.Meant.{meant};
 ghost use Rattle.entry_checks.specs.Operation.{asked};
 ghost use Rattle.op_meaning.specs.Deciding.{Decides};
 ghost use Rattle.op_meaning.specs.Decision.{effect_of, IsWithinLimits};
 ghost use Rattle.op_meaning.specs.Meaning.{meaning};
+ghost use Rattle.op_meaning.specs.NameChanges.{decision_meant};
 ghost use Rattle.op_meaning.specs.Outcomes.{Answers, world_after};
 ghost use Rattle.op_meaning.specs.Site.{IsSite};
 ghost use Rattle.trace_format.specs.Sides.{most_moved};
 ghost use Rattle.trace_format.specs.Text.{IsSpelled};
+ghost use Rattle.trace_format.specs.declared.trace.Trace.{Trace};
+ghost use Rattle.world_parts.specs.World.{World};
 
 use crate::allocating::AllocationRequest;
 use crate::decision::{Decision, carry_out};
+use crate::names::NameChanges;
 use crate::naming::{linking, making, renaming, unlinking};
-use crate::open_files::{allocatable, closing, resizable, syncing};
+use crate::open_files::{allocating, closing, resizing, syncing};
 use crate::opening::find_opening;
 use crate::outcome::Outcome;
 use crate::site::Site;
@@ -23,6 +27,15 @@ use sqe_codec::Errno;
 use std::alloc::{AllocError, Global};
 use trace_format::Trace;
 use world_parts::State;
+
+/// What an operation does that changes names alone.
+fn changing<'a>(changes: Result<NameChanges<'a>, Errno>) -> Result<Decision<'a>, Errno>
+    ensures meaning { (t : Trace) (k r : ℕ) (s : World)
+        → Decides (decision_meant s.nodes changes.entry) (effect_of t k r s) result }
+    ensures limits { (s : World) (r : ℕ) → IfOk result (IsWithinLimits s r) }
+{
+    Ok(Decision::ChangeNames(changes?))
+}
 
 /// What an operation does where an entry stands, by look-ups alone. It takes no memory.
 ///
@@ -38,7 +51,6 @@ fn decide<'a>(site: Site<'_>, op: Op<'a>, state: &State) -> Result<Decision<'a>,
     ensures limits { IfSome (asked (meant op.entry)) (λ n. n ≤ most_moved)
         → IfOk result (IsWithinLimits state.now site.entry.ring) }
 {
-    let Site { trace, ring, .. } = site;
     match op {
         Op::Nop => Ok(Decision::Nothing),
         Op::Readv {
@@ -56,10 +68,7 @@ fn decide<'a>(site: Site<'_>, op: Op<'a>, state: &State) -> Result<Decision<'a>,
             offset,
             bytes,
         } => writing(site, file, offset, bytes, state),
-        Op::Fsync { file } => {
-            syncing(site, file, state)?;
-            Ok(Decision::Nothing)
-        }
+        Op::Fsync { file } => syncing(site, file, state),
         Op::ReadFixed { file, offset, span } => reading_fixed(site, file, offset, span, state),
         Op::WriteFixed { file, offset, span } => writing_fixed(site, file, offset, span, state),
         Op::Fallocate {
@@ -67,32 +76,22 @@ fn decide<'a>(site: Site<'_>, op: Op<'a>, state: &State) -> Result<Decision<'a>,
             offset,
             size,
             mode,
-        } => {
-            let request = AllocationRequest { offset, size, mode };
-            Ok(Decision::Allocate(allocatable(trace, ring, file, request, state)?))
-        }
-        Op::Openat { path, flags, slot } => Ok(Decision::Open(find_opening(
-            trace, ring, path, flags, slot, state,
-        )?)),
-        Op::Close { file } => Ok(Decision::Empty(closing(site, file, state)?)),
+        } => allocating(site, file, AllocationRequest { offset, size, mode }, state),
+        Op::Openat { path, flags, slot } => find_opening(site, path, flags, slot, state),
+        Op::Close { file } => closing(site, file, state),
         Op::Read {
             file,
             offset,
             total,
         } => reading(site, file, offset, u64::from(total), state),
-        Op::Renameat { old, new, flags } => {
-            Ok(Decision::ChangeNames(renaming(old, new, flags, state)?))
-        }
+        Op::Renameat { old, new, flags } => changing(renaming(old, new, flags, state)),
         Op::Unlinkat {
             path,
             removes_directory,
-        } => Ok(Decision::ChangeNames(unlinking(path, removes_directory, state)?)),
-        Op::Mkdirat { path } => Ok(Decision::MakeDirectory(making(path, state)?)),
-        Op::Linkat { old, new } => Ok(Decision::ChangeNames(linking(old, new, state)?)),
-        Op::Ftruncate { file, size } => {
-            let node = resizable(trace, ring, file, size, state)?;
-            Ok(Decision::Resize { node, size })
-        }
+        } => changing(unlinking(path, removes_directory, state)),
+        Op::Mkdirat { path } => making(site, path, state),
+        Op::Linkat { old, new } => changing(linking(old, new, state)),
+        Op::Ftruncate { file, size } => resizing(site, file, size, state),
     }
 }
 
