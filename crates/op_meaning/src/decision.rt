@@ -10,7 +10,7 @@ use crate::names::{NameChanges, change_names};
 use crate::naming::make_directory;
 use crate::open_files::{allocate, empty};
 use crate::opening::{Opening, open};
-use crate::outcome::{Done, finished};
+use crate::outcome::{Done, finished, finished_after};
 use crate::site::Site;
 use crate::transferring::{read, read_fixed, write, write_fixed};
 use crate::transfers::{BufferRead, BufferWrite, FileRead, FileWrite};
@@ -55,17 +55,20 @@ pub(crate) fn carry_out(
         site.entry.place site.entry.ring state.old decision.entry).changes state.old) }
 {
     match decision {
-        Decision::Nothing => {}
-        Decision::Read(asked) => return read(alloc, asked, state),
-        Decision::Write(asked) => return write(alloc, asked, state),
-        Decision::ReadFixed(asked) => return read_fixed(alloc, site.ring, asked, state),
-        Decision::WriteFixed(asked) => return write_fixed(alloc, site.ring, asked, state),
-        Decision::Allocate(range) => allocate(range, state)?,
-        Decision::Resize { node, size } => state.set_size(node, size)?,
-        Decision::Open(opening) => return open(alloc, site, opening, state),
-        Decision::Empty(file) => empty(site.ring, file, state)?,
-        Decision::MakeDirectory(place) => make_directory(alloc, site, place, state)?,
-        Decision::ChangeNames(changes) => change_names(alloc, changes, state)?,
+        Decision::Nothing => Ok(finished(alloc)),
+        Decision::Read(asked) => read(alloc, asked, state),
+        Decision::Write(asked) => write(alloc, asked, state),
+        Decision::ReadFixed(asked) => read_fixed(alloc, site.ring, asked, state),
+        Decision::WriteFixed(asked) => write_fixed(alloc, site.ring, asked, state),
+        Decision::Allocate(range) => finished_after(alloc, allocate(range, state)),
+        Decision::Resize { node, size } => finished_after(alloc, state.set_size(node, size)),
+        Decision::Open(opening) => open(alloc, site, opening, state),
+        Decision::Empty(file) => finished_after(alloc, empty(site.ring, file, state)),
+        Decision::MakeDirectory(place) => {
+            finished_after(alloc, make_directory(alloc, site, place, state))
+        }
+        Decision::ChangeNames(changes) => {
+            finished_after(alloc, change_names(alloc, changes, state))
+        }
     }
-    Ok(finished(alloc))
 }

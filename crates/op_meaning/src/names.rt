@@ -30,6 +30,20 @@ fn change_name(alloc: Global, change: NameChange<'_>, state: &mut State) -> Resu
     state.set_name(alloc, change.directory, change.name, change.node)
 }
 
+/// Makes two changes of names, one after the other.
+fn change_both(
+    alloc: Global,
+    first: NameChange<'_>,
+    second: NameChange<'_>,
+    state: &mut State,
+) -> Result<(), AllocError>
+    ensures { OnOk result (state.new ≡ apply (change_meant state.old.nodes second.entry)
+        (apply (change_meant state.old.nodes first.entry) state.old)) }
+{
+    change_name(alloc, first, state)?;
+    change_name(alloc, second, state)
+}
+
 /// Makes changes of names.
 pub(crate) fn change_names(
     alloc: Global,
@@ -42,9 +56,6 @@ pub(crate) fn change_names(
     match changes {
         NameChanges::Nothing => Ok(()),
         NameChanges::One(change) => change_name(alloc, change, state),
-        NameChanges::Two(first, second) => {
-            change_name(alloc, first, state)?;
-            change_name(alloc, second, state)
-        }
+        NameChanges::Two(first, second) => change_both(alloc, first, second, state),
     }
 }
