@@ -103,9 +103,14 @@ impl State {
         requires { IsSpelled trace.now }
         ensures { IfOk result (λ state. state ≡ initial.start trace.now) }
     {
-        let mut state = State::bare(alloc)?;
-        state.fill(alloc, trace)?;
-        Ok(state)
+        let mut state = State::bare(alloc, Tree::new(alloc)?);
+        match state.fill(alloc, trace) {
+            Ok(()) => Ok(state),
+            Err(error) => {
+                drop(state);
+                Err(error)
+            }
+        }
     }
 
     /// Adds what a trace starts with.
@@ -143,18 +148,18 @@ impl State {
         Ok(())
     }
 
-    /// A state with the root alone.
-    fn bare(alloc: Global) -> Result<Self, AllocError>
-        ensures { IfOk result (λ state. state ≡ initial.bare) }
+    /// A state with a tree alone.
+    fn bare(alloc: Global, nodes: Tree) -> Self
+        ensures { result ≡ record initial.bare { nodes = nodes } }
     {
-        Ok(State {
-            nodes: Tree::new(alloc)?,
+        State {
+            nodes,
             descriptions: Descriptions::new(alloc),
             slots: Slots::new(alloc),
             descriptors: Descriptors::new(alloc),
             buffers: Buffers::new(alloc),
             broken: IndexMap::new(alloc),
-        })
+        }
     }
 
     /// Adds the items of a trace. The first one makes node 1.
