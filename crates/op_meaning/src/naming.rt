@@ -1,6 +1,8 @@
 //! The operations on names: UNLINKAT, MKDIRAT, LINKAT and RENAMEAT.
 ghost use Rattle.std.specs.Prelude.{◌≡◌, IfOk, OnOk};
+ghost use Rattle.std.specs.Option.{option_map};
 ghost use Rattle.entry_checks.specs.Meant.{path_meant};
+ghost use Rattle.file_tree.specs.Found.{place_meant};
 ghost use Rattle.file_tree.specs.Tree.{Tree, target};
 ghost use Rattle.file_tree.specs.Walk as walk;
 ghost use Rattle.op_meaning.specs.Deciding.{Decides};
@@ -211,6 +213,30 @@ fn exchanged<'a>(from: Place<'a>, to: Place<'a>, node: u32, there: u32) -> NameC
     )
 }
 
+/// The exchange of two names that RENAMEAT asks for, each of which leads to a node, and neither below
+/// the other.
+fn exchanging<'a>(
+    state: &State,
+    old: PathAt<'_>,
+    new: PathAt<'_>,
+    from: Place<'a>,
+    to: Place<'a>,
+    node: u32,
+) -> Result<NameChanges<'a>, Errno>
+    ensures { decision_meant state.now.nodes result
+        ≡ meaning.exchange_meaning state.now (path_meant old.entry) (path_meant new.entry)
+        (place_meant state.now.nodes from.entry) (place_meant state.now.nodes to.entry)
+        (target state.now.nodes node) (option_map (target state.now.nodes) to.entry.node) }
+{
+    let Some(there) = to.node else {
+        return Err(Errno::ENOENT);
+    };
+    if goes_below(state, node, new) || goes_below(state, there, old) {
+        return Err(Errno::EINVAL);
+    }
+    Ok(exchanged(from, to, node, there))
+}
+
 /// What RENAMEAT does to two names, after renameat2(2): it moves one, or exchanges both.
 ///
 /// # Errors
@@ -232,13 +258,7 @@ pub(crate) fn renaming<'a>(
         return Err(Errno::ENOENT);
     };
     if flags == EXCHANGE {
-        let Some(there) = to.node else {
-            return Err(Errno::ENOENT);
-        };
-        if goes_below(state, node, new) || goes_below(state, there, old) {
-            return Err(Errno::EINVAL);
-        }
-        return Ok(exchanged(from, to, node, there));
+        return exchanging(state, old, new, from, to, node);
     }
     if flags == NO_REPLACE && to.node.is_some() {
         return Err(Errno::EEXIST);
