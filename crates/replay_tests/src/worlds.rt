@@ -1,12 +1,10 @@
 //! Worlds: what they start with, what is shown of them, and what is cut out.
 ghost use Rattle.std.specs.Prelude.{◌≡◌, IfOk};
-ghost use Rattle.trace_format.specs.Text.{IsSpelled};
 ghost use Rattle.finite_maps.specs.Table.{empty};
 
 use crate::text::trace_of;
 use std::alloc::Global;
 use std::test::Fail;
-use trace_format::Trace;
 use world_parts::{Broken, Footprint, Image, Item, Part, State, World};
 
 /// A name that an image shows, with its node and the size of a file.
@@ -127,19 +125,24 @@ fn a_part_has_the_bytes_that_it_takes_out(rt: HostRuntime) -> Result<(), Fail> {
     Ok(())
 }
 
-/// The state that a trace starts with, with a chain that broke.
-fn broken_state(alloc: Global, trace: &Trace) -> Result<State, Fail>
-    requires { IsSpelled trace.now }
-{
-    let mut state = State::of(alloc, trace)?;
-    state.break_chain(7, Broken::Quiet)?;
-    Ok(state)
+/// The world of a state in which a chain breaks.
+fn with_a_broken_chain(alloc: Global, mut state: State) -> Result<World, Fail> {
+    match state.break_chain(7, Broken::Quiet) {
+        Ok(()) => Ok(World::new(alloc, state)?),
+        Err(error) => {
+            drop(state);
+            Err(Fail::from(error))
+        }
+    }
 }
 
 /// The world of the trace in which a chain broke.
 fn broken(alloc: Global) -> Result<World, Fail> {
     let trace = trace_of(alloc, &[])?;
-    Ok(World::new(alloc, broken_state(alloc, &trace)?)?)
+    match State::of(alloc, &trace) {
+        Ok(state) => with_a_broken_chain(alloc, state),
+        Err(error) => Err(Fail::from(error)),
+    }
 }
 
 #[test]
