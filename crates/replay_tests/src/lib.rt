@@ -9,6 +9,8 @@ mod examples;
 #[cfg(test)]
 mod footprints;
 #[cfg(test)]
+mod parts;
+#[cfg(test)]
 mod picks;
 #[cfg(test)]
 mod replies;

@@ -94,7 +94,7 @@ impl Gate for Refusing {
 
 /// Runs each place on a worker of its own, as far as there are so many.
 #[derive(Drop)]
-struct Eager;
+pub(crate) struct Eager;
 
 impl Gate for Eager {
     fn run(
@@ -156,7 +156,7 @@ fn compared_with<R: Threads + Wait + Sync, G: Gate + Sync>(
 }
 
 /// How a replay by a gate compares with the serial one.
-fn compared<R: Threads + Wait + Sync, G: Gate + Sync>(
+pub(crate) fn compared<R: Threads + Wait + Sync, G: Gate + Sync>(
     rt: &R,
     alloc: Global,
     trace: &Trace,

@@ -8,9 +8,15 @@ use std::test::Fail;
 use trace_format::{Trace, read_trace};
 
 // The opcodes and flags, as `linux/io_uring.h` and `linux/fcntl.h` have them.
+const OPENAT: u8 = 18;
+
+const CLOSE: u8 = 19;
+
 const READ: u8 = 22;
 
 const WRITE: u8 = 23;
+
+const RENAMEAT: u8 = 35;
 
 const UNLINKAT: u8 = 36;
 
@@ -19,6 +25,8 @@ const MKDIRAT: u8 = 37;
 const AT_REMOVEDIR: u32 = 0x200;
 
 const AT_FDCWD: i32 = -100;
+
+const O_RDWR: u32 = 2;
 
 /// An entry with nothing set: a NOP.
 const BLANK: Sqe = Sqe {
@@ -69,6 +77,74 @@ pub(crate) fn write(slot: i32, off: u64, bytes: &[u8; 4]) -> Submitted<'_> {
         ..BLANK
     };
     Submitted { sqe, side: bytes }
+}
+
+/// A read of four bytes by an ordinary descriptor.
+pub(crate) fn read_descriptor(descriptor: i32) -> Submitted<'static> {
+    let sqe = Sqe {
+        opcode: READ,
+        fd: descriptor,
+        len: 4,
+        ..BLANK
+    };
+    Submitted { sqe, side: &[] }
+}
+
+/// Opens a file to read and write, into the slot before a file index, or with index 0 as the lowest
+/// free descriptor.
+pub(crate) fn open(path: &[u8], file_index: u32) -> Submitted<'_> {
+    let sqe = Sqe {
+        opcode: OPENAT,
+        fd: AT_FDCWD,
+        op_flags: O_RDWR,
+        file_index,
+        ..BLANK
+    };
+    Submitted { sqe, side: path }
+}
+
+/// Closes the slot before a file index, or with index 0 a descriptor.
+pub(crate) fn close(descriptor: i32, file_index: u32) -> Submitted<'static> {
+    let sqe = Sqe {
+        opcode: CLOSE,
+        fd: descriptor,
+        file_index,
+        ..BLANK
+    };
+    Submitted { sqe, side: &[] }
+}
+
+/// Renames: the length of the old path, the old path and the new one.
+pub(crate) fn rename(paths: &[u8]) -> Submitted<'_> {
+    let sqe = Sqe {
+        opcode: RENAMEAT,
+        fd: AT_FDCWD,
+        len: 0xffff_ff9c,
+        ..BLANK
+    };
+    Submitted { sqe, side: paths }
+}
+
+/// Removes a name of a file.
+pub(crate) fn unlink(path: &[u8]) -> Submitted<'_> {
+    let sqe = Sqe {
+        opcode: UNLINKAT,
+        fd: AT_FDCWD,
+        ..BLANK
+    };
+    Submitted { sqe, side: path }
+}
+
+/// An entry with more flags.
+pub(crate) fn flagged(entry: Submitted<'_>, flags: u32) -> Submitted<'_> {
+    let sqe = Sqe {
+        flags: entry.sqe.flags | (flags & 0xff) as u8,
+        ..entry.sqe
+    };
+    Submitted {
+        sqe,
+        side: entry.side,
+    }
 }
 
 /// A NOP with flags.
@@ -131,7 +207,17 @@ fn head(alloc: Global) -> Result<Vec<u8>, AllocError> {
 pub(crate) fn trace_of(alloc: Global, entries: &[Submitted<'_>]) -> Result<Box<Trace>, Fail>
     ensures { IfOk result (λ trace. IsSpelled trace.value) }
 {
-    let mut text = head(alloc)?;
+    trace_behind(alloc, head(alloc)?, entries)
+}
+
+/// The trace of a head that ends in a record's ring, with these entries in that record.
+pub(crate) fn trace_behind(
+    alloc: Global,
+    mut text: Vec<u8>,
+    entries: &[Submitted<'_>],
+) -> Result<Box<Trace>, Fail>
+    ensures { IfOk result (λ trace. IsSpelled trace.value) }
+{
     text.extend_from_slice(&(entries.len() as u64).to_le_bytes()[..2])?;
     for entry in entries {
         push_entry(&mut text, &entry.sqe, entry.side)?;
