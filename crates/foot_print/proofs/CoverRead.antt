@@ -70,7 +70,7 @@ read_with : World → ℕ → ℕ → ℕ → Result Destination Errno → Optio
 unfolding read_from
 read_with s r o n span x = (ok_or x EBADF >>= λ h. require (can_read h.opened.access) EBADF >> (require (is_file h.opened) EISDIR >> Ok h)) >>= read_from s r o n span
 
-reads_with : (t : Trace) (s : World) (r : ℕ) (f : File) (o n : ℕ) (span : Result Destination Errno) → read_meaning t s r f o n span ≡ read_with s r o n span (handle t s r f)
+reads_with : (t : Trace) (s : World) (r : ℕ) (f : File) (o n : ℕ) (span : Result Destination Errno) → read_meaning s r (handle t s r f) o n span ≡ read_with s r o n span (handle t s r f)
 unfolding read_with
 reads_with t s r f o n span = refl
 
@@ -123,7 +123,7 @@ with_same s u r o n span (Some h) w a =
     ]
 
 -- A read answers and changes the same in every world that agrees on its row.
-pub read_same : (t : Trace) (s u : World) (r : ℕ) (f : File) (o n : ℕ) (span : Result Destination Errno) → IsWorld s → Agree (read_row t s r f o n) s u → read_meaning t u r f o n span ≡ read_meaning t s r f o n span
+pub read_same : (t : Trace) (s u : World) (r : ℕ) (f : File) (o n : ℕ) (span : Result Destination Errno) → IsWorld s → Agree (read_row t s r f o n) s u → read_meaning u r (handle t u r f) o n span ≡ read_meaning s r (handle t s r f) o n span
 unfolding content
 read_same t s u r f o n span w a =
     reads_with t u r f o n span

@@ -52,9 +52,9 @@ module _ (t : Trace) (r : ℕ) (f : File) (o n : ℕ) (span : Result Destination
   )
 
   -- What a read's row, and what it has of its destination, supports its changes.
-  pub read_supported : (e : Effect) → read_meaning t s r f o n span ≡ Ok e → Contains g (read_row t s r f o n) → ((to : Destination) → span ≡ Ok to → IsWritten to) → SupportsAll g s e.changes
+  pub read_supported : (e : Effect) → read_meaning s r (handle t s r f) o n span ≡ Ok e → Contains g (read_row t s r f o n) → ((to : Destination) → span ≡ Ok to → IsWritten to) → SupportsAll g s e.changes
   read_supported e q c d =
-      let m = was_ok (readable t s r f) _ e q in
+      let m = was_ok (readable (handle t s r f)) _ e q in
       let l = was_ok (ok_or (handle t s r f) EBADF) (λ h. require (can_read h.opened.access) EBADF >> (require (is_file h.opened) EISDIR >> Ok h)) m.0 m.1 in
       let i = was_required (is_file l.0.opened) EISDIR (Ok l.0) m.0 (was_required (can_read l.0.opened.access) EBADF _ m.0 l.2).1 in
       let there = was_there (handle t s r f) EBADF m.0 (l.1 ∙ i.1) in

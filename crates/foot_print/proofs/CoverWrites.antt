@@ -60,7 +60,7 @@ writes_from o h at new = cond (length new == 0) (Ok (done [])) (require (ltb at 
 abbrev handed : World → ℕ → Result (List ℕ) Errno → Bool → Handle → Result Effect Errno
 handed s o source cw h = (require cw EBADF >> Ok h) >>= λ g. source >>= λ new. require (not (is_bad_offset o)) EINVAL >> writes_from o g (write_start s g o) new
 
-by_handle : (t : Trace) (s : World) (r : ℕ) (f : File) (o : ℕ) (source : Result (List ℕ) Errno) → write_meaning t s r f o source ≡ (ok_or (handle t s r f) EBADF >>= λ h. handed s o source (can_write h.opened.access) h)
+by_handle : (t : Trace) (s : World) (r : ℕ) (f : File) (o : ℕ) (source : Result (List ℕ) Errno) → write_meaning s (handle t s r f) o source ≡ (ok_or (handle t s r f) EBADF >>= λ h. handed s o source (can_write h.opened.access) h)
 by_handle t s r f o source = by (handle t s r f)
   where
     by : (x : Option Handle) → ((ok_or x EBADF >>= λ h. require (can_write h.opened.access) EBADF >> Ok h) >>= λ h. source >>= λ new. require (not (is_bad_offset o)) EINVAL >> writes_from o h (write_start s h o) new) ≡ (ok_or x EBADF >>= λ h. handed s o source (can_write h.opened.access) h)
@@ -71,7 +71,7 @@ handed_same : (s u : World) (o : ℕ) (source : Result (List ℕ) Errno) (cw : B
 handed_same s u o source false h a = refl
 handed_same s u o source true h a = ap (λ x. source >>= λ new. require (not (is_bad_offset o)) EINVAL >> writes_from o h x new) (a tt)
 
-write_same : (t : Trace) (s u : World) (r : ℕ) (x : Taken) (f : File) (o n : ℕ) (source : Result (List ℕ) Errno) → IsWorld s → Agree (write_row t s r x f o n) s u → write_meaning t u r f o source ≡ write_meaning t s r f o source
+write_same : (t : Trace) (s u : World) (r : ℕ) (x : Taken) (f : File) (o n : ℕ) (source : Result (List ℕ) Errno) → IsWorld s → Agree (write_row t s r x f o n) s u → write_meaning u (handle t u r f) o source ≡ write_meaning s (handle t s r f) o source
 write_same t s u r x f o n source w a =
     by_handle t u r f o source
     ∙ with_handle t s u r f c (λ h. handed s o source (can_write h.opened.access) h) (λ h. handed u o source (can_write h.opened.access) h) (agree_left s u _ _ a) (λ h e b.
@@ -164,9 +164,9 @@ module _ (s : World) (o n : ℕ) (new : List ℕ) (h : Handle) (g : Footprint) (
 
 -- What a write's row writes supports its changes.
 write_supported : (t : Trace) (r : ℕ) (f : File) (o n : ℕ) (source : Result (List ℕ) Errno) (s : World) (g : Footprint) → HandlesSound t s r f → ((new : List ℕ) → source ≡ Ok new → length new ≤ n)
-    → (e : Effect) → write_meaning t s r f o source ≡ Ok e → Contains g (on_file t s r f (content s false o n)) → SupportsAll g s e.changes
+    → (e : Effect) → write_meaning s (handle t s r f) o source ≡ Ok e → Contains g (on_file t s r f (content s false o n)) → SupportsAll g s e.changes
 write_supported t r f o n source s g w few e q c =
-    let m = was_ok (writable t s r f) _ e q in
+    let m = was_ok (writable (handle t s r f)) _ e q in
     let l = was_ok (ok_or (handle t s r f) EBADF) (λ h. require (can_write h.opened.access) EBADF >> Ok h) m.0 m.1 in
     let i = was_required (can_write l.0.opened.access) EBADF (Ok l.0) m.0 l.2 in
     let there = was_there (handle t s r f) EBADF m.0 (l.1 ∙ i.1) in
@@ -233,7 +233,7 @@ write_fixed_owes t k r s f o x w = record {
   tells = λ u b a.
       let d = agree_left s u (write_row t s r (tried true) f o (min x.length most_moved)) (span_use false t r x) a in
       record {
-        same_meaning = ap (write_meaning t u r f o) (span_bytes_same t s u r x (agree_right s u (write_row t s r (tried true) f o (min x.length most_moved)) (span_use false t r x) a)) ∙ write_same t s u r (tried true) f o (min x.length most_moved) (span_bytes t s r x) w.is_world d;
+        same_meaning = ap (write_meaning u (handle t u r f) o) (span_bytes_same t s u r x (agree_right s u (write_row t s r (tried true) f o (min x.length most_moved)) (span_use false t r x) a)) ∙ write_same t s u r (tried true) f o (min x.length most_moved) (span_bytes t s r x) w.is_world d;
         same_row = λ c. ap (λ z. z ++ span_use false t r x) (write_row_same t s u r (tried true) f o (min x.length most_moved) d);
       };
   supports = λ u v a e q.

@@ -86,9 +86,9 @@ of_effect x y h g = subst (λ (z : Effect). AllOfContents z.changes) (ok_same x 
 advances : (h : Handle) (o end : ℕ) → AllOfContents (advance h o end)
 advances h o end = elim (o == at_position) as (λ b. AllOfContents (cond b (set_position h.description end ∷ []) [])) [ true ↦ (tt, tt) | false ↦ tt ]
 
-pub read_contents : (t : Trace) (s : World) (r : ℕ) (f : File) (o n : ℕ) (span : Result Destination Errno) (x : Effect) → read_meaning t s r f o n span ≡ Ok x → AllOfContents x.changes
+pub read_contents : (t : Trace) (s : World) (r : ℕ) (f : File) (o n : ℕ) (span : Result Destination Errno) (x : Effect) → read_meaning s r (handle t s r f) o n span ≡ Ok x → AllOfContents x.changes
 read_contents t s r f o n span x h =
-    let g = ok_bind (readable t s r f) _ x h in
+    let g = ok_bind (readable (handle t s r f)) _ x h in
     let to = ok_bind span _ x g.2 in
     of_effect (cond (n == 0) (done []) (read_effect s r g.0 o n to.0)) x (ok_require (not (is_bad_offset o)) EINVAL (Ok (cond (n == 0) (done []) (read_effect s r g.0 o n to.0))) x to.2).0 (by g.0 to.0 (n == 0))
   where
@@ -100,9 +100,9 @@ read_contents t s r f o n span x h =
     by g to true = tt
     by g to false = moves g to _ _
 
-pub write_contents : (t : Trace) (s : World) (r : ℕ) (f : File) (o : ℕ) (source : Result (List ℕ) Errno) (x : Effect) → write_meaning t s r f o source ≡ Ok x → AllOfContents x.changes
+pub write_contents : (t : Trace) (s : World) (r : ℕ) (f : File) (o : ℕ) (source : Result (List ℕ) Errno) (x : Effect) → write_meaning s (handle t s r f) o source ≡ Ok x → AllOfContents x.changes
 write_contents t s r f o source x h =
-    let g = ok_bind (writable t s r f) _ x h in
+    let g = ok_bind (writable (handle t s r f)) _ x h in
     let new = ok_bind source _ x g.2 in
     by g.0 new.0 (length new.0 == 0) (ok_require (not (is_bad_offset o)) EINVAL _ x new.2).0
   where
@@ -122,7 +122,7 @@ bounded s i w = by (bytes s i) (w.files_fit i)
     by None h = omega arith
     by (Some bs) h = h
 
-pub fallocate_contents : (t : Trace) (s : World) (r : ℕ) (f : File) (o n mode : ℕ) (x : Effect) → IsWorld s → fallocate_meaning t s r f o n mode ≡ Ok x → AllOfContents x.changes
+pub fallocate_contents : (t : Trace) (s : World) (r : ℕ) (f : File) (o n mode : ℕ) (x : Effect) → IsWorld s → fallocate_meaning s (handle t s r f) o n mode ≡ Ok x → AllOfContents x.changes
 fallocate_contents t s r f o n mode x w h =
     let g = ok_bind (ok_or (handle t s r f) EBADF) _ x h in
     let a = ok_bind (ok_or (allocation mode) EOPNOTSUPP) _ x (ok_require (ltb o (2 ^ 63) && not (n == 0) && ltb n (2 ^ 63)) EINVAL _ x g.2).0 in
@@ -136,7 +136,7 @@ fallocate_contents t s r f o n mode x w h =
     by i l zero_extend = (let b = bounded s i w in (omega arith, (tt, tt)))
     by i l zero_within = (tt, tt)
 
-pub ftruncate_contents : (t : Trace) (s : World) (r : ℕ) (f : File) (n : ℕ) (x : Effect) → ftruncate_meaning t s r f n ≡ Ok x → AllOfContents x.changes
+pub ftruncate_contents : (t : Trace) (s : World) (r : ℕ) (f : File) (n : ℕ) (x : Effect) → ftruncate_meaning (handle t s r f) n ≡ Ok x → AllOfContents x.changes
 ftruncate_contents t s r f n x h =
     let g = ok_bind (ok_or (handle t s r f) EBADF) _ x h in
     let a = ok_require (ltb n (2 ^ 63)) EINVAL _ x g.2 in

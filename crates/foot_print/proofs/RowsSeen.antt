@@ -14,7 +14,7 @@ use Rattle.op_meaning.specs.Footprint.{Shape, idle, looking, moving, allocating,
 use Rattle.foot_print.specs.Reach.{written_by, shape_seen, shape_asked, room_asked, room_at, seen, file_seen, taken, room_taken}
 use Rattle.foot_print.proofs.Agreement.{agree_left, agree_right, agree_head, has_atom-as_reads, held_same, handle_same}
 use Rattle.foot_print.proofs.CoverWalk.{walk_same, path_reads_same}
-use Rattle.foot_print.proofs.Resolving.{no_content}
+use Rattle.foot_print.proofs.Completing.{no_content}
 use Rattle.foot_print.proofs.Holding.{Over, always, over_self, over_nothing, over_first, over_second, over_on_file}
 
 -- A room at the lowest free descriptor.

@@ -33,15 +33,15 @@ delivered_small r (into b at) moved cs le = le
 taken_small : (n : ℕ) (xs : List ℕ) → n ≤ most_moved → length (take n xs) ≤ most_moved
 taken_small n xs le = omega (arith, length-take n xs)
 
-read_small : (t : Trace) (s : World) (r : ℕ) (f : File) (o n : ℕ) (to : Result Destination Errno) → n ≤ most_moved → IfOk (read_meaning t s r f o n to) Small
-read_small t s r f o n to le = and_then Small (readable t s r f) _ (λ h. and_then Small to _ (λ d. after Small (require (not (is_bad_offset o)) EINVAL) _ (either h d (n == 0))))
+read_small : (t : Trace) (s : World) (r : ℕ) (f : File) (o n : ℕ) (to : Result Destination Errno) → n ≤ most_moved → IfOk (read_meaning s r (handle t s r f) o n to) Small
+read_small t s r f o n to le = and_then Small (readable (handle t s r f)) _ (λ h. and_then Small to _ (λ d. after Small (require (not (is_bad_offset o)) EINVAL) _ (either h d (n == 0))))
   where
     either : (h : Handle) (d : Destination) (b : Bool) → IfOk {E = Errno} (Ok (if b then done [] else read_effect s r h o n d)) Small
     either h d true = none
     either h d false = delivered_small r d _ _ (taken_small n _ le)
 
-write_small : (t : Trace) (s : World) (r : ℕ) (f : File) (o : ℕ) (new : Result (List ℕ) Errno) → IfOk new (λ bs. length bs ≤ most_moved) → IfOk (write_meaning t s r f o new) Small
-write_small t s r f o new le = and_then Small (writable t s r f) _ (λ h. and_so (λ bs. length bs ≤ most_moved) Small new _ le (λ bs short. after Small (require (not (is_bad_offset o)) EINVAL) _ (either h (write_start s h o) bs short (length bs == 0))))
+write_small : (t : Trace) (s : World) (r : ℕ) (f : File) (o : ℕ) (new : Result (List ℕ) Errno) → IfOk new (λ bs. length bs ≤ most_moved) → IfOk (write_meaning s (handle t s r f) o new) Small
+write_small t s r f o new le = and_then Small (writable (handle t s r f)) _ (λ h. and_so (λ bs. length bs ≤ most_moved) Small new _ le (λ bs short. after Small (require (not (is_bad_offset o)) EINVAL) _ (either h (write_start s h o) bs short (length bs == 0))))
   where
     either : (h : Handle) (at : ℕ) (bs : List ℕ) → length bs ≤ most_moved → (b : Bool) → IfOk (if b then Ok (done []) else (require (ltb at file_limit) EFBIG >> Ok (write_effect h o at (take (file_limit - at) bs)))) Small
     either h at bs short true = none
@@ -113,14 +113,14 @@ close_small t s r (at_descriptor n) = after Small (require (is_some (held t s r 
 close_small t s r (in_slot n) = after Small (require (ltb n (slot_count t r)) EINVAL) _ (after Small (require (is_some (slot s r n)) EBADF) _ none)
 
 -- Allocations and sizes.
-fallocate_small : (t : Trace) (s : World) (r : ℕ) (f : File) (o n mode : ℕ) → IfOk (fallocate_meaning t s r f o n mode) Small
+fallocate_small : (t : Trace) (s : World) (r : ℕ) (f : File) (o n mode : ℕ) → IfOk (fallocate_meaning s (handle t s r f) o n mode) Small
 fallocate_small t s r f o n mode =
     and_then Small (ok_or (handle t s r f) EBADF) _ (λ h.
     after Small (require (ltb o (2 ^ 63) && not (n == 0) && ltb n (2 ^ 63)) EINVAL) _
     (and_then Small (ok_or (allocation mode) EOPNOTSUPP) _ (λ a.
     after Small (require (can_write h.opened.access) EBADF) _ (after Small (require (leb (o + n) file_limit) EFBIG) _ none))))
 
-ftruncate_small : (t : Trace) (s : World) (r : ℕ) (f : File) (n : ℕ) → IfOk (ftruncate_meaning t s r f n) Small
+ftruncate_small : (t : Trace) (s : World) (r : ℕ) (f : File) (n : ℕ) → IfOk (ftruncate_meaning (handle t s r f) n) Small
 ftruncate_small t s r f n =
     and_then Small (ok_or (handle t s r f) EBADF) _ (λ h.
     after Small (require (ltb n (2 ^ 63)) EINVAL) _ (after Small (require (can_write h.opened.access) EINVAL) _ (after Small (require (leb n file_limit) EFBIG) _ none)))

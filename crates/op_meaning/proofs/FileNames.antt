@@ -68,14 +68,14 @@ delivers r (into b at) moved cs h = (tt, h)
 nothing : IsNaming (Ok (done []))
 nothing = accepted (done []) tt
 
-reads : (t : Trace) (s : World) (r : ℕ) (f : File) (o n : ℕ) (span : Result Destination Errno) → IsNaming (read_meaning t s r f o n span)
+reads : (t : Trace) (s : World) (r : ℕ) (f : File) (o n : ℕ) (span : Result Destination Errno) → IsNaming (read_meaning s r (handle t s r f) o n span)
 reads t s r f o n span =
-    bind (readable t s r f) _ (λ h e. bind span _ (λ to g.
+    bind (readable (handle t s r f)) _ (λ h e. bind span _ (λ to g.
     tested (not (is_bad_offset o)) EINVAL (Ok (if n == 0 then done [] else read_effect s r h o n to))
     (either_effect (n == 0) (done []) (read_effect s r h o n to) tt (delivers r to _ _ (advances h o _)))))
 
-writes : (t : Trace) (s : World) (r : ℕ) (f : File) (o : ℕ) (source : Result (List ℕ) Errno) → IsNaming (write_meaning t s r f o source)
-writes t s r f o source = bind (writable t s r f) _ (λ h e. bind source _ (λ new g. tested (not (is_bad_offset o)) EINVAL _ (at h new)))
+writes : (t : Trace) (s : World) (r : ℕ) (f : File) (o : ℕ) (source : Result (List ℕ) Errno) → IsNaming (write_meaning s (handle t s r f) o source)
+writes t s r f o source = bind (writable (handle t s r f)) _ (λ h e. bind source _ (λ new g. tested (not (is_bad_offset o)) EINVAL _ (at h new)))
   where
     at : (h : Handle) (new : List ℕ)
         → IsNaming (if length new == 0 then Ok (done []) else (require (ltb (write_start s h o) file_limit) EFBIG >> Ok (write_effect h o (write_start s h o) (take (file_limit - write_start s h o) new))))

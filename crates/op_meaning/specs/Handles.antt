@@ -1,5 +1,6 @@
 -- A view of code: files that are open, and ways to allocate.
-use Rattle.std.specs.Prelude.{Result, Ok, Err}
+use Rattle.std.specs.Prelude.{Option, Result, Ok, Err}
+use Rattle.std.specs.Option.{option_map}
 use Rattle.sqe_codec.specs.declared.errno.Errno.{Errno}
 use Rattle.world_parts.specs.World.{World, opened_by}
 use Rattle.op_meaning.specs.Meaning.{Handle}
@@ -12,7 +13,11 @@ use Rattle.op_meaning.specs.declared.allocating.Allocation.TheVariants.{Extend, 
 abbrev pub handle_meant : World → OpenFile → Handle
 handle_meant s x = record { description = x.number; opened = opened_by s x.description }
 
--- the same, or the error of the test that it fails
+-- the handle of what is open, if a file is
+abbrev pub opened_meant : World → Option OpenFile → Option Handle
+opened_meant s x = option_map (handle_meant s) x
+
+-- the handle, or the error of the test that it fails
 abbrev pub found : World → Result OpenFile Errno → Result Handle Errno
 found s (Ok x) = Ok (handle_meant s x)
 found s (Err e) = Err e

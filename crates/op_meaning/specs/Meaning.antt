@@ -101,17 +101,17 @@ read_effect s r h o n to =
 abbrev pub is_file : Opened → Bool
 is_file o = not (is_directory o.target.kind)
 
--- The tests of a read before its span's.
-abbrev pub readable : Trace → World → ℕ → File → Result Handle Errno
-readable t s r f = do
-  h ← ok_or (handle t s r f) EBADF
+-- The tests of a read before its span's, by what its file number stands for.
+abbrev pub readable : Option Handle → Result Handle Errno
+readable there = do
+  h ← ok_or there EBADF
   require (can_read h.opened.access) EBADF
   require (is_file h.opened) EISDIR
   Ok h
 
-abbrev pub read_meaning : Trace → World → ℕ → File → ℕ → ℕ → Result Destination Errno → Result Effect Errno
-read_meaning t s r f o n span = do
-  h ← readable t s r f
+abbrev pub read_meaning : World → ℕ → Option Handle → ℕ → ℕ → Result Destination Errno → Result Effect Errno
+read_meaning s r there o n span = do
+  h ← readable there
   to ← span
   require (not (is_bad_offset o)) EINVAL
   Ok (if n == 0 then done [] else read_effect s r h o n to)
@@ -124,15 +124,15 @@ write_start s h o = if h.opened.append then length (bytes_in s h.opened.target.n
 abbrev pub write_effect : Handle → ℕ → ℕ → List ℕ → Effect
 write_effect h o at moved = record { count = length moved; bytes = []; changes = write_bytes h.opened.target.node at moved ∷ advance h o (at + length moved) }
 
-abbrev pub writable : Trace → World → ℕ → File → Result Handle Errno
-writable t s r f = do
-  h ← ok_or (handle t s r f) EBADF
+abbrev pub writable : Option Handle → Result Handle Errno
+writable there = do
+  h ← ok_or there EBADF
   require (can_write h.opened.access) EBADF
   Ok h
 
-abbrev pub write_meaning : Trace → World → ℕ → File → ℕ → Result (List ℕ) Errno → Result Effect Errno
-write_meaning t s r f o source = do
-  h ← writable t s r f
+abbrev pub write_meaning : World → Option Handle → ℕ → Result (List ℕ) Errno → Result Effect Errno
+write_meaning s there o source = do
+  h ← writable there
   new ← source
   require (not (is_bad_offset o)) EINVAL
   write_at h new
@@ -150,14 +150,14 @@ abbrev pub span_bytes : Trace → World → ℕ → Span → Result (List ℕ) E
 span_bytes t s r x = ok_or (option_map (λ at. take (min x.length most_moved) (drop at (unwrap_or (buffer s r x.index) []))) (span_start t r x)) EFAULT
 
 -- READ and READV move into the reply, READ_FIXED into a span, WRITE_FIXED from one.
-abbrev pub readv_meaning : Trace → World → ℕ → File → ℕ → ℕ → Result Effect Errno
-readv_meaning t s r f o n = read_meaning t s r f o (min n most_moved) (Ok reply)
+abbrev pub readv_meaning : World → ℕ → Option Handle → ℕ → ℕ → Result Effect Errno
+readv_meaning s r there o n = read_meaning s r there o (min n most_moved) (Ok reply)
 
-abbrev pub read_fixed_meaning : Trace → World → ℕ → File → ℕ → Span → Result Effect Errno
-read_fixed_meaning t s r f o x = read_meaning t s r f o (min x.length most_moved) (span_destination t r x)
+abbrev pub read_fixed_meaning : Trace → World → ℕ → Option Handle → ℕ → Span → Result Effect Errno
+read_fixed_meaning t s r there o x = read_meaning s r there o (min x.length most_moved) (span_destination t r x)
 
-abbrev pub write_fixed_meaning : Trace → World → ℕ → File → ℕ → Span → Result Effect Errno
-write_fixed_meaning t s r f o x = write_meaning t s r f o (span_bytes t s r x)
+abbrev pub write_fixed_meaning : Trace → World → ℕ → Option Handle → ℕ → Span → Result Effect Errno
+write_fixed_meaning t s r there o x = write_meaning s there o (span_bytes t s r x)
 
 -- The modes of fallocate(2) that are served: extend; change nothing; punch a hole; zero a range and extend; zero a range.
 pub data Allocation : Type 0 where
@@ -180,18 +180,18 @@ allocate s i at end punch = zero_bytes i at end ∷ []
 allocate s i at end zero_extend = extended s i end ∷ zero_bytes i at end ∷ []
 allocate s i at end zero_within = zero_bytes i at end ∷ []
 
-abbrev pub fallocate_meaning : Trace → World → ℕ → File → ℕ → ℕ → ℕ → Result Effect Errno
-fallocate_meaning t s r f o n mode = do
-  h ← ok_or (handle t s r f) EBADF
+abbrev pub fallocate_meaning : World → Option Handle → ℕ → ℕ → ℕ → Result Effect Errno
+fallocate_meaning s there o n mode = do
+  h ← ok_or there EBADF
   require (ltb o (2 ^ 63) && not (n == 0) && ltb n (2 ^ 63)) EINVAL
   a ← ok_or (allocation mode) EOPNOTSUPP
   require (can_write h.opened.access) EBADF
   require (leb (o + n) file_limit) EFBIG
   Ok (done (allocate s h.opened.target.node o (o + n) a))
 
-abbrev pub ftruncate_meaning : Trace → World → ℕ → File → ℕ → Result Effect Errno
-ftruncate_meaning t s r f n = do
-  h ← ok_or (handle t s r f) EBADF
+abbrev pub ftruncate_meaning : Option Handle → ℕ → Result Effect Errno
+ftruncate_meaning there n = do
+  h ← ok_or there EBADF
   require (ltb n (2 ^ 63)) EINVAL
   require (can_write h.opened.access) EINVAL
   require (leb n file_limit) EFBIG
@@ -238,10 +238,10 @@ open_as t k r g at p =
     let last = filled r at (made_description t k) in
     record last { changes = open_changes g (made_node t k) p p.target ++ make_description (made_description t k) (opened_with g (found_or_made (made_node t k) p.target)) ∷ last.changes }
 
-abbrev pub openat_meaning : Trace → World → ℕ → ℕ → Path → OpenFlags → Option ℕ → Result Effect Errno
-openat_meaning t s k r path g asked = do
+abbrev pub openat_meaning : Trace → World → ℕ → ℕ → Result Place Errno → OpenFlags → Option ℕ → Result Effect Errno
+openat_meaning t s k r led g asked = do
   at ← room t s r asked
-  p ← walk s.nodes path
+  p ← led
   may_open g p.target
   Ok (open_as t k r g at p)
 
@@ -260,9 +260,9 @@ abbrev pub may_remove : World → Bool → Target → Result (Unit {0}) Errno
 may_remove s false x = require (not (is_directory x.kind)) EISDIR
 may_remove s true x = require (is_directory x.kind) ENOTDIR >> require (not (has_names s x.node)) ENOTEMPTY
 
-abbrev pub unlinkat_meaning : World → Path → Bool → Result Effect Errno
-unlinkat_meaning s path removes = do
-  p ← walk s.nodes path
+abbrev pub unlinkat_meaning : World → Result Place Errno → Bool → Result Effect Errno
+unlinkat_meaning s led removes = do
+  p ← led
   x ← ok_or p.target ENOENT
   may_remove s removes x
   Ok (done (set_name p.parent p.name None ∷ []))
@@ -271,16 +271,16 @@ unlinkat_meaning s path removes = do
 abbrev pub new_directory : ℕ → Target
 new_directory i = record { node = i; kind = Some a_directory }
 
-abbrev pub mkdirat_meaning : Trace → World → ℕ → Path → Result Effect Errno
-mkdirat_meaning t s k path = do
-  p ← walk s.nodes path
+abbrev pub mkdirat_meaning : Trace → ℕ → Result Place Errno → Result Effect Errno
+mkdirat_meaning t k led = do
+  p ← led
   require (is_none p.target) EEXIST
   Ok (done (make_node (made_node t k) a_directory ∷ set_name p.parent p.name (Some (new_directory (made_node t k))) ∷ []))
 
-abbrev pub linkat_meaning : World → Path → Path → Result Effect Errno
-linkat_meaning s old new = do
-  p ← walk s.nodes old
-  q ← walk s.nodes new
+abbrev pub linkat_meaning : Result Place Errno → Result Place Errno → Result Effect Errno
+linkat_meaning from to = do
+  p ← from
+  q ← to
   x ← ok_or p.target ENOENT
   require (is_none q.target) EEXIST
   require (not (is_directory x.kind)) EPERM
@@ -317,28 +317,28 @@ rename_to s old new flags p q x =
     if flags == 2 then exchange_meaning s old new p q x q.target
     else (require (not (flags == 1 && is_some q.target)) EEXIST >> require (not (goes_below s x new)) EINVAL >> move_meaning s p q x q.target)
 
-abbrev pub renameat_meaning : World → Path → Path → ℕ → Result Effect Errno
-renameat_meaning s old new flags = do
-  p ← walk s.nodes old
-  q ← walk s.nodes new
+abbrev pub renameat_meaning : World → Path → Path → Result Place Errno → Result Place Errno → ℕ → Result Effect Errno
+renameat_meaning s old new from to flags = do
+  p ← from
+  q ← to
   x ← ok_or p.target ENOENT
   rename_to s old new flags p q x
 
--- The meaning of an operation at a place of a ring.
+-- The meaning of an operation at a place of a ring, by what its file number or its paths lead to.
 abbrev pub meaning : Trace → ℕ → ℕ → World → Operation → Result Effect Errno
 meaning t k r s nop = Ok (done [])
-meaning t k r s (readv f o n) = readv_meaning t s r f o n
-meaning t k r s (writev f o new) = write_meaning t s r f o (Ok new)
+meaning t k r s (readv f o n) = readv_meaning s r (handle t s r f) o n
+meaning t k r s (writev f o new) = write_meaning s (handle t s r f) o (Ok new)
 meaning t k r s (fsync f) = require (is_some (held t s r f)) EBADF >> Ok (done [])
-meaning t k r s (read_fixed f o x) = read_fixed_meaning t s r f o x
-meaning t k r s (write_fixed f o x) = write_fixed_meaning t s r f o x
-meaning t k r s (fallocate f o n mode) = fallocate_meaning t s r f o n mode
-meaning t k r s (openat p g asked) = openat_meaning t s k r p g asked
+meaning t k r s (read_fixed f o x) = read_fixed_meaning t s r (handle t s r f) o x
+meaning t k r s (write_fixed f o x) = write_fixed_meaning t s r (handle t s r f) o x
+meaning t k r s (fallocate f o n mode) = fallocate_meaning s (handle t s r f) o n mode
+meaning t k r s (openat p g asked) = openat_meaning t s k r (walk s.nodes p) g asked
 meaning t k r s (close f) = close_meaning t s r f
-meaning t k r s (read f o n) = readv_meaning t s r f o n
-meaning t k r s (write f o new) = write_meaning t s r f o (Ok new)
-meaning t k r s (renameat old new flags) = renameat_meaning s old new flags
-meaning t k r s (unlinkat p removes) = unlinkat_meaning s p removes
-meaning t k r s (mkdirat p) = mkdirat_meaning t s k p
-meaning t k r s (linkat old new) = linkat_meaning s old new
-meaning t k r s (ftruncate f n) = ftruncate_meaning t s r f n
+meaning t k r s (read f o n) = readv_meaning s r (handle t s r f) o n
+meaning t k r s (write f o new) = write_meaning s (handle t s r f) o (Ok new)
+meaning t k r s (renameat old new flags) = renameat_meaning s old new (walk s.nodes old) (walk s.nodes new) flags
+meaning t k r s (unlinkat p removes) = unlinkat_meaning s (walk s.nodes p) removes
+meaning t k r s (mkdirat p) = mkdirat_meaning t k (walk s.nodes p)
+meaning t k r s (linkat old new) = linkat_meaning (walk s.nodes old) (walk s.nodes new)
+meaning t k r s (ftruncate f n) = ftruncate_meaning (handle t s r f) n

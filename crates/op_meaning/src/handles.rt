@@ -1,14 +1,14 @@
 //! Files that are open, and ranges of registered buffers.
 ghost use Rattle.std.specs.Prelude.{◌≡◌, ◌==◌, ◌+◌, ◌<◌, ◌≤◌, ◌^◌, IfSome, length};
-ghost use Rattle.std.specs.Option.{option_map};
 ghost use Rattle.entry_checks.specs.Meant.{file_meant, span_meant};
 ghost use Rattle.entry_checks.specs.Operation.{at_descriptor, at_position, file_limit, in_slot};
 ghost use Rattle.file_tree.specs.Walk as walk;
-ghost use Rattle.op_meaning.specs.Handles.{found, handle_meant};
+ghost use Rattle.op_meaning.specs.Handles.{found, handle_meant, opened_meant};
 ghost use Rattle.op_meaning.specs.Meaning.{bytes_in, can_read, can_write, handle, held};
 ghost use Rattle.op_meaning.specs.Meaning.{is_bad_offset, readable, registered_buffer};
 ghost use Rattle.op_meaning.specs.Meaning.{slot_count, span_start, transfer_start, writable};
 ghost use Rattle.world_parts.specs.World as world;
+ghost use Rattle.world_parts.specs.World.{World};
 
 use crate::limits::{AT_POSITION, REFUSED};
 use entry_checks::{BufferSpan, FileNumber};
@@ -75,7 +75,7 @@ pub(crate) fn open_file(
     file: FileNumber,
     state: &State,
 ) -> Option<OpenFile>
-    ensures { option_map (handle_meant state.now) result
+    ensures { opened_meant state.now result
         ≡ handle trace.now state.now ring (file_meant file) }
 {
     let number = held(trace, ring, file, state)?;
@@ -117,17 +117,12 @@ pub fn is_directory(node: u32, state: &State) -> bool
     }
 }
 
-/// The open file that a read is from, or why it is refused.
+/// The open file that a read is from, by what its file number stands for, or why it is refused.
 #[inline(always)]
-pub(crate) fn readable(
-    trace: &Trace,
-    ring: u8,
-    file: FileNumber,
-    state: &State,
-) -> Result<OpenFile, Errno>
-    ensures { found state.now result ≡ readable trace.now state.now ring (file_meant file) }
+pub(crate) fn readable(opened: Option<OpenFile>, state: &State) -> Result<OpenFile, Errno>
+    ensures { found state.now result ≡ readable (opened_meant state.now opened) }
 {
-    let file = open_file(trace, ring, file, state).ok_or(Errno::EBADF)?;
+    let file = opened.ok_or(Errno::EBADF)?;
     if !can_read(file.description.access) {
         return Err(Errno::EBADF);
     }
@@ -137,16 +132,11 @@ pub(crate) fn readable(
     Ok(file)
 }
 
-/// The open file that a write is to, or why it is refused.
-pub(crate) fn writable(
-    trace: &Trace,
-    ring: u8,
-    file: FileNumber,
-    state: &State,
-) -> Result<OpenFile, Errno>
-    ensures { found state.now result ≡ writable trace.now state.now ring (file_meant file) }
+/// The open file that a write is to, by what its file number stands for, or why it is refused.
+pub(crate) fn writable(opened: Option<OpenFile>) -> Result<OpenFile, Errno>
+    ensures { (s : World) → found s result ≡ writable (opened_meant s opened) }
 {
-    let file = open_file(trace, ring, file, state).ok_or(Errno::EBADF)?;
+    let file = opened.ok_or(Errno::EBADF)?;
     if !can_write(file.description.access) {
         return Err(Errno::EBADF);
     }

@@ -1,8 +1,8 @@
 //! The operations on names: UNLINKAT, MKDIRAT, LINKAT and RENAMEAT.
-ghost use Rattle.std.specs.Prelude.{◌≡◌, IfOk, OnOk};
+ghost use Rattle.std.specs.Prelude.{◌≡◌, ℕ, IfOk, OnOk};
 ghost use Rattle.std.specs.Option.{option_map};
 ghost use Rattle.entry_checks.specs.Meant.{path_meant};
-ghost use Rattle.file_tree.specs.Found.{place_meant};
+ghost use Rattle.file_tree.specs.Found.{place_meant, walk_meant};
 ghost use Rattle.file_tree.specs.Tree.{Tree, target};
 ghost use Rattle.file_tree.specs.Walk as walk;
 ghost use Rattle.op_meaning.specs.Deciding.{Decides};
@@ -13,7 +13,8 @@ ghost use Rattle.op_meaning.specs.Meaning.{renameat_meaning, unlinkat_meaning};
 ghost use Rattle.op_meaning.specs.NameChanges.{changes_meant, decision_meant, directory_effect};
 ghost use Rattle.op_meaning.specs.NameChanges.{move_meant, exchange_meant};
 ghost use Rattle.op_meaning.specs.Site.{IsSite};
-ghost use Rattle.world_parts.specs.World.{apply_all};
+ghost use Rattle.trace_format.specs.declared.trace.Trace.{Trace};
+ghost use Rattle.world_parts.specs.World.{apply_all, World};
 
 use crate::decision::Decision;
 use crate::handles::is_directory;
@@ -52,14 +53,14 @@ fn may_remove(state: &State, removes_directory: bool, node: u32) -> Result<(), E
 ///
 /// That of the first test that fails: those of the walk, ENOENT, EISDIR, ENOTDIR, ENOTEMPTY.
 pub(crate) fn unlinking<'a>(
-    path: PathAt<'a>,
+    led: Result<Place<'a>, Errno>,
     removes_directory: bool,
     state: &State,
 ) -> Result<NameChanges<'a>, Errno>
     ensures { decision_meant state.now.nodes result
-        ≡ unlinkat_meaning state.now (path_meant path.entry) removes_directory }
+        ≡ unlinkat_meaning state.now (walk_meant state.now.nodes led.entry) removes_directory }
 {
-    let place = state.walk(path.directory, path.text)?;
+    let place = led?;
     let Some(node) = place.node else {
         return Err(Errno::ENOENT);
     };
@@ -76,17 +77,12 @@ pub(crate) fn unlinking<'a>(
 /// # Errors
 ///
 /// That of the first test that fails: those of the walk, EEXIST.
-pub(crate) fn making<'a>(
-    site: Site<'_>,
-    path: PathAt<'a>,
-    state: &State,
-) -> Result<Decision<'a>, Errno>
-    ensures meaning { Decides
-        (mkdirat_meaning site.entry.trace.now state.now site.entry.place (path_meant path.entry))
-        (effect_of site.entry.trace.now site.entry.place site.entry.ring state.now) result }
-    ensures limits { IfOk result (IsWithinLimits state.now site.entry.ring) }
+pub(crate) fn making<'a>(led: Result<Place<'a>, Errno>) -> Result<Decision<'a>, Errno>
+    ensures meaning { (t : Trace) (k r : ℕ) (s : World) → Decides
+        (mkdirat_meaning t k (walk_meant s.nodes led.entry)) (effect_of t k r s) result }
+    ensures limits { (s : World) (r : ℕ) → IfOk result (IsWithinLimits s r) }
 {
-    let place = state.walk(path.directory, path.text)?;
+    let place = led?;
     if place.node.is_some() {
         return Err(Errno::EEXIST);
     }
@@ -115,15 +111,16 @@ pub(crate) fn make_directory(
 ///
 /// That of the first test that fails: those of the walks, ENOENT, EEXIST, EPERM.
 pub(crate) fn linking<'a>(
-    old: PathAt<'a>,
-    new: PathAt<'a>,
+    from: Result<Place<'a>, Errno>,
+    to: Result<Place<'a>, Errno>,
     state: &State,
 ) -> Result<NameChanges<'a>, Errno>
     ensures { decision_meant state.now.nodes result
-        ≡ linkat_meaning state.now (path_meant old.entry) (path_meant new.entry) }
+        ≡ linkat_meaning (walk_meant state.now.nodes from.entry)
+        (walk_meant state.now.nodes to.entry) }
 {
-    let from = state.walk(old.directory, old.text)?;
-    let to = state.walk(new.directory, new.text)?;
+    let from = from?;
+    let to = to?;
     let Some(node) = from.node else {
         return Err(Errno::ENOENT);
     };
@@ -237,23 +234,27 @@ fn exchanging<'a>(
     Ok(exchanged(from, to, node, there))
 }
 
-/// What RENAMEAT does to two names, after renameat2(2): it moves one, or exchanges both.
+/// What RENAMEAT does to two names, after renameat2(2), by where its paths lead: it moves one, or
+/// exchanges both.
 ///
 /// # Errors
 ///
 /// That of the first test that fails: those of the walks, ENOENT, EEXIST, EINVAL, ENOTDIR, EISDIR,
 /// ENOTEMPTY.
 pub(crate) fn renaming<'a>(
-    old: PathAt<'a>,
-    new: PathAt<'a>,
+    old: PathAt<'_>,
+    new: PathAt<'_>,
+    from: Result<Place<'a>, Errno>,
+    to: Result<Place<'a>, Errno>,
     flags: u32,
     state: &State,
 ) -> Result<NameChanges<'a>, Errno>
     ensures { decision_meant state.now.nodes result
-        ≡ renameat_meaning state.now (path_meant old.entry) (path_meant new.entry) flags }
+        ≡ renameat_meaning state.now (path_meant old.entry) (path_meant new.entry)
+        (walk_meant state.now.nodes from.entry) (walk_meant state.now.nodes to.entry) flags }
 {
-    let from = state.walk(old.directory, old.text)?;
-    let to = state.walk(new.directory, new.text)?;
+    let from = from?;
+    let to = to?;
     let Some(node) = from.node else {
         return Err(Errno::ENOENT);
     };

@@ -1,16 +1,18 @@
 //! The other operations on open files.
-ghost use Rattle.std.specs.Prelude.{◌≡◌, ◌≤◌, [], ◌∷◌, IfOk, OnOk};
+ghost use Rattle.std.specs.Prelude.{◌≡◌, ◌≤◌, ℕ, [], ◌∷◌, IfOk, OnOk};
 ghost use Rattle.entry_checks.specs.Meant.{file_meant};
 ghost use Rattle.entry_checks.specs.Operation.{at_descriptor, file_limit, fsync, in_slot};
 ghost use Rattle.op_meaning.specs.Deciding.{Decides};
 ghost use Rattle.op_meaning.specs.Decision.{allocated, effect_of, emptied, IsWithinLimits};
+ghost use Rattle.op_meaning.specs.Handles.{opened_meant};
 ghost use Rattle.op_meaning.specs.Meaning.{close_meaning, extended};
 ghost use Rattle.op_meaning.specs.Meaning.{fallocate_meaning, ftruncate_meaning, meaning};
-ghost use Rattle.world_parts.specs.World.{apply_all};
+ghost use Rattle.trace_format.specs.declared.trace.Trace.{Trace};
+ghost use Rattle.world_parts.specs.World.{apply_all, World};
 
 use crate::allocating::{Allocation, AllocationRequest, RangeAllocation, allocation_of};
 use crate::decision::Decision;
-use crate::handles::{can_write, held, held_by_descriptor, open_file, size, slot_count};
+use crate::handles::{OpenFile, can_write, held, held_by_descriptor, size, slot_count};
 use crate::limits::{LARGEST, REFUSED};
 use crate::site::Site;
 use entry_checks::FileNumber;
@@ -46,19 +48,16 @@ pub(crate) fn syncing<'a>(
 ///
 /// That of the first test that fails: EBADF, EINVAL, EOPNOTSUPP, EFBIG.
 pub(crate) fn allocating<'a>(
-    site: Site<'_>,
-    file: FileNumber,
+    opened: Option<OpenFile>,
     request: AllocationRequest,
-    state: &State,
 ) -> Result<Decision<'a>, Errno>
-    ensures meaning { Decides
-        (fallocate_meaning site.entry.trace.now state.now site.entry.ring (file_meant file)
-        request.offset request.size request.mode)
-        (effect_of site.entry.trace.now site.entry.place site.entry.ring state.now) result }
-    ensures limits { IfOk result (IsWithinLimits state.now site.entry.ring) }
+    ensures meaning { (t : Trace) (k r : ℕ) (s : World) → Decides
+        (fallocate_meaning s (opened_meant s opened) request.offset request.size request.mode)
+        (effect_of t k r s) result }
+    ensures limits { (s : World) (r : ℕ) → IfOk result (IsWithinLimits s r) }
 {
     let AllocationRequest { offset, size, mode } = request;
-    let file = open_file(site.trace, site.ring, file, state).ok_or(Errno::EBADF)?;
+    let file = opened.ok_or(Errno::EBADF)?;
     if offset >= REFUSED || size == 0 || size >= REFUSED {
         return Err(Errno::EINVAL);
     }
@@ -115,17 +114,14 @@ pub(crate) fn allocate(range: RangeAllocation, state: &mut State) -> Result<(), 
 ///
 /// That of the first test that fails: EBADF, EINVAL, EFBIG.
 pub(crate) fn resizing<'a>(
-    site: Site<'_>,
-    file: FileNumber,
+    opened: Option<OpenFile>,
     size: u64,
-    state: &State,
 ) -> Result<Decision<'a>, Errno>
-    ensures meaning { Decides
-        (ftruncate_meaning site.entry.trace.now state.now site.entry.ring (file_meant file) size)
-        (effect_of site.entry.trace.now site.entry.place site.entry.ring state.now) result }
-    ensures limits { IfOk result (IsWithinLimits state.now site.entry.ring) }
+    ensures meaning { (t : Trace) (k r : ℕ) (s : World) → Decides
+        (ftruncate_meaning (opened_meant s opened) size) (effect_of t k r s) result }
+    ensures limits { (s : World) (r : ℕ) → IfOk result (IsWithinLimits s r) }
 {
-    let file = open_file(site.trace, site.ring, file, state).ok_or(Errno::EBADF)?;
+    let file = opened.ok_or(Errno::EBADF)?;
     if size >= REFUSED || !can_write(file.description.access) {
         return Err(Errno::EINVAL);
     }

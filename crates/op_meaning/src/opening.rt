@@ -1,8 +1,8 @@
 //! The operation that opens files: OPENAT.
 ghost use Rattle.std.specs.Prelude.{◌≡◌, IfOk, OnOk};
 ghost use Rattle.std.specs.Option.{option_map};
-ghost use Rattle.entry_checks.specs.Meant.{file_meant, flags_meant, path_meant};
-ghost use Rattle.file_tree.specs.Found.{place_meant};
+ghost use Rattle.entry_checks.specs.Meant.{file_meant, flags_meant};
+ghost use Rattle.file_tree.specs.Found.{place_meant, walk_meant};
 ghost use Rattle.file_tree.specs.Tree.{target};
 ghost use Rattle.op_meaning.specs.Meaning as meaning;
 ghost use Rattle.op_meaning.specs.Deciding.{Decides};
@@ -19,7 +19,7 @@ use crate::handles::{is_directory, slot_count};
 use crate::made::{descriptor_count, made_description, made_node};
 use crate::outcome::{Done, counted, finished};
 use crate::site::Site;
-use entry_checks::{FileNumber, OpenAtFlags, PathAt};
+use entry_checks::{FileNumber, OpenAtFlags};
 use file_tree::{Kind, Place};
 use sqe_codec::Errno;
 use std::alloc::{AllocError, Global};
@@ -93,7 +93,7 @@ fn may_open(state: &State, flags: OpenAtFlags, node: Option<u32>) -> Result<(), 
 /// ENOTDIR.
 pub(crate) fn find_opening<'a>(
     site: Site<'_>,
-    path: PathAt<'a>,
+    led: Result<Place<'a>, Errno>,
     flags: OpenAtFlags,
     asked: Option<u32>,
     state: &State,
@@ -101,12 +101,12 @@ pub(crate) fn find_opening<'a>(
     requires { IsSpelled site.trace.now }
     ensures meaning { Decides
         (openat_meaning site.entry.trace.now state.now site.entry.place site.entry.ring
-        (path_meant path.entry) (flags_meant flags) asked)
+        (walk_meant state.now.nodes led.entry) (flags_meant flags) asked)
         (effect_of site.entry.trace.now site.entry.place site.entry.ring state.now) result }
     ensures limits { IfOk result (IsWithinLimits state.now site.entry.ring) }
 {
     let room = find_room(site.trace, site.ring, asked, state)?;
-    let place = state.walk(path.directory, path.text)?;
+    let place = led?;
     may_open(state, flags, place.node)?;
     Ok(Decision::Open(Opening { place, flags, room }))
 }

@@ -4,6 +4,8 @@ ghost use Rattle.entry_checks.specs.Meant.{meant};
 ghost use Rattle.entry_checks.specs.Operation.{asked};
 ghost use Rattle.op_meaning.specs.Deciding.{Decides};
 ghost use Rattle.op_meaning.specs.Decision.{effect_of, IsWithinLimits};
+ghost use Rattle.op_meaning.specs.Footprint.{shape};
+ghost use Rattle.op_meaning.specs.Lookups.{Finds};
 ghost use Rattle.op_meaning.specs.Meaning.{meaning};
 ghost use Rattle.op_meaning.specs.NameChanges.{decision_meant};
 ghost use Rattle.op_meaning.specs.Outcomes.{Answers, world_after};
@@ -15,6 +17,7 @@ ghost use Rattle.world_parts.specs.World.{World};
 
 use crate::allocating::AllocationRequest;
 use crate::decision::{Decision, carry_out};
+use crate::lookup::Lookup;
 use crate::names::NameChanges;
 use crate::naming::{linking, making, renaming, unlinking};
 use crate::open_files::{allocating, closing, resizing, syncing};
@@ -25,7 +28,6 @@ use crate::transfers::{reading, reading_fixed, writing, writing_fixed};
 use entry_checks::Op;
 use sqe_codec::Errno;
 use std::alloc::{AllocError, Global};
-use trace_format::Trace;
 use world_parts::State;
 
 /// What an operation does that changes names alone.
@@ -37,14 +39,21 @@ fn changing<'a>(changes: Result<NameChanges<'a>, Errno>) -> Result<Decision<'a>,
     Ok(Decision::ChangeNames(changes?))
 }
 
-/// What an operation does where an entry stands, by look-ups alone. It takes no memory.
+/// What an operation does where an entry stands, by what its file number or its paths lead to and
+/// by look-ups alone. It takes no memory.
 ///
 /// # Errors
 ///
 /// That of the first test that fails.
 #[inline(always)]
-fn decide<'a>(site: Site<'_>, op: Op<'a>, state: &State) -> Result<Decision<'a>, Errno>
-    requires { IsSpelled site.trace.now }
+fn decide<'a>(
+    site: Site<'_>,
+    op: Op<'a>,
+    lookup: Lookup<'a>,
+    state: &State,
+) -> Result<Decision<'a>, Errno>
+    requires spelled { IsSpelled site.trace.now }
+    requires lookup { Finds site.trace.now site.ring state.now (shape (meant op)) lookup }
     ensures meaning { Decides
         (meaning site.entry.trace.now site.entry.place site.entry.ring state.now (meant op.entry))
         (effect_of site.entry.trace.now site.entry.place site.entry.ring state.now) result }
@@ -53,45 +62,36 @@ fn decide<'a>(site: Site<'_>, op: Op<'a>, state: &State) -> Result<Decision<'a>,
 {
     match op {
         Op::Nop => Ok(Decision::Nothing),
-        Op::Readv {
-            file,
-            offset,
-            total,
-        } => reading(site, file, offset, total, state),
-        Op::Writev {
-            file,
-            offset,
-            bytes,
-        }
-        | Op::Write {
-            file,
-            offset,
-            bytes,
-        } => writing(site, file, offset, bytes, state),
+        Op::Readv { offset, total, .. } => reading(lookup.file(), offset, total, state),
+        Op::Writev { offset, bytes, .. } => writing(lookup.file(), offset, bytes, state),
         Op::Fsync { file } => syncing(site, file, state),
-        Op::ReadFixed { file, offset, span } => reading_fixed(site, file, offset, span, state),
-        Op::WriteFixed { file, offset, span } => writing_fixed(site, file, offset, span, state),
+        Op::ReadFixed { offset, span, .. } => {
+            reading_fixed(site, lookup.file(), offset, span, state)
+        }
+        Op::WriteFixed { offset, span, .. } => {
+            writing_fixed(site, lookup.file(), offset, span, state)
+        }
         Op::Fallocate {
-            file,
-            offset,
-            size,
-            mode,
-        } => allocating(site, file, AllocationRequest { offset, size, mode }, state),
-        Op::Openat { path, flags, slot } => find_opening(site, path, flags, slot, state),
+            offset, size, mode, ..
+        } => allocating(lookup.file(), AllocationRequest { offset, size, mode }),
+        Op::Openat { flags, slot, .. } => find_opening(site, lookup.place(), flags, slot, state),
         Op::Close { file } => closing(site, file, state),
-        Op::Read {
-            file,
-            offset,
-            total,
-        } => reading(site, file, offset, u64::from(total), state),
-        Op::Renameat { old, new, flags } => changing(renaming(old, new, flags, state)),
+        Op::Read { offset, total, .. } => reading(lookup.file(), offset, u64::from(total), state),
+        Op::Write { offset, bytes, .. } => writing(lookup.file(), offset, bytes, state),
+        Op::Renameat { old, new, flags } => changing(renaming(
+            old,
+            new,
+            lookup.place(),
+            lookup.new_place(),
+            flags,
+            state,
+        )),
         Op::Unlinkat {
-            path,
-            removes_directory,
-        } => changing(unlinking(path, removes_directory, state)),
-        Op::Mkdirat { path } => making(site, path, state),
-        Op::Linkat { old, new } => changing(linking(old, new, state)),
-        Op::Ftruncate { file, size } => resizing(site, file, size, state),
+            removes_directory, ..
+        } => changing(unlinking(lookup.place(), removes_directory, state)),
+        Op::Mkdirat { .. } => making(lookup.place()),
+        Op::Linkat { .. } => changing(linking(lookup.place(), lookup.new_place(), state)),
+        Op::Ftruncate { size, .. } => resizing(lookup.file(), size),
     }
 }
 
@@ -115,18 +115,19 @@ pub(crate) fn run_operation(
         (meaning site.entry.trace.now site.entry.place site.entry.ring state.old
         (meant op.entry))) }
 {
-    match decide(site, op, state) {
+    match decide(site, op, Lookup::of(site, op, state), state) {
         Ok(decision) => Ok(Ok(carry_out(alloc, site, decision, state)?)),
         Err(error) => Ok(Err(error)),
     }
 }
 
-/// Whether the world accepts an operation of a ring: whether it is done without an error. It takes
-/// no memory.
-pub fn accepts(trace: &Trace, place: u32, ring: u8, op: Op<'_>, state: &State) -> bool
-    requires { IsSpelled trace.now }
-    ensures { result ≡ is_ok (meaning trace.now place ring state.now (meant op.entry)) }
+/// Whether the world accepts an operation where an entry stands, by what its file number or its
+/// paths lead to: whether it is done without an error. It takes no memory.
+pub fn accepts<'a>(site: Site<'_>, op: Op<'a>, lookup: Lookup<'a>, state: &State) -> bool
+    requires spelled { IsSpelled site.trace.now }
+    requires lookup { Finds site.trace.now site.ring state.now (shape (meant op)) lookup }
+    ensures { result ≡ is_ok (meaning site.entry.trace.now site.entry.place site.entry.ring
+        state.now (meant op.entry)) }
 {
-    let site = Site { trace, place, ring };
-    decide(site, op, state).is_ok()
+    decide(site, op, lookup, state).is_ok()
 }

@@ -1,15 +1,16 @@
 //! Reads and writes: what they do, or why the world refuses them.
-ghost use Rattle.std.specs.Prelude.{◌≡◌, ◌+◌, ◌^◌, ◌<◌, ◌≤◌, IfOk, Ok};
+ghost use Rattle.std.specs.Prelude.{◌≡◌, ℕ, ◌+◌, ◌^◌, ◌<◌, ◌≤◌, IfOk, Ok};
 ghost use Rattle.std.specs.Prelude.{drop, length, min, take, unwrap_or, []};
-ghost use Rattle.entry_checks.specs.Meant.{file_meant, span_meant};
+ghost use Rattle.entry_checks.specs.Meant.{span_meant};
 ghost use Rattle.entry_checks.specs.Operation.{file_limit};
 ghost use Rattle.op_meaning.specs.Deciding.{buffer_written_if_any, Decides, DecidesReads};
 ghost use Rattle.op_meaning.specs.Deciding.{DecidesFixedReads, DecidesWrites};
 ghost use Rattle.op_meaning.specs.Decision.{effect_of, IsWithinLimits};
-ghost use Rattle.op_meaning.specs.Handles.{handle_meant};
+ghost use Rattle.op_meaning.specs.Handles.{handle_meant, opened_meant};
 ghost use Rattle.op_meaning.specs.Meaning.{read_fixed_meaning, readv_meaning};
 ghost use Rattle.op_meaning.specs.Meaning.{write_fixed_meaning, write_meaning, write_start};
 ghost use Rattle.trace_format.specs.Sides.{most_moved};
+ghost use Rattle.trace_format.specs.declared.trace.Trace.{Trace};
 ghost use Rattle.world_parts.specs.World as world;
 
 use crate::decision::Decision;
@@ -18,22 +19,20 @@ use crate::handles::{
 };
 use crate::limits::{LARGEST, MOST_MOVED};
 use crate::site::Site;
-use entry_checks::{BufferSpan, FileNumber};
+use entry_checks::BufferSpan;
 use sqe_codec::Errno;
 use trace_format::Trace;
 use world_parts::State;
 
 /// The open file that a read at an offset is from, or why it is refused.
 pub(crate) fn readable_at(
-    trace: &Trace,
-    ring: u8,
-    file: FileNumber,
+    opened: Option<OpenFile>,
     offset: u64,
     state: &State,
 ) -> Result<OpenFile, Errno>
-    ensures { DecidesReads trace.now state.now ring (file_meant file) offset result }
+    ensures { DecidesReads state.now (opened_meant state.now opened) offset result }
 {
-    let file = readable(trace, ring, file, state)?;
+    let file = readable(opened, state)?;
     if is_bad_offset(offset) {
         return Err(Errno::EINVAL);
     }
@@ -45,15 +44,15 @@ pub(crate) fn readable_at(
 pub(crate) fn readable_into(
     trace: &Trace,
     ring: u8,
-    file: FileNumber,
+    opened: Option<OpenFile>,
     offset: u64,
     span: BufferSpan,
     state: &State,
 ) -> Result<(OpenFile, u64), Errno>
-    ensures { DecidesFixedReads trace.now state.now ring (file_meant file) offset
+    ensures { DecidesFixedReads trace.now state.now ring (opened_meant state.now opened) offset
         (span_meant span) result }
 {
-    let file = readable(trace, ring, file, state)?;
+    let file = readable(opened, state)?;
     let at = span_start(trace, ring, span).ok_or(Errno::EFAULT)?;
     if is_bad_offset(offset) {
         return Err(Errno::EINVAL);
@@ -75,19 +74,17 @@ pub(crate) struct FileRead {
 ///
 /// That of the first test that fails: EBADF, EISDIR, EINVAL.
 pub(crate) fn reading<'a>(
-    site: Site<'_>,
-    file: FileNumber,
+    opened: Option<OpenFile>,
     offset: u64,
     total: u64,
     state: &State,
 ) -> Result<Decision<'a>, Errno>
-    ensures meaning { Decides
-        (readv_meaning site.entry.trace.now state.now site.entry.ring (file_meant file)
-        offset total)
-        (effect_of site.entry.trace.now site.entry.place site.entry.ring state.now) result }
-    ensures limits { IfOk result (IsWithinLimits state.now site.entry.ring) }
+    ensures meaning { (t : Trace) (k r : ℕ) → Decides
+        (readv_meaning state.now r (opened_meant state.now opened) offset total)
+        (effect_of t k r state.now) result }
+    ensures limits { (r : ℕ) → IfOk result (IsWithinLimits state.now r) }
 {
-    let file = readable_at(site.trace, site.ring, file, offset, state)?;
+    let file = readable_at(opened, offset, state)?;
     let count = total.min(u64::from(MOST_MOVED)) as u32;
     if count == 0 {
         return Ok(Decision::Nothing);
@@ -116,18 +113,18 @@ pub(crate) struct BufferRead {
 /// That of the first test that fails: EBADF, EISDIR, EFAULT, EINVAL.
 pub(crate) fn reading_fixed<'a>(
     site: Site<'_>,
-    file: FileNumber,
+    opened: Option<OpenFile>,
     offset: u64,
     span: BufferSpan,
     state: &State,
 ) -> Result<Decision<'a>, Errno>
     ensures meaning { Decides
-        (read_fixed_meaning site.entry.trace.now state.now site.entry.ring (file_meant file)
-        offset (span_meant span))
+        (read_fixed_meaning site.entry.trace.now state.now site.entry.ring
+        (opened_meant state.now opened) offset (span_meant span))
         (effect_of site.entry.trace.now site.entry.place site.entry.ring state.now) result }
     ensures limits { IfOk result (IsWithinLimits state.now site.entry.ring) }
 {
-    let (file, at) = readable_into(site.trace, site.ring, file, offset, span, state)?;
+    let (file, at) = readable_into(site.trace, site.ring, opened, offset, span, state)?;
     let count = span.length.min(MOST_MOVED);
     if count == 0 {
         return Ok(Decision::Nothing);
@@ -154,17 +151,15 @@ fn write_start(file: &OpenFile, offset: u64, state: &State) -> u64
 
 /// The open file that a write of so many bytes is to, and where it starts, or why it is refused.
 pub(crate) fn writable_at(
-    trace: &Trace,
-    ring: u8,
-    file: FileNumber,
+    opened: Option<OpenFile>,
     offset: u64,
     count: usize,
     state: &State,
 ) -> Result<(OpenFile, u64), Errno>
-    ensures meaning { DecidesWrites trace.now state.now ring (file_meant file) offset count result }
+    ensures meaning { DecidesWrites state.now (opened_meant state.now opened) offset count result }
     ensures place { IfOk result (λ x. 0 < count → x.1 < file_limit) }
 {
-    let file = writable(trace, ring, file, state)?;
+    let file = writable(opened)?;
     if is_bad_offset(offset) {
         return Err(Errno::EINVAL);
     }
@@ -191,20 +186,18 @@ pub(crate) struct FileWrite<'a> {
 ///
 /// That of the first test that fails: EBADF, EINVAL, EFBIG.
 pub(crate) fn writing<'a>(
-    site: Site<'_>,
-    file: FileNumber,
+    opened: Option<OpenFile>,
     offset: u64,
     bytes: &'a [u8],
     state: &State,
 ) -> Result<Decision<'a>, Errno>
-    ensures meaning { Decides
-        (write_meaning site.entry.trace.now state.now site.entry.ring (file_meant file) offset
-        (Ok bytes.now))
-        (effect_of site.entry.trace.now site.entry.place site.entry.ring state.now) result }
-    ensures limits { length bytes.now ≤ most_moved
-        → IfOk result (IsWithinLimits state.now site.entry.ring) }
+    ensures meaning { (t : Trace) (k r : ℕ) → Decides
+        (write_meaning state.now (opened_meant state.now opened) offset (Ok bytes.now))
+        (effect_of t k r state.now) result }
+    ensures limits { (r : ℕ) → length bytes.now ≤ most_moved
+        → IfOk result (IsWithinLimits state.now r) }
 {
-    let (file, start) = writable_at(site.trace, site.ring, file, offset, bytes.len(), state)?;
+    let (file, start) = writable_at(opened, offset, bytes.len(), state)?;
     if bytes.is_empty() {
         return Ok(Decision::Nothing);
     }
@@ -246,20 +239,21 @@ pub(crate) struct BufferWrite {
 fn writable_from(
     trace: &Trace,
     ring: u8,
-    file: FileNumber,
+    opened: Option<OpenFile>,
     offset: u64,
     span: BufferSpan,
     state: &State,
 ) -> Result<BufferWrite, Errno>
     ensures meaning { Decides
-        (write_fixed_meaning trace.now state.now ring (file_meant file) offset (span_meant span))
+        (write_fixed_meaning trace.now state.now ring (opened_meant state.now opened) offset
+        (span_meant span))
         (buffer_written_if_any state.now ring) result }
     ensures inside { IfOk result (λ w. 0 < w.count
         → w.at + w.count ≤ length (unwrap_or (world.buffer state.now ring w.index) [])) }
     ensures fits { IfOk result (λ w. 0 < w.count → w.start + w.count ≤ file_limit) }
     ensures most { IfOk result (λ w. (w.at < 2 ^ 32) × (w.count ≤ most_moved)) }
 {
-    let file = writable(trace, ring, file, state)?;
+    let file = writable(opened)?;
     let at = span_start(trace, ring, span).ok_or(Errno::EFAULT)?;
     if is_bad_offset(offset) {
         return Err(Errno::EINVAL);
@@ -286,18 +280,18 @@ fn writable_from(
 /// That of the first test that fails: EBADF, EFAULT, EINVAL, EFBIG.
 pub(crate) fn writing_fixed<'a>(
     site: Site<'_>,
-    file: FileNumber,
+    opened: Option<OpenFile>,
     offset: u64,
     span: BufferSpan,
     state: &State,
 ) -> Result<Decision<'a>, Errno>
     ensures meaning { Decides
-        (write_fixed_meaning site.entry.trace.now state.now site.entry.ring (file_meant file)
-        offset (span_meant span))
+        (write_fixed_meaning site.entry.trace.now state.now site.entry.ring
+        (opened_meant state.now opened) offset (span_meant span))
         (effect_of site.entry.trace.now site.entry.place site.entry.ring state.now) result }
     ensures limits { IfOk result (IsWithinLimits state.now site.entry.ring) }
 {
-    let write = writable_from(site.trace, site.ring, file, offset, span, state)?;
+    let write = writable_from(site.trace, site.ring, opened, offset, span, state)?;
     if write.count == 0 {
         return Ok(Decision::Nothing);
     }

@@ -1,8 +1,6 @@
 use Rattle.std.proofs.Common.{◌≡◌, ◌++◌}
-use Rattle.std.specs.Option.{option_map}
-use Rattle.std.specs.Result.{result_ok}
 use Rattle.entry_checks.specs.Meant.{path_meant}
-use Rattle.file_tree.specs.Found.{place_meant}
+use Rattle.file_tree.specs.Found.{walk_meant}
 use Rattle.file_tree.specs.Steps.{steps_left}
 use Rattle.file_tree.specs.Walk.{walk}
 use Rattle.foot_print.proofs.Walking.{leads, names_read}
@@ -16,5 +14,5 @@ invariant-loop-step l = record {
   finite : (goal.iterator-loop-step).is_finite l.step-iterator;
   same : l.step-iterator.tree.now ≡ l.state.nodes;
   names : l.footprint ++ names_read (steps_left l.step-iterator) ≡ l.fn.footprint ++ path_reads l.state (path_meant l.path);
-  place : leads (option_map (place_meant l.state.nodes) l.found) (steps_left l.step-iterator) ≡ result_ok (walk l.state.nodes (path_meant l.path));
+  place : leads (walk_meant l.state.nodes l.found) (steps_left l.step-iterator) ≡ walk l.state.nodes (path_meant l.path);
 }

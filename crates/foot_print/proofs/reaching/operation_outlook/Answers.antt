@@ -3,7 +3,7 @@ use Rattle.entry_checks.specs.Meant.{meant}
 use Rattle.foot_print.specs.Reach.{shape_seen}
 use Rattle.foot_print.specs.Shapes.{shape_meant}
 use Rattle.foot_print.proofs.Outlooks as outlooks
-use Rattle.foot_print.proofs.Resolving.{row_completed}
+use Rattle.foot_print.proofs.Completing.{row_completed}
 use Rattle.item_index.specs.Ahead.{written_before}
 use Rattle.op_meaning.specs.Footprint.{order_uses}
 use Rattle.foot_print.proofs.reaching.operation_outlook.Goals as goal
@@ -13,8 +13,8 @@ returns-in-Some-clause-reach c =
     let a = c.args in
     let order = order_uses a.site.ring a.role_there.now in
     let shape = shape_meant c.shape_of-shape.result in
-    let looked = c.in_ok-resolved.ensures.seen ∙ ap (λ f. f ++ shape_seen a.site.trace.now a.site.ring a.state.now shape) c.new-deciding.ensures in
-    outlooks.undecided_reach order a.site.trace.now a.site.place a.site.ring a.state.now (written_before a.behind.now) (meant a.op) shape c.shape_of-shape.ensures c.resolve.new.footprint looked
+    let looked = c.in_ok-lookup.ensures.seen ∙ ap (λ f. f ++ shape_seen a.site.trace.now a.site.ring a.state.now shape) c.new-deciding.ensures in
+    outlooks.undecided_reach order a.site.trace.now a.site.place a.site.ring a.state.now (written_before a.behind.now) (meant a.op) shape c.shape_of-shape.ensures c.shape_seen.new.footprint looked
     c.in-Some.known c.in_ok-unresolved_reach.field-0 (sym c.first_met.ensures.first ∙ c.in-Some.is) c.in_ok-unresolved_reach.ensures
 
 pub returns-in-Some-clause-awaits : goal.returns-in-Some-clause-awaits
@@ -22,8 +22,8 @@ returns-in-Some-clause-awaits c =
     let a = c.args in
     let order = order_uses a.site.ring a.role_there.now in
     let shape = shape_meant c.shape_of-shape.result in
-    let looked = c.in_ok-resolved.ensures.seen ∙ ap (λ f. f ++ shape_seen a.site.trace.now a.site.ring a.state.now shape) c.new-deciding.ensures in
-    outlooks.undecided_awaits order a.site.trace.now a.site.place a.site.ring a.state.now (written_before a.behind.now) (meant a.op) shape c.shape_of-shape.ensures c.resolve.new.footprint looked
+    let looked = c.in_ok-lookup.ensures.seen ∙ ap (λ f. f ++ shape_seen a.site.trace.now a.site.ring a.state.now shape) c.new-deciding.ensures in
+    outlooks.undecided_awaits order a.site.trace.now a.site.place a.site.ring a.state.now (written_before a.behind.now) (meant a.op) shape c.shape_of-shape.ensures c.shape_seen.new.footprint looked
     c.in-Some.known c.in_ok-unresolved_reach.field-0 c.truncate.new.self c.takes_lowest.result (sym c.first_met.ensures.first ∙ c.in-Some.is) c.truncate.ensures c.takes_lowest.ensures
 
 pub returns-clause-reach : goal.returns-clause-reach
@@ -31,10 +31,10 @@ returns-clause-reach c =
     let a = c.args in
     let order = order_uses a.site.ring a.role_there.now in
     let shape = shape_meant c.shape_of-shape.result in
-    let looked = c.in_ok-resolved.ensures.seen ∙ ap (λ f. f ++ shape_seen a.site.trace.now a.site.ring a.state.now shape) c.new-deciding.ensures in
-    let behind = row_completed a.site.trace.now a.site.place a.site.ring a.state.now (meant a.op) shape c.resolve.new.footprint c.in_ok-resolved.resolved c.shape_of-shape.ensures looked c.in_ok-resolved.ensures.rest in
+    let looked = c.in_ok-lookup.ensures.seen ∙ ap (λ f. f ++ shape_seen a.site.trace.now a.site.ring a.state.now shape) c.new-deciding.ensures in
+    let behind = row_completed a.site.trace.now a.site.place a.site.ring a.state.now (meant a.op) shape c.shape_seen.new.footprint c.in_ok-lookup.lookup c.shape_of-shape.ensures looked c.in_ok-lookup.ensures.found in
     let own = c.in_ok-row.ensures ∙ ap (λ f. order ++ f) behind in
-    outlooks.decided_reach order a.site.trace.now a.site.place a.site.ring a.state.now (written_before a.behind.now) (meant a.op) shape c.shape_of-shape.ensures c.resolve.new.footprint looked
+    outlooks.decided_reach order a.site.trace.now a.site.place a.site.ring a.state.now (written_before a.behind.now) (meant a.op) shape c.shape_of-shape.ensures c.shape_seen.new.footprint looked
     c.in_ok-row.row (sym c.first_met.ensures.first ∙ c.in_default.is) own c.decided_outlook.result c.decided_outlook.ensures.reach
 
 pub returns-clause-awaits : goal.returns-clause-awaits
@@ -42,8 +42,8 @@ returns-clause-awaits c =
     let a = c.args in
     let order = order_uses a.site.ring a.role_there.now in
     let shape = shape_meant c.shape_of-shape.result in
-    let looked = c.in_ok-resolved.ensures.seen ∙ ap (λ f. f ++ shape_seen a.site.trace.now a.site.ring a.state.now shape) c.new-deciding.ensures in
-    let behind = row_completed a.site.trace.now a.site.place a.site.ring a.state.now (meant a.op) shape c.resolve.new.footprint c.in_ok-resolved.resolved c.shape_of-shape.ensures looked c.in_ok-resolved.ensures.rest in
+    let looked = c.in_ok-lookup.ensures.seen ∙ ap (λ f. f ++ shape_seen a.site.trace.now a.site.ring a.state.now shape) c.new-deciding.ensures in
+    let behind = row_completed a.site.trace.now a.site.place a.site.ring a.state.now (meant a.op) shape c.shape_seen.new.footprint c.in_ok-lookup.lookup c.shape_of-shape.ensures looked c.in_ok-lookup.ensures.found in
     let own = c.in_ok-row.ensures ∙ ap (λ f. order ++ f) behind in
-    outlooks.decided_awaits order a.site.trace.now a.site.place a.site.ring a.state.now (written_before a.behind.now) (meant a.op) shape c.shape_of-shape.ensures c.resolve.new.footprint looked
+    outlooks.decided_awaits order a.site.trace.now a.site.place a.site.ring a.state.now (written_before a.behind.now) (meant a.op) shape c.shape_of-shape.ensures c.shape_seen.new.footprint looked
     c.in_ok-row.row (sym c.first_met.ensures.first ∙ c.in_default.is) own c.decided_outlook.result c.decided_outlook.ensures.awaited c.decided_outlook.ensures.lowest

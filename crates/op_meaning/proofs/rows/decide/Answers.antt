@@ -1,79 +1,191 @@
+use Rattle.std.proofs.Common.{Ok, subst, ap, ◌∙◌}
+use Rattle.entry_checks.specs.Meant.{flags_meant, meant, path_meant, span_meant}
+use Rattle.file_tree.specs.Found.{walk_meant}
+use Rattle.op_meaning.specs.Decision.{effect_of}
+use Rattle.op_meaning.specs.Footprint.{shape}
+use Rattle.op_meaning.specs.Handles.{opened_meant}
+use Rattle.op_meaning.specs.Lookups.{Finds}
+use Rattle.op_meaning.specs.Meaning.{fallocate_meaning, ftruncate_meaning, linkat_meaning, mkdirat_meaning, openat_meaning, read_fixed_meaning, readv_meaning, renameat_meaning, unlinkat_meaning, write_fixed_meaning, write_meaning}
+use Rattle.op_meaning.proofs.Decided.{both, found_same}
 use Rattle.op_meaning.proofs.rows.decide.Goals as goal
+
+pub returns-in-Readv-clause-meaning : goal.returns-in-Readv-clause-meaning
+returns-in-Readv-clause-meaning c =
+    let t = c.args.site.trace.now in
+    let k = c.args.site.place in
+    let r = c.args.site.ring in
+    let s = c.args.state.now in
+    let i = c.in-Readv in
+    let finds = subst (λ o. Finds t r s (shape (meant o)) c.args.lookup) i.is c.requires.lookup in
+    rw (i.is) (found_same (λ h. readv_meaning s r h i.offset i.total) _ _ (effect_of t k r s) c.reading.result (ap (opened_meant s) c.file.ensures ∙ finds) (c.reading.ensures.meaning t k r))
+
+pub returns-in-Readv-clause-limits : goal.returns-in-Readv-clause-limits
+returns-in-Readv-clause-limits c = λ _. c.reading.ensures.limits c.args.site.ring
+
+pub returns-in-ReadFixed-clause-meaning : goal.returns-in-ReadFixed-clause-meaning
+returns-in-ReadFixed-clause-meaning c =
+    let t = c.args.site.trace.now in
+    let k = c.args.site.place in
+    let r = c.args.site.ring in
+    let s = c.args.state.now in
+    let i = c.in-ReadFixed in
+    let finds = subst (λ o. Finds t r s (shape (meant o)) c.args.lookup) i.is c.requires.lookup in
+    rw (i.is) (found_same (λ h. read_fixed_meaning t s r h i.offset (span_meant i.span)) _ _ (effect_of t k r s) c.reading_fixed.result (ap (opened_meant s) c.file-in-ReadFixed.ensures ∙ finds) (c.reading_fixed.ensures.meaning))
+
+pub returns-in-ReadFixed-clause-limits : goal.returns-in-ReadFixed-clause-limits
+returns-in-ReadFixed-clause-limits c = λ _. c.reading_fixed.ensures.limits
+
+pub returns-in-WriteFixed-clause-meaning : goal.returns-in-WriteFixed-clause-meaning
+returns-in-WriteFixed-clause-meaning c =
+    let t = c.args.site.trace.now in
+    let k = c.args.site.place in
+    let r = c.args.site.ring in
+    let s = c.args.state.now in
+    let i = c.in-WriteFixed in
+    let finds = subst (λ o. Finds t r s (shape (meant o)) c.args.lookup) i.is c.requires.lookup in
+    rw (i.is) (found_same (λ h. write_fixed_meaning t s r h i.offset (span_meant i.span)) _ _ (effect_of t k r s) c.writing_fixed.result (ap (opened_meant s) c.file-in-WriteFixed.ensures ∙ finds) (c.writing_fixed.ensures.meaning))
+
+pub returns-in-WriteFixed-clause-limits : goal.returns-in-WriteFixed-clause-limits
+returns-in-WriteFixed-clause-limits c = λ _. c.writing_fixed.ensures.limits
+
+pub returns-in-Fallocate-clause-meaning : goal.returns-in-Fallocate-clause-meaning
+returns-in-Fallocate-clause-meaning c =
+    let t = c.args.site.trace.now in
+    let k = c.args.site.place in
+    let r = c.args.site.ring in
+    let s = c.args.state.now in
+    let i = c.in-Fallocate in
+    let finds = subst (λ o. Finds t r s (shape (meant o)) c.args.lookup) i.is c.requires.lookup in
+    rw (i.is) (found_same (λ h. fallocate_meaning s h i.offset i.size i.mode) _ _ (effect_of t k r s) c.allocating.result (ap (opened_meant s) c.file-in-Fallocate.ensures ∙ finds) (c.allocating.ensures.meaning t k r s))
+
+pub returns-in-Fallocate-clause-limits : goal.returns-in-Fallocate-clause-limits
+returns-in-Fallocate-clause-limits c = λ _. c.allocating.ensures.limits c.args.state.now c.args.site.ring
+
+pub returns-in-Read-clause-meaning : goal.returns-in-Read-clause-meaning
+returns-in-Read-clause-meaning c =
+    let t = c.args.site.trace.now in
+    let k = c.args.site.place in
+    let r = c.args.site.ring in
+    let s = c.args.state.now in
+    let i = c.in-Read in
+    let finds = subst (λ o. Finds t r s (shape (meant o)) c.args.lookup) i.is c.requires.lookup in
+    rw (i.is, ← c.from.ensures) (found_same (λ h. readv_meaning s r h i.offset c.from.result) _ _ (effect_of t k r s) c.reading-in-Read.result (ap (opened_meant s) c.file-in-Read.ensures ∙ finds) (c.reading-in-Read.ensures.meaning t k r))
+
+pub returns-in-Read-clause-limits : goal.returns-in-Read-clause-limits
+returns-in-Read-clause-limits c = λ _. c.reading-in-Read.ensures.limits c.args.site.ring
+
+pub returns-in-Ftruncate-clause-meaning : goal.returns-in-Ftruncate-clause-meaning
+returns-in-Ftruncate-clause-meaning c =
+    let t = c.args.site.trace.now in
+    let k = c.args.site.place in
+    let r = c.args.site.ring in
+    let s = c.args.state.now in
+    let i = c.in-Ftruncate in
+    let finds = subst (λ o. Finds t r s (shape (meant o)) c.args.lookup) i.is c.requires.lookup in
+    rw (i.is) (found_same (λ h. ftruncate_meaning h i.size) _ _ (effect_of t k r s) c.resizing.result (ap (opened_meant s) c.file-in-Ftruncate.ensures ∙ finds) (c.resizing.ensures.meaning t k r s))
+
+pub returns-in-Ftruncate-clause-limits : goal.returns-in-Ftruncate-clause-limits
+returns-in-Ftruncate-clause-limits c = λ _. c.resizing.ensures.limits c.args.state.now c.args.site.ring
 
 pub returns-in-Fsync-clause-meaning : goal.returns-in-Fsync-clause-meaning
 returns-in-Fsync-clause-meaning c = rw c.in-Fsync.is c.syncing.ensures.meaning
 
 pub returns-in-Fsync-clause-limits : goal.returns-in-Fsync-clause-limits
-returns-in-Fsync-clause-limits c _ = c.syncing.ensures.limits
-
-pub returns-in-Readv-clause-meaning : goal.returns-in-Readv-clause-meaning
-returns-in-Readv-clause-meaning c = rw c.in-Readv.is c.reading.ensures.meaning
-
-pub returns-in-Readv-clause-limits : goal.returns-in-Readv-clause-limits
-returns-in-Readv-clause-limits c _ = c.reading.ensures.limits
-
-pub returns-in-ReadFixed-clause-meaning : goal.returns-in-ReadFixed-clause-meaning
-returns-in-ReadFixed-clause-meaning c = rw c.in-ReadFixed.is c.reading_fixed.ensures.meaning
-
-pub returns-in-ReadFixed-clause-limits : goal.returns-in-ReadFixed-clause-limits
-returns-in-ReadFixed-clause-limits c _ = c.reading_fixed.ensures.limits
-
-pub returns-in-WriteFixed-clause-meaning : goal.returns-in-WriteFixed-clause-meaning
-returns-in-WriteFixed-clause-meaning c = rw c.in-WriteFixed.is c.writing_fixed.ensures.meaning
-
-pub returns-in-WriteFixed-clause-limits : goal.returns-in-WriteFixed-clause-limits
-returns-in-WriteFixed-clause-limits c _ = c.writing_fixed.ensures.limits
-
-pub returns-in-Fallocate-clause-meaning : goal.returns-in-Fallocate-clause-meaning
-returns-in-Fallocate-clause-meaning c = rw c.in-Fallocate.is c.allocating.ensures.meaning
-
-pub returns-in-Fallocate-clause-limits : goal.returns-in-Fallocate-clause-limits
-returns-in-Fallocate-clause-limits c _ = c.allocating.ensures.limits
-
-pub returns-in-Openat-clause-meaning : goal.returns-in-Openat-clause-meaning
-returns-in-Openat-clause-meaning c = rw c.in-Openat.is c.find_opening.ensures.meaning
-
-pub returns-in-Openat-clause-limits : goal.returns-in-Openat-clause-limits
-returns-in-Openat-clause-limits c _ = c.find_opening.ensures.limits
+returns-in-Fsync-clause-limits c = λ _. c.syncing.ensures.limits
 
 pub returns-in-Close-clause-meaning : goal.returns-in-Close-clause-meaning
 returns-in-Close-clause-meaning c = rw c.in-Close.is c.closing.ensures.meaning
 
 pub returns-in-Close-clause-limits : goal.returns-in-Close-clause-limits
-returns-in-Close-clause-limits c _ = c.closing.ensures.limits
+returns-in-Close-clause-limits c = λ _. c.closing.ensures.limits
 
-pub returns-in-Read-clause-meaning : goal.returns-in-Read-clause-meaning
-returns-in-Read-clause-meaning c = rw (c.in-Read.is, ← c.from.ensures) c.reading-in-Read.ensures.meaning
+pub returns-in-Openat-clause-meaning : goal.returns-in-Openat-clause-meaning
+returns-in-Openat-clause-meaning c =
+    let t = c.args.site.trace.now in
+    let k = c.args.site.place in
+    let r = c.args.site.ring in
+    let s = c.args.state.now in
+    let i = c.in-Openat in
+    let finds = subst (λ o. Finds t r s (shape (meant o)) c.args.lookup) i.is c.requires.lookup in
+    rw i.is (found_same (λ p. openat_meaning t s k r p (flags_meant i.flags) i.slot) _ _ (effect_of t k r s) c.find_opening.result (ap (walk_meant s.nodes) c.place.ensures ∙ finds) (c.find_opening.ensures.meaning))
 
-pub returns-in-Read-clause-limits : goal.returns-in-Read-clause-limits
-returns-in-Read-clause-limits c _ = c.reading-in-Read.ensures.limits
+pub returns-in-Openat-clause-limits : goal.returns-in-Openat-clause-limits
+returns-in-Openat-clause-limits c = λ _. c.find_opening.ensures.limits
 
 pub returns-in-Mkdirat-clause-meaning : goal.returns-in-Mkdirat-clause-meaning
-returns-in-Mkdirat-clause-meaning c = rw c.in-Mkdirat.is c.making.ensures.meaning
+returns-in-Mkdirat-clause-meaning c =
+    let t = c.args.site.trace.now in
+    let k = c.args.site.place in
+    let r = c.args.site.ring in
+    let s = c.args.state.now in
+    let i = c.in-Mkdirat in
+    let finds = subst (λ o. Finds t r s (shape (meant o)) c.args.lookup) i.is c.requires.lookup in
+    rw i.is (found_same (λ p. mkdirat_meaning t k p) _ _ (effect_of t k r s) c.making.result (ap (walk_meant s.nodes) c.place-in-Mkdirat.ensures ∙ finds) (c.making.ensures.meaning t k r s))
 
 pub returns-in-Mkdirat-clause-limits : goal.returns-in-Mkdirat-clause-limits
-returns-in-Mkdirat-clause-limits c _ = c.making.ensures.limits
-
-pub returns-in-Ftruncate-clause-meaning : goal.returns-in-Ftruncate-clause-meaning
-returns-in-Ftruncate-clause-meaning c = rw c.in-Ftruncate.is c.resizing.ensures.meaning
-
-pub returns-in-Ftruncate-clause-limits : goal.returns-in-Ftruncate-clause-limits
-returns-in-Ftruncate-clause-limits c _ = c.resizing.ensures.limits
-
-pub returns-in-Renameat-clause-meaning : goal.returns-in-Renameat-clause-meaning
-returns-in-Renameat-clause-meaning c = rw (c.in-Renameat.is, ← c.renaming.ensures) (c.changing.ensures.meaning c.args.site.trace.now c.args.site.place c.args.site.ring c.args.state.now)
-
-pub returns-in-Renameat-clause-limits : goal.returns-in-Renameat-clause-limits
-returns-in-Renameat-clause-limits c _ = c.changing.ensures.limits c.args.state.now c.args.site.ring
+returns-in-Mkdirat-clause-limits c = λ _. c.making.ensures.limits c.args.state.now c.args.site.ring
 
 pub returns-in-Unlinkat-clause-meaning : goal.returns-in-Unlinkat-clause-meaning
-returns-in-Unlinkat-clause-meaning c = rw (c.in-Unlinkat.is, ← c.unlinking.ensures) (c.changing-in-Unlinkat.ensures.meaning c.args.site.trace.now c.args.site.place c.args.site.ring c.args.state.now)
+returns-in-Unlinkat-clause-meaning c =
+    let t = c.args.site.trace.now in
+    let k = c.args.site.place in
+    let r = c.args.site.ring in
+    let s = c.args.state.now in
+    let i = c.in-Unlinkat in
+    let finds = subst (λ o. Finds t r s (shape (meant o)) c.args.lookup) i.is c.requires.lookup in
+    rw i.is (found_same (λ x. x) _ _ (effect_of t k r s) c.changing-in-Unlinkat.result (c.unlinking.ensures ∙ ap (λ p. unlinkat_meaning s p i.removes_directory) (ap (walk_meant s.nodes) c.place-in-Unlinkat.ensures ∙ finds)) (c.changing-in-Unlinkat.ensures.meaning t k r s))
 
 pub returns-in-Unlinkat-clause-limits : goal.returns-in-Unlinkat-clause-limits
-returns-in-Unlinkat-clause-limits c _ = c.changing-in-Unlinkat.ensures.limits c.args.state.now c.args.site.ring
+returns-in-Unlinkat-clause-limits c = λ _. c.changing-in-Unlinkat.ensures.limits c.args.state.now c.args.site.ring
 
 pub returns-in-Linkat-clause-meaning : goal.returns-in-Linkat-clause-meaning
-returns-in-Linkat-clause-meaning c = rw (c.in-Linkat.is, ← c.linking.ensures) (c.changing-in-Linkat.ensures.meaning c.args.site.trace.now c.args.site.place c.args.site.ring c.args.state.now)
+returns-in-Linkat-clause-meaning c =
+    let t = c.args.site.trace.now in
+    let k = c.args.site.place in
+    let r = c.args.site.ring in
+    let s = c.args.state.now in
+    let i = c.in-Linkat in
+    let finds = subst (λ o. Finds t r s (shape (meant o)) c.args.lookup) i.is c.requires.lookup in
+    rw i.is (found_same (λ x. x) _ _ (effect_of t k r s) c.changing-in-Linkat.result (c.linking.ensures ∙ both linkat_meaning (ap (walk_meant s.nodes) c.place-in-Linkat.ensures ∙ finds.0) (ap (walk_meant s.nodes) c.new_place-in-Linkat.ensures ∙ finds.1)) (c.changing-in-Linkat.ensures.meaning t k r s))
 
 pub returns-in-Linkat-clause-limits : goal.returns-in-Linkat-clause-limits
-returns-in-Linkat-clause-limits c _ = c.changing-in-Linkat.ensures.limits c.args.state.now c.args.site.ring
+returns-in-Linkat-clause-limits c = λ _. c.changing-in-Linkat.ensures.limits c.args.state.now c.args.site.ring
+
+pub returns-in-Renameat-clause-meaning : goal.returns-in-Renameat-clause-meaning
+returns-in-Renameat-clause-meaning c =
+    let t = c.args.site.trace.now in
+    let k = c.args.site.place in
+    let r = c.args.site.ring in
+    let s = c.args.state.now in
+    let i = c.in-Renameat in
+    let finds = subst (λ o. Finds t r s (shape (meant o)) c.args.lookup) i.is c.requires.lookup in
+    rw i.is (found_same (λ x. x) _ _ (effect_of t k r s) c.changing.result (c.renaming.ensures ∙ both (λ p q. renameat_meaning s (path_meant i.old) (path_meant i.new) p q i.flags) (ap (walk_meant s.nodes) c.place-in-Renameat.ensures ∙ finds.0) (ap (walk_meant s.nodes) c.new_place.ensures ∙ finds.1)) (c.changing.ensures.meaning t k r s))
+
+pub returns-in-Renameat-clause-limits : goal.returns-in-Renameat-clause-limits
+returns-in-Renameat-clause-limits c = λ _. c.changing.ensures.limits c.args.state.now c.args.site.ring
+
+pub returns-in-Writev-clause-meaning : goal.returns-in-Writev-clause-meaning
+returns-in-Writev-clause-meaning c =
+    let t = c.args.site.trace.now in
+    let k = c.args.site.place in
+    let r = c.args.site.ring in
+    let s = c.args.state.now in
+    let i = c.in-Writev in
+    let finds = subst (λ o. Finds t r s (shape (meant o)) c.args.lookup) i.is c.requires.lookup in
+    rw (i.is) (found_same (λ h. write_meaning s h i.offset (Ok i.bytes.now)) _ _ (effect_of t k r s) c.writing.result (ap (opened_meant s) c.file-in-Writev.ensures ∙ finds) (c.writing.ensures.meaning t k r))
+
+pub returns-in-Writev-clause-limits : goal.returns-in-Writev-clause-limits
+returns-in-Writev-clause-limits c = rw c.in-Writev.is (c.writing.ensures.limits c.args.site.ring)
+
+pub returns-in-Write-clause-meaning : goal.returns-in-Write-clause-meaning
+returns-in-Write-clause-meaning c =
+    let t = c.args.site.trace.now in
+    let k = c.args.site.place in
+    let r = c.args.site.ring in
+    let s = c.args.state.now in
+    let i = c.in-Write in
+    let finds = subst (λ o. Finds t r s (shape (meant o)) c.args.lookup) i.is c.requires.lookup in
+    rw (i.is) (found_same (λ h. write_meaning s h i.offset (Ok i.bytes.now)) _ _ (effect_of t k r s) c.writing-in-Write.result (ap (opened_meant s) c.file-in-Write.ensures ∙ finds) (c.writing-in-Write.ensures.meaning t k r))
+
+pub returns-in-Write-clause-limits : goal.returns-in-Write-clause-limits
+returns-in-Write-clause-limits c = rw c.in-Write.is (c.writing-in-Write.ensures.limits c.args.site.ring)

@@ -7,16 +7,18 @@ use Rattle.sqe_codec.specs.declared.errno.Errno.{Errno}
 use Rattle.sqe_codec.specs.Answers.{each, each_ok}
 use Rattle.trace_format.specs.declared.trace.Trace.{Trace}
 use Rattle.entry_checks.specs.Operation.{Operation, File, Path, Span}
-use Rattle.file_tree.specs.Found.{place_meant}
+use Rattle.file_tree.specs.Found.{place_meant, walk_meant}
+use Rattle.file_tree.specs.Tree.{Tree}
 use Rattle.file_tree.specs.Walk.{Place, walk}
 use Rattle.file_tree.specs.declared.walk.Place as code
 use Rattle.foot_print.specs.Reach.{file_seen, shape_seen}
-use Rattle.foot_print.specs.Resolved.{at_place, content_of, moved_of, written_name, rest, row_behind, Completes}
-use Rattle.foot_print.specs.declared.resolved.Resolved.{Resolved}
-use Rattle.op_meaning.specs.Footprint.{Taken, file_reads, of_file, of_description, on_file, position_written, read_content, write_content, through, transfer_row, path_reads, name_written, name_freed, linkat_row, renameat_row, Shape, shape, shape_row, row_in, tried, as_reads}
+use Rattle.foot_print.specs.Rest.{at_place, content_of, moved_of, written_name, rest, row_behind}
+use Rattle.op_meaning.specs.Footprint.{Taken, file_reads, of_file, of_description, on_file, position_written, read_content, write_content, through, transfer_row, path_reads, name_written, name_freed, linkat_row, renameat_row, allocated_content, resized_content, room_uses, room_where, made_where, description_made, opened_at, directory_made, Shape, shape, idle, looking, moving, allocating, resizing, closing, opening, making, freeing, linking, renaming, shape_row, row_in, tried, as_reads}
 use Rattle.op_meaning.specs.Handles.{handle_meant}
+use Rattle.op_meaning.specs.Lookups.{file_found, Finds, new_place_found, place_found}
 use Rattle.op_meaning.specs.Meaning.{handle, handle_of, held, is_file, meaning, Handle}
 use Rattle.op_meaning.specs.declared.handles.OpenFile.{OpenFile}
+use Rattle.op_meaning.specs.declared.lookup.Lookup.{Lookup}
 use Rattle.world_parts.specs.Items.{one, description_at, reads, Footprint}
 use Rattle.world_parts.specs.World.{World}
 
@@ -87,8 +89,30 @@ module _ (s : World) where
       sym (append_assoc (path_reads s old ++ path_reads s new) (each written_name x) (at_place s (name_freed true) y))
       ∙ (λ i. ((path_reads s old ++ path_reads s new) ++ (written_at x ∙ at_end old x from name_written) i) ++ at_end new y to (name_freed true) i)
 
+-- what a walk has come to, as its value in the program says
+came_to : (tree : Tree) (p : Result code.Place Errno) (w : Result Place Errno) → walk_meant tree p ≡ w → option_map (place_meant tree) (result_ok p) ≡ result_ok w
+came_to tree (Ok q) w found = ap result_ok found
+came_to tree (Err e) w found = ap result_ok found
+
+-- behind the uses that decide an operation of a shape, those that are left make its row
+pub completes : (t : Trace) (k r : ℕ) (s : World) (y : Taken) (x : Shape) (found : Lookup) → Finds t r s x found → shape_seen t r s x ++ rest t k r s y x found ≡ shape_row t k r s y x
+completes t k r s y idle x finds = refl
+completes t k r s y (looking f) x finds = refl
+completes t k r s y (moving w f o n span) x finds = transfer_completes t r s f (file_found x) finds y w o n span
+completes t k r s y (allocating f o n mode) x finds = content_completes t r s f (file_found x) finds (allocated_content s y o n mode)
+completes t k r s y (resizing f n) x finds = content_completes t r s f (file_found x) finds (resized_content n)
+completes t k r s y (closing f) x finds = refl
+completes t k r s y (opening p g asked) x finds =
+    opening_completes s p (result_ok (place_found x)) (came_to s.nodes (place_found x) _ finds) (room_where y (room_uses t s r asked)) (made_where y (description_made t k)) (opened_at t k y g)
+completes t k r s y (making p) x finds = ap (λ g. path_reads s p ++ g) (at_end s p (result_ok (place_found x)) (came_to s.nodes (place_found x) _ finds) (directory_made t k y))
+completes t k r s y (freeing p removes) x finds = ap (λ g. path_reads s p ++ g) (at_end s p (result_ok (place_found x)) (came_to s.nodes (place_found x) _ finds) (name_freed removes))
+completes t k r s y (linking old new) x finds = linking_completes s old new (result_ok (new_place_found x)) (came_to s.nodes (new_place_found x) _ finds.1)
+completes t k r s y (renaming old new) x finds =
+    renaming_completes s old new (result_ok (place_found x)) (result_ok (new_place_found x)) (came_to s.nodes (place_found x) _ finds.0) (came_to s.nodes (new_place_found x) _ finds.1)
+
 -- the uses behind those that decide an operation make its row
-pub row_completed : (t : Trace) (k r : ℕ) (s : World) (o : Operation) (x : Shape) (seen : Footprint) (found : Resolved) → x ≡ shape o → seen ≡ shape_seen t r s x → Completes t r s x found → row_behind seen t k r s o found ≡ row_in t k r s o
-row_completed t k r s o x seen found same is completes =
+pub row_completed : (t : Trace) (k r : ℕ) (s : World) (o : Operation) (x : Shape) (seen : Footprint) (found : Lookup) → x ≡ shape o → seen ≡ shape_seen t r s x → Finds t r s x found → row_behind seen t k r s o found ≡ row_in t k r s o
+row_completed t k r s o x seen found same is finds =
     let ok = is_ok (meaning t k r s o) in
-    ap (λ (f : Footprint). if ok then f else as_reads f) (ap (λ f. f ++ rest t k r s (tried ok) found) is ∙ completes k (tried ok) ∙ ap (shape_row t k r s (tried ok)) same)
+    let whole : shape_seen t r s x ++ rest t k r s (tried ok) (shape o) found ≡ shape_row t k r s (tried ok) x = ap (λ z. shape_seen t r s x ++ rest t k r s (tried ok) z found) (sym same) ∙ completes t k r s (tried ok) x found finds in
+    ap (λ (f : Footprint). if ok then f else as_reads f) (ap (λ f. f ++ rest t k r s (tried ok) (shape o) found) is ∙ whole ∙ ap (shape_row t k r s (tried ok)) same)

@@ -1,22 +1,21 @@
--- A view of code: what an operation's file or paths lead to, and its uses beside those that decide them.
-use Rattle.std.specs.Prelude.{◌≡◌, ℕ, Bool, true, false, ◌==◌, [], ◌∷◌, ◌++◌, Option, is_ok, if◌then◌else◌}
+-- A view of code: the uses of an operation beside those that decide them, by what these lead to.
+use Rattle.std.specs.Prelude.{ℕ, Bool, true, false, ◌==◌, [], ◌∷◌, ◌++◌, Option, is_ok, if◌then◌else◌}
 use Rattle.std.specs.Option.{option_map}
+use Rattle.std.specs.Result.{result_ok}
 use Rattle.sqe_codec.specs.Answers.{each}
 use Rattle.trace_format.specs.declared.trace.Trace.{Trace}
-use Rattle.entry_checks.specs.Meant.{file_meant, flags_meant, span_meant}
 use Rattle.entry_checks.specs.Operation.{Operation, OpenFlags, at_position}
 use Rattle.file_tree.specs.Found.{place_meant}
 use Rattle.file_tree.specs.Walk.{Place}
 use Rattle.file_tree.specs.declared.walk.Place as code
-use Rattle.foot_print.specs.Reach.{shape_seen}
 use Rattle.foot_print.specs.declared.attempt.Taken as attempts
 use Rattle.foot_print.specs.declared.attempt.Taken.TheVariants.{Tried, Foreseen}
-use Rattle.foot_print.specs.declared.resolved.Resolved.{Resolved}
-use Rattle.foot_print.specs.declared.resolved.Resolved.TheVariants.{Idle, Looking, Moving, Allocating, Resizing, Closing, Opening, Making, Freeing, Linking, Renaming}
-use Rattle.op_meaning.specs.Footprint.{Taken, tried, foreseen, as_reads, room_where, made_where, file_reads, of_file, position_written, read_content, write_content, allocated_content, resized_content, through, room_uses, description_made, opened_at, directory_made, name_freed, close_row, Shape, shape_row}
+use Rattle.op_meaning.specs.Footprint.{Taken, tried, foreseen, as_reads, room_where, made_where, file_reads, of_file, position_written, read_content, write_content, allocated_content, resized_content, through, room_uses, description_made, opened_at, directory_made, name_freed, close_row, Shape, shape, idle, looking, moving, allocating, resizing, closing, opening, making, freeing, linking, renaming}
 use Rattle.op_meaning.specs.Handles.{handle_meant}
+use Rattle.op_meaning.specs.Lookups.{file_found, new_place_found, place_found}
 use Rattle.op_meaning.specs.Meaning.{meaning, Handle}
 use Rattle.op_meaning.specs.declared.handles.OpenFile.{OpenFile}
+use Rattle.op_meaning.specs.declared.lookup.Lookup.{Lookup}
 use Rattle.world_parts.specs.Items.{one, position_of, name_at, names_in, writes, Footprint}
 use Rattle.world_parts.specs.World.{World}
 
@@ -53,27 +52,23 @@ written_name p = writes (one (name_at p.parent p.name.now)) ∷ writes (one (nam
 abbrev pub opening_rest : Trace → ℕ → ℕ → World → Taken → OpenFlags → Option ℕ → Option code.Place → Footprint
 opening_rest t k r s y g asked p = room_where y (room_uses t s r asked) ++ made_where y (description_made t k) ++ at_place s (opened_at t k y g) p
 
--- the uses of an operation beside those that decide them
-abbrev pub rest : Trace → ℕ → ℕ → World → Taken → Resolved → Footprint
-rest t k r s y Idle = []
-rest t k r s y (Looking f) = file_reads t r (file_meant f)
-rest t k r s y (Moving w x range span) = through w t r (option_map span_meant span) (moved_of s y w range.offset range.count x)
-rest t k r s y (Allocating x range mode) = content_of s (allocated_content s y range.offset range.count mode) x
-rest t k r s y (Resizing x n) = content_of s (resized_content n) x
-rest t k r s y (Closing f) = close_row t r (file_meant f)
-rest t k r s y (Opening p g asked) = opening_rest t k r s y (flags_meant g) asked p
-rest t k r s y (Making p) = at_place s (directory_made t k y) p
-rest t k r s y (Freeing p removes) = at_place s (name_freed removes) p
-rest t k r s y (Linking new) = each written_name new
-rest t k r s y (Renaming old new) = each written_name old ++ at_place s (name_freed true) new
-
--- behind the uses that decide an operation of a shape, those that are left make its row
-abbrev pub Completes : Trace → ℕ → World → Shape → Resolved → Type 0
-Completes t r s x found = (k : ℕ) (y : Taken) → shape_seen t r s x ++ rest t k r s y found ≡ shape_row t k r s y x
+-- the uses of an operation of a shape beside those that decide them, by what was looked up
+abbrev pub rest : Trace → ℕ → ℕ → World → Taken → Shape → Lookup → Footprint
+rest t k r s y idle x = []
+rest t k r s y (looking f) x = file_reads t r f
+rest t k r s y (moving w f o n span) x = through w t r span (moved_of s y w o n (file_found x))
+rest t k r s y (allocating f o n mode) x = content_of s (allocated_content s y o n mode) (file_found x)
+rest t k r s y (resizing f n) x = content_of s (resized_content n) (file_found x)
+rest t k r s y (closing f) x = close_row t r f
+rest t k r s y (opening p g asked) x = opening_rest t k r s y g asked (result_ok (place_found x))
+rest t k r s y (making p) x = at_place s (directory_made t k y) (result_ok (place_found x))
+rest t k r s y (freeing p removes) x = at_place s (name_freed removes) (result_ok (place_found x))
+rest t k r s y (linking old new) x = each written_name (result_ok (new_place_found x))
+rest t k r s y (renaming old new) x = each written_name (result_ok (place_found x)) ++ at_place s (name_freed true) (result_ok (new_place_found x))
 
 -- the uses of an operation in a world, behind those that decide it: where the world refuses it, nothing is made and all is read
-abbrev pub row_behind : Footprint → Trace → ℕ → ℕ → World → Operation → Resolved → Footprint
-row_behind seen t k r s o found =
+abbrev pub row_behind : Footprint → Trace → ℕ → ℕ → World → Operation → Lookup → Footprint
+row_behind seen t k r s o x =
     let ok = is_ok (meaning t k r s o) in
-    let f = seen ++ rest t k r s (tried ok) found in
+    let f = seen ++ rest t k r s (tried ok) (shape o) x in
     if ok then f else as_reads f

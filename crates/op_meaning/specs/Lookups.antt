@@ -1,0 +1,52 @@
+-- A view of code: what the file number or the paths of an operation lead to.
+use Rattle.std.specs.Prelude.{◌≡◌, ℕ, Option, None, Result, Err}
+use Rattle.sqe_codec.specs.declared.errno.Errno.{Errno}
+use Rattle.sqe_codec.specs.declared.errno.Errno.TheVariants.{ENOENT}
+use Rattle.trace_format.specs.declared.trace.Trace.{Trace}
+use Rattle.entry_checks.specs.Operation.{File, Path}
+use Rattle.file_tree.specs.Found.{walk_meant}
+use Rattle.file_tree.specs.Walk.{walk}
+use Rattle.file_tree.specs.declared.walk.Place.{Place}
+use Rattle.world_parts.specs.World.{World}
+use Rattle.op_meaning.specs.Footprint.{Shape, moving, allocating, resizing, opening, making, freeing, linking, renaming}
+use Rattle.op_meaning.specs.Handles.{opened_meant}
+use Rattle.op_meaning.specs.Meaning.{handle}
+use Rattle.op_meaning.specs.declared.handles.OpenFile.{OpenFile}
+use Rattle.op_meaning.specs.declared.lookup.Lookup.{Lookup}
+use Rattle.op_meaning.specs.declared.lookup.Lookup.TheVariants as code
+
+-- the open file that was found, and where the only or old path leads, and the new one; none, and nowhere, where nothing was looked up
+abbrev pub file_found : Lookup → Option OpenFile
+file_found (code.File x) = x
+file_found _ = None
+
+abbrev pub place_found : Lookup → Result Place Errno
+place_found (code.Path p) = p
+place_found (code.Paths p q) = p
+place_found _ = Err ENOENT
+
+abbrev pub new_place_found : Lookup → Result Place Errno
+new_place_found (code.Paths p q) = q
+new_place_found _ = Err ENOENT
+
+-- whether it is what a file number stands for, and what one path or two lead to
+abbrev pub FindsFile : Trace → ℕ → World → File → Lookup → Type 0
+FindsFile t r s f x = opened_meant s (file_found x) ≡ handle t s r f
+
+abbrev pub FindsPlace : World → Path → Lookup → Type 0
+FindsPlace s p x = walk_meant s.nodes (place_found x) ≡ walk s.nodes p
+
+abbrev pub FindsPlaces : World → Path → Path → Lookup → Type 0
+FindsPlaces s old new x = (walk_meant s.nodes (place_found x) ≡ walk s.nodes old) × (walk_meant s.nodes (new_place_found x) ≡ walk s.nodes new)
+
+-- whether it is what an operation of a shape looks up
+abbrev pub Finds : Trace → ℕ → World → Shape → Lookup → Type 0
+Finds t r s (moving w f o n span) x = FindsFile t r s f x
+Finds t r s (allocating f o n mode) x = FindsFile t r s f x
+Finds t r s (resizing f n) x = FindsFile t r s f x
+Finds t r s (opening p g asked) x = FindsPlace s p x
+Finds t r s (making p) x = FindsPlace s p x
+Finds t r s (freeing p removes) x = FindsPlace s p x
+Finds t r s (linking old new) x = FindsPlaces s old new x
+Finds t r s (renaming old new) x = FindsPlaces s old new x
+Finds t r s _ x = Unit {0}
