@@ -55,7 +55,7 @@ pub(crate) fn uses_behind<'a>(
     ensures { IfOk result (λ f. f ≡ row_behind seen site.entry.trace.now site.entry.place
         site.entry.ring state.now (meant op.entry) lookup.entry) }
 {
-    let accepted = accepts(site, op, lookup, state);
+    let accepted = accepts(site, op, &lookup, state);
     let attempt = Attempt {
         site,
         taken: Taken::Tried { accepted },
@@ -119,7 +119,10 @@ fn push_rest(
             }
         }
         Shape::Allocating {
-            offset, size, mode, ..
+            offset,
+            size,
+            mode,
+            ..
         } => {
             let range = FileRange {
                 offset,
@@ -136,7 +139,8 @@ fn push_rest(
         }
         Shape::Making { .. } => made_at(alloc, attempt, lookup.place().ok(), state, footprint),
         Shape::Freeing {
-            removes_directory, ..
+            removes_directory,
+            ..
         } => {
             let found = lookup.place().ok();
             freed_at(alloc, found, removes_directory, state, footprint)

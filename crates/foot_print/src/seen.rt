@@ -4,7 +4,7 @@ ghost use Rattle.entry_checks.specs.Meant.{path_meant};
 ghost use Rattle.foot_print.specs.Reach.{shape_seen};
 ghost use Rattle.foot_print.specs.Shapes.{shape_meant};
 ghost use Rattle.op_meaning.specs.Footprint as rows;
-ghost use Rattle.op_meaning.specs.Lookups.{FindsPlaces, Finds};
+ghost use Rattle.op_meaning.specs.Lookups.{Finds, FindsPlaces};
 
 use crate::file_rows::file_seen;
 use crate::path_rows::names_seen;

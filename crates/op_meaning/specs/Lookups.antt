@@ -1,5 +1,5 @@
 -- A view of code: what the file number or the paths of an operation lead to.
-use Rattle.std.specs.Prelude.{◌≡◌, ℕ, Option, None, Result, Err}
+use Rattle.std.specs.Prelude.{◌≡◌, ◌⊎◌, ℕ, Option, None, Result, Err}
 use Rattle.sqe_codec.specs.declared.errno.Errno.{Errno}
 use Rattle.sqe_codec.specs.declared.errno.Errno.TheVariants.{ENOENT}
 use Rattle.trace_format.specs.declared.trace.Trace.{Trace}
@@ -29,15 +29,18 @@ abbrev pub new_place_found : Lookup → Result Place Errno
 new_place_found (code.Paths p q) = q
 new_place_found _ = Err ENOENT
 
--- whether it is what a file number stands for, and what one path or two lead to
+-- whether it is what a file number stands for, and what a path leads to, the old one of two, and the new one
 abbrev pub FindsFile : Trace → ℕ → World → File → Lookup → Type 0
 FindsFile t r s f x = opened_meant s (file_found x) ≡ handle t s r f
 
 abbrev pub FindsPlace : World → Path → Lookup → Type 0
 FindsPlace s p x = walk_meant s.nodes (place_found x) ≡ walk s.nodes p
 
+abbrev pub FindsNewPlace : World → Path → Lookup → Type 0
+FindsNewPlace s p x = walk_meant s.nodes (new_place_found x) ≡ walk s.nodes p
+
 abbrev pub FindsPlaces : World → Path → Path → Lookup → Type 0
-FindsPlaces s old new x = (walk_meant s.nodes (place_found x) ≡ walk s.nodes old) × (walk_meant s.nodes (new_place_found x) ≡ walk s.nodes new)
+FindsPlaces s old new x = FindsPlace s old x × FindsNewPlace s new x
 
 -- whether it is what an operation of a shape looks up
 abbrev pub Finds : Trace → ℕ → World → Shape → Lookup → Type 0
@@ -50,3 +53,7 @@ Finds t r s (freeing p removes) x = FindsPlace s p x
 Finds t r s (linking old new) x = FindsPlaces s old new x
 Finds t r s (renaming old new) x = FindsPlaces s old new x
 Finds t r s _ x = Unit {0}
+
+-- what is found is right, where something was looked up
+abbrev pub Tells : Lookup → Type 0 → Type 0
+Tells x IsRight = (x ≡ code.Nothing) ⊎ IsRight

@@ -4,7 +4,6 @@ ghost use Rattle.std.specs.Option.{option_map};
 ghost use Rattle.entry_checks.specs.Meant.{path_meant};
 ghost use Rattle.file_tree.specs.Found.{place_meant, walk_meant};
 ghost use Rattle.file_tree.specs.Tree.{Tree, target};
-ghost use Rattle.file_tree.specs.Walk as walk;
 ghost use Rattle.op_meaning.specs.Deciding.{Decides};
 ghost use Rattle.op_meaning.specs.Decision.{effect_of, IsWithinLimits};
 ghost use Rattle.op_meaning.specs.Meaning as meaning;

@@ -113,10 +113,7 @@ pub(crate) fn allocate(range: RangeAllocation, state: &mut State) -> Result<(), 
 /// # Errors
 ///
 /// That of the first test that fails: EBADF, EINVAL, EFBIG.
-pub(crate) fn resizing<'a>(
-    opened: Option<OpenFile>,
-    size: u64,
-) -> Result<Decision<'a>, Errno>
+pub(crate) fn resizing<'a>(opened: Option<OpenFile>, size: u64) -> Result<Decision<'a>, Errno>
     ensures meaning { (t : Trace) (k r : ℕ) (s : World) → Decides
         (ftruncate_meaning (opened_meant s opened) size) (effect_of t k r s) result }
     ensures limits { (s : World) (r : ℕ) → IfOk result (IsWithinLimits s r) }

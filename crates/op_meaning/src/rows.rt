@@ -5,7 +5,7 @@ ghost use Rattle.entry_checks.specs.Operation.{asked};
 ghost use Rattle.op_meaning.specs.Deciding.{Decides};
 ghost use Rattle.op_meaning.specs.Decision.{effect_of, IsWithinLimits};
 ghost use Rattle.op_meaning.specs.Footprint.{shape};
-ghost use Rattle.op_meaning.specs.Lookups.{Finds};
+ghost use Rattle.op_meaning.specs.Lookups.{Finds, Tells};
 ghost use Rattle.op_meaning.specs.Meaning.{meaning};
 ghost use Rattle.op_meaning.specs.NameChanges.{decision_meant};
 ghost use Rattle.op_meaning.specs.Outcomes.{Answers, world_after};
@@ -39,8 +39,8 @@ fn changing<'a>(changes: Result<NameChanges<'a>, Errno>) -> Result<Decision<'a>,
     Ok(Decision::ChangeNames(changes?))
 }
 
-/// What an operation does where an entry stands, by what its file number or its paths lead to and
-/// by look-ups alone. It takes no memory.
+/// What an operation does where an entry stands, by look-ups alone, those of which something is found
+/// already left out. It takes no memory.
 ///
 /// # Errors
 ///
@@ -49,11 +49,12 @@ fn changing<'a>(changes: Result<NameChanges<'a>, Errno>) -> Result<Decision<'a>,
 fn decide<'a>(
     site: Site<'_>,
     op: Op<'a>,
-    lookup: Lookup<'a>,
+    lookup: &Lookup<'a>,
     state: &State,
 ) -> Result<Decision<'a>, Errno>
     requires spelled { IsSpelled site.trace.now }
-    requires lookup { Finds site.trace.now site.ring state.now (shape (meant op)) lookup }
+    requires lookup { Tells lookup.now
+        (Finds site.trace.now site.ring state.now (shape (meant op)) lookup.now) }
     ensures meaning { Decides
         (meaning site.entry.trace.now site.entry.place site.entry.ring state.now (meant op.entry))
         (effect_of site.entry.trace.now site.entry.place site.entry.ring state.now) result }
@@ -62,36 +63,70 @@ fn decide<'a>(
 {
     match op {
         Op::Nop => Ok(Decision::Nothing),
-        Op::Readv { offset, total, .. } => reading(lookup.file(), offset, total, state),
-        Op::Writev { offset, bytes, .. } => writing(lookup.file(), offset, bytes, state),
+        Op::Readv {
+            file,
+            offset,
+            total,
+        } => reading(lookup.file_at(site, file, state), offset, total, state),
+        Op::Writev {
+            file,
+            offset,
+            bytes,
+        } => writing(lookup.file_at(site, file, state), offset, bytes, state),
         Op::Fsync { file } => syncing(site, file, state),
-        Op::ReadFixed { offset, span, .. } => {
-            reading_fixed(site, lookup.file(), offset, span, state)
+        Op::ReadFixed { file, offset, span } => {
+            let opened = lookup.file_at(site, file, state);
+            reading_fixed(site, opened, offset, span, state)
         }
-        Op::WriteFixed { offset, span, .. } => {
-            writing_fixed(site, lookup.file(), offset, span, state)
+        Op::WriteFixed { file, offset, span } => {
+            let opened = lookup.file_at(site, file, state);
+            writing_fixed(site, opened, offset, span, state)
         }
         Op::Fallocate {
-            offset, size, mode, ..
-        } => allocating(lookup.file(), AllocationRequest { offset, size, mode }),
-        Op::Openat { flags, slot, .. } => find_opening(site, lookup.place(), flags, slot, state),
+            file,
+            offset,
+            size,
+            mode,
+        } => {
+            let opened = lookup.file_at(site, file, state);
+            allocating(opened, AllocationRequest { offset, size, mode })
+        }
+        Op::Openat { path, flags, slot } => {
+            find_opening(site, lookup.place_at(path, state), flags, slot, state)
+        }
         Op::Close { file } => closing(site, file, state),
-        Op::Read { offset, total, .. } => reading(lookup.file(), offset, u64::from(total), state),
-        Op::Write { offset, bytes, .. } => writing(lookup.file(), offset, bytes, state),
-        Op::Renameat { old, new, flags } => changing(renaming(
-            old,
-            new,
-            lookup.place(),
-            lookup.new_place(),
-            flags,
-            state,
-        )),
+        Op::Read {
+            file,
+            offset,
+            total,
+        } => {
+            let opened = lookup.file_at(site, file, state);
+            reading(opened, offset, u64::from(total), state)
+        }
+        Op::Write {
+            file,
+            offset,
+            bytes,
+        } => writing(lookup.file_at(site, file, state), offset, bytes, state),
+        Op::Renameat { old, new, flags } => {
+            let from = lookup.place_at(old, state);
+            let to = lookup.new_place_at(new, state);
+            changing(renaming(old, new, from, to, flags, state))
+        }
         Op::Unlinkat {
-            removes_directory, ..
-        } => changing(unlinking(lookup.place(), removes_directory, state)),
-        Op::Mkdirat { .. } => making(lookup.place()),
-        Op::Linkat { .. } => changing(linking(lookup.place(), lookup.new_place(), state)),
-        Op::Ftruncate { size, .. } => resizing(lookup.file(), size),
+            path,
+            removes_directory,
+        } => {
+            let place = lookup.place_at(path, state);
+            changing(unlinking(place, removes_directory, state))
+        }
+        Op::Mkdirat { path } => making(lookup.place_at(path, state)),
+        Op::Linkat { old, new } => {
+            let from = lookup.place_at(old, state);
+            let to = lookup.new_place_at(new, state);
+            changing(linking(from, to, state))
+        }
+        Op::Ftruncate { file, size } => resizing(lookup.file_at(site, file, state), size),
     }
 }
 
@@ -115,7 +150,7 @@ pub(crate) fn run_operation(
         (meaning site.entry.trace.now site.entry.place site.entry.ring state.old
         (meant op.entry))) }
 {
-    match decide(site, op, Lookup::of(site, op, state), state) {
+    match decide(site, op, &Lookup::Nothing, state) {
         Ok(decision) => Ok(Ok(carry_out(alloc, site, decision, state)?)),
         Err(error) => Ok(Err(error)),
     }
@@ -123,9 +158,9 @@ pub(crate) fn run_operation(
 
 /// Whether the world accepts an operation where an entry stands, by what its file number or its
 /// paths lead to: whether it is done without an error. It takes no memory.
-pub fn accepts<'a>(site: Site<'_>, op: Op<'a>, lookup: Lookup<'a>, state: &State) -> bool
+pub fn accepts<'a>(site: Site<'_>, op: Op<'a>, lookup: &Lookup<'a>, state: &State) -> bool
     requires spelled { IsSpelled site.trace.now }
-    requires lookup { Finds site.trace.now site.ring state.now (shape (meant op)) lookup }
+    requires lookup { Finds site.trace.now site.ring state.now (shape (meant op)) lookup.now }
     ensures { result ≡ is_ok (meaning site.entry.trace.now site.entry.place site.entry.ring
         state.now (meant op.entry)) }
 {
