@@ -1,5 +1,6 @@
 -- What decides an operation and what is used of what that leads to make its row.
-use Rattle.std.proofs.Common.{◌≡◌, ℕ, Bool, true, false, [], ◌∷◌, ◌++◌, Option, Some, None, Result, Ok, Err, sym, ◌∙◌, ap, refl, append_assoc, append-nil}
+use Rattle.std.proofs.Common.{◌≡◌, ℕ, Bool, true, false, List, map, [], ◌∷◌, ◌++◌, Option, Some, None, Result, Ok, Err, sym, ◌∙◌, ap, refl, append_assoc, append-nil}
+use Rattle.std.proofs.lemmas.List.{map-append}
 use Rattle.std.specs.Prelude.{cond, is_ok, if◌then◌else◌}
 use Rattle.std.specs.Option.{option_and_then, option_map}
 use Rattle.std.specs.Result.{result_ok}
@@ -9,17 +10,17 @@ use Rattle.trace_format.specs.declared.trace.Trace.{Trace}
 use Rattle.entry_checks.specs.Operation.{Operation, File, Path, Span}
 use Rattle.file_tree.specs.Found.{place_meant, walk_meant}
 use Rattle.file_tree.specs.Tree.{Tree}
-use Rattle.file_tree.specs.Walk.{Place, walk}
+use Rattle.file_tree.specs.Walk.{Place, names_on, walk}
 use Rattle.file_tree.specs.declared.walk.Place as code
 use Rattle.foot_print.specs.Reach.{file_seen, shape_seen}
-use Rattle.foot_print.specs.Rest.{at_place, content_of, moved_of, written_name, rest, row_behind}
-use Rattle.op_meaning.specs.Footprint.{Taken, file_reads, of_file, of_description, on_file, position_written, read_content, write_content, through, transfer_row, path_reads, name_written, name_freed, linkat_row, renameat_row, allocated_content, resized_content, room_uses, room_where, made_where, description_made, opened_at, directory_made, Shape, shape, idle, looking, moving, allocating, resizing, closing, opening, making, freeing, linking, renaming, shape_row, row_in, tried, as_reads}
+use Rattle.foot_print.specs.Rest.{at_place, content_of, moved_of, written_name, rest, rest_in}
+use Rattle.op_meaning.specs.Footprint.{Taken, held_item, file_reads, of_file, of_description, on_file, position_written, read_content, write_content, through, transfer_row, path_reads, name_written, name_freed, linkat_row, renameat_row, allocated_content, resized_content, room_uses, room_where, made_where, description_made, opened_at, directory_made, Shape, shape, idle, looking, moving, allocating, resizing, closing, opening, making, freeing, linking, renaming, shape_row, row_in, tried, as_reads}
 use Rattle.op_meaning.specs.Handles.{handle_meant}
 use Rattle.op_meaning.specs.Lookups.{file_found, Finds, new_place_found, place_found}
 use Rattle.op_meaning.specs.Meaning.{handle, handle_of, held, is_file, meaning, Handle}
 use Rattle.op_meaning.specs.declared.handles.OpenFile.{OpenFile}
 use Rattle.op_meaning.specs.declared.lookup.Lookup.{Lookup}
-use Rattle.world_parts.specs.Items.{one, description_at, reads, Footprint}
+use Rattle.world_parts.specs.Items.{Item, Use, one, description_at, name_at, reads, Footprint}
 use Rattle.world_parts.specs.World.{World}
 
 -- nothing of the content of a file
@@ -110,9 +111,54 @@ completes t k r s y (linking old new) x finds = linking_completes s old new (res
 completes t k r s y (renaming old new) x finds =
     renaming_completes s old new (result_ok (place_found x)) (result_ok (new_place_found x)) (came_to s.nodes (place_found x) _ finds.0) (came_to s.nodes (new_place_found x) _ finds.1)
 
+-- what decides an operation is only read
+reads_again : {X : Type 0} (f : X → Item) (xs : List X) → as_reads (map (λ x. reads (f x)) xs) ≡ map (λ x. reads (f x)) xs
+reads_again f [] = refl
+reads_again f (x ∷ xs) = ap (λ g. reads (f x) ∷ g) (reads_again f xs)
+
+reads_both : (f g : Footprint) → as_reads f ≡ f → as_reads g ≡ g → as_reads (f ++ g) ≡ f ++ g
+reads_both f g first second = map-append (λ (u : Use). reads u.item) f g ∙ (λ i. first i ++ second i)
+
+only_reads : (t : Trace) (r : ℕ) (s : World) (x : Shape) → as_reads (shape_seen t r s x) ≡ shape_seen t r s x
+only_reads t r s x = at x
+  where
+    path : (p : Path) → as_reads (path_reads s p) ≡ path_reads s p
+    path p = reads_again (λ e. one (name_at e.0 e.1)) (names_on s.nodes p)
+
+    file : (f : File) → as_reads (file_seen t s r f) ≡ file_seen t s r f
+    file f = reads_both (file_reads t r f) (each (of_description s no_content) (held t s r f)) (reads_again (λ i. i) (held_item t r f)) (opened (held t s r f))
+      where
+        content : (x : Option Handle) → as_reads (each (of_file no_content) x) ≡ each (of_file no_content) x
+        content None = refl
+        content (Some h) = elim (is_file h.opened) as (λ b. as_reads (cond {A = Footprint} b [] []) ≡ cond {A = Footprint} b [] []) [ true ↦ refl | false ↦ refl ]
+
+        opened : (d : Option ℕ) → as_reads (each (of_description s no_content) d) ≡ each (of_description s no_content) d
+        opened None = refl
+        opened (Some d) = ap (λ g. reads (one (description_at d)) ∷ g) (content (handle_of s d))
+
+    at : (x : Shape) → as_reads (shape_seen t r s x) ≡ shape_seen t r s x
+    at (moving w f o n span) = file f
+    at (allocating f o n mode) = file f
+    at (resizing f n) = file f
+    at (opening p g asked) = path p
+    at (making p) = path p
+    at (freeing p removes) = path p
+    at (linking old new) = reads_both (path_reads s old) (path_reads s new) (path old) (path new)
+    at (renaming old new) = reads_both (path_reads s old) (path_reads s new) (path old) (path new)
+    at _ = refl
+
 -- the uses behind those that decide an operation make its row
-pub row_completed : (t : Trace) (k r : ℕ) (s : World) (o : Operation) (x : Shape) (seen : Footprint) (found : Lookup) → x ≡ shape o → seen ≡ shape_seen t r s x → Finds t r s x found → row_behind seen t k r s o found ≡ row_in t k r s o
-row_completed t k r s o x seen found same is finds =
-    let ok = is_ok (meaning t k r s o) in
-    let whole : shape_seen t r s x ++ rest t k r s (tried ok) (shape o) found ≡ shape_row t k r s (tried ok) x = ap (λ z. shape_seen t r s x ++ rest t k r s (tried ok) z found) (sym same) ∙ completes t k r s (tried ok) x found finds in
-    ap (λ (f : Footprint). if ok then f else as_reads f) (ap (λ f. f ++ rest t k r s (tried ok) (shape o) found) is ∙ whole ∙ ap (shape_row t k r s (tried ok)) same)
+pub row_completed : (t : Trace) (k r : ℕ) (s : World) (o : Operation) (found : Lookup) → Finds t r s (shape o) found → shape_seen t r s (shape o) ++ rest_in t k r s o found ≡ row_in t k r s o
+row_completed t k r s o found finds = at (is_ok (meaning t k r s o))
+  where
+    at : (ok : Bool) → shape_seen t r s (shape o) ++ (if ok then rest t k r s (tried ok) (shape o) found else as_reads (rest t k r s (tried ok) (shape o) found))
+        ≡ (if ok then shape_row t k r s (tried ok) (shape o) else as_reads (shape_row t k r s (tried ok) (shape o)))
+    at true = completes t k r s (tried true) (shape o) found finds
+    at false =
+        let left = rest t k r s (tried false) (shape o) found in
+        ap (λ g. g ++ as_reads left) (sym (only_reads t r s (shape o))) ∙ sym (map-append (λ (u : Use). reads u.item) (shape_seen t r s (shape o)) left) ∙ ap as_reads (completes t k r s (tried false) (shape o) found finds)
+
+-- so does what follows behind an order
+pub behind_order : (order known : Footprint) (t : Trace) (k r : ℕ) (s : World) (o : Operation) (found : Lookup) → known ≡ order ++ shape_seen t r s (shape o) → Finds t r s (shape o) found → known ++ rest_in t k r s o found ≡ order ++ row_in t k r s o
+behind_order order known t k r s o found is finds =
+    ap (λ f. f ++ rest_in t k r s o found) is ∙ append_assoc order (shape_seen t r s (shape o)) (rest_in t k r s o found) ∙ ap (λ f. order ++ f) (row_completed t k r s o found finds)

@@ -22,7 +22,7 @@ use Rattle.world_parts.specs.World.{World, Broken, broken}
 use Rattle.op_meaning.specs.Footprint.{Shape, shape, order_uses, row_in, turn_uses}
 use Rattle.op_meaning.specs.Step.{Turn, refused, canceled, runs, posts, doomed_turn, running_turn, entry_turn}
 use Rattle.foot_print.specs.Reach.{is_canceled, look_of, shape_seen, seen, task, running_row}
-use Rattle.foot_print.specs.Foreseen.{meets_written, may_run, entry_reach, unresolved_given, accepted_given, operation_given, reach_given, undoomed, member_runs}
+use Rattle.foot_print.specs.Foreseen.{meets_written, may_run, entry_reach, unresolved_given, decided_given, operation_given, reach_given, undoomed, member_runs}
 use Rattle.foot_print.specs.Outlook.{takes_lowest, turn_takes_lowest, IsFirstWritten, WaitsBy, items_awaited, IsOutlook, Awaits, AwaitsAsOperation, AwaitsAsEntry}
 use Rattle.foot_print.specs.declared.reaching.Awaited.TheVariants.{Items}
 use Rattle.foot_print.specs.declared.reaching.Outlook.{Outlook}
@@ -82,35 +82,28 @@ module _ (order : Footprint) (t : Trace) (k r : ℕ) (s : World) (w : Item → B
   told_by : d ≡ seen t r s p
   told_by = looked ∙ ap (shape_seen t r s) shaped
 
-  abbrev given : Bool → Bool → Footprint
-  given undecided met =
-      if undecided then unresolved_given order t k r s w (shape p)
-      else (if met then accepted_given order t k r s w (shape p)
-      else order ++ row_in t k r s p)
-
   pub undecided_reach : (n : ℕ) (f : Footprint) → position_from (λ u. w u.item) 0 d ≡ Some n → f ≡ unresolved_given order t k r s w x → f ≡ operation_given order t k r s w p
   undecided_reach n f first e =
-      let met = sym (some_from w 0 n d first) ∙ ap (meets_written w) told_by in
-      e ∙ ap (unresolved_given order t k r s w) shaped ∙ (λ i. given (met i) (meets_written w (order ++ row_in t k r s p)))
+      let met : meets_written w (seen t r s p) ≡ true = sym (ap (meets_written w) told_by) ∙ some_from w 0 n d first in
+      rw met (e ∙ ap (unresolved_given order t k r s w) shaped)
 
   pub undecided_awaits : (n : ℕ) (f g : Footprint) (takes : Bool) → position_from (λ u. w u.item) 0 d ≡ Some n → g ≡ take (n + 1) d → takes ≡ takes_lowest p
       → AwaitsAsOperation order t k r s w p true (record { reach = f; waits_by = Items g; takes_lowest = takes })
   undecided_awaits n f g takes first cut e =
       record { by = inl (subst (λ x. IsFirstWritten w x g) told_by (subst (λ x. IsFirstWritten w d x) (sym cut) (first_written w n d first))); told = refl; lowest = e }
 
-  module _ (row : Footprint) (none : position_from (λ u. w u.item) 0 d ≡ None) (own : row ≡ order ++ row_in t k r s p) where
+  module _ (none : position_from (λ u. w u.item) 0 d ≡ None) where
     decided : meets_written w (seen t r s p) ≡ false
     decided = sym (ap (meets_written w) told_by) ∙ none_written w d none
 
-    pub decided_reach : {E : Type 0} (o : Result Outlook E) → IfOk o (λ o. o.reach ≡ (if meets_written w row then accepted_given order t k r s w (shape p) else row)) → IfOk o (λ o. o.reach ≡ operation_given order t k r s w p)
-    decided_reach (Ok o) e = e ∙ (λ i. if meets_written w (own i) then accepted_given order t k r s w (shape p) else own i) ∙ (λ i. given (sym decided i) (meets_written w (order ++ row_in t k r s p)))
+    pub decided_reach : {E : Type 0} (o : Result Outlook E) → IfOk o (λ o. o.reach ≡ decided_given order t k r s w p) → IfOk o (λ o. o.reach ≡ operation_given order t k r s w p)
+    decided_reach (Ok o) e = rw decided e
     decided_reach (Err e) _ = tt
 
-    pub decided_awaits : {E : Type 0} (o : Result Outlook E) → IfOk o (λ o. items_awaited o.waits_by o.reach ≡ Some row) → IfOk o (λ o. o.takes_lowest ≡ takes_lowest p) → IfOk o (λ o. AwaitsAsOperation order t k r s w p true o)
+    pub decided_awaits : {E : Type 0} (o : Result Outlook E) → IfOk o (λ o. items_awaited o.waits_by o.reach ≡ Some (order ++ row_in t k r s p)) → IfOk o (λ o. o.takes_lowest ≡ takes_lowest p) → IfOk o (λ o. AwaitsAsOperation order t k r s w p true o)
     decided_awaits (Ok o) e l =
-        let waits : IsFirstWritten w (seen t r s p) row ⊎ ((meets_written w (seen t r s p) ≡ false) × (row ≡ order ++ row_in t k r s p)) = inr (decided, own) in
         record {
-          by = subst (λ a. IfSome a (λ f. IsFirstWritten w (seen t r s p) f ⊎ ((meets_written w (seen t r s p) ≡ false) × (f ≡ order ++ row_in t k r s p)))) (sym e) waits;
+          by = subst (λ a. IfSome a (λ f. IsFirstWritten w (seen t r s p) f ⊎ ((meets_written w (seen t r s p) ≡ false) × (f ≡ order ++ row_in t k r s p)))) (sym e) (inr (decided, refl));
           told = ap is_some e;
           lowest = l;
         }

@@ -66,9 +66,9 @@ rest t k r s y (freeing p removes) x = at_place s (name_freed removes) (result_o
 rest t k r s y (linking old new) x = each written_name (result_ok (new_place_found x))
 rest t k r s y (renaming old new) x = each written_name (result_ok (place_found x)) ++ at_place s (name_freed true) (result_ok (new_place_found x))
 
--- the uses of an operation in a world, behind those that decide it: where the world refuses it, nothing is made and all is read
-abbrev pub row_behind : Footprint → Trace → ℕ → ℕ → World → Operation → Lookup → Footprint
-row_behind seen t k r s o x =
+-- those of an operation in a world: where the world refuses it, nothing is made and all is read
+abbrev pub rest_in : Trace → ℕ → ℕ → World → Operation → Lookup → Footprint
+rest_in t k r s o x =
     let ok = is_ok (meaning t k r s o) in
-    let f = seen ++ rest t k r s (tried ok) (shape o) x in
+    let f = rest t k r s (tried ok) (shape o) x in
     if ok then f else as_reads f

@@ -1,9 +1,9 @@
 //! What each operation uses.
-ghost use Rattle.std.specs.Prelude.{◌≡◌, ◌++◌, IfOk, OnOk};
+ghost use Rattle.std.specs.Prelude.{◌≡◌, ◌++◌, OnOk};
 ghost use Rattle.entry_checks.specs.Meant.{meant};
-ghost use Rattle.foot_print.specs.Rest.{rest, row_behind, taken_meant};
+ghost use Rattle.foot_print.specs.Rest.{rest, rest_in, taken_meant};
 ghost use Rattle.foot_print.specs.Shapes.{shape_meant};
-ghost use Rattle.op_meaning.specs.Footprint.{row_in, shape, shape_row};
+ghost use Rattle.op_meaning.specs.Footprint.{foreseen, row_in, shape};
 ghost use Rattle.op_meaning.specs.Lookups.{Finds};
 ghost use Rattle.op_meaning.specs.Site.{IsSite};
 
@@ -30,58 +30,63 @@ pub(crate) fn operation_uses(
     site: Site<'_>,
     op: Op<'_>,
     state: &State,
-) -> Result<Footprint, AllocError>
+    footprint: &mut Footprint,
+) -> Result<(), AllocError>
     requires site { IsSite site }
-    ensures { IfOk result (λ f. f ≡ row_in site.entry.trace.now site.entry.place site.entry.ring
-        state.now (meant op.entry)) }
+    ensures { OnOk result (footprint.new ≡ footprint.old ++ row_in site.entry.trace.now
+        site.entry.place site.entry.ring state.now (meant op.entry)) }
 {
-    let mut seen = Footprint::new(alloc);
-    let lookup = shape_seen(alloc, site, shape_of(op), state, &mut seen)?;
-    uses_behind(alloc, site, op, lookup, state, seen)
+    let lookup = shape_seen(alloc, site, shape_of(op), state, footprint)?;
+    uses_behind(alloc, site, op, lookup, state, footprint)
 }
 
-/// What an operation uses, behind what decides it, by what that leads to. Where the world refuses
-/// it, it only reads.
+/// What an operation uses beside what decides it, by what that leads to. Where the world refuses it,
+/// it only reads.
 pub(crate) fn uses_behind<'a>(
     alloc: Global,
     site: Site<'_>,
     op: Op<'a>,
     lookup: Lookup<'a>,
     state: &State,
-    seen: Footprint,
-) -> Result<Footprint, AllocError>
+    footprint: &mut Footprint,
+) -> Result<(), AllocError>
     requires site { IsSite site }
     requires lookup { Finds site.trace.now site.ring state.now (shape (meant op)) lookup }
-    ensures { IfOk result (λ f. f ≡ row_behind seen site.entry.trace.now site.entry.place
-        site.entry.ring state.now (meant op.entry) lookup.entry) }
+    ensures { OnOk result (footprint.new ≡ footprint.old ++ rest_in site.entry.trace.now
+        site.entry.place site.entry.ring state.now (meant op.entry) lookup.entry) }
 {
+    let known = footprint.len();
     let accepted = accepts(site, op, &lookup, state);
     let attempt = Attempt {
         site,
         taken: Taken::Tried { accepted },
     };
-    let mut footprint = seen;
-    push_rest(alloc, attempt, shape_of(op), lookup, state, &mut footprint)?;
+    push_rest(alloc, attempt, shape_of(op), lookup, state, footprint)?;
     if !accepted {
-        footprint.make_read_only();
+        footprint.make_read_only(known);
     }
-    Ok(footprint)
+    Ok(())
 }
 
-/// The row of an operation of a shape: what it uses, with what it writes where it is accepted.
-pub(crate) fn push_row(
+/// What an operation of a shape uses as accepted, beside what decides it, by what that leads to, while
+/// it isn't known yet which files become longer.
+pub(crate) fn uses_foreseen(
     alloc: Global,
-    attempt: Attempt<'_>,
+    site: Site<'_>,
     shape: Shape<'_>,
+    lookup: Lookup<'_>,
     state: &State,
     footprint: &mut Footprint,
 ) -> Result<(), AllocError>
-    requires site { IsSite attempt.site }
-    ensures { OnOk result (footprint.new ≡ footprint.old ++ shape_row
-        attempt.entry.site.trace.now attempt.entry.site.place attempt.entry.site.ring state.now
-        (taken_meant attempt.entry.taken) (shape_meant shape.entry)) }
+    requires site { IsSite site }
+    ensures { OnOk result (footprint.new ≡ footprint.old ++ rest site.entry.trace.now
+        site.entry.place site.entry.ring state.now foreseen (shape_meant shape.entry)
+        lookup.entry) }
 {
-    let lookup = shape_seen(alloc, attempt.site, shape, state, footprint)?;
+    let attempt = Attempt {
+        site,
+        taken: Taken::Foreseen,
+    };
     push_rest(alloc, attempt, shape, lookup, state, footprint)
 }
 

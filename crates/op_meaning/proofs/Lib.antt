@@ -3,7 +3,6 @@ pub mod Moved
 pub mod Fallible
 pub mod Asked
 pub mod Counts
-mod Decided
 pub mod Answering
 pub mod Turns
 mod SpanWrites

@@ -69,6 +69,7 @@ pub fn held(trace: &Trace, ring: u8, file: FileNumber, state: &State) -> Option<
 }
 
 /// The open file that a file number stands for.
+#[inline(always)]
 pub(crate) fn open_file(
     trace: &Trace,
     ring: u8,

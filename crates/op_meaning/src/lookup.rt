@@ -39,9 +39,9 @@ impl<'a> Lookup<'a> {
         file: FileNumber,
         state: &State,
     ) -> Option<OpenFile>
-        ensures { Tells self.now (FindsFile site.entry.trace.now site.entry.ring state.now
-            (file_meant file) self.now)
-            → opened_meant state.now result
+        requires { Tells self.now
+            (FindsFile site.trace.now site.ring state.now (file_meant file) self.now) }
+        ensures { opened_meant state.now result
             ≡ handle site.entry.trace.now state.now site.entry.ring (file_meant file) }
     {
         match self {
@@ -57,8 +57,8 @@ impl<'a> Lookup<'a> {
     /// Those of the walk.
     #[inline(always)]
     pub(crate) fn place_at(&self, path: PathAt<'a>, state: &State) -> Result<Place<'a>, Errno>
-        ensures { Tells self.now (FindsPlace state.now (path_meant path.entry) self.now)
-            → walk_meant state.now.nodes result ≡ walk state.now.nodes (path_meant path.entry) }
+        requires { Tells self.now (FindsPlace state.now (path_meant path) self.now) }
+        ensures { walk_meant state.now.nodes result ≡ walk state.now.nodes (path_meant path.entry) }
     {
         match self {
             Lookup::Path(place) | Lookup::Paths(place, _) => *place,
@@ -73,8 +73,8 @@ impl<'a> Lookup<'a> {
     /// Those of the walk.
     #[inline(always)]
     pub(crate) fn new_place_at(&self, path: PathAt<'a>, state: &State) -> Result<Place<'a>, Errno>
-        ensures { Tells self.now (FindsNewPlace state.now (path_meant path.entry) self.now)
-            → walk_meant state.now.nodes result ≡ walk state.now.nodes (path_meant path.entry) }
+        requires { Tells self.now (FindsNewPlace state.now (path_meant path) self.now) }
+        ensures { walk_meant state.now.nodes result ≡ walk state.now.nodes (path_meant path.entry) }
     {
         match self {
             Lookup::Paths(_, place) => *place,

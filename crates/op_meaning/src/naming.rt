@@ -1,22 +1,24 @@
 //! The operations on names: UNLINKAT, MKDIRAT, LINKAT and RENAMEAT.
-ghost use Rattle.std.specs.Prelude.{◌≡◌, ℕ, IfOk, OnOk};
+ghost use Rattle.std.specs.Prelude.{◌≡◌, IfOk, OnOk};
 ghost use Rattle.std.specs.Option.{option_map};
 ghost use Rattle.entry_checks.specs.Meant.{path_meant};
-ghost use Rattle.file_tree.specs.Found.{place_meant, walk_meant};
+ghost use Rattle.file_tree.specs.Found.{place_meant};
 ghost use Rattle.file_tree.specs.Tree.{Tree, target};
+ghost use Rattle.file_tree.specs.Walk.{walk};
 ghost use Rattle.op_meaning.specs.Deciding.{Decides};
 ghost use Rattle.op_meaning.specs.Decision.{effect_of, IsWithinLimits};
+ghost use Rattle.op_meaning.specs.Lookups.{FindsPlace, FindsPlaces, Tells};
 ghost use Rattle.op_meaning.specs.Meaning as meaning;
 ghost use Rattle.op_meaning.specs.Meaning.{linkat_meaning, mkdirat_meaning};
 ghost use Rattle.op_meaning.specs.Meaning.{renameat_meaning, unlinkat_meaning};
 ghost use Rattle.op_meaning.specs.NameChanges.{changes_meant, decision_meant, directory_effect};
 ghost use Rattle.op_meaning.specs.NameChanges.{move_meant, exchange_meant};
 ghost use Rattle.op_meaning.specs.Site.{IsSite};
-ghost use Rattle.trace_format.specs.declared.trace.Trace.{Trace};
-ghost use Rattle.world_parts.specs.World.{apply_all, World};
+ghost use Rattle.world_parts.specs.World.{apply_all};
 
 use crate::decision::Decision;
 use crate::handles::is_directory;
+use crate::lookup::Lookup;
 use crate::made::made_node;
 use crate::names::{NameChange, NameChanges};
 use crate::site::Site;
@@ -52,14 +54,17 @@ fn may_remove(state: &State, removes_directory: bool, node: u32) -> Result<(), E
 ///
 /// That of the first test that fails: those of the walk, ENOENT, EISDIR, ENOTDIR, ENOTEMPTY.
 pub(crate) fn unlinking<'a>(
-    led: Result<Place<'a>, Errno>,
+    path: PathAt<'a>,
+    lookup: &Lookup<'a>,
     removes_directory: bool,
     state: &State,
 ) -> Result<NameChanges<'a>, Errno>
+    requires { Tells lookup.now (FindsPlace state.now (path_meant path) lookup.now) }
     ensures { decision_meant state.now.nodes result
-        ≡ unlinkat_meaning state.now (walk_meant state.now.nodes led.entry) removes_directory }
+        ≡ unlinkat_meaning state.now (walk state.now.nodes (path_meant path.entry))
+        removes_directory }
 {
-    let place = led?;
+    let place = lookup.place_at(path, state)?;
     let Some(node) = place.node else {
         return Err(Errno::ENOENT);
     };
@@ -76,12 +81,20 @@ pub(crate) fn unlinking<'a>(
 /// # Errors
 ///
 /// That of the first test that fails: those of the walk, EEXIST.
-pub(crate) fn making<'a>(led: Result<Place<'a>, Errno>) -> Result<Decision<'a>, Errno>
-    ensures meaning { (t : Trace) (k r : ℕ) (s : World) → Decides
-        (mkdirat_meaning t k (walk_meant s.nodes led.entry)) (effect_of t k r s) result }
-    ensures limits { (s : World) (r : ℕ) → IfOk result (IsWithinLimits s r) }
+pub(crate) fn making<'a>(
+    site: Site<'_>,
+    path: PathAt<'a>,
+    lookup: &Lookup<'a>,
+    state: &State,
+) -> Result<Decision<'a>, Errno>
+    requires { Tells lookup.now (FindsPlace state.now (path_meant path) lookup.now) }
+    ensures meaning { Decides
+        (mkdirat_meaning site.entry.trace.now site.entry.place
+        (walk state.now.nodes (path_meant path.entry)))
+        (effect_of site.entry.trace.now site.entry.place site.entry.ring state.now) result }
+    ensures limits { IfOk result (IsWithinLimits state.now site.entry.ring) }
 {
-    let place = led?;
+    let place = lookup.place_at(path, state)?;
     if place.node.is_some() {
         return Err(Errno::EEXIST);
     }
@@ -110,16 +123,19 @@ pub(crate) fn make_directory(
 ///
 /// That of the first test that fails: those of the walks, ENOENT, EEXIST, EPERM.
 pub(crate) fn linking<'a>(
-    from: Result<Place<'a>, Errno>,
-    to: Result<Place<'a>, Errno>,
+    old: PathAt<'a>,
+    new: PathAt<'a>,
+    lookup: &Lookup<'a>,
     state: &State,
 ) -> Result<NameChanges<'a>, Errno>
+    requires { Tells lookup.now
+        (FindsPlaces state.now (path_meant old) (path_meant new) lookup.now) }
     ensures { decision_meant state.now.nodes result
-        ≡ linkat_meaning (walk_meant state.now.nodes from.entry)
-        (walk_meant state.now.nodes to.entry) }
+        ≡ linkat_meaning (walk state.now.nodes (path_meant old.entry))
+        (walk state.now.nodes (path_meant new.entry)) }
 {
-    let from = from?;
-    let to = to?;
+    let from = lookup.place_at(old, state)?;
+    let to = lookup.new_place_at(new, state)?;
     let Some(node) = from.node else {
         return Err(Errno::ENOENT);
     };
@@ -241,19 +257,21 @@ fn exchanging<'a>(
 /// That of the first test that fails: those of the walks, ENOENT, EEXIST, EINVAL, ENOTDIR, EISDIR,
 /// ENOTEMPTY.
 pub(crate) fn renaming<'a>(
-    old: PathAt<'_>,
-    new: PathAt<'_>,
-    from: Result<Place<'a>, Errno>,
-    to: Result<Place<'a>, Errno>,
+    old: PathAt<'a>,
+    new: PathAt<'a>,
+    lookup: &Lookup<'a>,
     flags: u32,
     state: &State,
 ) -> Result<NameChanges<'a>, Errno>
+    requires { Tells lookup.now
+        (FindsPlaces state.now (path_meant old) (path_meant new) lookup.now) }
     ensures { decision_meant state.now.nodes result
         ≡ renameat_meaning state.now (path_meant old.entry) (path_meant new.entry)
-        (walk_meant state.now.nodes from.entry) (walk_meant state.now.nodes to.entry) flags }
+        (walk state.now.nodes (path_meant old.entry))
+        (walk state.now.nodes (path_meant new.entry)) flags }
 {
-    let from = from?;
-    let to = to?;
+    let from = lookup.place_at(old, state)?;
+    let to = lookup.new_place_at(new, state)?;
     let Some(node) = from.node else {
         return Err(Errno::ENOENT);
     };

@@ -1,19 +1,19 @@
 //! The other operations on open files.
-ghost use Rattle.std.specs.Prelude.{◌≡◌, ◌≤◌, ℕ, [], ◌∷◌, IfOk, OnOk};
+ghost use Rattle.std.specs.Prelude.{◌≡◌, ◌≤◌, [], ◌∷◌, IfOk, OnOk};
 ghost use Rattle.entry_checks.specs.Meant.{file_meant};
 ghost use Rattle.entry_checks.specs.Operation.{at_descriptor, file_limit, fsync, in_slot};
 ghost use Rattle.op_meaning.specs.Deciding.{Decides};
 ghost use Rattle.op_meaning.specs.Decision.{allocated, effect_of, emptied, IsWithinLimits};
-ghost use Rattle.op_meaning.specs.Handles.{opened_meant};
+ghost use Rattle.op_meaning.specs.Lookups.{FindsFile, Tells};
 ghost use Rattle.op_meaning.specs.Meaning.{close_meaning, extended};
-ghost use Rattle.op_meaning.specs.Meaning.{fallocate_meaning, ftruncate_meaning, meaning};
-ghost use Rattle.trace_format.specs.declared.trace.Trace.{Trace};
-ghost use Rattle.world_parts.specs.World.{apply_all, World};
+ghost use Rattle.op_meaning.specs.Meaning.{fallocate_meaning, ftruncate_meaning, handle, meaning};
+ghost use Rattle.world_parts.specs.World.{apply_all};
 
 use crate::allocating::{Allocation, AllocationRequest, RangeAllocation, allocation_of};
 use crate::decision::Decision;
-use crate::handles::{OpenFile, can_write, held, held_by_descriptor, size, slot_count};
+use crate::handles::{can_write, held, held_by_descriptor, size, slot_count};
 use crate::limits::{LARGEST, REFUSED};
+use crate::lookup::Lookup;
 use crate::site::Site;
 use entry_checks::FileNumber;
 use sqe_codec::Errno;
@@ -48,16 +48,23 @@ pub(crate) fn syncing<'a>(
 ///
 /// That of the first test that fails: EBADF, EINVAL, EOPNOTSUPP, EFBIG.
 pub(crate) fn allocating<'a>(
-    opened: Option<OpenFile>,
+    site: Site<'_>,
+    file: FileNumber,
+    lookup: &Lookup<'a>,
     request: AllocationRequest,
+    state: &State,
 ) -> Result<Decision<'a>, Errno>
-    ensures meaning { (t : Trace) (k r : ℕ) (s : World) → Decides
-        (fallocate_meaning s (opened_meant s opened) request.offset request.size request.mode)
-        (effect_of t k r s) result }
-    ensures limits { (s : World) (r : ℕ) → IfOk result (IsWithinLimits s r) }
+    requires { Tells lookup.now
+        (FindsFile site.trace.now site.ring state.now (file_meant file) lookup.now) }
+    ensures meaning { Decides
+        (fallocate_meaning state.now
+        (handle site.entry.trace.now state.now site.entry.ring (file_meant file))
+        request.offset request.size request.mode)
+        (effect_of site.entry.trace.now site.entry.place site.entry.ring state.now) result }
+    ensures limits { IfOk result (IsWithinLimits state.now site.entry.ring) }
 {
     let AllocationRequest { offset, size, mode } = request;
-    let file = opened.ok_or(Errno::EBADF)?;
+    let file = lookup.file_at(site, file, state).ok_or(Errno::EBADF)?;
     if offset >= REFUSED || size == 0 || size >= REFUSED {
         return Err(Errno::EINVAL);
     }
@@ -113,12 +120,22 @@ pub(crate) fn allocate(range: RangeAllocation, state: &mut State) -> Result<(), 
 /// # Errors
 ///
 /// That of the first test that fails: EBADF, EINVAL, EFBIG.
-pub(crate) fn resizing<'a>(opened: Option<OpenFile>, size: u64) -> Result<Decision<'a>, Errno>
-    ensures meaning { (t : Trace) (k r : ℕ) (s : World) → Decides
-        (ftruncate_meaning (opened_meant s opened) size) (effect_of t k r s) result }
-    ensures limits { (s : World) (r : ℕ) → IfOk result (IsWithinLimits s r) }
+pub(crate) fn resizing<'a>(
+    site: Site<'_>,
+    file: FileNumber,
+    lookup: &Lookup<'a>,
+    size: u64,
+    state: &State,
+) -> Result<Decision<'a>, Errno>
+    requires { Tells lookup.now
+        (FindsFile site.trace.now site.ring state.now (file_meant file) lookup.now) }
+    ensures meaning { Decides
+        (ftruncate_meaning
+        (handle site.entry.trace.now state.now site.entry.ring (file_meant file)) size)
+        (effect_of site.entry.trace.now site.entry.place site.entry.ring state.now) result }
+    ensures limits { IfOk result (IsWithinLimits state.now site.entry.ring) }
 {
-    let file = opened.ok_or(Errno::EBADF)?;
+    let file = lookup.file_at(site, file, state).ok_or(Errno::EBADF)?;
     if size >= REFUSED || !can_write(file.description.access) {
         return Err(Errno::EINVAL);
     }

@@ -1,12 +1,14 @@
 //! The operation that opens files: OPENAT.
 ghost use Rattle.std.specs.Prelude.{◌≡◌, IfOk, OnOk};
 ghost use Rattle.std.specs.Option.{option_map};
-ghost use Rattle.entry_checks.specs.Meant.{file_meant, flags_meant};
-ghost use Rattle.file_tree.specs.Found.{place_meant, walk_meant};
+ghost use Rattle.entry_checks.specs.Meant.{file_meant, flags_meant, path_meant};
+ghost use Rattle.file_tree.specs.Found.{place_meant};
 ghost use Rattle.file_tree.specs.Tree.{target};
+ghost use Rattle.file_tree.specs.Walk.{walk};
 ghost use Rattle.op_meaning.specs.Meaning as meaning;
 ghost use Rattle.op_meaning.specs.Deciding.{Decides};
 ghost use Rattle.op_meaning.specs.Decision.{effect_of, IsWithinLimits};
+ghost use Rattle.op_meaning.specs.Lookups.{FindsPlace, Tells};
 ghost use Rattle.op_meaning.specs.Meaning.{found_or_made, openat_meaning};
 ghost use Rattle.op_meaning.specs.Opening.{changes_at, opened_as, room_found};
 ghost use Rattle.op_meaning.specs.Outcomes.{Gives};
@@ -16,10 +18,11 @@ ghost use Rattle.world_parts.specs.World.{apply_all};
 
 use crate::decision::Decision;
 use crate::handles::{is_directory, slot_count};
+use crate::lookup::Lookup;
 use crate::made::{descriptor_count, made_description, made_node};
 use crate::outcome::{Done, counted, finished};
 use crate::site::Site;
-use entry_checks::{FileNumber, OpenAtFlags};
+use entry_checks::{FileNumber, OpenAtFlags, PathAt};
 use file_tree::{Kind, Place};
 use sqe_codec::Errno;
 use std::alloc::{AllocError, Global};
@@ -93,20 +96,22 @@ fn may_open(state: &State, flags: OpenAtFlags, node: Option<u32>) -> Result<(), 
 /// ENOTDIR.
 pub(crate) fn find_opening<'a>(
     site: Site<'_>,
-    led: Result<Place<'a>, Errno>,
+    path: PathAt<'a>,
+    lookup: &Lookup<'a>,
     flags: OpenAtFlags,
     asked: Option<u32>,
     state: &State,
 ) -> Result<Decision<'a>, Errno>
-    requires { IsSpelled site.trace.now }
+    requires spelled { IsSpelled site.trace.now }
+    requires lookup { Tells lookup.now (FindsPlace state.now (path_meant path) lookup.now) }
     ensures meaning { Decides
         (openat_meaning site.entry.trace.now state.now site.entry.place site.entry.ring
-        (walk_meant state.now.nodes led.entry) (flags_meant flags) asked)
+        (walk state.now.nodes (path_meant path.entry)) (flags_meant flags) asked)
         (effect_of site.entry.trace.now site.entry.place site.entry.ring state.now) result }
     ensures limits { IfOk result (IsWithinLimits state.now site.entry.ring) }
 {
     let room = find_room(site.trace, site.ring, asked, state)?;
-    let place = led?;
+    let place = lookup.place_at(path, state)?;
     may_open(state, flags, place.node)?;
     Ok(Decision::Open(Opening { place, flags, room }))
 }

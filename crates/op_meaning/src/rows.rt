@@ -67,20 +67,18 @@ fn decide<'a>(
             file,
             offset,
             total,
-        } => reading(lookup.file_at(site, file, state), offset, total, state),
+        } => reading(site, file, lookup, offset, total, state),
         Op::Writev {
             file,
             offset,
             bytes,
-        } => writing(lookup.file_at(site, file, state), offset, bytes, state),
+        } => writing(site, file, lookup, offset, bytes, state),
         Op::Fsync { file } => syncing(site, file, state),
         Op::ReadFixed { file, offset, span } => {
-            let opened = lookup.file_at(site, file, state);
-            reading_fixed(site, opened, offset, span, state)
+            reading_fixed(site, file, lookup, offset, span, state)
         }
         Op::WriteFixed { file, offset, span } => {
-            let opened = lookup.file_at(site, file, state);
-            writing_fixed(site, opened, offset, span, state)
+            writing_fixed(site, file, lookup, offset, span, state)
         }
         Op::Fallocate {
             file,
@@ -88,45 +86,29 @@ fn decide<'a>(
             size,
             mode,
         } => {
-            let opened = lookup.file_at(site, file, state);
-            allocating(opened, AllocationRequest { offset, size, mode })
+            let request = AllocationRequest { offset, size, mode };
+            allocating(site, file, lookup, request, state)
         }
-        Op::Openat { path, flags, slot } => {
-            find_opening(site, lookup.place_at(path, state), flags, slot, state)
-        }
+        Op::Openat { path, flags, slot } => { find_opening(site, path, lookup, flags, slot, state) }
         Op::Close { file } => closing(site, file, state),
         Op::Read {
             file,
             offset,
             total,
-        } => {
-            let opened = lookup.file_at(site, file, state);
-            reading(opened, offset, u64::from(total), state)
-        }
+        } => reading(site, file, lookup, offset, u64::from(total), state),
         Op::Write {
             file,
             offset,
             bytes,
-        } => writing(lookup.file_at(site, file, state), offset, bytes, state),
-        Op::Renameat { old, new, flags } => {
-            let from = lookup.place_at(old, state);
-            let to = lookup.new_place_at(new, state);
-            changing(renaming(old, new, from, to, flags, state))
-        }
+        } => writing(site, file, lookup, offset, bytes, state),
+        Op::Renameat { old, new, flags } => { changing(renaming(old, new, lookup, flags, state)) }
         Op::Unlinkat {
             path,
             removes_directory,
-        } => {
-            let place = lookup.place_at(path, state);
-            changing(unlinking(place, removes_directory, state))
-        }
-        Op::Mkdirat { path } => making(lookup.place_at(path, state)),
-        Op::Linkat { old, new } => {
-            let from = lookup.place_at(old, state);
-            let to = lookup.new_place_at(new, state);
-            changing(linking(from, to, state))
-        }
-        Op::Ftruncate { file, size } => resizing(lookup.file_at(site, file, state), size),
+        } => changing(unlinking(path, lookup, removes_directory, state)),
+        Op::Mkdirat { path } => making(site, path, lookup, state),
+        Op::Linkat { old, new } => changing(linking(old, new, lookup, state)),
+        Op::Ftruncate { file, size } => resizing(site, file, lookup, size, state),
     }
 }
 

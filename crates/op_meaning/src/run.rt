@@ -97,7 +97,6 @@ pub fn run_on_state(
 
 /// Submits an entry: it is refused where it fails its tests, or stands in a chain in which a member
 /// does.
-#[inline(always)]
 fn submit(
     alloc: Global,
     site: Site<'_>,

@@ -1,16 +1,16 @@
 //! Reads and writes: what they do, or why the world refuses them.
-ghost use Rattle.std.specs.Prelude.{◌≡◌, ℕ, ◌+◌, ◌^◌, ◌<◌, ◌≤◌, IfOk, Ok};
+ghost use Rattle.std.specs.Prelude.{◌≡◌, ◌+◌, ◌^◌, ◌<◌, ◌≤◌, IfOk, Ok};
 ghost use Rattle.std.specs.Prelude.{drop, length, min, take, unwrap_or, []};
-ghost use Rattle.entry_checks.specs.Meant.{span_meant};
+ghost use Rattle.entry_checks.specs.Meant.{file_meant, span_meant};
 ghost use Rattle.entry_checks.specs.Operation.{file_limit};
 ghost use Rattle.op_meaning.specs.Deciding.{buffer_written_if_any, Decides, DecidesReads};
 ghost use Rattle.op_meaning.specs.Deciding.{DecidesFixedReads, DecidesWrites};
 ghost use Rattle.op_meaning.specs.Decision.{effect_of, IsWithinLimits};
 ghost use Rattle.op_meaning.specs.Handles.{handle_meant, opened_meant};
-ghost use Rattle.op_meaning.specs.Meaning.{read_fixed_meaning, readv_meaning};
+ghost use Rattle.op_meaning.specs.Lookups.{FindsFile, Tells};
+ghost use Rattle.op_meaning.specs.Meaning.{handle, read_fixed_meaning, readv_meaning};
 ghost use Rattle.op_meaning.specs.Meaning.{write_fixed_meaning, write_meaning, write_start};
 ghost use Rattle.trace_format.specs.Sides.{most_moved};
-ghost use Rattle.trace_format.specs.declared.trace.Trace.{Trace};
 ghost use Rattle.world_parts.specs.World as world;
 
 use crate::decision::Decision;
@@ -18,8 +18,9 @@ use crate::handles::{
     OpenFile, is_bad_offset, readable, size, span_start, transfer_start, writable,
 };
 use crate::limits::{LARGEST, MOST_MOVED};
+use crate::lookup::Lookup;
 use crate::site::Site;
-use entry_checks::BufferSpan;
+use entry_checks::{BufferSpan, FileNumber};
 use sqe_codec::Errno;
 use trace_format::Trace;
 use world_parts::State;
@@ -74,17 +75,22 @@ pub(crate) struct FileRead {
 ///
 /// That of the first test that fails: EBADF, EISDIR, EINVAL.
 pub(crate) fn reading<'a>(
-    opened: Option<OpenFile>,
+    site: Site<'_>,
+    file: FileNumber,
+    lookup: &Lookup<'a>,
     offset: u64,
     total: u64,
     state: &State,
 ) -> Result<Decision<'a>, Errno>
-    ensures meaning { (t : Trace) (k r : ℕ) → Decides
-        (readv_meaning state.now r (opened_meant state.now opened) offset total)
-        (effect_of t k r state.now) result }
-    ensures limits { (r : ℕ) → IfOk result (IsWithinLimits state.now r) }
+    requires { Tells lookup.now
+        (FindsFile site.trace.now site.ring state.now (file_meant file) lookup.now) }
+    ensures meaning { Decides
+        (readv_meaning state.now site.entry.ring
+        (handle site.entry.trace.now state.now site.entry.ring (file_meant file)) offset total)
+        (effect_of site.entry.trace.now site.entry.place site.entry.ring state.now) result }
+    ensures limits { IfOk result (IsWithinLimits state.now site.entry.ring) }
 {
-    let file = readable_at(opened, offset, state)?;
+    let file = readable_at(lookup.file_at(site, file, state), offset, state)?;
     let count = total.min(u64::from(MOST_MOVED)) as u32;
     if count == 0 {
         return Ok(Decision::Nothing);
@@ -113,17 +119,22 @@ pub(crate) struct BufferRead {
 /// That of the first test that fails: EBADF, EISDIR, EFAULT, EINVAL.
 pub(crate) fn reading_fixed<'a>(
     site: Site<'_>,
-    opened: Option<OpenFile>,
+    file: FileNumber,
+    lookup: &Lookup<'a>,
     offset: u64,
     span: BufferSpan,
     state: &State,
 ) -> Result<Decision<'a>, Errno>
+    requires { Tells lookup.now
+        (FindsFile site.trace.now site.ring state.now (file_meant file) lookup.now) }
     ensures meaning { Decides
         (read_fixed_meaning site.entry.trace.now state.now site.entry.ring
-        (opened_meant state.now opened) offset (span_meant span))
+        (handle site.entry.trace.now state.now site.entry.ring (file_meant file)) offset
+        (span_meant span))
         (effect_of site.entry.trace.now site.entry.place site.entry.ring state.now) result }
     ensures limits { IfOk result (IsWithinLimits state.now site.entry.ring) }
 {
+    let opened = lookup.file_at(site, file, state);
     let (file, at) = readable_into(site.trace, site.ring, opened, offset, span, state)?;
     let count = span.length.min(MOST_MOVED);
     if count == 0 {
@@ -186,17 +197,24 @@ pub(crate) struct FileWrite<'a> {
 ///
 /// That of the first test that fails: EBADF, EINVAL, EFBIG.
 pub(crate) fn writing<'a>(
-    opened: Option<OpenFile>,
+    site: Site<'_>,
+    file: FileNumber,
+    lookup: &Lookup<'a>,
     offset: u64,
     bytes: &'a [u8],
     state: &State,
 ) -> Result<Decision<'a>, Errno>
-    ensures meaning { (t : Trace) (k r : ℕ) → Decides
-        (write_meaning state.now (opened_meant state.now opened) offset (Ok bytes.now))
-        (effect_of t k r state.now) result }
-    ensures limits { (r : ℕ) → length bytes.now ≤ most_moved
-        → IfOk result (IsWithinLimits state.now r) }
+    requires { Tells lookup.now
+        (FindsFile site.trace.now site.ring state.now (file_meant file) lookup.now) }
+    ensures meaning { Decides
+        (write_meaning state.now
+        (handle site.entry.trace.now state.now site.entry.ring (file_meant file)) offset
+        (Ok bytes.now))
+        (effect_of site.entry.trace.now site.entry.place site.entry.ring state.now) result }
+    ensures limits { length bytes.now ≤ most_moved
+        → IfOk result (IsWithinLimits state.now site.entry.ring) }
 {
+    let opened = lookup.file_at(site, file, state);
     let (file, start) = writable_at(opened, offset, bytes.len(), state)?;
     if bytes.is_empty() {
         return Ok(Decision::Nothing);
@@ -280,17 +298,22 @@ fn writable_from(
 /// That of the first test that fails: EBADF, EFAULT, EINVAL, EFBIG.
 pub(crate) fn writing_fixed<'a>(
     site: Site<'_>,
-    opened: Option<OpenFile>,
+    file: FileNumber,
+    lookup: &Lookup<'a>,
     offset: u64,
     span: BufferSpan,
     state: &State,
 ) -> Result<Decision<'a>, Errno>
+    requires { Tells lookup.now
+        (FindsFile site.trace.now site.ring state.now (file_meant file) lookup.now) }
     ensures meaning { Decides
         (write_fixed_meaning site.entry.trace.now state.now site.entry.ring
-        (opened_meant state.now opened) offset (span_meant span))
+        (handle site.entry.trace.now state.now site.entry.ring (file_meant file)) offset
+        (span_meant span))
         (effect_of site.entry.trace.now site.entry.place site.entry.ring state.now) result }
     ensures limits { IfOk result (IsWithinLimits state.now site.entry.ring) }
 {
+    let opened = lookup.file_at(site, file, state);
     let write = writable_from(site.trace, site.ring, opened, offset, span, state)?;
     if write.count == 0 {
         return Ok(Decision::Nothing);

@@ -1,5 +1,6 @@
 //! What a place reads and writes.
-ghost use Rattle.std.specs.Prelude.{◌≡◌, ◌||◌, ◌&&◌, ◌++◌, ◌∷◌, [], length, map, take, true, OnOk};
+ghost use Rattle.std.specs.Prelude.{◌≡◌, ◌≤◌, ◌||◌, ◌&&◌, ◌++◌, ◌∷◌, [], drop, length, map, take};
+ghost use Rattle.std.specs.Prelude.{true, IfOk, OnOk};
 ghost use Rattle.std.specs.List.{list_any};
 ghost use Rattle.world_parts.specs.Items as items;
 ghost use Rattle.world_parts.specs.Uses.{item_meant, only_read, use_meant};
@@ -135,11 +136,21 @@ impl Footprint {
         self.uses.append(&mut other.uses)
     }
 
-    /// Makes every item one that is only read.
-    pub fn make_read_only(&mut self)
-        ensures { self.new ≡ map (λ u. items.reads u.item) self.old }
+    /// How many items are read and written.
+    pub fn len(&self) -> usize
+        ensures { result ≡ length self.now }
     {
-        make_reads(self.uses.as_mut_slice());
+        self.uses.len()
+    }
+
+    /// Makes every item but the first ones, as many as a number, one that is only read.
+    pub fn make_read_only(&mut self, first: usize)
+        requires { first ≤ length self.old }
+        ensures { self.new ≡ take first self.old
+            ++ map (λ u. items.reads u.item) (drop first self.old) }
+    {
+        let (_, behind) = self.uses.as_mut_slice().split_at_mut(first);
+        make_reads(behind);
     }
 
     /// Drops all items but the first ones, as many as a number.
@@ -149,12 +160,64 @@ impl Footprint {
         self.uses.truncate(count);
     }
 
+    /// A copy of the first items, as many as a number.
+    ///
+    /// # Errors
+    ///
+    /// Want of memory.
+    pub fn first(&self, alloc: Global, count: usize) -> Result<Footprint, AllocError>
+        requires { count ≤ length self.now }
+        ensures { IfOk result (λ f. f ≡ take count self.now) }
+    {
+        copies(alloc, &self.uses.as_slice()[..count])
+    }
+
     /// What is read and written, in the order in which it was added.
     pub fn uses(&self) -> &[Use]
         ensures { map use_meant result.now ≡ self.now }
     {
         self.uses.as_slice()
     }
+}
+
+/// A copy of an item.
+fn copied(alloc: Global, item: &Item) -> Result<Item, AllocError>
+    ensures { IfOk result (λ copy. item_meant copy ≡ item_meant item.now) }
+{
+    Ok(match item {
+        Item::Chain(chain) => Item::Chain(*chain),
+        Item::Ring(ring) => Item::Ring(*ring),
+        Item::Slot(ring, slot) => Item::Slot(*ring, *slot),
+        Item::Descriptor(number) => Item::Descriptor(*number),
+        Item::Description(number) => Item::Description(*number),
+        Item::Position(description) => Item::Position(*description),
+        Item::Size(node) => Item::Size(*node),
+        Item::Bytes(node, low, high) => Item::Bytes(*node, *low, *high),
+        Item::Name(directory, name) => {
+            Item::Name(*directory, Vec::from_slice(alloc, name.as_slice())?)
+        }
+        Item::Names(directory) => Item::Names(*directory),
+        Item::Buffer(ring, index, low, high) => Item::Buffer(*ring, *index, *low, *high),
+        Item::AllNames(below) => Item::AllNames(*below),
+        Item::AllBytesAndSizes(below) => Item::AllBytesAndSizes(*below),
+        Item::AllPositions(below) => Item::AllPositions(*below),
+        Item::AllDescriptions(below) => Item::AllDescriptions(*below),
+        Item::AllDescriptors => Item::AllDescriptors,
+    })
+}
+
+/// Copies of some uses.
+fn copies(alloc: Global, uses: &[Use]) -> Result<Footprint, AllocError>
+    ensures { IfOk result (λ f. f ≡ map use_meant uses.now) }
+{
+    let mut footprint = Footprint::new(alloc);
+    for used in uses {
+        footprint.push(Use {
+            item: copied(alloc, &used.item)?,
+            written: used.written,
+        })?;
+    }
+    Ok(footprint)
 }
 
 /// Makes every use one that reads.

@@ -13,16 +13,16 @@ use Rattle.foot_print.proofs.of_place.turn_uses.Goals as goal
 pub check-requires : goal.check-requires
 check-requires c = spelled_fits c.args.trace.now c.requires.trace c.args.place (step_meant c.step-step.result) c.in-Submit.entry.now c.step-step.ensures (ap action_meant c.in-Submit.is)
 
-pub returns-in_ok-operation_uses-in-Some : goal.returns-in_ok-operation_uses-in-Some
-returns-in_ok-operation_uses-in-Some c =
+pub returns-in-Some : goal.returns-in-Some
+returns-in-Some c =
     let t = c.args.trace.now in
     let s = c.args.state.now in
     let role = c.args.role_there.now in
     let ring = c.step-step.result.ring in
     let entry = c.in-Submit.entry.now in
     let same : Some (meant c.in-Some.op) ≡ operation_of (turn_as t s ring entry role) = ap (option_map meant) (sym c.in-Some.is) ∙ c.running.ensures ring entry ∙ ap (λ x. operation_of (entry_turn ring entry role (broken s role.chain) x)) c.check.ensures in
-    let uses = c.in_ok-operation_uses-in-Some.ensures ∙ submitted_uses t c.args.place s c.step-step.result c.in-Submit.entry role (Some (meant c.in-Some.op)) c.step-step.ensures c.in-Submit.is c.requires.role same in
-    on_ok_weaker c.append.result (λ e. e ∙ ap (λ f. c.args.footprint.now ++ f) uses) c.append.ensures
+    let uses = submitted_uses t c.args.place s c.step-step.result c.in-Submit.entry role (Some (meant c.in-Some.op)) c.step-step.ensures c.in-Submit.is c.requires.role same in
+    on_ok_weaker c.operation_uses.result (λ e. e ∙ ap (λ f. c.args.footprint.now ++ f) uses) c.operation_uses.ensures
 
 pub returns-in-None : goal.returns-in-None
 returns-in-None c =

@@ -3,7 +3,6 @@ use Rattle.entry_checks.specs.Meant.{meant}
 use Rattle.foot_print.specs.Reach.{shape_seen}
 use Rattle.foot_print.specs.Shapes.{shape_meant}
 use Rattle.foot_print.proofs.Outlooks as outlooks
-use Rattle.foot_print.proofs.Completing.{row_completed}
 use Rattle.item_index.specs.Ahead.{written_before}
 use Rattle.op_meaning.specs.Footprint.{order_uses}
 use Rattle.foot_print.proofs.reaching.operation_outlook.Goals as goal
@@ -32,10 +31,9 @@ returns-clause-reach c =
     let order = order_uses a.site.ring a.role_there.now in
     let shape = shape_meant c.shape_of-shape.result in
     let looked = c.in_ok-lookup.ensures.seen ∙ ap (λ f. f ++ shape_seen a.site.trace.now a.site.ring a.state.now shape) c.new-deciding.ensures in
-    let behind = row_completed a.site.trace.now a.site.place a.site.ring a.state.now (meant a.op) shape c.shape_seen.new.footprint c.in_ok-lookup.lookup c.shape_of-shape.ensures looked c.in_ok-lookup.ensures.found in
-    let own = c.in_ok-row.ensures ∙ ap (λ f. order ++ f) behind in
+    let known = c.in_ok-append.ensures ∙ (λ i. c.in_ok-known.ensures i ++ (looked ∙ ap (shape_seen a.site.trace.now a.site.ring a.state.now) c.shape_of-shape.ensures) i) in
     outlooks.decided_reach order a.site.trace.now a.site.place a.site.ring a.state.now (written_before a.behind.now) (meant a.op) shape c.shape_of-shape.ensures c.shape_seen.new.footprint looked
-    c.in_ok-row.row (sym c.first_met.ensures.first ∙ c.in_default.is) own c.decided_outlook.result c.decided_outlook.ensures.reach
+    (sym c.first_met.ensures.first ∙ c.in_default.is) c.decided_outlook.result (c.decided_outlook.ensures.reach order known)
 
 pub returns-clause-awaits : goal.returns-clause-awaits
 returns-clause-awaits c =
@@ -43,7 +41,6 @@ returns-clause-awaits c =
     let order = order_uses a.site.ring a.role_there.now in
     let shape = shape_meant c.shape_of-shape.result in
     let looked = c.in_ok-lookup.ensures.seen ∙ ap (λ f. f ++ shape_seen a.site.trace.now a.site.ring a.state.now shape) c.new-deciding.ensures in
-    let behind = row_completed a.site.trace.now a.site.place a.site.ring a.state.now (meant a.op) shape c.shape_seen.new.footprint c.in_ok-lookup.lookup c.shape_of-shape.ensures looked c.in_ok-lookup.ensures.found in
-    let own = c.in_ok-row.ensures ∙ ap (λ f. order ++ f) behind in
+    let known = c.in_ok-append.ensures ∙ (λ i. c.in_ok-known.ensures i ++ (looked ∙ ap (shape_seen a.site.trace.now a.site.ring a.state.now) c.shape_of-shape.ensures) i) in
     outlooks.decided_awaits order a.site.trace.now a.site.place a.site.ring a.state.now (written_before a.behind.now) (meant a.op) shape c.shape_of-shape.ensures c.shape_seen.new.footprint looked
-    c.in_ok-row.row (sym c.first_met.ensures.first ∙ c.in_default.is) own c.decided_outlook.result c.decided_outlook.ensures.awaited c.decided_outlook.ensures.lowest
+    (sym c.first_met.ensures.first ∙ c.in_default.is) c.decided_outlook.result (c.decided_outlook.ensures.awaited order known) c.decided_outlook.ensures.lowest

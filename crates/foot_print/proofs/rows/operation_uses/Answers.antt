@@ -1,18 +1,13 @@
-use Rattle.std.proofs.Common.{◌++◌, ap, ◌∙◌}
-use Rattle.std.proofs.lemmas.Result.{IfOk-weaker}
+use Rattle.std.proofs.Common.{◌∙◌}
+use Rattle.std.proofs.lemmas.Result.{on_ok_weaker}
 use Rattle.entry_checks.specs.Meant.{meant}
-use Rattle.foot_print.specs.Reach.{shape_seen}
-use Rattle.foot_print.specs.Shapes.{shape_meant}
-use Rattle.foot_print.proofs.Completing.{row_completed}
+use Rattle.foot_print.proofs.Completing.{behind_order}
 use Rattle.foot_print.proofs.rows.operation_uses.Goals as goal
 
 pub returns : goal.returns
 returns c =
-    let t = c.args.site.trace.now in
-    let r = c.args.site.ring in
-    let s = c.args.state.now in
-    let shape = shape_meant c.shape_of.result in
-    let looked = c.in_ok-lookup.ensures.seen ∙ ap (λ f. f ++ shape_seen t r s shape) c.new-seen.ensures in
-    IfOk-weaker c.uses_behind.result _ _
-    (λ f is. is ∙ row_completed t c.args.site.place r s (meant c.args.op) shape c.shape_seen.new.footprint c.in_ok-lookup.lookup c.shape_of.ensures looked c.in_ok-lookup.ensures.found)
+    let looked = rw c.shape_of.ensures at c.in_ok-lookup.ensures.seen in
+    let finds = rw c.shape_of.ensures at c.in_ok-lookup.ensures.found in
+    on_ok_weaker c.uses_behind.result
+    (λ is. is ∙ behind_order c.args.footprint.now c.shape_seen.new.footprint c.args.site.trace.now c.args.site.place c.args.site.ring c.args.state.now (meant c.args.op) c.in_ok-lookup.lookup looked finds)
     c.uses_behind.ensures
