@@ -1,32 +1,28 @@
--- The items by which a place waits, by the step that its trace has there.
-use Rattle.std.specs.Prelude.{◌≡◌, ◌⊎◌, ℕ, suc, ◌+◌, Bool, true, false, not, ◌&&◌, ◌||◌, ◌==◌, leb, [], ◌∷◌, ◌++◌, take, cond, Option, Some, None, Result, Ok, Err, IfOk, IfSome, is_some, refl, if◌then◌else◌}
+-- The items by which a place waits, by what it does if its chain isn't broken.
+use Rattle.std.specs.Prelude.{◌≡◌, ◌⊎◌, ℕ, List, suc, ◌+◌, Bool, true, false, not, ◌&&◌, ◌||◌, leb, [], ◌∷◌, ◌++◌, take, cond, Option, Some, None, Result, Ok, Err, IfOk, IfSome, is_some, refl, if◌then◌else◌}
 use Rattle.std.specs.List.{position_from}
 use Rattle.std.proofs.Common.{add-one, arith, inl, inr, subst}
 use Rattle.std.proofs.lemmas.List.{append-nil}
-use mathlib.Core.Path.{ap, ◌∙◌, sym}
-use Rattle.std.specs.Borrow.{Bor}
+use mathlib.Core.Path.{ap, ◌∙◌, sym, transport}
+use Rattle.std.specs.Option.{option_map}
 use Rattle.sqe_codec.specs.Answers.{each}
 use Rattle.sqe_codec.specs.declared.errno.Errno.{Errno}
-use Rattle.sqe_codec.specs.declared.errno.Errno.TheVariants.{ECANCELED}
-use Rattle.trace_format.specs.declared.steps.Step as borrowed
-use Rattle.trace_format.specs.declared.steps.Action.TheVariants as actions
 use Rattle.trace_format.specs.declared.entry.Entry.{Entry}
 use Rattle.trace_format.specs.declared.trace.Trace.{Trace}
-use Rattle.trace_format.specs.Steps.{step_at, step_meant, action_meant, submit}
-use Rattle.entry_checks.specs.Check.{check}
 use Rattle.entry_checks.specs.Operation.{Operation}
 use Rattle.chain_plan.specs.declared.role.Role.{Role}
 use Rattle.chain_plan.specs.Chain.{role}
 use Rattle.world_parts.specs.Items.{Item, Footprint, one, chain_flag}
 use Rattle.world_parts.specs.World.{World, Broken, broken}
-use Rattle.op_meaning.specs.Footprint.{Shape, shape, order_uses, row_in, turn_uses}
-use Rattle.op_meaning.specs.Step.{Turn, refused, canceled, runs, posts, doomed_turn, running_turn, entry_turn}
-use Rattle.foot_print.specs.Reach.{is_canceled, look_of, shape_seen, seen, task, running_row}
-use Rattle.foot_print.specs.Foreseen.{meets_written, may_run, entry_reach, unresolved_given, decided_given, operation_given, reach_given, undoomed, member_runs}
-use Rattle.foot_print.specs.Outlook.{takes_lowest, turn_takes_lowest, IsFirstWritten, WaitsBy, items_awaited, IsOutlook, Awaits, AwaitsAsOperation, AwaitsAsEntry}
-use Rattle.foot_print.specs.declared.reaching.Awaited.TheVariants.{Items}
+use Rattle.op_meaning.specs.Footprint.{Shape, shape, order_uses, ring_at, row_in, turn_uses}
+use Rattle.op_meaning.specs.Step.{Turn, filled, refused, canceled, runs, posts, running_turn, turn_under}
+use Rattle.op_meaning.proofs.Turns.{by_flag, under_flag}
+use Rattle.foot_print.specs.Reach.{is_canceled, look_of, order_of, shape_seen, seen, task, running_row}
+use Rattle.foot_print.specs.Foreseen.{meets_written, may_run, unresolved_given, decided_given, operation_given, reach_given, member_given, member_runs}
+use Rattle.foot_print.specs.Outlook.{takes_lowest, turn_takes_lowest, IsFirstWritten, WaitsBy, items_awaited, IsOutlook, Awaits, AwaitsAsOperation, MemberAwaits}
+use Rattle.foot_print.specs.declared.reaching.Awaited.TheVariants.{Items, Reach}
 use Rattle.foot_print.specs.declared.reaching.Outlook.{Outlook}
-use Rattle.foot_print.proofs.Given.{submitted_given}
+use Rattle.foot_print.proofs.Given.{filled_given, member_is_given, refused_given}
 
 -- the first of some items that is written
 module _ (w : Item → Bool) where
@@ -119,13 +115,6 @@ module _ (t : Trace) (k : ℕ) (s : World) (w : Item → Bool) (o : Outlook) whe
   settled row true a = a
   settled row false a = a
 
-  refused_at : (order : Footprint) (waits : Bool) (e : Errno) (p : Bool) → Awaits w [] order true false o → awaits_at order waits (Some (refused e p)) (Some (refused e p))
-  refused_at order waits e p a = settled (order ++ []) waits (subst (λ row. Awaits w [] row true false o) (sym (append-nil order)) a)
-
-  doomed_at : (order : Footprint) (waits : Bool) (c : Role) (v : Result Operation Errno) → Awaits w [] order true false o → awaits_at order waits (Some (doomed_turn c v)) (Some (doomed_turn c v))
-  doomed_at order waits c (Ok p) a = refused_at order waits ECANCELED (c.member == 0 || not c.quiet) a
-  doomed_at order waits c (Err e) a = refused_at order waits e (c.member == 0 || not c.quiet) a
-
   running_at : (order : Footprint) (waits : Bool) (r : ℕ) (e : Entry) (c : Role) (b : Option Broken) (p : Operation)
       → AwaitsAsOperation order t k r s w p (member_runs c b waits) o → awaits_at order waits (Some (runs r e p)) (Some (running_turn r e c b p))
   running_at order true r e c b p a = a
@@ -134,33 +123,34 @@ module _ (t : Trace) (k : ℕ) (s : World) (w : Item → Bool) (o : Outlook) whe
   running_at order false r e c (Some f) p a =
       elim (leb 2 c.length) as (λ l. AwaitsAsOperation order t k r s w p (not (l && true)) o → awaits_at order false (Some (runs r e p)) (Some (if l then canceled (posts f) else runs r e p))) [ true ↦ λ a. a | false ↦ λ a. a ] a
 
-  entry_at : (order : Footprint) (r : ℕ) (e : Entry) (c : Role) (v : Result Operation Errno)
-      → AwaitsAsEntry order t k r s w c (undoomed c v) o → awaits_at order (w (one (chain_flag c.chain))) (Some (entry_turn r e c None v)) (Some (entry_turn r e c (broken s c.chain) v))
-  entry_at order r e c (Err x) a = doomed_at order _ c (Err x) a
-  entry_at order r e c (Ok p) a =
-      elim c.doomed as (λ d. AwaitsAsEntry order t k r s w c (if d then None else Some p) o
-      → awaits_at order (w (one (chain_flag c.chain))) (Some (if d then doomed_turn c (Ok p) else running_turn r e c None p)) (Some (if d then doomed_turn c (Ok p) else running_turn r e c (broken s c.chain) p)))
-      [ true ↦ λ a. doomed_at order _ c (Ok p) a | false ↦ λ a. running_at order _ r e c (broken s c.chain) p a ] a
-
-  submitted : (x : borrowed.Step) (e : Bor Entry) (c : Role) (v : Option Operation) → step_at t k ≡ Some (step_meant x) → x.action ≡ actions.Submit e → c ≡ role t k → v ≡ undoomed c (check t.version e.now)
-      → AwaitsAsEntry (order_uses x.ring c) t k x.ring s w c v o → Awaits w (look_of t k s (task t k)).deciding (running_row t k s) (may_run t k s w) (turn_takes_lowest (task t k)) o
-  submitted x e c v at is own same a =
-      let here : step_at t k ≡ Some (record { ring = x.ring; from_record = x.record_number; action = submit e.now }) = at ∙ ap (λ y. Some (record { ring = x.ring; from_record = x.record_number; action = action_meant y })) is in
-      let known = subst (λ u. AwaitsAsEntry (order_uses x.ring c) t k x.ring s w c u o) same a in
-      let moved = subst (λ d. AwaitsAsEntry (order_uses x.ring d) t k x.ring s w d (undoomed d (check t.version e.now)) o) own known in
-      rw here (entry_at (order_uses x.ring (role t k)) x.ring e.now (role t k) (check t.version e.now) moved)
-
   told : (a : Option Footprint) → IfSome a (λ f. IsFirstWritten w (look_of t k s (task t k)).deciding f ⊎ ((meets_written w (look_of t k s (task t k)).deciding ≡ false) × (f ≡ running_row t k s))) → is_some a ≡ may_run t k s w → IfSome a (λ f. WaitsBy t k s w f)
   told None h e = tt
   told (Some f) h e = record { runs = sym e; by = h }
 
-  outlook : o.reach ≡ reach_given t k s w → Awaits w (look_of t k s (task t k)).deciding (running_row t k s) (may_run t k s w) (turn_takes_lowest (task t k)) o → IsOutlook t k s w o
-  outlook reach a = record { reach = reach; by = told (items_awaited o.waits_by o.reach) a.by a.told; told = a.told; lowest = a.lowest }
+  at_task : (y : Turn) → Some y ≡ task t k → o.reach ≡ reach_given t k s w → awaits_at (order_of t k) (w (one (chain_flag (role t k).chain))) (Some y) (Some (under_flag (role t k) (broken s (role t k).chain) y)) → IsOutlook t k s w o
+  at_task y is reach awaits =
+      let flag = broken s (role t k).chain in
+      let a : awaits_at (order_of t k) (w (one (chain_flag (role t k).chain))) (task t k) (turn_under t k flag)
+      = transport (λ i. awaits_at (order_of t k) (w (one (chain_flag (role t k).chain))) (is i) ((ap (option_map (under_flag (role t k) flag)) is ∙ sym (by_flag t k flag)) i)) awaits in
+      record { reach = reach; by = told (items_awaited o.waits_by o.reach) a.by a.told; told = a.told; lowest = a.lowest }
 
--- an entry, by its role and by its operation, if its chain isn't doomed
-pub submitted_outlook : {E : Type 0} (t : Trace) (k : ℕ) (s : World) (w : Item → Bool) (x : borrowed.Step) (e : Bor Entry) (c : Role) (v : Option Operation)
-    → step_at t k ≡ Some (step_meant x) → x.action ≡ actions.Submit e → c ≡ role t k → v ≡ undoomed c (check t.version e.now) → (r : Result Outlook E)
-    → IfOk r (λ o. o.reach ≡ entry_reach t k x.ring s w c v) → IfOk r (λ o. AwaitsAsEntry (order_uses x.ring c) t k x.ring s w c v o) → IfOk r (λ o. IsOutlook t k s w o)
-submitted_outlook t k s w x e c v at is own same (Ok o) reach awaits =
-    outlook t k s w o (reach ∙ submitted_given t k s w x e c v at is own same) (submitted t k s w o x e c v at is own same awaits)
-submitted_outlook t k s w x e c v at is own same (Err y) reach awaits = tt
+  pub filled_outlook : (r b at : ℕ) (new : List ℕ) → Some (filled r b at new) ≡ task t k → o ≡ record { reach = order_of t k ++ turn_uses t k s (filled r b at new); waits_by = Reach; takes_lowest = false } → IsOutlook t k s w o
+  filled_outlook r b at new is e =
+      let row = order_of t k ++ turn_uses t k s (filled r b at new) in
+      at_task (filled r b at new) is (ap (λ o. o.reach) e ∙ filled_given t k s w r b at new is) (settled row _ (subst (Awaits w [] row true false) (sym e) (record { by = inr (refl, refl); told = refl; lowest = refl })))
+
+  pub refused_outlook : (x : Errno) (p : Bool) → Some (refused x p) ≡ task t k → o ≡ record { reach = order_of t k; waits_by = Reach; takes_lowest = false } → IsOutlook t k s w o
+  refused_outlook x p is e =
+      at_task (refused x p) is (ap (λ o. o.reach) e ∙ refused_given t k s w x p is)
+      (settled (order_of t k ++ []) _ (subst (Awaits w [] (order_of t k ++ []) true false) (sym e) (record { by = inr (refl, sym (append-nil (order_of t k))); told = refl; lowest = refl })))
+
+  pub member_outlook : (r : ℕ) (x : Entry) (p : Operation) → Some (runs r x p) ≡ task t k → o.reach ≡ member_given (order_of t k) t k r s w (role t k) p → MemberAwaits (order_of t k) t k r s w (role t k) p o → IsOutlook t k s w o
+  member_outlook r x p is reach awaits =
+      at_task (runs r x p) is (reach ∙ member_is_given t k s w r x p is) (running_at (order_of t k) _ r x (role t k) (broken s (role t k).chain) p awaits)
+
+-- the same, where that can be refused memory, by the ring and the role of the place
+pub members_outlook : {E : Type 0} (t : Trace) (k : ℕ) (s : World) (w : Item → Bool) (r : ℕ) (c : Role) (x : Entry) (p : Operation) → r ≡ ring_at t k → c ≡ role t k → Some (runs r x p) ≡ task t k → (o : Result Outlook E)
+    → IfOk o (λ o. o.reach ≡ member_given (order_uses r c) t k r s w c p) → IfOk o (MemberAwaits (order_uses r c) t k r s w c p) → IfOk o (IsOutlook t k s w)
+members_outlook t k s w r c x p here own is (Ok o) reach awaits =
+    member_outlook t k s w o r x p is (reach ∙ (λ i. member_given (order_uses (here i) (own i)) t k r s w (own i) p)) (transport (λ i. MemberAwaits (order_uses (here i) (own i)) t k r s w (own i) p o) awaits)
+members_outlook t k s w r c x p here own is (Err e) _ _ = tt

@@ -5,7 +5,7 @@ use Rattle.chain_plan.specs.declared.role.Role.{Role}
 use Rattle.entry_checks.specs.Operation.{Operation, openat}
 use Rattle.world_parts.specs.World.{World, broken}
 use Rattle.world_parts.specs.Items.{Item, one, chain_flag, Use, Footprint}
-use Rattle.op_meaning.specs.Footprint.{order_uses, row_in}
+use Rattle.op_meaning.specs.Footprint.{row_in}
 use Rattle.op_meaning.specs.Step.{Turn, runs}
 use Rattle.foot_print.specs.Reach.{seen, look_of, task, running_row}
 use Rattle.foot_print.specs.Foreseen.{meets_written, may_run, member_runs, reach_given}
@@ -60,10 +60,6 @@ pub record Awaits (w : Item → Bool) (deciding row : Footprint) (may takes : Bo
 abbrev pub AwaitsAsOperation : Footprint → Trace → ℕ → ℕ → World → (Item → Bool) → Operation → Bool → Outlook → Type 0
 AwaitsAsOperation order t k r s w p may o = Awaits w (seen t r s p) (order ++ row_in t k r s p) may (takes_lowest p) o
 
-abbrev pub AwaitsAsEntry : Footprint → Trace → ℕ → ℕ → World → (Item → Bool) → Role → Option Operation → Outlook → Type 0
-AwaitsAsEntry order t k r s w c None o = Awaits w [] order true false o
-AwaitsAsEntry order t k r s w c (Some p) o = AwaitsAsOperation order t k r s w p (member_runs c (broken s c.chain) (w (one (chain_flag c.chain)))) o
-
--- The same behind the order of the entry's ring and chain.
-abbrev pub EntryAwaits : Trace → ℕ → ℕ → World → (Item → Bool) → Role → Option Operation → Outlook → Type 0
-EntryAwaits t k r s w c p o = AwaitsAsEntry (order_uses r c) t k r s w c p o
+-- Of a member of a chain that isn't doomed, by whether it may run.
+abbrev pub MemberAwaits : Footprint → Trace → ℕ → ℕ → World → (Item → Bool) → Role → Operation → Outlook → Type 0
+MemberAwaits order t k r s w c p o = AwaitsAsOperation order t k r s w p (member_runs c (broken s c.chain) (w (one (chain_flag c.chain)))) o

@@ -1,30 +1,83 @@
 -- The turn of a place, by the step that its trace has there.
-use Rattle.std.proofs.Common.{◌≡◌, ℕ, Some, refl, sym, ap, ◌∙◌}
+use Rattle.std.proofs.Common.{◌≡◌, ℕ, Option, Some, None, Result, Ok, Err, Bool, true, false, refl, sym, ap, ◌∙◌}
 use Rattle.std.specs.Borrow.{Bor}
-use Rattle.std.specs.Prelude.{List}
+use Rattle.std.specs.Prelude.{List, leb, if◌then◌else◌}
 use Rattle.std.specs.Option.{option_map}
 use Rattle.sqe_codec.specs.Answers.{each}
+use Rattle.sqe_codec.specs.declared.errno.Errno.{Errno}
 use Rattle.trace_format.specs.declared.steps.Step as borrowed
 use Rattle.trace_format.specs.declared.steps.Action.TheVariants as actions
 use Rattle.trace_format.specs.declared.entry.Entry.{Entry}
 use Rattle.trace_format.specs.declared.trace.Trace.{Trace}
-use Rattle.trace_format.specs.Steps.{submit, fill, step_at, step_meant, action_meant}
+use Rattle.trace_format.specs.Steps.{Step, Action, submit, fill, step_at, step_meant, action_meant}
 use Rattle.chain_plan.specs.declared.role.Role.{Role}
 use Rattle.chain_plan.specs.Chain.{role}
-use Rattle.world_parts.specs.World.{World, apply_all}
-use Rattle.op_meaning.specs.Turns.{turn_as}
-use Rattle.op_meaning.specs.Step.{Turn, filled, turn, reply_of, changes_in, step_reply, step_world}
+use Rattle.entry_checks.specs.Check.{check}
+use Rattle.entry_checks.specs.Operation.{Operation}
+use Rattle.world_parts.specs.World.{World, Broken, apply_all}
+use Rattle.op_meaning.specs.Step.{Turn, filled, runs, doomed_turn, running_turn, entry_turn, turn, turn_under, reply_of, changes_in, step_reply, step_world}
 
-pub submitted : (t : Trace) (k : ℕ) (s : World) (x : borrowed.Step) (e : Bor Entry) (c : Role) → step_at t k ≡ Some (step_meant x) → x.action ≡ actions.Submit e → c ≡ role t k → turn t k s ≡ Some (turn_as t s x.ring e.now c)
-submitted t k s x e c at is own =
+-- of an entry
+pub submitted : (t : Trace) (k : ℕ) (b : Option Broken) (x : borrowed.Step) (e : Bor Entry) (c : Role) → step_at t k ≡ Some (step_meant x) → x.action ≡ actions.Submit e → c ≡ role t k
+    → Some (entry_turn x.ring e.now c b (check t.version e.now)) ≡ turn_under t k b
+submitted t k b x e c at is own =
     let here : step_at t k ≡ Some (record { ring = x.ring; from_record = x.record_number; action = submit e.now }) = at ∙ ap (λ a. Some (record { ring = x.ring; from_record = x.record_number; action = action_meant a })) is in
-    rw here (ap (λ d. Some (turn_as t s x.ring e.now d)) (sym own))
+    rw here (ap (λ d. Some (entry_turn x.ring e.now d b (check t.version e.now))) own)
 
--- The turn, where a buffer is filled.
-pub fills : (t : Trace) (k : ℕ) (s : World) (x : borrowed.Step) (b at : ℕ) (bytes : Bor (List ℕ)) → step_at t k ≡ Some (step_meant x) → x.action ≡ actions.Fill b at bytes → turn t k s ≡ Some (filled x.ring b at bytes.now)
-fills t k s x b at bytes there is =
-    let here : step_at t k ≡ Some (record { ring = x.ring; from_record = x.record_number; action = fill b at bytes.now }) = there ∙ ap (λ a. Some (record { ring = x.ring; from_record = x.record_number; action = action_meant a })) is in
+-- where a buffer is filled
+pub fills : (t : Trace) (k : ℕ) (b : Option Broken) (x : borrowed.Step) (buffer at : ℕ) (bytes : Bor (List ℕ)) → step_at t k ≡ Some (step_meant x) → x.action ≡ actions.Fill buffer at bytes
+    → Some (filled x.ring buffer at bytes.now) ≡ turn_under t k b
+fills t k b x buffer at bytes there is =
+    let here : step_at t k ≡ Some (record { ring = x.ring; from_record = x.record_number; action = fill buffer at bytes.now }) = there ∙ ap (λ a. Some (record { ring = x.ring; from_record = x.record_number; action = action_meant a })) is in
     rw here refl
+
+-- what a place does that isn't canceled, and the same in a chain that broke
+abbrev pub under_flag : Role → Option Broken → Turn → Turn
+under_flag c b (runs r e o) = running_turn r e c b o
+under_flag c b y = y
+
+module _ (c : Role) (b : Option Broken) where
+  doomed_alike : (v : Result Operation Errno) → doomed_turn c v ≡ under_flag c b (doomed_turn c v)
+  doomed_alike (Ok o) = refl
+  doomed_alike (Err e) = refl
+
+  entry_alike : (r : ℕ) (e : Entry) (v : Result Operation Errno) → entry_turn r e c b v ≡ under_flag c b (entry_turn r e c None v)
+  entry_alike r e (Err x) = doomed_alike (Err x)
+  entry_alike r e (Ok o) =
+      elim c.doomed as (λ d. (if d then doomed_turn c (Ok o) else running_turn r e c b o) ≡ under_flag c b (if d then doomed_turn c (Ok o) else runs r e o)) [ true ↦ doomed_alike (Ok o) | false ↦ refl ]
+
+-- so the flag of its chain tells what a place does by what it would do if its chain weren't broken
+pub by_flag : (t : Trace) (k : ℕ) (b : Option Broken) → turn_under t k b ≡ option_map (under_flag (role t k) b) (turn_under t k None)
+by_flag t k b = at (step_at t k)
+  where
+    of : Option Broken → ℕ → Action → Turn
+    of f r (fill buffer p new) = filled r buffer p new
+    of f r (submit e) = entry_turn r e (role t k) f (check t.version e)
+
+    act : (r : ℕ) (x : Action) → of b r x ≡ under_flag (role t k) b (of None r x)
+    act r (fill buffer p new) = refl
+    act r (submit e) = entry_alike (role t k) b r e (check t.version e)
+
+    at : (x : Option Step) → option_map (λ (y : Step). of b y.ring y.action) x ≡ option_map (under_flag (role t k) b) (option_map (λ (y : Step). of None y.ring y.action) x)
+    at None = refl
+    at (Some y) = ap Some (act y.ring y.action)
+
+-- the flag of a chain of one makes no difference
+pub alone_alike : (c : Role) (b : Option Broken) (y : Turn) → under_flag c (if leb 2 c.length then b else None) y ≡ under_flag c b y
+alone_alike c b (runs r e o) = at (leb 2 c.length) b refl
+  where
+    at : (l : Bool) (f : Option Broken) → leb 2 c.length ≡ l → running_turn r e c (if l then f else None) o ≡ running_turn r e c f o
+    at true f is = refl
+    at false None is = refl
+    at false (Some f) is = rw is refl
+alone_alike c b y = refl
+
+pub of_flag : (t : Trace) (k : ℕ) (b : Option Broken) → turn_under t k (if leb 2 (role t k).length then b else None) ≡ turn_under t k b
+of_flag t k b = by_flag t k (if leb 2 (role t k).length then b else None) ∙ at (turn_under t k None) ∙ sym (by_flag t k b)
+  where
+    at : (x : Option Turn) → option_map (under_flag (role t k) (if leb 2 (role t k).length then b else None)) x ≡ option_map (under_flag (role t k) b) x
+    at None = refl
+    at (Some y) = ap Some (alone_alike (role t k) b y)
 
 -- The reply and the world of a turn are those of the place.
 pub reply_is : (t : Trace) (k : ℕ) (s : World) (y : Turn) → turn t k s ≡ Some y → Some (reply_of t k s y) ≡ step_reply t k s

@@ -1,25 +1,29 @@
--- A view of code: the turn of an entry, by the flag that its chain has in a world.
-use Rattle.std.specs.Prelude.{ℕ, Result}
-use Rattle.sqe_codec.specs.declared.errno.Errno.{Errno}
-use Rattle.trace_format.specs.declared.entry.Entry.{Entry}
+-- A view of code: what a place does, as a value of the program.
+use Rattle.std.specs.Prelude.{ℕ, ◌≤◌, IfSome}
+use Rattle.trace_format.specs.Sides.{most_moved}
 use Rattle.trace_format.specs.declared.trace.Trace.{Trace}
-use Rattle.chain_plan.specs.declared.role.Role.{Role}
-use Rattle.entry_checks.specs.Check.{check}
-use Rattle.entry_checks.specs.Operation.{Operation}
-use Rattle.world_parts.specs.World.{World, apply_all, broken}
-use Rattle.op_meaning.specs.Step.{Turn, changes_in, entry_turn, running_turn}
+use Rattle.entry_checks.specs.Meant.{meant}
+use Rattle.entry_checks.specs.Operation.{asked}
+use Rattle.world_parts.specs.World.{World, apply_all}
+use Rattle.op_meaning.specs.Step.{Turn, filled, refused, canceled, runs, changes_in}
+use Rattle.op_meaning.specs.declared.turn.Turn as code
+use Rattle.op_meaning.specs.declared.turn.TurnKind.{TurnKind}
+use Rattle.op_meaning.specs.declared.turn.TurnKind.TheVariants.{Fills, Refused, Canceled, Runs}
 
--- of an entry, by what its tests give
-abbrev pub turn_in : World → ℕ → Entry → Role → Result Operation Errno → Turn
-turn_in s r e c x = entry_turn r e c (broken s c.chain) x
+-- what is meant by it, in a ring
+abbrev pub kind_meant : ℕ → TurnKind → Turn
+kind_meant r (Fills b at bytes) = filled r b at bytes.now
+kind_meant r (Refused e posted) = refused e posted
+kind_meant r (Canceled posted) = canceled posted
+kind_meant r (Runs e o) = runs r e.now (meant o)
 
--- of an entry that is submitted
-abbrev pub turn_as : Trace → World → ℕ → Entry → Role → Turn
-turn_as t s r e c = turn_in s r e c (check t.version e)
+abbrev pub turn_meant : code.Turn → Turn
+turn_meant x = kind_meant x.ring x.kind
 
--- of one that passed its tests
-abbrev pub running_as : World → ℕ → Entry → Role → Operation → Turn
-running_as s r e c o = running_turn r e c (broken s c.chain) o
+-- a transfer that runs asks for no more than one moves
+abbrev pub IsShort : TurnKind → Type 0
+IsShort (Runs e o) = IfSome (asked (meant o)) (λ n. n ≤ most_moved)
+IsShort _ = Unit {0}
 
 -- the world that a turn leaves
 abbrev pub turn_world : Trace → ℕ → World → Turn → World

@@ -7,14 +7,13 @@ ghost use Rattle.entry_checks.specs.Operation.{asked};
 ghost use Rattle.op_meaning.specs.Outcomes.{answered, fails_as, reply_with};
 ghost use Rattle.op_meaning.specs.Runs.{run_on};
 ghost use Rattle.op_meaning.specs.Site.{IsSite};
-ghost use Rattle.op_meaning.specs.Step.{breaks, error_reply, posts};
+ghost use Rattle.op_meaning.specs.Step.{breaks, error_reply};
 ghost use Rattle.op_meaning.specs.Step.{reply_of, step_reply, step_world};
 ghost use Rattle.op_meaning.specs.Step as step;
-ghost use Rattle.op_meaning.specs.Turns.{turn_as, running_as, turn_world};
-ghost use Rattle.trace_format.specs.Sides.{is_side_of, most_moved};
+ghost use Rattle.op_meaning.specs.Turns.{turn_world};
+ghost use Rattle.trace_format.specs.Sides.{most_moved};
 ghost use Rattle.trace_format.specs.Steps.{places};
 ghost use Rattle.trace_format.specs.Text.{IsSpelled};
-ghost use Rattle.world_parts.specs.Uses.{broken_meant};
 ghost use Rattle.world_parts.specs.World.{apply_all};
 
 use crate::limits::MOST_MOVED;
@@ -22,12 +21,13 @@ use crate::outcome::Outcome;
 use crate::reply::Reply;
 use crate::rows::run_operation;
 use crate::site::Site;
+use crate::turn::{Turn, TurnKind, turn_of};
 use chain_plan::Role;
-use entry_checks::{Op, check};
+use entry_checks::Op;
 use extent_bytes::ReadBytes;
 use sqe_codec::{CQE_SKIP_SUCCESS, Errno, IO_HARDLINK};
 use std::alloc::{AllocError, Global};
-use trace_format::{Action, Entry, Trace};
+use trace_format::{Entry, Trace};
 use world_parts::{Broken, Part, State};
 
 /// Runs the step at a place of a trace on a part of the world.
@@ -69,91 +69,23 @@ pub fn run_on_state(
     ensures reply { IfOk result (λ reply. Some reply ≡ step_reply trace.now place state.old) }
     ensures state { OnOk result (state.new ≡ step_world trace.now place state.old) }
 {
-    let step = trace.step(place);
-    match step.action {
-        Action::Submit(entry) => {
-            let site = Site {
-                trace,
-                place,
-                ring: step.ring,
-            };
-            submit(alloc, site, entry, role_there, state)
-        }
-        Action::Fill {
+    let Turn { ring, kind } = turn_of(place, trace, role_there, state);
+    match kind {
+        TurnKind::Fills {
             buffer,
             offset,
             bytes,
         } => {
-            state.write_buffer(
-                step.ring,
-                u32::from(buffer),
-                u64::from(offset),
-                bytes.as_slice(),
-            )?;
+            let buffer = u32::from(buffer);
+            state.write_buffer(ring, buffer, u64::from(offset), bytes.as_slice())?;
             Ok(silent(alloc))
         }
-    }
-}
-
-/// Submits an entry: it is refused where it fails its tests, or stands in a chain in which a member
-/// does.
-fn submit(
-    alloc: Global,
-    site: Site<'_>,
-    entry: &Entry,
-    role_there: &Role,
-    state: &mut State,
-) -> Result<Reply, AllocError>
-    requires site { IsSite site }
-    requires role { role_there.now ≡ role site.trace.now site.place }
-    requires side { is_side_of entry.now.sqe entry.now.side ≡ true }
-    ensures reply { IfOk result (λ reply. reply
-        ≡ reply_of site.entry.trace.now site.entry.place state.old
-        (turn_as site.entry.trace.now state.old site.entry.ring entry.now role_there.now)) }
-    ensures state { OnOk result (state.new
-        ≡ turn_world site.entry.trace.now site.entry.place state.old
-        (turn_as site.entry.trace.now state.old site.entry.ring entry.now role_there.now)) }
-{
-    let posted = role_there.member == 0 || !role_there.quiet;
-    match check(entry, site.trace.version) {
-        Err(error) => Ok(refused(alloc, error, posted)),
-        Ok(op) => {
-            if role_there.doomed {
-                Ok(refused(alloc, Errno::ECANCELED, posted))
-            } else {
-                execute(alloc, site, entry, op, role_there, state)
-            }
+        TurnKind::Refused { error, posted } => Ok(refused(alloc, error, posted)),
+        TurnKind::Canceled { posted } => Ok(refused(alloc, Errno::ECANCELED, posted)),
+        TurnKind::Runs { entry, op } => {
+            let site = Site { trace, place, ring };
+            run(alloc, site, entry, op, role_there, state)
         }
-    }
-}
-
-/// Executes an entry: it is canceled where its chain broke.
-fn execute(
-    alloc: Global,
-    site: Site<'_>,
-    entry: &Entry,
-    op: Op<'_>,
-    role_there: &Role,
-    state: &mut State,
-) -> Result<Reply, AllocError>
-    requires site { IsSite site }
-    requires role { role_there.now ≡ role site.trace.now site.place }
-    requires short { IfSome (asked (meant op)) (λ n. n ≤ most_moved) }
-    ensures reply { IfOk result (λ reply. reply
-        ≡ reply_of site.entry.trace.now site.entry.place state.old
-        (running_as state.old site.entry.ring entry.now role_there.now (meant op.entry))) }
-    ensures state { OnOk result (state.new
-        ≡ turn_world site.entry.trace.now site.entry.place state.old
-        (running_as state.old site.entry.ring entry.now role_there.now (meant op.entry))) }
-{
-    let broken = if role_there.length >= 2 {
-        state.broken(role_there.chain)
-    } else {
-        None
-    };
-    match broken {
-        Some(broken) => Ok(refused(alloc, Errno::ECANCELED, posts(broken))),
-        None => run(alloc, site, entry, op, role_there, state),
     }
 }
 
@@ -232,16 +164,6 @@ fn break_chain(
         Broken::Loud
     };
     state.break_chain(role_there.chain, broken)
-}
-
-/// Whether a canceled member of a broken chain posts.
-fn posts(broken: Broken) -> bool
-    ensures { result ≡ posts (broken_meant broken) }
-{
-    match broken {
-        Broken::Loud => true,
-        Broken::Quiet => false,
-    }
 }
 
 /// The reply to an operation that ran. It takes no memory.

@@ -1,0 +1,172 @@
+//! What each place of a trace does.
+ghost use Rattle.std.specs.Prelude.{◌≡◌, ◌<◌, ◌≤◌, ℕ, IfSome, None, Some, if◌then◌else◌, leb, true};
+ghost use Rattle.std.specs.Option.{option_map};
+ghost use Rattle.chain_plan.specs.Chain.{role};
+ghost use Rattle.entry_checks.specs.Check.{check};
+ghost use Rattle.entry_checks.specs.Meant.{meant};
+ghost use Rattle.entry_checks.specs.Operation.{asked};
+ghost use Rattle.op_meaning.specs.Step as step;
+ghost use Rattle.op_meaning.specs.Turns.{IsShort, kind_meant, turn_meant};
+ghost use Rattle.op_meaning.specs.Footprint.{ring_at};
+ghost use Rattle.trace_format.specs.Sides.{is_side_of, most_moved};
+ghost use Rattle.trace_format.specs.Steps.{places};
+ghost use Rattle.trace_format.specs.Text.{IsSpelled};
+ghost use Rattle.world_parts.specs.Uses.{broken_meant};
+ghost use Rattle.world_parts.specs.World.{broken};
+
+use chain_plan::Role;
+use entry_checks::{Op, check};
+use sqe_codec::Errno;
+use trace_format::{Action, Blob, Entry, Trace};
+use world_parts::{Broken, State};
+
+/// What a place does, and the ring of which it is.
+#[derive(Clone, Copy)]
+pub struct Turn<'a> {
+    /// The number of its ring.
+    pub ring: u8,
+    /// What it does.
+    pub kind: TurnKind<'a>,
+}
+
+/// What a place does.
+#[derive(Clone, Copy)]
+pub enum TurnKind<'a> {
+    /// It puts bytes into a registered buffer of its ring, from an offset of it on.
+    Fills {
+        buffer: u16,
+        offset: u32,
+        bytes: &'a Blob,
+    },
+    /// It fails its tests, or stands in a chain in which a member does: its error, and whether a
+    /// completion is posted.
+    Refused {
+        error: Errno,
+        posted: bool,
+    },
+    /// Its chain broke: whether a completion is posted.
+    Canceled {
+        posted: bool,
+    },
+    /// It runs an operation.
+    Runs {
+        entry: &'a Entry,
+        op: Op<'a>,
+    },
+}
+
+/// What a place with its role does, by the flag of its chain. It takes no memory.
+#[inline(always)]
+pub fn turn_under<'a>(
+    place: u32,
+    trace: &'a Trace,
+    role_there: &Role,
+    flag: Option<Broken>,
+) -> Turn<'a>
+    requires trace { IsSpelled trace.now }
+    requires place { place < places trace.now }
+    requires role { role_there.now ≡ role trace.now place }
+    ensures ring { result.ring ≡ ring_at trace.now place }
+    ensures turn { Some (turn_meant result)
+        ≡ step.turn_under trace.now place (option_map broken_meant flag) }
+    ensures short { IsShort result.kind }
+{
+    let step = trace.step(place);
+    let kind = match step.action {
+        Action::Submit(entry) => submitted(trace, entry, role_there, flag),
+        Action::Fill {
+            buffer,
+            offset,
+            bytes,
+        } => TurnKind::Fills {
+            buffer,
+            offset,
+            bytes,
+        },
+    };
+    Turn {
+        ring: step.ring,
+        kind,
+    }
+}
+
+/// What the place of an entry does.
+#[inline(always)]
+fn submitted<'a>(
+    trace: &'a Trace,
+    entry: &'a Entry,
+    role_there: &Role,
+    flag: Option<Broken>,
+) -> TurnKind<'a>
+    requires side { is_side_of entry.now.sqe entry.now.side ≡ true }
+    ensures turn { (ring : ℕ) → kind_meant ring result ≡ step.entry_turn ring entry.now
+        role_there.now (option_map broken_meant flag) (check trace.now.version entry.now) }
+    ensures short { IsShort result }
+{
+    let posted = role_there.member == 0 || !role_there.quiet;
+    match check(entry, trace.version) {
+        Err(error) => TurnKind::Refused { error, posted },
+        Ok(op) => {
+            if role_there.doomed {
+                let error = Errno::ECANCELED;
+                return TurnKind::Refused { error, posted };
+            }
+            executed(entry, op, role_there, flag)
+        }
+    }
+}
+
+/// What the place of an entry does that passes its tests, in a chain of such.
+#[inline(always)]
+fn executed<'a>(
+    entry: &'a Entry,
+    op: Op<'a>,
+    role_there: &Role,
+    flag: Option<Broken>,
+) -> TurnKind<'a>
+    ensures turn { (ring : ℕ) → kind_meant ring result ≡ step.running_turn ring entry.now
+        role_there.now (option_map broken_meant flag) (meant op.entry) }
+    ensures short { IfSome (asked (meant op.entry)) (λ n. n ≤ most_moved) → IsShort result }
+{
+    match flag {
+        Some(flag) if role_there.length >= 2 => TurnKind::Canceled {
+            posted: posts(flag),
+        },
+        _ => TurnKind::Runs { entry, op },
+    }
+}
+
+/// What a place with its role does in a world. It takes no memory.
+#[inline(always)]
+pub fn turn_of<'a>(place: u32, trace: &'a Trace, role_there: &Role, state: &State) -> Turn<'a>
+    requires trace { IsSpelled trace.now }
+    requires place { place < places trace.now }
+    requires role { role_there.now ≡ role trace.now place }
+    ensures ring { result.ring ≡ ring_at trace.now place }
+    ensures turn { Some (turn_meant result) ≡ step.turn trace.now place state.now }
+    ensures short { IsShort result.kind }
+{
+    turn_under(place, trace, role_there, flag(role_there, state))
+}
+
+/// The flag of a chain of two or more.
+fn flag(role_there: &Role, state: &State) -> Option<Broken>
+    ensures { option_map broken_meant result ≡ (if leb 2 role_there.now.length
+        then broken state.now role_there.now.chain else None) }
+{
+    if role_there.length >= 2 {
+        state.broken(role_there.chain)
+    } else {
+        None
+    }
+}
+
+/// Whether a canceled member of a broken chain posts.
+fn posts(broken: Broken) -> bool
+    ensures { result ≡ step.posts (broken_meant broken) }
+{
+    match broken {
+        Broken::Loud => true,
+        Broken::Quiet => false,
+    }
+}
