@@ -8,5 +8,6 @@ pub mod NextPage
 pub mod Passes
 pub mod Overlays
 pub mod Moves
-pub mod Compares
 pub mod ExtentFacts
+pub mod Compares
+pub mod Runs

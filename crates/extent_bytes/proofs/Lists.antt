@@ -78,17 +78,13 @@ get_or-part xs lo hi i j h e = get_or-take (hi - lo) (drop lo xs) i 0 h ∙ get_
 -- a write of nothing within the list
 pub overwritten_none : (xs : List ℕ) (at : ℕ) (bs : List ℕ) → length bs ≡ 0 → at ≤ length xs → overwritten xs at bs ≡ xs
 overwritten_none xs at bs e h =
-    same_number_lists (overwritten xs at bs) xs (length-overwritten_within xs at bs (omega arith))
-    (λ i l. ⊎_elim
-    (λ (k : i < at). get_or-overwritten_below xs at bs i k)
-    (λ (k : at ≤ i). get_or-overwritten_above xs at bs i (omega arith))
-    (cases_lt i at))
+    same_number_lists (overwritten xs at bs) xs (length-overwritten_within xs at bs (omega arith)) (λ i l. grind (arith, get_or-overwritten_below, get_or-overwritten_above))
 
 -- a write over the whole list
 pub overwritten_all : (xs : List ℕ) (at : ℕ) (bs : List ℕ) → at ≡ 0 → length bs ≡ length xs → overwritten xs at bs ≡ bs
 overwritten_all xs at bs z e =
-    same_number_lists (overwritten xs at bs) bs (length-overwritten_within xs at bs (omega arith) ∙ sym e)
-    (λ i l. get_or-overwritten_inside xs at bs i (omega arith) (let n = length-overwritten_within xs at bs (omega arith) in omega (arith, n)) ∙ ap (λ k. get_or bs k 0) (omega arith))
+    let n = length-overwritten_within xs at bs (omega arith) in
+    same_number_lists (overwritten xs at bs) bs (n ∙ sym e) (λ i l. grind (arith, n, get_or-overwritten_inside))
 
 -- a range of no bytes
 pub range_of-none : (lo hi : ℕ) → range_of [] lo hi ≡ []

@@ -1,8 +1,7 @@
 -- Ranges of pages as maps of their own.
-use Rattle.std.proofs.Common.{refl, get_or, Some, List, ◌≡◌, ℕ, ◌+◌, ◌-◌, ◌*◌, ◌/◌, ◌%◌, ◌<◌, ◌≤◌, arith, sym, ◌∙◌, ap, min, max, ⊎_elim, None}
+use Rattle.std.proofs.Common.{refl, get_or, Some, List, ◌≡◌, ℕ, ◌+◌, ◌-◌, ◌*◌, ◌/◌, ◌%◌, ◌<◌, ◌≤◌, arith, sym, ◌∙◌, ap, min, max, None}
 use Rattle.std.specs.Prelude.{◌∷◌}
-use Rattle.std.proofs.lemmas.Bool.{cases_eq, cases_lt}
-use Rattle.extent_bytes.specs.Pages.{PageMap, page_of, page_byte, byte_at, SameRange, Overlaid}
+use Rattle.extent_bytes.specs.Pages.{PageMap, page_of, byte_at, SameRange, Overlaid}
 use Rattle.extent_bytes.proofs.PageFacts.{byte_at-stored}
 use Rattle.extent_bytes.proofs.Passes.{among_rest, page_among}
 use Rattle.extent_bytes.proofs.Overlays.{overlaid_to}
@@ -13,15 +12,7 @@ pub moved_step : (pages a b : PageMap) (start end target number : ℕ) (page : L
     → Overlaid a b (target + (max start (number * 4096) - start)) (target + (min end (number * 4096 + 4096) - start)) (λ p. byte_at pages (start + (p - target)))
     → (i : ℕ) → i < end - start → page_among t ((start + i) / 4096) ≡ None → byte_at b (target + i) ≡ byte_at pages (start + i)
 moved_step pages a b start end target number page es t e done o i l none =
-    ⊎_elim
-    (λ (q : (start + i) / 4096 ≡ number). o.inside (target + i) (omega arith) (omega arith) ∙ ap (λ p. byte_at pages p) (omega arith))
-    (λ ne.
-    ⊎_elim
-    (λ (r : start + i < number * 4096). o.below (target + i) (omega arith))
-    (λ (r : number * 4096 ≤ start + i). o.above (target + i) (omega arith))
-    (cases_lt (start + i) (number * 4096))
-    ∙ done i l (among_rest ((start + i) / 4096) number page es t e ne ∙ none))
-    (cases_eq ((start + i) / 4096) number)
+    grind (arith, o.inside (target + i), o.below (target + i), o.above (target + i), done i, among_rest ((start + i) / 4096) number page es t e)
 
 -- the bytes of a stored page are the map's
 pub overlaid_stored : (m a b : PageMap) (k start end target : ℕ) (page : List ℕ) → page_of m k ≡ Some page → start ≤ end
@@ -40,6 +31,4 @@ unfolding byte_at
 shared_range m part a len first end e h taken = λ i l.
     let k : first + (a % 4096 + i) / 4096 ≡ (a + i) / 4096 = omega arith in
     let r : (a % 4096 + i) % 4096 ≡ (a + i) % 4096 = omega arith in
-    ap (λ o. page_byte o ((a % 4096 + i) % 4096)) (taken ((a % 4096 + i) / 4096) (omega arith))
-    ∙ ap (λ q. page_byte (page_of m q) ((a % 4096 + i) % 4096)) k
-    ∙ ap (λ j. page_byte (page_of m ((a + i) / 4096)) j) r
+    grind (arith, k, r, taken ((a % 4096 + i) / 4096))

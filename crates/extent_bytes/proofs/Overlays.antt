@@ -1,6 +1,5 @@
 -- Bytes put over a range of a map.
-use Rattle.std.proofs.Common.{◌≡◌, ℕ, ◌+◌, ◌-◌, ◌*◌, ◌/◌, ◌%◌, ◌<◌, ◌≤◌, ◌≢◌, List, length, get_or, replicate, arith, sym, ◌∙◌, ap, refl, ⊎_elim, Some, None}
-use Rattle.std.proofs.lemmas.Bool.{cases_eq, cases_lt}
+use Rattle.std.proofs.Common.{◌≡◌, ℕ, ◌+◌, ◌-◌, ◌*◌, ◌/◌, ◌%◌, ◌<◌, ◌≤◌, ◌≢◌, List, length, get_or, replicate, arith, ◌∙◌, ap, refl, Some, None}
 use Rattle.std.proofs.lemmas.List.{length-replicate, get_or-replicate}
 use Rattle.extent_bytes.specs.Bytes.{overwritten}
 use Rattle.extent_bytes.specs.Pages.{PageMap, page_of, page_byte, byte_at, SameBytes, Overlaid, Completed}
@@ -15,20 +14,12 @@ pub one_page : (m n : PageMap) (k lo hi : ℕ) (f : ℕ → ℕ) → lo ≤ hi �
     → Overlaid m n (k * 4096 + lo) (k * 4096 + hi) f
 unfolding byte_at
 one_page m n k lo hi f forward bound others below inside above = record {
-  below = λ p h. ⊎_elim
-      (λ (e : p / 4096 ≡ k).
-      ap (λ q. page_byte (page_of n q) (p % 4096)) e ∙ below (p % 4096) (omega arith) ∙ ap (λ q. page_byte (page_of m q) (p % 4096)) (sym e))
-      (λ ne. ap (λ o. page_byte o (p % 4096)) (others (p / 4096) ne))
-      (cases_eq (p / 4096) k);
+  below = λ p h. grind (arith, others (p / 4096), below (p % 4096));
   inside = λ p h l.
       let e : p / 4096 ≡ k = omega arith in
       let d : k * 4096 + p % 4096 ≡ p = omega arith in
-      ap (λ q. page_byte (page_of n q) (p % 4096)) e ∙ inside (p % 4096) (omega arith) (omega arith) ∙ ap f d;
-  above = λ p h. ⊎_elim
-      (λ (e : p / 4096 ≡ k).
-      ap (λ q. page_byte (page_of n q) (p % 4096)) e ∙ above (p % 4096) (omega arith) (omega arith) ∙ ap (λ q. page_byte (page_of m q) (p % 4096)) (sym e))
-      (λ ne. ap (λ o. page_byte o (p % 4096)) (others (p / 4096) ne))
-      (cases_eq (p / 4096) k);
+      grind (arith, e, d, inside (p % 4096));
+  above = λ p h. grind (arith, others (p / 4096), above (p % 4096));
 }
 
 -- bytes written into one page
@@ -38,9 +29,9 @@ pub one_page-overwritten : (m n : PageMap) (k at : ℕ) (bs page : List ℕ) →
     → Overlaid m n (k * 4096 + at) (k * 4096 + (at + length bs)) (λ p. get_or bs (p - (k * 4096 + at)) 0)
 one_page-overwritten m n k at bs page bound others now was =
     one_page m n k at (at + length bs) _ (omega arith) bound others
-    (λ i h. ap (λ o. page_byte o i) now ∙ get_or-overwritten_below page at bs i h ∙ sym (was i (omega arith)))
-    (λ i h l. ap (λ o. page_byte o i) now ∙ get_or-overwritten_inside page at bs i h l ∙ ap (λ j. get_or bs j 0) (omega arith))
-    (λ i h l. ap (λ o. page_byte o i) now ∙ get_or-overwritten_above page at bs i h ∙ sym (was i l))
+    (λ i h. grind (arith, now, was i, get_or-overwritten_below))
+    (λ i h l. grind (arith, now, get_or-overwritten_inside))
+    (λ i h l. grind (arith, now, was i, get_or-overwritten_above))
 
 -- zeros written into one page
 pub one_page-zeroed : (m n : PageMap) (k lo hi : ℕ) (page : List ℕ) → lo ≤ hi → hi ≤ 4096 → ((q : ℕ) → q ≢ k → page_of n q ≡ page_of m q)
@@ -48,12 +39,11 @@ pub one_page-zeroed : (m n : PageMap) (k lo hi : ℕ) (page : List ℕ) → lo �
     → page_of m k ≡ Some page
     → Overlaid m n (k * 4096 + lo) (k * 4096 + hi) (λ _. 0)
 one_page-zeroed m n k lo hi page forward bound others now was =
-    let bs : List ℕ = replicate (hi - lo) 0 in
-    let e : length bs ≡ hi - lo = length-replicate (hi - lo) 0 in
+    let e = length-replicate {A = ℕ} (hi - lo) 0 in
     one_page m n k lo hi _ forward bound others
-    (λ i h. ap (λ o. page_byte o i) now ∙ get_or-overwritten_below page lo bs i h ∙ sym (ap (λ o. page_byte o i) was))
-    (λ i h l. ap (λ o. page_byte o i) now ∙ get_or-overwritten_inside page lo bs i h (omega (arith, e)) ∙ get_or-replicate (hi - lo) (i - lo) 0 0 (omega arith))
-    (λ i h l. ap (λ o. page_byte o i) now ∙ get_or-overwritten_above page lo bs i (omega (arith, e)) ∙ sym (ap (λ o. page_byte o i) was))
+    (λ i h. grind (arith, now, was, get_or-overwritten_below))
+    (λ i h l. grind (arith, e, now, get_or-overwritten_inside, get_or-replicate))
+    (λ i h l. grind (arith, e, now, was, get_or-overwritten_above))
 
 -- a page that is not there is zeros
 pub one_page-none : (m : PageMap) (k lo hi : ℕ) → lo ≤ hi → hi ≤ 4096 → page_of m k ≡ None → Overlaid m m (k * 4096 + lo) (k * 4096 + hi) (λ _. 0)
@@ -73,13 +63,9 @@ byte_at-taken : (n patch : PageMap) (first end : ℕ) → ((j : ℕ) → first +
     → (p : ℕ) → first * 4096 ≤ p → p < end * 4096 → byte_at n p ≡ byte_at patch (p - first * 4096)
 unfolding byte_at
 byte_at-taken n patch first end taken p h l =
-    let k : first + (p / 4096 - first) ≡ p / 4096 = omega arith in
     let d : p / 4096 - first ≡ (p - first * 4096) / 4096 = omega arith in
     let r : p % 4096 ≡ (p - first * 4096) % 4096 = omega arith in
-    ap (λ q. page_byte (page_of n q) (p % 4096)) (sym k)
-    ∙ ap (λ o. page_byte o (p % 4096)) (taken (p / 4096 - first) (omega arith))
-    ∙ ap (λ q. page_byte (page_of patch q) (p % 4096)) d
-    ∙ ap (λ i. page_byte (page_of patch ((p - first * 4096) / 4096)) i) r
+    grind (arith, d, r, taken (p / 4096 - first))
 
 -- the pages of a completed patch in place of a map's own
 pub overlaid_from : (m r n old new : PageMap) (lo hi first end : ℕ) → lo < hi → first ≡ lo / 4096 → end ≡ (hi + 4095) / 4096
@@ -89,13 +75,7 @@ pub overlaid_from : (m r n old new : PageMap) (lo hi first end : ℕ) → lo < h
     → ((j : ℕ) → end ≤ j → page_of n j ≡ page_of r j)
     → Overlaid m n lo hi (λ p. byte_at old (p - first * 4096))
 overlaid_from m r n old new lo hi first end forward f e same done taken below above = record {
-  below = λ p h. ⊎_elim
-      (λ (k : p / 4096 < first). byte_at-kept r n p (below (p / 4096) k) ∙ same p)
-      (λ (k : first ≤ p / 4096). byte_at-taken n new first end taken p (omega arith) (omega arith) ∙ done.below p (omega arith) h)
-      (cases_lt (p / 4096) first);
+  below = λ p h. grind (arith, byte_at-kept r n p, below (p / 4096), same p, byte_at-taken n new first end taken p, done.below p);
   inside = λ p h l. byte_at-taken n new first end taken p (omega arith) (omega arith) ∙ done.inside p h l;
-  above = λ p h. ⊎_elim
-      (λ (k : p / 4096 < end). byte_at-taken n new first end taken p (omega arith) (omega arith) ∙ done.above p h (omega arith))
-      (λ (k : end ≤ p / 4096). byte_at-kept r n p (above (p / 4096) k) ∙ same p)
-      (cases_lt (p / 4096) end);
+  above = λ p h. grind (arith, byte_at-kept r n p, above (p / 4096), same p, byte_at-taken n new first end taken p, done.above p);
 }

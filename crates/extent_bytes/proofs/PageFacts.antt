@@ -1,14 +1,13 @@
 -- What a change of one page does to the bytes of a map.
-use Rattle.std.proofs.Common.{◌≡◌, ℕ, ◌+◌, ◌-◌, ◌*◌, ◌/◌, ◌%◌, ◌<◌, ◌≤◌, ◌≢◌, List, length, get_or, arith, refl, sym, ◌∙◌, ap, ⊎_elim, nat_cmp, Some, None}
+use Rattle.std.proofs.Common.{◌≡◌, ℕ, ◌+◌, ◌-◌, ◌*◌, ◌/◌, ◌%◌, ◌<◌, ◌≤◌, ◌≢◌, List, length, get_or, arith, refl, ◌∙◌, ap, nat_cmp, Some, None}
 use Rattle.std.specs.Prelude.{Option}
 use Rattle.std.specs.BTreeMap.{UpdatesBy, WritesThrough, is_at}
 use Rattle.std.specs.Map.{lookup}
-use Rattle.std.specs.Prelude.{[], All}
-use Rattle.std.proofs.lemmas.Bool.{cases_eq}
+use Rattle.std.specs.Prelude.{[], All, slice_get}
 use Rattle.std.proofs.lemmas.List.{get_or-replicate}
 use Rattle.std.proofs.lemmas.List.Elements.{All-get_or}
 use Rattle.std.proofs.lemmas.Grind.{common_steps}
-use Rattle.extent_bytes.specs.Pages.{PageMap, page_of, page_byte, byte_at, blank_page, Overlaid, SameBytes}
+use Rattle.extent_bytes.specs.Pages.{PageMap, page_of, page_byte, byte_at, byte_in, blank_page, Overlaid, SameBytes}
 use Rattle.extent_bytes.proofs.Outcomes.{some_is}
 
 -- another number's page stays
@@ -35,10 +34,7 @@ written_through m n k v w h e = h.3 (some_is _ v e)
 pub same_through : (m n : PageMap) (k : ℕ) (v w : List ℕ) → WritesThrough nat_cmp (nat_cmp k) m w n → page_of m k ≡ Some v → w ≡ v → SameBytes m n
 same_through m n k v w h e f =
     let u = written_through m n k v w h e in
-    same_bytes m n (λ q. ⊎_elim
-    (λ (d : q ≡ k). ap (λ x. page_of n x) d ∙ page_of-same m n k (Some w) u ∙ ap (λ x. Some x) f ∙ sym e ∙ ap (λ x. page_of m x) (sym d))
-    (λ ne. page_of-other m n k (Some w) u q ne)
-    (cases_eq q k))
+    same_bytes m n (λ q. grind (arith, e, f, page_of-same m n k (Some w) u, page_of-other m n k (Some w) u q))
 
 pub blank_byte : (i : ℕ) → i < 4096 → get_or blank_page i 0 ≡ 0
 unfolding blank_page
@@ -47,13 +43,7 @@ blank_byte i h = get_or-replicate 4096 i 0 0 h
 -- a page of zeros, where there was none
 pub blank_same : (m n : PageMap) (k : ℕ) (page : List ℕ) → page ≡ blank_page → UpdatesBy nat_cmp (nat_cmp k) m n (Some page) → page_of m k ≡ None → SameBytes m n
 unfolding byte_at
-blank_same m n k page b u e = λ p. ⊎_elim
-    (λ (d : p / 4096 ≡ k).
-    let r : p % 4096 < 4096 = omega arith in
-    ap (λ q. page_byte (page_of n q) (p % 4096)) d ∙ ap (λ o. page_byte o (p % 4096)) (page_of-same m n k _ u) ∙ ap (λ x. get_or x (p % 4096) 0) b ∙ blank_byte (p % 4096) r
-    ∙ sym (ap (λ q. page_byte (page_of m q) (p % 4096)) d ∙ ap (λ o. page_byte o (p % 4096)) e))
-    (λ ne. ap (λ o. page_byte o (p % 4096)) (page_of-other m n k _ u (p / 4096) ne))
-    (cases_eq (p / 4096) k)
+blank_same m n k page b u e = λ p. grind (arith, b, e, page_of-same m n k (Some page) u, page_of-other m n k (Some page) u (p / 4096), blank_byte (p % 4096))
 
 -- the bytes of one page
 pub byte_at-page : (m : PageMap) (k i : ℕ) → i < 4096 → byte_at m (k * 4096 + i) ≡ page_byte (page_of m k) i
@@ -61,7 +51,14 @@ unfolding byte_at
 byte_at-page m k i h =
     let d : (k * 4096 + i) / 4096 ≡ k = omega arith in
     let r : (k * 4096 + i) % 4096 ≡ i = omega arith in
-    ap (λ q. page_byte (page_of m q) ((k * 4096 + i) % 4096)) d ∙ ap (λ j. page_byte (page_of m k) j) r
+    rw (d, r) refl
+
+pub byte_in-page : (pages : List (List ℕ)) (k i : ℕ) → i < 4096 → byte_in pages (k * 4096 + i) ≡ page_byte (slice_get pages k) i
+unfolding byte_in
+byte_in-page pages k i h =
+    let d : (k * 4096 + i) / 4096 ≡ k = omega arith in
+    let r : (k * 4096 + i) % 4096 ≡ i = omega arith in
+    rw (d, r) refl
 
 pub byte_at-kept : (m n : PageMap) (p : ℕ) → page_of n (p / 4096) ≡ page_of m (p / 4096) → byte_at n p ≡ byte_at m p
 unfolding byte_at
@@ -85,7 +82,6 @@ pub overlaid-blank : (m : PageMap) (k at : ℕ) (bs : List ℕ) → at + length 
     → Overlaid m m (k * 4096 + at) (k * 4096 + (at + length bs)) (λ p. get_or bs (p - (k * 4096 + at)) 0)
 overlaid-blank m k at bs bound e all = record {
   below = λ p h. refl;
-  inside = λ p h l. let d : p / 4096 ≡ k = omega arith in
-      byte_at-none m p (ap (λ q. page_of m q) d ∙ e) ∙ sym (All-get_or (λ b. b ≡ 0) bs (p - (k * 4096 + at)) 0 (omega arith) all);
+  inside = λ p h l. grind (arith, e, byte_at-none m p, All-get_or (λ b. b ≡ 0) bs (p - (k * 4096 + at)) 0);
   above = λ p h. refl;
 }

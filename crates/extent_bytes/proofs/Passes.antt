@@ -1,12 +1,11 @@
 -- One pass over the stored pages of a range. What a pass has left is a list of entries, whose pages are the map's.
-use Rattle.std.proofs.Common.{◌≡◌, ◌≢◌, ℕ, ◌+◌, ◌-◌, ◌<◌, ◌≤◌, ◌++◌, List, [], ◌∷◌, Option, None, Some, true, false, refl, arith, sym, ◌∙◌, ap, ⊎_elim, nat_cmp}
+use Rattle.std.proofs.Common.{◌≡◌, ◌≢◌, ℕ, ◌+◌, ◌-◌, ◌<◌, ◌≤◌, ◌++◌, List, [], ◌∷◌, Option, None, Some, true, false, refl, arith, sym, ◌∙◌, ap, nat_cmp}
 use Rattle.std.specs.Prelude.{All}
 use Rattle.std.specs.Ordering.{is_eq, eq_by_cmp}
 use Rattle.std.specs.declared.ops.Bound.TheVariants.{Included, Excluded}
 use Rattle.std.specs.Map.{lookup, update_all}
 use Rattle.std.specs.BTreeMap.{is_at}
 use Rattle.std.specs.BTreeMap.Range.{IsEntryInRange, entries_between, range_contains}
-use Rattle.std.proofs.lemmas.Bool.{cases_eq}
 use Rattle.std.proofs.lemmas.Grind.{common_steps}
 use Rattle.std.proofs.lemmas.List.Elements.{All-head, All-tail, All-same, All-weaker}
 use Rattle.std.proofs.lemmas.Map.{update_all_push}
@@ -63,8 +62,4 @@ pub taken_more : (m : PageMap) (from k j : ℕ) (v : List ℕ) (xs ys es t : Lis
     → page_among t (from + j) ≡ None → update_all (eq_by_cmp nat_cmp) (λ _. None) ys j ≡ page_of m (from + j)
 taken_more m from k j v xs ys es t e d h stored before none =
     let push = update_all_push (eq_by_cmp nat_cmp) (λ _. None) (update_all (eq_by_cmp nat_cmp) (λ _. None) xs) xs (k - from, v) j refl in
-    ap (λ zs. update_all (eq_by_cmp nat_cmp) (λ _. None) zs j) d ∙ sym push
-    ∙ ⊎_elim
-    (λ (q : from + j ≡ k). let s : is_eq (nat_cmp (k - from) j) ≡ true = at_itself (k - from) j (omega arith) in rw s (sym (ap (λ n. page_of m n) q ∙ stored)))
-    (λ ne. let s : is_eq (nat_cmp (k - from) j) ≡ false = at_other (k - from) j (omega arith) in rw s (before (among_rest (from + j) k v es t e ne ∙ none)))
-    (cases_eq (from + j) k)
+    rw (d, ← push) (grind (arith, common_steps, none, stored, before, at_itself (k - from) j, at_other (k - from) j, among_rest (from + j) k v es t e))

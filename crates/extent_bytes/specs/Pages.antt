@@ -1,5 +1,5 @@
 -- A view of code: the bytes that stored pages of 4,096 bytes stand for.
-use Rattle.std.specs.Prelude.{◌≡◌, ℕ, ◌+◌, ◌-◌, ◌*◌, ◌/◌, ◌%◌, ◌<◌, ◌≤◌, max, min, List, Option, None, Some, IsSome, map, length, replicate, slice_index}
+use Rattle.std.specs.Prelude.{◌≡◌, ℕ, ◌+◌, ◌-◌, ◌*◌, ◌/◌, ◌%◌, ◌<◌, ◌≤◌, max, min, List, Option, None, Some, IsSome, map, length, replicate, slice_get, slice_index}
 use Rattle.std.specs.BTreeMap.{BTreeMap, get}
 use Rattle.std.specs.List.{range_with_len}
 use Rattle.std.specs.Ordering.{nat_cmp}
@@ -25,9 +25,17 @@ page_of pages number = get nat_cmp pages number
 unfoldable pub byte_at : PageMap → ℕ → ℕ
 byte_at pages p = page_byte (page_of pages (p / 4096)) (p % 4096)
 
--- The bytes from a position on.
-unfoldable pub bytes_of : PageMap → ℕ → ℕ → List ℕ
-bytes_of pages start len = map (λ i. byte_at pages (start + i)) (range_with_len 0 len)
+-- The byte at a position of pages that lie one behind another.
+unfoldable pub byte_in : List (List ℕ) → ℕ → ℕ
+byte_in pages p = page_byte (slice_get pages (p / 4096)) (p % 4096)
+
+-- So many bytes from a position on, by the byte at each position.
+unfoldable pub bytes_from : (ℕ → ℕ) → ℕ → ℕ → List ℕ
+bytes_from byte start len = map (λ i. byte (start + i)) (range_with_len 0 len)
+
+-- The bytes of a map from a position on.
+abbrev pub bytes_of : PageMap → ℕ → ℕ → List ℕ
+bytes_of pages = bytes_from (byte_at pages)
 
 -- Both have the same byte at each position.
 abbrev pub SameBytes : PageMap → PageMap → Type 0
@@ -77,17 +85,17 @@ pub record WrittenAt (old new : PageMap) (lo at : ℕ) (bs : List ℕ) : Type 0 
   pub above : (p : ℕ) → at + length bs ≤ p → byte_at new p ≡ byte_at old p
 
 -- The bytes bs lie from a position on.
-abbrev pub HoldsAt : PageMap → ℕ → List ℕ → Type 0
-HoldsAt pages at bs = (i : ℕ) → i < length bs → byte_at pages (at + i) ≡ slice_index bs i
+abbrev pub HoldsAt : (ℕ → ℕ) → ℕ → List ℕ → Type 0
+HoldsAt byte at bs = (i : ℕ) → i < length bs → byte (at + i) ≡ slice_index bs i
 
--- The bytes of the page of a number that lie from start up to end are a map's from a position on.
-abbrev pub PageAgrees : List ℕ → ℕ → ℕ → ℕ → PageMap → ℕ → Type 0
+-- The bytes of the page of a number that lie from start up to end are others from a position on.
+abbrev pub PageAgrees : List ℕ → ℕ → ℕ → ℕ → (ℕ → ℕ) → ℕ → Type 0
 PageAgrees page number start end other other_start =
     (i : ℕ) → start + i < end → (start + i) / 4096 ≡ number →
-    byte_at other (other_start + i) ≡ slice_index page ((start + i) % 4096)
+    other (other_start + i) ≡ slice_index page ((start + i) % 4096)
 
 -- So are those of all stored pages of a map.
-abbrev pub StoredAgree : PageMap → ℕ → ℕ → PageMap → ℕ → Type 0
+abbrev pub StoredAgree : PageMap → ℕ → ℕ → (ℕ → ℕ) → ℕ → Type 0
 StoredAgree pages start end other other_start =
     (i : ℕ) → start + i < end → IsSome (page_of pages ((start + i) / 4096)) →
-    byte_at other (other_start + i) ≡ byte_at pages (start + i)
+    other (other_start + i) ≡ byte_at pages (start + i)

@@ -1,28 +1,27 @@
 // Bytes of two maps of pages compared. Only stored pages are looked at.
 ghost use Rattle.std.specs.Prelude.{◌+◌, ◌*◌, ◌/◌, ◌<◌, ◌≤◌, ◌^◌, ◌↔◌, length, IsTrue};
+ghost use Rattle.extent_bytes.specs.Kept.{byte_held};
 ghost use Rattle.extent_bytes.specs.Pages.{HoldsAt, PageAgrees, StoredAgree};
 
 use crate::page::{PAGE_SIZE, Page, is_blank};
 use crate::page_map::{PAGE, Pages};
+use crate::paged::Paged;
 
 // Whether the bytes are those of one page, from a place in it on.
-fn page_holds(pages: &Pages, number: u64, offset: usize, bytes: &[u8]) -> bool
+fn page_holds(pages: &Paged<'_>, number: u64, offset: usize, bytes: &[u8]) -> bool
     requires { offset + length bytes.now ≤ PAGE_SIZE }
-    ensures { IsTrue result ↔ HoldsAt pages.now (number * 4096 + offset) bytes.now }
+    ensures { IsTrue result ↔ HoldsAt (byte_held pages.now) (number * 4096 + offset) bytes.now }
 {
-    match pages.get(&number) {
-        Some(page) => {
-            let stored = page.as_slice();
-            &stored[offset..offset + bytes.len()] == bytes
-        }
+    match pages.part(number, offset, offset + bytes.len()) {
+        Some(stored) => stored == bytes,
         None => is_blank(bytes),
     }
 }
 
 // Whether the bytes are those from a position on.
-fn holds(pages: &Pages, at: u64, bytes: &[u8]) -> bool
+fn holds(pages: &Paged<'_>, at: u64, bytes: &[u8]) -> bool
     requires { at + length bytes.now < 2 ^ 63 }
-    ensures { IsTrue result ↔ HoldsAt pages.now at bytes.now }
+    ensures { IsTrue result ↔ HoldsAt (byte_held pages.now) at bytes.now }
 {
     let mut done = 0;
     while done < bytes.len() {
@@ -39,12 +38,12 @@ fn holds(pages: &Pages, at: u64, bytes: &[u8]) -> bool
 
 // Whether the bytes of the page of a number that lie from `start` up to `end` are the other map's
 // from `other_start` on.
-fn page_agrees(
+pub(crate) fn page_agrees(
     page: &Page,
     number: u64,
     start: u64,
     end: u64,
-    other: &Pages,
+    other: &Paged<'_>,
     other_start: u64,
 ) -> bool
     requires forward { start ≤ end }
@@ -52,7 +51,8 @@ fn page_agrees(
     requires near { other_start < 4096 }
     requires first { start / 4096 ≤ number }
     requires last { number * 4096 < end }
-    ensures { IsTrue result ↔ PageAgrees page.now number start end other.now other_start }
+    ensures { IsTrue result ↔ PageAgrees page.now number start end
+        (byte_held other.now) other_start }
 {
     let from = start.max(number * PAGE);
     let to = end.min(number * PAGE + PAGE);
@@ -67,13 +67,14 @@ pub(crate) fn stored_agree(
     pages: &Pages,
     start: u64,
     end: u64,
-    other: &Pages,
+    other: &Paged<'_>,
     other_start: u64,
 ) -> bool
     requires forward { start ≤ end }
     requires small { end < 2 ^ 62 }
     requires near { other_start < 4096 }
-    ensures { IsTrue result ↔ StoredAgree pages.now start end other.now other_start }
+    ensures { IsTrue result ↔ StoredAgree pages.now start end
+        (byte_held other.now) other_start }
 {
     let last = end.div_ceil(PAGE);
     for (number, page) in pages.range(start / PAGE..last) {

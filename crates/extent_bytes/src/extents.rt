@@ -1,11 +1,13 @@
 // Lists of bytes whose stored pages alone take memory.
 ghost use Rattle.std.specs.Prelude.{◌≡◌, ℕ, ◌+◌, ◌-◌, ◌≤◌, ◌↔◌, List, [], length};
-ghost use Rattle.std.specs.Prelude.{vec_len, max, IsTrue, IfOk, OnOk, OnErr};
+ghost use Rattle.std.specs.Prelude.{vec_len, max, IsTrue, IfOk, IfSome, OnOk, OnErr};
 ghost use Rattle.extent_bytes.specs.Bytes.{overwritten, zeroed, resized, range_of};
 
 use crate::comparing::stored_agree;
 use crate::moving::aligned;
-use crate::page_map::{PAGE, append_part, copy_of_part, part_of_page};
+use crate::page_map::{PAGE, copy_of_part, part_of_page};
+use crate::page_run::PageRun;
+use crate::paged::Paged;
 use crate::stored::Stored;
 use std::alloc::{AllocError, Global};
 use std::marker::Model;
@@ -67,27 +69,13 @@ impl Extents {
         ensures len { IfOk result (λ bytes. vec_len bytes ≡ hi - lo) }
     {
         let pages = self.stored.pages();
-        let end = self.start + hi;
-        let mut at = self.start + lo;
+        let at = self.start + lo;
         let start = at % PAGE;
         let stop = start + (hi - lo);
         if stop <= PAGE {
             return copy_of_part(pages, self.alloc, at / PAGE, start as usize, stop as usize);
         }
-        let mut bytes = Vec::with_capacity(self.alloc, (hi - lo) as usize)?;
-        while at < end {
-            let offset = at % PAGE;
-            let count = (PAGE - offset).min(end - at);
-            append_part(
-                &mut bytes,
-                pages,
-                at / PAGE,
-                offset as usize,
-                (offset + count) as usize,
-            )?;
-            at += count;
-        }
-        Ok(bytes)
+        Paged::Map(pages).read(self.alloc, at, self.start + hi)
     }
 
     /// Writes the bytes from `at` on. A gap past the end is zeros, which take no memory; nor do
@@ -238,9 +226,33 @@ impl Extents {
         let other_end = other.start + other.len;
         let pages = self.stored.pages();
         let others = other.stored.pages();
-        if !stored_agree(pages, self.start, end, others, other.start) {
+        if !stored_agree(pages, self.start, end, &Paged::Map(others), other.start) {
             return false;
         }
-        stored_agree(others, other.start, other_end, pages, self.start)
+        stored_agree(
+            others,
+            other.start,
+            other_end,
+            &Paged::Map(pages),
+            self.start,
+        )
+    }
+
+    /// The bytes from `lo` up to `hi` as a run of pages, which are shared; none where one of them
+    /// isn't stored.
+    pub(crate) fn run(&self, lo: u64, hi: u64) -> Result<Option<PageRun>, AllocError>
+        requires forward { lo ≤ hi }
+        requires inside { hi ≤ length self.now }
+        ensures { IfOk result (λ found. IfSome found (λ run. run ≡ range_of self.now lo hi)) }
+    {
+        let pages = self.stored.pages();
+        PageRun::of(pages, self.alloc, self.start + lo, self.start + hi)
+    }
+
+    /// Whether a run has the bytes of this list. It takes no memory.
+    pub(crate) fn is_run(&self, run: &PageRun) -> bool
+        ensures { IsTrue result ↔ (run.now ≡ self.now) }
+    {
+        run.len() == self.len && run.agrees(&Paged::Map(self.stored.pages()), self.start)
     }
 }

@@ -1,6 +1,6 @@
 // Stored pages by their numbers. Page k holds the bytes from 4,096 * k on, and one that is not
 // stored is zeros.
-ghost use Rattle.std.specs.Prelude.{◌≡◌, ℕ, ◌+◌, ◌-◌, ◌*◌, ◌<◌, ◌≤◌, ◌^◌, ◌++◌, length, vec_len};
+ghost use Rattle.std.specs.Prelude.{◌≡◌, ℕ, ◌+◌, ◌-◌, ◌*◌, ◌<◌, ◌≤◌, ◌^◌, length};
 ghost use Rattle.std.specs.Prelude.{slice_index, replicate, None, IsSome, IfSome, IfNone};
 ghost use Rattle.std.specs.Prelude.{IfOk, OnOk, OnErr};
 ghost use Rattle.extent_bytes.specs.Pages.{page_of, bytes_of, PageWritten, PageCopied};
@@ -181,25 +181,5 @@ pub(crate) fn copy_of_part(
     match part_of_page(pages, number, from, to) {
         Some(part) => Vec::from_slice(alloc, part),
         None => Vec::from_elem(alloc, 0, to - from),
-    }
-}
-
-// Appends a part of one page to the bytes.
-pub(crate) fn append_part(
-    bytes: &mut Vec<u8>,
-    pages: &Pages,
-    number: u64,
-    from: usize,
-    to: usize,
-) -> Result<(), AllocError>
-    requires forward { from ≤ to }
-    requires inside { to ≤ PAGE_SIZE }
-    requires small { vec_len bytes.old < 2 ^ 62 }
-    ensures { OnOk result (bytes.new.items ≡
-        bytes.old.items ++ bytes_of pages.now (number * 4096 + from) (to - from)) }
-{
-    match part_of_page(pages, number, from, to) {
-        Some(part) => bytes.extend_from_slice(part),
-        None => bytes.resize(bytes.len() + (to - from), 0),
     }
 }

@@ -4,6 +4,7 @@ ghost use Rattle.std.specs.Prelude.{IfNone, IfSome};
 ghost use Rattle.extent_bytes.specs.Bytes.{range_of};
 
 use crate::extents::{Extents, MAX_LEN};
+use crate::shared_pages::SharedPages;
 use std::alloc::{AllocError, Global};
 use std::marker::Model;
 
@@ -18,7 +19,7 @@ pub const FRONT: usize = 64;
 /// Bytes that share their pages, and the first of them as plain bytes.
 #[derive(Drop)]
 pub(crate) struct SharedBytes {
-    pub list: Extents,
+    pub list: SharedPages,
     pub front: Vec<u8>,
 }
 
@@ -75,7 +76,7 @@ impl ReadBytes {
             });
         }
         let front = list.read(lo, lo + FRONT as u64)?;
-        let list = list.share(lo, hi)?;
+        let list = SharedPages::of(list, lo, hi)?;
         let shared = Box::new(alloc, SharedBytes { list, front })?;
         Ok(ReadBytes {
             kept: Kept::Shared(shared),
@@ -131,7 +132,7 @@ impl ReadBytes {
     {
         match &self.kept {
             Kept::Plain(bytes) => Vec::from_slice(alloc, &bytes[lo as usize..hi as usize]),
-            Kept::Shared(shared) => shared.list.read(lo, hi),
+            Kept::Shared(shared) => shared.list.read(alloc, lo, hi),
         }
     }
 

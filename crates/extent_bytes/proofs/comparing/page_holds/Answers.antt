@@ -1,11 +1,12 @@
-use Rattle.std.proofs.Common.{◌+◌, ◌-◌, length, take, drop, ap, sym}
-use Rattle.extent_bytes.proofs.Compares.{blank_holds, stored_holds}
+use Rattle.std.proofs.Common.{◌+◌, ◌*◌, arith}
+use Rattle.extent_bytes.specs.Kept.{byte_held}
+use Rattle.extent_bytes.proofs.Compares.{blank_holds, part_holds}
 use Rattle.extent_bytes.proofs.comparing.page_holds.Goals as goal
 
 pub returns-in-Some : goal.returns-in-Some
 returns-in-Some c =
-    stored_holds c.args.pages.now c.args.number c.args.offset c.in-Some.page.now c.args.bytes.now _ c.eq.result c.requires c.as_slice-stored.ensures.len (sym c.in-Some.ensures.value)
-    (ap (λ xs. take (c.args.offset + length c.args.bytes.now - c.args.offset) (drop c.args.offset xs)) c.as_slice-stored.ensures.bytes) c.eq.ensures
+    part_holds (byte_held c.args.pages.now) (c.args.number * 4096 + c.args.offset) _ c.in-Some.stored.now c.args.bytes.now c.eq.result (omega arith) c.in-Some.ensures.part c.eq.ensures
 
 pub returns-in-None : goal.returns-in-None
-returns-in-None c = blank_holds c.args.pages.now c.args.number c.args.offset c.args.bytes.now c.is_blank.result c.requires (sym c.in-None.ensures.value) c.is_blank.ensures
+returns-in-None c =
+    blank_holds (byte_held c.args.pages.now) (c.args.number * 4096 + c.args.offset) _ c.args.bytes.now c.is_blank.result (omega arith) c.in-None.ensures.none c.is_blank.ensures

@@ -1,6 +1,7 @@
 -- A page that is not stored has no byte to compare.
 use Rattle.std.proofs.Common.{◌≡◌, ◌+◌, ◌/◌, arith, refl, sym, ap, ◌∙◌}
 use Rattle.extent_bytes.specs.Pages.{page_of}
+use Rattle.extent_bytes.specs.Kept.{byte_held}
 use Rattle.extent_bytes.proofs.Outcomes.{some_not_none}
 use Rattle.extent_bytes.proofs.NextPage.{cmp_of_le}
 use Rattle.extent_bytes.proofs.Compares.{agree_at, agree_more}
@@ -41,7 +42,7 @@ loop-number-preserved c =
     let es = c.loop-number.number-iterator in
     let f = first_within m (c.args.start / 4096) c.div_ceil-last.result k page es c.next.new.self c.in-Some.ensures.steps c.loop-number.invariant.left in record {
       left = rest_within m (c.args.start / 4096) c.div_ceil-last.result k page es c.next.new.self c.in-Some.ensures.steps c.loop-number.invariant.left;
-      agree = agree_more m c.args.other.now c.args.start c.args.end c.args.other_start k page es c.next.new.self c.in-Some.ensures.steps f.2
+      agree = agree_more m (byte_held c.args.other.now) c.args.start c.args.end c.args.other_start k page es c.next.new.self c.in-Some.ensures.steps f.2
           (c.page_agrees.ensures.0 c.if-not-page_agrees.false) c.loop-number.invariant.agree;
     }
 
@@ -50,7 +51,7 @@ returns-then-not-page_agrees c =
     let no = c.if-not-page_agrees.true in
     let f = first_within c.args.pages.now (c.args.start / 4096) c.div_ceil-last.result c.in-Some.number.now c.in-Some.page.now c.loop-number.number-iterator c.next.new.self c.in-Some.ensures.steps c.loop-number.invariant.left in (
       (λ e. absurd (cc)),
-      (λ all. sym no ∙ c.page_agrees.ensures.1 (agree_at c.args.pages.now c.args.other.now c.args.start c.args.end c.args.other_start c.in-Some.number.now c.in-Some.page.now f.2 all)),
+      (λ all. sym no ∙ c.page_agrees.ensures.1 (agree_at c.args.pages.now (byte_held c.args.other.now) c.args.start c.args.end c.args.other_start c.in-Some.number.now c.in-Some.page.now f.2 all)),
     )
 
 pub returns : goal.returns
