@@ -1,5 +1,5 @@
 -- The row of a table that an opcode's number names.
-use Rattle.std.proofs.Common.{◌≡◌, ℕ, Bool, true, false, List, Result, Some, refl, sym, ap, ◌∙◌}
+use Rattle.std.proofs.Common.{◌≡◌, ℕ, Bool, List, Result, Some, sym, ap, ◌∙◌, arith}
 use Rattle.std.specs.Prelude.{not, ltb, ◌==◌}
 use Rattle.sqe_codec.specs.Answers.{◌>>◌, require}
 use Rattle.sqe_codec.specs.declared.errno.Errno.{Errno}
@@ -13,10 +13,7 @@ use Rattle.entry_checks.specs.Answer.{checked_row}
 
 -- three tests and then the rest
 one_by_one : {X : Type 0} (a b c : Bool) (e f g : Errno) (rest : Result X Errno) → ((require a e >> (require b f >> require c g)) >> rest) ≡ (require a e >> (require b f >> (require c g >> rest)))
-one_by_one false b c e f g rest = refl
-one_by_one true false c e f g rest = refl
-one_by_one true true false e f g rest = refl
-one_by_one true true true e f g rest = refl
+one_by_one a b c e f g rest = grind arith
 
 -- what a row answers is what the table does
 pub from_row : {given : Result Operation Errno} (v : Version) (entry : Entry) (sqe : Sqe) (side : List ℕ) (o : Opcode) → sqe ≡ entry.sqe → side ≡ entry.side → opcode_of sqe.opcode ≡ Some o → given ≡ checked_row v o sqe side → given ≡ check v entry

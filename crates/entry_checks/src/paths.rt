@@ -43,6 +43,7 @@ fn has_dots(path: &[u8]) -> bool
 
 /// The tests of a path: ENOENT where it is empty, ENAMETOOLONG where it is too long, EINVAL where
 /// it ends in a slash or has a component `.` or `..`, which no trace has.
+#[tactic(auto, using(crate::proofs::Words::last_at))]
 pub(crate) fn check_path(path: &[u8]) -> Result<(), Errno>
     ensures { result ≡ check_path path.now }
 {

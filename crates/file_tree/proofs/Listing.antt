@@ -8,25 +8,18 @@ use Rattle.std.specs.List.Sorted.{IsStrictlySortedBy}
 use Rattle.std.specs.Map.{keys_of}
 use Rattle.std.specs.declared.cmp.Ordering.{Ordering}
 use Rattle.std.specs.declared.cmp.Ordering.TheVariants.{Less, Equal, Greater}
-use Rattle.std.specs.Ordering.{nat_cmp, is_gt, ordering_reverse}
-use Rattle.std.specs.Cmp.Lexicographic.{slice_cmp}
-use Rattle.std.specs.FinMap.Entries.{put, by_order}
+use Rattle.std.specs.Ordering.{is_gt, ordering_reverse}
+use Rattle.std.specs.FinMap.Entries.{put}
 use Rattle.std.proofs.lemmas.List.{append-nil}
-use Rattle.std.specs.Bool.{Decides}
 use Rattle.std.specs.Iterator.{MakesProgress, at_most}
 use Rattle.finite_maps.specs.Table.{text_keys, count}
 use Rattle.finite_maps.specs.Maps.{table_of}
 use Rattle.file_tree.specs.Tree.{Names}
+use Rattle.file_tree.proofs.Split.{Entries, R}
 use Rattle.file_tree.specs.Listed.{names_in, listed, comes_behind, AreShort, AreLong, EndAt, AreLeft, TakesLast}
-
-abbrev Entries : Type 0
-Entries = List (List ℕ × ℕ)
 
 abbrev Last : Type 0
 Last = Option (Bor (List ℕ) × ℕ)
-
-abbrev R : List ℕ → List ℕ → Ordering
-R = slice_cmp nat_cmp
 
 -- all names of a list are below one
 abbrev AreBelow : List ℕ → Entries → Type 0
@@ -36,30 +29,16 @@ AreBelow k es = AllByRecursion (λ y. R y k ≡ Less) (keys_of es)
 
 put_last : (k : List ℕ) (v : ℕ) (es : Entries) → AreBelow k es → put R k v es ≡ es ++ (k, v) ∷ []
 put_last k v [] h = refl
-put_last k v (e ∷ es) h =
-    ap (λ r. by_order r ((k, v) ∷ e ∷ es) ((e.0, v) ∷ es) (e ∷ put R k v es)) (text_keys.total.antisymm k e.0 ∙ ap ordering_reverse h.0)
-    ∙ ap (λ xs. e ∷ xs) (put_last k v es h.1)
-
-by_order_ap : {A B : Type 0} (f : A → B) (r : Ordering) (x y z : A) → by_order r (f x) (f y) (f z) ≡ f (by_order r x y z)
-by_order_ap f Less x y z = refl
-by_order_ap f Equal x y z = refl
-by_order_ap f Greater x y z = refl
+put_last k v (e ∷ es) h = grind (arith, text_keys.total.antisymm k e.0, put_last k v es h.1)
 
 put_before : (k : List ℕ) (v : ℕ) (es : Entries) (e : List ℕ × ℕ) → R k e.0 ≡ Less → put R k v (es ++ e ∷ []) ≡ put R k v es ++ e ∷ []
-put_before k v [] e h = ap (λ r. by_order r ((k, v) ∷ e ∷ []) ((e.0, v) ∷ []) (e ∷ (k, v) ∷ [])) h
-put_before k v (d ∷ es) e h =
-    ap (λ xs. by_order (R k d.0) ((k, v) ∷ d ∷ es ++ e ∷ []) ((d.0, v) ∷ es ++ e ∷ []) (d ∷ xs)) (put_before k v es e h)
-    ∙ by_order_ap (λ xs. xs ++ e ∷ []) (R k d.0) ((k, v) ∷ d ∷ es) ((d.0, v) ∷ es) (d ∷ put R k v es)
+put_before k v [] e h = grind arith
+put_before k v (d ∷ es) e h = grind (arith, put_before k v es e h)
 
 module _ (P : List ℕ → Type 0) where
   all_put : (k : List ℕ) (v : ℕ) (es : Entries) → AllByRecursion P (keys_of es) → P k → AllByRecursion P (keys_of (put R k v es))
   all_put k v [] h p = (p, tt)
-  all_put k v (e ∷ es) h p = by (R k e.0) (all_put k v es h.1 p)
-    where
-      by : (r : Ordering) → AllByRecursion P (keys_of (put R k v es)) → AllByRecursion P (keys_of (by_order r ((k, v) ∷ e ∷ es) ((e.0, v) ∷ es) (e ∷ put R k v es)))
-      by Less rest = (p, h)
-      by Equal rest = h
-      by Greater rest = (h.0, rest)
+  all_put k v (e ∷ es) h p = grind (arith, all_put k v es h.1 p)
 
   all_in_table : (es : Entries) → AllByRecursion P (keys_of es) → AllByRecursion P (keys_of (table_of text_keys.total es).entries)
   all_in_table [] h = tt
@@ -99,10 +78,11 @@ below_more : (es : Entries) (k l : List ℕ) → R k l ≡ Less → AreBelow k e
 below_more [] k l h f = tt
 below_more (e ∷ es) k l h f = (text_keys.total.trans e.0 k l f.0 h, below_more es k l h f.1)
 
-Greater-is : (r : Ordering) → Decides (is_gt r) (r ≡ Greater)
-Greater-is Less = (λ e. absurd (true≢false (sym e)), λ e. ap is_gt e)
-Greater-is Equal = (λ e. absurd (true≢false (sym e)), λ e. ap is_gt e)
-Greater-is Greater = (λ e. refl, λ e. refl)
+is_greater : (r : Ordering) → is_gt r ≡ true → r ≡ Greater
+is_greater r e = grind arith
+
+is_less : (r : Ordering) → is_gt r ≡ false → (r ≡ Equal → ⊥) → r ≡ Less
+is_less r e n = grind arith
 
 -- ---- the step
 
@@ -135,7 +115,7 @@ takes_short shorts longs (Some e) long left h =
     below : (last : Last) → EndAt longs last → comes_behind (Some e) last ≡ true → AreBelow e.0.now (longs ++ listed last)
     below None end b = subst (λ es. AreBelow e.0.now (es ++ [])) (sym end.1) tt
     below (Some f) end b =
-        let less : R f.0.now e.0.now ≡ Less = text_keys.total.antisymm f.0.now e.0.now ∙ ap ordering_reverse ((Greater-is (R e.0.now f.0.now)).0 b) in
+        let less : R f.0.now e.0.now ≡ Less = text_keys.total.antisymm f.0.now e.0.now ∙ ap ordering_reverse (is_greater (R e.0.now f.0.now) b) in
         all_both (λ y. R y e.0.now ≡ Less) longs ((f.0.now, f.1) ∷ []) (below_more longs f.0.now e.0.now less (sorted_below longs (f.0.now, f.1) end.0)) (less, tt)
 
 -- a long name that is above all others
@@ -156,15 +136,10 @@ takes_long shorts longs None (Some f) left h =
 takes_long shorts longs (Some e) (Some f) left h =
     let short : length e.0.now ≤ 15 = of_last (λ k. length k ≤ 15) shorts (e.0.now, e.1) left.0 in
     let long : 15 < length f.0.now = of_last (λ k. 15 < length k) longs (f.0.now, f.1) left.1 in
-    let less = less_of (R e.0.now f.0.now) h (λ q. let same : length e.0.now ≡ length f.0.now = ap length (text_keys.same e.0.now f.0.now q) in omega (arith, same, short, long)) in
+    let less = is_less (R e.0.now f.0.now) h (λ q. let same : length e.0.now ≡ length f.0.now = ap length (text_keys.same e.0.now f.0.now q) in omega (arith, same, short, long)) in
     long_last (shorts ++ (e.0.now, e.1) ∷ []) longs (f.0.now, f.1)
     (all_both (λ y. R y f.0.now ≡ Less) shorts ((e.0.now, e.1) ∷ []) (below_more shorts e.0.now f.0.now less (sorted_below shorts (e.0.now, e.1) left.2.0)) (less, tt))
     (sorted_below longs (f.0.now, f.1) left.3.0)
-  where
-    less_of : (r : Ordering) → is_gt r ≡ false → (r ≡ Equal → ⊥) → r ≡ Less
-    less_of Less g n = refl
-    less_of Equal g n = absurd (n refl)
-    less_of Greater g n = absurd (true≢false g)
 
 module _ (shorts longs : Entries) (short long : Last) (left : AreLeft shorts short longs long) (ns : Entries) (n : Last) where
   -- the name that is given, where the next one from behind is taken into its place

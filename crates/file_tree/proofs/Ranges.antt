@@ -1,6 +1,6 @@
 -- Ranges of bytes, as far as there are bytes.
-use Rattle.std.proofs.Common.{◌≡◌, ℕ, ◌+◌, ◌-◌, ◌<◌, ◌≤◌, List, [], length, take, drop, sym, ◌∙◌, ap, refl, inl, inr, arith}
-use Rattle.std.specs.Prelude.{◌⊎◌, min, replicate, Option, None, Some, IfSome, unwrap_or}
+use Rattle.std.proofs.Common.{◌≡◌, ℕ, ◌+◌, ◌-◌, ◌<◌, ◌≤◌, List, [], length, drop, sym, ◌∙◌, ap, refl, inl, inr, arith}
+use Rattle.std.specs.Prelude.{◌⊎◌, min, replicate, Option, IfSome, unwrap_or}
 use Rattle.std.proofs.lemmas.Bool.{cases_lt}
 use Rattle.std.proofs.lemmas.List.{take_min, drop_min, length-drop, take-append-drop}
 use Rattle.extent_bytes.specs.Bytes.{overwritten, range_of, zeroed}
@@ -14,17 +14,9 @@ module _ (bytes : List ℕ) (lo hi : ℕ) where
 
   pub range_of-within : range_of bytes (min lo end) end ≡ range_of bytes lo hi
   unfolding range_of
-  range_of-within = by_order (cases_lt hi lo)
-    where
-      by_order : (hi < lo) ⊎ (lo ≤ hi) → take (end - min lo end) (drop (min lo end) bytes) ≡ take (hi - lo) (drop lo bytes)
-      by_order (inl h) =
-          let none : end - min lo end ≡ 0 = omega (arith) in
-          let none_too : hi - lo ≡ 0 = omega (arith, h) in
-          rw (none, none_too) refl
-      by_order (inr h) =
-          let first : min lo end ≡ min lo (length bytes) = omega (arith, h) in
-          let count : end - min lo (length bytes) ≡ min (hi - lo) (length (drop lo bytes)) = omega (arith, h, length-drop lo bytes) in
-          rw (first, drop_min lo bytes, count) (take_min (hi - lo) (drop lo bytes))
+  range_of-within =
+      let count = length-drop lo bytes in
+      grind (arith, drop_min lo bytes, take_min (hi - lo) (drop lo bytes))
 
   -- nothing is put over the bytes
   overwritten-none : (at : ℕ) → at ≤ length bytes → overwritten bytes at [] ≡ bytes
@@ -55,8 +47,7 @@ held lo hi o = range_of (unwrap_or o []) lo hi
 
 -- what fits by the length of what may be no file fits it
 pub fits : (end : ℕ) (o : Option (List ℕ)) → IfSome (option_map length o) (λ size. end ≤ size) → IfSome o (λ bytes. end ≤ length bytes)
-fits end None h = tt
-fits end (Some bytes) h = h
+fits limit o h = grind arith
 
 -- a range of none that is put over a node
 pub nothing_put : (lo hi : ℕ) → lo ≤ hi → hi ≤ 0 → (x : Node) → rewritten_node (λ old. overwritten old lo (range_of [] lo hi)) x ≡ x

@@ -1,9 +1,9 @@
 -- An entry that is taken out of a tree whose keys are seen by a function is taken out of the finite map.
-use Rattle.std.proofs.Common.{◌≡◌, List, [], ◌∷◌, Some, sym, ◌∙◌, ap, refl}
+use Rattle.std.proofs.Common.{◌≡◌, List, [], ◌∷◌, sym, ◌∙◌, ap, refl, arith}
 use Rattle.std.specs.Prelude.{Bool, true, false, cond, None}
 use Rattle.std.specs.Map.{lookup, remove_entry}
 use Rattle.std.specs.declared.cmp.Ordering.{Ordering}
-use Rattle.std.specs.Ordering.{eq_by_cmp, is_eq}
+use Rattle.std.specs.Ordering.{eq_by_cmp}
 use Rattle.std.specs.BTreeMap.{is_at}
 use Rattle.finite_maps.specs.Table.{Table, IsKeyOrder, get, assign, get-assign, same_table}
 use Rattle.finite_maps.specs.Maps.{seen_table}
@@ -14,12 +14,7 @@ module _ {K L X : Type 0} {R : L → L → Ordering} (o : IsKeyOrder R) (f : K �
   -- what the tree has at another key
   lookup-other : (k q : L) (es : List (K × X)) → eq_by_cmp R q k ≡ false → lookup (is_at (λ j. R q (f j))) (remove_entry (is_at (λ j. R k (f j))) es) ≡ lookup (is_at (λ j. R q (f j))) es
   lookup-other k q [] n = refl
-  lookup-other k q (e ∷ es) n = first (is_eq (R k (f e.0))) refl (lookup-other k q es n)
-    where
-      first : (b : Bool) → is_eq (R k (f e.0)) ≡ b → lookup (is_at (λ j. R q (f j))) (remove_entry (is_at (λ j. R k (f j))) es) ≡ lookup (is_at (λ j. R q (f j))) es
-          → lookup (is_at (λ j. R q (f j))) (cond b es (e ∷ remove_entry (is_at (λ j. R k (f j))) es)) ≡ cond (is_eq (R q (f e.0))) (Some e.1) (lookup (is_at (λ j. R q (f j))) es)
-      first true h rest = sym (ap (λ b. cond b (Some e.1) (lookup (is_at (λ j. R q (f j))) es)) (ap (λ x. is_eq (R q x)) (sym (o.same k (f e.0) ((Equal-is (R k (f e.0))).0 h))) ∙ n))
-      first false h rest = ap (λ r. cond (is_eq (R q (f e.0))) (Some e.1) r) rest
+  lookup-other k q (e ∷ es) n = grind (arith, o.same, lookup-other k q es n)
 
   pub seen-remove_entry : (es ns : List (K × X)) (t : Table R X) (k : L) → seen_table o.total f es ≡ t → ns ≡ remove_entry (is_at (λ j. R k (f j))) es → lookup (is_at (λ j. R k (f j))) ns ≡ None
       → seen_table o.total f ns ≡ assign o.total t k None

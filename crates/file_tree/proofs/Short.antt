@@ -1,14 +1,13 @@
 -- The sixteen bytes of a short name are in the order of the names.
-use Rattle.std.proofs.Common.{◌≡◌, ℕ, zero, suc, ◌+◌, ◌*◌, ◌-◌, ◌^◌, ◌<◌, ◌≤◌, List, [], ◌∷◌, ◌++◌, length, get_or, take, drop, set, inl, inr, refl, sym, ap, ◌∙◌, arith}
+use Rattle.std.proofs.Common.{◌≡◌, ℕ, zero, suc, ◌+◌, ◌*◌, ◌-◌, ◌^◌, ◌<◌, ◌≤◌, List, [], ◌∷◌, ◌++◌, length, get_or, take, drop, set, refl, sym, ap, ◌∙◌, arith}
 use Rattle.std.specs.List.{AllByRecursion}
 use Rattle.std.specs.Int.{from_be_bytes, sum_through, byte_worth, w128}
 use Rattle.std.specs.declared.cmp.Ordering.{Ordering}
-use Rattle.std.specs.declared.cmp.Ordering.TheVariants.{Less, Equal, Greater}
+use Rattle.std.specs.declared.cmp.Ordering.TheVariants.{Less, Equal}
 use Rattle.std.specs.Ordering.{nat_cmp, ordering_then, ordering_reverse}
 use Rattle.std.specs.Cmp.{nat_cmp_is, tied_itself}
 use Rattle.std.specs.Cmp.Lexicographic.{slice_cmp, nat_list_cmp_total}
 use Rattle.std.proofs.Math.Nat.{pow-suc, mul-le-mul_right}
-use Rattle.std.proofs.lemmas.Bool.{cases_lt}
 use Rattle.file_tree.specs.Short.{padded, filled, name_in, AreFilled}
 
 abbrev AreBytes : List ℕ → Type 0
@@ -29,30 +28,13 @@ number_below [] h = omega arith
 number_below (b ∷ bs) h = rw (pow-suc 256 (length bs)) (one_more b (256 ^ length bs) (number bs) h.0 (number_below bs h.1))
 
 -- a number in front decides, and else what stands behind it
-in_front : (x y p n m : ℕ) (r : Ordering) → n < p → m < p → nat_cmp n m ≡ r → nat_cmp (x * p + n) (y * p + m) ≡ ordering_then (nat_cmp x y) r
-in_front x y p n m r s t e = elim (cases_lt x y) [
-  | inl h ↦ sym (nat_cmp_is (x * p + n) (y * p + m) Less (lower x y n m s h)) ∙ ap (λ o. ordering_then o r) (nat_cmp_is x y Less h)
-  | inr h ↦ elim (cases_lt y x) [
-    | inl k ↦ sym (nat_cmp_is (x * p + n) (y * p + m) Greater (lower y x m n t k)) ∙ ap (λ o. ordering_then o r) (nat_cmp_is x y Greater k)
-    | inr k ↦
-        let same : x ≡ y = omega (arith, h, k) in
-        ap (λ z. nat_cmp (z * p + n) (y * p + m)) same ∙ behind (y * p) ∙ e ∙ ap (λ o. ordering_then o r) (nat_cmp_is x y Equal same)
-  ]
-]
-  where
-    lower : (a b i j : ℕ) → i < p → a < b → a * p + i < b * p + j
-    lower a b i j f g =
-        let most : suc a * p ≤ b * p = mul-le-mul_right p (omega arith) in
-        omega (arith, most)
+lower : (p a b i j : ℕ) → i < p → a < b → a * p + i < b * p + j
+lower p a b i j f g =
+    let most : suc a * p ≤ b * p = mul-le-mul_right p (omega arith) in
+    omega (arith, most)
 
-    behind : (k : ℕ) → nat_cmp (k + n) (k + m) ≡ nat_cmp n m
-    behind k = elim (cases_lt n m) [
-      | inl h ↦ sym (nat_cmp_is (k + n) (k + m) Less (omega (arith, h))) ∙ nat_cmp_is n m Less h
-      | inr h ↦ elim (cases_lt m n) [
-        | inl g ↦ sym (nat_cmp_is (k + n) (k + m) Greater (omega (arith, g))) ∙ nat_cmp_is n m Greater g
-        | inr g ↦ sym (nat_cmp_is (k + n) (k + m) Equal (omega (arith, g, h))) ∙ nat_cmp_is n m Equal (omega (arith, g, h))
-      ]
-    ]
+in_front : (x y p n m : ℕ) (r : Ordering) → n < p → m < p → nat_cmp n m ≡ r → nat_cmp (x * p + n) (y * p + m) ≡ ordering_then (nat_cmp x y) r
+in_front x y p n m r s t e = grind (arith, lower p x y n m s, lower p y x m n t)
 
 number_cmp : (xs ys : List ℕ) → length xs ≡ length ys → AreBytes xs → AreBytes ys → nat_cmp (number xs) (number ys) ≡ slice_cmp nat_cmp xs ys
 number_cmp [] [] l f g = refl
@@ -94,10 +76,7 @@ be_cmp xs ys l k f g = (λ i. nat_cmp (number_summed 15 xs l i) (number_summed 1
 padded_less : (w : ℕ) (ys : List ℕ) (m n : ℕ) → m < n → slice_cmp nat_cmp (padded w [] m) (padded w ys n) ≡ Less
 padded_less zero ys m n h = ap (λ r. ordering_then r Equal) (sym (nat_cmp_is m n Less h))
 padded_less (suc w) [] m n h = padded_less w [] m n h
-padded_less (suc w) (y ∷ ys) m n h = elim (cases_lt 0 y) [
-  | inl k ↦ ap (λ r. ordering_then r (slice_cmp nat_cmp (padded w [] m) (padded w ys n))) (sym (nat_cmp_is 0 y Less k))
-  | inr k ↦ ap (λ r. ordering_then r (slice_cmp nat_cmp (padded w [] m) (padded w ys n))) (sym (nat_cmp_is 0 y Equal (omega (arith, k)))) ∙ padded_less w ys m n h
-]
+padded_less (suc w) (y ∷ ys) m n h = grind (arith, padded_less w ys m n h)
 
 padded_cmp : (w : ℕ) (xs ys : List ℕ) (m n : ℕ) → length xs ≤ w → length ys ≤ w → m + length ys ≡ n + length xs
     → slice_cmp nat_cmp (padded w xs m) (padded w ys n) ≡ slice_cmp nat_cmp xs ys

@@ -1,17 +1,17 @@
 -- The names of a directory in two lists, of short ones and of long ones.
 use Rattle.std.proofs.Common.{◌≡◌, ℕ, suc, ◌+◌, ◌<◌, ◌≤◌, List, [], ◌∷◌, length, Some, inl, inr, refl, sym, ap, subst, ◌∙◌, arith}
-use Rattle.std.specs.Prelude.{Bool, true, false, cond, Option, None, Vec, map}
+use Rattle.std.specs.Prelude.{Bool, true, false, Option, None, Vec, map}
 use Rattle.std.specs.declared.alloc.Global.{Global}
 use Rattle.std.specs.List.{AllByRecursion}
 use Rattle.std.specs.List.Sorted.{IsStrictlySortedBy}
 use Rattle.std.specs.Map.{keys_of, remove_entry}
 use Rattle.std.specs.declared.cmp.Ordering.{Ordering}
-use Rattle.std.specs.declared.cmp.Ordering.TheVariants.{Less, Equal, Greater}
-use Rattle.std.specs.Ordering.{nat_cmp, eq_by_cmp, is_eq, match_ordering}
-use Rattle.std.specs.Cmp.{Equal-is, tied_itself}
-use Rattle.std.specs.Cmp.Lexicographic.{slice_cmp}
+use Rattle.std.specs.declared.cmp.Ordering.TheVariants.{Less}
+use Rattle.std.specs.Ordering.{nat_cmp, is_eq}
+use Rattle.std.specs.Cmp.{Equal-is, tied_itself, unsigned_Decides}
+use Rattle.std.specs.Cmp.Lexicographic.{slice_cmp, pointwise, pointwise_decides, bytes_decides}
 use Rattle.std.specs.BTreeMap.{insert_entry}
-use Rattle.std.specs.FinMap.Entries.{put, find, by_order}
+use Rattle.std.specs.FinMap.Entries.{put, find}
 use Rattle.std.proofs.lemmas.Bool.{cases_lt}
 use Rattle.std.proofs.lemmas.Map.Keys.{sorted_head, sorted_tail}
 use Rattle.finite_maps.specs.Table.{pair_decides, text_keys, get, assign, count, get-insert, get-assign, same_table}
@@ -20,16 +20,14 @@ use Rattle.finite_maps.proofs.Ordered.{entries_of, entries_agree}
 use Rattle.file_tree.specs.Tree.{Names}
 use Rattle.file_tree.specs.Same.{same_name, same_names, same_names_decides}
 use Rattle.std.specs.Bool.{Decides}
-use Rattle.std.specs.Cmp.{unsigned_Decides}
-use Rattle.std.specs.Cmp.Lexicographic.{pointwise, pointwise_decides, bytes_decides}
 use Rattle.std.proofs.lemmas.Bool.Decides.{same_from_decides}
 use mathlib.Core.Bool.{true≢false}
 use Rattle.file_tree.specs.Listed.{as_name, names_in, AreShort, AreLong}
 
-abbrev Entries : Type 0
+abbrev pub Entries : Type 0
 Entries = List (List ℕ × ℕ)
 
-abbrev R : List ℕ → List ℕ → Ordering
+abbrev pub R : List ℕ → List ℕ → Ordering
 R = slice_cmp nat_cmp
 
 abbrev of_list : Entries → Names
@@ -40,29 +38,21 @@ either None y = y
 either (Some x) y = Some x
 
 either_none : (x : Option ℕ) → either x None ≡ x
-either_none None = refl
-either_none (Some x) = refl
-
-cond_first : (b : Bool) (v : ℕ) (x y : Option ℕ) → cond b (Some v) (either x y) ≡ either (cond b (Some v) x) y
-cond_first true v x y = refl
-cond_first false v x y = refl
+either_none x = grind arith
 
 -- what two lists have at a name: what the first one has there, or else the second
 get_both : (es fs : Entries) (q : List ℕ) → get (names_in es fs) q ≡ either (get (of_list es) q) (get (of_list fs) q)
 get_both [] fs q = refl
 get_both (e ∷ es) fs q =
-    get-insert text_keys.total (names_in es fs) e.0 e.1 q ∙ ap (λ r. cond (eq_by_cmp R q e.0) (Some e.1) r) (get_both es fs q)
-    ∙ cond_first (eq_by_cmp R q e.0) e.1 (get (of_list es) q) (get (of_list fs) q)
-    ∙ ap (λ r. either r (get (of_list fs) q)) (sym (get-insert text_keys.total (of_list es) e.0 e.1 q))
+    let here = get-insert text_keys.total (of_list es) e.0 e.1 q in
+    grind (arith, here, get-insert text_keys.total (names_in es fs) e.0 e.1 q, get_both es fs q)
 
 -- a name that is not as all of a list are is not in it
 not_in : (P : List ℕ → Type 0) (es : Entries) (q : List ℕ) → AllByRecursion P (keys_of es) → ¬ (P q) → get (of_list es) q ≡ None
 not_in P [] q h n = refl
-not_in P (e ∷ es) q h n = get-insert text_keys.total (of_list es) e.0 e.1 q ∙ by (is_eq (R q e.0)) refl (not_in P es q h.1 n)
-  where
-    by : (b : Bool) → is_eq (R q e.0) ≡ b → get (of_list es) q ≡ None → cond (is_eq (R q e.0)) (Some e.1) (get (of_list es) q) ≡ None
-    by true t rest = absurd (n (subst P (sym (text_keys.same q e.0 ((Equal-is (R q e.0)).0 t))) h.0))
-    by false t rest = ap (λ b. cond b (Some e.1) (get (of_list es) q)) t ∙ rest
+not_in P (e ∷ es) q h n =
+    let here : is_eq (R q e.0) ≡ true → ⊥ = λ t. n (subst P (sym (text_keys.same q e.0 ((Equal-is (R q e.0)).0 t))) h.0) in
+    grind (arith, here, get-insert text_keys.total (of_list es) e.0 e.1 q, not_in P es q h.1 n)
 
 not_short : (es : Entries) (q : List ℕ) → AreShort es → 15 < length q → get (of_list es) q ≡ None
 not_short es q h l = not_in (λ k. length k ≤ 15) es q h (λ s. omega (arith, s, l))
@@ -81,49 +71,28 @@ get_long es fs q h l = get_both es fs q ∙ ap (λ r. either r (get (of_list fs)
 module _ (es fs ns : Entries) (k : List ℕ) (w : Option ℕ) where
   pub set_short : of_list ns ≡ assign text_keys.total (of_list es) k w → AreLong fs → length k ≤ 15 → names_in ns fs ≡ assign text_keys.total (names_in es fs) k w
   set_short e h l = same_table text_keys _ _ (λ q.
-      get_both ns fs q ∙ ap (λ (t : Names). either (get t q) (get (of_list fs) q)) e
-      ∙ ap (λ r. either r (get (of_list fs) q)) (get-assign text_keys.total (of_list es) k w q)
-      ∙ at q (is_eq (R q k)) refl
-      ∙ ap (λ r. cond (is_eq (R q k)) w r) (sym (get_both es fs q)) ∙ sym (get-assign text_keys.total (names_in es fs) k w q))
-    where
-      at : (q : List ℕ) (b : Bool) → is_eq (R q k) ≡ b → either (cond (is_eq (R q k)) w (get (of_list es) q)) (get (of_list fs) q) ≡ cond (is_eq (R q k)) w (either (get (of_list es) q) (get (of_list fs) q))
-      at q true t =
-          let none : get (of_list fs) q ≡ None = ap (λ p. get (of_list fs) p) (text_keys.same q k ((Equal-is (R q k)).0 t)) ∙ not_long fs k h l in
-          rw (t, none) (either_none w)
-      at q false t = rw t refl
+      let none : is_eq (R q k) ≡ true → get (of_list fs) q ≡ None = λ t.
+      let here = text_keys.same q k ((Equal-is (R q k)).0 t) in ap (λ p. get (of_list fs) p) here ∙ not_long fs k h l in
+      let new = ap (λ (t : Names). get t q) e ∙ get-assign text_keys.total (of_list es) k w q in
+      grind (arith, get_both ns fs q, get_both es fs q, get-assign text_keys.total (names_in es fs) k w q, new, none, either_none))
 
   pub set_long : of_list ns ≡ assign text_keys.total (of_list fs) k w → AreShort es → 15 < length k → names_in es ns ≡ assign text_keys.total (names_in es fs) k w
   set_long e h l = same_table text_keys _ _ (λ q.
-      get_both es ns q ∙ ap (λ (t : Names). either (get (of_list es) q) (get t q)) e
-      ∙ ap (λ r. either (get (of_list es) q) r) (get-assign text_keys.total (of_list fs) k w q)
-      ∙ at q (is_eq (R q k)) refl
-      ∙ ap (λ r. cond (is_eq (R q k)) w r) (sym (get_both es fs q)) ∙ sym (get-assign text_keys.total (names_in es fs) k w q))
-    where
-      at : (q : List ℕ) (b : Bool) → is_eq (R q k) ≡ b → either (get (of_list es) q) (cond (is_eq (R q k)) w (get (of_list fs) q)) ≡ cond (is_eq (R q k)) w (either (get (of_list es) q) (get (of_list fs) q))
-      at q true t =
-          let none : get (of_list es) q ≡ None = ap (λ p. get (of_list es) p) (text_keys.same q k ((Equal-is (R q k)).0 t)) ∙ not_short es k h l in
-          rw (t, none) refl
-      at q false t = rw t refl
+      let none : is_eq (R q k) ≡ true → get (of_list es) q ≡ None = λ t.
+      let here = text_keys.same q k ((Equal-is (R q k)).0 t) in ap (λ p. get (of_list es) p) here ∙ not_short es k h l in
+      let new = ap (λ (t : Names). get t q) e ∙ get-assign text_keys.total (of_list fs) k w q in
+      grind (arith, get_both es ns q, get_both es fs q, get-assign text_keys.total (names_in es fs) k w q, new, none))
 
 -- ---- what all names of a list are, they still are with one more or one less
 
 module _ {K X : Type 0} (P : K → Type 0) where
   pub all_inserted : (cmp : K → K → Ordering) (es : List (K × X)) (k : K) (v : X) → AllByRecursion P (keys_of es) → P k → AllByRecursion P (keys_of (insert_entry cmp es k v))
   all_inserted cmp [] k v h p = (p, tt)
-  all_inserted cmp (e ∷ es) k v h p = by (cmp k e.0) (all_inserted cmp es k v h.1 p)
-    where
-      by : (r : Ordering) → AllByRecursion P (keys_of (insert_entry cmp es k v)) → AllByRecursion P (keys_of (match_ordering r ((k, v) ∷ e ∷ es) ((e.0, v) ∷ es) (e ∷ insert_entry cmp es k v)))
-      by Less rest = (p, h)
-      by Equal rest = h
-      by Greater rest = (h.0, rest)
+  all_inserted cmp (e ∷ es) k v h p = grind (arith, all_inserted cmp es k v h.1 p)
 
   pub all_removed : (test : K → Bool) (es : List (K × X)) → AllByRecursion P (keys_of es) → AllByRecursion P (keys_of (remove_entry test es))
   all_removed test [] h = tt
-  all_removed test (e ∷ es) h = by (test e.0) (all_removed test es h.1)
-    where
-      by : (b : Bool) → AllByRecursion P (keys_of (remove_entry test es)) → AllByRecursion P (keys_of (cond b es (e ∷ remove_entry test es)))
-      by true rest = h.1
-      by false rest = (h.0, rest)
+  all_removed test (e ∷ es) h = grind (arith, all_removed test es h.1)
 
 module _ (P : List ℕ → Type 0) where
   pub all_seen : (es : List (Vec ℕ Global × ℕ)) → AllByRecursion (λ k. P k.items) (keys_of es) → AllByRecursion P (keys_of (map as_name es))
@@ -144,32 +113,14 @@ sorted_seen_names (e ∷ es) h = (below_seen e.0.items es h.0, sorted_seen_names
 
 -- ---- how many names there are
 
-is_there : Option ℕ → Type 0
-is_there None = ⊥
-is_there (Some x) = Unit {0}
-
 put_new : (k : List ℕ) (v : ℕ) (es : Entries) → find R k es ≡ None → length (put R k v es) ≡ suc (length es)
-unfolding is_there
 put_new k v [] h = refl
-put_new k v (e ∷ es) h = by (R k e.0) refl (put_new k v es)
-  where
-    by : (r : Ordering) → R k e.0 ≡ r → (find R k es ≡ None → length (put R k v es) ≡ suc (length es)) → length (put R k v (e ∷ es)) ≡ suc (suc (length es))
-    by Less t rest = ap (λ o. length (by_order o ((k, v) ∷ e ∷ es) ((e.0, v) ∷ es) (e ∷ put R k v es))) t
-    by Equal t rest = absurd (subst is_there (sym (ap (λ o. cond (is_eq o) (Some e.1) (find R k es)) t) ∙ h) tt)
-    by Greater t rest =
-        ap (λ o. length (by_order o ((k, v) ∷ e ∷ es) ((e.0, v) ∷ es) (e ∷ put R k v es))) t
-        ∙ ap suc (rest (sym (ap (λ o. cond (is_eq o) (Some e.1) (find R k es)) t) ∙ h))
-
-is_equal : Ordering → Type 0
-is_equal Less = ⊥
-is_equal Equal = Unit {0}
-is_equal Greater = ⊥
+put_new k v (e ∷ es) h = grind (arith, put_new k v es)
 
 pub counted : (es fs : Entries) → AreShort es → AreLong fs → IsStrictlySortedBy R (keys_of es) → IsStrictlySortedBy R (keys_of fs) → length es + length fs ≡ count (names_in es fs)
-unfolding is_equal
 counted [] fs f g s t = let same : length fs ≡ count (of_list fs) = ap length (entries_of text_keys fs (of_list fs) t refl) in omega (arith, same)
 counted (e ∷ es) fs f g s t =
-    let none : get (names_in es fs) e.0 ≡ None = get_short es fs e.0 g f.0 ∙ not_in (λ k. R e.0 k ≡ Less) es e.0 (sorted_head R e.0 (keys_of es) s) (λ h. subst is_equal (sym (tied_itself text_keys.total e.0) ∙ h) tt) in
+    let none : get (names_in es fs) e.0 ≡ None = get_short es fs e.0 g f.0 ∙ not_in (λ k. R e.0 k ≡ Less) es e.0 (sorted_head R e.0 (keys_of es) s) (λ h. let tied = tied_itself text_keys.total e.0 in absurd cc) in
     let new = put_new e.0 e.1 (names_in es fs).entries none in
     let rest = counted es fs f.1 g (sorted_tail R e.0 (keys_of es) s) t in
     omega (arith, new, rest)

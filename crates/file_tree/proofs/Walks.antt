@@ -1,4 +1,5 @@
 -- The steps of a walk: the last leads where the walk does, and they look its names up.
+use native.Mathlib.Omega.{arith}
 use Rattle.std.proofs.Common.{◌≡◌, ℕ, Bool, true, false, List, [], ◌∷◌, length, Option, Some, None, Result, Ok, Err, ◌∙◌, ap, refl}
 use Rattle.std.specs.Prelude.{if◌then◌else◌, unwrap_or}
 use Rattle.std.specs.List.{filter_map, last_or}
@@ -8,14 +9,13 @@ use Rattle.std.proofs.lemmas.Iterator.{YieldsList}
 use Rattle.std.proofs.lemmas.Iterator.Splits.{YieldsList-from_shown_while}
 use Rattle.sqe_codec.specs.declared.errno.Errno.{Errno}
 use Rattle.sqe_codec.specs.declared.errno.Errno.TheVariants.{ENOENT, EBADF, ENAMETOOLONG}
-use Rattle.sqe_codec.specs.Answers.{◌>>=◌, ◌>>◌, require, each_ok}
-use Rattle.entry_checks.specs.Operation.{Path}
-use Rattle.trace_format.specs.Paths.{components}
+use Rattle.sqe_codec.specs.Answers.{◌>>◌, require, each_ok}
+use Rattle.trace_format.specs.Paths.{Path, components}
 use Rattle.file_tree.specs.Tree.{Tree, name}
 use Rattle.file_tree.specs.Found.{walk_meant}
 use Rattle.file_tree.specs.Steps.{GivesStep, steps, steps_from, steps_left}
 use Rattle.file_tree.specs.declared.steps.Steps.{Steps}
-use Rattle.file_tree.specs.Walk.{Place, directory_at, fits_name, starts_at_root, names_from, names_on, walk, walk_from}
+use Rattle.file_tree.specs.Walk.{Place, directory_at, starts_at_root, names_from, names_on, walk, walk_from}
 
 -- the names that steps look up, each with its directory
 abbrev pub names_of : List (Result Place Errno) → List (ℕ × List ℕ)
@@ -35,26 +35,16 @@ module _ (tree : Tree) where
   further ns s = each_ok (λ (p : Place). steps_from tree (directory_at p.target) ns) s
 
   last_step : (ns : List (List ℕ)) (d : ℕ) (n : List ℕ) (o : Option (Result Place Errno)) → last_or o (steps_from tree (Ok d) (n ∷ ns)) ≡ Some (walk_from tree d (n ∷ ns))
-  last_step [] d n o = elim (fits_name n) as (λ b. last_or o (stepped d n b ∷ further [] (stepped d n b)) ≡ Some (stepped d n b)) [ true ↦ refl | false ↦ refl ]
+  last_step [] d n o = grind arith
   last_step (m ∷ ns) d n o =
-      elim (fits_name n) as (λ b. last_or o (stepped d n b ∷ further (m ∷ ns) (stepped d n b)) ≡ Some (require b ENAMETOOLONG >> (directory_at (name tree d n) >>= λ (e : ℕ). walk_from tree e (m ∷ ns)))) [
-        | true ↦ goes_on (Some (stepped d n true)) (directory_at (name tree d n)) (λ e. last_step ns e m (Some (stepped d n true)))
-        | false ↦ refl
-      ]
-    where
-      goes_on : (o : Option (Result Place Errno)) (r : Result ℕ Errno) → ((e : ℕ) → last_or o (steps_from tree (Ok e) (m ∷ ns)) ≡ Some (walk_from tree e (m ∷ ns))) → last_or o (steps_from tree r (m ∷ ns)) ≡ Some (r >>= λ (e : ℕ). walk_from tree e (m ∷ ns))
-      goes_on o (Ok e) h = h e
-      goes_on o (Err e) h = refl
+      let down = λ (e : ℕ). last_step ns e m (Some (stepped d n true)) in
+      grind (arith, down)
 
   names_stepped : (ns : List (List ℕ)) (r : Result ℕ Errno) → names_of (steps_from tree r ns) ≡ each_ok (λ d. names_from tree d ns) r
   names_stepped [] (Ok d) = refl
   names_stepped [] (Err e) = refl
   names_stepped (n ∷ ns) (Err e) = refl
-  names_stepped (n ∷ ns) (Ok d) =
-      elim (fits_name n) as (λ b. names_of (stepped d n b ∷ further ns (stepped d n b)) ≡ (if b then (d, n) ∷ each_ok (λ (e : ℕ). names_from tree e ns) (directory_at (name tree d n)) else [])) [
-        | true ↦ ap (λ es. (d, n) ∷ es) (names_stepped ns (directory_at (name tree d n)))
-        | false ↦ refl
-      ]
+  names_stepped (n ∷ ns) (Ok d) = grind (arith, names_stepped ns (directory_at (name tree d n)))
 
   pub last_of_steps : (p : Path) → unwrap_or (last_or None (steps tree p)) (Err ENOENT) ≡ walk tree p
   last_of_steps p = by (starts_at_root p) (components p.text)
@@ -65,8 +55,4 @@ module _ (tree : Tree) where
       by false ns = refl
 
   pub names_of_steps : (p : Path) → names_of (steps tree p) ≡ names_on tree p
-  names_of_steps p = by (starts_at_root p) (components p.text)
-    where
-      by : (b : Bool) (ns : List (List ℕ)) → names_of (if b then steps_from tree (Ok 0) ns else (Err EBADF ∷ [])) ≡ (if b then names_from tree 0 ns else [])
-      by true ns = names_stepped ns (Ok 0)
-      by false ns = refl
+  names_of_steps p = let stepped = names_stepped (components p.text) (Ok 0) in grind (arith, stepped)

@@ -4,8 +4,7 @@ use Rattle.std.specs.Option.{option_map}
 use Rattle.sqe_codec.specs.declared.errno.Errno.{Errno}
 use Rattle.sqe_codec.specs.declared.errno.Errno.TheVariants.{EBADF, ENAMETOOLONG}
 use Rattle.sqe_codec.specs.Answers.{◌>>=◌, ◌>>◌, require, each_ok}
-use Rattle.entry_checks.specs.Operation.{Path}
-use Rattle.trace_format.specs.Paths.{components}
+use Rattle.trace_format.specs.Paths.{Path, components}
 use Rattle.file_tree.specs.Found.{walk_meant}
 use Rattle.file_tree.specs.Tree.{Tree, name, target}
 use Rattle.file_tree.specs.Walk.{Place, directory_at, fits_name, starts_at_root}

@@ -2,7 +2,7 @@
 ghost use Rattle.std.specs.Prelude.{◌≡◌, ◌+◌, ◌≤◌, [], length, unwrap_or};
 ghost use Rattle.std.specs.Prelude.{IfOk, IfSome, OnErr, OnOk};
 ghost use Rattle.std.specs.Option.{option_copied};
-ghost use Rattle.entry_checks.specs.Operation.{file_limit};
+ghost use Rattle.trace_format.specs.Limits.{file_limit};
 ghost use Rattle.extent_bytes.specs.Bytes.{overwritten, range_of, resized, zeroed};
 ghost use Rattle.finite_maps.specs.Table.{adjust_number, insert, number_keys};
 ghost use Rattle.file_tree.specs.Tree.{file, rewritten_node};

@@ -1,7 +1,9 @@
 -- A word and a single bit of it.
-use Rattle.std.proofs.Common.{◌≡◌, ℕ, zero, suc, ◌*◌, ◌^◌, ◌<◌, true, not, eqb, nat_eq, bit_and, refl, arith, inl, inr}
+use Rattle.std.proofs.Common.{◌≡◌, ℕ, zero, suc, ◌*◌, ◌^◌, ◌<◌, true, not, eqb, nat_eq, bit_and, arith, inl, inr}
 use Rattle.std.specs.Int.{bit_at}
-use Rattle.std.proofs.lemmas.Bool.{ne_eqb, eqb-true, or_cases}
+use Rattle.std.proofs.lemmas.Bool.{eqb-true, or_cases}
+use Rattle.std.proofs.lemmas.Bool.Decides.{nat_tests}
+use Rattle.std.proofs.lemmas.Nat.{pow_pos}
 use Rattle.std.proofs.lemmas.Nat.Bits.{and_pow, bit_at-lt}
 use Rattle.sqe_codec.specs.Flags.{has, is_bit_below}
 
@@ -13,20 +15,10 @@ power_of (suc n) word h = elim (or_cases _ _ h) [
 ]
 
 one_or_none : (b p : ℕ) → b < 2 → 0 < p → not (nat_eq (b * p) 0) ≡ eqb b 1
-one_or_none zero p lt positive =
-    let e : 0 * p ≡ 0 = omega arith in
-    rw e refl
-one_or_none (suc zero) p lt positive =
-    let e : 1 * p ≡ 0 → ⊥ = λ h. omega (arith, h) in
-    rw (ne_eqb (1 * p) 0 e) refl
-one_or_none (suc (suc b)) p lt positive = absurd (omega arith)
-
-power_positive : (k : ℕ) → 0 < 2 ^ k
-power_positive zero = omega arith
-power_positive (suc k) = omega (arith, power_positive k)
+one_or_none b p lt positive = grind (arith, nat_tests)
 
 -- A word masked with a flag is not zero where it has the flag.
-pub has-masked : (word flag : ℕ) → is_bit_below 32 flag ≡ true → not (nat_eq (bit_and word flag) 0) ≡ has word flag
-has-masked word flag h =
+pub has_masked : (word flag : ℕ) → is_bit_below 32 flag ≡ true → not (nat_eq (bit_and word flag) 0) ≡ has word flag
+has_masked word flag h =
     let k = power_of 32 flag h in
-    rw (k.1, and_pow word k.0) (one_or_none (bit_at word k.0) (2 ^ k.0) (bit_at-lt word k.0) (power_positive k.0))
+    rw (k.1, and_pow word k.0) (one_or_none (bit_at word k.0) (2 ^ k.0) (bit_at-lt word k.0) (pow_pos k.0))

@@ -23,6 +23,7 @@ pub const BUFFER_SELECT: u32 = 0x20;
 pub const CQE_SKIP_SUCCESS: u32 = 0x40;
 
 /// Whether a word of flags has a flag, which is a single bit.
+#[tactic(auto, using(crate::proofs::Bits::has_masked))]
 pub fn has_flag(word: u32, flag: u32) -> bool
     requires { is_bit_below 32 flag ≡ true }
     ensures { result ≡ has word flag }

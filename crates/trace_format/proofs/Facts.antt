@@ -1,7 +1,6 @@
 -- What the format asks of the records of a spelled trace, and of their steps.
-use Rattle.std.proofs.Common.{◌≡◌, ℕ, suc, ◌+◌, ◌<◌, ◌≤◌, true, List, [], ◌∷◌, length, Some, refl, sym, ap, subst, ◌∙◌, arith, inl, inr, ◌⊎◌, Bool, false, ◌||◌}
+use Rattle.std.proofs.Common.{◌≡◌, ℕ, suc, ◌+◌, ◌<◌, ◌≤◌, true, List, [], ◌∷◌, length, Some, refl, sym, subst, arith, inl, inr, ◌⊎◌}
 use Rattle.std.specs.List.{All, slice_get}
-use Rattle.std.specs.Prelude.{◌==◌, nat_lt}
 use Rattle.std.proofs.lemmas.Bool.{ltb-true, leb-true}
 use Rattle.std.proofs.lemmas.List.Elements.{All-nil, All-cons, All-head, All-tail, All-append, All-push, All-map, All-weaker, All-get_or}
 use Rattle.std.proofs.lemmas.Option.{slice_get_within, get_or_from_slice_get}
@@ -18,10 +17,9 @@ use Rattle.trace_format.specs.Grammar.{several}
 use Rattle.trace_format.specs.Sides.{is_side_of}
 use Rattle.trace_format.specs.Steps.{Step, submit, fill as fill_step, record_steps, steps_from, steps, step_at}
 use Rattle.trace_format.specs.Text.{entry, enter, fill, one_record, item, description, slot, ring, header, Counts, trace, SpellsTrace, IsSpelled}
-use Rattle.trace_format.proofs.Spots.{length-steps}
+use Rattle.trace_format.proofs.Spots.{length-steps_from}
 use Rattle.trace_format.proofs.Sums.{places_in-push}
-use Rattle.trace_format.proofs.Spelled.{Spelt, at_place, at_test, test_passed, at_done, at_choice}
-use Rattle.trace_format.proofs.Apart.{Keeps, AnyText, keeps_any, keeps_bytes, Own, apart, of_several, each, length-several}
+use Rattle.trace_format.proofs.Apart.{Keeps, AnyText, keeps_any, keeps_bytes, Own, apart, at_place, at_test, test_passed, at_done, at_choice, of_several, each, length-several}
 use native.Mathlib.Numerals.{add-one-le}
 
 -- ---- records
@@ -36,15 +34,15 @@ pub record EntryFacts (B : List ℕ → Type 0) (e : Entry) : Type 0 where
 pub entry_facts : {B : List ℕ → Type 0} → Keeps B → (e : Entry) → Own B entry e → EntryFacts B e
 unfolding entry
 entry_facts {B = B} keeps y o =
-    let sqe = apart keeps o.has o.is in
-    let len = apart keeps sqe.rest_has (at_place sqe.spelled) in
-    let side = apart keeps len.rest_has len.spelled in
-    let e = at_done (at_test side.spelled) in
+    let sqe = apart keeps o in
+    let len = apart keeps (at_place sqe.after) in
+    let side = apart keeps len.after in
+    let e = at_done (at_test side.after) in
     let made : EntryFacts B (record { sqe = entry_of sqe.x; side = side.x }) = record {
       bytes = sqe.x;
-      has = subst B (sym sqe.own.is.is.1) sqe.own.has;
+      has = subst B (sym sqe.own.is.1) sqe.own.has;
       fields = refl;
-      fits = test_passed side.spelled;
+      fits = test_passed side.after;
     } in
     subst (EntryFacts B) (sym e.1) made
 
@@ -74,56 +72,52 @@ record RecordWithin (B : List ℕ → Type 0) (rings used : ℕ) (r : Record) : 
   facts : RecordFacts B rings r
   within : used + places_in (r ∷ []) ≤ places_limit
 
-enter_within : {B : List ℕ → Type 0} → Keeps B → (rings used place : ℕ) (text : List ℕ) (r : Record) → B text → Spelt (enter rings used) place text r → RecordWithin B rings used r
+enter_within : {B : List ℕ → Type 0} → Keeps B → (rings used : ℕ) (r : Record) → Own B (enter rings used) r → RecordWithin B rings used r
 unfolding enter
-enter_within {B = B} keeps rings used place text y has s =
-    let ring = apart keeps has (at_place s) in
-    let count = apart keeps ring.rest_has (at_place (at_test ring.spelled)) in
-    let entries = apart keeps count.rest_has (at_test count.spelled) in
-    let e = at_done entries.spelled in
-    let len = length-several (λ _. entry) count.x [] entries.own.place entries.own.text entries.x entries.own.is in
-    let room : used + count.x ≤ places_limit = leb-true _ _ (test_passed count.spelled) in
-    let within : used + places_in (Enter ring.x entries.x ∷ []) ≤ places_limit = omega (arith, len, room) in
+enter_within {B = B} keeps rings used y o =
+    let ring = apart keeps (at_place o) in
+    let count = apart keeps (at_place (at_test ring.after)) in
+    let entries = apart keeps (at_test count.after) in
+    let e = at_done entries.after in
+    let room : used + count.x ≤ places_limit = leb-true _ _ (test_passed count.after) in
+    let many = length-several (λ _. entry) count.x entries.x keeps entries.own in
+    let within : used + places_in (Enter ring.x entries.x ∷ []) ≤ places_limit = omega (arith, many, room) in
     record {
       facts = inl (record {
         ring = ring.x;
         entries = entries.x;
         is = e.1;
-        in_rings = ltb-true _ _ (test_passed ring.spelled);
+        in_rings = ltb-true _ _ (test_passed ring.after);
         all = each (EntryFacts B) (λ _. entry) keeps (λ _. entry_facts keeps) count.x entries.x entries.own;
       });
       within = subst (λ (r : Record). used + places_in (r ∷ []) ≤ places_limit) (sym e.1) within;
     }
 
-fill_within : {B : List ℕ → Type 0} → Keeps B → (rings : List Ring) (used place : ℕ) (text : List ℕ) (r : Record) → used < places_limit → B text → Spelt (fill rings) place text r → RecordWithin B (length rings) used r
+fill_within : {B : List ℕ → Type 0} → Keeps B → (rings : List Ring) (used : ℕ) (r : Record)
+    → used < places_limit → Own B (fill rings) r → RecordWithin B (length rings) used r
 unfolding fill
-fill_within {B = B} keeps rings used place text r room has s =
-    let ring = apart keeps has (at_place s) in
-    let buffer = apart keeps ring.rest_has (at_place (at_test ring.spelled)) in
-    let offset = apart keeps buffer.rest_has (at_place (at_test buffer.spelled)) in
-    let len = apart keeps offset.rest_has offset.spelled in
-    let bytes = apart keeps len.rest_has (at_test len.spelled) in
-    let e = at_done bytes.spelled in
-    let one : places_in (Fill ring.x buffer.x offset.x bytes.x ∷ []) ≡ 1 = refl in
-    let within : used + places_in (Fill ring.x buffer.x offset.x bytes.x ∷ []) ≤ places_limit = subst (λ (n : ℕ). used + n ≤ places_limit) (sym one) (add-one-le room) in
+fill_within keeps rings used y room o =
+    let ring = apart keeps (at_place o) in
+    let buffer = apart keeps (at_place (at_test ring.after)) in
+    let offset = apart keeps (at_place (at_test buffer.after)) in
+    let len = apart keeps offset.after in
+    let bytes = apart keeps (at_test len.after) in
+    let e = at_done bytes.after in
+    let within : used + places_in (Fill ring.x buffer.x offset.x bytes.x ∷ []) ≤ places_limit = add-one-le room in
     record {
-      facts = inr (record { ring = ring.x; buffer = buffer.x; offset = offset.x; bytes = bytes.x; is = e.1; in_rings = ltb-true _ _ (test_passed ring.spelled) });
+      facts = inr (record { ring = ring.x; buffer = buffer.x; offset = offset.x; bytes = bytes.x; is = e.1; in_rings = ltb-true _ _ (test_passed ring.after) });
       within = subst (λ (r : Record). used + places_in (r ∷ []) ≤ places_limit) (sym e.1) within;
     }
-
--- the second of two tests passed where the first did not
-second_true : (x y : Bool) → x ≡ false → (x || y) ≡ true → y ≡ true
-second_true x y e h = sym (ap (λ b. b || y) e) ∙ h
 
 -- each record, of entries or a fill
 record_within : {B : List ℕ → Type 0} → Keeps B → (rings : List Ring) (used : ℕ) (r : Record) → Own B (one_record rings used) r → RecordWithin B (length rings) used r
 unfolding one_record
 record_within keeps rings used r o =
-    let kind = apart keeps o.has (at_place o.is) in
-    let counted = at_test kind.spelled in
+    let kind = apart keeps (at_place o) in
+    let counted = at_test kind.after in
     elim (at_choice (at_test counted)) [
-      | inl a ↦ enter_within keeps (length rings) used kind.place kind.rest r kind.rest_has a.1
-      | inr b ↦ fill_within keeps rings used kind.place kind.rest r (ltb-true used places_limit (second_true (kind.x == 1) (nat_lt used places_limit) b.0 (test_passed counted))) kind.rest_has b.1
+      | inl a ↦ enter_within keeps (length rings) used r a.1
+      | inr b ↦ fill_within keeps rings used r (ltb-true used places_limit (rw b.0 at (test_passed counted))) b.1
     ]
 
 -- What the format asks of the records: none goes beyond the limit of places.
@@ -158,14 +152,14 @@ pub record TraceParts (B : List ℕ → Type 0) (t : Trace) : Type 0 where
 pub trace_parts : {B : List ℕ → Type 0} → Keeps B → (bytes : List ℕ) (t : Trace) → B bytes → SpellsTrace bytes t → TraceParts B t
 unfolding trace
 trace_parts {B = B} keeps bytes t has spells =
-    let whole : Spelt trace 0 bytes t = record { is = spells.1 } in
-    let counts = apart keeps has whole in
-    let items = apart keeps counts.rest_has counts.spelled in
-    let descriptions = apart keeps items.rest_has items.spelled in
-    let descriptors = apart keeps descriptions.rest_has descriptions.spelled in
-    let rings = apart keeps descriptors.rest_has descriptors.spelled in
-    let records = apart keeps rings.rest_has rings.spelled in
-    let e = at_done records.spelled in
+    let whole : Own B trace t = record { place = 0; text = bytes; has = has; is = spells.1 } in
+    let counts = apart keeps whole in
+    let items = apart keeps counts.after in
+    let descriptions = apart keeps items.after in
+    let descriptors = apart keeps descriptions.after in
+    let rings = apart keeps descriptors.after in
+    let records = apart keeps rings.after in
+    let e = at_done records.after in
     let made : TraceParts B (record { version = counts.x.version; items = items.x; descriptions = descriptions.x; descriptors = descriptors.x; rings = rings.x; records = records.x }) = record {
       counts = counts.x;
       counted = counts.own;
@@ -226,7 +220,7 @@ pub spelled_rings : SpelledRings
 spelled_rings t h k s here = (any_step t h k s here).in_rings
 
 pub spelled_places : SpelledPlaces
-spelled_places t h = omega (arith, length-steps t, (trace_facts keeps_any h.0 t tt h.1).within)
+spelled_places t h = omega (arith, length-steps_from 0 t.records, (trace_facts keeps_any h.0 t tt h.1).within)
 
 pub spelled_ranges : SpelledRanges
 spelled_ranges bytes t fits spells k s e here a =

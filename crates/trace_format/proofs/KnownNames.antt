@@ -1,9 +1,10 @@
 -- The map of names after one more item.
-use Rattle.std.proofs.Common.{◌≡◌, ℕ, Bool, true, false, cond, List, [], ◌∷◌, ◌++◌, Option, Some, refl, subst}
+use Rattle.std.proofs.Common.{◌≡◌, ℕ, Bool, true, false, cond, List, [], ◌∷◌, ◌++◌, Option, Some, refl, subst, arith}
 use Rattle.std.specs.Prelude.{◌||◌, ◌&&◌, is_some, unwrap_or}
 use Rattle.std.specs.List.{list_any}
 use Rattle.std.specs.Str.{bytes_eq}
 use Rattle.std.proofs.lemmas.List.Folds.{list_any-append}
+use Rattle.std.proofs.lemmas.Bool.Decides.{nat_tests}
 use Rattle.std.proofs.lemmas.Slice.Eq.{bytes_eq-Decides}
 use Rattle.trace_format.specs.declared.trace.Item.{Item}
 use Rattle.trace_format.specs.Paths.{has_name, is_directory_at, is_directory}
@@ -12,26 +13,13 @@ use Rattle.trace_format.specs.Names.{Names, kind_at, AddsName, KnowsNames}
 -- no name, so no directory
 none_there : (items : List Item) (p : List ℕ) → has_name items p ≡ false → list_any (is_directory_at p) items ≡ false
 none_there [] p h = refl
-none_there (i ∷ items) p h = go (is_directory i.node) (bytes_eq i.path p) (has_name items p) (list_any (is_directory_at p) items) h (none_there items p)
-  where
-    go : (a b c d : Bool) → (b || c) ≡ false → (c ≡ false → d ≡ false) → ((a && b) || d) ≡ false
-    go a true c d h f = absurd cc
-    go true false c d h f = f h
-    go false false c d h f = f h
+none_there (i ∷ items) p h = grind (arith, nat_tests, none_there items p)
 
 has_more : (b d : Bool) (k : Option Bool) (x : Bool) → is_some k ≡ x → is_some (cond b (Some d) k) ≡ (x || (b || false))
-has_more true d k true e = refl
-has_more true d k false e = refl
-has_more false d k true e = e
-has_more false d k false e = e
+has_more b d k x e = grind (arith, nat_tests)
 
 is_more : (b d : Bool) (k : Option Bool) (x : Bool) → unwrap_or k false ≡ x → (b ≡ true → x ≡ false) → unwrap_or (cond b (Some d) k) false ≡ (x || ((d && b) || false))
-is_more true true k x e f = rw (f refl) refl
-is_more true false k x e f = rw (f refl) refl
-is_more false true k true e f = e
-is_more false true k false e f = e
-is_more false false k true e f = e
-is_more false false k false e f = e
+is_more b d k x e f = grind (arith, nat_tests)
 
 pub KnowsNames-push : (old new : Names) (items : List Item) (i : Item) → KnowsNames old items → AddsName old new i.path (is_directory i.node) → has_name items i.path ≡ false → KnowsNames new (items ++ i ∷ [])
 KnowsNames-push old new items i known adds fresh = record {

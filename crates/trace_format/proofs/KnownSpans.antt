@@ -1,12 +1,12 @@
 -- The map of the buffers so far, the test that it serves, and one buffer more.
-use Rattle.std.proofs.Common.{◌≡◌, ℕ, ◌+◌, ◌-◌, ◌<◌, ◌≤◌, Bool, true, false, cond, List, [], ◌∷◌, ◌++◌, Some, None, refl, sym, ap, subst, ◌∙◌, inl, inr, ◌⊎◌, arith}
+use Rattle.std.proofs.Common.{◌≡◌, ℕ, ◌+◌, ◌-◌, ◌<◌, ◌≤◌, true, false, List, [], ◌∷◌, ◌++◌, Some, None, refl, sym, ap, subst, ◌∙◌, inl, inr, ◌⊎◌, arith}
 use Rattle.std.specs.Prelude.{◌==◌, ◌&&◌, ◌↔◌, nat_lt, Contains, IsSome}
 use Rattle.std.specs.Bool.{Decides}
 use Rattle.std.specs.List.{list_any}
 use Rattle.std.specs.Ordering.{nat_cmp}
 use Rattle.std.specs.declared.cmp.Ordering.TheVariants.{Less}
 use Rattle.std.specs.BTreeMap.{get}
-use Rattle.std.proofs.lemmas.Bool.{cases_lt}
+use Rattle.std.proofs.lemmas.Bool.{cases_Bool, and_parts, cond-true, cond-false}
 use Rattle.std.proofs.lemmas.Bool.Decides.{same_from_decides, Decides-eqb, Decides-ltb, nat_tests}
 use Rattle.std.proofs.lemmas.List.Elements.{Contains-push, Contains-push_cases, Contains-append_left}
 use Rattle.std.proofs.lemmas.List.Folds.{Any-from_list_any, list_any-from_Any}
@@ -22,12 +22,7 @@ record Meets (a b : Buffer) : Type 0 where
   behind : b.address < a.address + a.len
 
 meets : (a b : Buffer) → overlap a b ≡ true → Meets a b
-meets a b h = record {
-  first = grind (arith, nat_tests);
-  second = grind (arith, nat_tests);
-  before = grind (arith, nat_tests);
-  behind = grind (arith, nat_tests);
-}
+meets a b h = grind (arith, nat_tests)
 
 overlap_true : (a b : Buffer) → Meets a b → overlap a b ≡ true
 overlap_true a b m = grind (arith, nat_tests)
@@ -74,14 +69,7 @@ last_decides spans buffers n start len knows some before at last =
       (λ p.
           let there : HasSpan spans p.0 = (knows.all p.0).1 (p.1, p.2.first) in
           let le : p.0.address ≤ start = last p.0.address p.2.before (rw there refl) in
-          (Decides-ltb (n.address - start) len).1 (elim (cases_lt p.0.address start) [
-            | inl lt ↦ omega (arith, knows.apart p.0 l there at lt, p.2.behind, here.1)
-            | inr ge ↦
-                let same : p.0.address ≡ start = omega arith in
-                let lens : get nat_cmp spans start ≡ Some p.0.len = subst (λ (q : ℕ). get nat_cmp spans q ≡ Some p.0.len) same there in
-                let equal : len ≡ p.0.len = cc in
-                omega (arith, p.2.behind)
-          ])),
+          (Decides-ltb (n.address - start) len).1 (grind (arith, knows.apart p.0 l there at, p.2, here.1))),
     )
     (overlapped buffers n)
 
@@ -99,31 +87,26 @@ same_buffer a b p q =
 
 -- one buffer more that overlaps none
 module _ (old new : Spans) (buffers : List Buffer) (n : Buffer) (knows : KnowsSpans old buffers) (adds : AddsSpan old new n) (apart : list_any (λ b. overlap b n) buffers ≡ false) where
-  apart_from : (b : Buffer) → HasSpan old b → Meets b n → ⊥
-  apart_from b there m = let hit = (overlapped buffers n).1 (b, ((knows.all b).0 there).0, m) in absurd cc
+  apart_from : (b : Buffer) → HasSpan old b → 0 < n.len → b.address < n.address + n.len → n.address < b.address + b.len → ⊥
+  apart_from b there some before behind =
+      let was = (knows.all b).0 there in
+      let hit = (overlapped buffers n).1 (b, was.0, record { first = was.1; second = some; before = before; behind = behind }) in
+      absurd cc
 
-  -- what is there was there, or is the new one
+  -- at each address stands the new one, or what stood there
+  at_address : (q : ℕ) → ((n.address ≡ q) × (0 < n.len) × (get nat_cmp new q ≡ Some n.len)) ⊎ (get nat_cmp new q ≡ get nat_cmp old q)
+  at_address q = elim (cases_Bool (nat_lt 0 n.len && n.address == q)) [
+    | inl here ↦
+        let both = and_parts _ _ here in
+        inl ((Decides-eqb n.address q).0 both.1, (Decides-ltb 0 n.len).0 both.0, adds q ∙ cond-true _ _ _ here)
+    | inr elsewhere ↦ inr (adds q ∙ cond-false _ _ _ elsewhere)
+  ]
+
   was_there : (b : Buffer) → HasSpan new b → HasSpan old b ⊎ ((n ≡ b) × (0 < n.len))
-  was_there b h = go (nat_lt 0 n.len) (n.address == b.address) refl refl (adds b.address)
-    where
-      go : (x y : Bool) → nat_lt 0 n.len ≡ x → (n.address == b.address) ≡ y → get nat_cmp new b.address ≡ cond (x && y) (Some n.len) (get nat_cmp old b.address) → HasSpan old b ⊎ ((n ≡ b) × (0 < n.len))
-      go true true p q e =
-          let address : n.address ≡ b.address = (Decides-eqb n.address b.address).0 q in
-          let len : n.len ≡ b.len = cc in
-          inr (same_buffer n b address len, (Decides-ltb 0 n.len).0 p)
-      go true false p q e = inl (sym e ∙ h)
-      go false y p q e = inl (sym e ∙ h)
+  was_there b h = grind (arith, at_address b.address, same_buffer n b)
 
   stays : (b : Buffer) → HasSpan old b → 0 < b.len → HasSpan new b
-  stays b there some = go (nat_lt 0 n.len) (n.address == b.address) refl refl (adds b.address)
-    where
-      go : (x y : Bool) → nat_lt 0 n.len ≡ x → (n.address == b.address) ≡ y → get nat_cmp new b.address ≡ cond (x && y) (Some n.len) (get nat_cmp old b.address) → HasSpan new b
-      go true true p q e =
-          let address : n.address ≡ b.address = (Decides-eqb n.address b.address).0 q in
-          let other : 0 < n.len = (Decides-ltb 0 n.len).0 p in
-          absurd (apart_from b there (record { first = some; second = other; before = omega arith; behind = omega arith }))
-      go true false p q e = e ∙ there
-      go false y p q e = e ∙ there
+  stays b there some = grind (arith, at_address b.address, apart_from b there)
 
   new_there : 0 < n.len → HasSpan new n
   new_there some = rw ((Decides-ltb 0 n.len).1 some, (Decides-eqb n.address n.address).1 refl) at (adds n.address)
@@ -140,34 +123,9 @@ module _ (old new : Spans) (buffers : List Buffer) (n : Buffer) (knows : KnowsSp
     ]),
   )
 
-  ends_before_new : (b : Buffer) → HasSpan old b → 0 < n.len → b.address < n.address → b.address + b.len ≤ n.address
-  ends_before_new b there some lt = elim (cases_lt n.address (b.address + b.len)) [
-    | inl behind ↦ absurd (apart_from b there (record { first = ((knows.all b).0 there).1; second = some; before = omega arith; behind = behind }))
-    | inr ge ↦ ge
-  ]
-
-  begins_after_new : (b : Buffer) → HasSpan old b → 0 < n.len → n.address < b.address → n.address + n.len ≤ b.address
-  begins_after_new b there some lt = elim (cases_lt b.address (n.address + n.len)) [
-    | inl before ↦ absurd (apart_from b there (record { first = ((knows.all b).0 there).1; second = some; before = before; behind = omega arith }))
-    | inr ge ↦ ge
-  ]
-
   all_apart : (a b : Buffer) → HasSpan new a → HasSpan new b → a.address < b.address → a.address + a.len ≤ b.address
-  all_apart a b here there lt = go a b lt (was_there a here) (was_there b there)
-    where
-      go : (a b : Buffer) → a.address < b.address → HasSpan old a ⊎ ((n ≡ a) × (0 < n.len)) → HasSpan old b ⊎ ((n ≡ b) × (0 < n.len)) → a.address + a.len ≤ b.address
-      go a b lt (inl old_a) (inl old_b) = knows.apart a b old_a old_b lt
-      go a b lt (inl old_a) (inr (same, some)) =
-          let address : n.address ≡ b.address = ap (λ (x : Buffer). x.address) same in
-          omega (arith, ends_before_new a old_a some (omega arith))
-      go a b lt (inr (same, some)) (inl old_b) =
-          let address : n.address ≡ a.address = ap (λ (x : Buffer). x.address) same in
-          let len : n.len ≡ a.len = ap (λ (x : Buffer). x.len) same in
-          omega (arith, begins_after_new b old_b some (omega arith))
-      go a b lt (inr (same, some)) (inr (same_too, some_too)) =
-          let address : n.address ≡ a.address = ap (λ (x : Buffer). x.address) same in
-          let address_too : n.address ≡ b.address = ap (λ (x : Buffer). x.address) same_too in
-          omega arith
+  all_apart a b here there lt =
+      grind (arith, was_there a here, was_there b there, knows.apart a b, apart_from a, apart_from b)
 
   pub KnowsSpans-push : KnowsSpans new (buffers ++ n ∷ [])
   KnowsSpans-push = record { all = all_there; apart = all_apart }

@@ -1,90 +1,34 @@
 -- A trace that is spelled has no more of each than the format allows.
-use Rattle.std.proofs.Common.{◌≡◌, ℕ, zero, suc, ◌+◌, ◌≤◌, Bool, true, List, [], ◌∷◌, ◌++◌, length, ap, subst, sym, arith}
-use Rattle.std.specs.Prelude.{All}
-use Rattle.std.specs.Int.{Width, w16, w32}
-use Rattle.std.proofs.lemmas.Bool.{leb-true}
-use Rattle.std.proofs.lemmas.List.{length_push}
-use Rattle.std.proofs.lemmas.List.Elements.{All-nil, All-push}
-use Rattle.trace_format.specs.declared.fault.TraceFault.{TraceFault}
+use Rattle.std.proofs.Common.{ℕ, ◌≤◌, length, ap, arith}
+use Rattle.std.specs.Int.{w16, w32}
+use Rattle.std.proofs.lemmas.List.Elements.{All-weaker}
 use Rattle.trace_format.specs.declared.trace.Ring.{Ring}
 use Rattle.trace_format.specs.declared.trace.Trace.{Trace}
-use Rattle.trace_format.specs.Grammar.{Grammar, Done, Test, Then, Spells, number_to, several}
 use Rattle.trace_format.specs.declared.version.Version.{Version as TraceVersion}
 use Rattle.trace_format.specs.declared.version.Version.TheVariants.{One, Two}
 use Rattle.trace_format.specs.Versions.{rules}
-use Rattle.trace_format.specs.Text.{Counts, header, item, description, slot, buffer, ring, trace, IsSpelled}
+use Rattle.trace_format.specs.Text.{Counts, header, item, description, slot, ring, IsSpelled}
 use Rattle.trace_format.specs.Sizes.{HasSizes}
-
--- some text spells the value
-record IsValue {A : Type 0} (g : Grammar A) (y : A) : Type 0 where
-  place : ℕ
-  text : List ℕ
-  spelled : Spells g place text y
-
--- the value of a first part, and what follows it
-record Parts {X A : Type 0} (m : Grammar X) (k : X → Grammar A) (y : A) : Type 0 where
-  first : X
-  own : IsValue m first
-  rest : IsValue (k first) y
-
-parts : {X A : Type 0} {m : Grammar X} {k : X → Grammar A} {y : A} → IsValue (Then m k) y → Parts m k y
-parts v =
-    let s = v.spelled in
-    record {
-      first = s.2;
-      own = record { place = v.place; text = s.0; spelled = s.4 };
-      rest = record { place = v.place + length s.0; text = s.1; spelled = s.5 };
-    }
-
-done : {A : Type 0} {x y : A} → IsValue (Done x) y → y ≡ x
-done v = v.spelled.1
-
-passed : {b c : Bool} {f : TraceFault} → IsValue (Test b f) c → b ≡ true
-passed v = v.spelled.1
-
--- a number is within its limit
-limited : (w : Width) (limit n : ℕ) → IsValue (number_to w limit) n → n ≤ limit
-limited w limit n v =
-    let place = parts v in
-    let number = parts place.rest in
-    let test = parts number.rest in
-    subst (λ (m : ℕ). m ≤ limit) (sym (done test.rest)) (leb-true number.first limit (passed test.own))
-
--- several are as many as they are said to be
-counted_from : {X : Type 0} (next : List X → Grammar X) (n : ℕ) (earlier xs : List X) → IsValue (several n next earlier) xs → length xs ≡ length earlier + n
-counted_from next zero earlier xs v = omega (arith, ap length (done v))
-counted_from next (suc n) earlier xs v =
-    let p = parts v in
-    let more = counted_from next n (earlier ++ p.first ∷ []) xs p.rest in
-    omega (arith, more, length_push earlier p.first)
-
-counted : {X : Type 0} (next : List X → Grammar X) (n : ℕ) (xs : List X) → IsValue (several n next []) xs → length xs ≡ n
-counted next n xs v = omega (arith, counted_from next n [] xs v)
-
--- what holds of each by itself holds of several
-each_from : {X : Type 0} (P : X → Type 0) (next : List X → Grammar X) → ((earlier : List X) (x : X) → IsValue (next earlier) x → P x) → (n : ℕ) (earlier xs : List X) → All P earlier → IsValue (several n next earlier) xs → All P xs
-each_from P next one zero earlier xs so_far v = subst (All P) (sym (done v)) so_far
-each_from P next one (suc n) earlier xs so_far v =
-    let p = parts v in
-    each_from P next one n (earlier ++ p.first ∷ []) xs (All-push P earlier p.first so_far (one earlier p.first p.own)) p.rest
+use Rattle.trace_format.proofs.Apart.{AnyText, keeps_any, Own, apart, at_place, at_test, at_known, at_done, within_limit, each, length-several}
+use Rattle.trace_format.proofs.Facts.{trace_parts}
 
 record RingSizes (r : Ring) : Type 0 where
   slots : length r.slots ≤ 1024
   buffers : length r.buffers ≤ 1024
 
-ring_sizes : (descriptions : ℕ) (r : Ring) → IsValue (ring descriptions) r → RingSizes r
+ring_sizes : (descriptions : ℕ) (r : Ring) → Own AnyText (ring descriptions) r → RingSizes r
 unfolding ring
-ring_sizes descriptions r v =
-    let slot_count = parts v in
-    let slots = parts slot_count.rest in
-    let buffer_count = parts slots.rest in
-    let buffers = parts buffer_count.rest in
-    let e = done buffers.rest in
-    let slot_limit = limited w16 1024 slot_count.first slot_count.own in
-    let buffer_limit = limited w16 1024 buffer_count.first buffer_count.own in
+ring_sizes descriptions r o =
+    let slot_count = apart keeps_any o in
+    let slots = apart keeps_any slot_count.after in
+    let buffer_count = apart keeps_any slots.after in
+    let buffers = apart keeps_any buffer_count.after in
+    let e = at_done buffers.after in
+    let slot_limit = within_limit keeps_any w16 1024 slot_count.x slot_count.own in
+    let buffer_limit = within_limit keeps_any w16 1024 buffer_count.x buffer_count.own in
     record {
-      slots = omega (arith, slot_limit, counted (λ _. slot descriptions) slot_count.first slots.first slots.own, ap (λ (x : Ring). length x.slots) e);
-      buffers = omega (arith, buffer_limit, counted buffer buffer_count.first buffers.first buffers.own, ap (λ (x : Ring). length x.buffers) e);
+      slots = omega (arith, slot_limit, length-several _ _ slots.x keeps_any slots.own, ap (λ (x : Ring). length x.slots) e.1);
+      buffers = omega (arith, buffer_limit, length-several _ _ buffers.x keeps_any buffers.own, ap (λ (x : Ring). length x.buffers) e.1);
     }
 
 record CountSizes (c : Counts) : Type 0 where
@@ -97,52 +41,40 @@ table_size : (v : TraceVersion) → (rules v).most_descriptors ≤ 1024
 table_size One = omega arith
 table_size Two = omega arith
 
-count_sizes : (c : Counts) → IsValue header c → CountSizes c
+count_sizes : (c : Counts) → Own AnyText header c → CountSizes c
 unfolding header
-count_sizes c v =
-    let magic = parts v in
-    let magic_test = parts magic.rest in
-    let place = parts magic_test.rest in
-    let version = parts place.rest in
-    let known = parts version.rest in
-    let items = parts known.rest in
-    let descriptions = parts items.rest in
-    let rings = parts descriptions.rest in
-    let records = parts rings.rest in
-    let descriptors = parts records.rest in
-    let e = done descriptors.rest in
-    let item_limit = limited w32 65535 items.first items.own in
-    let description_limit = limited w32 65535 descriptions.first descriptions.own in
-    let ring_limit = limited w32 64 rings.first rings.own in
-    let table_limit = limited w32 (rules known.first).most_descriptors descriptors.first descriptors.own in
+count_sizes c o =
+    let magic = apart keeps_any o in
+    let number = apart keeps_any (at_place (at_test magic.after)) in
+    let version = number.after.is.2 in
+    let items = apart keeps_any (at_known number.after) in
+    let descriptions = apart keeps_any items.after in
+    let rings = apart keeps_any descriptions.after in
+    let records = apart keeps_any rings.after in
+    let descriptors = apart keeps_any records.after in
+    let e = (at_done descriptors.after).1 in
+    let item_limit = within_limit keeps_any w32 65535 items.x items.own in
+    let description_limit = within_limit keeps_any w32 65535 descriptions.x descriptions.own in
+    let ring_limit = within_limit keeps_any w32 64 rings.x rings.own in
+    let table_limit = within_limit keeps_any w32 (rules version).most_descriptors descriptors.x descriptors.own in
     record {
       items = omega (arith, item_limit, ap (λ (x : Counts). x.items) e);
       descriptions = omega (arith, description_limit, ap (λ (x : Counts). x.descriptions) e);
       rings = omega (arith, ring_limit, ap (λ (x : Counts). x.rings) e);
-      descriptors = omega (arith, table_limit, table_size known.first, ap (λ (x : Counts). x.descriptors) e);
-    }
-
-trace_sizes : (t : Trace) → IsValue trace t → HasSizes t
-unfolding trace
-trace_sizes t v =
-    let counts = parts v in
-    let items = parts counts.rest in
-    let descriptions = parts items.rest in
-    let table = parts descriptions.rest in
-    let rings = parts table.rest in
-    let records = parts rings.rest in
-    let e = done records.rest in
-    let limits = count_sizes counts.first counts.own in
-    let has_slots = each_from (λ (r : Ring). length r.slots ≤ 1024) (λ _. ring counts.first.descriptions) (λ earlier r w. (ring_sizes counts.first.descriptions r w).slots) counts.first.rings [] rings.first (All-nil _) rings.own in
-    let has_buffers = each_from (λ (r : Ring). length r.buffers ≤ 1024) (λ _. ring counts.first.descriptions) (λ earlier r w. (ring_sizes counts.first.descriptions r w).buffers) counts.first.rings [] rings.first (All-nil _) rings.own in
-    record {
-      items = omega (arith, limits, counted item counts.first.items items.first items.own, ap (λ (x : Trace). length x.items) e);
-      descriptions = omega (arith, limits, counted (λ _. description items.first) counts.first.descriptions descriptions.first descriptions.own, ap (λ (x : Trace). length x.descriptions) e);
-      descriptors = omega (arith, limits, counted (λ _. slot counts.first.descriptions) counts.first.descriptors table.first table.own, ap (λ (x : Trace). length x.descriptors) e);
-      rings = omega (arith, limits, counted (λ _. ring counts.first.descriptions) counts.first.rings rings.first rings.own, ap (λ (x : Trace). length x.rings) e);
-      slots = subst (λ (x : Trace). All (λ (r : Ring). length r.slots ≤ 1024) x.rings) (sym e) has_slots;
-      buffers = subst (λ (x : Trace). All (λ (r : Ring). length r.buffers ≤ 1024) x.rings) (sym e) has_buffers;
+      descriptors = omega (arith, table_limit, table_size version, ap (λ (x : Counts). x.descriptors) e);
     }
 
 pub sizes : (t : Trace) → IsSpelled t → HasSizes t
-sizes t s = trace_sizes t (record { place = 0; text = s.0; spelled = s.1.1 })
+sizes t h =
+    let parts = trace_parts keeps_any h.0 t tt h.1 in
+    let c = parts.counts in
+    let limits = count_sizes c parts.counted in
+    let sizes_of_rings = each RingSizes (λ _. ring c.descriptions) keeps_any (λ _. ring_sizes c.descriptions) c.rings t.rings parts.rings in
+    record {
+      items = omega (arith, limits, length-several item c.items t.items keeps_any parts.items);
+      descriptions = omega (arith, limits, length-several (λ _. description t.items) c.descriptions t.descriptions keeps_any parts.descriptions);
+      descriptors = omega (arith, limits, length-several (λ _. slot c.descriptions) c.descriptors t.descriptors keeps_any parts.descriptors);
+      rings = omega (arith, limits, length-several (λ _. ring c.descriptions) c.rings t.rings keeps_any parts.rings);
+      slots = All-weaker RingSizes (λ r. length r.slots ≤ 1024) (λ r s. s.slots) t.rings sizes_of_rings;
+      buffers = All-weaker RingSizes (λ r. length r.buffers ≤ 1024) (λ r s. s.buffers) t.rings sizes_of_rings;
+    }

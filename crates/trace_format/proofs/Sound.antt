@@ -1,56 +1,50 @@
 -- The parts of a spelled trace lead to one another.
-use Rattle.std.proofs.Common.{◌≡◌, ℕ, zero, suc, ◌≤◌, Bool, true, false, ◌||◌, not, List, [], ◌∷◌, ◌++◌, length, refl, sym, ap, subst, ◌∙◌, append_assoc, arith, inl, inr}
-use Rattle.std.specs.Prelude.{◌==◌, if◌then◌else◌}
+use Rattle.std.proofs.Common.{◌≡◌, ℕ, zero, suc, ◌≤◌, Bool, true, ◌||◌, not, List, [], ◌∷◌, ◌++◌, sym, subst, ◌∙◌, append_assoc, arith, inl, inr}
+use Rattle.std.specs.Prelude.{◌==◌}
 use Rattle.std.specs.List.{All}
-use Rattle.std.specs.Int.{Width, w32, w64}
+use Rattle.std.specs.Int.{w32, w64}
 use Rattle.std.proofs.lemmas.Bool.{leb-true}
+use Rattle.std.proofs.lemmas.Bool.Decides.{nat_tests}
 use Rattle.std.proofs.lemmas.List.{append-nil}
 use Rattle.trace_format.specs.declared.trace.Access.TheVariants as access
 use Rattle.trace_format.specs.declared.trace.Description.{Description}
 use Rattle.trace_format.specs.declared.trace.Item.{Item}
 use Rattle.trace_format.specs.declared.trace.Node.{Node}
 use Rattle.trace_format.specs.declared.trace.Ring.{Ring}
-use Rattle.trace_format.specs.Grammar.{number_to, several}
+use Rattle.trace_format.specs.Grammar.{several}
 use Rattle.trace_format.specs.Sound.{NodeFits, DescriptionFits, SpelledSound}
 use Rattle.trace_format.specs.Text.{item, node, file, other_name, description, slot, ring, is_directory_number, access_of}
-use Rattle.trace_format.proofs.Spelled.{Spelt, at_place, at_test, test_passed, at_done, at_choice}
-use Rattle.trace_format.proofs.Apart.{AnyText, keeps_any, Own, apart, each, length-several}
+use Rattle.trace_format.proofs.Apart.{AnyText, keeps_any, Own, apart, at_place, at_test, test_passed, at_done, at_choice, within_limit, each, length-several}
 use Rattle.trace_format.proofs.Facts.{trace_parts}
-
--- A number is within its limit.
-within_limit : (w : Width) (limit n : ℕ) → Own AnyText (number_to w limit) n → n ≤ limit
-within_limit w limit n o =
-    let read = apart keeps_any tt (at_place o.is) in
-    subst (λ m. m ≤ limit) (sym (at_done (at_test read.spelled)).1) (leb-true read.x limit (test_passed read.spelled))
+use Rattle.trace_format.proofs.Spelled.{length_bytes}
 
 -- ---- items
 
 -- A file has at least its stored bytes, and at most 2^40.
-file_fits : (earlier : List Item) (place : ℕ) (text : List ℕ) (y : Node) → Spelt file place text y → NodeFits earlier y
+file_fits : (earlier : List Item) (y : Node) → Own AnyText file y → NodeFits earlier y
 unfolding file
-file_fits earlier place text y s =
-    let size = apart keeps_any tt s in
-    let stored = apart keeps_any tt size.spelled in
-    let bytes = apart keeps_any tt stored.spelled in
-    let long : length bytes.x ≡ stored.x = ap length bytes.own.is.is.1 ∙ bytes.own.is.is.0 in
-    let limit = within_limit w64 _ size.x size.own in
-    let room = within_limit w32 _ stored.x stored.own in
-    subst (NodeFits earlier) (sym (at_done bytes.spelled).1) (omega (arith, long, room), limit)
+file_fits earlier y o =
+    let size = apart keeps_any o in
+    let stored = apart keeps_any size.after in
+    let bytes = apart keeps_any stored.after in
+    let limit = within_limit keeps_any w64 _ size.x size.own in
+    let room = within_limit keeps_any w32 _ stored.x stored.own in
+    subst (NodeFits earlier) (sym (at_done bytes.after).1) (omega (arith, length_bytes bytes.own, room), limit)
 
 -- Another name is one of an earlier file.
-other_name_fits : (earlier : List Item) (place : ℕ) (text : List ℕ) (y : Node) → Spelt (other_name earlier) place text y → NodeFits earlier y
+other_name_fits : (earlier : List Item) (y : Node) → Own AnyText (other_name earlier) y → NodeFits earlier y
 unfolding other_name
-other_name_fits earlier place text y s =
-    let number = apart keeps_any tt (at_place s) in
-    subst (NodeFits earlier) (sym (at_done (at_test number.spelled)).1) (test_passed number.spelled)
+other_name_fits earlier y o =
+    let number = apart keeps_any (at_place o) in
+    subst (NodeFits earlier) (sym (at_done (at_test number.after)).1) (test_passed number.after)
 
 -- What an item makes fits the items before it.
 node_fits : (kind : ℕ) (earlier : List Item) (y : Node) → Own AnyText (node kind earlier) y → NodeFits earlier y
-node_fits kind earlier y o = elim (at_choice o.is) [
+node_fits kind earlier y o = elim (at_choice o) [
   | inl a ↦ subst (NodeFits earlier) (sym (at_done a.1).1) tt
   | inr b ↦ elim (at_choice b.1) [
-    | inl c ↦ file_fits earlier o.place o.text y c.1
-    | inr d ↦ other_name_fits earlier o.place o.text y d.1
+    | inl c ↦ file_fits earlier y c.1
+    | inr d ↦ other_name_fits earlier y d.1
   ]
 ]
 
@@ -58,10 +52,10 @@ node_fits kind earlier y o = elim (at_choice o.is) [
 item_fits : (earlier : List Item) (x : Item) → Own AnyText (item earlier) x → NodeFits earlier x.node
 unfolding item
 item_fits earlier x o =
-    let kind = apart keeps_any tt (at_place o.is) in
-    let path = apart keeps_any tt (at_test kind.spelled) in
-    let made = apart keeps_any tt path.spelled in
-    subst (λ (y : Item). NodeFits earlier y.node) (sym (at_done made.spelled).1) (node_fits kind.x earlier made.x made.own)
+    let kind = apart keeps_any (at_place o) in
+    let path = apart keeps_any (at_test kind.after) in
+    let made = apart keeps_any path.after in
+    subst (λ (y : Item). NodeFits earlier y.node) (sym (at_done made.after).1) (node_fits kind.x earlier made.x made.own)
 
 -- Items that fit, each after those before it.
 abbrev Follow : List Item → List Item → Type 0
@@ -76,10 +70,10 @@ record More (earlier items : List Item) : Type 0 where
 
 -- Items that are read one after the other fit, each after those before it.
 items_follow : (n : ℕ) (earlier xs : List Item) → Own AnyText (several n item earlier) xs → More earlier xs
-items_follow zero earlier xs o = record { more = []; are = (at_done o.is).1 ∙ sym (append-nil earlier); follow = tt }
+items_follow zero earlier xs o = record { more = []; are = (at_done o).1 ∙ sym (append-nil earlier); follow = tt }
 items_follow (suc n) earlier xs o =
-    let p = apart keeps_any tt o.is in
-    let rest = items_follow n (earlier ++ p.x ∷ []) xs (record { place = p.place; text = p.rest; has = tt; is = p.spelled }) in
+    let p = apart keeps_any o in
+    let rest = items_follow n (earlier ++ p.x ∷ []) xs p.after in
     record { more = p.x ∷ rest.more; are = rest.are ∙ append_assoc earlier (p.x ∷ []) rest.more; follow = (item_fits earlier p.x p.own, rest.follow) }
 
 -- One of the items that follow fits those before it.
@@ -91,25 +85,21 @@ one_fits (y ∷ before) earlier after x f = subst (λ e. NodeFits e x.node) (app
 
 -- A directory's access is the first.
 reads_alone : (n : ℕ) (b : Bool) → (n == 0 || not b) ≡ true → b ≡ true → access_of n ≡ access.Read
-reads_alone n b h e = by (n == 0) (subst (λ c. (n == 0 || not c) ≡ true) e h)
-  where
-    by : (z : Bool) → (z || false) ≡ true → (if z then access.Read else if n == 1 then access.Write else access.Both) ≡ access.Read
-    by true g = refl
-    by false g = absurd (cc g)
+reads_alone n b h e = grind (arith, nat_tests)
 
 -- A description leads to an item or the root, and a directory is only read.
 description_fits : (items : List Item) (d : Description) → Own AnyText (description items) d → DescriptionFits items d
 unfolding description
 description_fits items d o =
-    let number = apart keeps_any tt (at_place o.is) in
-    let rights = apart keeps_any tt (at_place (at_test number.spelled)) in
-    let append = apart keeps_any tt (at_test rights.spelled) in
-    let position = apart keeps_any tt append.spelled in
+    let number = apart keeps_any (at_place o) in
+    let rights = apart keeps_any (at_place (at_test number.after)) in
+    let append = apart keeps_any (at_test rights.after) in
+    let position = apart keeps_any append.after in
     let made : DescriptionFits items (record { node = number.x; access = access_of rights.x; append = (append.x == 1); position = position.x }) = record {
-      leads = test_passed number.spelled;
-      is_read = reads_alone rights.x (is_directory_number items number.x) (test_passed rights.spelled);
+      leads = test_passed number.after;
+      is_read = reads_alone rights.x (is_directory_number items number.x) (test_passed rights.after);
     } in
-    subst (DescriptionFits items) (sym (at_done position.spelled).1) made
+    subst (DescriptionFits items) (sym (at_done position.after).1) made
 
 -- ---- slots
 
@@ -117,8 +107,8 @@ description_fits items d o =
 slot_fits : (descriptions n : ℕ) → Own AnyText (slot descriptions) n → n ≤ descriptions
 unfolding slot
 slot_fits descriptions n o =
-    let read = apart keeps_any tt (at_place o.is) in
-    subst (λ m. m ≤ descriptions) (sym (at_done (at_test read.spelled)).1) (leb-true read.x descriptions (test_passed read.spelled))
+    let read = apart keeps_any (at_place o) in
+    subst (λ m. m ≤ descriptions) (sym (at_done (at_test read.after)).1) (leb-true read.x descriptions (test_passed read.after))
 
 -- So is each of several slots.
 all_slots_fit : (descriptions n : ℕ) (xs : List ℕ) → Own AnyText (several n (λ _. slot descriptions) []) xs → All (λ m. m ≤ descriptions) xs
@@ -128,11 +118,11 @@ all_slots_fit descriptions n xs o = each (λ m. m ≤ descriptions) (λ _. slot 
 ring_fits : (descriptions : ℕ) (r : Ring) → Own AnyText (ring descriptions) r → All (λ m. m ≤ descriptions) r.slots
 unfolding ring
 ring_fits descriptions r o =
-    let slot_count = apart keeps_any tt o.is in
-    let slots = apart keeps_any tt slot_count.spelled in
-    let buffer_count = apart keeps_any tt slots.spelled in
-    let buffers = apart keeps_any tt buffer_count.spelled in
-    subst (λ (y : Ring). All (λ m. m ≤ descriptions) y.slots) (sym (at_done buffers.spelled).1) (all_slots_fit descriptions slot_count.x slots.x slots.own)
+    let slot_count = apart keeps_any o in
+    let slots = apart keeps_any slot_count.after in
+    let buffer_count = apart keeps_any slots.after in
+    let buffers = apart keeps_any buffer_count.after in
+    subst (λ (y : Ring). All (λ m. m ≤ descriptions) y.slots) (sym (at_done buffers.after).1) (all_slots_fit descriptions slot_count.x slots.x slots.own)
 
 -- ---- a trace
 
@@ -142,8 +132,7 @@ spelled_sound t h =
     let parts = trace_parts keeps_any h.0 t tt h.1 in
     let items = items_follow parts.counts.items [] t.items parts.items in
     let o = parts.descriptions in
-    let many : parts.counts.descriptions ≡ length t.descriptions =
-    omega (arith, length-several (λ _. description t.items) parts.counts.descriptions [] o.place o.text t.descriptions o.is) in
+    let many = sym (length-several (λ _. description t.items) parts.counts.descriptions t.descriptions keeps_any o) in
     record {
       nodes = λ before after x e. one_fits before [] after x (subst (Follow []) (sym items.are ∙ e) items.follow);
       descriptions = each (DescriptionFits t.items) (λ _. description t.items) keeps_any (λ _. description_fits t.items) parts.counts.descriptions t.descriptions o;

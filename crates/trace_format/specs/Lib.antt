@@ -7,6 +7,7 @@ pub mod Entries
 pub mod Paths
 pub mod Sides
 pub mod Counts
+pub mod Limits
 pub mod Versions
 pub mod Spots
 pub mod Text

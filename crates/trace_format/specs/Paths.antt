@@ -1,5 +1,5 @@
 -- The model: which bytes are a path, and which names and directories the items so far have.
-use Rattle.std.specs.Prelude.{ℕ, ◌==◌, Bool, true, false, ◌&&◌, ◌||◌, not, List, [], ◌∷◌, length, nat_le, if◌then◌else◌, codes, filter}
+use Rattle.std.specs.Prelude.{ℕ, ℤ, ◌==◌, Bool, true, false, ◌&&◌, ◌||◌, not, List, [], ◌∷◌, length, nat_le, if◌then◌else◌, codes, filter}
 use Rattle.std.specs.List.{list_any, list_all, slice_split}
 use Rattle.std.specs.Str.{bytes_eq}
 use Rattle.trace_format.specs.declared.trace.Item.{Item}
@@ -50,3 +50,8 @@ has_directory earlier path = length path == 0 || list_any (is_directory_at path)
 -- the names of a path: its runs, without the empty ones
 abbrev pub components : List ℕ → List (List ℕ)
 components path = filter (λ run. not (length run == 0)) (runs path)
+
+-- A path with the directory that a relative one starts at.
+pub record Path : Type 0 where
+  pub directory : ℤ
+  pub text : List ℕ

@@ -1,5 +1,6 @@
 -- A law: what the parts of each trace that some bytes spell say of one another.
-use Rattle.std.specs.Prelude.{◌≡◌, ◌≤◌, ◌^◌, true, List, ◌∷◌, ◌++◌, length, All}
+use Rattle.std.specs.Prelude.{◌≡◌, ◌≤◌, true, List, ◌∷◌, ◌++◌, length, All}
+use Rattle.trace_format.specs.Limits.{file_limit}
 use Rattle.trace_format.specs.declared.trace.Access.TheVariants as access
 use Rattle.trace_format.specs.declared.trace.Description.{Description}
 use Rattle.trace_format.specs.declared.trace.Item.{Item}
@@ -13,7 +14,7 @@ use Rattle.trace_format.specs.Text.{is_item, is_node, is_directory_number, IsSpe
 -- a file has at least the stored bytes and at most 2^40; another name is one of an earlier file
 abbrev pub NodeFits : List Item → Node → Type 0
 NodeFits earlier Directory = Unit {0}
-NodeFits earlier (File size stored) = (length stored ≤ size) × (size ≤ 2 ^ 40)
+NodeFits earlier (File size stored) = (length stored ≤ size) × (size ≤ file_limit)
 NodeFits earlier (OtherName number) = is_item is_file earlier number ≡ true
 
 -- a description is one of the root, of a directory or of a file, and a directory is only read

@@ -1,15 +1,14 @@
--- A view of code: where each step of a list of records stands, in which record and at which place in it.
-use Rattle.std.specs.Prelude.{ℕ, suc, List, [], ◌∷◌, ◌++◌, map}
-use Rattle.std.specs.List.{range_with_len}
+-- A view of code: where each step of a list of records stands, by the number of its record and the place of that record's first step.
+use Rattle.std.specs.Prelude.{ℕ, suc, ◌+◌, List, [], ◌∷◌, ◌++◌, replicate}
 use Rattle.trace_format.specs.declared.trace.Record.{Record}
-use Rattle.trace_format.specs.declared.steps.Spot.{Spot}
 use Rattle.trace_format.specs.Counts.{step_count}
 
--- the spots of the n-th record, which has a count of steps
-abbrev pub record_spots : ℕ → ℕ → List Spot
-record_spots n count = map (λ i. record { record_number = n; entry = i }) (range_with_len 0 count)
+-- of each step the number of its record, where records are numbered from n
+abbrev pub numbers_from : ℕ → List Record → List ℕ
+numbers_from n [] = []
+numbers_from n (r ∷ rs) = replicate (step_count r) n ++ numbers_from (suc n) rs
 
--- the spots of records that are numbered from n
-abbrev pub spots_from : ℕ → List Record → List Spot
-spots_from n [] = []
-spots_from n (r ∷ rs) = record_spots n (step_count r) ++ spots_from (suc n) rs
+-- of each record the place of its first step, where places are numbered from p
+abbrev pub firsts_from : ℕ → List Record → List ℕ
+firsts_from p [] = []
+firsts_from p (r ∷ rs) = p ∷ firsts_from (p + step_count r) rs

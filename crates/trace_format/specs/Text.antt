@@ -4,6 +4,7 @@ use Rattle.std.specs.List.{list_any}
 use Rattle.std.specs.Str.{bytes_eq}
 use Rattle.std.specs.Int.{w8, w16, w32, w64}
 use Rattle.sqe_codec.specs.Fields.{entry_of}
+use Rattle.trace_format.specs.Limits.{file_limit}
 use Rattle.trace_format.specs.declared.fault.Kind.TheVariants.{Magic, Version, Limit, Path, NoParent, Exists, Reference, Side, Overlap, Trailing}
 use Rattle.trace_format.specs.declared.version.Version.{Version as TraceVersion}
 use Rattle.trace_format.specs.declared.trace.Node.{Node}
@@ -56,7 +57,7 @@ is_item test items number = nat_le 1 number && (elim (slice_get items (number - 
 -- a size of at most 2^40, and the first bytes of that many
 unfoldable pub file : Grammar Node
 file = do
-  size ← number_to w64 (2 ^ 40)
+  size ← number_to w64 file_limit
   stored ← number_to w32 (min size (2 ^ 32 - 1))
   bytes ← Bytes stored
   Done (File size bytes)

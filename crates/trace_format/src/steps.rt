@@ -1,8 +1,8 @@
 //! The records of a trace, with the way from a place to its step.
-ghost use Rattle.std.specs.Prelude.{◌≡◌, ◌<◌, ◌≤◌, ◌++◌, List, length, Some, IfOk, vec_len};
+ghost use Rattle.std.specs.Prelude.{◌≡◌, ◌+◌, ◌<◌, ◌≤◌, [], ◌∷◌, ◌++◌, List, length, replicate, Some};
+ghost use Rattle.std.specs.Prelude.{IfOk, OnOk, vec_len};
 ghost use Rattle.std.specs.List.{slice_get};
 ghost use Rattle.trace_format.specs.Counts.{step_count, places_in, places_limit};
-ghost use Rattle.trace_format.specs.Spots.{record_spots};
 ghost use Rattle.trace_format.specs.Steps.{steps_from, step_meant};
 
 use crate::blob::Blob;
@@ -35,18 +35,15 @@ pub struct Step<'a> {
     pub action: Action<'a>,
 }
 
-/// Where a step stands: the number of its record, and its number in that record.
-#[derive(Clone, Copy)]
-struct Spot {
-    record_number: u32,
-    entry: u32,
-}
-
-/// The records of a trace. A step is found by its place in constant time.
+/// The records of a trace. A step is found by its place in constant time: by the number of its
+/// record, and by the place of that record's first step.
 #[derive(Drop)]
 pub struct Records {
     items: Vec<Record>,
-    spots: Vec<Spot>,
+    /// Of each place the number of its record.
+    record_numbers: Vec<u32>,
+    /// Of each record the place of its first step.
+    firsts: Vec<u32>,
 }
 
 impl Model for Records {
@@ -56,12 +53,13 @@ impl Model for Records {
     ghost Value = { List Record };
 
     ghost use Rattle.trace_format.specs.Counts.{places_limit};
-    ghost use Rattle.trace_format.specs.Spots.{spots_from};
+    ghost use Rattle.trace_format.specs.Spots.{numbers_from, firsts_from};
 
     ghost view = { λ a. a.items.items };
 
-    ghost invariant = { λ a. (a.spots.items ≡ spots_from 0 a.items.items)
-        × (length a.spots.items ≤ places_limit) };
+    ghost invariant = { λ a. (a.record_numbers.items ≡ numbers_from 0 a.items.items)
+        × (a.firsts.items ≡ firsts_from 0 a.items.items)
+        × (length a.record_numbers.items ≤ places_limit) };
 }
 
 /// How many steps a record has.
@@ -79,33 +77,48 @@ pub(crate) fn step_count(item: &Record) -> usize
     }
 }
 
-/// Adds the spots of a record.
-fn add_spots(spots: &mut Vec<Spot>, record_number: u32, count: u32) -> Result<(), AllocError>
-    ensures { IfOk result
-        (λ _. spots.new.items ≡ spots.old.items ++ record_spots record_number count) }
+/// Adds a record of so many steps: the place of its first step, and its number for each of them.
+fn add_record(
+    record_numbers: &mut Vec<u32>,
+    firsts: &mut Vec<u32>,
+    record_number: u32,
+    count: usize,
+) -> Result<(), AllocError>
+    requires { vec_len record_numbers.old + count ≤ places_limit }
+    ensures numbers { OnOk result (record_numbers.new.items
+        ≡ record_numbers.old.items ++ replicate count record_number) }
+    ensures firsts { OnOk result
+        (firsts.new.items ≡ firsts.old.items ++ vec_len record_numbers.old ∷ []) }
 {
-    for entry in 0..count {
-        spots.push(Spot {
-            record_number,
-            entry,
-        })?;
-    }
-    Ok(())
+    let first = record_numbers.len();
+    firsts.push(first as u32)?;
+    record_numbers.resize(first + count, record_number)
 }
 
 impl Records {
     /// The records of a vector. Its time is linear in the records and their steps, and it takes
-    /// memory for the way from each place to its step.
+    /// memory for the way from each place to its step: a number of 32 bits for each step, and one
+    /// for each record.
     pub fn from_vec(alloc: Global, items: Vec<Record>) -> Result<Self, AllocError>
         requires records { vec_len items ≤ places_limit }
         requires steps { places_in items.items ≤ places_limit }
         ensures { IfOk result (λ r. r ≡ items.items) }
     {
-        let mut spots = Vec::new(alloc);
+        let mut record_numbers = Vec::new(alloc);
+        let mut firsts = Vec::with_capacity(alloc, items.len())?;
         for i in 0..items.len() {
-            add_spots(&mut spots, i as u32, step_count(&items[i]) as u32)?;
+            add_record(
+                &mut record_numbers,
+                &mut firsts,
+                i as u32,
+                step_count(&items[i]),
+            )?;
         }
-        Ok(Records { items, spots })
+        Ok(Records {
+            items,
+            record_numbers,
+            firsts,
+        })
     }
 
     /// The records as a slice.
@@ -120,7 +133,7 @@ impl Records {
         ensures places { result ≡ length (steps_from 0 self.now) }
         ensures limit { result ≤ places_limit }
     {
-        self.spots.len() as u32
+        self.record_numbers.len() as u32
     }
 
     /// The step at a place, in constant time.
@@ -128,12 +141,13 @@ impl Records {
         requires { place < length (steps_from 0 self.now) }
         ensures { slice_get (steps_from 0 self.now) place ≡ Some (step_meant result) }
     {
-        let spot = self.spots[place as usize];
-        match &self.items[spot.record_number as usize] {
+        let record_number = self.record_numbers[place as usize];
+        let entry = place - self.firsts[record_number as usize];
+        match &self.items[record_number as usize] {
             Record::Enter { ring, entries } => Step {
                 ring: *ring,
-                record_number: spot.record_number,
-                action: Action::Submit(&entries.as_slice()[spot.entry as usize]),
+                record_number,
+                action: Action::Submit(&entries.as_slice()[entry as usize]),
             },
             Record::Fill {
                 ring,
@@ -142,7 +156,7 @@ impl Records {
                 bytes,
             } => Step {
                 ring: *ring,
-                record_number: spot.record_number,
+                record_number,
                 action: Action::Fill {
                     buffer: *buffer,
                     offset: *offset,

@@ -1,8 +1,8 @@
-use Rattle.std.proofs.Common.{◌≡◌, ℕ, ◌+◌, ◌<◌, ◌≤◌, Bool, true, false, cond, List, [], ◌∷◌, length, take, drop, Option, Some, None, inl, inr, sym, ◌∙◌, ap, refl, suc, arith, rules, tests}
+use Rattle.std.proofs.Common.{◌≡◌, ℕ, ◌+◌, ◌<◌, ◌≤◌, Bool, true, false, cond, List, [], ◌∷◌, length, take, drop, Option, Some, None, sym, ◌∙◌, ap, refl, suc, arith, rules, tests}
 use Rattle.std.specs.Prelude.{not, filter, ◌==◌, unwrap_or}
 use Rattle.std.specs.List.{onto_first, position, position_or_len}
 use Rattle.std.specs.Option.{option_map_or}
-use Rattle.std.proofs.lemmas.Bool.{ne_eqb, cases_lt, lt-ltb, le-ltb}
+use Rattle.std.proofs.lemmas.Bool.{ne_eqb}
 use Rattle.std.proofs.lemmas.Iterator.{YieldsList-from_slice}
 use Rattle.std.proofs.lemmas.Iterator.Search.{position_from_yields_List}
 use Rattle.std.proofs.lemmas.List.Sums.{prefix_len-le-length}
@@ -63,31 +63,14 @@ first_found (b ∷ bs) h = by (b == 47) refl h (first_found bs)
 
 none_found : (text : List ℕ) → length text ≤ to_name text → components text ≡ []
 none_found [] h = refl
-none_found (b ∷ bs) h = by (b == 47) refl h (none_found bs)
-  where
-    by : (c : Bool) → (b == 47) ≡ c → length (b ∷ bs) ≤ cond (not (not c)) (1 + to_name bs) 0 → (length bs ≤ to_name bs → components bs ≡ []) → components (b ∷ bs) ≡ []
-    by true e h f = slash_passed b bs e ∙ f (omega (arith, h))
-    by false e h f = absurd (omega (arith, h))
+none_found (b ∷ bs) h = grind (arith, none_found bs, slash_passed b bs)
 
-module _ (p : ℕ → Bool) (text : List ℕ) where
-  at_place : position_or_len p text < length text → position p text ≡ Some (position_or_len p text)
-  at_place h = ap (λ b. cond b (Some (position_or_len p text)) None) (lt-ltb (position_or_len p text) (length text) h)
-
-  at_none : length text ≤ position_or_len p text → position p text ≡ None
-  at_none h = ap (λ b. cond b (Some (position_or_len p text)) None) (le-ltb (position_or_len p text) (length text) h)
-
-  or_all : unwrap_or (position p text) (length text) ≡ position_or_len p text
-  or_all = elim (cases_lt (position_or_len p text) (length text)) [
-    | inl h ↦ ap (λ o. unwrap_or o (length text)) (at_place h)
-    | inr h ↦ ap (λ o. unwrap_or o (length text)) (at_none h) ∙ omega (arith, h, prefix_len-le-length (λ b. not (p b)) text)
-  ]
+or_all : (p : ℕ → Bool) (text : List ℕ) → unwrap_or (position p text) (length text) ≡ position_or_len p text
+or_all p text = grind (arith, prefix_len-le-length (λ b. not (p b)) text)
 
 -- the names of a text, by where the first one begins
 names_at : (text : List ℕ) (r : Option ℕ) → r ≡ position (λ b. not (b == 47)) text → components text ≡ option_map_or (λ k. from_name (drop k text)) r []
-names_at text r e = elim (cases_lt (to_name text) (length text)) [
-  | inl h ↦ first_found text h ∙ ap (λ o. option_map_or (λ k. from_name (drop k text)) o []) (sym (e ∙ at_place (λ b. not (b == 47)) text h))
-  | inr h ↦ none_found text h ∙ ap (λ o. option_map_or (λ k. from_name (drop k text)) o []) (sym (e ∙ at_none (λ b. not (b == 47)) text h))
-]
+names_at text r e = grind (arith, first_found text, none_found text)
 
 pub returns-in_err-start : goal.returns-in_err-start
 returns-in_err-start c =

@@ -5,14 +5,6 @@ use Rattle.trace_format.specs.Text.{access_of, description, is_directory_number}
 use Rattle.trace_format.proofs.Exits.{goes_out}
 use Rattle.trace_format.proofs.descriptions.description_of.Goals as goal
 
-pub returns-in_err-node : goal.returns-in_err-node
-unfolding description
-returns-in_err-node c = goes_out with_rest _ _ _ _ c.from_residual.ensures.1 c.in_err-node.ensures (λ f e. rw e refl)
-
-pub returns-in_err-access : goal.returns-in_err-access
-unfolding description
-returns-in_err-access c = goes_out with_rest _ _ _ _ c.from_residual-in_err-access.ensures.1 c.in_err-access.ensures (λ f e. rw (c.in_ok-node.ensures, ← c.if-not-is_node.ensures, e) refl)
-
 pub returns-in_err-append : goal.returns-in_err-append
 unfolding description
 returns-in_err-append c =

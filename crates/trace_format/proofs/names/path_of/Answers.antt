@@ -1,22 +1,7 @@
-use Rattle.std.proofs.Common.{◌≡◌, true, refl, sym, ◌∙◌}
+use Rattle.std.proofs.Common.{◌≡◌, true, sym, ◌∙◌}
 use Rattle.trace_format.specs.Paths.{has_directory}
-use Rattle.trace_format.specs.Sources.{with_rest}
 use Rattle.trace_format.specs.Text.{new_path}
-use Rattle.trace_format.proofs.Exits.{goes_out}
 use Rattle.trace_format.proofs.names.path_of.Goals as goal
-
-pub returns-in_err-len-clause-read : goal.returns-in_err-len-clause-read
-unfolding new_path
-returns-in_err-len-clause-read c items knows = goes_out (λ x. with_rest (x.0, x.2)) _ _ _ _ c.from_residual.ensures.1 c.in_err-len.ensures (λ f e. rw e refl)
-
-pub returns-in_err-bytes-clause-read : goal.returns-in_err-bytes-clause-read
-unfolding new_path
-returns-in_err-bytes-clause-read c items knows = goes_out (λ x. with_rest (x.0, x.2)) _ _ _ _ c.from_residual-in_err-bytes.ensures.1 c.in_err-bytes.ensures.read (λ f e. rw (c.in_ok-len.ensures, e) refl)
-
-pub returns-in_err-path-clause-read : goal.returns-in_err-path-clause-read
-unfolding new_path
-returns-in_err-path-clause-read c items knows =
-    goes_out (λ x. with_rest (x.0, x.2)) _ _ _ _ c.from_residual-in_err-path.ensures.1 c.in_err-path.ensures (λ f e. absurd (cc (sym c.in_ok-bytes.ensures.read ∙ e)))
 
 pub returns-clause-read : goal.returns-clause-read
 unfolding new_path

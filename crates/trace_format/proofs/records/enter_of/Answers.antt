@@ -7,16 +7,6 @@ use Rattle.trace_format.specs.Text.{enter}
 use Rattle.trace_format.proofs.Exits.{goes_out}
 use Rattle.trace_format.proofs.records.enter_of.Goals as goal
 
-pub returns-in_err-ring-clause-read : goal.returns-in_err-ring-clause-read
-unfolding enter
-returns-in_err-ring-clause-read c = goes_out with_rest _ _ _ _ c.from_residual.ensures.1 c.in_err-ring.ensures (λ f e. rw e refl)
-
-pub returns-in_err-count-clause-read : goal.returns-in_err-count-clause-read
-unfolding enter
-returns-in_err-count-clause-read c =
-    let inside : nat_lt c.in_ok-ring.ring c.args.rings ≡ true = lt-ltb _ _ (omega arith) in
-    goes_out with_rest _ _ _ _ c.from_residual-in_err-count.ensures.1 c.in_err-count.ensures (λ f e. rw (c.in_ok-ring.ensures, inside, e) refl)
-
 pub returns-in_err-entries-clause-read : goal.returns-in_err-entries-clause-read
 unfolding enter
 returns-in_err-entries-clause-read c =

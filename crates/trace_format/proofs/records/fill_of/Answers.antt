@@ -6,22 +6,6 @@ use Rattle.trace_format.specs.Text.{fill}
 use Rattle.trace_format.proofs.Exits.{goes_out}
 use Rattle.trace_format.proofs.records.fill_of.Goals as goal
 
-pub returns-in_err-ring-clause-read : goal.returns-in_err-ring-clause-read
-unfolding fill
-returns-in_err-ring-clause-read c = goes_out with_rest _ _ _ _ c.from_residual.ensures.1 c.in_err-ring.ensures (λ f e. rw e refl)
-
-pub returns-in_err-buffer-clause-read : goal.returns-in_err-buffer-clause-read
-unfolding fill
-returns-in_err-buffer-clause-read c =
-    let inside : nat_lt c.in_ok-ring.ring (length c.args.rings.now) ≡ true = lt-ltb _ _ (omega arith) in
-    goes_out with_rest _ _ _ _ c.from_residual-in_err-buffer.ensures.1 c.in_err-buffer.ensures (λ f e. rw (c.in_ok-ring.ensures, inside, e) refl)
-
-pub returns-in_err-offset-clause-read : goal.returns-in_err-offset-clause-read
-unfolding fill
-returns-in_err-offset-clause-read c =
-    let inside : nat_lt c.in_ok-ring.ring (length c.args.rings.now) ≡ true = lt-ltb _ _ (omega arith) in
-    goes_out with_rest _ _ _ _ c.from_residual-in_err-offset.ensures.1 c.in_err-offset.ensures (λ f e. rw (c.in_ok-ring.ensures, inside, c.in_ok-buffer.ensures, ← c.in-Some.ensures, e) refl)
-
 pub returns-in_err-len-clause-read : goal.returns-in_err-len-clause-read
 unfolding fill
 returns-in_err-len-clause-read c =

@@ -4,4 +4,4 @@ use Rattle.trace_format.proofs.writing.put_buffers.Goals as goal
 
 pub loop-buffer-preserved : goal.loop-buffer-preserved
 loop-buffer-preserved c =
-    adds_at c.args.out.now.items c.loop-buffer.out.items c.put_buffer.new.out.items buffer_bytes c.args.buffers.now c.loop-buffer.buffer-index (record { address = 0; len = 0 }) c.loop-buffer-test.true c.loop-buffer.invariant c.in_ok-put_buffer.ensures
+    adds_at _ _ _ buffer_bytes _ _ (record { address = 0; len = 0 }) c.loop-buffer-test.true c.loop-buffer.invariant c.in_ok-put_buffer.ensures

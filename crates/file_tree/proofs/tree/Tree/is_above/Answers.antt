@@ -1,10 +1,11 @@
+use native.Mathlib.Omega.{arith}
 use Rattle.std.proofs.Common.{◌≡◌, ℕ, false, List, [], ◌∷◌, Result, Ok, Err, ◌∙◌, ap, refl, rules, tests}
-use Rattle.std.specs.Prelude.{◌==◌, ◌||◌, Bool}
+use Rattle.std.specs.Prelude.{◌==◌, Bool}
 use Rattle.std.specs.List.{list_any}
 use Rattle.std.proofs.Math.Facts.{to_z-of_z}
 use Rattle.std.proofs.lemmas.Iterator.Search.{any_from_yields_List}
 use Rattle.sqe_codec.specs.declared.errno.Errno.{Errno}
-use Rattle.entry_checks.specs.Operation.{Path}
+use Rattle.trace_format.specs.Paths.{Path}
 use Rattle.file_tree.specs.Steps.{steps, steps_left}
 use Rattle.file_tree.specs.Walk.{Place}
 use Rattle.file_tree.proofs.Walks.{names_of, names_of_steps, steps_yielded}
@@ -17,8 +18,7 @@ looks_in i (Err e) = false
 
 any_name : (i : ℕ) (ss : List (Result Place Errno)) → list_any (looks_in i) ss ≡ list_any (λ e. e.0 == i) (names_of ss)
 any_name i [] = refl
-any_name i (Ok p ∷ ss) = ap (λ b. p.parent == i || b) (any_name i ss)
-any_name i (Err e ∷ ss) = any_name i ss
+any_name i (s ∷ ss) = grind (arith, any_name i ss)
 
 pub returns : goal.returns
 returns c =

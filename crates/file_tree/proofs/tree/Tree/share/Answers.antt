@@ -1,14 +1,7 @@
 use Rattle.std.proofs.Common.{ap, sym, ◌∙◌}
-use Rattle.std.proofs.lemmas.Result.{IfOk-weaker}
 use Rattle.file_tree.proofs.tree.Tree.share.Goals as goal
 use Rattle.extent_bytes.proofs.Lists.{range_of-none}
 use Rattle.file_tree.proofs.Ranges.{held}
 
 pub returns-in_default : goal.returns-in_default
 returns-in_default c = c.new.ensures ∙ sym (ap (held c.args.lo c.args.hi) (sym c.in_default.ensures) ∙ range_of-none c.args.lo c.args.hi)
-
-pub returns : goal.returns
-returns c =
-    IfOk-weaker c.share.result _ _
-    (λ part e. e ∙ c.within-lo.ensures.taken ∙ ap (held c.args.lo c.args.hi) c.in-Some.ensures)
-    c.share.ensures.value

@@ -6,12 +6,10 @@ pub returns-in_default-clause-ok : goal.returns-in_default-clause-ok
 returns-in_default-clause-ok c =
     rewritten_none c.self.inside.nodes c.get_mut.follows.lender-at-none c.args.self.now c.args.directory c.self.view_is (shown_node c.args.name.now c.args.node) c.get_mut.follows.holds-at-none c.in_default.ensures.value
 
-pub returns-clause-ok : goal.returns-clause-ok
-returns-clause-ok c =
+pub returns : goal.returns
+returns c =
     let w = c.show_name.new.self in
-    rewritten_ok c.self.inside.nodes (c.get_mut.follows.lender w) c.args.self.now c.args.directory c.self.view_is c.in-Some.listing.now w (c.get_mut.follows.holds w) c.in-Some.ensures.value c.show_name.result (shown_node c.args.name.now c.args.node) c.show_name.ensures.ok
-
-pub returns-clause-err : goal.returns-clause-err
-returns-clause-err c =
-    let w = c.show_name.new.self in
-    rewritten_err c.self.inside.nodes (c.get_mut.follows.lender w) c.args.self.now c.args.directory c.self.view_is c.in-Some.listing.now w (c.get_mut.follows.holds w) c.in-Some.ensures.value c.show_name.result c.show_name.ensures.err
+    record {
+      ok = rewritten_ok c.self.inside.nodes (c.get_mut.follows.lender w) c.args.self.now c.args.directory c.self.view_is c.in-Some.listing.now w (c.get_mut.follows.holds w) c.in-Some.ensures.value c.show_name.result (shown_node c.args.name.now c.args.node) c.show_name.ensures.ok;
+      err = rewritten_err c.self.inside.nodes (c.get_mut.follows.lender w) c.args.self.now c.args.directory c.self.view_is c.in-Some.listing.now w (c.get_mut.follows.holds w) c.in-Some.ensures.value c.show_name.result c.show_name.ensures.err;
+    }

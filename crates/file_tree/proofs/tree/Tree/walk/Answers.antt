@@ -1,3 +1,4 @@
+use native.Mathlib.Omega.{arith}
 use Rattle.std.proofs.Common.{◌≡◌, List, [], ◌∷◌, map, Option, Some, None, Result, Err, sym, ◌∙◌, ap, refl}
 use Rattle.std.specs.Prelude.{unwrap_or}
 use Rattle.std.specs.List.{last_or}
@@ -6,7 +7,7 @@ use Rattle.std.proofs.Math.Facts.{to_z-of_z}
 use Rattle.std.proofs.lemmas.Iterator.{items_from_drains}
 use Rattle.sqe_codec.specs.declared.errno.Errno.{Errno}
 use Rattle.sqe_codec.specs.declared.errno.Errno.TheVariants.{ENOENT}
-use Rattle.entry_checks.specs.Operation.{Path}
+use Rattle.trace_format.specs.Paths.{Path}
 use Rattle.file_tree.specs.Found.{walk_meant}
 use Rattle.file_tree.specs.Steps.{steps, steps_left}
 use Rattle.file_tree.specs.Tree.{Tree}
@@ -21,8 +22,7 @@ module _ {X Y : Type 0} (f : X → Y) where
   last_of (x ∷ xs) o = last_of xs (Some x)
 
   or_of : (o : Option X) (x : X) → f (unwrap_or o x) ≡ unwrap_or (option_map f o) (f x)
-  or_of None x = refl
-  or_of (Some y) x = refl
+  or_of o x = grind arith
 
 pub returns : goal.returns
 returns c =
