@@ -1,4 +1,3 @@
-pub mod Shown
 pub mod Moved
 pub mod Fallible
 pub mod Asked
@@ -6,6 +5,5 @@ pub mod Counts
 pub mod Answering
 pub mod Turns
 mod SpanWrites
-mod Worked
 pub mod FileNames
 pub mod LinesStay

@@ -1,34 +1,24 @@
 -- The places of a round don't collide.
-use Rattle.std.proofs.Common.{◌≡◌, Bool, true, false, ◌⊎◌, inl, inr}
-use Rattle.std.specs.Prelude.{T}
+use Rattle.std.proofs.Common.{◌≡◌, false, inl, inr}
 use Rattle.interleaving.specs.System.{Apart}
 use Rattle.interleaving.proofs.Rounding.{rounds_gathered_lem}
 use Rattle.trace_format.specs.declared.trace.Trace.{Trace}
 use Rattle.trace_format.specs.Steps.{places}
 use Rattle.trace_format.specs.Text.{IsSpelled}
-use Rattle.world_parts.specs.Items.{Atom, Footprint, has_atom, writes_atom, collide}
+use Rattle.world_parts.specs.Items.{Footprint, collide}
 use Rattle.world_parts.proofs.Collision.{true_of}
 use Rattle.world_parts.proofs.Sharing.{atom_of_collide}
 use Rattle.op_meaning.specs.Footprint.{footprint}
 use Rattle.foot_print.specs.Replayed.{replayed}
 use Rattle.wave_pick.specs.Lawful.{lawful}
 use Rattle.wave_pick.specs.Rounds.{state_after, NoneCollide}
-use Rattle.foot_print.proofs.Writing.{is_false}
+use Rattle.foot_print.proofs.Writing.{is_false, not_false}
 
 -- Footprints that are apart don't collide.
 pub apart_free : (t : Trace) (f g : Footprint) → Apart (replayed t) f g → collide f g ≡ false
-apart_free t f g h = is_false (collide f g) (λ c. met (atom_of_collide f g c))
-  where
-    clash : (b : Bool) → b ≡ false → T b → ⊥
-    clash true e x = (cc)
-    clash false e x = x
-
-    met : (a : Atom) × (T (has_atom f a)) × (T (has_atom g a)) × ((T (writes_atom f a)) ⊎ (T (writes_atom g a))) → ⊥
-    met m = by m.3
-      where
-        by : (T (writes_atom f m.0)) ⊎ (T (writes_atom g m.0)) → ⊥
-        by (inl w) = clash (has_atom g m.0) (h.0 m.0 (true_of _ w)) m.2
-        by (inr w) = clash (has_atom f m.0) (h.1 m.0 (true_of _ w)) m.1
+apart_free t f g h = is_false (collide f g) (λ c.
+    let met = atom_of_collide f g c in
+    elim met.3 [ inl w ↦ not_false _ (h.0 met.0 (true_of _ w)) met.2 | inr w ↦ not_false _ (h.1 met.0 (true_of _ w)) met.1 ])
 
 pub none_collide : (t : Trace) → IsSpelled t → NoneCollide t
 none_collide t spelled window r j k hj hk ne =

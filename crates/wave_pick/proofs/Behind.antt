@@ -1,8 +1,9 @@
 -- The places that are held back, found one after another, are those that the machine's state holds back.
-use Rattle.std.specs.Prelude.{◌≡◌, ℕ, zero, suc, Bool, true, false, not, List, [], ◌∷◌, ◌++◌, map, take, reverse, find, cond, Option, Some, None, refl, if◌then◌else◌}
+use Rattle.std.specs.Prelude.{◌≡◌, ℕ, zero, suc, Bool, true, false, not, List, [], ◌∷◌, ◌++◌, map, take, reverse, find, Option, Some, None, refl, if◌then◌else◌}
 use Rattle.std.specs.List.{filter_map, cons_option}
 use Rattle.std.specs.Option.{option_map, option_and_then, option_to_list}
-use mathlib.Core.Path.{ap, sym, ◌∙◌}
+use Rattle.std.proofs.Common.{inl, inr, ap, sym, ◌∙◌}
+use Rattle.std.proofs.lemmas.Bool.{cases_Bool}
 use Rattle.std.proofs.lemmas.List.{append-nil, append_assoc, map-append, reverse-append}
 use Rattle.std.proofs.lemmas.List.Elements.{filter_map-append}
 use Rattle.interleaving.specs.System.{is_clear}
@@ -59,12 +60,10 @@ module _ (t : Trace) (s : World) where
   -- A footprint that is clear of them has no holder.
   clear-none : (f : Footprint) (ws : List Waiting) → is_clear (replayed t) f (map (λ (w : Waiting). w.reach) ws) ≡ true → find (λ (w : Waiting). collide f w.reach) ws ≡ None
   clear-none f [] e = refl
-  clear-none f (w ∷ ws) e = go (collide f w.reach) e (clear-none f ws)
-    where
-      go : (b : Bool) → (if b then false else is_clear (replayed t) f (map (λ (v : Waiting). v.reach) ws)) ≡ true → (is_clear (replayed t) f (map (λ (v : Waiting). v.reach) ws) ≡ true → find (λ (v : Waiting). collide f v.reach) ws ≡ None)
-          → cond b (Some w) (find (λ (v : Waiting). collide f v.reach) ws) ≡ None
-      go true h later = (cc)
-      go false h later = later h
+  clear-none f (w ∷ ws) e = elim (cases_Bool (collide f w.reach)) [
+    | inl meets ↦ let none : false ≡ true = rw meets at e in (cc)
+    | inr apart ↦ rw apart (clear-none f ws (rw apart at e))
+  ]
 
   abbrev by_item : Footprint → Waiting → Option Holder
   by_item f w = option_map (λ (x : Item). let h : Holder = record { place = w.place; item = x } in h) (shared_of f w.reach)
@@ -80,11 +79,10 @@ module _ (t : Trace) (s : World) where
   found k seen ws = if seen.collides then with_holder k (holder_of seen.footprint ws) else None
 
   found_is : (ks : List ℕ) (k : ℕ) (seen : Seen) → IsSeen t s ks k seen → found k seen (waiting_from t s [] ks) ≡ behind (waiting_from t s [] ks) k
-  found_is ks k seen h = go seen.collides h.free
-    where
-      go : (b : Bool) → not b ≡ is_clear (replayed t) (footprint t k s) (reaches_from t s [] ks) → (if b then with_holder k (holder_of seen.footprint (waiting_from t s [] ks)) else None) ≡ behind (waiting_from t s [] ks) k
-      go true e = ap (λ f. with_holder k (holder_of f (waiting_from t s [] ks))) h.foot
-      go false e = sym (clear_of_waiting ks k (sym e))
+  found_is ks k seen h = elim (cases_Bool seen.collides) [
+    | inl meets ↦ rw (meets, h.foot)
+    | inr apart ↦ rw apart (sym (clear_of_waiting ks k (sym h.free ∙ ap not apart)))
+  ]
 
   meant-found : (hs : List Held) (o : Option Held) → map held_meant (hs ++ option_to_list o) ≡ map held_meant hs ++ option_to_list (option_map held_meant o)
   meant-found hs None = map-append held_meant hs []
@@ -104,11 +102,7 @@ module _ (t : Trace) (s : World) where
 -- Of the first pending places these are the machine's.
 find-map : {A B : Type 0} (g : A → B) (p : B → Bool) (xs : List A) → find p (map g xs) ≡ option_map g (find (λ x. p (g x)) xs)
 find-map g p [] = refl
-find-map g p (x ∷ xs) = go (p (g x)) (find-map g p xs)
-  where
-    go : (b : Bool) → find p (map g xs) ≡ option_map g (find (λ y. p (g y)) xs) → cond b (Some (g x)) (find p (map g xs)) ≡ option_map g (cond b (Some x) (find (λ y. p (g y)) xs))
-    go true later = refl
-    go false later = later
+find-map g p (x ∷ xs) = elim (cases_Bool (p (g x))) [ inl passes ↦ rw passes | inr fails ↦ rw fails (find-map g p xs) ]
 
 map-reverse : {A B : Type 0} (g : A → B) (xs : List A) → reverse (map g xs) ≡ map g (reverse xs)
 map-reverse g [] = refl
@@ -120,11 +114,7 @@ and-then-map g h None = refl
 and-then-map g h (Some x) = refl
 
 filter_map-one : {A B : Type 0} (h : A → Option B) (x : A) → filter_map h (x ∷ []) ≡ option_to_list (h x)
-filter_map-one {B = B} h x = go (h x)
-  where
-    go : (o : Option B) → cons_option o [] ≡ option_to_list o
-    go None = refl
-    go (Some y) = refl
+filter_map-one h x = elim (h x) as (λ o. cons_option o [] ≡ option_to_list o) [ None ↦ refl | Some y ↦ refl ]
 
 module _ (t : Trace) (s : State (replayed t)) where
   abbrev done : ℕ → Bool
@@ -135,15 +125,13 @@ module _ (t : Trace) (s : State (replayed t)) where
 
   waiting_are : (n : ℕ) → waiting_from t s.world [] (pending done n) ≡ map waiting_in (pending done n)
   waiting_are zero = refl
-  waiting_are (suc n) = go (done n) (waiting_are n)
-    where
-      go : (b : Bool) → waiting_from t s.world [] (pending done n) ≡ map waiting_in (pending done n)
-          → waiting_from t s.world [] (if b then pending done n else pending done n ++ n ∷ []) ≡ map waiting_in (if b then pending done n else pending done n ++ n ∷ [])
-      go true before = before
-      go false before =
-          waiting_more t s.world [] (pending done n) n
-          ∙ (λ i. before i ++ record { place = n; reach = reach t n s.world (pending_reaches t s.world done n i) } ∷ [])
-          ∙ sym (map-append waiting_in (pending done n) (n ∷ []))
+  waiting_are (suc n) = elim (cases_Bool (done n)) [
+    | inl out ↦ rw out (waiting_are n)
+    | inr yet ↦ rw yet (
+        waiting_more t s.world [] (pending done n) n
+        ∙ (λ i. waiting_are n i ++ record { place = n; reach = reach t n s.world (pending_reaches t s.world done n i) } ∷ [])
+        ∙ sym (map-append waiting_in (pending done n) (n ∷ [])))
+  ]
 
   holder_is : (k : ℕ) → holder_of (footprint t k s.world) (waiting_from t s.world [] (pending done k)) ≡ holder_in t s k
   holder_is k =
@@ -156,15 +144,14 @@ module _ (t : Trace) (s : State (replayed t)) where
 
   held_are : (n : ℕ) → held_from t s.world [] [] (pending done n) ≡ held_among t s (pending done n)
   held_are zero = refl
-  held_are (suc n) = go (done n) (held_are n)
-    where
-      go : (b : Bool) → held_from t s.world [] [] (pending done n) ≡ held_among t s (pending done n)
-          → held_from t s.world [] [] (if b then pending done n else pending done n ++ n ∷ []) ≡ held_among t s (if b then pending done n else pending done n ++ n ∷ [])
-      go true before = before
-      go false before =
-          held_more t s.world [] [] (pending done n) n
-          ∙ (λ i. before i ++ option_to_list (with_holder n (holder_is n i)))
-          ∙ sym (filter_map-append (λ k. with_holder k (holder_in t s k)) (pending done n) (n ∷ []) ∙ ap (λ hs. held_among t s (pending done n) ++ hs) (filter_map-one (λ k. with_holder k (holder_in t s k)) n))
+  held_are (suc n) = elim (cases_Bool (done n)) [
+    | inl out ↦ rw out (held_are n)
+    | inr yet ↦ rw yet (
+        held_more t s.world [] [] (pending done n) n
+        ∙ (λ i. held_are n i ++ option_to_list (with_holder n (holder_is n i)))
+        ∙ sym (filter_map-append (λ k. with_holder k (holder_in t s k)) (pending done n) (n ∷ [])
+        ∙ ap (λ hs. held_among t s (pending done n) ++ hs) (filter_map-one (λ k. with_holder k (holder_in t s k)) n)))
+  ]
 
 pub are_held : (t : Trace) (s : State (replayed t)) (n w : ℕ) (world : World) (ks : List ℕ) → world ≡ s.world → take w ks ≡ take w (pending (has s.finished) n)
     → held_from t world [] [] (take w ks) ≡ held_among t s (take w ks)

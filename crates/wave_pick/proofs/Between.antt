@@ -7,71 +7,45 @@ use Rattle.std.proofs.lemmas.Option.{slice_get-map}
 use Rattle.interleaving.specs.Machine.{State, has, is_free, opening}
 use Rattle.interleaving.specs.Rounds.{pending}
 use Rattle.interleaving.specs.Gather.{AllDifferent}
-use Rattle.interleaving.proofs.Members.{different-choice, has-filter, has-pending}
+use Rattle.interleaving.proofs.Members.{different-choice, has-filter, has-take}
 use Rattle.interleaving.proofs.Onwards.{ends_finished, rounds-more}
 use Rattle.trace_format.specs.declared.trace.Trace.{Trace}
 use Rattle.trace_format.specs.Steps.{places}
 use Rattle.trace_format.specs.Text.{IsSpelled}
 use Rattle.world_parts.specs.World.{World}
-use Rattle.world_parts.specs.Items.{Footprint}
 use Rattle.foot_print.specs.Reach.{is_met}
 use Rattle.foot_print.specs.Replayed.{replayed}
 use Rattle.foot_print.proofs.Unmet.{unmet_reach}
 use Rattle.wave_pick.specs.Lawful.{lawful}
 use Rattle.wave_pick.specs.Picking.{chosen_at, free_from}
 use Rattle.wave_pick.specs.Rounds.{state_after, wave_after}
-use Rattle.wave_pick.specs.Scheduling.{AreFirst, Covers, HasReach, HasRoom, HaveSeen, IsAgain, IsIndex, IsKnown, Releases, Remembers, RestsListed, RestsStill}
+use Rattle.wave_pick.specs.Scheduling.{AreFirst, Covers, HasReach, HasRoom, HaveSeen, IsAgain, IsIndex, Releases, Remembers, RestsListed, RestsStill}
 use Rattle.wave_pick.specs.Holds.{Waits, world_after, footprint_after, reaches_after, reach_after}
 use Rattle.wave_pick.specs.declared.scheduler.Scheduler.{Scheduler}
 use Rattle.wave_pick.specs.declared.wave.Chosen.{Chosen}
-use Rattle.wave_pick.proofs.Knowing.{covers_each}
+use Rattle.wave_pick.proofs.Knowing.{covers_each, listed_so, on_so, waits_so}
 use Rattle.wave_pick.proofs.Looked.{pending_free, take_pending}
-use Rattle.wave_pick.proofs.Passing.{not_both}
+use Rattle.wave_pick.proofs.Lists.{not_both}
+use Rattle.wave_pick.proofs.Passing.{earlier_has}
 use Rattle.wave_pick.proofs.Resting.{waits_on}
 use Rattle.wave_pick.proofs.Seeing.{met_not_clear}
 use Rattle.wave_pick.proofs.Staying.{waited}
-use Rattle.wave_pick.proofs.Within.{fewer, first_within, pending_has, place_of, within_first}
+use Rattle.wave_pick.proofs.Within.{fewer, first_within, place_of, within_first}
 
 -- Before the first look.
 pub begins : (t : Trace) (window : ℕ) (s begun : Scheduler) → Remembers t window s → (begun.exact ≡ true → IsIndex begun []) → (begun.exact ≡ false → begun.ahead ≡ s.ahead) → begun ≡ record s { ahead = begun.ahead; exact = begun.exact; added = begun.added } → HaveSeen t window s.round [] begun []
 begins t window s begun r index others rest = record {
-  index = record { alone = λ e. (index e).alone e; among = λ e y g at. none-there y g at };
-  seen = λ k e. none-here k e;
-  others = λ k low waits none. go k (r.each k low waits);
+  index = record { alone = λ e. (index e).alone e; among = λ e y g at. (cc) };
+  seen = λ k e. (cc);
+  others = λ k low waits none. waits_so t window s.round k s begun (ap (λ (z : Scheduler). z.reaches) rest) (ap (λ (z : Scheduler). z.again) rest)
+      (ap (λ (z : Scheduler). z.resting) rest)
+      false begun.exact (λ e. (refl, others e)) (r.each k low waits);
   free_are = refl;
 }
-  where
-    none-there : {Y : Type 0} (y : ℕ) (g : Footprint) → slice_get [] y ≡ Some g → Y
-    none-there y g at = (cc)
-
-    none-here : {Y : Type 0} (k : ℕ) → has [] k ≡ true → Y
-    none-here k e = (cc)
-
-    go : (k : ℕ) → IsAgain s k ⊎ RestsStill t window s.round k false s → IsAgain begun k ⊎ RestsStill t window s.round k begun.exact begun
-    go k (inl is) = inl (ap (λ (z : Scheduler). slice_get z.again.items k) rest ∙ is)
-    go k (inr x) = inr (record {
-      last = x.last;
-      next = x.next;
-      by = record {
-        on = x.by.on;
-        is_before = x.by.is_before;
-        waits = x.by.waits;
-        rests = x.by.rests;
-        listed = record { list = x.by.listed.list; at = ap (λ (z : Scheduler). option_map (λ u. u.items) (slice_get z.resting.items x.by.on)) rest ∙ x.by.listed.at; has_it = x.by.listed.has_it };
-      };
-      reach = ap (λ (z : Scheduler). slice_get z.reaches.items k) rest ∙ x.reach;
-      other_waits = x.other_waits;
-      other_reach = ap (λ (z : Scheduler). slice_get z.reaches.items x.by.on) rest ∙ x.other_reach;
-      within = x.within;
-      covered = λ e. subst (λ y. Covers y (reach_after t window x.last k)) (sym (others e)) (x.covered refl);
-    })
 
 module _ (t : Trace) (spelled : IsSpelled t) (window : ℕ) (w : World) (q : ℕ) (first : List ℕ) (a : AreFirst t window w q first) (s : Scheduler) (free : List ℕ) (h : HaveSeen t window q first s free) where
   abbrev done : ℕ → Rattle.std.specs.Prelude.Bool
   done = has (state_after t window q).finished
-
-  all_pending : (n : ℕ) × (first ≡ pending done n)
-  all_pending = let r = take_pending window done (places t) in (r.0, a.first ∙ r.1)
 
   -- The places that are free make the round.
   pub free_is_wave : free ≡ wave_after t window q
@@ -116,9 +90,8 @@ module _ (t : Trace) (spelled : IsSpelled t) (window : ℕ) (w : World) (q : ℕ
 
         first_has : (i : ℕ) → i < k → Waits t window q i → has first i ≡ true
         first_has i lt now =
-            let before = has-pending done all_pending.0 k (ap (λ ks. has ks k) (sym all_pending.1) ∙ there) in
-            let high = before.0 in
-            ap (λ ks. has ks i) all_pending.1 ∙ pending_has done window i all_pending.0 (omega (arith, lt, high)) now
+            let found = place_of first k there in
+            has-take found.0 first i (earlier_has t spelled window w q first a found.0 k found.1 i lt now)
 
         covered : Covers later.ahead (reach_after t window q k)
         covered =
@@ -127,50 +100,35 @@ module _ (t : Trace) (spelled : IsSpelled t) (window : ℕ) (w : World) (q : ℕ
             (covers_each s (map (reach_after t window q) first) h.index found.0 (reach_after t window q k) (slice_get-map (reach_after t window q) first found.0 ∙ ap (option_map (reach_after t window q)) found.1))
 
         go_on : RestsListed t window q k s → (has free k ≡ false) → IsAgain later k ⊎ RestsStill t window (suc q) k false later
-        go_on l none = by (cases_Bool (has free l.on))
-          where
-            on_known : IsKnown t window q l.on s
-            on_known = h.seen l.on (first_has l.on l.is_before l.waits)
-
-            by : (has free l.on ≡ true) ⊎ (has free l.on ≡ false) → IsAgain later k ⊎ RestsStill t window (suc q) k false later
-            by (inl ran) = inl (r.woken l.on k ran l.listed within_room)
-            by (inr stays) = inr (record {
-              last = q;
-              next = refl;
-              by = record {
-                on = l.on;
-                is_before = l.is_before;
-                waits = l.waits;
-                rests = l.rests;
-                listed = record { list = l.listed.list; at = ap (option_map (λ v. v.items)) (r.others l.on stays).1 ∙ l.listed.at; has_it = l.listed.has_it };
-              };
-              reach = (r.others k none).0 ∙ (h.seen k there).reach;
-              other_waits = waits_later l.on l.waits stays;
-              other_reach = (r.others l.on stays).0 ∙ on_known.reach;
-              within = first_within done window k (places t) (ap (λ ks. has ks k) (sym a.first) ∙ there);
-              covered = λ e. covered;
-            })
+        go_on l none = elim (cases_Bool (has free l.on)) [
+          | inl ran ↦ inl (r.woken l.on k ran l.listed within_room)
+          | inr stays ↦ inr (record {
+            last = q;
+            next = refl;
+            by = on_so t window q k l (listed_so (r.others l.on stays).1 l.listed);
+            reach = (r.others k none).0 ∙ (h.seen k there).reach;
+            other_waits = waits_later l.on l.waits stays;
+            other_reach = (r.others l.on stays).0 ∙ (h.seen l.on (first_has l.on l.is_before l.waits)).reach;
+            within = first_within done window k (places t) (ap (λ ks. has ks k) (sym a.first) ∙ there);
+            covered = λ e. covered;
+          })
+        ]
 
         pub seen_goes_on : IsAgain later k ⊎ RestsStill t window (suc q) k false later
-        seen_goes_on = by (h.seen k there).rests
-          where
-            by : IsAgain s k ⊎ RestsListed t window q k s → IsAgain later k ⊎ RestsStill t window (suc q) k false later
-            by (inl is) = inl (r.still k is)
-            by (inr l) = go_on l not_free
+        seen_goes_on = elim (h.seen k there).rests [ inl is ↦ inl (r.still k is) | inr l ↦ go_on l not_free ]
 
       -- It wasn't: then it is to be looked at, since the window didn't reach it before either.
       pub unseen_goes_on : has first k ≡ false → IsAgain later k ⊎ RestsStill t window (suc q) k false later
-      unseen_goes_on none = by (h.others k low waits_now none)
-        where
-          by : IsAgain s k ⊎ RestsStill t window q k s.exact s → IsAgain later k ⊎ RestsStill t window (suc q) k false later
-          by (inl is) = inl (r.still k is)
-          by (inr x) =
-              let before = has (state_after t window x.last).finished in
-              let next = x.next in
-              let less = fewer before done (λ j now. waited (replayed t) (lawful t spelled) (places t) window x.last j (subst (λ n. Waits t window n j) next now)) k in
-              let within = x.within in
-              let few : length (pending done k) < window = omega (arith, less, within) in
-              not_both (ap (λ ks. has ks k) a.first ∙ within_first done window k (places t) low waits_now few) none
+      unseen_goes_on none = elim (h.others k low waits_now none) [
+        | inl is ↦ inl (r.still k is)
+        | inr x ↦
+            let before = has (state_after t window x.last).finished in
+            let next = x.next in
+            let less = fewer before done (λ j now. waited (replayed t) (lawful t spelled) (places t) window x.last j (subst (λ n. Waits t window n j) next now)) k in
+            let within = x.within in
+            let few : length (pending done k) < window = omega (arith, less, within) in
+            not_both (ap (λ ks. has ks k) a.first ∙ within_first done window k (places t) low waits_now few) none
+      ]
 
     -- What a scheduler has after the round.
     pub remembers_on : HasRoom (places t) s → (next : Scheduler) → next.round ≡ suc q → next.reaches ≡ later.reaches → next.again ≡ later.again → next.resting ≡ later.resting → next.ahead ≡ later.ahead → Remembers t window next
@@ -180,29 +138,10 @@ module _ (t : Trace) (spelled : IsSpelled t) (window : ℕ) (w : World) (q : ℕ
         again = ap (λ v. length v.items) again ∙ r.same.again ∙ many.again;
         resting = ap (λ v. length v.items) resting ∙ r.same.resting ∙ many.resting;
       };
-      each = λ k low waits. let now = subst (λ n. Waits t window n k) round waits in
-          subst (λ n. IsAgain next k ⊎ RestsStill t window n k false next) (sym round) (moved k (goes_on k low now (cases_Bool (has first k))));
+      each = λ k low waits.
+          let now = subst (λ n. Waits t window n k) round waits in
+          let then : IsAgain later k ⊎ RestsStill t window (suc q) k false later =
+          elim (cases_Bool (has first k)) [ inl there ↦ seen_goes_on k low now many there | inr none ↦ unseen_goes_on k low now many none ] in
+          subst (λ n. IsAgain next k ⊎ RestsStill t window n k false next) (sym round)
+          (waits_so t window (suc q) k later next reaches again resting false false (λ e. (refl, ahead)) then);
     }
-      where
-        goes_on : (k : ℕ) → k < places t → Waits t window (suc q) k → (has first k ≡ true) ⊎ (has first k ≡ false) → IsAgain later k ⊎ RestsStill t window (suc q) k false later
-        goes_on k low now (inl there) = seen_goes_on k low now many there
-        goes_on k low now (inr none) = unseen_goes_on k low now many none
-
-        moved : (k : ℕ) → IsAgain later k ⊎ RestsStill t window (suc q) k false later → IsAgain next k ⊎ RestsStill t window (suc q) k false next
-        moved k (inl is) = inl (ap (λ v. slice_get v.items k) again ∙ is)
-        moved k (inr x) = inr (record {
-          last = x.last;
-          next = x.next;
-          by = record {
-            on = x.by.on;
-            is_before = x.by.is_before;
-            waits = x.by.waits;
-            rests = x.by.rests;
-            listed = record { list = x.by.listed.list; at = ap (λ v. option_map (λ u. u.items) (slice_get v.items x.by.on)) resting ∙ x.by.listed.at; has_it = x.by.listed.has_it };
-          };
-          reach = ap (λ v. slice_get v.items k) reaches ∙ x.reach;
-          other_waits = x.other_waits;
-          other_reach = ap (λ v. slice_get v.items x.by.on) reaches ∙ x.other_reach;
-          within = x.within;
-          covered = λ e. subst (λ y. Covers y (reach_after t window x.last k)) (sym ahead) (x.covered e);
-        })

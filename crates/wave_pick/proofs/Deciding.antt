@@ -1,8 +1,7 @@
 -- The items that decide come one after another: where a world keeps the first ones, it keeps the next one.
-use Rattle.std.specs.Prelude.{◌≡◌, ℕ, suc, Bool, true, false, cond, ltb, length, T, List, [], ◌∷◌, ◌++◌, map, Option, Some, None, Result, Ok, Err, refl, if◌then◌else◌}
-use Rattle.std.proofs.Common.{◌⊎◌, inl, inr}
+use Rattle.std.specs.Prelude.{◌≡◌, ℕ, suc, Bool, true, false, cond, ltb, length, List, [], ◌∷◌, ◌++◌, map, Option, Some, None, Result, Ok, Err, refl}
+use Rattle.std.proofs.Common.{inl, inr, sym, subst, ap, ◌∙◌}
 use Rattle.std.proofs.lemmas.Bool.{cases_Bool}
-use mathlib.Core.Path.{sym, subst, ap, ◌∙◌}
 use Rattle.interleaving.proofs.Ahead.{known-now}
 use Rattle.interleaving.specs.Machine.{has}
 use Rattle.sqe_codec.specs.declared.errno.Errno.{Errno}
@@ -19,8 +18,8 @@ use Rattle.world_parts.proofs.Collision.{true_of}
 use Rattle.world_parts.proofs.Sharing.{holds_true}
 use Rattle.op_meaning.specs.Meaning.{slot_count, Handle, handle_of, is_file}
 use Rattle.op_meaning.specs.Footprint.{Shape, idle, looking, moving, allocating, resizing, closing, opening, making, freeing, linking, renaming, shape, of_file, of_description, path_reads}
-use Rattle.op_meaning.specs.Step.{Turn, filled, refused, canceled, runs}
-use Rattle.foot_print.specs.Reach.{is_met, shape_seen, seen, file_seen, is_taken_to_run, look_of, task, order_of, running_row, accepted_row, wide_row}
+use Rattle.op_meaning.specs.Step.{Turn, runs}
+use Rattle.foot_print.specs.Reach.{is_met, shape_seen, seen, file_seen, is_taken_to_run, look_of, task}
 use Rattle.foot_print.specs.Replayed.{replayed}
 use Rattle.foot_print.proofs.Agreement.{in_left, agree_left, agree_tail, agree_head}
 use Rattle.foot_print.proofs.Cover.{all_covered}
@@ -29,6 +28,7 @@ use Rattle.wave_pick.specs.Lawful.{lawful}
 use Rattle.wave_pick.specs.Rounds.{state_after}
 use Rattle.wave_pick.specs.Waiting.{look_after, DecidingBegins}
 use Rattle.wave_pick.specs.Holds.{Waits, world_after, reaches_after, reach_after}
+use Rattle.wave_pick.proofs.Orders.{wide_reach}
 use Rattle.wave_pick.proofs.Staying.{between_rounds, waited}
 use Rattle.wave_pick.proofs.Waiting.{unmet_stays, value_stays, row_in_reach}
 use Rattle.std.proofs.lemmas.List.{append-nil}
@@ -40,36 +40,23 @@ look e = reads (one (name_at e.0 e.1))
 record Goes (s u : World) (f g : Footprint) : Type 0 where
   goes : (known rest : Footprint) (first : Use) → f ≡ known ++ first ∷ rest → Agree known s u → (others : Footprint) × (g ≡ known ++ first ∷ others)
 
-is_empty : Footprint → Bool
-is_empty [] = true
-is_empty (x ∷ f) = false
-
-head_or : Use → Footprint → Use
-head_or d [] = d
-head_or d (x ∷ f) = x
-
-tail_of : Footprint → Footprint
-tail_of [] = []
-tail_of (x ∷ f) = f
-
 empty_apart : (known rest : Footprint) (first : Use) → [] ≡ known ++ first ∷ rest → ⊥
-unfolding is_empty
-empty_apart [] rest first e = subst T (ap is_empty e) tt
-empty_apart (x ∷ known) rest first e = subst T (ap is_empty e) tt
+empty_apart [] rest first e = (cc)
+empty_apart (x ∷ known) rest first e = (cc)
 
 module _ (s u : World) where
   goes_nothing : (g : Footprint) → Goes s u [] g
   goes_nothing g = record { goes = λ known rest first e a. absurd (empty_apart known rest first e) }
 
   goes_cons : (x : Use) (f g : Footprint) → (Agree (x ∷ []) s u → Goes s u f g) → Goes s u (x ∷ f) (x ∷ g)
-  unfolding head_or tail_of
   goes_cons x f g h = record { goes = at }
     where
       at : (known rest : Footprint) (first : Use) → x ∷ f ≡ known ++ first ∷ rest → Agree known s u → (others : Footprint) × (x ∷ g ≡ known ++ first ∷ others)
-      at [] rest first e a = (g, ap (λ y. y ∷ g) (ap (head_or x) e))
+      at [] rest first e a = let same : x ≡ first = cc in (g, ap (λ y. y ∷ g) same)
       at (y ∷ known) rest first e a =
-          let same : x ≡ y = ap (head_or x) e in
-          let found = (h (subst (λ z. Agree (z ∷ []) s u) (sym same) (agree_left s u (y ∷ []) known a))).goes known rest first (ap tail_of e) (agree_tail s u y known a) in
+          let same : x ≡ y = cc in
+          let behind : f ≡ known ++ first ∷ rest = cc in
+          let found = (h (subst (λ z. Agree (z ∷ []) s u) (sym same) (agree_left s u (y ∷ []) known a))).goes known rest first behind (agree_tail s u y known a) in
           (found.0, λ i. same i ∷ found.1 i)
 
   module _ (g h : Footprint) (next : Goes s u g h) where
@@ -104,17 +91,18 @@ module _ (s u : World) where
     goes_description None = goes_nothing []
     goes_description (Some d) = goes_cons (reads (one (description_at d))) _ _ (λ a. subst (λ f. Goes s u f (each (of_file (λ i h. [])) (handle_of u d))) (sym (no_content (handle_of s d))) (goes_nothing _))
 
+    -- a slot or a descriptor, where there is one, and what it leads to
+    goes_held : (there : Bool) (a : Atom) (x y : Option ℕ) → (Agree (reads (one a) ∷ []) s u → x ≡ y) → Goes s u
+        (map reads (cond there (one a ∷ []) []) ++ each (of_description s (λ i h. [])) (cond there x None))
+        (map reads (cond there (one a ∷ []) []) ++ each (of_description u (λ i h. [])) (cond there y None))
+    goes_held true a x y same = goes_cons (reads (one a)) _ _
+        (λ g. subst (λ z. Goes s u (each (of_description s (λ i h. [])) x) (each (of_description u (λ i h. [])) z)) (same g) (goes_description x))
+    goes_held false a x y same = goes_nothing []
+
     goes_file : (f : File) → Goes s u (file_seen t s r f) (file_seen t u r f)
-    goes_file (in_slot n) =
-        elim (ltb n (slot_count t r)) as (λ c. Goes s u (map reads (cond c (one (slot_at r n) ∷ []) []) ++ each (of_description s (λ i h. [])) (cond c (slot s r n) None)) (map reads (cond c (one (slot_at r n) ∷ []) []) ++ each (of_description u (λ i h. [])) (cond c (slot u r n) None))) [
-          | true ↦ goes_cons (reads (one (slot_at r n))) _ _ (λ a. subst (λ x. Goes s u (each (of_description s (λ i h. [])) (slot s r n)) (each (of_description u (λ i h. [])) x)) (agree_head s u (slot_at r n) false [] a) (goes_description (slot s r n)))
-          | false ↦ goes_nothing []
-        ]
-    goes_file (at_descriptor n) =
-        elim (ltb n (length t.descriptors)) as (λ c. Goes s u (map reads (cond c (one (descriptor_at n) ∷ []) []) ++ each (of_description s (λ i h. [])) (cond c (descriptor s n) None)) (map reads (cond c (one (descriptor_at n) ∷ []) []) ++ each (of_description u (λ i h. [])) (cond c (descriptor u n) None))) [
-          | true ↦ goes_cons (reads (one (descriptor_at n))) _ _ (λ a. subst (λ x. Goes s u (each (of_description s (λ i h. [])) (descriptor s n)) (each (of_description u (λ i h. [])) x)) (agree_head s u (descriptor_at n) false [] a) (goes_description (descriptor s n)))
-          | false ↦ goes_nothing []
-        ]
+    goes_file (in_slot n) = goes_held (ltb n (slot_count t r)) (slot_at r n) (slot s r n) (slot u r n) (λ a. agree_head s u (slot_at r n) false [] a)
+    goes_file (at_descriptor n) = goes_held (ltb n (length t.descriptors)) (descriptor_at n) (descriptor s n) (descriptor u n)
+        (λ a. agree_head s u (descriptor_at n) false [] a)
 
     goes_shape : (x : Shape) → Goes s u (shape_seen t r s x) (shape_seen t r u x)
     goes_shape idle = goes_nothing []
@@ -133,11 +121,8 @@ module _ (s u : World) where
     goes_seen o = goes_shape (shape o)
 
   goes_deciding : (t : Trace) (k : ℕ) (x : Option Turn) → Goes s u (look_of t k s x).deciding (look_of t k u x).deciding
-  goes_deciding t k None = goes_nothing []
-  goes_deciding t k (Some (filled r b at new)) = goes_nothing []
-  goes_deciding t k (Some (refused e p)) = goes_nothing []
-  goes_deciding t k (Some (canceled p)) = goes_nothing []
   goes_deciding t k (Some (runs r e o)) = goes_seen t r o
+  goes_deciding t k _ = goes_nothing []
 
 module _ (t : Trace) (spelled : IsSpelled t) (window r k : ℕ) (waits : Waits t window (suc r) k) (may_run : is_taken_to_run t k (world_after t window r) (reaches_after t window r k) ≡ true) where
   abbrev s : World
@@ -148,14 +133,17 @@ module _ (t : Trace) (spelled : IsSpelled t) (window r k : ℕ) (waits : Waits t
 
   -- The reach of a place that may run has what it looks up.
   deciding_in_reach : (a : Atom) → has_atom (look_after t window r k).deciding a ≡ true → has_atom (reach_after t window r k) a ≡ true
-  deciding_in_reach a h = go (cases_Bool (is_met (look_after t window r k).deciding earlier))
-    where
-      go : (is_met (look_after t window r k).deciding earlier ≡ true) ⊎ (is_met (look_after t window r k).deciding earlier ≡ false) → has_atom (reach_after t window r k) a ≡ true
-      go (inr e) = row_in_reach t spelled window r k waits (record { may_run = may_run; unmet = e }) a ((row_laws t all_covered).look_in_row k s a h)
-      go (inl e) =
-          let bounded = known-now (replayed t) (lawful t spelled) (has (state_after t window r).finished) s (between_rounds (replayed t) (lawful t spelled) (places t) window r).on.sound k (waited (replayed t) (lawful t spelled) (places t) window r k waits) may_run in
-          ap (λ f. has_atom f a) (λ i. if may_run i then (if e i then wide_row t k s earlier else (if is_met (running_row t k s) earlier then accepted_row t k s earlier else running_row t k s)) else order_of t k)
-          ∙ ((row_laws t all_covered).wide_holds_accepted k s earlier bounded).0 a (((row_laws t all_covered).accepted_holds_row k s earlier).0 a ((row_laws t all_covered).look_in_row k s a h))
+  deciding_in_reach a h =
+      let laws = row_laws t all_covered in
+      let in_row = laws.look_in_row k s a h in
+      elim (cases_Bool (is_met (look_after t window r k).deciding earlier)) [
+        | inl e ↦
+            let sound = (between_rounds (replayed t) (lawful t spelled) (places t) window r).on.sound in
+            let bounded = known-now (replayed t) (lawful t spelled) (has (state_after t window r).finished) s sound k (waited (replayed t) (lawful t spelled) (places t) window r k waits) may_run in
+            ap (λ f. has_atom f a) (wide_reach t k s earlier may_run e)
+            ∙ (laws.wide_holds_accepted k s earlier bounded).0 a ((laws.accepted_holds_row k s earlier).0 a in_row)
+        | inr e ↦ row_in_reach t spelled window r k waits (record { may_run = may_run; unmet = e }) a in_row
+      ]
 
   begins : (known rest : Footprint) (first : Use) → (look_after t window r k).deciding ≡ known ++ first ∷ rest → is_met known earlier ≡ false
       → (others : Footprint) × ((look_after t window (suc r) k).deciding ≡ known ++ first ∷ others)

@@ -1,5 +1,5 @@
 -- The run that orders and rounds are compared with is the model's.
-use Rattle.std.proofs.Common.{◌≡◌, ℕ, zero, suc, ◌<◌, ◌≤◌, [], ◌∷◌, ◌++◌, length, length-append, Some, ◌⊎◌, inl, inr, refl, sym, ap, ◌∙◌, arith}
+use Rattle.std.proofs.Common.{◌≡◌, ℕ, zero, suc, ◌<◌, ◌≤◌, [], ◌∷◌, ◌++◌, length, length-append, Some, inl, inr, refl, sym, ap, ◌∙◌, arith}
 use Rattle.std.specs.Prelude.{Option, slice_get}
 use Rattle.std.proofs.lemmas.Bool.{cases_eq}
 use Rattle.std.specs.Option.{option_map}
@@ -33,22 +33,18 @@ record KeptSoFar (t : Trace) (n : ℕ) : Type 0 where
 
 kept_so_far : (t : Trace) (n : ℕ) → n ≤ places t → KeptSoFar t n
 kept_so_far t zero le = record { many = refl; kept = λ k lt. absurd (omega arith) }
-kept_so_far t (suc n) le = go (kept_so_far t n (omega arith)) (has_reply t n (run_world t n) (omega arith))
-  where
-    go : KeptSoFar t n → (reply : Reply) × (sequential_reply t n ≡ Some reply) → KeptSoFar t (suc n)
-    go before found =
-        let more : run_replies t (suc n) ≡ run_replies t n ++ found.0 ∷ [] = ap (λ (o : Option Reply). run_replies t n ++ each (λ (reply : Reply). reply ∷ []) o) found.1 in
-        record {
-          many = ap length more ∙ omega (arith, length-append (run_replies t n) (found.0 ∷ []), before.many);
-          kept = λ k lt. ap (λ rs. slice_get rs k) more ∙ at k lt (cases_eq k n) found.0 found.1 before;
-        }
-      where
-        at : (k : ℕ) → k < suc n → (k ≡ n) ⊎ (k ≡ n → ⊥) → (reply : Reply) → sequential_reply t n ≡ Some reply → KeptSoFar t n → slice_get (run_replies t n ++ reply ∷ []) k ≡ sequential_reply t k
-        at k lt (inl e) reply is h = slice_get-append_right (run_replies t n) (reply ∷ []) k 0 (omega (arith, (e ∙ sym h.many))) ∙ sym is ∙ ap (sequential_reply t) (sym e)
-        at k lt (inr ne) reply is h =
-            let less : k < n = omega (arith, ne) in
-            let within : k < length (run_replies t n) = omega (arith, h.many) in
-            slice_get-append_left (run_replies t n) (reply ∷ []) k within ∙ h.kept k less
+kept_so_far t (suc n) le =
+    let before = kept_so_far t n (omega arith) in
+    let found = has_reply t n (run_world t n) (omega arith) in
+    let many = before.many in
+    let more : run_replies t (suc n) ≡ run_replies t n ++ found.0 ∷ [] = ap (λ (o : Option Reply). run_replies t n ++ each (λ (reply : Reply). reply ∷ []) o) found.1 in
+    record {
+      many = ap length more ∙ omega (arith, length-append (run_replies t n) (found.0 ∷ []), many);
+      kept = λ k lt. ap (λ rs. slice_get rs k) more ∙ (elim (cases_eq k n) [
+        | inl e ↦ slice_get-append_right (run_replies t n) (found.0 ∷ []) k 0 (omega (arith, e, many)) ∙ sym found.1 ∙ ap (sequential_reply t) (sym e)
+        | inr ne ↦ slice_get-append_left (run_replies t n) (found.0 ∷ []) k (omega (arith, ne, lt, many)) ∙ before.kept k (omega (arith, ne, lt))
+      ]);
+    }
 
 same_worlds : (t : Trace) (n : ℕ) → sequential (replayed t) n ≡ run_world t n
 same_worlds t n = one_by_one (replayed t) (run_world t) refl (λ k. refl) n

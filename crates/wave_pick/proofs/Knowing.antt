@@ -1,22 +1,26 @@
 -- Of a scheduler's tables: what stays of them where one place is written, and what an index with one reach more covers.
 use Rattle.std.specs.Prelude.{◌≡◌, ℕ, zero, suc, ◌<◌, Bool, true, false, ◌&&◌, ◌||◌, T, List, [], ◌∷◌, ◌++◌, map, length, slice_get, Option, Some, refl}
 use Rattle.std.specs.List.{list_any}
+use Rattle.std.specs.Option.{option_map}
+use Rattle.trace_format.specs.declared.trace.Trace.{Trace}
 use Rattle.std.proofs.Common.{◌⊎◌, inl, inr, sym, ap, subst, ◌∙◌, arith}
 use Rattle.std.proofs.Math.ListN.{set}
 use Rattle.std.proofs.lemmas.Bool.{cases_Bool}
 use Rattle.std.proofs.lemmas.List.{length-set}
+use Rattle.std.proofs.lemmas.Map.Keys.{any_passes_from_place}
 use Rattle.std.proofs.lemmas.List.Folds.{list_any-append}
-use Rattle.world_parts.specs.Items.{Item, Footprint}
-use Rattle.world_parts.proofs.Collision.{either_left, either_right}
+use Rattle.world_parts.specs.Items.{Footprint}
+use Rattle.world_parts.proofs.Collision.{either_left, either_right, true_of}
+use Rattle.world_parts.proofs.Sharing.{holds_true}
 use Rattle.item_index.specs.Ahead.{at_place, one_at, touched, written}
-use Rattle.item_index.specs.Touching.{touched_by, touches_item, written_by, writes_item}
+use Rattle.item_index.specs.Touching.{touches_item, writes_item}
 use Rattle.item_index.specs.declared.ahead.Ahead.{Ahead}
-use Rattle.interleaving.specs.Machine.{has}
-use Rattle.wave_pick.specs.Scheduling.{AddsReach, Covers, Flags, HaveReaches, IsIndex}
+use Rattle.wave_pick.specs.Holds.{reach_after}
+use Rattle.wave_pick.specs.Scheduling.{AddsReach, Covers, Flags, HasReach, HaveReaches, IsAgain, IsIndex, IsKnown, IsListed, RestsListed, RestsStill}
 use Rattle.wave_pick.specs.declared.scheduler.Scheduler.{Scheduler}
 use Rattle.interleaving.proofs.Members.{has-snoc}
 use mathlib.Core.Bool.{or-false}
-use Rattle.wave_pick.proofs.Lists.{set-here, get-push}
+use Rattle.wave_pick.proofs.Lists.{not_both, set-here, get-push}
 
 pub set_true : (xs : List Bool) (k j : ℕ) → slice_get xs j ≡ Some true → slice_get (set xs k true) j ≡ Some true
 set_true [] k j e = e
@@ -27,32 +31,66 @@ set_true (x ∷ xs) (suc k) (suc j) e = set_true xs k j e
 
 -- One place more is to be looked at.
 module _ (ks : List ℕ) (k : ℕ) (again later next : List Bool) (f : Flags ks again later) where
-  these_more : ((j : ℕ) → slice_get later j ≡ Some true → slice_get next j ≡ Some true) → (k < length later → slice_get next k ≡ Some true) → (j : ℕ) → has (ks ++ k ∷ []) j ≡ true → j < length again → slice_get next j ≡ Some true
-  these_more still here j h lt = go (has-snoc ks k j h)
-    where
-      go : (has ks j ≡ true) ⊎ (j ≡ k) → slice_get next j ≡ Some true
-      go (inl e) = still j (f.these j e lt)
-      go (inr e) = let many = f.many in ap (slice_get next) e ∙ here (omega (arith, many, lt, e))
+  flags_so : length next ≡ length later → ((j : ℕ) → slice_get later j ≡ Some true → slice_get next j ≡ Some true)
+      → (k < length later → slice_get next k ≡ Some true)
+      → Flags (ks ++ k ∷ []) again next
+  flags_so many still here = record {
+    many = many ∙ f.many;
+    still = λ j h. still j (f.still j h);
+    these = λ j h lt. elim (has-snoc ks k j h) [
+      | inl e ↦ still j (f.these j e lt)
+      | inr e ↦ let all = f.many in ap (slice_get next) e ∙ here (omega (arith, all, lt, e))
+    ];
+  }
 
   pub flags_more : next ≡ set later k true → Flags (ks ++ k ∷ []) again next
-  flags_more e = record {
-    many = ap length e ∙ length-set later k true ∙ f.many;
-    still = λ j h. still j (f.still j h);
-    these = these_more still (λ lt. ap (λ xs. slice_get xs k) e ∙ set-here later k true lt);
-  }
-    where
-      still : (j : ℕ) → slice_get later j ≡ Some true → slice_get next j ≡ Some true
-      still j h = ap (λ xs. slice_get xs j) e ∙ set_true later k j h
+  flags_more e = flags_so (ap length e ∙ length-set later k true) (λ j h. ap (λ xs. slice_get xs j) e ∙ set_true later k j h)
+      (λ lt. ap (λ xs. slice_get xs k) e ∙ set-here later k true lt)
 
   pub flags_past : next ≡ later → (k < length later → ⊥) → Flags (ks ++ k ∷ []) again next
-  flags_past e past = record {
-    many = ap length e ∙ f.many;
-    still = λ j h. still j (f.still j h);
-    these = these_more still (λ lt. absurd (past lt));
+  flags_past e past = flags_so (ap length e) (λ j h. ap (λ xs. slice_get xs j) e ∙ h) (λ lt. absurd (past lt))
+
+-- What is listed with a place is so in each scheduler with the same list there.
+pub listed_so : {s later : Scheduler} {i k : ℕ} → slice_get later.resting.items i ≡ slice_get s.resting.items i → IsListed s i k → IsListed later i k
+listed_so same l = record { list = l.list; at = ap (option_map (λ v. v.items)) same ∙ l.at; has_it = l.has_it }
+
+-- What rests on a place rests on it in each scheduler that lists it there.
+abbrev pub on_so : (t : Trace) (window r k : ℕ) {s later : Scheduler} → (on : RestsListed t window r k s) → IsListed later on.on k
+    → RestsListed t window r k later
+on_so t window r k on listed = record { on = on.on; is_before = on.is_before; waits = on.waits; rests = on.rests; listed = listed }
+
+pub still_so : (t : Trace) (window q k : ℕ) {e e' : Bool} {s later : Scheduler} → (r : RestsStill t window q k e s) → IsListed later r.by.on k
+    → HasReach later k (reach_after t window r.last k)
+    → HasReach later r.by.on (reach_after t window r.last r.by.on) → (e' ≡ false → Covers later.ahead (reach_after t window r.last k))
+    → RestsStill t window q k e' later
+still_so t window q k r listed reach other covered = record {
+  last = r.last;
+  next = r.next;
+  by = on_so t window r.last k r.by listed;
+  reach = reach;
+  other_waits = r.other_waits;
+  other_reach = other;
+  within = r.within;
+  covered = covered;
+}
+
+-- What is known of a place is so in each scheduler with the same tables.
+module _ (t : Trace) (window q k : ℕ) (s later : Scheduler) (reaches : later.reaches ≡ s.reaches) (again : later.again ≡ s.again) (resting : later.resting ≡ s.resting) where
+  pub known_so : IsKnown t window q k s → IsKnown t window q k later
+  known_so known = record {
+    reach = ap (λ v. slice_get v.items k) reaches ∙ known.reach;
+    rests = elim known.rests [
+      | inl is ↦ inl (ap (λ v. slice_get v.items k) again ∙ is)
+      | inr r ↦ inr (on_so t window q k r (listed_so (ap (λ v. slice_get v.items r.on) resting) r.listed))
+    ];
   }
-    where
-      still : (j : ℕ) → slice_get later j ≡ Some true → slice_get next j ≡ Some true
-      still j h = ap (λ xs. slice_get xs j) e ∙ h
+
+  pub waits_so : (e e' : Bool) → (e' ≡ false → (e ≡ false) × (later.ahead ≡ s.ahead)) → IsAgain s k ⊎ RestsStill t window q k e s
+      → IsAgain later k ⊎ RestsStill t window q k e' later
+  waits_so e e' index (inl is) = inl (ap (λ v. slice_get v.items k) again ∙ is)
+  waits_so e e' index (inr r) = inr (still_so t window q k r (listed_so (ap (λ v. slice_get v.items r.by.on) resting) r.by.listed)
+      (ap (λ v. slice_get v.items k) reaches ∙ r.reach) (ap (λ v. slice_get v.items r.by.on) reaches ∙ r.other_reach)
+      (λ f. let i = index f in subst (λ a. Covers a (reach_after t window r.last k)) (sym i.1) (r.covered i.0)))
 
 -- The index with one reach more.
 module _ (before after : Ahead) (r : Footprint) (adds : AddsReach before after r) where
@@ -68,102 +106,76 @@ module _ (before after : Ahead) (r : Footprint) (adds : AddsReach before after r
     touches = λ x h. subst T (sym (adds.touches x)) (either_right (touched before x) (touches_item r x) h);
   }
 
--- Of what some reaches write, an index that covers each has all.
-module _ (a : Ahead) where
-  all_written : (reaches : List Footprint) → ((y : ℕ) (g : Footprint) → slice_get reaches y ≡ Some g → Covers a g) → (x : Item) → T (written_by reaches x) → T (written a x)
-  all_written [] c x h = absurd h
-  all_written (r ∷ rs) c x h = elim (writes_item r x) as (λ b. (T b → T (written a x)) → T (b || written_by rs x) → T (written a x)) [
+-- What some reaches do, as writing an item, is done where each that does so says it is.
+module _ (does : Footprint → Bool) where
+  done_by : (b : Bool) (reaches : List Footprint) → ((y : ℕ) (g : Footprint) → slice_get reaches y ≡ Some g → T (does g) → T b) → T (list_any does reaches)
+      → T b
+  done_by b [] c h = absurd h
+  done_by b (r ∷ rs) c h = elim (does r) as (λ d. (T d → T b) → T (d || list_any does rs) → T b) [
     | true ↦ λ here h. here h
-    | false ↦ λ here h. all_written rs (λ y g e. c (suc y) g e) x h
-  ] ((c 0 r refl).writes x) h
-
-  all_touched : (reaches : List Footprint) → ((y : ℕ) (g : Footprint) → slice_get reaches y ≡ Some g → Covers a g) → (x : Item) → T (touched_by reaches x) → T (touched a x)
-  all_touched [] c x h = absurd h
-  all_touched (r ∷ rs) c x h = elim (touches_item r x) as (λ b. (T b → T (touched a x)) → T (b || touched_by rs x) → T (touched a x)) [
-    | true ↦ λ here h. here h
-    | false ↦ λ here h. all_touched rs (λ y g e. c (suc y) g e) x h
-  ] ((c 0 r refl).touches x) h
+    | false ↦ λ here h. done_by b rs (λ y g e. c (suc y) g e) h
+  ] (c 0 r refl) h
 
   and_less : (b c : Bool) → (T c → T b) → (b && c) ≡ c
   and_less true c h = refl
   and_less false true h = absurd (h tt)
   and_less false false h = refl
 
-  pub both_written : (reaches : List Footprint) → ((y : ℕ) (g : Footprint) → slice_get reaches y ≡ Some g → Covers a g) → (x : Item) → (written a x && written_by reaches x) ≡ written_by reaches x
-  both_written reaches c x = and_less (written a x) (written_by reaches x) (all_written reaches c x)
-
-  pub both_touched : (reaches : List Footprint) → ((y : ℕ) (g : Footprint) → slice_get reaches y ≡ Some g → Covers a g) → (x : Item) → (touched a x && touched_by reaches x) ≡ touched_by reaches x
-  both_touched reaches c x = and_less (touched a x) (touched_by reaches x) (all_touched reaches c x)
-
--- What one of the reaches does that the table has of some places.
-module _ (s : Scheduler) (does : Footprint → Bool) where
-  any_in : (xs : List (Option (Option Footprint))) (gs : List Footprint) → xs ≡ map (λ f. Some (Some f)) gs → list_any (at_place does) xs ≡ list_any does gs
-  any_in xs gs e = ap (list_any (at_place does)) e ∙ inside gs
+  one_at_is : (table : List (Option Footprint)) (ks : List ℕ) (gs : List Footprint) → map (slice_get table) ks ≡ map (λ f. Some (Some f)) gs
+      → one_at table ks does ≡ list_any does gs
+  one_at_is table ks gs e = at ks ∙ ap (list_any (at_place does)) e ∙ inside gs
     where
       inside : (gs : List Footprint) → list_any (at_place does) (map (λ f. Some (Some f)) gs) ≡ list_any does gs
       inside [] = refl
       inside (g ∷ gs) = ap (λ b. does g || b) (inside gs)
 
-  any_at : (ks : List ℕ) → one_at s.reaches.items ks does ≡ list_any (at_place does) (map (slice_get s.reaches.items) ks)
-  any_at [] = refl
-  any_at (k ∷ ks) = ap (λ b. at_place does (slice_get s.reaches.items k) || b) (any_at ks)
+      at : (ks : List ℕ) → one_at table ks does ≡ list_any (at_place does) (map (slice_get table) ks)
+      at [] = refl
+      at (k ∷ ks) = ap (λ b. at_place does (slice_get table k) || b) (at ks)
 
-  pub one_at_is : (ks : List ℕ) (gs : List Footprint) → HaveReaches s ks gs → one_at s.reaches.items ks does ≡ list_any does gs
-  one_at_is ks gs e = any_at ks ∙ any_in (map (slice_get s.reaches.items) ks) gs e
+  -- So an index that covers each of the reaches that a table has of some places tells what one of these does.
+  pub one_of_these : (s : Scheduler) (b : Bool) (table : List (Option Footprint)) (ks : List ℕ) (gs : List Footprint) → table ≡ s.reaches.items
+      → HaveReaches s ks gs
+      → ((y : ℕ) (g : Footprint) → slice_get gs y ≡ Some g → T (does g) → T b) → (b && one_at table ks does) ≡ list_any does gs
+  one_of_these s b table ks gs same there covers =
+      (λ i. b && one_at (same i) ks does) ∙ ap (λ c. b && c) (one_at_is s.reaches.items ks gs there) ∙ and_less b (list_any does gs) (done_by b gs covers)
 
-written_more : (rs : List Footprint) (r : Footprint) (x : Item) → written_by (rs ++ r ∷ []) x ≡ (written_by rs x || writes_item r x)
-written_more rs r x = list_any-append (λ g. writes_item g x) rs (r ∷ []) ∙ ap (λ b. written_by rs x || b) (or-false (writes_item r x))
-
-touched_more : (rs : List Footprint) (r : Footprint) (x : Item) → touched_by (rs ++ r ∷ []) x ≡ (touched_by rs x || touches_item r x)
-touched_more rs r x = list_any-append (λ g. touches_item g x) rs (r ∷ []) ∙ ap (λ b. touched_by rs x || b) (or-false (touches_item r x))
+  one_more : (rs : List Footprint) (r : Footprint) → list_any does (rs ++ r ∷ []) ≡ (list_any does rs || does r)
+  one_more rs r = list_any-append does rs (r ∷ []) ∙ ap (λ b. list_any does rs || b) (or-false (does r))
 
 -- The index of one reach more.
 module _ (s later : Scheduler) (exact : later.exact ≡ s.exact) (reaches : List Footprint) (i : IsIndex s reaches) (r : Footprint) where
-  abbrev covered : Ahead → Type 0
-  covered a = (y : ℕ) (g : Footprint) → slice_get reaches y ≡ Some g → Covers a g
-
   pub index_grew : AddsReach s.ahead later.ahead r → IsIndex later (reaches ++ r ∷ [])
   index_grew adds = record {
     alone = λ e.
-        let before = i.alone (sym exact ∙ e) in
-        (λ x. adds.writes x ∙ ap (λ b. b || writes_item r x) (before.0 x) ∙ sym (written_more reaches r x), λ x. adds.touches x ∙ ap (λ b. b || touches_item r x) (before.1 x) ∙ sym (touched_more reaches r x));
-    among = λ e y g at. here (i.among (sym exact ∙ e)) g y (get-push reaches r g y at);
+        let before = i.alone (sym exact ∙ e) in (
+          λ x. adds.writes x ∙ ap (λ b. b || writes_item r x) (before.0 x) ∙ sym (one_more (λ g. writes_item g x) reaches r),
+          λ x. adds.touches x ∙ ap (λ b. b || touches_item r x) (before.1 x) ∙ sym (one_more (λ g. touches_item g x) reaches r),
+        );
+    among = λ e y g at. elim (get-push reaches r g y at) [
+      | inl there ↦ covers_still s.ahead later.ahead r adds g (i.among (sym exact ∙ e) y g there)
+      | inr same ↦ subst (Covers later.ahead) same (covers_new s.ahead later.ahead r adds)
+    ];
   }
-    where
-      here : covered s.ahead → (g : Footprint) (y : ℕ) → (slice_get reaches y ≡ Some g) ⊎ (r ≡ g) → Covers later.ahead g
-      here before g y (inl at) = covers_still s.ahead later.ahead r adds g (before y g at)
-      here before g y (inr e) = subst (Covers later.ahead) e (covers_new s.ahead later.ahead r adds)
 
   -- So it is where it has more than the reaches before, and covers this one already.
   pub index_covers : s.exact ≡ false → later.ahead ≡ s.ahead → Covers s.ahead r → IsIndex later (reaches ++ r ∷ [])
   index_covers others same c = record {
-    alone = λ e. let both : true ≡ false = sym e ∙ exact ∙ others in (cc);
-    among = λ e y g at. subst (λ a. Covers a g) (sym same) (here (i.among others) g y (get-push reaches r g y at));
+    alone = λ e. not_both (sym exact ∙ e) others;
+    among = λ e y g at. subst (λ a. Covers a g) (sym same) (elim (get-push reaches r g y at) [
+      | inl there ↦ i.among others y g there
+      | inr new ↦ subst (Covers s.ahead) new c
+    ]);
   }
-    where
-      here : covered s.ahead → (g : Footprint) (y : ℕ) → (slice_get reaches y ≡ Some g) ⊎ (r ≡ g) → Covers s.ahead g
-      here before g y (inl at) = before y g at
-      here before g y (inr e) = subst (Covers s.ahead) e c
 
 -- An index covers each reach that it has.
-module _ (s : Scheduler) (gs : List Footprint) (i : IsIndex s gs) where
-  writes_in : (xs : List Footprint) (y : ℕ) (g : Footprint) → slice_get xs y ≡ Some g → (x : Item) → T (writes_item g x) → T (written_by xs x)
-  writes_in [] zero g e x m = (cc)
-  writes_in [] (suc y) g e x m = (cc)
-  writes_in (f ∷ xs) zero g e x m = let same : f ≡ g = cc in either_left (writes_item f x) (written_by xs x) (subst (λ r. T (writes_item r x)) (sym same) m)
-  writes_in (f ∷ xs) (suc y) g e x m = either_right (writes_item f x) (written_by xs x) (writes_in xs y g e x m)
-
-  touches_in : (xs : List Footprint) (y : ℕ) (g : Footprint) → slice_get xs y ≡ Some g → (x : Item) → T (touches_item g x) → T (touched_by xs x)
-  touches_in [] zero g e x m = (cc)
-  touches_in [] (suc y) g e x m = (cc)
-  touches_in (f ∷ xs) zero g e x m = let same : f ≡ g = cc in either_left (touches_item f x) (touched_by xs x) (subst (λ r. T (touches_item r x)) (sym same) m)
-  touches_in (f ∷ xs) (suc y) g e x m = either_right (touches_item f x) (touched_by xs x) (touches_in xs y g e x m)
-
-  pub covers_each : (y : ℕ) (g : Footprint) → slice_get gs y ≡ Some g → Covers s.ahead g
-  covers_each y g e = go (cases_Bool s.exact)
-    where
-      go : (s.exact ≡ true) ⊎ (s.exact ≡ false) → Covers s.ahead g
-      go (inl exact) =
-          let all = i.alone exact in
-          record { writes = λ x m. subst T (sym (all.0 x)) (writes_in gs y g e x m); touches = λ x m. subst T (sym (all.1 x)) (touches_in gs y g e x m) }
-      go (inr exact) = i.among exact y g e
+pub covers_each : (s : Scheduler) (gs : List Footprint) → IsIndex s gs → (y : ℕ) (g : Footprint) → slice_get gs y ≡ Some g → Covers s.ahead g
+covers_each s gs i y g e = elim (cases_Bool s.exact) [
+  | inl exact ↦
+      let all = i.alone exact in
+      record {
+        writes = λ x m. holds_true _ (all.0 x ∙ any_passes_from_place (λ f. writes_item f x) gs y g e (true_of _ m));
+        touches = λ x m. holds_true _ (all.1 x ∙ any_passes_from_place (λ f. touches_item f x) gs y g e (true_of _ m));
+      }
+  | inr others ↦ i.among others y g e
+]

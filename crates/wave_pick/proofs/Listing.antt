@@ -3,23 +3,26 @@ use Rattle.std.specs.Prelude.{◌≡◌, ◌≢◌, ℕ, ◌<◌, true, false, L
 use Rattle.std.proofs.Common.{◌⊎◌, inl, inr, sym, ap, subst, ◌∙◌, Vec, Global}
 use Rattle.std.specs.Option.{option_map}
 use Rattle.std.proofs.Math.ListN.{set}
-use Rattle.std.proofs.lemmas.Bool.{cases_eq, false_from_ne_true}
+use Rattle.std.proofs.lemmas.Bool.{cases_Bool, cases_eq}
 use Rattle.std.proofs.lemmas.List.{length-set, map-append}
+use Rattle.std.proofs.lemmas.Option.{same_Some}
 use Rattle.interleaving.specs.Machine.{has}
 use Rattle.interleaving.specs.Gather.{AllDifferent}
-use Rattle.interleaving.proofs.Members.{has-cases, has-front, has-middle, has-snoc}
+use Rattle.interleaving.proofs.Members.{has-front, has-middle, has-other, has-snoc}
 use Rattle.world_parts.specs.Items.{Footprint}
 use Rattle.wave_pick.specs.Scheduling.{Flags, HasReach, IsAgain, IsListed, Lists, Releases, Renews, Wakes}
 use Rattle.wave_pick.specs.declared.scheduler.Scheduler.{Scheduler}
 use Rattle.wave_pick.specs.declared.wave.Chosen.{Chosen}
-use Rattle.wave_pick.proofs.Passing.{not_both}
+use Rattle.wave_pick.proofs.Knowing.{listed_so}
 use Rattle.wave_pick.proofs.Lists.{set-here, set-other}
+use Rattle.wave_pick.proofs.Within.{not_in_more}
 
 abbrev Listed : Type 0
 Listed = Vec ℕ Global
 
-some_items : {x y : List ℕ} → ◌≡◌ {A = Option (List ℕ)} (Some x) (Some y) → x ≡ y
-some_items e = cc
+-- A place that is listed with another one is in the list that the table has there.
+in_list : (s : Scheduler) (i j : ℕ) (list : Listed) → slice_get s.resting.items i ≡ Some list → IsListed s i j → has list.items j ≡ true
+in_list s i j list there l = ap (λ xs. has xs j) (same_Some _ _ (sym (ap (option_map (λ (v : Listed). v.items)) there) ∙ l.at)) ∙ l.has_it
 
 -- A place is listed with another one.
 module _ (s later : Scheduler) (k on : ℕ) (old new : Listed) (there : slice_get s.resting.items on ≡ Some old) (within : on < length s.resting.items) (more : new.items ≡ old.items ++ k ∷ []) (resting : later.resting.items ≡ set s.resting.items on new) (again : later.again.items ≡ set s.again.items k false)
@@ -31,13 +34,9 @@ module _ (s later : Scheduler) (k on : ℕ) (old new : Listed) (there : slice_ge
   still_listed i j (inl e) l = record {
     list = old.items ++ k ∷ [];
     at = ap (λ n. option_map (λ (v : Listed). v.items) (slice_get later.resting.items n)) e ∙ now;
-    has_it = has-front old.items (k ∷ []) j (ap (λ xs. has xs j) (some_items (sym (ap (option_map (λ (v : Listed). v.items)) there) ∙ ap (λ n. option_map (λ (v : Listed). v.items) (slice_get s.resting.items n)) (sym e) ∙ l.at)) ∙ l.has_it);
+    has_it = has-front old.items (k ∷ []) j (in_list s i j old (ap (slice_get s.resting.items) e ∙ there) l);
   }
-  still_listed i j (inr ne) l = record {
-    list = l.list;
-    at = ap (λ xs. option_map (λ (v : Listed). v.items) (slice_get xs i)) resting ∙ ap (option_map (λ (v : Listed). v.items)) (set-other s.resting.items on i new ne) ∙ l.at;
-    has_it = l.has_it;
-  }
+  still_listed i j (inr ne) l = listed_so (ap (λ xs. slice_get xs i) resting ∙ set-other s.resting.items on i new ne) l
 
   pub lists_there : Lists k (Some on) s later
   lists_there = record {
@@ -56,7 +55,7 @@ module _ (s later : Scheduler) (k : ℕ) (old new : Listed) (there : slice_get s
     many_again = flags.many;
     many_resting = ap length resting ∙ length-set s.resting.items k new;
     still = λ j e. flags.still j e;
-    woken = λ j l lt. flags.these j (ap (λ xs. has xs j) (some_items (sym (ap (option_map (λ (v : Listed). v.items)) there) ∙ l.at)) ∙ l.has_it) lt;
+    woken = λ j l lt. flags.these j (in_list s k j old there l) lt;
     others = λ j ne. ap (λ xs. slice_get xs j) resting ∙ set-other s.resting.items k j new ne;
     rest = rest;
   }
@@ -68,7 +67,7 @@ renews_waking k f s mid later reaches same w = record {
   many_again = w.many_again ∙ ap (λ (x : Scheduler). length x.again.items) same;
   many_resting = w.many_resting ∙ ap (λ (x : Scheduler). length x.resting.items) same;
   still = λ j e. w.still j (ap (λ (x : Scheduler). slice_get x.again.items j) same ∙ e);
-  woken = λ j l lt. inl (w.woken j (record { list = l.list; at = ap (λ (x : Scheduler). option_map (λ (v : Listed). v.items) (slice_get x.resting.items k)) same ∙ l.at; has_it = l.has_it })
+  woken = λ j l lt. inl (w.woken j (listed_so (ap (λ (x : Scheduler). slice_get x.resting.items k) same) l)
       (subst (λ n. j < n) (sym (ap (λ (x : Scheduler). length x.again.items) same)) lt));
   others = λ j ne. w.others j ne ∙ ap (λ (x : Scheduler). slice_get x.resting.items j) same;
   rest = w.rest ∙ ap (λ (x : Scheduler). record x { again = later.again; resting = later.resting }) same
@@ -82,7 +81,7 @@ renews_same k f s later reaches same had = record {
   many_again = ap (λ (x : Scheduler). length x.again.items) same;
   many_resting = ap (λ (x : Scheduler). length x.resting.items) same;
   still = λ j e. ap (λ (x : Scheduler). slice_get x.again.items j) same ∙ e;
-  woken = λ j l lt. inr (had, record { list = l.list; at = ap (λ (x : Scheduler). option_map (λ (v : Listed). v.items) (slice_get x.resting.items k)) same ∙ l.at; has_it = l.has_it });
+  woken = λ j l lt. inr (had, listed_so (ap (λ (x : Scheduler). slice_get x.resting.items k) same) l);
   others = λ j ne. ap (λ (x : Scheduler). slice_get x.resting.items j) same;
   rest = same ∙ (λ i. record s { reaches = later.reaches; again = sym (ap (λ (x : Scheduler). x.again) same) i; resting = sym (ap (λ (x : Scheduler). x.resting) same) i });
 }
@@ -92,20 +91,11 @@ different_parts : (k : ℕ) (xs : List ℕ) → AllDifferent (xs ++ k ∷ []) �
 different_parts k [] d = (tt, refl)
 different_parts k (x ∷ xs) d =
     let before = different_parts k xs d.1 in
-    ((false_from_ne_true _ (λ h. not_both (has-front xs (k ∷ []) x h) d.0), before.0), false_from_ne_true _ (λ h. apart before.1 d.0 (has-cases k x xs h)))
-  where
-    apart : has xs k ≡ false → has (xs ++ k ∷ []) x ≡ false → (k ≡ x) ⊎ (has xs k ≡ true) → ⊥
-    apart none last (inl e) = not_both (ap (λ j. has (xs ++ j ∷ []) x) e ∙ has-middle xs x []) last
-    apart none last (inr h) = not_both h none
+    let apart = not_in_more xs k x d.0 in
+    ((apart.0, before.0), has-other k x xs (λ e. apart.1 (sym e)) ∙ before.1)
 
 -- One place more is released.
 module _ (ks : List ℕ) (k : ℕ) (s mid taken later : Scheduler) (chosen : List Chosen) (r : Releases ks s mid chosen) (w : Wakes k taken later) (reaches : taken.reaches.items ≡ set mid.reaches.items k None) (same : taken ≡ record mid { reaches = taken.reaches }) where
-  more_of : (j : ℕ) → has (ks ++ k ∷ []) j ≡ false → (has ks j ≡ false) × (j ≢ k)
-  more_of j none = (
-    false_from_ne_true _ (λ h. not_both (has-front ks (k ∷ []) j h) none),
-    λ e. not_both (ap (λ i. has (ks ++ i ∷ []) j) (sym e) ∙ has-middle ks j []) none,
-  )
-
   taken_again : (j : ℕ) → IsAgain mid j → IsAgain taken j
   taken_again j e = ap (λ (x : Scheduler). slice_get x.again.items j) same ∙ e
 
@@ -114,7 +104,7 @@ module _ (ks : List ℕ) (k : ℕ) (s mid taken later : Scheduler) (chosen : Lis
 
   others_of : (j : ℕ) → has (ks ++ k ∷ []) j ≡ false → (slice_get later.reaches.items j ≡ slice_get s.reaches.items j) × (slice_get later.resting.items j ≡ slice_get s.resting.items j)
   others_of j none =
-      let m = more_of j none in
+      let m = not_in_more ks k j none in
       let before = r.others j m.0 in (
         later_reaches j ∙ ap (λ xs. slice_get xs j) reaches ∙ set-other mid.reaches.items k j None m.1 ∙ before.0,
         w.others j m.1 ∙ ap (λ (x : Scheduler). slice_get x.resting.items j) same ∙ before.1,
@@ -125,19 +115,15 @@ module _ (ks : List ℕ) (k : ℕ) (s mid taken later : Scheduler) (chosen : Lis
 
   woken_of : (i j : ℕ) → (has ks i ≡ true) ⊎ ((i ≡ k) × (has ks i ≡ false)) → IsListed s i j → j < length s.again.items → IsAgain later j
   woken_of i j (inl e) l lt = w.still j (taken_again j (r.woken i j e l lt))
-  woken_of i j (inr p) l lt = w.woken j (record {
-    list = l.list;
-    at = ap (λ n. option_map (λ (v : Listed). v.items) (slice_get taken.resting.items n)) (sym p.0) ∙ ap (λ (x : Scheduler). option_map (λ (v : Listed). v.items) (slice_get x.resting.items i)) same ∙ ap (option_map (λ (v : Listed). v.items)) (r.others i p.1).1 ∙ l.at;
-    has_it = l.has_it;
-  }) (subst (λ n. j < n) (sym same_many) lt)
+  woken_of i j (inr p) l lt =
+      let there : IsListed taken i j = listed_so (ap (λ (x : Scheduler). slice_get x.resting.items i) same ∙ (r.others i p.1).1) l in
+      w.woken j (subst (λ n. IsListed taken n j) p.0 there) (subst (λ n. j < n) (sym same_many) lt)
 
   first_or_last : (i : ℕ) → has (ks ++ k ∷ []) i ≡ true → (has ks i ≡ true) ⊎ ((i ≡ k) × (has ks i ≡ false))
-  first_or_last i h = go (Rattle.std.proofs.lemmas.Bool.cases_Bool (has ks i)) (has-snoc ks k i h)
-    where
-      go : (has ks i ≡ true) ⊎ (has ks i ≡ false) → (has ks i ≡ true) ⊎ (i ≡ k) → (has ks i ≡ true) ⊎ ((i ≡ k) × (has ks i ≡ false))
-      go (inl e) m = inl e
-      go (inr none) (inl e) = inl e
-      go (inr none) (inr e) = inr (e, none)
+  first_or_last i h = elim (cases_Bool (has ks i)) [
+    | inl e ↦ inl e
+    | inr none ↦ elim (has-snoc ks k i h) [ inl e ↦ inl e | inr e ↦ inr (e, none) ]
+  ]
 
   module _ (chosen_now : List Chosen) (was : (reach : Footprint) → slice_get mid.reaches.items k ≡ Some (Some reach) → chosen_now ≡ chosen ++ record { place = k; footprint = reach } ∷ []) where
     pub release_step : Releases (ks ++ k ∷ []) s later chosen_now
@@ -163,13 +149,7 @@ module _ (ks : List ℕ) (k : ℕ) (s mid taken later : Scheduler) (chosen : Lis
 
 -- What was taken out of the table.
 pub one_taken : (reach was : Footprint) {x : Option Footprint} → ◌≡◌ {A = Option (Option Footprint)} (Some x) (Some (Some reach)) → x ≡ Some was → was ≡ reach
-one_taken reach was e d = same (ap (λ y. Some y) (sym d) ∙ e)
-  where
-    same : {f g : Footprint} → ◌≡◌ {A = Option (Option Footprint)} (Some (Some f)) (Some (Some g)) → f ≡ g
-    same e = cc
+one_taken reach was e d = cc
 
 pub none_taken : {Y : Type 0} (reach : Footprint) {x : Option Footprint} → ◌≡◌ {A = Option (Option Footprint)} (Some x) (Some (Some reach)) → x ≡ None → Y
-none_taken reach e d = other (ap (λ y. Some y) (sym d) ∙ e)
-  where
-    other : {Y : Type 0} {g : Footprint} → ◌≡◌ {A = Option (Option Footprint)} (Some None) (Some (Some g)) → Y
-    other e = (cc)
+none_taken reach e d = (cc)

@@ -1,22 +1,20 @@
 -- The reach of an earlier place writes nothing that a place makes.
 use Rattle.std.specs.Prelude.{◌≡◌, ℕ, suc, Bool, true, false, cond, not, ◌||◌, ◌+◌, ◌<◌, ◌≤◌, ltb, leb, length, T, List, [], ◌∷◌, ◌++◌, map, Option, Some, None, refl}
-use Rattle.std.proofs.Common.{◌⊎◌, inl, inr}
-use Rattle.std.proofs.lemmas.Bool.{cases_Bool}
-use mathlib.Core.Path.{sym, subst}
-use native.Mathlib.Omega.{arith}
+use Rattle.std.proofs.Common.{inl, inr, sym, subst, arith}
+use Rattle.std.proofs.lemmas.Bool.{cond_both}
 use lib.Dec.{ltb→lt, lt→ltb, eqb→eq}
 use Rattle.trace_format.specs.declared.trace.Trace.{Trace}
 use Rattle.sqe_codec.specs.Answers.{each}
 use Rattle.chain_plan.specs.Chain.{role}
-use Rattle.entry_checks.specs.Operation.{Operation, File, Span, file_limit, in_slot, at_descriptor}
+use Rattle.entry_checks.specs.Operation.{File, Span, file_limit, in_slot, at_descriptor}
 use Rattle.world_parts.specs.World.{World}
 use Rattle.world_parts.specs.Items.{Atom, chain_flag, ring_order, slot_at, descriptor_at, description_at, position_of, size_of, byte_at, name_at, names_in, buffer_byte, Item, one, file_bytes, buffer_bytes, all_names, all_bytes_and_sizes, all_positions, all_descriptions, all_descriptors, member_of, Use, reads, writes, Footprint, has_atom}
 use Rattle.world_parts.proofs.Collision.{left, true_of, writes-has, same_atom-eq}
 use Rattle.world_parts.proofs.Sharing.{holds_true}
 use Rattle.op_meaning.specs.Meaning.{made_node, made_description, slot_count, span_start, lowest_free}
-use Rattle.op_meaning.specs.Footprint.{Shape, idle, looking, moving, allocating, resizing, closing, opening, making, freeing, linking, renaming, shape, use_of, held_item, file_reads, span_use, description_made, room_uses, ring_at}
-use Rattle.op_meaning.specs.Step.{Turn, filled, refused, canceled, runs}
-use Rattle.foot_print.specs.Reach.{shape_makes, room_asked, room_at, unresolved_shape, written_by, is_met, node_made, makes, all_files, any_name, unresolved_file, unresolved_row, unresolved_of, extras_of, task, look_of, order_of, running_row, accepted_row, wide_row, is_taken_to_run, reach}
+use Rattle.op_meaning.specs.Footprint.{Shape, idle, looking, moving, allocating, resizing, closing, opening, making, freeing, linking, renaming, shape, use_of, held_item, file_reads, span_use, description_made, ring_at}
+use Rattle.op_meaning.specs.Step.{Turn, filled, runs}
+use Rattle.foot_print.specs.Reach.{shape_makes, room_asked, room_at, unresolved_shape, written_by, is_met, node_made, makes, all_files, any_name, unresolved_file, unresolved_of, extras_of, task, look_of, order_of, running_row, accepted_row, wide_row, is_taken_to_run, reach}
 use Rattle.foot_print.specs.Replayed.{is_earlier, Known}
 use Rattle.foot_print.proofs.Cover.{all_covered}
 use Rattle.foot_print.proofs.Holding.{split, drop_false}
@@ -100,7 +98,7 @@ module _ (t : Trace) where
 
     order : Bound (order_of t k)
     order = all (use_of (role t k).barrier (one (ring_order (ring_at t k))) ∷ []) _ (atom (ring_order (ring_at t k)) (role t k).barrier tt)
-        (elim (leb 2 (role t k).length) as (λ b. Bound (cond b (writes (one (chain_flag (role t k).chain)) ∷ []) [])) [ true ↦ atom (chain_flag (role t k).chain) true tt | false ↦ nothing ])
+        (cond_both (leb 2 (role t k).length) _ _ Bound (λ _. atom (chain_flag (role t k).chain) true tt) (λ _. nothing))
 
     made : Bound (node_made t k ++ description_made t k)
     made =
@@ -119,10 +117,8 @@ module _ (t : Trace) where
     room_bound s r earlier None = nothing
     room_bound s r earlier (Some (Some n)) = held true r (in_slot n)
     room_bound s r earlier (Some None) =
-        elim (written_by earlier all_descriptors) as (λ b. Bound (cond b (writes all_descriptors ∷ []) (room_uses t s r None))) [
-          | true ↦ item all_descriptors true of_descriptors
-          | false ↦ all (reads all_descriptors ∷ []) _ (item all_descriptors false of_descriptors) (at (lowest_free t s))
-        ]
+        cond_both (written_by earlier all_descriptors) _ _ Bound (λ _. item all_descriptors true of_descriptors)
+        (λ _. all (reads all_descriptors ∷ []) _ (item all_descriptors false of_descriptors) (at (lowest_free t s)))
       where
         at : (y : Option ℕ) → Bound (each (λ n. writes (one (descriptor_at n)) ∷ []) y)
         at None = nothing
@@ -152,53 +148,38 @@ module _ (t : Trace) where
     shape_bound r (resizing f n) = file_bound r f
     shape_bound r (closing f) = held true r f
     shape_bound r (opening p g asked) = all (any_name t k) _ names_bound
-        (elim g.truncate as (λ b. Bound (cond b (writes (all_bytes_and_sizes (made_node t k)) ∷ []) [])) [ true ↦ item _ true of_files | false ↦ nothing ])
+        (cond_both g.truncate _ _ Bound (λ _. item (all_bytes_and_sizes (made_node t k)) true of_files) (λ _. nothing))
     shape_bound r (making p) = names_bound
     shape_bound r (freeing p removes) = names_bound
     shape_bound r (linking old new) = names_bound
     shape_bound r (renaming old new) = names_bound
 
-    unresolved_bound : (r : ℕ) (o : Operation) → Bound (unresolved_row t k r o)
-    unresolved_bound r o = shape_bound r (shape o)
-
     module _ (s : World) (earlier : List Footprint) where
       unresolved_of_bound : (x : Option Turn) → Bound (unresolved_of t k s x)
-      unresolved_of_bound None = nothing
       unresolved_of_bound (Some (filled r b at new)) = item _ true (of_buffer r b at (at + length new))
-      unresolved_of_bound (Some (refused e p)) = nothing
-      unresolved_of_bound (Some (canceled p)) = nothing
-      unresolved_of_bound (Some (runs r e o)) = unresolved_bound r o
+      unresolved_of_bound (Some (runs r e o)) = shape_bound r (shape o)
+      unresolved_of_bound _ = nothing
 
       extras_bound : (x : Option Turn) → Bound (extras_of t k s earlier x)
-      extras_bound None = nothing
-      extras_bound (Some (filled r b at new)) = nothing
-      extras_bound (Some (refused e p)) = nothing
-      extras_bound (Some (canceled p)) = nothing
       extras_bound (Some (runs r e o)) = all (makes t k o) _ (makes_bound (shape o)) (room_bound s r earlier (room_asked o))
+      extras_bound _ = nothing
 
       wide_bound : Bound (wide_row t k s earlier)
       wide_bound = all (order_of t k) _ order (all (unresolved_of t k s (task t k)) _ (unresolved_of_bound (task t k)) (extras_bound (task t k)))
 
       -- A reach has nothing of later places.
       reach_bound : Known t k s earlier → Bound (reach t k s earlier)
-      reach_bound known = go (cases_Bool (is_taken_to_run t k s earlier))
+      reach_bound known =
+          cond_both (is_taken_to_run t k s earlier) _ _ Bound
+          (λ run. cond_both (is_met (look_of t k s (task t k)).deciding earlier) _ _ Bound (λ _. wide_bound)
+          (λ _. cond_both (is_met (running_row t k s) earlier) _ _ Bound (λ _. accepted_bound run) (λ _. row_bound run)))
+          (λ _. order)
         where
-          running : Footprint
-          running = cond (is_met (look_of t k s (task t k)).deciding earlier) (wide_row t k s earlier) (cond (is_met (running_row t k s) earlier) (accepted_row t k s earlier) (running_row t k s))
-
           accepted_bound : is_taken_to_run t k s earlier ≡ true → Bound (accepted_row t k s earlier)
           accepted_bound e = all (order_of t k) _ order (all (look_of t k s (task t k)).items _ (record { bound = λ a h. up_to a (holds_true _ (known e a (true_of _ h))) }) (extras_bound (task t k)))
 
           row_bound : is_taken_to_run t k s earlier ≡ true → Bound (running_row t k s)
           row_bound e = record { bound = λ a h. (accepted_bound e).bound a (holds_true _ (((row_laws t all_covered).accepted_holds_row k s earlier).0 a (true_of _ h))) }
-
-          go : (is_taken_to_run t k s earlier ≡ true) ⊎ (is_taken_to_run t k s earlier ≡ false) → Bound (reach t k s earlier)
-          go (inr e) = subst Bound (λ i. cond (sym e i) running (order_of t k)) order
-          go (inl e) = subst Bound (λ i. cond (sym e i) running (order_of t k))
-              (elim (is_met (look_of t k s (task t k)).deciding earlier) as (λ b. Bound (cond b (wide_row t k s earlier) (cond (is_met (running_row t k s) earlier) (accepted_row t k s earlier) (running_row t k s)))) [
-                | true ↦ wide_bound
-                | false ↦ elim (is_met (running_row t k s) earlier) as (λ b. Bound (cond b (accepted_row t k s earlier) (running_row t k s))) [ true ↦ accepted_bound e | false ↦ row_bound e ]
-              ])
 
   -- What a place makes is of no earlier place.
   below_itself : (n : ℕ) → T (ltb n n) → ⊥
@@ -238,8 +219,5 @@ module _ (t : Trace) where
 
     -- The reach of an earlier place writes nothing that a turn makes.
     pub made_unmet : (x : Option Turn) → is_met (made_of t k x) (reach t i s earlier ∷ []) ≡ false
-    made_unmet None = refl
-    made_unmet (Some (filled r b at new)) = refl
-    made_unmet (Some (refused e p)) = refl
-    made_unmet (Some (canceled p)) = refl
     made_unmet (Some (runs r e o)) = makes_unmet (shape o)
+    made_unmet _ = refl

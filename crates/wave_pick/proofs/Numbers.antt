@@ -1,10 +1,10 @@
 -- The list of rounds has the number of each place's round, and it rises along chains and across barriers.
-use Rattle.std.proofs.Common.{◌≡◌, ℕ, zero, suc, ◌+◌, ◌<◌, ◌≤◌, Bool, true, false, length, ◌⊎◌, inl, inr, refl, sym, ap, subst, ◌∙◌, arith}
-use Rattle.std.specs.Prelude.{Option, Some, slice_get, slice_index, if◌then◌else◌}
+use Rattle.std.proofs.Common.{◌≡◌, ℕ, zero, suc, ◌+◌, ◌<◌, ◌≤◌, true, false, length, inl, inr, refl, sym, ap, subst, ◌∙◌, arith}
+use Rattle.std.specs.Prelude.{Some, slice_get, slice_index}
 use Rattle.std.specs.List.{range_with_len}
 use Rattle.std.specs.Option.{option_map}
-use Rattle.std.proofs.lemmas.Bool.{cases_Bool}
-use Rattle.std.proofs.lemmas.Option.{slice_get-map, slice_get-get_or, get_or_from_slice_get}
+use Rattle.std.proofs.lemmas.Bool.{cases_Bool, cases_lt}
+use Rattle.std.proofs.lemmas.Option.{same_Some, slice_get-map, slice_get-get_or, get_or_from_slice_get}
 use Rattle.std.proofs.lemmas.List.FromFn.{get_or-range_with_len, length-range_with_len, length-map-range_with_len}
 use Rattle.interleaving.specs.Machine.{State, has, opening}
 use Rattle.interleaving.specs.Rounds.{chosen, round}
@@ -18,35 +18,26 @@ use Rattle.foot_print.specs.Replayed.{replayed}
 use Rattle.wave_pick.specs.Lawful.{lawful}
 use Rattle.wave_pick.specs.Rounds.{state_after, wave_after, waves_from, waves, round_of, rounds, RoundsAreNumbered}
 use Rattle.wave_pick.specs.Orders.{InOrder, LinksAndDrainsRise}
+use Rattle.wave_pick.proofs.Lists.{not_both}
 use Rattle.wave_pick.proofs.Orders.{always_collide}
 
 module _ (t : Trace) (window : ℕ) where
   -- the number of a place is the rounds after which it is chosen
   pub number_is : (d r : ℕ) (x : State (replayed t)) (k : ℕ) → r < d → has (chosen (replayed t) (places t) window (machine.rounds (replayed t) (places t) window r x)) k ≡ true → round_of (waves_from t window d x) k ≡ r
   number_is zero r x k lt h = absurd (omega arith)
-  number_is (suc d) zero x k lt h = ap (λ b. if b then 0 else suc (round_of (waves_from t window d (round (replayed t) (places t) window x)) k)) h
-  number_is (suc d) (suc r) x k lt h =
-      ap (λ b. if b then 0 else suc (round_of (waves_from t window d (round (replayed t) (places t) window x)) k)) (not_before (replayed t) (places t) window r x k h)
-      ∙ ap suc (number_is d r (round (replayed t) (places t) window x) k (omega arith) h)
+  number_is (suc d) zero x k lt h = rw h
+  number_is (suc d) (suc r) x k lt h = rw (not_before (replayed t) (places t) window r x k h)
+      (ap suc (number_is d r (round (replayed t) (places t) window x) k (omega arith) h))
 
   -- and a place that has finished after some rounds is chosen after that number of them
   chosen_by_then : (d : ℕ) (x : State (replayed t)) (k : ℕ) → has x.finished k ≡ false → has (machine.rounds (replayed t) (places t) window d x).finished k ≡ true
       → has (chosen (replayed t) (places t) window (machine.rounds (replayed t) (places t) window (round_of (waves_from t window d x) k) x)) k ≡ true
-  chosen_by_then zero x k before after = let both : true ≡ false = sym after ∙ before in (cc)
-  chosen_by_then (suc d) x k before after =
-      go (λ e. chosen_by_then d next k (still_open (replayed t) (chosen (replayed t) (places t) window x) x k e before) after) (cases_Bool (has (chosen (replayed t) (places t) window x) k))
-    where
-      next : State (replayed t)
-      next = round (replayed t) (places t) window x
-
-      number : (b : Bool) → has (chosen (replayed t) (places t) window x) k ≡ b → round_of (waves_from t window (suc d) x) k ≡ (if b then 0 else suc (round_of (waves_from t window d next) k))
-      number b e = ap (λ c. if c then 0 else suc (round_of (waves_from t window d next) k)) e
-
-      go : (has (chosen (replayed t) (places t) window x) k ≡ false → has (chosen (replayed t) (places t) window (machine.rounds (replayed t) (places t) window (round_of (waves_from t window d next) k) next)) k ≡ true)
-          → (has (chosen (replayed t) (places t) window x) k ≡ true) ⊎ (has (chosen (replayed t) (places t) window x) k ≡ false)
-          → has (chosen (replayed t) (places t) window (machine.rounds (replayed t) (places t) window (round_of (waves_from t window (suc d) x) k) x)) k ≡ true
-      go later (inl e) = subst (λ r. has (chosen (replayed t) (places t) window (machine.rounds (replayed t) (places t) window r x)) k ≡ true) (sym (number true e)) e
-      go later (inr e) = subst (λ r. has (chosen (replayed t) (places t) window (machine.rounds (replayed t) (places t) window r x)) k ≡ true) (sym (number false e)) (later e)
+  chosen_by_then zero x k before after = not_both after before
+  chosen_by_then (suc d) x k before after = elim (cases_Bool (has (chosen (replayed t) (places t) window x) k)) [
+    | inl e ↦ rw e e
+    | inr e ↦ rw e (chosen_by_then d (round (replayed t) (places t) window x) k
+        (still_open (replayed t) (chosen (replayed t) (places t) window x) x k e before) after)
+  ]
 
   -- the list has the number of each place
   pub at_place : (k : ℕ) → k < places t → slice_get (rounds t window) k ≡ Some (round_of (waves t window) k)
@@ -62,23 +53,14 @@ module _ (t : Trace) (window : ℕ) where
 
     -- a place is chosen after fewer rounds than there are places
     early : (r k : ℕ) → k < places t → has (wave_after t window r) k ≡ true → r < places t
-    early r k lt h = go (order (places t) r)
-      where
-        order : (a b : ℕ) → (a ≤ b) ⊎ (b < a)
-        order a b = grind arith
-
-        go : (places t ≤ r) ⊎ (r < places t) → r < places t
-        go (inr less) = less
-        go (inl le) =
-            let both : true ≡ false =
-            sym (rounds_finish (replayed t) (lawful t spelled) (places t) window r k wide lt (omega arith)) ∙ chosen_open (replayed t) (places t) window (state_after t window r) k h in
-            (cc)
-
-    some-same : {a b : ℕ} → ◌≡◌ {A = Option ℕ} (Some a) (Some b) → a ≡ b
-    some-same e = cc
+    early r k lt h = elim (cases_lt r (places t)) [
+      | inl less ↦ less
+      | inr past ↦ not_both (rounds_finish (replayed t) (lawful t spelled) (places t) window r k wide lt (omega arith))
+          (chosen_open (replayed t) (places t) window (state_after t window r) k h)
+    ]
 
     number_at : (r k : ℕ) → k < places t → slice_get (rounds t window) k ≡ Some r → has (wave_after t window r) k ≡ true
-    number_at r k lt e = subst (λ x. has (wave_after t window x) k ≡ true) (some-same (sym (at_place k lt) ∙ e)) (chosen_at k lt)
+    number_at r k lt e = subst (λ x. has (wave_after t window x) k ≡ true) (same_Some _ _ (sym (at_place k lt) ∙ e)) (chosen_at k lt)
 
     at_number : (r k : ℕ) → k < places t → has (wave_after t window r) k ≡ true → slice_get (rounds t window) k ≡ Some r
     at_number r k lt h = at_place k lt ∙ ap Some (number_is (places t) r (opening (replayed t)) k (early r k lt h) h)

@@ -1,8 +1,8 @@
 -- Places of one chain, and barriers with the places of their ring, collide in every world.
-use Rattle.std.proofs.Common.{◌≡◌, ℕ, zero, suc, ◌+◌, ◌<◌, ◌≤◌, Bool, true, false, List, [], ◌∷◌, length, length-append, refl, sym, ap, subst, arith, inl, inr}
-use Rattle.std.specs.Prelude.{T, cond, leb, ◌&&◌, ◌==◌}
+use Rattle.std.proofs.Common.{◌≡◌, ℕ, zero, suc, ◌+◌, ◌<◌, ◌≤◌, Bool, true, false, if◌then◌else◌, List, [], ◌∷◌, length, length-append, refl, sym, ap, subst, ◌∙◌, arith, inl, inr}
+use Rattle.std.specs.Prelude.{T, leb, ◌&&◌, ◌==◌}
 use Rattle.std.specs.List.{list_any}
-use Rattle.std.proofs.lemmas.Bool.{le-leb, cases_eq}
+use Rattle.std.proofs.lemmas.Bool.{le-leb, cases_eq, cond-true, cond-false, cond_both}
 use lib.Dec.{eqb_refl}
 use Rattle.trace_format.specs.declared.trace.Trace.{Trace}
 use Rattle.trace_format.specs.Steps.{places}
@@ -17,12 +17,9 @@ use Rattle.foot_print.specs.Reach.{is_taken_to_run, is_met, look_of, task, order
 use Rattle.foot_print.proofs.Agreement.{in_left}
 use Rattle.wave_pick.specs.Orders.{InOrder}
 
--- A chain has no fewer members among more places, and one more with a member.
-members_grow : (t : Trace) (c n : ℕ) → length (below t n c) ≤ length (below t (suc n) c)
-members_grow t c n = elim (cases_eq (chain_of t n) c) [
-  | inl e ↦ subst (λ (x : ℕ). length (below t n x) ≤ length (below t (suc n) x)) e (omega (arith, ap length (below_here t n), length-append (below t n (chain_of t n)) (n ∷ [])))
-  | inr ne ↦ omega (arith, ap length (below_other t n c ne))
-]
+-- A chain has one more member with one of its places, and no fewer among more places.
+one_more : (t : Trace) (c k : ℕ) → chain_of t k ≡ c → length (below t k c) + 1 ≤ length (below t (suc k) c)
+one_more t c k e = subst (λ (x : ℕ). length (below t k x) + 1 ≤ length (below t (suc k) x)) e (omega (arith, ap length (below_here t k), length-append (below t k (chain_of t k)) (k ∷ [])))
 
 members_stay : (t : Trace) (c m n : ℕ) → m ≤ n → length (below t m c) ≤ length (below t n c)
 members_stay t c m zero le =
@@ -31,12 +28,9 @@ members_stay t c m zero le =
 members_stay t c m (suc n) le = elim (cases_eq m (suc n)) [
   | inl e ↦ rw e (omega arith)
   | inr ne ↦
-      let early : m ≤ n = omega (arith, ne) in
-      omega (arith, members_stay t c m n early, members_grow t c n)
+      let before = members_stay t c m n (omega (arith, ne)) in
+      elim (cases_eq (chain_of t n) c) [ inl e ↦ omega (arith, before, one_more t c n e) | inr other ↦ omega (arith, before, ap length (below_other t n c other)) ]
 ]
-
-one_more : (t : Trace) (c k : ℕ) → chain_of t k ≡ c → length (below t k c) + 1 ≤ length (below t (suc k) c)
-one_more t c k e = subst (λ (x : ℕ). length (below t k x) + 1 ≤ length (below t (suc k) x)) e (omega (arith, ap length (below_here t k), length-append (below t k (chain_of t k)) (k ∷ [])))
 
 -- A chain of two places has two members or more.
 two_members : (t : Trace) (c i k : ℕ) → i < k → k < places t → chain_of t i ≡ c → chain_of t k ≡ c → leb 2 (length (below t (places t) c)) ≡ true
@@ -47,30 +41,35 @@ two_members t c i k lt within first second =
     let all = members_stay t c (suc k) (places t) (omega arith) in
     le-leb 2 (length (below t (places t) c)) (omega (arith, early, between, late, all))
 
--- What every place has, its footprint and its reach have.
-in_footprint : (p : Use → Bool) (t : Trace) (k : ℕ) (s : World) → T (list_any p (order_of t k)) → T (list_any p (footprint t k s))
-in_footprint p t k s h = in_left p (order_of t k) _ h
-
+-- What every place has, its reach has.
 pub in_reach : (p : Use → Bool) (t : Trace) (k : ℕ) (s : World) (earlier : List Footprint) → T (list_any p (order_of t k)) → T (list_any p (reach t k s earlier))
 in_reach p t k s earlier h =
-    elim (is_taken_to_run t k s earlier) as (λ b. T (list_any p (cond b (cond (is_met (look_of t k s (task t k)).deciding earlier) (wide_row t k s earlier) (cond (is_met (running_row t k s) earlier) (accepted_row t k s earlier) (running_row t k s))) (order_of t k)))) [
-      | true ↦ elim (is_met (look_of t k s (task t k)).deciding earlier) as (λ b. T (list_any p (cond b (wide_row t k s earlier) (cond (is_met (running_row t k s) earlier) (accepted_row t k s earlier) (running_row t k s))))) [
-        | true ↦ in_left p (order_of t k) _ h
-        | false ↦ elim (is_met (running_row t k s) earlier) as (λ b. T (list_any p (cond b (accepted_row t k s earlier) (running_row t k s)))) [
-          | true ↦ in_left p (order_of t k) _ h
-          | false ↦ in_left p (order_of t k) _ h
-        ]
-      ]
-      | false ↦ h
-    ]
+    let P : Footprint → Type 0 = λ f. T (list_any p f) in
+    cond_both (is_taken_to_run t k s earlier) _ _ P
+    (λ _. cond_both (is_met (look_of t k s (task t k)).deciding earlier) _ _ P
+    (λ _. in_left p (order_of t k) _ h)
+    (λ _. cond_both (is_met (running_row t k s) earlier) _ _ P (λ _. in_left p (order_of t k) _ h) (λ _. in_left p (order_of t k) _ h)))
+    (λ _. h)
 
-chain_written : (b : Bool) (c : ℕ) → b ≡ true → T (writes_atom (cond b (writes (one (chain_flag c)) ∷ []) []) (chain_flag c))
-chain_written true c e = either_left (c == c) false (eqb_refl c)
-chain_written false c e = absurd (cc e)
+-- The reach of a place that may run, by what earlier reaches write of the items that decide its others, and of its row.
+module _ (t : Trace) (k : ℕ) (s : World) (earlier : List Footprint) (run : is_taken_to_run t k s earlier ≡ true) where
+  pub wide_reach : is_met (look_of t k s (task t k)).deciding earlier ≡ true → reach t k s earlier ≡ wide_row t k s earlier
+  wide_reach d = cond-true _ _ _ run ∙ cond-true _ _ _ d
+
+  pub decided_reach : is_met (look_of t k s (task t k)).deciding earlier ≡ false
+      → reach t k s earlier ≡ (if is_met (running_row t k s) earlier then accepted_row t k s earlier else running_row t k s)
+  decided_reach d = cond-true _ _ _ run ∙ cond-false _ _ _ d
+
+  pub accepted_reach : is_met (look_of t k s (task t k)).deciding earlier ≡ false → is_met (running_row t k s) earlier ≡ true
+      → reach t k s earlier ≡ accepted_row t k s earlier
+  accepted_reach d e = decided_reach d ∙ cond-true _ _ _ e
 
 -- A member of a chain of two or more writes the chain's flag.
 pub writes_chain : (t : Trace) (k : ℕ) → leb 2 (role t k).length ≡ true → T (writes_atom (order_of t k) (chain_flag (role t k).chain))
-writes_chain t k two = either_right _ _ (chain_written (leb 2 (role t k).length) (role t k).chain two)
+writes_chain t k two =
+    let c = (role t k).chain in
+    either_right _ _ (subst (λ b. T (writes_atom (if b then writes (one (chain_flag c)) ∷ [] else []) (chain_flag c))) (sym two)
+    (either_left (c == c) false (eqb_refl c)))
 
 -- Every place has the order of its ring, and a barrier writes it.
 has_ring : (t : Trace) (k : ℕ) → T (has_atom (order_of t k) (ring_order (ring_at t k)))
@@ -81,10 +80,12 @@ writes_ring t k e = either_left _ _ (both (role t k).barrier _ (holds_true _ e) 
 
 module _ (t : Trace) (i k : ℕ) (s : World) (earlier : List Footprint) where
   later_writes : (a : Atom) → T (writes_atom (order_of t k) a) → T (has_atom (order_of t i) a) → collide (footprint t k s) (reach t i s earlier) ≡ true
-  later_writes a w h = true_of _ (first_writes-collide (footprint t k s) (reach t i s earlier) a (in_footprint (λ (u : Use). u.written && member_of u.item a) t k s w) (in_reach (λ (u : Use). member_of u.item a) t i s earlier h))
+  later_writes a w h = true_of _ (first_writes-collide (footprint t k s) (reach t i s earlier) a
+      (in_left (λ (u : Use). u.written && member_of u.item a) (order_of t k) _ w) (in_reach (λ (u : Use). member_of u.item a) t i s earlier h))
 
   earlier_writes : (a : Atom) → T (has_atom (order_of t k) a) → T (writes_atom (order_of t i) a) → collide (footprint t k s) (reach t i s earlier) ≡ true
-  earlier_writes a h w = true_of _ (second_writes-collide (footprint t k s) (reach t i s earlier) a (in_footprint (λ (u : Use). member_of u.item a) t k s h) (in_reach (λ (u : Use). u.written && member_of u.item a) t i s earlier w))
+  earlier_writes a h w = true_of _ (second_writes-collide (footprint t k s) (reach t i s earlier) a
+      (in_left (λ (u : Use). member_of u.item a) (order_of t k) _ h) (in_reach (λ (u : Use). u.written && member_of u.item a) t i s earlier w))
 
 -- The footprint of the later place collides with the reach of the earlier one.
 pub always_collide : (t : Trace) (i k : ℕ) → i < k → k < places t → InOrder t i k → (s : World) (earlier : List Footprint) → collide (footprint t k s) (reach t i s earlier) ≡ true

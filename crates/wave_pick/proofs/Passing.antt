@@ -1,12 +1,13 @@
 -- The first places that wait, looked at or passed over one after another.
-use Rattle.std.specs.Prelude.{◌≡◌, ◌≢◌, ℕ, suc, ◌<◌, ◌≤◌, Bool, true, false, List, [], ◌∷◌, ◌++◌, map, take, length, slice_get, Option, Some, refl, if◌then◌else◌}
+use Rattle.std.specs.Prelude.{◌≡◌, ◌≢◌, ℕ, suc, ◌<◌, Bool, true, false, List, [], ◌∷◌, ◌++◌, map, take, length, slice_get, Option, Some, refl, if◌then◌else◌}
 use Rattle.std.proofs.Common.{◌⊎◌, inl, inr, sym, ap, subst, ◌∙◌, arith}
 use Rattle.std.proofs.lemmas.Bool.{cases_eq, cases_Bool, false_from_ne_true}
 use Rattle.std.proofs.lemmas.List.{map-append, append-nil}
+use Rattle.std.proofs.lemmas.Option.{same_Some}
 use Rattle.interleaving.specs.System.{is_clear}
 use Rattle.interleaving.specs.Machine.{has}
 use Rattle.interleaving.specs.Rounds.{pending}
-use Rattle.interleaving.proofs.Members.{has-pending, has-take, has-front, has-middle, has-snoc}
+use Rattle.interleaving.proofs.Members.{has-pending, has-take, has-snoc}
 use Rattle.interleaving.proofs.Skipping.{clear-of}
 use Rattle.trace_format.specs.declared.trace.Trace.{Trace}
 use Rattle.trace_format.specs.Steps.{places}
@@ -17,35 +18,29 @@ use Rattle.foot_print.specs.Replayed.{replayed}
 use Rattle.wave_pick.specs.Picking.{free_from, reaches_from}
 use Rattle.wave_pick.specs.Resting.{RestsOn, StaysAsIs}
 use Rattle.wave_pick.specs.Rounds.{state_after}
-use Rattle.wave_pick.specs.Scheduling.{AddsReach, AreBefore, AreFirst, Covers, HasReach, HasRoom, HaveReaches, HaveSeen, IsAgain, IsIndex, IsKnown, IsListed, IsSameRound, IsView, Keeps, RestsListed, RestsStill, Sees}
+use Rattle.wave_pick.specs.Scheduling.{AddsReach, AreBefore, AreFirst, Covers, HasReach, HasRoom, HaveReaches, HaveSeen, IsAgain, IsIndex, IsKnown, IsListed, IsSameRound, IsView, Keeps, RestsStill, Sees}
 use Rattle.wave_pick.specs.Holds.{HoldsBack, Waits, world_after, footprint_after, reaches_after, reach_after}
 use Rattle.wave_pick.specs.declared.scheduler.Scheduler.{Scheduler}
 use Rattle.wave_pick.specs.declared.scheduler.View.{View}
-use Rattle.wave_pick.proofs.Knowing.{covers_still, index_covers, index_grew}
+use Rattle.wave_pick.proofs.Knowing.{covers_still, index_covers, index_grew, known_so, on_so, still_so, waits_so}
 use Rattle.wave_pick.proofs.Looked.{free_more, pending_reaches, take_pending}
 use Rattle.wave_pick.proofs.Resting.{rests_on_stays}
 use Rattle.wave_pick.proofs.Seeing.{has-got}
-use Rattle.wave_pick.proofs.Within.{before_pending, pending_has}
-use Rattle.wave_pick.proofs.Lists.{set-here, set-other}
+use Rattle.wave_pick.proofs.Within.{before_pending, not_in_more, pending_has}
+use Rattle.wave_pick.proofs.Lists.{not_both, set-here, set-other}
 
 -- A place that waits from one round to the next with the same reach.
 stays_so : (t : Trace) (window p k : ℕ) → Waits t window (suc p) k → reach_after t window (suc p) k ≡ reach_after t window p k → StaysAsIs t window p (suc p) k
-stays_so t window p k waits e = record { waits = waits; same = at }
-  where
-    at : (r : ℕ) → p ≤ r → r ≤ suc p → reach_after t window r k ≡ reach_after t window p k
-    at r low high = elim (cases_eq r (suc p)) [
-      | inl same ↦ ap (λ n. reach_after t window n k) same ∙ e
-      | inr other ↦ let same : r ≡ p = omega (arith, other) in ap (λ n. reach_after t window n k) same
-    ]
+stays_so t window p k waits e = record {
+  waits = waits;
+  same = λ r low high. elim (cases_eq r (suc p)) [
+    | inl same ↦ ap (λ n. reach_after t window n k) same ∙ e
+    | inr other ↦ let same : r ≡ p = omega (arith, other, low, high) in ap (λ n. reach_after t window n k) same
+  ];
+}
 
-pub one_reach : {f g : Footprint} {x : Option (Option Footprint)} → x ≡ Some (Some f) → x ≡ Some (Some g) → f ≡ g
-one_reach d e = some-same (sym d ∙ e)
-  where
-    some-same : {f h : Footprint} → ◌≡◌ {A = Option (Option Footprint)} (Some (Some f)) (Some (Some h)) → f ≡ h
-    some-same e = cc
-
-pub not_both : {Y : Type 0} {b : Bool} → b ≡ true → b ≡ false → Y
-not_both d e = let both : true ≡ false = sym d ∙ e in (cc)
+one_reach : {f g : Footprint} {x : Option (Option Footprint)} → x ≡ Some (Some f) → x ≡ Some (Some g) → f ≡ g
+one_reach d e = cc
 
 -- A round goes on.
 pub same_on : {s mid later : Scheduler} → IsSameRound s mid → IsSameRound mid later → IsSameRound s later
@@ -65,23 +60,6 @@ same_rest a e = same_on a (record {
   again = ap (λ (x : Scheduler). length x.again.items) e;
   resting = ap (λ (x : Scheduler). length x.resting.items) e;
 })
-
--- What is known of a place is so in each scheduler with the same tables.
-pub known_so : (t : Trace) (window q k : ℕ) (s later : Scheduler) → later.reaches ≡ s.reaches → later.again ≡ s.again → later.resting ≡ s.resting → IsKnown t window q k s → IsKnown t window q k later
-known_so t window q k s later reaches again resting known = record {
-  reach = ap (λ v. slice_get v.items k) reaches ∙ known.reach;
-  rests = go known.rests;
-}
-  where
-    go : IsAgain s k ⊎ RestsListed t window q k s → IsAgain later k ⊎ RestsListed t window q k later
-    go (inl a) = inl (ap (λ v. slice_get v.items k) again ∙ a)
-    go (inr r) = inr (record {
-      on = r.on;
-      is_before = r.is_before;
-      waits = r.waits;
-      rests = r.rests;
-      listed = record { list = r.listed.list; at = (λ i. Rattle.std.specs.Option.option_map (λ v. v.items) (slice_get (resting i).items r.on)) ∙ r.listed.at; has_it = r.listed.has_it };
-    })
 
 module _ (t : Trace) (spelled : IsSpelled t) (window : ℕ) (w : World) (q : ℕ) (first : List ℕ) (a : AreFirst t window w q first) where
   abbrev done : ℕ → Bool
@@ -110,8 +88,8 @@ module _ (t : Trace) (spelled : IsSpelled t) (window : ℕ) (w : World) (q : ℕ
     has_earlier : (j : ℕ) → has (take x first) j ≡ true → (j < k) × Waits t window q j
     has_earlier j h = has-pending done k j (ap (λ ks. has ks j) (sym before_it) ∙ h)
 
-    earlier_has : (j : ℕ) → j < k → Waits t window q j → has (take x first) j ≡ true
-    earlier_has j lt waits = ap (λ ks. has ks j) before_it ∙ pending_has done window j k lt waits
+    pub earlier_has : (j : ℕ) → j < k → Waits t window q j → has (take x first) j ≡ true
+    earlier_has j lt waits = ap (λ ks. has ks j) before_it ∙ pending_has done j k lt waits
 
     not_earlier : has (take x first) k ≡ false
     not_earlier = false_from_ne_true _ (λ h. let low = (has_earlier k h).0 in absurd (omega (arith, low)))
@@ -141,12 +119,6 @@ module _ (t : Trace) (spelled : IsSpelled t) (window : ℕ) (w : World) (q : ℕ
         (λ i. is i ++ (if (e ∙ ap (is_clear (replayed t) (footprint_after t window q k)) (sym before_is)) i then k ∷ [] else []))
         ∙ sym (free_more t (world_after t window q) [] (take x first) k)
 
-    later_than : (j : ℕ) → has (take x first ++ k ∷ []) j ≡ false → (has (take x first) j ≡ false) × (j ≢ k)
-    later_than j none = (
-      false_from_ne_true _ (λ h. not_both (has-front (take x first) (k ∷ []) j h) none),
-      λ e. not_both (ap (λ i. has (take x first ++ i ∷ []) j) (sym e) ∙ has-middle (take x first) j []) none,
-    )
-
     -- A look at it, which is kept.
     module _ (s : Scheduler) (free : List ℕ) (h : HaveSeen t window q (take x first) s free) (room : HasRoom (places t) s) (again : IsAgain s k) (v : View) (view : IsView t window q k v) (later : Scheduler) (keeps : Keeps k v s later) where
       abbrev in_room : k < length s.reaches.items
@@ -159,88 +131,62 @@ module _ (t : Trace) (spelled : IsSpelled t) (window : ℕ) (w : World) (q : ℕ
       reach_apart j ne = ap (λ xs. slice_get xs j) keeps.reaches ∙ set-other s.reaches.items k j (Some v.reach) ne
 
       known_now : IsKnown t window q k later
-      known_now = record { reach = reach_there ∙ ap (λ f. Some (Some f)) view.reach; rests = go keeps.rests }
-        where
-          go : (IsAgain s k → IsAgain later k) ⊎ ((i : ℕ) × (v.on ≡ Some i) × IsListed later i k) → IsAgain later k ⊎ RestsListed t window q k later
-          go (inl still) = inl (still again)
-          go (inr found) =
+      known_now = record {
+        reach = reach_there ∙ ap (λ f. Some (Some f)) view.reach;
+        rests = elim keeps.rests [
+          | inl still ↦ inl (still again)
+          | inr found ↦
               let r = view.rests found.0 found.1 in
               inr (record { on = found.0; is_before = r.is_before; waits = r.waits; rests = r.rests; listed = found.2 })
+        ];
+      }
 
       known_still : (j : ℕ) → has (take x first) j ≡ true → IsKnown t window q j later
-      known_still j e = record { reach = reach_apart j apart ∙ old.reach; rests = go old.rests }
-        where
-          old : IsKnown t window q j s
-          old = h.seen j e
-
-          below : j < k
-          below = (has_earlier j e).0
-
-          apart : j ≢ k
-          apart same = omega (arith, below, same)
-
-          go : IsAgain s j ⊎ RestsListed t window q j s → IsAgain later j ⊎ RestsListed t window q j later
-          go (inl is) = inl (keeps.still j apart is)
-          go (inr r) =
-              let low = r.is_before in
-              inr (record { on = r.on; is_before = r.is_before; waits = r.waits; rests = r.rests; listed = keeps.listed r.on j (λ same. omega (arith, below, low, same)) r.listed })
-
-      known : (j : ℕ) → (has (take x first) j ≡ true) ⊎ (j ≡ k) → IsKnown t window q j later
-      known j (inl e) = known_still j e
-      known j (inr e) = subst (λ i. IsKnown t window q i later) (sym e) known_now
+      known_still j e =
+          let old = h.seen j e in
+          let below = (has_earlier j e).0 in
+          let apart : j ≢ k = λ same. omega (arith, below, same) in
+          record {
+            reach = reach_apart j apart ∙ old.reach;
+            rests = elim old.rests [
+              | inl is ↦ inl (keeps.still j apart is)
+              | inr r ↦ let low = r.is_before in inr (on_so t window q j r (keeps.listed r.on j (λ same. omega (arith, below, low, same)) r.listed))
+            ];
+          }
 
       module _ (j : ℕ) (apart : j ≢ k) (low : j < places t) (r : RestsStill t window q j s.exact s) where
-        covered_so : later.exact ≡ false → Covers later.ahead (reach_after t window r.last j)
-        covered_so e = covers_still s.ahead later.ahead v.reach keeps.index (reach_after t window r.last j) (r.covered (sym keeps.same.exact ∙ e))
-
         still : IsListed later r.by.on j → HasReach later r.by.on (reach_after t window r.last r.by.on) → RestsStill t window q j later.exact later
-        still listed other = record {
-          last = r.last;
-          next = r.next;
-          by = record { on = r.by.on; is_before = r.by.is_before; waits = r.by.waits; rests = r.by.rests; listed = listed };
-          reach = reach_apart j apart ∙ r.reach;
-          other_waits = r.other_waits;
-          other_reach = other;
-          within = r.within;
-          covered = covered_so;
-        }
+        still listed other = still_so t window q j r listed (reach_apart j apart ∙ r.reach) other
+            (λ e. covers_still s.ahead later.ahead v.reach keeps.index (reach_after t window r.last j) (r.covered (sym keeps.same.exact ∙ e)))
 
         rests_or_again : (r.by.on ≡ k) ⊎ (r.by.on ≢ k) → IsAgain later j ⊎ RestsStill t window q j later.exact later
         rests_or_again (inr ne) = inr (still (keeps.listed r.by.on j ne r.by.listed) (reach_apart r.by.on ne ∙ r.other_reach))
-        rests_or_again (inl e) = go (keeps.woken j apart (let many = room.again in omega (arith, low, many)) (subst (λ i. IsListed s i j) e r.by.listed))
-          where
-            go : IsAgain later j ⊎ (HasReach s k v.reach × IsListed later k j) → IsAgain later j ⊎ RestsStill t window q j later.exact later
-            go (inl woken) = inl woken
-            go (inr p) = inr (still (subst (λ i. IsListed later i j) (sym e) p.1)
-                (ap (λ i. slice_get later.reaches.items i) e ∙ reach_there ∙ ap (λ f. Some (Some f)) (one_reach p.0 (ap (λ i. slice_get s.reaches.items i) (sym e) ∙ r.other_reach))))
-
-      others : (j : ℕ) → j ≢ k → j < places t → IsAgain s j ⊎ RestsStill t window q j s.exact s → IsAgain later j ⊎ RestsStill t window q j later.exact later
-      others j ne low (inl is) = inl (keeps.still j ne is)
-      others j ne low (inr r) = rests_or_again j ne low r (cases_eq r.by.on k)
+        rests_or_again (inl e) = elim (keeps.woken j apart (let many = room.again in omega (arith, low, many)) (subst (λ i. IsListed s i j) e r.by.listed)) [
+          | inl woken ↦ inl woken
+          | inr p ↦ inr (still (subst (λ i. IsListed later i j) (sym e) p.1)
+              (ap (slice_get later.reaches.items) e ∙ reach_there
+              ∙ ap (λ f. Some (Some f)) (one_reach p.0 (ap (slice_get s.reaches.items) (sym e) ∙ r.other_reach))))
+        ]
 
       pub look_step : HaveSeen t window q (take x first ++ k ∷ []) later (if v.free then free ++ k ∷ [] else free)
       look_step = record {
         index = subst (IsIndex later) (ap (λ f. map reach_of (take x first) ++ f ∷ []) view.reach ∙ sym (map-append reach_of (take x first) (k ∷ []))) (index_grew s later keeps.same.exact (map reach_of (take x first)) h.index v.reach keeps.index);
-        seen = λ j e. known j (has-snoc (take x first) k j e);
-        others = λ j low waits none. let l = later_than j none in others j l.1 low (h.others j low waits l.0);
-        free_are = one_more v.free ∙ more_free free v.free view.free h.free_are;
+        seen = λ j e. elim (has-snoc (take x first) k j e) [ inl there ↦ known_still j there | inr here ↦ subst (λ i. IsKnown t window q i later) (sym here) known_now ];
+        others = λ j low waits none.
+            let l = not_in_more (take x first) k j none in
+            elim (h.others j low waits l.0) [ inl is ↦ inl (keeps.still j l.1 is) | inr r ↦ rests_or_again j l.1 low r (cases_eq r.by.on k) ];
+        free_are =
+            (elim v.free as (λ b. (if b then free ++ k ∷ [] else free) ≡ free ++ (if b then k ∷ [] else [])) [ true ↦ refl | false ↦ sym (append-nil free) ])
+            ∙ more_free free v.free view.free h.free_are;
       }
-        where
-          one_more : (b : Bool) → (if b then free ++ k ∷ [] else free) ≡ free ++ (if b then k ∷ [] else [])
-          one_more true = refl
-          one_more false = sym (append-nil free)
 
     -- It rests, and is passed over.
     module _ (s : Scheduler) (free : List ℕ) (h : HaveSeen t window q (take x first) s free) (calm : slice_get s.again.items k ≡ Some false) where
       rests_still : RestsStill t window q k s.exact s
-      rests_still = go (h.others k is_place waits_there not_earlier)
-        where
-          differ : {Y : Type 0} → ◌≡◌ {A = Option Bool} (Some false) (Some true) → Y
-          differ e = (cc)
-
-          go : IsAgain s k ⊎ RestsStill t window q k s.exact s → RestsStill t window q k s.exact s
-          go (inl e) = differ (sym calm ∙ e)
-          go (inr r) = r
+      rests_still = elim (h.others k is_place waits_there not_earlier) [
+        | inl e ↦ not_both (same_Some _ _ (sym calm ∙ e)) refl
+        | inr r ↦ r
+      ]
 
       abbrev r : RestsStill t window q k s.exact s
       r = rests_still
@@ -278,8 +224,8 @@ module _ (t : Trace) (spelled : IsSpelled t) (window : ℕ) (w : World) (q : ℕ
       held_there : is_clear (replayed t) (footprint_after t window (suc r.last) k) (reaches_after t window (suc r.last) k) ≡ false
       held_there = false_from_ne_true _ (λ clear.
           let b = now.1 in
-          let both : true ≡ false = sym b.collides ∙ clear-of (replayed t) (footprint_after t window (suc r.last) k) (has (state_after t window (suc r.last)).finished) (world_after t window (suc r.last)) k clear on b.is_before b.waits in
-          (cc))
+          not_both b.collides (clear-of (replayed t) (footprint_after t window (suc r.last) k) (has (state_after t window (suc r.last)).finished)
+          (world_after t window (suc r.last)) k clear on b.is_before b.waits))
 
       held : false ≡ is_clear (replayed t) (footprint_after t window q k) (reaches_after t window q k)
       held = sym (subst (λ n. is_clear (replayed t) (footprint_after t window n k) (reaches_after t window n k) ≡ false) (sym r.next) held_there)
@@ -288,37 +234,30 @@ module _ (t : Trace) (spelled : IsSpelled t) (window : ℕ) (w : World) (q : ℕ
         mode : later.exact ≡ s.exact
         mode = ap (λ (z : Scheduler). z.exact) rest
 
-        index : (s.exact ≡ true) ⊎ (s.exact ≡ false) → IsIndex later (map reach_of (take x first) ++ reach_of k ∷ [])
-        index (inl e) = index_grew s later mode (map reach_of (take x first)) h.index (reach_of k) (exact e (reach_of k) known_so_far.reach)
-        index (inr e) = index_covers s later mode (map reach_of (take x first)) h.index (reach_of k) e (same e) (subst (Covers s.ahead) (sym reach_same) (r.covered e))
+        index : IsIndex later (map reach_of (take x first) ++ reach_of k ∷ [])
+        index = elim (cases_Bool s.exact) [
+          | inl e ↦ index_grew s later mode (map reach_of (take x first)) h.index (reach_of k) (exact e (reach_of k) known_so_far.reach)
+          | inr e ↦ index_covers s later mode (map reach_of (take x first)) h.index (reach_of k) e (same e)
+              (subst (Covers s.ahead) (sym reach_same) (r.covered e))
+        ]
+
+        -- the tables are as they were
+        abbrev reaches_so : later.reaches ≡ s.reaches
+        reaches_so = ap (λ (z : Scheduler). z.reaches) rest
+
+        abbrev again_so : later.again ≡ s.again
+        again_so = ap (λ (z : Scheduler). z.again) rest
+
+        abbrev resting_so : later.resting ≡ s.resting
+        resting_so = ap (λ (z : Scheduler). z.resting) rest
 
         known_later : (j : ℕ) → IsKnown t window q j s → IsKnown t window q j later
-        known_later j old = known_so t window q j s later (ap (λ (z : Scheduler). z.reaches) rest) (ap (λ (z : Scheduler). z.again) rest) (ap (λ (z : Scheduler). z.resting) rest) old
-
-        known_then : (j : ℕ) → (has (take x first) j ≡ true) ⊎ (j ≡ k) → IsKnown t window q j later
-        known_then j (inl e) = known_later j (h.seen j e)
-        known_then j (inr e) = subst (λ i. IsKnown t window q i later) (sym e) (known_later k known_so_far)
-
-        listed_later : (i j : ℕ) → IsListed s i j → IsListed later i j
-        listed_later i j l = record { list = l.list; at = ap (λ (z : Scheduler). Rattle.std.specs.Option.option_map (λ v. v.items) (slice_get z.resting.items i)) rest ∙ l.at; has_it = l.has_it }
-
-        others_then : (j : ℕ) → IsAgain s j ⊎ RestsStill t window q j s.exact s → IsAgain later j ⊎ RestsStill t window q j later.exact later
-        others_then j (inl is) = inl (ap (λ (z : Scheduler). slice_get z.again.items j) rest ∙ is)
-        others_then j (inr o) = inr (record {
-          last = o.last;
-          next = o.next;
-          by = record { on = o.by.on; is_before = o.by.is_before; waits = o.by.waits; rests = o.by.rests; listed = listed_later o.by.on j o.by.listed };
-          reach = ap (λ (z : Scheduler). slice_get z.reaches.items j) rest ∙ o.reach;
-          other_waits = o.other_waits;
-          other_reach = ap (λ (z : Scheduler). slice_get z.reaches.items o.by.on) rest ∙ o.other_reach;
-          within = o.within;
-          covered = λ e. let e₁ = sym mode ∙ e in subst (λ a. Covers a (reach_after t window o.last j)) (sym (same e₁)) (o.covered e₁);
-        })
+        known_later j old = known_so t window q j s later reaches_so again_so resting_so old
 
         pub pass_step : HaveSeen t window q (take x first ++ k ∷ []) later free
         pass_step = record {
-          index = subst (IsIndex later) (sym (map-append reach_of (take x first) (k ∷ []))) (index (cases_Bool s.exact));
-          seen = λ j e. known_then j (has-snoc (take x first) k j e);
-          others = λ j low waits none. others_then j (h.others j low waits (later_than j none).0);
+          index = subst (IsIndex later) (sym (map-append reach_of (take x first) (k ∷ []))) index;
+          seen = λ j e. elim (has-snoc (take x first) k j e) [ inl there ↦ known_later j (h.seen j there) | inr here ↦ subst (λ i. IsKnown t window q i later) (sym here) (known_later k known_so_far) ];
+          others = λ j low waits none. waits_so t window q j s later reaches_so again_so resting_so s.exact later.exact (λ e. let e₁ = sym mode ∙ e in (e₁, same e₁)) (h.others j low waits (not_in_more (take x first) k j none).0);
           free_are = sym (append-nil free) ∙ more_free free false held h.free_are;
         }

@@ -1,42 +1,20 @@
 -- What rests on an earlier place rests on it while that one waits with one reach.
-use Rattle.std.proofs.Common.{◌≡◌, ℕ, zero, suc, ◌<◌, ◌≤◌, true, false, [], ◌∷◌, ◌⊎◌, inl, inr, sym, ap, subst, ◌∙◌, arith}
-use Rattle.std.proofs.lemmas.Bool.{cases_Bool, cases_eq}
+use Rattle.std.proofs.Common.{◌≡◌, ℕ, suc, ◌≤◌, false, inl, inr, sym, ap, ◌∙◌, arith}
+use Rattle.std.proofs.lemmas.Bool.{cases_eq}
 use Rattle.interleaving.specs.Machine.{State, has, opening}
 use Rattle.interleaving.proofs.Onwards.{rounds-more, still_open}
-use Rattle.interleaving.proofs.Skipping.{unwritten-of}
 use Rattle.trace_format.specs.declared.trace.Trace.{Trace}
 use Rattle.trace_format.specs.Steps.{places}
 use Rattle.trace_format.specs.Text.{IsSpelled}
-use Rattle.world_parts.specs.Items.{Item, Use, Footprint, collide}
-use Rattle.world_parts.proofs.Collision.{any_passes, true_of}
-use Rattle.world_parts.proofs.Sharing.{holds_true}
-use Rattle.foot_print.specs.Reach.{written_by, is_met}
+use Rattle.world_parts.specs.Items.{collide}
 use Rattle.foot_print.specs.Replayed.{replayed}
-use Rattle.foot_print.proofs.Holding.{drop_false}
-use Rattle.foot_print.proofs.Writing.{not_false, atom_of_writes, unwritten}
 use Rattle.wave_pick.specs.Lawful.{lawful}
 use Rattle.wave_pick.specs.Rounds.{state_after, wave_after}
 use Rattle.wave_pick.specs.Waiting.{Settled}
-use Rattle.wave_pick.specs.Holds.{Waits, world_after, footprint_after, reaches_after, reach_after, HoldsBack}
+use Rattle.wave_pick.specs.Holds.{Waits, footprint_after, reach_after, HoldsBack}
 use Rattle.wave_pick.specs.Resting.{StaysAsIs, RestsOn, RestsUnmet, RestsOnStays}
 use Rattle.wave_pick.proofs.Staying.{waited}
-use Rattle.wave_pick.proofs.Waiting.{row_stays, witness_holds}
-
--- What the reach of an earlier place that waits writes, the reaches before the later one write.
-module _ (t : Trace) (window r i k : ℕ) (lt : i < k) (waits : Waits t window r i) where
-  pub written_before : (x : Item) → written_by (reach_after t window r i ∷ []) x ≡ true → written_by (reaches_after t window r k) x ≡ true
-  written_before x h = go (cases_Bool (written_by (reaches_after t window r k) x))
-    where
-      go : (written_by (reaches_after t window r k) x ≡ true) ⊎ (written_by (reaches_after t window r k) x ≡ false) → written_by (reaches_after t window r k) x ≡ true
-      go (inl e) = e
-      go (inr e) =
-          let c = atom_of_writes x (reach_after t window r i) (drop_false _ (holds_true _ h)) in
-          let none = unwritten-of (replayed t) c.0 (has (state_after t window r).finished) (world_after t window r) k (unwritten t (reaches_after t window r k) x c.0 e c.2) i lt waits in
-          absurd (not_false _ none c.1)
-
-  pub met_before : (f : Footprint) → is_met f (reach_after t window r i ∷ []) ≡ true → is_met f (reaches_after t window r k) ≡ true
-  met_before f h = true_of _ (any_passes (λ (u : Use). written_by (reach_after t window r i ∷ []) u.item) (λ (u : Use). written_by (reaches_after t window r k) u.item)
-      (λ (u : Use) m. holds_true _ (written_before u.item (true_of _ m))) f (holds_true _ h))
+use Rattle.wave_pick.proofs.Waiting.{row_stays, until, witness_holds}
 
 -- A waiting place that isn't in the next round waits behind it.
 pub waits_on : (t : Trace) (window r k : ℕ) → Waits t window r k → has (wave_after t window r) k ≡ false → Waits t window (suc r) k
@@ -64,18 +42,11 @@ module _ (t : Trace) (spelled : IsSpelled t) (window r i k : ℕ) (P : ℕ → T
 
   module _ (g : GoesOn) where
     goes_on : (q : ℕ) → r ≤ q → StaysAsIs t window r q i → Waits t window q k × P q
-    goes_on zero le h =
-        let e : r ≡ 0 = omega arith in
-        subst (λ n. Waits t window n k × P n) e (g.waits, g.now)
-    goes_on (suc p) le h = elim (cases_eq r (suc p)) [
-      | inl e ↦ subst (λ n. Waits t window n k × P n) e (g.waits, g.now)
-      | inr ne ↦
-          let less : r ≤ p = omega (arith, ne) in
-          let before = stays_before t spelled window r p i h in
-          let found = goes_on p less before in
-          let waits = waits_on t window p k found.0 (witness_holds t window p i k (g.told p less before found.0 found.1).1) in
-          (waits, g.next p less h waits found.1)
-    ]
+    goes_on q le h = until t spelled window i (λ n. StaysAsIs t window r n i → Waits t window n k × P n) r (λ p low _ so_far stays.
+        let before = stays_before t spelled window r p i stays in
+        let found = so_far before in
+        let waits = waits_on t window p k found.0 (witness_holds t window p i k (g.told p low before found.0 found.1).1) in
+        (waits, g.next p low stays waits found.1)) q le h.waits (λ _. (g.waits, g.now)) h
 
     pub rests_on : RestsOn t window r i k
     rests_on q le h = let found = goes_on q le h in g.told q le h found.0 found.1

@@ -1,133 +1,119 @@
 -- A place rests on one whose reach writes one of the items by which it waits.
-use Rattle.std.proofs.Common.{◌≡◌, ℕ, suc, ◌<◌, ◌≤◌, Bool, true, false, if◌then◌else◌, [], ◌∷◌, ◌++◌, inl, inr, refl, sym, ap, ◌∙◌, arith}
+use Rattle.std.proofs.Common.{◌≡◌, ℕ, suc, ◌<◌, ◌≤◌, Bool, true, false, [], ◌∷◌, ◌++◌, inl, inr, refl, sym, ap, ◌∙◌, arith}
 use Rattle.trace_format.specs.declared.trace.Trace.{Trace}
 use Rattle.trace_format.specs.Text.{IsSpelled}
 use Rattle.world_parts.specs.Items.{Use, Footprint}
 use Rattle.world_parts.proofs.Collision.{true_of}
 use Rattle.world_parts.proofs.Sharing.{holds_true}
-use Rattle.foot_print.specs.Outlook.{IsFirstWritten}
-use Rattle.foot_print.specs.Reach.{written_by, is_met, is_taken_to_run, order_of}
+use Rattle.foot_print.specs.Reach.{written_by, is_met, is_taken_to_run}
 use Rattle.foot_print.proofs.Agreement.{in_left, in_right}
 use Rattle.foot_print.proofs.Holding.{split}
 use Rattle.wave_pick.specs.Waiting.{look_after, IsDecided, WritesRow, accepted_after, wide_after, row_after}
 use Rattle.wave_pick.specs.Holds.{Waits, world_after, reaches_after, reach_after}
-use Rattle.wave_pick.specs.Resting.{StaysAsIs, RestsOn, WritesForAll, RestsDecided, RestsUndecided, RestsByItems}
+use Rattle.wave_pick.specs.Resting.{StaysAsIs, RestsOn, WritesForAll, RestsByItems}
 use Rattle.wave_pick.proofs.Deciding.{deciding_begins}
-use Rattle.wave_pick.proofs.Resting.{met_before, same_reach, rests_on}
+use Rattle.wave_pick.proofs.Lists.{not_both}
+use Rattle.wave_pick.proofs.Orders.{accepted_reach, wide_reach}
+use Rattle.wave_pick.proofs.Resting.{same_reach, rests_on}
 use Rattle.wave_pick.proofs.RestingRows.{holds_by_row, writes_for_all_still, runs_still, rows_next}
 use Rattle.wave_pick.proofs.Waiting.{decided_stays}
-use Rattle.wave_pick.proofs.Witness.{deciding_in_row, row_witness_holds, row_witness_stays}
+use Rattle.wave_pick.proofs.Witness.{deciding_in_row, met_before, row_witness_holds, row_witness_stays}
 
--- The reach of a place that may run, by what reaches before it write.
-module _ (t : Trace) (window r k : ℕ) (run : is_taken_to_run t k (world_after t window r) (reaches_after t window r k) ≡ true) where
-  wide_reach : is_met (look_after t window r k).deciding (reaches_after t window r k) ≡ true → reach_after t window r k ≡ wide_after t window r k
-  wide_reach d = λ j. if run j then (if d j then wide_after t window r k else (if is_met (row_after t window r k) (reaches_after t window r k) then accepted_after t window r k else row_after t window r k)) else order_of t k
+-- A place that is decided, with the same look as in the first round.
+module _ (t : Trace) (spelled : IsSpelled t) (window r i k : ℕ) (waits : Waits t window r k) (decided : IsDecided t window r k) (h : WritesForAll t window r i k) (w : WritesRow t window r i k) where
+  record StaysDecided (p : ℕ) : Type 0 where
+    is_decided : IsDecided t window p k
+    same_look : look_after t window p k ≡ look_after t window r k
+    same_row : accepted_after t window p k ≡ accepted_after t window r k
 
-  accepted_reach : is_met (look_after t window r k).deciding (reaches_after t window r k) ≡ false → is_met (row_after t window r k) (reaches_after t window r k) ≡ true → reach_after t window r k ≡ accepted_after t window r k
-  accepted_reach d e = λ j. if run j then (if d j then wide_after t window r k else (if e j then accepted_after t window r k else row_after t window r k)) else order_of t k
+  row_written : (p : ℕ) → r ≤ p → StaysAsIs t window r p i → StaysDecided p → WritesRow t window p i k
+  row_written p le stays d = row_witness_stays t spelled window r p i k w.is_before stays.waits d.same_look (ap (λ f. is_met (row_after t window r k) (f ∷ [])) (same_reach t window r p i le stays) ∙ w.writes)
 
-module _ (t : Trace) (spelled : IsSpelled t) (window r i k : ℕ) (waits : Waits t window r k) (h : WritesForAll t window r i k) where
-  -- A place that is decided, with the same look as in the first round.
-  module _ (decided : IsDecided t window r k) (w : WritesRow t window r i k) where
-    record StaysDecided (p : ℕ) : Type 0 where
-      is_decided : IsDecided t window p k
-      same_look : look_after t window p k ≡ look_after t window r k
-      same_row : accepted_after t window p k ≡ accepted_after t window r k
+  accepted_now : (p : ℕ) → StaysDecided p → WritesRow t window p i k → reach_after t window p k ≡ accepted_after t window r k
+  accepted_now p d row = accepted_reach t k (world_after t window p) (reaches_after t window p k) d.is_decided.may_run d.is_decided.unmet
+      (row_witness_holds t window p i k row).0 ∙ d.same_row
 
-    row_written : (p : ℕ) → r ≤ p → StaysAsIs t window r p i → StaysDecided p → WritesRow t window p i k
-    row_written p le stays d = row_witness_stays t spelled window r p i k w.is_before stays.waits d.same_look (ap (λ f. is_met (row_after t window r k) (f ∷ [])) (same_reach t window r p i le stays) ∙ w.writes)
+  decided_here : StaysDecided r
+  decided_here = record { is_decided = decided; same_look = refl; same_row = refl }
 
-    accepted_now : (p : ℕ) → StaysDecided p → WritesRow t window p i k → reach_after t window p k ≡ accepted_after t window r k
-    accepted_now p d row = accepted_reach t window p k d.is_decided.may_run d.is_decided.unmet (row_witness_holds t window p i k row).0 ∙ d.same_row
+  decided_next : (p : ℕ) → r ≤ p → StaysAsIs t window r (suc p) i → Waits t window (suc p) k → StaysDecided p → StaysDecided (suc p)
+  decided_next p le stays later d =
+      let kept = decided_stays t spelled window p k later d.is_decided in
+      let runs = runs_still t spelled window r i k w.is_before h (suc p) (omega (arith, le)) stays later decided.may_run in
+      record {
+        is_decided = record { may_run = runs; unmet = kept.1 };
+        same_look = kept.0 ∙ d.same_look;
+        same_row = (rows_next t spelled window r i k w.is_before h p le stays later d.is_decided.may_run).accepted d.is_decided.unmet ∙ d.same_row;
+      }
 
-    decided_here : StaysDecided r
-    decided_here = record { is_decided = decided; same_look = refl; same_row = refl }
+  pub rests_decided : RestsOn t window r i k
+  rests_decided = rests_on t spelled window r i k StaysDecided (record {
+    waits = waits;
+    now = decided_here;
+    told = λ p le stays later d.
+        let row = row_written p le stays d in (
+          accepted_now p d row ∙ sym (accepted_now r decided_here w),
+          holds_by_row t window p i k d.is_decided.may_run (writes_for_all_still t spelled window r i k w.is_before h p le stays later) row,
+        );
+    next = decided_next;
+  })
 
-    decided_next : (p : ℕ) → r ≤ p → StaysAsIs t window r (suc p) i → Waits t window (suc p) k → StaysDecided p → StaysDecided (suc p)
-    decided_next p le stays later d =
-        let kept = decided_stays t spelled window p k later d.is_decided in
-        let runs = runs_still t spelled window r i k w.is_before h (suc p) (omega (arith, le)) stays later decided.may_run in
-        record {
-          is_decided = record { may_run = runs; unmet = kept.1 };
-          same_look = kept.0 ∙ d.same_look;
-          same_row = (rows_next t spelled window r i k w.is_before h p le stays later d.is_decided.may_run).accepted d.is_decided.unmet ∙ d.same_row;
-        }
+-- A place that may run, of which the same item is the first that the reach of the earlier one writes.
+module _ (t : Trace) (spelled : IsSpelled t) (window r i k : ℕ) (known rest : Footprint) (first : Use) (lt : i < k) (now : Waits t window r i) (waits : Waits t window r k)
+    (run : is_taken_to_run t k (world_after t window r) (reaches_after t window r k) ≡ true) (h : WritesForAll t window r i k)
+    (deciding : (look_after t window r k).deciding ≡ known ++ first ∷ rest) (unmet : is_met known (reaches_after t window r k) ≡ false)
+    (written : is_met (first ∷ []) (reach_after t window r i ∷ []) ≡ true) where
+  record StaysUndecided (p : ℕ) : Type 0 where
+    runs : is_taken_to_run t k (world_after t window p) (reaches_after t window p k) ≡ true
+    others : Footprint
+    begins : (look_after t window p k).deciding ≡ known ++ first ∷ others
+    unwritten : is_met known (reaches_after t window p k) ≡ false
+    same_row : wide_after t window p k ≡ wide_after t window r k
 
-    pub decided_rests : RestsOn t window r i k
-    decided_rests = rests_on t spelled window r i k StaysDecided (record {
-      waits = waits;
-      now = decided_here;
-      told = λ p le stays later d.
-          let row = row_written p le stays d in (
-            accepted_now p d row ∙ sym (accepted_now r decided_here w),
-            holds_by_row t window p i k d.is_decided.may_run (writes_for_all_still t spelled window r i k w.is_before h p le stays later) row,
-          );
-      next = decided_next;
-    })
+  deciding_written : (p : ℕ) → reach_after t window p i ≡ reach_after t window r i → StaysUndecided p → is_met (look_after t window p k).deciding (reach_after t window p i ∷ []) ≡ true
+  deciding_written p same d =
+      let writes : Use → Bool = λ (u : Use). written_by (reach_after t window p i ∷ []) u.item in
+      let here : is_met (first ∷ []) (reach_after t window p i ∷ []) ≡ true = ap (λ f. is_met (first ∷ []) (f ∷ [])) same ∙ written in
+      ap (λ f. is_met f (reach_after t window p i ∷ [])) d.begins ∙ true_of _ (in_right writes known (first ∷ d.others) (in_left writes (first ∷ []) d.others (holds_true _ here)))
 
-  -- A place that may run, of which the same item is the first that the reach of the earlier one writes.
-  module _ (known rest : Footprint) (first : Use) (lt : i < k) (now : Waits t window r i) (run : is_taken_to_run t k (world_after t window r) (reaches_after t window r k) ≡ true)
-      (deciding : (look_after t window r k).deciding ≡ known ++ first ∷ rest) (unmet : is_met known (reaches_after t window r k) ≡ false)
-      (written : is_met (first ∷ []) (reach_after t window r i ∷ []) ≡ true) where
-    record StaysUndecided (p : ℕ) : Type 0 where
-      runs : is_taken_to_run t k (world_after t window p) (reaches_after t window p k) ≡ true
-      others : Footprint
-      begins : (look_after t window p k).deciding ≡ known ++ first ∷ others
-      unwritten : is_met known (reaches_after t window p k) ≡ false
-      same_row : wide_after t window p k ≡ wide_after t window r k
+  wide_now : (p : ℕ) → Waits t window p i → reach_after t window p i ≡ reach_after t window r i → StaysUndecided p → reach_after t window p k ≡ wide_after t window r k
+  wide_now p yet same d = wide_reach t k (world_after t window p) (reaches_after t window p k) d.runs
+      (met_before t window p i k lt yet (look_after t window p k).deciding (deciding_written p same d)) ∙ d.same_row
 
-    deciding_written : (p : ℕ) → reach_after t window p i ≡ reach_after t window r i → StaysUndecided p → is_met (look_after t window p k).deciding (reach_after t window p i ∷ []) ≡ true
-    deciding_written p same d =
-        let writes : Use → Bool = λ (u : Use). written_by (reach_after t window p i ∷ []) u.item in
-        let here : is_met (first ∷ []) (reach_after t window p i ∷ []) ≡ true = ap (λ f. is_met (first ∷ []) (f ∷ [])) same ∙ written in
-        ap (λ f. is_met f (reach_after t window p i ∷ [])) d.begins ∙ true_of _ (in_right writes known (first ∷ d.others) (in_left writes (first ∷ []) d.others (holds_true _ here)))
+  undecided_here : StaysUndecided r
+  undecided_here = record { runs = run; others = rest; begins = deciding; unwritten = unmet; same_row = refl }
 
-    wide_now : (p : ℕ) → Waits t window p i → reach_after t window p i ≡ reach_after t window r i → StaysUndecided p → reach_after t window p k ≡ wide_after t window r k
-    wide_now p yet same d = wide_reach t window p k d.runs (met_before t window p i k lt yet (look_after t window p k).deciding (deciding_written p same d)) ∙ d.same_row
+  undecided_next : (p : ℕ) → r ≤ p → StaysAsIs t window r (suc p) i → Waits t window (suc p) k → StaysUndecided p → StaysUndecided (suc p)
+  undecided_next p le stays later d =
+      let kept = deciding_begins t spelled window p k known d.others first later d.runs d.begins d.unwritten in
+      record {
+        runs = runs_still t spelled window r i k lt h (suc p) (omega (arith, le)) stays later run;
+        others = kept.0.0;
+        begins = kept.0.1;
+        unwritten = kept.1;
+        same_row = (rows_next t spelled window r i k lt h p le stays later d.runs).wide ∙ d.same_row;
+      }
 
-    undecided_here : StaysUndecided r
-    undecided_here = record { runs = run; others = rest; begins = deciding; unwritten = unmet; same_row = refl }
-
-    undecided_next : (p : ℕ) → r ≤ p → StaysAsIs t window r (suc p) i → Waits t window (suc p) k → StaysUndecided p → StaysUndecided (suc p)
-    undecided_next p le stays later d =
-        let kept = deciding_begins t spelled window p k known d.others first later d.runs d.begins d.unwritten in
-        record {
-          runs = runs_still t spelled window r i k lt h (suc p) (omega (arith, le)) stays later run;
-          others = kept.0.0;
-          begins = kept.0.1;
-          unwritten = kept.1;
-          same_row = (rows_next t spelled window r i k lt h p le stays later d.runs).wide ∙ d.same_row;
-        }
-
-    pub undecided_rests : RestsOn t window r i k
-    undecided_rests = rests_on t spelled window r i k StaysUndecided (record {
-      waits = waits;
-      now = undecided_here;
-      told = λ p le stays later d.
-          let same = same_reach t window r p i le stays in (
-            wide_now p stays.waits same d ∙ sym (wide_now r now refl undecided_here),
-            holds_by_row t window p i k d.runs (writes_for_all_still t spelled window r i k lt h p le stays later) (deciding_in_row t window p i k lt stays.waits (deciding_written p same d)),
-          );
-      next = undecided_next;
-    })
-
-pub rests_decided : (t : Trace) → IsSpelled t → RestsDecided t
-rests_decided t spelled window r i k waits decided h w = decided_rests t spelled window r i k waits h decided w
-
-pub rests_undecided : (t : Trace) → IsSpelled t → RestsUndecided t
-rests_undecided t spelled window r i k known rest first lt now waits run h deciding unmet written =
-    undecided_rests t spelled window r i k waits h known rest first lt now run deciding unmet written
+  pub rests_undecided : RestsOn t window r i k
+  rests_undecided = rests_on t spelled window r i k StaysUndecided (record {
+    waits = waits;
+    now = undecided_here;
+    told = λ p le stays later d.
+        let same = same_reach t window r p i le stays in (
+          wide_now p stays.waits same d ∙ sym (wide_now r now refl undecided_here),
+          holds_by_row t window p i k d.runs (writes_for_all_still t spelled window r i k lt h p le stays later) (deciding_in_row t window p i k lt stays.waits (deciding_written p same d)),
+        );
+    next = undecided_next;
+  })
 
 pub rests_by_items : (t : Trace) → IsSpelled t → RestsByItems t
 rests_by_items t spelled window r i k f lt now waits wait h written = elim wait.by [
-  | inl d ↦ rests_undecided t spelled window r i k d.known d.rest d.first lt now waits wait.runs h d.all d.unwritten (first_met d)
+  | inl d ↦
+      let both : is_met (d.known ++ d.first ∷ []) (reach_after t window r i ∷ []) ≡ true = ap (λ g. is_met g (reach_after t window r i ∷ [])) (sym d.here) ∙ written in
+      let first : is_met (d.first ∷ []) (reach_after t window r i ∷ []) ≡ true = elim (split (λ (u : Use). written_by (reach_after t window r i ∷ []) u.item) d.known (d.first ∷ []) (holds_true _ both)) [
+        | inl m ↦ not_both (met_before t window r i k lt now d.known (true_of _ m)) d.unwritten
+        | inr m ↦ true_of _ m
+      ] in
+      rests_undecided t spelled window r i k d.known d.rest d.first lt now waits wait.runs h d.all d.unwritten first
   | inr d ↦ rests_decided t spelled window r i k waits (record { may_run = wait.runs; unmet = d.0 }) h (record { is_before = lt; waits = now; writes = ap (λ g. is_met g (reach_after t window r i ∷ [])) (sym d.1) ∙ written })
 ]
-  where
-    first_met : (d : IsFirstWritten (written_by (reaches_after t window r k)) (look_after t window r k).deciding f) → is_met (d.first ∷ []) (reach_after t window r i ∷ []) ≡ true
-    first_met d =
-        let both : is_met (d.known ++ d.first ∷ []) (reach_after t window r i ∷ []) ≡ true = ap (λ g. is_met g (reach_after t window r i ∷ [])) (sym d.here) ∙ written in
-        elim (split (λ (u : Use). written_by (reach_after t window r i ∷ []) u.item) d.known (d.first ∷ []) (holds_true _ both)) [
-          | inl m ↦ let wrong : true ≡ false = sym (met_before t window r i k lt now d.known (true_of _ m)) ∙ d.unwritten in (cc)
-          | inr m ↦ true_of _ m
-        ]

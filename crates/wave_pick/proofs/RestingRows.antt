@@ -1,7 +1,7 @@
 -- What a place keeps that rests on one whose reach writes for all: whether it may run, whether a descriptor is written, and its rows.
-use Rattle.std.proofs.Common.{◌≡◌, ℕ, suc, ◌<◌, ◌≤◌, Bool, true, false, if◌then◌else◌, List, [], ◌∷◌, ◌++◌, inl, inr, refl, sym, ap, subst, ◌∙◌, arith}
+use Rattle.std.proofs.Common.{◌≡◌, ℕ, suc, ◌<◌, ◌≤◌, true, false, if◌then◌else◌, List, [], ◌∷◌, ◌++◌, inl, inr, refl, sym, ap, subst, ◌∙◌, arith}
 use Rattle.std.specs.Prelude.{T, ◌&&◌, leb, Option, Some, None}
-use Rattle.std.proofs.lemmas.Bool.{cases_Bool}
+use Rattle.std.proofs.lemmas.Bool.{cases_Bool, cond-true, cond-false}
 use Rattle.trace_format.specs.declared.trace.Trace.{Trace}
 use Rattle.trace_format.specs.Steps.{places}
 use Rattle.trace_format.specs.Text.{IsSpelled}
@@ -11,9 +11,9 @@ use Rattle.world_parts.specs.World.{World}
 use Rattle.world_parts.specs.Items.{Atom, Item, chain_flag, one, all_descriptors, member_of, Use, Footprint, has_atom, collide}
 use Rattle.world_parts.proofs.Collision.{true_of, same_atom-eq, first_writes-collide, writes-has}
 use Rattle.world_parts.proofs.Sharing.{holds_true}
-use Rattle.op_meaning.specs.Step.{Turn, filled, refused, canceled, runs, turn}
+use Rattle.op_meaning.specs.Step.{Turn, turn}
 use Rattle.foot_print.specs.Outlook.{takes_lowest, turn_takes_lowest}
-use Rattle.foot_print.specs.Reach.{written_by, makes, room_taken, task, is_canceled, is_taken_to_run, extras_of, order_of}
+use Rattle.foot_print.specs.Reach.{written_by, room_taken, task, is_canceled, is_taken_to_run, extras_of, order_of}
 use Rattle.foot_print.specs.Replayed.{replayed}
 use Rattle.foot_print.proofs.Agreement.{in_left}
 use Rattle.foot_print.proofs.Holding.{drop_false}
@@ -23,20 +23,17 @@ use Rattle.wave_pick.specs.Lawful.{lawful}
 use Rattle.wave_pick.specs.Waiting.{WritesRow, ChainIsSettled, descriptors_wait, ReachRowsStay}
 use Rattle.wave_pick.specs.Holds.{Waits, world_after, footprint_after, reaches_after, reach_after, HoldsBack}
 use Rattle.wave_pick.specs.Resting.{StaysAsIs, WritesForAll}
+use Rattle.wave_pick.proofs.Lists.{not_both}
 use Rattle.wave_pick.proofs.Orders.{writes_chain}
-use Rattle.wave_pick.proofs.Resting.{written_before, stays_before, same_reach}
+use Rattle.wave_pick.proofs.Resting.{stays_before, same_reach}
 use Rattle.wave_pick.proofs.Staying.{waited, keeps_round}
 use Rattle.wave_pick.proofs.Waiting.{until, turn_stays, look_next}
-use Rattle.wave_pick.proofs.Wide.{wide_stays, unresolved_in_world}
-use Rattle.wave_pick.proofs.Witness.{row_witness_holds}
-
-runs_unless : (b : Bool) → (if b then false else true) ≡ true → b ≡ false
-runs_unless true h = (cc)
-runs_unless false h = refl
+use Rattle.wave_pick.proofs.Wide.{extras_same, wide_stays, unresolved_in_world}
+use Rattle.wave_pick.proofs.Witness.{row_witness_holds, written_before}
 
 -- Where no reach before it writes its chain's flag, a place may run unless it is canceled.
 settled_runs : (t : Trace) (window r k : ℕ) → ChainIsSettled t window r k → is_taken_to_run t k (world_after t window r) (reaches_after t window r k) ≡ (if is_canceled (turn t k (world_after t window r)) then false else true)
-settled_runs t window r k e = λ j. if e j then true else (if is_canceled (turn t k (world_after t window r)) then false else true)
+settled_runs t window r k e = cond-false _ _ _ e
 
 -- A place whose reach writes the row of a later one holds that one back where its reach writes the flag of that one's chain, or nothing before that one does and it may run.
 module _ (t : Trace) (window r i k : ℕ) where
@@ -50,33 +47,30 @@ module _ (t : Trace) (window r i k : ℕ) where
       true_of _ (first_writes-collide (footprint_after t window r k) (reach_after t window r i) flag (in_left (λ (u : Use). u.written && member_of u.item flag) (order_of t k) _ (writes_chain t k two)) there)
 
   pub holds_by_row : is_taken_to_run t k (world_after t window r) (reaches_after t window r k) ≡ true → WritesForAll t window r i k → WritesRow t window r i k → HoldsBack t window r i k
-  holds_by_row run h w = elim h.chain [
-    | inl settled ↦ (row_witness_holds t window r i k w).1 (runs_unless (is_canceled (turn t k (world_after t window r))) (sym (settled_runs t window r k settled) ∙ run))
-    | inr writes ↦ elim (cases_Bool (is_canceled (turn t k (world_after t window r)))) [
-      | inl off ↦ record { is_before = w.is_before; waits = w.waits; collides = flag_collides writes (canceled_linked t k (world_after t window r) [] off) }
-      | inr on ↦ (row_witness_holds t window r i k w).1 on
+  holds_by_row run h w = elim (cases_Bool (is_canceled (turn t k (world_after t window r)))) [
+    | inl off ↦ elim h.chain [
+      | inl settled ↦ not_both run (settled_runs t window r k settled ∙ cond-true _ _ _ off)
+      | inr writes ↦ record { is_before = w.is_before; waits = w.waits; collides = flag_collides writes (canceled_linked t k (world_after t window r) [] off) }
     ]
+    | inr on ↦ (row_witness_holds t window r i k w).1 on
   ]
 
 -- Where a turn doesn't take the lowest free descriptor, what it may make and its room are told by neither world nor reaches.
 same_extras : (t : Trace) (k : ℕ) (s u : World) (earlier later : List Footprint) (x : Option Turn) → turn_takes_lowest x ≡ false → extras_of t k u later x ≡ extras_of t k s earlier x
-same_extras t k s u earlier later None e = refl
-same_extras t k s u earlier later (Some (filled r b at new)) e = refl
-same_extras t k s u earlier later (Some (refused x p)) e = refl
-same_extras t k s u earlier later (Some (canceled p)) e = refl
-same_extras t k s u earlier later (Some (runs r x o)) e = ap (λ f. makes t k o ++ f) (room o e)
+same_extras t k s u earlier later x e = extras_same t k s u earlier later x (λ r y o is. room r o (ap turn_takes_lowest (sym is) ∙ e))
   where
-    room : (o : Operation) → takes_lowest o ≡ false → room_taken t u r later o ≡ room_taken t s r earlier o
-    room (openat p g None) h = absurd (cc h)
-    room (openat p g (Some n)) h = refl
-    room _ h = refl
+    room : (r : ℕ) (o : Operation) → takes_lowest o ≡ false → room_taken t u r later o ≡ room_taken t s r earlier o
+    room r (openat p g None) h = absurd (cc h)
+    room r (openat p g (Some n)) h = refl
+    room r _ h = refl
 
 module _ (t : Trace) (spelled : IsSpelled t) (window : ℕ) where
   -- Where no reach before a place writes a descriptor, none does while it waits.
   unwritten_stays : (r q k : ℕ) → r ≤ q → Waits t window q k → descriptors_wait t window r k ≡ false → descriptors_wait t window q k ≡ false
   unwritten_stays r q k le waits e =
-      until t spelled window k (λ n. descriptors_wait t window n k ≡ false) (λ n later h.
-      keeps_round (replayed t) (lawful t spelled) (places t) window n k later (λ rs. written_by rs all_descriptors ≡ false) (λ rs less m d. is_false _ (λ w. not_false _ d (written_thin t all_descriptors less rs m w))) h) r q le waits e
+      until t spelled window k (λ n. descriptors_wait t window n k ≡ false) r (λ n _ later h.
+      keeps_round (replayed t) (lawful t spelled) (places t) window n k later (λ rs. written_by rs all_descriptors ≡ false)
+      (λ rs less m d. is_false _ (λ w. not_false _ d (written_thin t all_descriptors less rs m w))) h) q le waits e
 
   module _ (r i k : ℕ) (lt : i < k) (h : WritesForAll t window r i k) where
     module _ (p : ℕ) (le : r ≤ p) (stays : StaysAsIs t window r p i) (waits : Waits t window p k) where
@@ -101,8 +95,8 @@ module _ (t : Trace) (spelled : IsSpelled t) (window : ℕ) where
             let kept = turn_stays t spelled window r p k le waits settled in
             settled_runs t window p k kept.1 ∙ ap (λ (x : Option Turn). if is_canceled x then false else true) kept.0 ∙ sym (settled_runs t window r k settled) ∙ run
         | inr w ↦
-            let e = written_before t window p i k lt stays.waits (one (chain_flag (role t k).chain)) (writes_still (one (chain_flag (role t k).chain)) w) in
-            λ j. if e j then true else (if is_canceled (turn t k (world_after t window p)) then false else true)
+            cond-true _ _ _ (written_before t window p i k lt stays.waits (one (chain_flag (role t k).chain))
+            (writes_still (one (chain_flag (role t k).chain)) w))
       ]
 
       descriptors_now : written_by (reach_after t window r i ∷ []) all_descriptors ≡ true → descriptors_wait t window p k ≡ true

@@ -1,7 +1,7 @@
 -- With the same look, the rows of a place in two worlds have the same items, but for what it makes.
 use Rattle.std.specs.Prelude.{◌≡◌, ℕ, Bool, true, false, cond, not, ◌+◌, T, List, [], ◌∷◌, ◌++◌, Option, Some, None, Result, Ok, Err, is_ok, refl}
-use Rattle.std.proofs.Common.{◌⊎◌, inl, inr}
-use mathlib.Core.Path.{sym, subst, ap}
+use Rattle.std.proofs.lemmas.Bool.{true≢false, true_from_ne_false}
+use Rattle.std.proofs.Common.{inl, inr, sym, subst, ap}
 use Rattle.sqe_codec.specs.declared.errno.Errno.{Errno}
 use Rattle.sqe_codec.specs.Answers.{each, each_ok}
 use Rattle.trace_format.specs.declared.trace.Trace.{Trace}
@@ -11,9 +11,9 @@ use Rattle.file_tree.specs.Walk.{Place, walk}
 use Rattle.world_parts.specs.World.{World}
 use Rattle.world_parts.specs.Items.{Atom, descriptor_at, description_at, size_of, names_in, one, all_descriptors, member_of, Use, reads, writes, Footprint, has_atom}
 use Rattle.world_parts.proofs.Collision.{either_left, same_atom-eq}
-use Rattle.op_meaning.specs.Meaning.{meaning, made_node, Handle, held, handle_of, is_file, allocation, Allocation, extend, reserve, punch, zero_extend, zero_within, lowest_free}
+use Rattle.op_meaning.specs.Meaning.{meaning, made_node, Handle, held, handle_of, is_file, allocation, Allocation, extend, lowest_free}
 use Rattle.op_meaning.specs.Footprint.{Shape, idle, looking, moving, allocating, resizing, closing, opening, making, freeing, linking, renaming, shape, tried, foreseen, transfer_row, shape_row, as_reads, would_extend, of_file, of_description, on_file, file_reads, position_use, span_use, write_row, allocation_uses, path_reads, name_written, made_where, room_uses, description_made, open_uses, row, row_in, turn_uses, write_content}
-use Rattle.op_meaning.specs.Step.{Turn, filled, refused, canceled, runs}
+use Rattle.op_meaning.specs.Step.{Turn, filled, runs}
 use Rattle.foot_print.specs.Reach.{shape_asked, room_asked, room_at, written_by, is_met, taken, makes, room_taken, Look, look_of, task, order_of, running_row}
 use Rattle.foot_print.proofs.Agreement.{in_left, in_right, has_atom-as_reads}
 use Rattle.foot_print.proofs.Holding.{split, drop_false}
@@ -71,11 +71,7 @@ module _ (t : Trace) (k r : ℕ) (s : World) where
 
   allocation_has : (b : Bool) (i at end : ℕ) (x : Option Allocation) → Has (allocation_uses b i at end x) (allocation_uses true i at end x)
   allocation_has b i at end (Some extend) = record { has = λ a m. m }
-  allocation_has b i at end (Some reserve) = has_self _
-  allocation_has b i at end (Some punch) = has_self _
-  allocation_has b i at end (Some zero_extend) = record { has = λ a m. m }
-  allocation_has b i at end (Some zero_within) = has_self _
-  allocation_has b i at end None = has_self _
+  allocation_has b i at end _ = record { has = λ a m. m }
 
   room_has : (asked : Option ℕ) → Has (room_uses t s r asked) (room_at t s r (written_by []) asked)
   room_has None = has_self (room_uses t s r None)
@@ -123,16 +119,16 @@ module _ (t : Trace) (k r : ℕ) (s : World) where
   shape_has b (linking old new) = only (linking old new) _ (has_self _)
   shape_has b (renaming old new) = only (renaming old new) _ (has_self _)
 
-  row_has : (b : Bool) (o : Operation) → Has (row t k r s (tried b) o) (accepted_items o)
-  row_has b o = shape_has b (shape o)
-
   in_row : (b : Bool) (f : Footprint) → Has (cond b f (as_reads f)) f
   in_row true f = has_self f
   in_row false f = record { has = has_atom-as_reads f }
 
   -- The row of an operation in a world has them.
   row_in_has : (o : Operation) → Has (row_in t k r s o) (accepted_items o)
-  row_in_has o = record { has = λ a h. (in_row (is_ok (meaning t k r s o)) (row t k r s (tried (is_ok (meaning t k r s o))) o)).has a ((row_has (is_ok (meaning t k r s o)) o).has a h) }
+  row_in_has o = record {
+    has = λ a h. (in_row (is_ok (meaning t k r s o)) (row t k r s (tried (is_ok (meaning t k r s o))) o)).has a
+        ((shape_has (is_ok (meaning t k r s o)) (shape o)).has a h);
+  }
 
 module _ (t : Trace) (k : ℕ) (s u : World) where
   any_room : (x : Option ℕ) (a : Atom) → T (has_atom (reads all_descriptors ∷ each (λ n. writes (one (descriptor_at n)) ∷ []) x) a) → T (member_of all_descriptors a)
@@ -165,11 +161,9 @@ module _ (t : Trace) (k : ℕ) (s u : World) where
           ]
 
   turn_items : (x : Option Turn) → look_of t k u x ≡ look_of t k s x → Has (made_of t k x ++ each (turn_uses t k u) x) (each (turn_uses t k s) x)
-  turn_items None same = has_nothing _
   turn_items (Some (filled r b at new)) same = has_self _
-  turn_items (Some (refused e p)) same = has_nothing _
-  turn_items (Some (canceled p)) same = has_nothing _
   turn_items (Some (runs r e o)) same = operation_items r o (ap (λ (l : Look). l.items) same)
+  turn_items _ same = has_nothing _
 
   abbrev made : Footprint
   made = made_of t k (task t k)
@@ -178,11 +172,13 @@ module _ (t : Trace) (k : ℕ) (s u : World) where
   row_items same =
       has_all (made ++ running_row t k u) (order_of t k) (each (turn_uses t k s) (task t k))
       (has_second made (running_row t k u) _ (has_first (order_of t k) _ _ (has_self _)))
-      (record { has = λ a h. behind a (split (λ (v : Use). member_of v.item a) made (each (turn_uses t k u) (task t k)) ((turn_items (task t k) same).has a h)) })
-    where
-      behind : (a : Atom) → T (has_atom made a) ⊎ T (has_atom (each (turn_uses t k u) (task t k)) a) → T (has_atom (made ++ running_row t k u) a)
-      behind a (inl m) = in_left (λ (v : Use). member_of v.item a) made (running_row t k u) m
-      behind a (inr m) = in_right (λ (v : Use). member_of v.item a) made (running_row t k u) (in_right (λ (v : Use). member_of v.item a) (order_of t k) (each (turn_uses t k u) (task t k)) m)
+      (record {
+        has = λ a h. elim (split (λ (v : Use). member_of v.item a) made (each (turn_uses t k u) (task t k)) ((turn_items (task t k) same).has a h)) [
+          | inl m ↦ in_left (λ (v : Use). member_of v.item a) made (running_row t k u) m
+          | inr m ↦ in_right (λ (v : Use). member_of v.item a) made (running_row t k u)
+              (in_right (λ (v : Use). member_of v.item a) (order_of t k) (each (turn_uses t k u) (task t k)) m)
+        ];
+      })
 
   -- So a row that meets nothing in one world meets nothing in the other.
   unmet_row : (earlier : List Footprint) → look_of t k u (task t k) ≡ look_of t k s (task t k) → is_met (made_of t k (task t k)) earlier ≡ false → is_met (running_row t k u) earlier ≡ false → is_met (running_row t k s) earlier ≡ false
@@ -190,10 +186,8 @@ module _ (t : Trace) (k : ℕ) (s u : World) where
       (is_false _ (λ h. elim (split (λ (v : Use). written_by earlier v.item) (made_of t k (task t k)) (running_row t k u) h) [ inl m ↦ not_false _ made m | inr m ↦ not_false _ free m ]))
 
 same_by_false : (a b : Bool) → (a ≡ false → b ≡ false) → (b ≡ false → a ≡ false) → a ≡ b
-same_by_false true true f g = refl
-same_by_false false false f g = refl
-same_by_false true false f g = g refl
-same_by_false false true f g = sym (f refl)
+same_by_false true b f g = sym (true_from_ne_false b (λ e. true≢false (g e)))
+same_by_false false b f g = sym (f refl)
 
 pub rows_meet_the_same : (t : Trace) → RowItems t
 rows_meet_the_same t k s u earlier same made = same_by_false _ _ (unmet_row t k s u earlier same made) (unmet_row t k u s earlier (sym same) made)

@@ -1,23 +1,22 @@
 -- What is seen of a place behind others, and on which of them it rests.
-use Rattle.std.specs.Prelude.{◌≡◌, ℕ, zero, suc, ◌<◌, Bool, true, false, not, ◌&&◌, ◌||◌, T, List, [], ◌∷◌, ◌++◌, map, reverse, slice_get, Option, Some, None, IfSome, refl, if◌then◌else◌}
+use Rattle.std.specs.Prelude.{◌≡◌, ℕ, zero, suc, ◌<◌, Bool, true, false, not, ◌&&◌, T, List, [], ◌∷◌, map, reverse, slice_get, Option, Some, None, IfSome, refl, if◌then◌else◌}
 use Rattle.std.specs.Borrow.{Bor}
 use Rattle.std.specs.List.{list_any}
 use Rattle.std.proofs.Common.{◌⊎◌, inl, inr, sym, ap, subst, ◌∙◌}
 use mathlib.Core.Path.{fun_ext}
 use Rattle.std.proofs.lemmas.Bool.{cases_Bool}
 use Rattle.std.proofs.lemmas.List.{map-append, reverse-append}
-use Rattle.std.proofs.lemmas.Option.{slice_get-map}
+use Rattle.std.proofs.lemmas.Option.{none-some, same_Some, slice_get-map}
 use Rattle.std.specs.Option.{option_map}
-use Rattle.interleaving.proofs.Skipping.{reaches-out, reaches-in}
 use Rattle.std.proofs.lemmas.List.Sorted.{list_any-IsPermutation, IsPermutation-reverse}
 use Rattle.interleaving.specs.System.{is_clear}
 use Rattle.interleaving.specs.Machine.{has}
 use Rattle.interleaving.specs.Rounds.{pending}
-use Rattle.interleaving.proofs.Members.{has-here, has-later, has-pending, pending-out, pending-in}
+use Rattle.interleaving.proofs.Members.{has-here, has-later, has-pending}
 use Rattle.trace_format.specs.declared.trace.Trace.{Trace}
 use Rattle.trace_format.specs.Text.{IsSpelled}
 use Rattle.chain_plan.specs.Chain.{role}
-use Rattle.world_parts.specs.Items.{Item, Use, chain_flag, one, all_descriptors, share, Footprint, collide}
+use Rattle.world_parts.specs.Items.{Item, Use, chain_flag, one, all_descriptors, Footprint, collide}
 use Rattle.world_parts.proofs.Collision.{any_passes, left, right, either_left, true_of}
 use Rattle.world_parts.proofs.Sharing.{holds_true}
 use Rattle.item_index.specs.Touching.{touched_by, touches_item, written_by, writes_item}
@@ -35,7 +34,7 @@ use Rattle.wave_pick.specs.Scheduling.{AreBefore, IsBehind, IsView, RestsOnOne}
 use Rattle.wave_pick.specs.declared.scheduler.Scheduler.{Scheduler}
 use Rattle.wave_pick.specs.Holds.{Waits, world_after, footprint_after, reaches_after, reach_after}
 use Rattle.wave_pick.specs.declared.scheduler.Ground.TheVariants.{Collides}
-use Rattle.wave_pick.proofs.Clear.{clear_is, meets_all}
+use Rattle.wave_pick.proofs.Clear.{clear_is, met_all}
 use Rattle.wave_pick.proofs.Resting.{rests_unmet}
 use Rattle.wave_pick.proofs.RestingItems.{rests_by_items}
 
@@ -45,41 +44,26 @@ has-got [] (suc y) i e = (cc)
 has-got (x ∷ xs) zero i e = let same : x ≡ i = cc in ap (λ j. has (j ∷ xs) i) same ∙ has-here i xs
 has-got (x ∷ xs) (suc y) i e = has-later i x xs (has-got xs y i e)
 
--- The reaches of the places that wait, in order and turned round.
-module _ (t : Trace) (window q : ℕ) where
-  abbrev done : ℕ → Bool
-  done = has (state_after t window q).finished
-
-  abbrev turned : List ℕ → List Footprint
-  turned ks = reverse (map (reach_after t window q) ks)
-
-  turned_next : (n : ℕ) → (done n ≡ true) ⊎ (done n ≡ false) → turned (pending done n) ≡ reaches_after t window q n → turned (pending done (suc n)) ≡ reaches_after t window q (suc n)
-  turned_next n (inl e) before = ap turned (pending-out done n e) ∙ before ∙ sym (reaches-out (replayed t) done (world_after t window q) n e)
-  turned_next n (inr e) before =
-      ap turned (pending-in done n e)
-      ∙ ap reverse (map-append (reach_after t window q) (pending done n) (n ∷ []))
-      ∙ reverse-append (map (reach_after t window q) (pending done n)) (reach_after t window q n ∷ [])
-      ∙ ap (λ gs. reach_after t window q n ∷ gs) before
-      ∙ sym (reaches-in (replayed t) done (world_after t window q) n e)
-
+-- The reaches of the places that wait, in order, are those that the machine has, turned round.
 pub reaches_turned : (t : Trace) (window q n : ℕ) → reverse (map (reach_after t window q) (pending (has (state_after t window q).finished) n)) ≡ reaches_after t window q n
 reaches_turned t window q zero = refl
-reaches_turned t window q (suc n) = turned_next t window q n (cases_Bool (has (state_after t window q).finished n)) (reaches_turned t window q n)
+reaches_turned t window q (suc n) =
+    let earlier : List ℕ = pending (has (state_after t window q).finished) n in
+    let before = reaches_turned t window q n in
+    elim (cases_Bool (has (state_after t window q).finished n)) [
+      | inl out ↦ rw out before
+      | inr yet ↦ rw (
+        yet,
+        map-append (reach_after t window q) earlier (n ∷ []),
+        reverse-append (map (reach_after t window q) earlier)
+            (reach_after t window q n ∷ []),
+      )
+          (ap (λ gs. reach_after t window q n ∷ gs) before)
+    ]
 
 -- A footprint that some reach writes isn't clear of them.
-module _ (t : Trace) (f : Footprint) (rs : List Footprint) where
-  written_touched : (x : Item) → T (written_by rs x) → T (touched_by rs x)
-  written_touched x w = any_passes (λ g. writes_item g x) (λ g. touches_item g x)
-      (λ g m. any_passes (λ (u : Use). u.written && share u.item x) (λ (u : Use). share u.item x) (λ u n. right u.written (share u.item x) n) g m) rs w
-
-  met_all : T (is_met f rs) → T (meets_all f rs)
-  met_all m = any_passes (λ (u : Use). written_by rs u.item) (λ (u : Use). if u.written then touched_by rs u.item else written_by rs u.item) at f m
-    where
-      at : (u : Use) → T (written_by rs u.item) → T (if u.written then touched_by rs u.item else written_by rs u.item)
-      at u w = elim u.written as (λ b. T (if b then touched_by rs u.item else written_by rs u.item)) [ true ↦ written_touched u.item w | false ↦ w ]
-
-  pub met_not_clear : is_met f rs ≡ true → false ≡ is_clear (replayed t) f rs
-  met_not_clear e = ap not (sym (true_of _ (met_all (holds_true _ e)))) ∙ clear_is t f rs
+pub met_not_clear : (t : Trace) (f : Footprint) (rs : List Footprint) → is_met f rs ≡ true → false ≡ is_clear (replayed t) f rs
+met_not_clear t f rs e = ap not (sym (met_all f rs e)) ∙ clear_is t f rs
 
 module _ (t : Trace) (spelled : IsSpelled t) (window q k : ℕ) (earlier : List ℕ) (s : Scheduler) (b : AreBefore t window q k earlier s) where
   abbrev rs : List Footprint
@@ -91,26 +75,26 @@ module _ (t : Trace) (spelled : IsSpelled t) (window q k : ℕ) (earlier : List 
   latest_first : reverse reaches ≡ rs
   latest_first = ap (λ ks. reverse (map (reach_after t window q) ks)) b.places_are ∙ reaches_turned t window q k
 
+  any_same : (does : Footprint → Bool) → list_any does reaches ≡ list_any does rs
+  any_same does = list_any-IsPermutation does reaches (reverse reaches) (IsPermutation-reverse reaches) ∙ ap (list_any does) latest_first
+
   pub written_same : (x : Item) → written_by reaches x ≡ written_by rs x
-  written_same x = list_any-IsPermutation (λ g. writes_item g x) reaches (reverse reaches) (IsPermutation-reverse reaches) ∙ ap (λ gs. written_by gs x) latest_first
+  written_same x = any_same (λ g. writes_item g x)
 
   pub touched_same : (x : Item) → touched_by reaches x ≡ touched_by rs x
-  touched_same x = list_any-IsPermutation (λ g. touches_item g x) reaches (reverse reaches) (IsPermutation-reverse reaches) ∙ ap (λ gs. touched_by gs x) latest_first
+  touched_same x = any_same (λ g. touches_item g x)
 
   abbrev in_table : Footprint → Option (Option Footprint)
   in_table f = Some (Some f)
 
   each : (y i : ℕ) (g : Footprint) → slice_get earlier y ≡ Some i → slice_get s.reaches.items i ≡ Some (Some g) → g ≡ reach_after t window q i
-  each y i g at here = some-same (
+  each y i g at here = same_Some _ _ (same_Some _ _ (same_Some _ _ (
       ap (λ (x : Option (Option Footprint)). Some x) (sym here)
       ∙ sym (ap (option_map (slice_get s.reaches.items)) at)
       ∙ sym (slice_get-map (slice_get s.reaches.items) earlier y)
       ∙ ap (λ xs. slice_get xs y) b.reaches_are
       ∙ slice_get-map in_table reaches y
-      ∙ ap (option_map in_table) (slice_get-map (reach_after t window q) earlier y ∙ ap (option_map (reach_after t window q)) at))
-    where
-      some-same : {f h : Footprint} → ◌≡◌ {A = Option (Option (Option Footprint))} (Some (Some (Some f))) (Some (Some (Some h))) → f ≡ h
-      some-same e = cc
+      ∙ ap (option_map in_table) (slice_get-map (reach_after t window q) earlier y ∙ ap (option_map (reach_after t window q)) at))))
 
   place_before : (y i : ℕ) → slice_get earlier y ≡ Some i → (i < k) × Waits t window q i
   place_before y i e = has-pending (has (state_after t window q).finished) k i (ap (λ ks. has ks i) (sym b.places_are) ∙ has-got earlier y i e)
@@ -138,27 +122,28 @@ module _ (t : Trace) (spelled : IsSpelled t) (window q k : ℕ) (earlier : List 
     by_writing = fun_ext same
 
     waits : (items : Footprint) → items_awaited o.waits_by o.reach ≡ Some items → WaitsBy t k (world_after t window q) (written_by rs) items
-    waits items e = subst (λ v. WaitsBy t k (world_after t window q) v items) by_writing (subst (λ x. Rattle.std.specs.Prelude.IfSome x (λ f. WaitsBy t k (world_after t window q) w f)) e is.by)
+    waits items e = subst (λ v. WaitsBy t k (world_after t window q) v items) by_writing
+        (subst (λ x. IfSome x (λ f. WaitsBy t k (world_after t window q) w f)) e is.by)
 
     one_writes : (g : Footprint) (x : Item) → T (writes_item g x) → written_by (g ∷ []) x ≡ true
     one_writes g x h = true_of _ (either_left (writes_item g x) false h)
 
     for_chain : (g : Footprint) → T (writes_chain g (if w (flag chain) then Some chain else None)) → (written_by rs (flag (role t k).chain) ≡ false) ⊎ (written_by (g ∷ []) (flag (role t k).chain) ≡ true)
-    for_chain g h = go (cases_Bool (w (flag chain)))
-      where
-        go : (w (flag chain) ≡ true) ⊎ (w (flag chain) ≡ false) → (written_by rs (flag (role t k).chain) ≡ false) ⊎ (written_by (g ∷ []) (flag (role t k).chain) ≡ true)
-        go (inl e) = inr (subst (λ c. written_by (g ∷ []) (flag c) ≡ true) of_role (one_writes g (flag chain) (subst (λ v. T (writes_chain g (if v then Some chain else None))) e h)))
-        go (inr e) = inl (subst (λ c. written_by rs (flag c) ≡ false) of_role (sym (same (flag chain)) ∙ e))
+    for_chain g h = elim (cases_Bool (w (flag chain))) [
+      | inl e ↦ inr (subst (λ c. written_by (g ∷ []) (flag c) ≡ true) of_role
+          (one_writes g (flag chain) (subst (λ v. T (writes_chain g (if v then Some chain else None))) e h)))
+      | inr e ↦ inl (subst (λ c. written_by rs (flag c) ≡ false) of_role (sym (same (flag chain)) ∙ e))
+    ]
 
     for_descriptors : (g : Footprint) → T (if o.takes_lowest && w all_descriptors then writes_item g all_descriptors else true)
         → (turn_takes_lowest (task t k) ≡ false) ⊎ ((written_by rs all_descriptors ≡ false) ⊎ (written_by (g ∷ []) all_descriptors ≡ true))
-    for_descriptors g h = go (cases_Bool o.takes_lowest) (cases_Bool (w all_descriptors))
-      where
-        go : (o.takes_lowest ≡ true) ⊎ (o.takes_lowest ≡ false) → (w all_descriptors ≡ true) ⊎ (w all_descriptors ≡ false)
-            → (turn_takes_lowest (task t k) ≡ false) ⊎ ((written_by rs all_descriptors ≡ false) ⊎ (written_by (g ∷ []) all_descriptors ≡ true))
-        go (inr e) d = inl (sym is.lowest ∙ e)
-        go (inl e) (inr d) = inr (inl (sym (same all_descriptors) ∙ d))
-        go (inl e) (inl d) = inr (inr (one_writes g all_descriptors (subst (λ v. T (if v then writes_item g all_descriptors else true)) (λ j. e j && d j) h)))
+    for_descriptors g h = elim (cases_Bool o.takes_lowest) [
+      | inl e ↦ inr (elim (cases_Bool (w all_descriptors)) [
+        | inl d ↦ inr (one_writes g all_descriptors (subst (λ v. T (if v then writes_item g all_descriptors else true)) (λ j. e j && d j) h))
+        | inr d ↦ inl (sym (same all_descriptors) ∙ d)
+      ])
+      | inr e ↦ inl (sym is.lowest ∙ e)
+    ]
 
     pub items_rest : (i : ℕ) → RestsOnGround o chain w earlier s.reaches.items i → RestsOnOne t window q i k
     items_rest i r =
@@ -225,9 +210,6 @@ module _ (t : Trace) (spelled : IsSpelled t) (window q k : ℕ) (earlier : List 
       → IsView t window q k (record { reach = f; on = None; free = true })
   seen_free m c = record {
     reach = reach_so m;
-    rests = λ i e. none-some i e;
+    rests = λ i e. absurd (none-some i e);
     free = ap not c ∙ clear_so;
   }
-    where
-      none-some : {Y : Type 0} (i : ℕ) → ◌≡◌ {A = Option ℕ} None (Some i) → Y
-      none-some i e = (cc)

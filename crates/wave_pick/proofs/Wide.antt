@@ -1,10 +1,10 @@
 -- The wide row of a waiting place, and its row as accepted, stay from round to round.
 use Rattle.std.specs.Prelude.{◌≡◌, ℕ, suc, Bool, true, false, T, List, [], ◌∷◌, ◌++◌, Option, Some, None, refl, if◌then◌else◌}
-use mathlib.Core.Path.{sym, ap, ◌∙◌}
 use Rattle.std.proofs.lemmas.Bool.{cases_Bool}
-use Rattle.std.proofs.Common.{◌⊎◌, inl, inr}
+use Rattle.std.proofs.Common.{inl, inr, sym, ap, ◌∙◌}
 use Rattle.interleaving.specs.System.{AgreeOn, NoneWrites}
 use Rattle.trace_format.specs.declared.trace.Trace.{Trace}
+use Rattle.trace_format.specs.declared.entry.Entry.{Entry}
 use Rattle.trace_format.specs.Steps.{places}
 use Rattle.trace_format.specs.Text.{IsSpelled}
 use Rattle.entry_checks.specs.Operation.{Operation, openat}
@@ -13,8 +13,8 @@ use Rattle.world_parts.specs.Items.{Atom, descriptor_at, value, all_descriptors,
 use Rattle.world_parts.proofs.Collision.{true_of}
 use Rattle.world_parts.proofs.Sharing.{holds_true}
 use Rattle.op_meaning.specs.Footprint.{room_uses}
-use Rattle.op_meaning.specs.Step.{Turn, filled, refused, canceled, runs}
-use Rattle.foot_print.specs.Reach.{written_by, is_met, makes, room_taken, task, look_of, extras_of, unresolved_of, order_of, running_row, accepted_row, wide_row}
+use Rattle.op_meaning.specs.Step.{Turn, runs}
+use Rattle.foot_print.specs.Reach.{written_by, is_met, is_taken_to_run, makes, room_taken, task, look_of, extras_of, unresolved_of, order_of, running_row, accepted_row, wide_row}
 use Rattle.foot_print.specs.Replayed.{replayed}
 use Rattle.foot_print.proofs.Agreement.{in_right}
 use Rattle.foot_print.proofs.Cover.{all_covered}
@@ -22,54 +22,55 @@ use Rattle.foot_print.proofs.Lawful.{row_laws}
 use Rattle.foot_print.proofs.RowsSeen.{room_same}
 use Rattle.foot_print.proofs.Writing.{unwritten}
 use Rattle.wave_pick.specs.Lawful.{lawful}
-use Rattle.wave_pick.specs.Waiting.{look_after, descriptors_wait, ReachRowsStay, WideStays}
+use Rattle.wave_pick.specs.Waiting.{look_after, descriptors_wait, ReachRowsStay}
 use Rattle.wave_pick.specs.Holds.{Waits, world_after, reaches_after, reach_after}
+use Rattle.wave_pick.proofs.Orders.{accepted_reach, wide_reach}
 use Rattle.wave_pick.proofs.Staying.{keeps_value}
-use Rattle.wave_pick.proofs.Waiting.{value_stays, row_in_reach, reach_of_decided, look_next}
+use Rattle.wave_pick.proofs.Waiting.{value_stays, row_in_reach, look_next}
 
 module _ (t : Trace) (k : ℕ) where
-  -- What a turn may make and its room are told by whether a reach before it writes a descriptor, and by the descriptors.
+  -- What a turn may make and its room are the same where the room is of what it runs.
+  pub extras_same : (s u : World) (earlier later : List Footprint) (x : Option Turn)
+      → ((r : ℕ) (e : Entry) (o : Operation) → x ≡ Some (runs r e o) → room_taken t u r later o ≡ room_taken t s r earlier o)
+      → extras_of t k u later x ≡ extras_of t k s earlier x
+  extras_same s u earlier later (Some (runs r e o)) room = ap (λ f. makes t k o ++ f) (room r e o refl)
+  extras_same s u earlier later _ room = refl
+
+  -- The room is told by whether a reach before the place writes a descriptor, and by the descriptors.
   extras_by_writing : (s : World) (earlier others : List Footprint) → written_by earlier all_descriptors ≡ written_by others all_descriptors → (x : Option Turn) → extras_of t k s earlier x ≡ extras_of t k s others x
-  extras_by_writing s earlier others same None = refl
-  extras_by_writing s earlier others same (Some (filled r b at new)) = refl
-  extras_by_writing s earlier others same (Some (refused e p)) = refl
-  extras_by_writing s earlier others same (Some (canceled p)) = refl
-  extras_by_writing s earlier others same (Some (runs r e o)) = ap (λ f. makes t k o ++ f) (room o)
+  extras_by_writing s earlier others same x = extras_same s s others earlier x (λ r e o _. room r o)
     where
-      room : (o : Operation) → room_taken t s r earlier o ≡ room_taken t s r others o
-      room (openat p g None) = ap (λ b. if b then writes all_descriptors ∷ [] else room_uses t s r None) same
-      room (openat p g (Some n)) = refl
-      room _ = refl
+      room : (r : ℕ) (o : Operation) → room_taken t s r earlier o ≡ room_taken t s r others o
+      room r (openat p g None) = ap (λ b. if b then writes all_descriptors ∷ [] else room_uses t s r None) same
+      room r (openat p g (Some n)) = refl
+      room r _ = refl
 
   extras_in_world : (s u : World) (earlier : List Footprint) (x : Option Turn) → ((a : Atom) → NoneWrites (replayed t) earlier a → has_atom (extras_of t k s earlier x) a ≡ true → value s a ≡ value u a)
       → extras_of t k u earlier x ≡ extras_of t k s earlier x
-  extras_in_world s u earlier None same = refl
-  extras_in_world s u earlier (Some (filled r b at new)) same = refl
-  extras_in_world s u earlier (Some (refused e p)) same = refl
-  extras_in_world s u earlier (Some (canceled p)) same = refl
-  extras_in_world s u earlier (Some (runs r e o)) same = ap (λ f. makes t k o ++ f) (room o same)
+  extras_in_world s u earlier x same = extras_same s u earlier earlier x
+      (λ r e o is. room r o (λ a none h. same a none (ap (λ y. has_atom (extras_of t k s earlier y) a) is ∙ h)))
     where
-      descriptors_there : (b : Bool) (n : ℕ) → T (has_atom (if b then writes all_descriptors ∷ [] else room_uses t s r None) (descriptor_at n))
-      descriptors_there true n = tt
-      descriptors_there false n = tt
+      descriptors_there : (r : ℕ) (b : Bool) (n : ℕ) → T (has_atom (if b then writes all_descriptors ∷ [] else room_uses t s r None) (descriptor_at n))
+      descriptors_there r true n = tt
+      descriptors_there r false n = tt
 
-      room : (o : Operation) → ((a : Atom) → NoneWrites (replayed t) earlier a → has_atom (makes t k o ++ room_taken t s r earlier o) a ≡ true → value s a ≡ value u a) → room_taken t u r earlier o ≡ room_taken t s r earlier o
-      room (openat p g None) h = room_same t r s u earlier (openat p g None) (λ e n. h (descriptor_at n) (unwritten t earlier all_descriptors (descriptor_at n) e tt)
-          (true_of _ (in_right (λ (v : Use). member_of v.item (descriptor_at n)) (makes t k (openat p g None)) (room_taken t s r earlier (openat p g None)) (descriptors_there (written_by earlier all_descriptors) n))))
-      room (openat p g (Some n)) h = refl
-      room _ h = refl
+      room : (r : ℕ) (o : Operation) → ((a : Atom) → NoneWrites (replayed t) earlier a → has_atom (makes t k o ++ room_taken t s r earlier o) a ≡ true
+          → value s a ≡ value u a) → room_taken t u r earlier o ≡ room_taken t s r earlier o
+      room r (openat p g None) h = room_same t r s u earlier (openat p g None)
+          (λ e n. h (descriptor_at n) (unwritten t earlier all_descriptors (descriptor_at n) e tt)
+          (true_of _ (in_right (λ (v : Use). member_of v.item (descriptor_at n)) (makes t k (openat p g None)) (room_taken t s r earlier (openat p g None))
+          (descriptors_there r (written_by earlier all_descriptors) n))))
+      room r (openat p g (Some n)) h = refl
+      room r _ h = refl
 
   pub unresolved_in_world : (s u : World) (x : Option Turn) → unresolved_of t k u x ≡ unresolved_of t k s x
-  unresolved_in_world s u None = refl
-  unresolved_in_world s u (Some (filled r b at new)) = refl
-  unresolved_in_world s u (Some (refused e p)) = refl
-  unresolved_in_world s u (Some (canceled p)) = refl
   unresolved_in_world s u (Some (runs r e o)) = refl
+  unresolved_in_world s u _ = refl
 
   extras_behind : (s : World) (earlier : List Footprint) (middle : Footprint) (a : Atom) → has_atom (extras_of t k s earlier (task t k)) a ≡ true → has_atom (order_of t k ++ (middle ++ extras_of t k s earlier (task t k))) a ≡ true
   extras_behind s earlier middle a h = true_of _ (in_right (λ (v : Use). member_of v.item a) (order_of t k) _ (in_right (λ (v : Use). member_of v.item a) middle _ (holds_true _ h)))
 
-module _ (t : Trace) (spelled : IsSpelled t) (window r k : ℕ) (waits : Waits t window (suc r) k) (may_run : Rattle.foot_print.specs.Reach.is_taken_to_run t k (world_after t window r) (reaches_after t window r k) ≡ true) where
+module _ (t : Trace) (spelled : IsSpelled t) (window r k : ℕ) (waits : Waits t window (suc r) k) (may_run : is_taken_to_run t k (world_after t window r) (reaches_after t window r k) ≡ true) where
   abbrev s : World
   s = world_after t window r
 
@@ -85,45 +86,41 @@ module _ (t : Trace) (spelled : IsSpelled t) (window r k : ℕ) (waits : Waits t
   abbrev deciding : Footprint
   deciding = (look_after t window r k).deciding
 
-  wide_reach : is_met deciding earlier ≡ true → reach_after t window r k ≡ wide_row t k s earlier
-  wide_reach e = λ i. if may_run i then (if e i then wide_row t k s earlier else (if is_met (running_row t k s) earlier then accepted_row t k s earlier else running_row t k s)) else order_of t k
-
-  accepted_reach : is_met deciding earlier ≡ false → is_met (running_row t k s) earlier ≡ true → reach_after t window r k ≡ accepted_row t k s earlier
-  accepted_reach d e = reach_of_decided t spelled window r k waits (record { may_run = may_run; unmet = d }) ∙ ap (λ b. if b then accepted_row t k s earlier else running_row t k s) e
-
   -- The extras where the reach has them.
   extras_stay : ((a : Atom) → has_atom (extras_of t k s earlier (task t k)) a ≡ true → has_atom (reach_after t window r k) a ≡ true) → extras_of t k u earlier (task t k) ≡ extras_of t k s earlier (task t k)
   extras_stay within = extras_in_world t k s u earlier (task t k) (λ a none h. sym (keeps_value (replayed t) (lawful t spelled) (places t) window r k waits a none (within a h)))
+
+  extras_as_accepted : is_met deciding earlier ≡ false → is_met (running_row t k s) earlier ≡ true
+      → extras_of t k u earlier (task t k) ≡ extras_of t k s earlier (task t k)
+  extras_as_accepted d e = extras_stay (λ a h. ap (λ f. has_atom f a) (accepted_reach t k s earlier may_run d e)
+      ∙ extras_behind t k s earlier (look_of t k s (task t k)).items a h)
 
   row_agrees : is_met deciding earlier ≡ false → is_met (running_row t k s) earlier ≡ false → AgreeOn (replayed t) (running_row t k s) s u
   row_agrees d e = value_stays t spelled window r k waits (running_row t k s) e (row_in_reach t spelled window r k waits (record { may_run = may_run; unmet = d }))
 
   wide_in_world : wide_row t k u earlier ≡ wide_row t k s earlier
-  wide_in_world = go (cases_Bool (is_met deciding earlier)) (cases_Bool (is_met (running_row t k s) earlier))
+  wide_in_world = elim (cases_Bool (is_met deciding earlier)) [
+    | inl d ↦ by_extras (extras_stay (λ a h. ap (λ f. has_atom f a) (wide_reach t k s earlier may_run d)
+        ∙ extras_behind t k s earlier (unresolved_of t k s (task t k)) a h))
+    | inr d ↦ elim (cases_Bool (is_met (running_row t k s) earlier)) [
+      | inl e ↦ by_extras (extras_as_accepted d e)
+      | inr e ↦ (row_laws t all_covered).wide_told k s u earlier (row_agrees d e)
+    ]
+  ]
     where
       by_extras : extras_of t k u earlier (task t k) ≡ extras_of t k s earlier (task t k) → wide_row t k u earlier ≡ wide_row t k s earlier
       by_extras e = λ i. order_of t k ++ (unresolved_in_world t k s u (task t k) i ++ e i)
 
-      go : (is_met deciding earlier ≡ true) ⊎ (is_met deciding earlier ≡ false) → (is_met (running_row t k s) earlier ≡ true) ⊎ (is_met (running_row t k s) earlier ≡ false) → wide_row t k u earlier ≡ wide_row t k s earlier
-      go (inl d) e = by_extras (extras_stay (λ a h. ap (λ f. has_atom f a) (wide_reach d) ∙ extras_behind t k s earlier (unresolved_of t k s (task t k)) a h))
-      go (inr d) (inl e) = by_extras (extras_stay (λ a h. ap (λ f. has_atom f a) (accepted_reach d e) ∙ extras_behind t k s earlier (look_of t k s (task t k)).items a h))
-      go (inr d) (inr e) = (row_laws t all_covered).wide_told k s u earlier (row_agrees d e)
-
   accepted_in_world : is_met deciding earlier ≡ false → accepted_row t k u earlier ≡ accepted_row t k s earlier
-  accepted_in_world d = go (cases_Bool (is_met (running_row t k s) earlier))
-    where
-      same : look_of t k u (task t k) ≡ look_of t k s (task t k)
-      same = look_next t spelled window r k waits (record { may_run = may_run; unmet = d })
+  accepted_in_world d =
+      let same = look_next t spelled window r k waits (record { may_run = may_run; unmet = d }) in
+      elim (cases_Bool (is_met (running_row t k s) earlier)) [
+        | inl e ↦ λ i. order_of t k ++ ((same i).items ++ extras_as_accepted d e i)
+        | inr e ↦ (row_laws t all_covered).accepted_told k s u earlier same (row_agrees d e)
+      ]
 
-      go : (is_met (running_row t k s) earlier ≡ true) ⊎ (is_met (running_row t k s) earlier ≡ false) → accepted_row t k u earlier ≡ accepted_row t k s earlier
-      go (inl e) = λ i. order_of t k ++ ((same i).items ++ extras_stay (λ a h. ap (λ f. has_atom f a) (accepted_reach d e) ∙ extras_behind t k s earlier (look_of t k s (task t k)).items a h) i)
-      go (inr e) = (row_laws t all_covered).accepted_told k s u earlier same (row_agrees d e)
-
-  rows_stay : descriptors_wait t window (suc r) k ≡ descriptors_wait t window r k → ReachRowsStay t window r k
-  rows_stay same = record {
+  pub wide_stays : descriptors_wait t window (suc r) k ≡ descriptors_wait t window r k → ReachRowsStay t window r k
+  wide_stays same = record {
     wide = (λ i. order_of t k ++ (unresolved_of t k u (task t k) ++ extras_by_writing t k u later earlier same (task t k) i)) ∙ wide_in_world;
     accepted = λ d. (λ i. order_of t k ++ ((look_of t k u (task t k)).items ++ extras_by_writing t k u later earlier same (task t k) i)) ∙ accepted_in_world d;
   }
-
-pub wide_stays : (t : Trace) → IsSpelled t → WideStays t
-wide_stays t spelled window r k waits may_run same = rows_stay t spelled window r k waits may_run same

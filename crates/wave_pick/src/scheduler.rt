@@ -273,6 +273,7 @@ impl Scheduler {
 
     /// Keeps the reach of a place. Where it had another one, those that rest on it are to be looked
     /// at again.
+    #[tactic(auto, using(crate::proofs::Listing::renews_same, crate::proofs::Listing::renews_waking))]
     fn renew(&mut self, alloc: Global, place: u32, reach: Footprint)
         requires place { place < length self.old.reaches.items }
         requires room { HasRoom (length self.old.reaches.items) self.old }

@@ -1,8 +1,7 @@
-use Rattle.std.proofs.Common.{◌≡◌, ◌<◌, ◌+◌, ◌++◌, ◌∷◌, ◌∙◌, [], map, take, length, get_or, add-one, ap, subst, sym, rules}
+use Rattle.std.proofs.Common.{◌++◌, ◌∙◌, [], map, take, get_or, ap, subst, sym, rules}
 use Rattle.std.specs.Prelude.{None, if◌then◌else◌}
 use Rattle.std.specs.Option.{option_to_list}
-use Rattle.std.proofs.lemmas.List.{append-nil}
-use Rattle.std.proofs.Math.Seq.{take-suc}
+use Rattle.std.proofs.lemmas.List.{append-nil, take_more}
 use Rattle.wave_pick.specs.Picking.{HasLooked}
 use Rattle.wave_pick.specs.HeldBack.{held_meant, holder_of, waiting_from, with_holder, held_from}
 use Rattle.wave_pick.proofs.Behind.{held_step, waiting_step}
@@ -18,8 +17,7 @@ loop-place-preserved c =
     let k = get_or xs i 0 in
     let seen = c.in_ok-seen.seen in
     let hs = c.loop-place.held.items in
-    let l : i < length xs = search rules in
-    let more : take (i + 1) xs ≡ take i xs ++ (get_or xs i 0 ∷ []) = rw add-one (take-suc xs i 0 l) in
+    let more = take_more xs i 0 (search rules) in
     let both = c.in_ok-seen.ensures (take i xs) c.loop-place.invariant.looked in
     let is = c.in_ok-found.ensures ∙ ap (λ ws. if seen.collides then with_holder k (holder_of seen.footprint ws) else None) c.as_slice.ensures.value in
     let next = held_step t s (take i xs) k seen c.loop-place.earlier.items hs c.in_ok-found.field-0 both.1 c.loop-place.invariant.earlier c.loop-place.invariant.held is in

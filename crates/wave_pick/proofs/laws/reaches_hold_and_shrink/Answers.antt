@@ -1,7 +1,7 @@
 use Rattle.wave_pick.proofs.laws.reaches_hold_and_shrink.Goals as goal
 
-pub returns-clause-hold : goal.returns-clause-hold
-returns-clause-hold c t s = c.reaches_foresee.ensures.hold (t, s)
-
-pub returns-clause-shrink : goal.returns-clause-shrink
-returns-clause-shrink c t s = c.reaches_foresee.ensures.shrink (t, s)
+pub returns : goal.returns
+returns c = record {
+  hold = λ t s. c.reaches_foresee.ensures.hold (t, s);
+  shrink = λ t s. c.reaches_foresee.ensures.shrink (t, s);
+}

@@ -5,26 +5,16 @@ use Rattle.wave_pick.proofs.Ends.{ends_as_the_model}
 use Rattle.wave_pick.proofs.Orders.{always_collide}
 use Rattle.wave_pick.proofs.laws.rounds_are_legal.Goals as goal
 
-pub returns-clause-legal : goal.returns-clause-legal
-returns-clause-legal c t s = c.rounds_are_sequential.ensures.legal (t, s)
-
-pub returns-clause-sequential : goal.returns-clause-sequential
-returns-clause-sequential c t s = c.rounds_are_sequential.ensures.sequential (t, s)
-
-pub returns-clause-gathered : goal.returns-clause-gathered
-returns-clause-gathered c t s = c.rounds_are_sequential.ensures.gathered (t, s)
-
-pub returns-clause-go_on : goal.returns-clause-go_on
-returns-clause-go_on c t s = c.rounds_are_sequential.ensures.go_on (t, s)
-
-pub returns-clause-order : goal.returns-clause-order
-returns-clause-order c t s window r i k lt within o chosen = c.rounds_are_sequential.ensures.order (t, s) (places t) window r i k lt (always_collide t i k lt within o) chosen
-
-pub returns-clause-sets : goal.returns-clause-sets
-returns-clause-sets c t s = c.rounds_are_sequential.ensures.sets (t, s)
-
-pub returns-clause-model : goal.returns-clause-model
-returns-clause-model c t s window r wide many = ends_as_the_model t (state_after t window r) (c.rounds_are_sequential.ensures.sequential (t, s) (places t) window r wide many)
-
-pub returns-clause-apart : goal.returns-clause-apart
-returns-clause-apart c = none_collide
+pub returns : goal.returns
+returns c =
+    let all = c.rounds_are_sequential.ensures in
+    record {
+      legal = λ t s. all.legal (t, s);
+      sequential = λ t s. all.sequential (t, s);
+      model = λ t s window r wide many. ends_as_the_model t (state_after t window r) (all.sequential (t, s) (places t) window r wide many);
+      gathered = λ t s. all.gathered (t, s);
+      apart = none_collide;
+      go_on = λ t s. all.go_on (t, s);
+      order = λ t s window r i k lt within o chosen. all.order (t, s) (places t) window r i k lt (always_collide t i k lt within o) chosen;
+      sets = λ t s. all.sets (t, s);
+    }

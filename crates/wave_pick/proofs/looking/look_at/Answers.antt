@@ -1,4 +1,4 @@
-use Rattle.std.proofs.Common.{◌<◌, length, subst, sym, ap, ◌∙◌}
+use Rattle.std.proofs.Common.{ap, ◌∙◌}
 use mathlib.Core.Path.{fun_ext}
 use Rattle.chain_plan.proofs.Walk.{length-roles}
 use Rattle.op_meaning.specs.Footprint.{footprint}
@@ -7,7 +7,7 @@ use Rattle.wave_pick.proofs.Looked.{looked_met, looked_clear}
 use Rattle.wave_pick.proofs.looking.look_at.Goals as goal
 
 pub role-role-requires : goal.role-role-requires
-role-role-requires c = subst (λ n. c.args.place < n) (sym (ap length c.requires.plan ∙ length-roles c.args.trace.now)) c.requires.place
+role-role-requires c = rw (c.requires.plan, length-roles) c.requires.place
 
 pub returns-then-meets : goal.returns-then-meets
 returns-then-meets c = λ ks h.

@@ -1,8 +1,8 @@
-use Rattle.std.proofs.Common.{◌≡◌, ◌<◌, ◌+◌, ◌++◌, ◌∷◌, [], take, length, get_or, add-one, ap, subst, sym, refl, rules}
-use Rattle.std.proofs.Math.Seq.{take-suc}
+use Rattle.std.proofs.Common.{take, get_or, ap, subst, sym, refl, rules}
+use Rattle.std.proofs.lemmas.List.{take_more}
 use Rattle.wave_pick.specs.Scheduling.{Flags}
 use Rattle.wave_pick.proofs.Knowing.{flags_more, flags_past}
-use Rattle.wave_pick.proofs.Passing.{not_both}
+use Rattle.wave_pick.proofs.Lists.{not_both}
 use Rattle.wave_pick.proofs.scheduler.flag.Goals.{in-Some, in_default}
 use Rattle.wave_pick.proofs.scheduler.flag.Goals as goal
 
@@ -11,8 +11,7 @@ loop-place-preserved c =
     let ks = c.args.places.now in
     let i = c.loop-place.place-index in
     let k = get_or ks i 0 in
-    let l : i < length ks = search rules in
-    let more : take (i + 1) ks ≡ take i ks ++ (k ∷ []) = rw add-one (take-suc ks i 0 l) in
+    let more = take_more ks i 0 (search rules) in
     subst (λ xs. Flags xs c.args.again.now.items c.match-get_mut.again.items) (sym more) (elim c.match-get_mut.branch [
       | in-Some w ↦ flags_more (take i ks) k _ _ _ c.loop-place.invariant (ap (λ v. v.items) w.again-is)
       | in_default w ↦ flags_past (take i ks) k _ _ _ c.loop-place.invariant (ap (λ v. v.items) w.again-is) (λ lt. not_both (w.in_default.ensures.item.2 lt) refl)

@@ -1,4 +1,4 @@
-use Rattle.std.proofs.Common.{◌<◌, length, refl, subst, sym, ap, ◌∙◌}
+use Rattle.std.proofs.Common.{refl, subst, ap, ◌∙◌}
 use Rattle.chain_plan.proofs.Walk.{length-roles}
 use Rattle.op_meaning.specs.Footprint.{footprint}
 use Rattle.item_index.specs.Ahead.{written_before}
@@ -7,7 +7,7 @@ use Rattle.wave_pick.proofs.Seeing.{seen_met, seen_held, seen_free}
 use Rattle.wave_pick.proofs.scheduler.Scheduler.look.Goals as goal
 
 pub role-role-requires : goal.role-role-requires
-role-role-requires c = subst (λ n. c.args.place < n) (sym (ap length c.requires.plan ∙ length-roles c.args.trace.now)) c.requires.place
+role-role-requires c = rw (c.requires.plan, length-roles) c.requires.place
 
 pub returns-then-meets : goal.returns-then-meets
 returns-then-meets c = λ window world before index.

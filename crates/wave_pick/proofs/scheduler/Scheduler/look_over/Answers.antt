@@ -1,10 +1,10 @@
-use Rattle.std.proofs.Common.{◌≡◌, ◌<◌, ◌+◌, ◌++◌, ◌∷◌, ◌∙◌, [], All, Bool, Some, true, false, if◌then◌else◌, take, length, get_or, add-one, ap, subst, sym, rules, arith}
-use Rattle.std.proofs.Math.Seq.{take-suc}
+use Rattle.std.proofs.Common.{◌≡◌, ◌<◌, ◌++◌, ◌∷◌, ◌∙◌, [], All, Some, if◌then◌else◌, length, get_or, ap, sym, rules, arith}
+use Rattle.std.proofs.lemmas.Bool.{cond_both}
+use Rattle.std.proofs.lemmas.List.{take_more}
 use Rattle.std.proofs.lemmas.Option.{slice_get-get_or}
 use Rattle.trace_format.specs.Steps.{places}
 use Rattle.std.proofs.lemmas.List.Elements.{All-push}
-use Rattle.wave_pick.specs.Scheduling.{HasRoom, HaveSeen, IsSameRound}
-use Rattle.wave_pick.specs.declared.scheduler.Scheduler.{Scheduler}
+use Rattle.wave_pick.specs.Scheduling.{HasRoom}
 use Rattle.wave_pick.proofs.Passing.{look_step, pass_step, same_on, same_rest, seen_view}
 use Rattle.wave_pick.proofs.scheduler.Scheduler.look_over.Goals.{then-index+in_ok-view+in_ok-keep, then-view+in_ok-push, else-view, else-index+in_ok-pass}
 use Rattle.wave_pick.proofs.scheduler.Scheduler.look_over.Goals as goal
@@ -20,16 +20,12 @@ loop-index-preserved c =
     let k = get_or first i 0 in
     let free = c.loop-index.free.items in
     let l : i < length first = search rules in
-    let more : take (i + 1) first ≡ take i first ++ (k ∷ []) = rw add-one (take-suc first i 0 l) in
+    let more = take_more first i 0 l in
     let at = slice_get-get_or first i 0 l in
     let before = c.loop-index.invariant.same in
     let many : length s.again.items ≡ places t = before.again ∙ c.requires.room.again in
     let low : k < length s.again.items = let p = c.requires.places i 0 l in omega (arith, many, p) in
     let flag = slice_get-get_or s.again.items k c.index.result.now low ∙ ap Some (sym c.index.ensures) in
-    let all_low : (b : Bool) → All (λ n. n < places t) (if b then free ++ k ∷ [] else free) = λ b. elim b as (λ x. All (λ n. n < places t) (if x then free ++ k ∷ [] else free)) [
-      | true ↦ All-push (λ n. n < places t) free k c.loop-index.invariant.low (c.requires.places i 0 l)
-      | false ↦ c.loop-index.invariant.low
-    ] in
     elim c.if-index.branch [
       | then-index+in_ok-view+in_ok-keep w ↦
           let v = w.in_ok-view.view in
@@ -44,11 +40,10 @@ loop-index-preserved c =
                 let view = seen_view t c.requires.trace window world q first a i k at s free h before.round v w.in_ok-view.ensures in
                 let room : HasRoom (places t) s = record { reaches = before.reaches ∙ c.requires.room.reaches; again = many; resting = before.resting ∙ c.requires.room.resting } in
                 let step = look_step t c.requires.trace window world q first a i k at s free h room (flag ∙ ap Some w.if-index.true) v view w.keep.new.self keeps in
-                subst (λ (x : Scheduler). HaveSeen t window q (take (i + 1) first) x c.if-index.free.items) (sym w.self-is)
-                (subst (λ xs. HaveSeen t window q xs w.keep.new.self c.if-index.free.items) (sym more)
-                (subst (HaveSeen t window q (take i first ++ k ∷ []) w.keep.new.self) (sym pushed) step));
-            same = subst (IsSameRound c.args.self.now) (sym w.self-is) (same_on before keeps.same);
-            low = subst (All (λ n. n < places t)) (sym pushed) (all_low v.free);
+                rw (w.self-is, more, pushed) step;
+            same = rw w.self-is (same_on before keeps.same);
+            low = rw pushed (cond_both v.free _ _ (All (λ n. n < places t))
+                (λ _. All-push (λ n. n < places t) free k c.loop-index.invariant.low (c.requires.places i 0 l)) (λ _. c.loop-index.invariant.low));
           }
       | else-index+in_ok-pass w ↦
           let e = w.in_ok-pass.ensures in
@@ -56,10 +51,8 @@ loop-index-preserved c =
             seen = λ window a start.
                 let h = c.loop-index.invariant.seen window a start in
                 let step = pass_step t c.requires.trace window world q first a i k at s free h (flag ∙ ap Some w.if-index.false) w.pass.new.self e.exact e.others e.rest in
-                subst (λ (x : Scheduler). HaveSeen t window q (take (i + 1) first) x c.if-index.free.items) (sym w.self-is)
-                (subst (λ xs. HaveSeen t window q xs w.pass.new.self c.if-index.free.items) (sym more)
-                (subst (HaveSeen t window q (take i first ++ k ∷ []) w.pass.new.self) (sym (ap (λ x. x.items) w.free-is)) step));
-            same = subst (IsSameRound c.args.self.now) (sym w.self-is) (same_rest before e.rest);
-            low = subst (All (λ n. n < places t)) (sym (ap (λ x. x.items) w.free-is)) c.loop-index.invariant.low;
+                rw (w.self-is, more, w.free-is) step;
+            same = rw w.self-is (same_rest before e.rest);
+            low = rw w.free-is c.loop-index.invariant.low;
           }
     ]

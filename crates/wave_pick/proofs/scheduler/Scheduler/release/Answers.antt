@@ -1,6 +1,6 @@
-use Rattle.std.proofs.Common.{◌≡◌, ◌<◌, ◌+◌, ◌++◌, ◌∷◌, ◌∙◌, [], Some, take, length, get_or, add-one, refl, ap, subst, sym, rules}
+use Rattle.std.proofs.Common.{◌<◌, ◌++◌, ◌∷◌, ◌∙◌, [], Some, take, length, get_or, refl, ap, subst, sym, rules}
+use Rattle.std.proofs.lemmas.List.{take_more}
 use Rattle.std.proofs.Math.ListN.{set}
-use Rattle.std.proofs.Math.Seq.{take-suc}
 use Rattle.std.proofs.lemmas.Option.{slice_get-get_or}
 use Rattle.wave_pick.specs.Scheduling.{Releases}
 use Rattle.wave_pick.proofs.Listing.{one_taken, none_taken, release_step}
@@ -13,8 +13,7 @@ loop-place-preserved c =
     let i = c.loop-place.place-index in
     let k = get_or ks i 0 in
     let mid = c.loop-place.self in
-    let l : i < length ks = search rules in
-    let more : take (i + 1) ks ≡ take i ks ++ (k ∷ []) = rw add-one (take-suc ks i 0 l) in
+    let more = take_more ks i 0 (search rules) in
     let low : k < length mid.reaches.items = search rules in
     let there = slice_get-get_or mid.reaches.items k c.index_mut.result.now low ∙ ap Some (sym (c.take.ensures.value ∙ c.index_mut.ensures.value)) in
     subst (λ xs. Releases xs c.args.self.now c.wake.new.self c.match-take.chosen.items) (sym more)
