@@ -1,5 +1,5 @@
 -- Lists are read by place, and the results are read off the slots in order.
-use Rattle.std.proofs.Common.{◌≡◌, ℕ, zero, suc, ◌<◌, ◌⊎◌, arith, inl, inr, ⊎_elim, List, [], ◌∷◌, ◌++◌, length, refl, sym, ap, ◌∙◌, Some}
+use Rattle.std.proofs.Common.{◌≡◌, ℕ, zero, suc, ◌<◌, ◌⊎◌, arith, inl, inr, ⊎_elim, List, [], ◌∷◌, ◌++◌, length, refl, ap, Some}
 use Rattle.std.specs.Prelude.{slice_get}
 use Rattle.std.proofs.lemmas.Option.{slice_get_cases}
 use mathlib.Core.Option.{some}
@@ -20,8 +20,7 @@ module _ {T D : Type 0} where
   pub each_more : (xs ys : List D) (x : D) (n : ℕ) (items : List (Slot T D)) → length xs ≡ n
       → ((k : ℕ) (d : D) → slice_get xs k ≡ Some d → get_elem? items k ≡ some (Finished d)) → get_elem? items n ≡ some (Finished x) → ys ≡ xs ++ x ∷ []
       → (k : ℕ) (d : D) → slice_get ys k ≡ Some d → get_elem? items k ≡ some (Finished d)
-  each_more xs ys x n items len each last same k d e =
-      ⊎_elim
-      (λ h. each k d h)
-      (λ (h : (k ≡ length xs) × (x ≡ d)). ap (get_elem? items) (h.0 ∙ len) ∙ (last ∙ ap (λ (y : D). some (Finished y)) h.1))
-      (slice_get_snoc xs x d k (ap (λ (l : List D). slice_get l k) (sym same) ∙ e))
+  each_more xs ys x n items len each last same k d e = elim (slice_get_snoc xs x d k (rw same at e)) [
+    | inl h ↦ each k d h
+    | inr h ↦ rw (h.0, len, ← h.1) last
+  ]

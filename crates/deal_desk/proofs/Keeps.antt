@@ -1,5 +1,5 @@
 -- Each kind of step keeps the rule of the desk.
-use Rattle.std.proofs.Common.{◌≡◌, ◌≢◌, ℕ, zero, suc, ◌+◌, ◌<◌, ◌≤◌, ◌^◌, ◌||◌, ◌&&◌, not, ⊎_elim, min, if◌then◌else◌, Bool, true, false, true≢false, List, [], ◌∷◌, ◌++◌, map, length, set, refl, sym, ap, ◌∙◌, subst, arith, Option, Some, None, length-append}
+use Rattle.std.proofs.Common.{◌≡◌, ◌≢◌, ℕ, zero, suc, ◌+◌, ◌<◌, ◌≤◌, ◌^◌, ⊎_elim, min, if◌then◌else◌, Bool, true, false, List, [], ◌∷◌, ◌++◌, map, length, set, ◌⊎◌, inl, inr, refl, sym, ap, ◌∙◌, subst, arith, Option, Some, None, length-append}
 use Rattle.std.specs.Prelude.{slice_get, sum_by, Contains, option_to_list}
 use Rattle.std.proofs.lemmas.Bool.{or_cases}
 use Rattle.std.proofs.lemmas.List.{length-set, length-map, map-append}
@@ -13,33 +13,17 @@ use lib.ListN.{get_elem?}
 use Rattle.deal_desk.specs.declared.hand.Hand.{Hand}
 use Rattle.deal_desk.specs.declared.job.Slot.{Slot}
 use Rattle.deal_desk.specs.declared.job.Slot.TheVariants.{Waiting, Finished}
-use Rattle.deal_desk.specs.Hands.{times, once_below, IsLast, Knows, places, places_back, opening_hand, further_hand, spent_hand, gave, drew, ran_dry, put_back, took_in}
+use Rattle.deal_desk.specs.Hands.{times, once_below, Knows, places, places_back, opening_hand, further_hand, spent_hand, gave, drew, ran_dry, put_back, took_in}
 use Rattle.deal_desk.specs.Rule.{weight, ended, Fits, Dealt}
-use Rattle.deal_desk.proofs.Counts.{times-append, times-itself, once_below_next, once_below_all, once_below_none, once_below_rises, once_below_most}
+use Rattle.deal_desk.proofs.Counts.{times-append, times-itself, once_below_next, once_below_all, once_below_past, once_below_rises, once_below_most}
 use Rattle.deal_desk.proofs.Sums.{get_elem_within, sum_by_changed, one-le-sum_by, two-le-sum_by, sum_by-le-length, sum_by_of_one}
 
-abbrev ended_if : Bool → Bool → ℕ
-ended_if live dry = if live && not dry then 0 else 1
-
-ended_if_most : (live dry : Bool) → ended_if live dry ≤ 1
-ended_if_most true true = omega arith
-ended_if_most true false = omega arith
-ended_if_most false dry = omega arith
-
 weightless : (live : Bool) (n : ℕ) → (if live then n + 1 else 0) ≡ 0 → live ≡ false
-weightless true n e = absurd (omega arith)
-weightless false n e = refl
-
--- what two seats count as ended, put together
-ended_join : (a b : Bool) → ended_if true a + ended_if true b ≤ ended_if true (a || b) + 1
-ended_join true true = omega arith
-ended_join true false = omega arith
-ended_join false true = omega arith
-ended_join false false = omega arith
+weightless live n e = grind arith
 
 module _ {T D : Type 0} where
   pub ended_at_most_one : (v : Hand T D) → ended v ≤ 1
-  ended_at_most_one v = ended_if_most v.live v.dry
+  ended_at_most_one v = grind arith
 
   abbrev pub at_home : List T → List (Slot T D)
   at_home js = map Waiting js
@@ -60,52 +44,28 @@ module _ {T D : Type 0} where
     -- a live seat knows that no place was drawn twice, and the last seat that all were drawn
     pub knows_so : (c : ℕ) (homes : List (maybe.Option (Slot T D))) (views : List (Hand T D)) (by : ℕ) (v : Hand T D) → Ruled c homes views → get_elem? views by ≡ some v → v.live ≡ true → Knows v
     knows_so c homes views by v r at live =
-        let n : length v.jobs ≡ length jobs = ap length ((r.fits by v at).knows live) in
-        let part : (x : ℕ) → times x (places v) ≤ once_below x (length v.jobs) = λ x.
-        let here = one-le-sum_by (λ (u : Hand T D). times x (places u)) views by v at in
-        let sum = r.dealt x in
-        let rises = once_below_rises x (min c (length jobs)) (length jobs) (omega arith) in
-        let same = ap (once_below x) n in
-        omega arith in
-        let few : v.opens ≡ true → v.merged ≤ v.given = λ opens.
-        let o = (r.fits by v at).opens opens in
-        let w : weight v ≡ v.merged + 1 = ap (λ (b : Bool). if b then v.merged + 1 else 0) live in
-        let here = one-le-sum_by weight views by v at in
-        let m = r.merged in
-        let g = o.2 in
-        omega arith in
-        let whole : IsLast v → (x : ℕ) → times x (places v) ≡ once_below x (length v.jobs) = λ last x.
         let fit = r.fits by v at in
-        let o = fit.opens last.0 in
-        let w : weight v ≡ v.merged + 1 = ap (λ (b : Bool). if b then v.merged + 1 else 0) live in
-        let all : sum_by weight views ≡ weight v = let m = r.merged in let s = last.1 in let g = o.2 in omega arith in
-        let alone = sum_by_of_one weight (λ (u : Hand T D). times x (places u)) views by v at all (λ j u there z. spent_places x u ((r.fits j u there).spent (weightless u.live u.merged z))) in
-        let sum = r.dealt x in
-        let end = once_below_all x c (length jobs) (fit.dry last.2) in
-        let same = ap (once_below x) n in
-        omega arith in
-        (part, few, whole)
+        let same = ap length (fit.knows live) in
+        let w : weight v ≡ v.merged + 1 = rw live in (
+          λ x.
+              let here = one-le-sum_by (λ (u : Hand T D). times x (places u)) views by v at in
+              rw same (omega (arith, here, r.dealt x, once_below_rises x (min c (length jobs)) (length jobs) (omega arith))),
+          λ opens. omega (arith, one-le-sum_by weight views by v at, r.merged, (fit.opens opens).2),
+          λ last x.
+              let all : sum_by weight views ≡ weight v = omega (arith, r.merged, last.1, (fit.opens last.0).2) in
+              let alone = sum_by_of_one weight (λ (u : Hand T D). times x (places u)) views by v at all
+              (λ j u there z. spent_places x u ((r.fits j u there).spent (weightless u.live u.merged z))) in
+              rw same (omega (arith, r.dealt x, once_below_all x c (length jobs) (fit.dry last.2))),
+        )
 
     -- what is so of every seat, after the view of one has become w
     fits_set : (c n : ℕ) (homes : List (maybe.Option (Slot T D))) (views : List (Hand T D)) (by : ℕ) (w : Hand T D)
         → ((j : ℕ) (u : Hand T D) → j ≢ by → get_elem? views j ≡ some u → Fitting c n homes j u) → Fitting c n homes by w
         → (j : ℕ) (u : Hand T D) → get_elem? (set views by w) j ≡ some u → Fitting c n homes j u
-    fits_set c n homes views by w others mine j u e =
-        ⊎_elim
-        (λ (x : (j ≡ by) × (w ≡ u)). subst (λ (y : ℕ × Hand T D). Fitting c n homes y.0 y.1) (λ i. (sym x.0 i, x.1 i)) mine)
-        (λ (x : (j ≢ by) × (get_elem? views j ≡ some u)). others j u x.0 x.1)
-        (at_set views by j w u e)
-
-    -- the same, for the length of the new list
-    resized : (c m n : ℕ) (homes : List (maybe.Option (Slot T D))) (views : List (Hand T D)) → m ≡ n → ((j : ℕ) (u : Hand T D) → get_elem? views j ≡ some u → Fitting c m homes j u) → (j : ℕ) (u : Hand T D) → get_elem? views j ≡ some u → Fitting c n homes j u
-    resized c m n homes views e h = subst (λ (k : ℕ). (j : ℕ) (u : Hand T D) → get_elem? views j ≡ some u → Fitting c k homes j u) e h
-
-    -- a slot at home with its job isn't one that is out or has a result
-    not_none : (homes : List (maybe.Option (Slot T D))) (c k : ℕ) (y : Slot T D) → get_elem? homes c ≡ some (some y) → get_elem? homes k ≡ some none → k ≢ c
-    not_none homes c k y full empty e = some-ne-none y (some-injective (some y) none (sym full ∙ ap (get_elem? homes) (sym e) ∙ empty))
-
-    not_job : (homes : List (maybe.Option (Slot T D))) (c k : ℕ) (job : T) (d : D) → get_elem? homes c ≡ some (some (Waiting job)) → get_elem? homes k ≡ some (some (Finished d)) → k ≢ c
-    not_job homes c k job d first last e = let same : Waiting job ≡ Finished d = some-injective _ _ (some-injective _ _ (sym first ∙ ap (get_elem? homes) (sym e) ∙ last)) in absurd (cc)
+    fits_set c n homes views by w others mine j u e = elim (at_set views by j w u e) [
+      | inl here ↦ rw (here.0, ← here.1) mine
+      | inr there ↦ others j u there.0 there.1
+    ]
 
     -- a seat fits as before when the slot c has gone out with another
     fits_taken : (c n : ℕ) (homes : List (maybe.Option (Slot T D))) (job : T) (j : ℕ) (u : Hand T D) → c < length homes → get_elem? homes c ≡ some (some (Waiting job)) → Fitting c n homes j u → Fitting (c + 1) n (set homes c none) j u
@@ -114,12 +74,42 @@ module _ {T D : Type 0} where
       spent = f.spent;
       opens = f.opens;
       dry = λ e. let h = f.dry e in omega arith;
-      out = λ k e. set_else homes c k none (not_none homes c k (Waiting job) there (f.out k e)) ∙ f.out k e;
-      back = λ k d h. let b = f.back k d h in (set_else homes c k none (not_job homes c k job d there b.0) ∙ b.0, b.1);
+      out = λ k e. set_else homes c k none (λ same. let o = f.out k e in (cc)) ∙ f.out k e;
+      back = λ k d h. let b = f.back k d h in (set_else homes c k none (λ same. (cc (b.0))) ∙ b.0, b.1);
     }
 
     fits_more : (c n : ℕ) (homes : List (maybe.Option (Slot T D))) (j : ℕ) (u : Hand T D) → Fitting c n homes j u → Fitting (c + 1) n homes j u
-    fits_more c n homes j u f = record { knows = f.knows; spent = f.spent; opens = f.opens; dry = λ e. let h = f.dry e in omega arith; out = f.out; back = f.back }
+    fits_more c n homes j u f = search arith
+
+    -- a seat that has nothing fits
+    new_fits : (c n : ℕ) (homes : List (maybe.Option (Slot T D))) (j : ℕ) (u : Hand T D) → (u.live ≡ true → u.jobs ≡ jobs)
+        → (u.opens ≡ true → (j ≡ 0) × (u.live ≡ true) × (u.given + 1 ≡ n)) → u.dry ≡ false → u.out ≡ None → u.back ≡ [] → Fitting c n homes j u
+    new_fits c n homes j u knows opens wet idle none_back = record {
+      knows = knows;
+      spent = λ q. (idle, none_back);
+      opens = opens;
+      dry = λ q. absurd (cc wet);
+      out = λ i q. absurd (cc idle);
+      back = λ i d h. let none : Contains [] (i, d) = rw none_back at h in absurd (omega (arith, none.1));
+    }
+
+    -- the view of one seat becomes w, and the draws and the slots go on with it
+    view_set : (c next : ℕ) (homes after : List (maybe.Option (Slot T D))) (views : List (Hand T D)) (by : ℕ) (v w : Hand T D)
+        → Ruled c homes views → get_elem? views by ≡ some v → length after ≡ length homes
+        → ((k : ℕ) → times k (places w) + once_below k (min c (length jobs)) ≡ times k (places v) + once_below k (min next (length jobs)))
+        → ((k : ℕ) (job : T) → next ≤ k → slice_get jobs k ≡ Some job → get_elem? after k ≡ some (some (Waiting job)))
+        → ((j : ℕ) (u : Hand T D) → j ≢ by → get_elem? views j ≡ some u → Fitting next (length views) after j u) → Fitting next (length views) after by w
+        → weight w ≡ weight v → (next ≤ length jobs) ⊎ (next + ended v ≤ c + ended w) → Ruled next after (set views by w)
+    view_set c next homes after views by v w r at sized dealt waiting others mine same_weight draws = record {
+      sized = sized ∙ r.sized;
+      few = r.few;
+      dealt = λ k. omega (arith, sum_by_changed (λ (u : Hand T D). times k (places u)) views by v w at, r.dealt k, dealt k);
+      waiting = waiting;
+      fits = rw (length-set views by w) (fits_set next (length views) after views by w others mine);
+      merged = omega (arith, sum_by_changed weight views by v w at, r.merged, length-set views by w);
+      seats = omega (arith, r.seats, length-set views by w);
+      draws = omega (arith, sum_by_changed ended views by v w at, r.draws);
+    }
 
     -- a place is drawn
     pub draws_one : (c : ℕ) (homes : List (maybe.Option (Slot T D))) (views : List (Hand T D)) (by : ℕ) (v : Hand T D) (job : T)
@@ -129,66 +119,35 @@ module _ {T D : Type 0} where
         let n : c < length jobs = slice_get_within jobs c job there in
         let home = r.waiting c job (omega arith) there in
         let in_range : c < length homes = omega (arith, r.sized) in
-        let len : length (set views by (drew c v)) ≡ length views = length-set views by (drew c v) in
         let f = r.fits by v at in
-        let mine : Fitting (c + 1) (length views) (set homes c none) by (drew c v) = record {
-          knows = f.knows;
-          spent = λ e. absurd (true≢false (sym live ∙ e));
-          opens = f.opens;
-          dry = λ e. absurd (true≢false (sym e ∙ wet));
-          out = λ k e. let same : c ≡ k = cc in subst (λ (i : ℕ). get_elem? (set homes c none) i ≡ some none) same (set_here homes c none in_range);
-          back = (fits_taken c (length views) homes job by v in_range home f).back;
-        } in
+        view_set c (c + 1) homes (set homes c none) views by v (drew c v) r at (length-set homes c none)
+        (λ k. omega (arith, out_listed k None v idle, out_listed k (Some c) (drew c v) refl, once_below_next k c (length jobs) n))
+        (λ k other le e. set_else homes c k none (λ same. omega arith) ∙ r.waiting k other (omega arith) e)
+        (λ j u apart e. fits_taken c (length views) homes job j u in_range home (r.fits j u e))
         record {
-          sized = length-set homes c none ∙ r.sized;
-          few = r.few;
-          dealt = λ k.
-              let moved = sum_by_changed (λ (u : Hand T D). times k (places u)) views by v (drew c v) at in
-              let before = out_listed k None v idle in
-              let after = out_listed k (Some c) (drew c v) refl in
-              let sum = r.dealt k in
-              let next = once_below_next k c (length jobs) n in
-              omega arith;
-          waiting = λ k other le e. let apart : k ≢ c = λ (p : k ≡ c). omega arith in set_else homes c k none apart ∙ r.waiting k other (omega arith) e;
-          fits = resized (c + 1) (length views) _ (set homes c none) (set views by (drew c v)) (sym len)
-              (fits_set (c + 1) (length views) (set homes c none) views by (drew c v) (λ j u apart e. fits_taken c (length views) homes job j u in_range home (r.fits j u e)) mine);
-          merged = let moved = sum_by_changed weight views by v (drew c v) at in omega (arith, r.merged);
-          seats = omega (arith, r.seats);
-          draws = omega arith;
+          knows = f.knows;
+          spent = λ e. absurd (cc live);
+          opens = f.opens;
+          dry = λ e. absurd (cc wet);
+          out = λ k e. let same : c ≡ k = cc in rw (← same) (set_here homes c none in_range);
+          back = (fits_taken c (length views) homes job by v in_range home f).back;
         }
+        refl (inl (omega arith))
 
     -- all were drawn
     pub finds_none : (c : ℕ) (homes : List (maybe.Option (Slot T D))) (views : List (Hand T D)) (by : ℕ) (v : Hand T D)
         → Ruled c homes views → get_elem? views by ≡ some v → v.dry ≡ false → v.live ≡ true → length jobs ≤ c
         → Ruled (c + 1) homes (set views by (ran_dry v)) × (c + 1 < 2 ^ 64)
     finds_none c homes views by v r at wet live past =
-        let len : length (set views by (ran_dry v)) ≡ length views = length-set views by (ran_dry v) in
         let f = r.fits by v at in
-        let mine : Fitting (c + 1) (length views) homes by (ran_dry v) = record { knows = f.knows; spent = f.spent; opens = f.opens; dry = λ e. omega arith; out = f.out; back = f.back } in
-        let was : ended v ≡ 0 = ap (λ (b : Bool). ended_if b v.dry) live ∙ ap (ended_if true) wet in
-        let is : ended (ran_dry v) ≡ 1 = ap (λ (b : Bool). ended_if b true) live in
-        let moved = sum_by_changed ended views by v (ran_dry v) at in
-        let few = r.few in
-        let drawn = r.draws in
-        let small = sum_by-le-length ended ended_at_most_one views in
-        let seats = r.seats in (
-          record {
-            sized = r.sized;
-            few = few;
-            dealt = λ k.
-                let moved = sum_by_changed (λ (u : Hand T D). times k (places u)) views by v (ran_dry v) at in
-                let sum = r.dealt k in
-                let before = once_below_all k c (length jobs) past in
-                let after = once_below_all k (c + 1) (length jobs) (omega arith) in
-                omega arith;
-            waiting = λ k other le e. r.waiting k other (omega arith) e;
-            fits = resized (c + 1) (length views) _ homes (set views by (ran_dry v)) (sym len)
-                (fits_set (c + 1) (length views) homes views by (ran_dry v) (λ j u apart e. fits_more c (length views) homes j u (r.fits j u e)) mine);
-            merged = let moved = sum_by_changed weight views by v (ran_dry v) at in omega (arith, r.merged);
-            seats = omega arith;
-            draws = omega arith;
-          },
-          omega arith,
+        let was : ended v ≡ 0 = rw (live, wet) in
+        let is : ended (ran_dry v) ≡ 1 = rw live in (
+          view_set c (c + 1) homes homes views by v (ran_dry v) r at refl
+              (λ k. omega (arith, once_below_all k c (length jobs) past, once_below_all k (c + 1) (length jobs) (omega arith)))
+              (λ k other le e. r.waiting k other (omega arith) e) (λ j u apart e. fits_more c (length views) homes j u (r.fits j u e))
+              record { knows = f.knows; spent = f.spent; opens = f.opens; dry = λ e. omega arith; out = f.out; back = f.back }
+              refl (inr (omega arith)),
+          omega (arith, r.few, r.draws, r.seats, sum_by-le-length ended ended_at_most_one views),
         )
 
     -- a place comes back with its value
@@ -196,61 +155,46 @@ module _ {T D : Type 0} where
         → Ruled c homes views → get_elem? views by ≡ some v → v.out ≡ Some k → v.live ≡ true → ((job : T) → slice_get jobs k ≡ Some job → is_value job d)
         → Ruled c (set homes k (some (Finished d))) (set views by (put_back k d v))
     comes_back c homes views by v k d r at out live value =
-        let len : length (set views by (put_back k d v)) ≡ length views = length-set views by (put_back k d v) in
         let f = r.fits by v at in
         let empty = f.out k out in
-        let in_range : k < length homes = get_elem_within homes k none empty in
-        let here : get_elem? (set homes k (some (Finished d))) k ≡ some (some (Finished d)) = set_here homes k (some (Finished d)) in_range in
-        let new_back : List (ℕ × D) = v.back ++ (k, d) ∷ [] in
-        let one : times k (places v) ≡ 1 + times k (places_back v) = let e = out_listed k (Some k) v out in let t = times-itself k in omega arith in
-        let most : (x : ℕ) → sum_by (λ (u : Hand T D). times x (places u)) views ≤ 1 = λ x. let s = r.dealt x in let b = once_below_most x (min c (length jobs)) in omega arith in
-        let kept : (j : ℕ) (u : Hand T D) → Fitting c (length views) homes j u → (i : ℕ) (e : D) → Contains u.back (i, e) → (get_elem? (set homes k (some (Finished d))) i ≡ some (some (Finished e))) × ((job : T) → slice_get jobs i ≡ Some job → is_value job e) =
-        λ j u fu i e h. let b = fu.back i e h in (set_else homes k i (some (Finished d)) (λ (p : i ≡ k). not_none homes i i (Finished e) b.0 (ap (get_elem? homes) p ∙ empty) refl) ∙ b.0, b.1) in
-        let mine : Fitting c (length views) (set homes k (some (Finished d))) by (put_back k d v) = record {
+        let after = set homes k (some (Finished d)) in
+        let kept : (j : ℕ) (u : Hand T D) → Fitting c (length views) homes j u → (i : ℕ) (e : D) → Contains u.back (i, e)
+        → (get_elem? after i ≡ some (some (Finished e))) × ((job : T) → slice_get jobs i ≡ Some job → is_value job e) =
+        λ j u fu i e h. let b = fu.back i e h in (set_else homes k i (some (Finished d)) (λ same. (cc (b.0, empty))) ∙ b.0, b.1) in
+        let once : (u : Hand T D) → u.out ≡ Some k → 1 ≤ times k (places u) = λ u o. omega (arith, out_listed k (Some k) u o, times-itself k) in
+        view_set c c homes after views by v (put_back k d v) r at (length-set homes k (some (Finished d)))
+        (λ x.
+        let more = ap (times x) (map-append (λ (p : ℕ × D). p.0) v.back ((k, d) ∷ [])) in
+        omega (arith, out_listed x (Some k) v out, out_listed x None (put_back k d v) refl, times-append x (places_back v) (k ∷ []), more))
+        (λ i job le e. let w = r.waiting i job le e in set_else homes k i (some (Finished d)) (λ same. (cc (w, empty))) ∙ w)
+        (λ j u apart e.
+        let fu = r.fits j u e in
+        record {
+          knows = fu.knows;
+          spent = fu.spent;
+          opens = fu.opens;
+          dry = fu.dry;
+          out = λ i o.
+              let two = two-le-sum_by (λ (x : Hand T D). times k (places x)) views by j v u (λ q. apart (sym q)) at e in
+              let most = once_below_most k (min c (length jobs)) in
+              set_else homes k i (some (Finished d)) (λ (same : i ≡ k). omega (arith, once v out, once u (o ∙ ap Some same), r.dealt k, two, most))
+              ∙ fu.out i o;
+          back = kept j u fu;
+        })
+        record {
           knows = f.knows;
-          spent = λ e. absurd (true≢false (sym live ∙ e));
+          spent = λ e. absurd (cc live);
           opens = f.opens;
           dry = f.dry;
           out = λ i e. absurd (cc);
-          back = λ i e h. ⊎_elim
-              (λ (old : Contains v.back (i, e)). kept by v f i e old)
-              (λ (same : (k, d) ≡ (i, e)). subst (λ (p : ℕ × D). (get_elem? (set homes k (some (Finished d))) p.0 ≡ some (some (Finished p.1))) × ((job : T) → slice_get jobs p.0 ≡ Some job → is_value job p.1)) same (here, value))
-              (Contains-push_cases v.back (k, d) (i, e) h);
-        } in
-        record {
-          sized = length-set homes k (some (Finished d)) ∙ r.sized;
-          few = r.few;
-          dealt = λ x.
-              let moved = sum_by_changed (λ (u : Hand T D). times x (places u)) views by v (put_back k d v) at in
-              let before = out_listed x (Some k) v out in
-              let after = out_listed x None (put_back k d v) refl in
-              let more : times x (map (λ (p : ℕ × D). p.0) new_back) ≡ times x (places_back v) + times x (k ∷ []) = ap (times x) (map-append (λ (p : ℕ × D). p.0) v.back ((k, d) ∷ [])) ∙ times-append x (places_back v) (k ∷ []) in
-              let sum = r.dealt x in
-              omega arith;
-          waiting = λ i job le e. let w = r.waiting i job le e in set_else homes k i (some (Finished d)) (λ (p : i ≡ k). not_none homes i i (Waiting job) w (ap (get_elem? homes) p ∙ empty) refl) ∙ w;
-          fits = resized c (length views) _ (set homes k (some (Finished d))) (set views by (put_back k d v)) (sym len)
-              (fits_set c (length views) (set homes k (some (Finished d))) views by (put_back k d v)
-              (λ j u apart e.
-              let fu = r.fits j u e in
-              record {
-                knows = fu.knows;
-                spent = fu.spent;
-                opens = fu.opens;
-                dry = fu.dry;
-                out = λ i o. let other : i ≢ k = λ (p : i ≡ k).
-                    let two = two-le-sum_by (λ (x : Hand T D). times k (places x)) views by j v u (λ q. apart (sym q)) at e in
-                    let mine = one in
-                    let theirs : times k (places u) ≡ 1 + times k (places_back u) = let z = out_listed k (Some k) u (o ∙ ap Some p) in let t = times-itself k in omega arith in
-                    let m = most k in
-                    omega arith in
-                    set_else homes k i (some (Finished d)) other ∙ fu.out i o;
-                back = kept j u fu;
-              })
-              mine);
-          merged = let moved = sum_by_changed weight views by v (put_back k d v) at in omega (arith, r.merged);
-          seats = omega (arith, r.seats);
-          draws = let moved = sum_by_changed ended views by v (put_back k d v) at in omega (arith, r.draws);
+          back = λ i e h. elim (Contains-push_cases v.back (k, d) (i, e) h) [
+            | inl old ↦ kept by v f i e old
+            | inr same ↦
+                subst (λ (p : ℕ × D). (get_elem? after p.0 ≡ some (some (Finished p.1))) × ((job : T) → slice_get jobs p.0 ≡ Some job → is_value job p.1)) same
+                (set_here homes k (some (Finished d)) (get_elem_within homes k none empty), value)
+          ];
         }
+        refl (inr (omega arith))
 
     -- the opening seat gives one more
     pub gives_one : (c : ℕ) (homes : List (maybe.Option (Slot T D))) (views : List (Hand T D)) (by : ℕ) (v : Hand T D)
@@ -266,37 +210,20 @@ module _ {T D : Type 0} where
         λ j u apart e. let fu = r.fits j u e in record { knows = fu.knows; spent = fu.spent; opens = λ q. absurd (apart ((fu.opens q).0 ∙ sym o.0)); dry = fu.dry; out = fu.out; back = fu.back } in
         let mine : Fitting c (length views + 1) homes by (gave v) =
         record { knows = f.knows; spent = f.spent; opens = λ q. (o.0, o.1, omega (arith, o.2)); dry = f.dry; out = f.out; back = f.back } in
-        let new : (j : ℕ) → Fitting c (length views + 1) homes j fresh = λ j. record {
-          knows = λ q. f.knows o.1;
-          spent = λ q. absurd (true≢false q);
-          opens = λ q. absurd (true≢false (sym q));
-          dry = λ q. absurd (true≢false (sym q));
-          out = λ i q. absurd (cc);
-          back = λ i d h. absurd (omega (arith, h.1));
-        } in
         record {
           sized = r.sized;
           few = r.few;
           dealt = λ k.
-              let moved = sum_by_changed (λ (u : Hand T D). times k (places u)) views by v (gave v) at in
-              let more = sum_by_push (λ (u : Hand T D). times k (places u)) first fresh in
-              let sum = r.dealt k in
-              omega arith;
+              let count : Hand T D → ℕ = λ u. times k (places u) in
+              omega (arith, sum_by_changed count views by v (gave v) at, sum_by_push count first fresh, r.dealt k);
           waiting = r.waiting;
-          fits = resized c (length views + 1) _ homes (first ++ fresh ∷ []) (sym len)
-              (λ j u e. ⊎_elim
+          fits = rw len (λ j u e. ⊎_elim
               (λ (was : get_elem? first j ≡ some u). fits_set c (length views + 1) homes views by (gave v) old mine j u was)
-              (λ (is : fresh ≡ u). subst (λ (x : Hand T D). Fitting c (length views + 1) homes j x) is (new j))
+              (λ (is : fresh ≡ u). rw (← is) (new_fits c (length views + 1) homes j fresh (λ q. f.knows o.1) (λ q. absurd (cc)) refl refl refl))
               (at_snoc first fresh u j e));
-          merged =
-              let moved = sum_by_changed weight views by v (gave v) at in
-              let more = sum_by_push weight first fresh in
-              omega (arith, r.merged);
+          merged = omega (arith, sum_by_changed weight views by v (gave v) at, sum_by_push weight first fresh, r.merged);
           seats = omega (arith, o.2);
-          draws =
-              let moved = sum_by_changed ended views by v (gave v) at in
-              let more = sum_by_push ended first fresh in
-              omega (arith, r.draws);
+          draws = omega (arith, sum_by_changed ended views by v (gave v) at, sum_by_push ended first fresh, r.draws);
         }
 
     -- a seat takes in another
@@ -309,56 +236,40 @@ module _ {T D : Type 0} where
         let first : List (Hand T D) = set views by both in
         let spent : Hand T D = spent_hand in
         let len : length (set first other spent) ≡ length views = length-set first other spent ∙ length-set views by both in
-        let was : get_elem? views other ≡ some w = ⊎_elim (λ (x : (other ≡ by) × (both ≡ w)). absurd (apart x.0)) (λ (x : (other ≢ by) × (get_elem? views other ≡ some w)). x.1) (at_set views by other both w there) in
+        let was : get_elem? views other ≡ some w = sym (set_else views by other both apart) ∙ there in
         let f = r.fits by v at in
         let f' = r.fits other w was in
         let mine : Fitting c (length views) homes by both = record {
           knows = f.knows;
-          spent = λ q. absurd (true≢false (sym live ∙ q));
+          spent = λ q. absurd (cc live);
           opens = f.opens;
           dry = λ q. ⊎_elim (λ a. f.dry a) (λ b. f'.dry b) (or_cases v.dry w.dry q);
           out = f.out;
           back = λ i d h. ⊎_elim (λ a. f.back i d a) (λ b. f'.back i d b) (Contains-append_cases v.back w.back (i, d) h);
         } in
-        let gone : Fitting c (length views) homes other spent = record {
-          knows = λ q. absurd (true≢false (sym q));
-          spent = λ q. (refl, refl);
-          opens = λ q. absurd (true≢false (sym q));
-          dry = λ q. absurd (true≢false (sym q));
-          out = λ i q. absurd (cc);
-          back = λ i d h. absurd (omega (arith, h.1));
-        } in
         record {
           sized = r.sized;
           few = r.few;
           dealt = λ k.
-              let moved = sum_by_changed (λ (u : Hand T D). times k (places u)) views by v both at in
-              let left = sum_by_changed (λ (u : Hand T D). times k (places u)) first other w spent there in
-              let here = times-append k (option_to_list v.out) (places_back v) in
-              let theirs = out_listed k None w idle in
-              let together = times-append k (option_to_list v.out) (places_back both) in
-              let more : times k (places_back both) ≡ times k (places_back v) + times k (places_back w) = ap (times k) (map-append (λ (p : ℕ × D). p.0) v.back w.back) ∙ times-append k (places_back v) (places_back w) in
-              let sum = r.dealt k in
-              omega arith;
+              let count : Hand T D → ℕ = λ u. times k (places u) in
+              let listed = out_listed k v.out v refl in
+              let together = out_listed k v.out both refl in
+              let more = ap (times k) (map-append (λ (p : ℕ × D). p.0) v.back w.back) in
+              let parts = times-append k (places_back v) (places_back w) in
+              omega (arith, sum_by_changed count views by v both at, sum_by_changed count first other w spent there, r.dealt k, out_listed k None w idle);
           waiting = r.waiting;
-          fits = resized c (length views) _ homes (set first other spent) (sym len)
-              (fits_set c (length views) homes first other spent (λ j u _ e. fits_set c (length views) homes views by both (λ i y _ e'. r.fits i y e') mine j u e) gone);
+          fits = rw len (fits_set c (length views) homes first other spent
+              (λ j u _ e. fits_set c (length views) homes views by both (λ i y _ e'. r.fits i y e') mine j u e)
+              (new_fits c (length views) homes other spent (λ q. absurd (cc)) (λ q. absurd (cc)) refl refl refl));
           merged =
-              let moved = sum_by_changed weight views by v both at in
-              let left = sum_by_changed weight first other w spent there in
-              let a : weight v ≡ v.merged + 1 = ap (λ (b : Bool). if b then v.merged + 1 else 0) live in
-              let b : weight w ≡ w.merged + 1 = ap (λ (b : Bool). if b then w.merged + 1 else 0) live' in
-              let t : weight both ≡ ((v.merged + w.merged) + 1) + 1 = ap (λ (b : Bool). if b then ((v.merged + w.merged) + 1) + 1 else 0) live in
-              omega (arith, r.merged);
+              let a : weight v ≡ v.merged + 1 = rw live in
+              let b : weight w ≡ w.merged + 1 = rw live' in
+              let t : weight both ≡ ((v.merged + w.merged) + 1) + 1 = rw live in
+              omega (arith, sum_by_changed weight views by v both at, sum_by_changed weight first other w spent there, r.merged, len);
           seats = omega (arith, r.seats);
           draws =
-              let moved = sum_by_changed ended views by v both at in
-              let left = sum_by_changed ended first other w spent there in
-              let a : ended v ≡ ended_if true v.dry = ap (λ (b : Bool). ended_if b v.dry) live in
-              let b : ended w ≡ ended_if true w.dry = ap (λ (b : Bool). ended_if b w.dry) live' in
-              let t : ended both ≡ ended_if true (v.dry || w.dry) = ap (λ (b : Bool). ended_if b (v.dry || w.dry)) live in
-              let j = ended_join v.dry w.dry in
-              omega (arith, r.draws);
+              let joined : ended v + ended w ≤ ended both + 1 = grind arith in
+              omega (arith, sum_by_changed ended views by v both at, sum_by_changed ended first other w spent there, r.draws);
         }
 
     -- the desk as it is made: each job is at home
@@ -366,7 +277,7 @@ module _ {T D : Type 0} where
     begins few slots same = record {
       sized = ap (λ (l : List (Slot T D)). length (map some l)) same ∙ (length-map (at_home jobs) some ∙ length-map jobs Waiting);
       few = few;
-      dealt = λ k. let e = once_below_none k (length jobs) in omega arith;
+      dealt = λ k. omega (arith, once_below_past k (min 0 (length jobs)) (omega arith));
       waiting = λ k job _ e. ap (λ (l : List (Slot T D)). get_elem? (map some l) k) same ∙ waits jobs k job e;
       fits = one;
       merged = refl;
@@ -376,16 +287,10 @@ module _ {T D : Type 0} where
       where
         waits : (js : List T) (k : ℕ) (job : T) → slice_get js k ≡ Some job → get_elem? (map some (at_home js)) k ≡ some (some (Waiting job))
         waits [] k job e = absurd (cc)
-        waits (x ∷ js) zero job e = ap (λ (j : T). some (some (Waiting j))) (let q : x ≡ job = cc in q)
+        waits (x ∷ js) zero job e = cc
         waits (x ∷ js) (suc k) job e = waits js k job e
 
         one : (by : ℕ) (v : Hand T D) → get_elem? (opening_hand jobs ∷ []) by ≡ some v → Fitting 0 1 (map some slots) by v
-        one zero v e = subst (Fitting 0 1 (map some slots) 0) (some-injective _ _ e) record {
-          knows = λ _. refl;
-          spent = λ q. absurd (true≢false q);
-          opens = λ _. (refl, refl, refl);
-          dry = λ q. absurd (true≢false (sym q));
-          out = λ i q. absurd (cc);
-          back = λ i d h. absurd (omega (arith, h.1));
-        }
+        one zero v e =
+            rw (← some-injective _ _ e) (new_fits 0 1 (map some slots) 0 (opening_hand jobs) (λ _. refl) (λ _. (refl, refl, refl)) refl refl refl)
         one (suc by) v e = absurd (some-ne-none v (sym e))

@@ -1,9 +1,9 @@
 -- The laws of the rule.
-use Rattle.std.proofs.Common.{◌≡◌, ℕ, ◌<◌, ◌⊎◌, inl, inr, min, [], ◌∷◌, List, length, ap, arith, Option, Some, None, lt_of_not-le}
+use Rattle.std.proofs.Common.{◌≡◌, ℕ, ◌<◌, ◌⊎◌, inl, inr, min, List, length, arith, Option, Some, None, lt_of_not-le}
 use Rattle.std.specs.Prelude.{slice_index, option_to_list}
 use Rattle.std.proofs.lemmas.Bool.Decides.{nat_tests}
 use mathlib.Core.Logic.{dite}
-use native.Mathlib.Decide.{dec_le, ℕ_discrete}
+use native.Mathlib.Decide.{dec_le}
 use Rattle.atomic_table.specs.Table.{State}
 use Rattle.deal_desk.specs.declared.hand.Hand.{Hand}
 use Rattle.deal_desk.specs.declared.job.Slot.{Slot}
@@ -18,7 +18,7 @@ use Rattle.deal_desk.proofs.Sums.{two-le-sum_by, sum_by-le-length, term_above_ze
 -- the number in a list that has at most one
 only_one : (k : ℕ) (o : Option ℕ) → 0 < times k (option_to_list o) → o ≡ Some k
 only_one k None h = absurd (omega arith)
-only_one k (Some j) h = dite (ℕ_discrete j k) (λ e. ap Some e) (λ n. let none : times k (j ∷ []) ≡ 0 = grind (arith, nat_tests) in absurd (omega arith))
+only_one k (Some j) h = grind (arith, nat_tests)
 
 module _ {T D : Type 0} (is_value : T → D → Type 0) (jobs : List T) where
   drawn : (s : State (Slot T D) (Hand T D)) → Dealing is_value jobs s → (k : ℕ) → k < length jobs → k < slice_index s.words 0 → IsOut is_value jobs s k ⊎ IsFinished is_value jobs s k
@@ -42,16 +42,10 @@ module _ {T D : Type 0} (is_value : T → D → Type 0) (jobs : List T) where
   pub seats_apart : SeatsApart is_value jobs
   seats_apart s h i j v w apart at at' k here =
       let two = two-le-sum_by (λ (u : Hand T D). times k (places u)) s.views i j v w apart at at' in
-      let sum = h.0.dealt k in
-      let most = once_below_most k (min (slice_index s.words 0) (length jobs)) in
-      omega arith
+      omega (arith, two, h.0.dealt k, once_below_most k (min (slice_index s.words 0) (length jobs)))
 
   pub dry_means_dealt : DryMeansDealt is_value jobs
   dry_means_dealt s h by v at dry k lt = let past = (h.0.fits by v at).dry dry in drawn s h k lt (omega arith)
 
   pub counters_tell : CountersTell is_value jobs
-  counters_tell s h =
-      let draws = h.0.draws in
-      let seats = h.0.seats in
-      let few = sum_by-le-length ended ended_at_most_one s.views in
-      (omega arith, h.2)
+  counters_tell s h = (omega (arith, h.0.draws, h.0.seats, sum_by-le-length ended ended_at_most_one s.views), h.2)

@@ -44,23 +44,21 @@ module _ {V : Type 0} where
 
   -- where f adds up to nothing, so does g, if g is 0 wherever f is
   sum_by_of_none : (f g : V → ℕ) (vs : List V) → sum_by f vs ≡ 0 → ((i : ℕ) (u : V) → get_elem? vs i ≡ some u → f u ≡ 0 → g u ≡ 0) → sum_by g vs ≡ 0
-  sum_by_of_none f g [] e h = refl
-  sum_by_of_none f g (x ∷ vs) e h =
-      let parts = sum_by-cons f x vs in
-      let here = h 0 x refl (omega arith) in
-      let there = sum_by_of_none f g vs (omega arith) (λ i u at z. h (suc i) u at z) in
-      omega (arith, sum_by-cons g x vs)
+  sum_by_of_none f g vs e h = dite (dec_le 1 (sum_by g vs))
+      (λ some_term.
+      let t = term_above_zero g vs some_term in
+      absurd (omega (arith, h t.0 t.1 t.2 (omega (arith, one-le-sum_by f vs t.0 t.1 t.2)), t.3)))
+      (λ no. omega arith)
 
   -- where f adds up to what it is at one view, so does g, if g is 0 wherever f is
   pub sum_by_of_one : (f g : V → ℕ) (vs : List V) (i : ℕ) (v : V) → get_elem? vs i ≡ some v → sum_by f vs ≡ f v → ((j : ℕ) (u : V) → get_elem? vs j ≡ some u → f u ≡ 0 → g u ≡ 0) → sum_by g vs ≡ g v
   sum_by_of_one f g [] i v e s h = absurd (some-ne-none v (sym e))
   sum_by_of_one f g (x ∷ vs) zero v e s h =
-      let parts = sum_by-cons f x vs in
-      let there = sum_by_of_none f g vs (omega (arith, ap f (some-injective x v e))) (λ i u at z. h (suc i) u at z) in
-      omega (arith, sum_by-cons g x vs, ap g (some-injective x v e))
+      let here = some-injective x v e in
+      let there = sum_by_of_none f g vs (omega (arith, sum_by-cons f x vs, ap f here)) (λ i u at z. h (suc i) u at z) in
+      omega (arith, sum_by-cons g x vs, ap g here)
   sum_by_of_one f g (x ∷ vs) (suc i) v e s h =
       let parts = sum_by-cons f x vs in
       let le = one-le-sum_by f vs i v e in
       let there = sum_by_of_one f g vs i v e (omega arith) (λ j u at z. h (suc j) u at z) in
-      let here = h 0 x refl (omega arith) in
-      omega (arith, sum_by-cons g x vs)
+      omega (arith, sum_by-cons g x vs, h 0 x refl (omega arith))

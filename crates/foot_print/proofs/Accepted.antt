@@ -1,10 +1,11 @@
 -- What an accepted answer says of its tests, and where footprints hold others.
-use Rattle.std.specs.Prelude.{◌≡◌, Bool, true, false, ◌&&◌, T, List, ◌++◌, Option, Some, None, Result, Ok, Err, ok_or, is_ok, refl}
+use native.Mathlib.Omega.{arith}
+use Rattle.std.specs.Prelude.{◌≡◌, Bool, ◌&&◌, T, ◌++◌, Option, Some, Result, Ok, Err, ok_or, is_ok, refl}
 use mathlib.Core.Path.{sym, subst, ap}
 use Rattle.sqe_codec.specs.declared.errno.Errno.{Errno}
 use Rattle.sqe_codec.specs.Answers.{◌>>=◌, ◌>>◌, require, each_ok}
-use Rattle.world_parts.specs.World.{World, Change}
-use Rattle.op_meaning.specs.Meaning.{Effect, done}
+use Rattle.world_parts.specs.World.{World}
+use Rattle.op_meaning.specs.Meaning.{Effect}
 use Rattle.world_parts.specs.Items.{member_of, Use, Footprint, Holds}
 use Rattle.foot_print.proofs.Agreement.{in_left, in_right}
 use Rattle.foot_print.proofs.CoverChanges.{SupportsAll}
@@ -20,20 +21,21 @@ ok_bind (Ok x) f y h = (x, refl, h)
 ok_bind (Err e) f y h = absurd (err_apart h)
 
 pub ok_then : {A B : Type 0} (r : Result A Errno) (f : Result B Errno) (y : B) → (r >> f) ≡ Ok y → (f ≡ Ok y) × T (is_ok r)
-ok_then (Ok x) f y h = (h, tt)
-ok_then (Err e) f y h = absurd (err_apart h)
+ok_then r f y h = grind arith
 
 pub ok_require : {A : Type 0} (b : Bool) (e : Errno) (r : Result A Errno) (y : A) → (require b e >> r) ≡ Ok y → (r ≡ Ok y) × T b
-ok_require true e r y h = (h, tt)
-ok_require false e r y h = absurd (err_apart h)
+ok_require b e r y h = grind arith
 
 pub ok_some : {A : Type 0} (o : Option A) (e : Errno) (x : A) → ok_or o e ≡ Ok x → o ≡ Some x
-ok_some None e x h = absurd (err_apart h)
-ok_some (Some y) e x h = ap Some (ok_same y x h)
+ok_some o e x h = grind arith
 
--- The changes of an accepted operation that only has changes.
-pub of_done : (f : Footprint) (s : World) (cs : List Change) (x : Effect) → ◌≡◌ {A = Result Effect Errno} (Ok (done cs)) (Ok x) → SupportsAll f s cs → SupportsAll f s x.changes
-of_done f s cs x h g = subst (λ (y : Effect). SupportsAll f s y.changes) (ok_same (done cs) x h) g
+-- What stands behind a test is the same where it is so once the test is passed.
+pub after_require : {A : Type 0} (b : Bool) (e : Errno) (x y : Result A Errno) → (T b → x ≡ y) → (require b e >> x) ≡ (require b e >> y)
+after_require b e x y h = grind arith
+
+-- What an accepted answer changes is supported where that of its effect is.
+pub supports_effect : (g : Footprint) (u : World) (x y : Effect) → ◌≡◌ {A = Result Effect Errno} (Ok x) (Ok y) → SupportsAll g u x.changes → SupportsAll g u y.changes
+supports_effect g u x y e h = subst (λ z. SupportsAll g u z.changes) (ok_same x y e) h
 
 pub holds_left : (f g : Footprint) → Holds (f ++ g) f
 holds_left f g = record { has = λ a m. in_left (λ (u : Use). member_of u.item a) f g m; writes = λ a m. in_left (λ (u : Use). u.written && member_of u.item a) f g m }

@@ -1,5 +1,7 @@
 -- What agreement on a footprint gives for its parts, and for the file that a number stands for.
-use Rattle.std.specs.Prelude.{◌≡◌, ℕ, Bool, true, false, cond, ◌||◌, ltb, T, List, [], ◌∷◌, ◌++◌, map, length, Option, Some, None, refl}
+use native.Mathlib.Omega.{arith}
+use Rattle.std.proofs.lemmas.List.Folds.{list_any-append}
+use Rattle.std.specs.Prelude.{◌≡◌, ℕ, Bool, true, false, cond, ltb, T, List, [], ◌∷◌, ◌++◌, map, length, Option, Some, None, refl}
 use Rattle.std.specs.List.{list_any}
 use Rattle.std.specs.Option.{option_map, option_and_then}
 use mathlib.Core.Path.{sym, subst, ap, ◌∙◌}
@@ -15,13 +17,10 @@ use Rattle.world_parts.proofs.Collision.{both, either_left, either_right, same_a
 use Rattle.world_parts.proofs.Trees.{some_apart, some_same}
 
 pub in_left : {A : Type 0} (p : A → Bool) (xs ys : List A) → T (list_any p xs) → T (list_any p (xs ++ ys))
-in_left p [] ys h = absurd h
-in_left p (x ∷ xs) ys h =
-    elim (p x) as (λ b. T (b || list_any p xs) → T (b || list_any p (xs ++ ys))) [ true ↦ λ k. tt | false ↦ λ k. in_left p xs ys k ] h
+in_left p xs ys h = rw list_any-append (either_left _ _ h)
 
 pub in_right : {A : Type 0} (p : A → Bool) (xs ys : List A) → T (list_any p ys) → T (list_any p (xs ++ ys))
-in_right p [] ys h = h
-in_right p (x ∷ xs) ys h = either_right (p x) _ (in_right p xs ys h)
+in_right p xs ys h = rw list_any-append (either_right (list_any p xs) _ h)
 
 pub agree_left : (s u : World) (f g : Footprint) → Agree (f ++ g) s u → Agree f s u
 agree_left s u f g h = record { same = λ a m. h.same a (in_left _ f g m) }
@@ -34,12 +33,14 @@ agree_tail s u x f h = record { same = λ a m. h.same a (either_right (member_of
 
 pub has_atom-as_reads : (f : Footprint) (a : Atom) → T (has_atom f a) → T (has_atom (as_reads f) a)
 has_atom-as_reads [] a h = h
-has_atom-as_reads (x ∷ f) a h =
-    elim (member_of x.item a) as (λ b. T (b || has_atom f a) → T (b || has_atom (as_reads f) a)) [ true ↦ λ k. tt | false ↦ λ k. has_atom-as_reads f a k ] h
+has_atom-as_reads (x ∷ f) a h = grind (arith, has_atom-as_reads f a)
 
 pub agree_taken : (s u : World) (b : Bool) (f : Footprint) → Agree (cond b f (as_reads f)) s u → Agree f s u
 agree_taken s u true f h = h
 agree_taken s u false f h = record { same = λ a m. h.same a (has_atom-as_reads f a m) }
+
+pub agree_head : (s u : World) (a : Atom) (w : Bool) (f : Footprint) → Agree (record { item = one a; written = w } ∷ f) s u → value s a ≡ value u a
+agree_head s u a w f h = h.same a (either_left _ _ (same_atom_refl a))
 
 -- The open file description that a number stands for, and its handle, are the same.
 pub held_same : (t : Trace) (s u : World) (r : ℕ) (f : File) → Agree (map reads (held_item t r f)) s u → held t u r f ≡ held t s r f
@@ -53,9 +54,6 @@ held_same t s u r (at_descriptor n) h =
       | true ↦ λ k. sym (k.same (descriptor_at n) (either_left _ _ (eqb_refl n)))
       | false ↦ λ k. refl
     ] h
-
-pub agree_head : (s u : World) (a : Atom) (w : Bool) (f : Footprint) → Agree (record { item = one a; written = w } ∷ f) s u → value s a ≡ value u a
-agree_head s u a w f h = h.same a (either_left _ _ (same_atom_refl a))
 
 -- Where two worlds agree on what an operation has of an open file, its handle is the same, and they agree on what it has of the file.
 pub handle_same : (t : Trace) (s u : World) (r : ℕ) (f : File) (content : ℕ → Handle → Footprint) → Agree (on_file t s r f content) s u → handle t u r f ≡ handle t s r f

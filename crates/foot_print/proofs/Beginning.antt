@@ -1,22 +1,19 @@
 -- At the start of a trace the numbers of all places are unused.
-use Rattle.std.specs.Prelude.{◌≡◌, ℕ, suc, true, false, cond, ◌==◌, ◌+◌, ◌≤◌, T, List, [], ◌∷◌, length, Some, None, Result, Ok, Err, refl}
+use Rattle.std.proofs.lemmas.Bool.{ne_eqb}
+use Rattle.std.specs.Prelude.{◌≡◌, ℕ, suc, cond, ◌+◌, ◌≤◌, List, [], ◌∷◌, length, Some, None, refl}
 use Rattle.std.specs.Option.{option_map}
 use Rattle.std.specs.Ordering.{nat_cmp}
 use Rattle.std.specs.Cmp.{unsigned_tied}
-use mathlib.Core.Path.{sym, subst, ap, ◌∙◌}
+use mathlib.Core.Path.{ap, ◌∙◌}
 use native.Mathlib.Omega.{arith}
 use lib.Dec.{eqb→eq}
-use Rattle.sqe_codec.specs.declared.errno.Errno.{Errno}
 use Rattle.trace_format.specs.declared.trace.Trace.{Trace}
 use Rattle.trace_format.specs.declared.trace.Item.{Item}
 use Rattle.trace_format.specs.declared.trace.Node.{Node as InitialNode}
 use Rattle.trace_format.specs.declared.trace.Node.TheVariants.{Directory, File, OtherName}
-use Rattle.finite_maps.specs.Table.{Table, empty, get, insert, get-insert, get-assign, number_keys}
-use Rattle.trace_format.specs.Paths.{components}
+use Rattle.finite_maps.specs.Table.{Table, empty, get, insert, get-insert, get-assign, number_keys, adjust_number}
 use Rattle.world_parts.specs.World.{World, Description, apply, apply_all, make_node, write_bytes, set_size}
-use Rattle.file_tree.specs.Tree.{Node, a_directory, a_file, new_node, renamed_node}
-use Rattle.finite_maps.specs.Table.{adjust_number}
-use Rattle.file_tree.specs.Walk.{Place, walk_from}
+use Rattle.file_tree.specs.Tree.{Node, a_directory, a_file, new_node}
 use Rattle.world_parts.specs.Start.{start, name_at, with_node, with_items, descriptions_from, bare}
 use Rattle.foot_print.specs.Replayed.{IsBefore}
 
@@ -24,34 +21,19 @@ use Rattle.foot_print.specs.Replayed.{IsBefore}
 abbrev Above : {X : Type 0} → ℕ → Table nat_cmp X → Type 0
 Above n m = (q : ℕ) → n ≤ q → get m q ≡ None
 
-above_insert : {X : Type 0} (n : ℕ) (m : Table nat_cmp X) (x : X) → Above n m → Above (suc n) (insert number_keys.total m n x)
-above_insert n m x h q le =
-    get-insert number_keys.total m n x q ∙ ap (λ b. cond b (Some x) (get m q)) (unsigned_tied q n)
-    ∙ elim (q == n) as (λ b. (q == n) ≡ b → cond b (Some x) (get m q) ≡ None) [
-      | true ↦ λ e. absurd (apart (eqb→eq q n (subst T (sym e) tt)))
-      | false ↦ λ e. h q (omega arith)
-    ] refl
-  where
-    apart : q ≡ n → ⊥
-    apart e = omega arith
+-- A value that is put at another number changes nothing at a number where nothing is.
+inserted_none : {X : Type 0} (m : Table nat_cmp X) (n q : ℕ) (x : X) → ¬ (q ≡ n) → get m q ≡ None → get (insert number_keys.total m n x) q ≡ None
+inserted_none m n q x apart h =
+    get-insert number_keys.total m n x q ∙ ap (λ b. cond b (Some x) (get m q)) (unsigned_tied q n ∙ ne_eqb q n apart) ∙ h
 
-adjusted_none : {X : Type 0} (f : X → X) (m : Table nat_cmp X) (k q : ℕ) → get m q ≡ None → get (adjust_number f m k) q ≡ None
-adjusted_none f m k q h =
-    get-assign number_keys.total m k (option_map f (get m k)) q ∙ ap (λ b. cond b (option_map f (get m k)) (get m q)) (unsigned_tied q k)
-    ∙ elim (q == k) as (λ b. (q == k) ≡ b → cond b (option_map f (get m k)) (get m q) ≡ None) [
-      | true ↦ λ e. ap (λ x. option_map f (get m x)) (sym (eqb→eq q k (subst T (sym e) tt))) ∙ ap (option_map f) h
-      | false ↦ λ e. h
-    ] refl
+above_insert : {X : Type 0} (n : ℕ) (m : Table nat_cmp X) (x : X) → Above n m → Above (suc n) (insert number_keys.total m n x)
+above_insert n m x h q le = inserted_none m n q x (λ e. omega arith) (h q (omega arith))
 
 above_adjust : {X : Type 0} (f : X → X) (n : ℕ) (m : Table nat_cmp X) (k : ℕ) → Above n m → Above n (adjust_number f m k)
-above_adjust f n m k h q le = adjusted_none f m k q (h q le)
+above_adjust f n m k h q le = let there = get-assign number_keys.total m k (option_map f (get m k)) q in let tied = unsigned_tied q k in grind (arith, eqb→eq)
 
 above_named : (n : ℕ) (s : World) (path : List ℕ) (i : ℕ) → Above n s.nodes → Above n (name_at s path i).nodes
-above_named n s path i h = by (walk_from s.nodes 0 (components path)) refl
-  where
-    by : (r : Result Place Errno) → walk_from s.nodes 0 (components path) ≡ r → Above n (name_at s path i).nodes
-    by (Ok p) e = rw e (above_adjust (renamed_node p.name (Some i)) n s.nodes p.parent h)
-    by (Err x) e = rw e h
+above_named n s path i h = grind (arith, above_adjust)
 
 above_node : (s : World) (i : ℕ) (path : List ℕ) (x : InitialNode) → Above i s.nodes → Above (suc i) (with_node s i path x).nodes
 above_node s i path Directory h = above_named (suc i) (apply (make_node i a_directory) s) path i (above_insert i s.nodes (new_node a_directory) h)
@@ -67,16 +49,10 @@ above_items (x ∷ xs) s i h q le = above_items xs (with_node s i x.path x.node)
 above_descriptions : (ds : List Description) (n q : ℕ) → n + length ds ≤ q → get (descriptions_from n ds) q ≡ None
 above_descriptions [] n q le = refl
 above_descriptions (d ∷ ds) n q le =
-    get-insert number_keys.total (descriptions_from (suc n) ds) n d q ∙ ap (λ b. cond b (Some d) (get (descriptions_from (suc n) ds) q)) (unsigned_tied q n)
-    ∙ elim (q == n) as (λ b. (q == n) ≡ b → cond b (Some d) (get (descriptions_from (suc n) ds) q) ≡ None) [
-      | true ↦ λ e. absurd (apart (eqb→eq q n (subst T (sym e) tt)))
-      | false ↦ λ e. above_descriptions ds (suc n) q (omega arith)
-    ] refl
-  where
-    apart : q ≡ n → ⊥
-    apart e = let l : n + suc (length ds) ≤ q = le in omega arith
+    let more : n + suc (length ds) ≤ q = le in
+    inserted_none (descriptions_from (suc n) ds) n q d (λ e. omega arith) (above_descriptions ds (suc n) q (omega arith))
 
-above_bare : Above 1 bare.nodes
+pub above_bare : Above 1 bare.nodes
 above_bare = above_insert 0 empty (Node.directory empty 0) (λ q le. refl)
 
 pub starts_before : (t : Trace) → IsBefore t 0 (start t)

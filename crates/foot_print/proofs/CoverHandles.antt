@@ -1,5 +1,6 @@
 -- Operations that use no more than the slot or descriptor of a file number: nop, fsync and close.
-use Rattle.std.specs.Prelude.{◌≡◌, ℕ, Bool, true, false, cond, ◌||◌, ltb, T, List, [], ◌∷◌, map, length, Option, None, Ok, refl}
+use native.Mathlib.Omega.{arith}
+use Rattle.std.specs.Prelude.{◌≡◌, ℕ, Bool, cond, ltb, T, List, [], ◌∷◌, map, length, Option, None, Ok, refl}
 use Rattle.std.specs.Option.{is_some}
 use mathlib.Core.Path.{sym, subst, ap}
 use lib.Dec.{eqb_refl}
@@ -9,14 +10,13 @@ use Rattle.sqe_codec.specs.Answers.{◌>>◌, require}
 use Rattle.entry_checks.specs.Operation.{nop, fsync, close, File, in_slot, at_descriptor}
 use Rattle.world_parts.specs.World.{World, slot, set_slot, set_descriptor}
 use Rattle.op_meaning.specs.Meaning.{done, slot_count, held}
-use Rattle.world_parts.specs.Items.{Atom, slot_at, descriptor_at, member_of, Item, one, reads, writes, has_atom, writes_atom, Agree}
+use Rattle.world_parts.specs.Items.{Atom, slot_at, descriptor_at, Item, one, reads, writes, has_atom, writes_atom, Agree}
 use Rattle.op_meaning.specs.Footprint.{held_item, file_reads}
 use Rattle.foot_print.specs.Laws.{Awaits}
-use Rattle.world_parts.proofs.Collision.{either_left, true_of}
+use Rattle.world_parts.proofs.Collision.{either_left, true_of, same_atom_refl}
 use Rattle.foot_print.proofs.Agreement.{held_same}
-use Rattle.world_parts.proofs.Collision.{same_atom_refl}
-use Rattle.foot_print.proofs.Answered.{was_required, after_require}
-use Rattle.foot_print.proofs.CoverOperation.{Owes, supports_effect}
+use Rattle.foot_print.proofs.Accepted.{ok_require, after_require, supports_effect}
+use Rattle.foot_print.proofs.CoverOperation.{Owes}
 
 pub nop_owes : (t : Trace) (k r : ℕ) (s : World) → Awaits t k s → Owes t k r nop s
 nop_owes t k r s w = record {
@@ -30,13 +30,13 @@ fsync_owes t k r s f w = record {
     same_meaning = ap (λ x. require (is_some x) EBADF >> Ok (done [])) (held_same t s u r f a);
     same_row = λ c. refl;
   };
-  supports = λ u v a e q. let m = was_required (is_some (held t u r f)) EBADF (Ok (done [])) e q in supports_effect (file_reads t r f) u (done []) e m.1 tt;
+  supports = λ u v a e q. let m = ok_require (is_some (held t u r f)) EBADF (Ok (done [])) e q in supports_effect (file_reads t r f) u (done []) e m.0 tt;
 }
 
 -- What a footprint writes of some items, worlds that agree on it agree on.
 read_too : (xs : List Item) (a : Atom) → T (has_atom (map reads xs) a) → T (has_atom (map writes xs) a)
 read_too [] a h = h
-read_too (x ∷ xs) a h = elim (member_of x a) as (λ b. T (b || has_atom (map reads xs) a) → T (b || has_atom (map writes xs) a)) [ true ↦ λ k. tt | false ↦ λ k. read_too xs a k ] h
+read_too (x ∷ xs) a h = grind (arith, read_too xs a)
 
 agree_written : (s u : World) (xs : List Item) → Agree (map writes xs) s u → Agree (map reads xs) s u
 agree_written s u xs h = record { same = λ a m. h.same a (read_too xs a m) }
@@ -49,8 +49,7 @@ writes_descriptor : (t : Trace) (r n : ℕ) → T (ltb n (length t.descriptors))
 writes_descriptor t r n h = subst (λ b. T (writes_atom (map writes (cond b (one (descriptor_at n) ∷ []) [])) (descriptor_at n))) (sym (true_of _ h)) (either_left _ _ (eqb_refl n))
 
 there_first : {A : Type 0} (b : Bool) (x : Option A) → T (is_some (cond b x None)) → T b
-there_first true x h = tt
-there_first false x h = h
+there_first b x h = grind arith
 
 pub close_owes : (t : Trace) (k r : ℕ) (s : World) (f : File) → Awaits t k s → Owes t k r (close f) s
 close_owes t k r s (at_descriptor n) w = record {
@@ -59,8 +58,8 @@ close_owes t k r s (at_descriptor n) w = record {
     same_row = λ c. refl;
   };
   supports = λ u v a e q.
-      let m = was_required (is_some (held t u r (at_descriptor n))) EBADF (Ok (done (set_descriptor n None ∷ []))) e q in
-      supports_effect (map writes (held_item t r (at_descriptor n))) u (done (set_descriptor n None ∷ [])) e m.1 (writes_descriptor t r n (there_first _ _ m.0), tt);
+      let m = ok_require (is_some (held t u r (at_descriptor n))) EBADF (Ok (done (set_descriptor n None ∷ []))) e q in
+      supports_effect (map writes (held_item t r (at_descriptor n))) u (done (set_descriptor n None ∷ [])) e m.0 (writes_descriptor t r n (there_first _ _ m.1), tt);
 }
 close_owes t k r s (in_slot n) w = record {
   tells = λ u b a. record {
@@ -68,9 +67,9 @@ close_owes t k r s (in_slot n) w = record {
     same_row = λ c. refl;
   };
   supports = λ u v a e q.
-      let m = was_required (ltb n (slot_count t r)) EINVAL _ e q in
-      let l = was_required (is_some (slot u r n)) EBADF _ e m.1 in
-      supports_effect (map writes (held_item t r (in_slot n))) u (done (set_slot r n None ∷ [])) e l.1 (writes_slot t r n m.0, tt);
+      let m = ok_require (ltb n (slot_count t r)) EINVAL _ e q in
+      let l = ok_require (is_some (slot u r n)) EBADF _ e m.0 in
+      supports_effect (map writes (held_item t r (in_slot n))) u (done (set_slot r n None ∷ [])) e l.0 (writes_slot t r n m.1, tt);
 }
   where
     slot_same : (u : World) → T (ltb n (slot_count t r)) → Agree (map writes (held_item t r (in_slot n))) s u → slot u r n ≡ slot s r n

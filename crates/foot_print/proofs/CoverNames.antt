@@ -1,7 +1,8 @@
 -- The footprints of places that make, link, rename and remove names cover them.
-use Rattle.std.specs.Prelude.{◌≡◌, ℕ, Bool, true, false, cond, not, ◌&&◌, ◌==◌, T, [], ◌∷◌, ◌++◌, Option, Some, None, Result, Ok, Err, ok_or, is_some, is_none, refl, unwrap_or}
+use native.Mathlib.Omega.{arith}
+use Rattle.std.specs.Prelude.{◌≡◌, ℕ, Bool, true, false, cond, not, ◌&&◌, ◌==◌, [], ◌∷◌, ◌++◌, Option, Some, None, Result, Ok, Err, ok_or, is_some, is_none, refl}
 use Rattle.std.specs.List.{list_any}
-use mathlib.Core.Path.{sym, subst, ap, ◌∙◌}
+use mathlib.Core.Path.{subst, ap, ◌∙◌}
 use lib.Dec.{eqb_refl}
 use Rattle.sqe_codec.specs.declared.errno.Errno.{Errno}
 use Rattle.sqe_codec.specs.declared.errno.Errno.TheVariants.{EPERM, ENOENT, EEXIST, ENOTDIR, EISDIR, EINVAL, ENOTEMPTY}
@@ -12,35 +13,29 @@ use Rattle.world_parts.specs.World.{World, kind, set_name, make_node, apply}
 use Rattle.file_tree.specs.Tree.{a_directory, Target}
 use Rattle.file_tree.specs.Walk.{Place, walk, is_directory}
 use Rattle.op_meaning.specs.Meaning.{Effect, done, made_node, new_directory, has_names, may_remove, goes_below, exchange_meaning, exchanged, move_meaning, moved_name, may_replace, rename_to}
-use Rattle.world_parts.specs.Items.{name_at, names_in, one, reads, writes, Footprint, writes_atom, Agree, Holds}
+use Rattle.world_parts.specs.Items.{name_at, names_in, one, reads, writes, Footprint, Agree, Holds}
 use Rattle.op_meaning.specs.Footprint.{tried, made_where, name_written, path_reads, directory_names}
 use Rattle.foot_print.specs.Laws.{Awaits, Unused}
-use Rattle.world_parts.proofs.Collision.{either_left}
+use Rattle.world_parts.proofs.Collision.{either_left, same_atom_refl}
 use Rattle.foot_print.proofs.Agreement.{agree_left, agree_right, agree_head}
 use Rattle.foot_print.proofs.Awaiting.{node_unused}
-use Rattle.world_parts.proofs.Collision.{same_atom_refl}
 use Rattle.world_parts.proofs.ChangesOfNames.{Leads, naming-kind}
 use Rattle.world_parts.proofs.ChangesOfMaking.{made-kind}
 use Rattle.foot_print.proofs.CoverChanges.{SupportsAll}
 use Rattle.foot_print.proofs.CoverOperation.{RowTells, RowSupports, Owes}
 use Rattle.foot_print.proofs.CoverWalk.{walk_same, names_on_same, path_reads_same, walk_leads}
-use Rattle.foot_print.proofs.Accepted.{err_apart, ok_bind, ok_then, ok_require, ok_some, of_done, holds_left, holds_right, holds_over, holds_ok}
+use Rattle.foot_print.proofs.Accepted.{err_apart, ok_bind, ok_then, ok_require, ok_some, supports_effect, holds_left, holds_right, holds_over, holds_ok}
 
 -- What is written of a name.
-pub writes_name : (q : Place) → T (writes_atom (name_written q) (name_at q.parent q.name))
-writes_name q = either_left _ _ (same_atom_refl (name_at q.parent q.name))
-
-pub writes_count : (q : Place) → T (writes_atom (name_written q) (names_in q.parent))
-writes_count q = either_left _ _ (eqb_refl q.parent)
-
 -- Names lead to the nodes of other worlds alike, where those have the same kinds.
 pub leads_after : (s u : World) (x : Option Target) → ((i : ℕ) → kind u i ≡ kind s i) → Leads s x → Leads u x
-leads_after s u None g h = tt
-leads_after s u (Some y) g h = g y.node ∙ h
+leads_after s u x g h = grind arith
 
 -- One name that is set, and two.
 pub name_supported : (f : Footprint) (s : World) (q : Place) (x : Option Target) → Holds f (name_written q) → Leads s x → SupportsAll f s (set_name q.parent q.name x ∷ [])
-name_supported f s q x h l = ((l, h.writes (name_at q.parent q.name) (writes_name q), h.writes (names_in q.parent) (writes_count q)), tt)
+name_supported f s q x h l =
+    let name = h.writes (name_at q.parent q.name) (either_left _ _ (same_atom_refl (name_at q.parent q.name))) in
+    ((l, name, h.writes (names_in q.parent) (either_left _ _ (eqb_refl q.parent))), tt)
 
 pub two_names_supported : (f : Footprint) (s : World) (p q : Place) (x y : Option Target) → Holds f (name_written p) → Holds f (name_written q) → Leads s x → Leads s y → SupportsAll f s (set_name p.parent p.name x ∷ set_name q.parent q.name y ∷ [])
 two_names_supported f s p q x y h k l m = (
@@ -65,7 +60,7 @@ mkdirat_supports t k r s p w x h =
     let at = ok_bind (walk s.nodes p) (λ q. require (is_none q.target) EEXIST >> Ok (done (make_node m a_directory ∷ set_name q.parent q.name (Some (new_directory m)) ∷ []))) x h in
     let q = at.0 in
     let here = holds_over _ _ (uses q) (holds_right (path_reads s p) (each_ok uses (walk s.nodes p))) (holds_ok uses (walk s.nodes p) q at.1) in
-    of_done (path_reads s p ++ each_ok uses (walk s.nodes p)) s _ x (ok_require (is_none q.target) EEXIST _ x at.2).0 (
+    supports_effect (path_reads s p ++ each_ok uses (walk s.nodes p)) s _ x (ok_require (is_none q.target) EEXIST _ x at.2).0 (
       (node_unused t k s w, here.writes (names_in m) ((holds_right (name_written q) (writes (one (names_in m)) ∷ [])).writes (names_in m) (either_left _ _ (eqb_refl m)))),
       name_supported _ (apply (make_node m a_directory) s) q (Some (new_directory m)) (holds_over _ (uses q) (name_written q) here (holds_left (name_written q) (writes (one (names_in m)) ∷ []))) (made-kind s m a_directory),
     )
@@ -92,7 +87,7 @@ linkat_supports t k r s old new x h =
     let y = ok_bind (ok_or p.0.target ENOENT) _ x q.2 in
     let last = (ok_require (not (is_directory y.0.kind)) EPERM _ x (ok_require (is_none q.0.target) EEXIST _ x y.2).0).0 in
     let looks = path_reads s old ++ path_reads s new in
-    of_done (looks ++ each_ok name_written (walk s.nodes new)) s _ x last
+    supports_effect (looks ++ each_ok name_written (walk s.nodes new)) s _ x last
     (name_supported (looks ++ each_ok name_written (walk s.nodes new)) s q.0 (Some y.0)
     (holds_over _ _ (name_written q.0) (holds_right looks (each_ok name_written (walk s.nodes new))) (holds_ok name_written (walk s.nodes new) q.0 q.1))
     (subst (Leads s) (ok_some p.0.target ENOENT y.0 y.1) (walk_leads s old p.0 p.1)))
@@ -107,18 +102,12 @@ removal removes q = name_written q ++ cond removes (directory_names q.target) []
 -- The test of a directory's names is the same where worlds agree on what is read of them.
 has_names_same : (s u : World) (y : Target) → Agree (directory_names (Some y)) s u → (is_directory y.kind && has_names u y.node) ≡ (is_directory y.kind && has_names s y.node)
 has_names_same s u y a =
-    elim (is_directory y.kind) as (λ b. Agree (cond b (reads (one (names_in y.node)) ∷ []) []) s u → (b && has_names u y.node) ≡ (b && has_names s y.node)) [
-      | true ↦ λ k. ap (λ n. not (unwrap_or n 0 == 0)) (sym (agree_head s u (names_in y.node) false [] k))
-      | false ↦ λ k. refl
-    ] a
+    let same = λ (k : Agree (reads (one (names_in y.node)) ∷ []) s u). agree_head s u (names_in y.node) false [] k in
+    grind (arith, same)
 
 may_remove_same : (s u : World) (removes : Bool) (y : Target) → Agree (cond removes (directory_names (Some y)) []) s u → may_remove u removes y ≡ may_remove s removes y
 may_remove_same s u false y a = refl
-may_remove_same s u true y a = by (is_directory y.kind) (has_names_same s u y a)
-  where
-    by : (b : Bool) → (b && has_names u y.node) ≡ (b && has_names s y.node) → (require b ENOTDIR >> require (not (has_names u y.node)) ENOTEMPTY) ≡ (require b ENOTDIR >> require (not (has_names s y.node)) ENOTEMPTY)
-    by true e = ap (λ b. require (not b) ENOTEMPTY) e
-    by false e = refl
+may_remove_same s u true y a = let same = has_names_same s u y a in grind arith
 
 unlinkat_tells : (t : Trace) (k r : ℕ) (s u : World) (p : Path) (removes : Bool) → RowTells t k r s u (unlinkat p removes)
 unfolding removal
@@ -138,8 +127,10 @@ unlinkat_tells t k r s u p removes x a =
     target_same q (Some y) k = ap (λ m. m >> Ok (done (set_name q.parent q.name None ∷ []))) (may_remove_same s u removes y k)
 
     at_place : (q : Result Place Errno) → Agree (each_ok (removal removes) q) s u → (q >>= removed u) ≡ (q >>= removed s)
-    at_place (Ok q) k = target_same q q.target (agree_right s u (name_written q) _ k)
-    at_place (Err e) k = refl
+    at_place q k =
+        let here = λ (x : Place) (l : Agree (name_written x ++ cond removes (directory_names x.target) []) s u).
+        target_same x x.target (agree_right s u (name_written x) _ l) in
+        grind (arith, here)
 
 unlinkat_supports : (t : Trace) (k r : ℕ) (s : World) (p : Path) (removes : Bool) → RowSupports t k r s (unlinkat p removes)
 unfolding removal
@@ -147,7 +138,7 @@ unlinkat_supports t k r s p removes x h =
     let q = ok_bind (walk s.nodes p) _ x h in
     let y = ok_bind (ok_or q.0.target ENOENT) _ x q.2 in
     let row_is = path_reads s p ++ each_ok (removal removes) (walk s.nodes p) in
-    of_done row_is s _ x (ok_then (may_remove s removes y.0) _ x y.2).0
+    supports_effect row_is s _ x (ok_then (may_remove s removes y.0) _ x y.2).0
     (name_supported row_is s q.0 None
     (holds_over _ _ (name_written q.0) (holds_right (path_reads s p) (each_ok (removal removes) (walk s.nodes p)))
     (holds_over _ _ (name_written q.0) (holds_ok (removal removes) (walk s.nodes p) q.0 q.1) (holds_left (name_written q.0) (cond removes (directory_names q.0.target) []))))
@@ -211,26 +202,14 @@ module _ (f : Footprint) (s : World) (p q : Place) (at_old : Holds f (name_writt
   exchange_supports old new (Some y) l h = by (x.node == y.node) (ok_require (not (goes_below s x new) && not (goes_below s y old)) EINVAL _ e h).0
     where
       by : (b : Bool) → ◌≡◌ {A = Result Effect Errno} (Ok (cond b (done []) (done (set_name p.parent p.name (Some y) ∷ set_name q.parent q.name (Some x) ∷ [])))) (Ok e) → SupportsAll f s e.changes
-      by true g = of_done f s [] e g tt
-      by false g = of_done f s _ e g (two_names_supported f s p q (Some y) (Some x) at_old at_new l known)
+      by true g = supports_effect f s (done []) e g tt
+      by false g = supports_effect f s _ e g (two_names_supported f s p q (Some y) (Some x) at_old at_new l known)
 
   move_supports : (z : Option Target) → move_meaning s p q x z ≡ Ok e → SupportsAll f s e.changes
-  move_supports None h = of_done f s _ e h (two_names_supported f s p q None (Some x) at_old at_new tt known)
-  move_supports (Some y) h = by (x.node == y.node) h
-    where
-      by : (b : Bool) → cond b (Ok (done [])) (may_replace s x y >> Ok (moved_name p q x)) ≡ Ok e → SupportsAll f s e.changes
-      by true g = of_done f s [] e g tt
-      by false g = of_done f s _ e (ok_then (may_replace s x y) _ e g).0 (two_names_supported f s p q None (Some x) at_old at_new tt known)
+  move_supports z h = let both = two_names_supported f s p q None (Some x) at_old at_new tt known in grind arith
 
   rename_supports : (old new : Path) (flags : ℕ) → Leads s q.target → rename_to s old new flags p q x ≡ Ok e → SupportsAll f s e.changes
-  rename_supports old new flags l h = by (flags == 2) h
-    where
-      move : Result Effect Errno
-      move = require (not (flags == 1 && is_some q.target)) EEXIST >> require (not (goes_below s x new)) EINVAL >> move_meaning s p q x q.target
-
-      by : (b : Bool) → cond b (exchange_meaning s old new p q x q.target) move ≡ Ok e → SupportsAll f s e.changes
-      by true g = exchange_supports old new q.target l g
-      by false g = move_supports q.target (ok_then (require (not (flags == 1 && is_some q.target)) EEXIST >> require (not (goes_below s x new)) EINVAL) _ e g).0
+  rename_supports old new flags l h = grind (arith, exchange_supports, move_supports)
 
 renameat_supports : (t : Trace) (k r : ℕ) (s : World) (old new : Path) (flags : ℕ) → RowSupports t k r s (renameat old new flags)
 unfolding replaced

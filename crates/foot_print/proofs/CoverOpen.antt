@@ -6,7 +6,7 @@ use mathlib.Core.Path.{sym, subst, ap, ◌∙◌}
 use mathlib.Core.Logic.{inl}
 use native.Mathlib.Omega.{arith}
 use lib.Dec.{eqb_refl, lt→ltb, le→leb}
-use Rattle.sqe_codec.specs.declared.errno.Errno.TheVariants.{ENOENT, EEXIST, EISDIR, ENOTDIR, EINVAL, EMFILE}
+use Rattle.sqe_codec.specs.declared.errno.Errno.TheVariants.{EEXIST, EISDIR, ENOTDIR, EINVAL, EMFILE}
 use Rattle.trace_format.specs.declared.trace.Trace.{Trace}
 use Rattle.sqe_codec.specs.Answers.{◌>>=◌, ◌>>◌, require, each, each_ok}
 use Rattle.entry_checks.specs.Operation.{openat, Path, OpenFlags, file_limit, File, in_slot, at_descriptor}
@@ -73,15 +73,10 @@ room_supported t s z r d (Some n) at f h w = by (ltb n (slot_count t r)) h w
 
 -- A file that is cut is no directory.
 cuts_a_file : (directory create truncate other : Bool) → T (not (directory && (create || truncate || other))) → T truncate → directory ≡ false
-cuts_a_file false c x o h k = refl
-cuts_a_file true true x o h k = absurd h
-cuts_a_file true false true o h k = absurd h
-cuts_a_file true false false o h k = absurd k
+cuts_a_file directory create truncate other h k = grind arith
 
 pub second_test : (a b c : Bool) → T (is_ok (require a EEXIST >> (require b EISDIR >> require c ENOTDIR))) → T b
-second_test true true c h = tt
-second_test true false c h = absurd h
-second_test false b c h = absurd h
+second_test a b c h = grind arith
 
 module _ (t : Trace) (k : ℕ) (s : World) (g : OpenFlags) (w : Unused t k s) (q : Place) (f : Footprint) (fits : (i : ℕ) → T (has_atom f (size_of i)) → IfSome (size s i) (λ n. n ≤ file_limit)) (last : List Change) (rest : (z : World) → SupportsAll f z last) (describes : Holds f (description_made t k)) where
   abbrev m : ℕ
@@ -117,22 +112,10 @@ module _ (t : Trace) (k : ℕ) (s : World) (g : OpenFlags) (w : Unused t k s) (q
       below (Some n) c = λ p a b. h.writes (byte_at y.node p) (either_left _ _ (both (y.node == y.node) _ (eqb_refl y.node) (both (leb 0 p) _ (le→leb 0 p a) (lt→ltb p _ (omega arith)))))
 
   found_supported : (y : Target) → kind s y.node ≡ y.kind → (T g.truncate → is_directory y.kind ≡ false) → Holds f (open_uses t k (tried true) g q (Some y)) → SupportsAll f s (open_changes g m q (Some y) ++ make_description d (opened_with g y) ∷ last)
-  found_supported y l c h = by g.truncate c h
-    where
-      whole : Footprint
-      whole = writes (one (size_of y.node)) ∷ writes (range_of y.node 0 file_limit) ∷ []
-
-      by : (b : Bool) → (T b → is_directory y.kind ≡ false) → Holds f (cond (b && not (is_directory y.kind)) whole []) → SupportsAll f s (cond b (set_size y.node 0 ∷ []) [] ++ make_description d (opened_with g y) ∷ last)
-      by true c h = cut_supported y l (subst (λ x. Holds f (cond (not x) whole [])) (c tt) h)
-      by false c h = described s y l
+  found_supported y l c h = grind (arith, cut_supported, described)
 
   target_supported : (z : Option Target) → Leads s z → T (is_ok (may_open g z)) → Holds f (open_uses t k (tried true) g q z) → SupportsAll f s (open_changes g m q z ++ make_description d (opened_with g (found_or_made m z)) ∷ last)
-  target_supported None l c h = by g.create c h
-    where
-      by : (b : Bool) → T (is_ok (require b ENOENT)) → Holds f (cond b (name_written q ++ writes (one (size_of m)) ∷ []) []) → SupportsAll f s (open_changes g m q None ++ make_description d (opened_with g (found_or_made m None)) ∷ last)
-      by true c h = make_supported h
-      by false c h = absurd c
-  target_supported (Some y) l c h = found_supported y l (cuts_a_file (is_directory y.kind) g.create g.truncate (not (g.access == 0)) (second_test _ _ _ c)) h
+  target_supported z l c h = grind (arith, make_supported, found_supported, cuts_a_file, second_test)
 
 openat_supports : (t : Trace) (k r : ℕ) (s : World) (p : Path) (g : OpenFlags) (asked : Option ℕ) → Unused t k s
     → ((i : ℕ) → T (has_atom (row t k r s (tried true) (openat p g asked)) (size_of i)) → IfSome (size s i) (λ n. n ≤ file_limit)) → RowSupports t k r s (openat p g asked)

@@ -1,5 +1,5 @@
 -- From the row of an operation to the place that runs it: where the row tells the operation's meaning and supports its changes, the footprint covers the place.
-use Rattle.std.specs.Prelude.{◌≡◌, ℕ, Bool, true, false, cond, ◌&&◌, leb, ltb, ◌+◌, ◌<◌, T, List, [], ◌∷◌, ◌++◌, Option, Some, Result, Ok, Err, refl, is_ok, not}
+use Rattle.std.specs.Prelude.{◌≡◌, ℕ, Bool, true, cond, ◌&&◌, leb, ltb, ◌+◌, ◌<◌, T, List, [], ◌∷◌, ◌++◌, Some, Result, Ok, Err, refl, is_ok, not}
 use Rattle.std.specs.List.{list_any}
 use mathlib.Core.Path.{sym, subst, ap, ◌∙◌}
 use native.Mathlib.Omega.{arith}
@@ -14,14 +14,12 @@ use Rattle.entry_checks.specs.Check.{has, io_hardlink, skip_success}
 use Rattle.chain_plan.specs.Chain.{role}
 use Rattle.world_parts.specs.World.{World, Change, break_chain, apply, apply_all, loud, quiet}
 use Rattle.op_meaning.specs.Meaning.{Effect, meaning}
-use Rattle.op_meaning.specs.Step.{Turn, runs, turn, step_world, step_changes, changes_in, changes_of, breaks}
+use Rattle.op_meaning.specs.Step.{runs, turn, step_world, step_changes, changes_in, changes_of, breaks}
 use Rattle.world_parts.specs.Items.{Atom, chain_flag, member_of, value, one, Use, writes, Footprint, has_atom, writes_atom, Agree, Holds}
 use Rattle.op_meaning.specs.Footprint.{tried, row, row_in, as_reads, order_uses, turn_uses, ring_at, footprint}
 use Rattle.foot_print.specs.Laws.{Awaits, Unused, Covers}
-use Rattle.world_parts.proofs.Collision.{either_left, either_right, true_of}
+use Rattle.world_parts.proofs.Collision.{either_left, either_right, true_of, same_atom_refl}
 use Rattle.foot_print.proofs.Agreement.{in_left, in_right, agree_taken}
-use Rattle.world_parts.proofs.Collision.{same_atom_refl}
-use Rattle.foot_print.proofs.Answered.{ok_same}
 use Rattle.foot_print.proofs.Awaiting.{awaits_unused}
 use Rattle.foot_print.proofs.CoverPlace.{Decided, footprint_same, step_reply_same, step_changes_same}
 use Rattle.foot_print.proofs.CoverChanges.{SupportsAll, supports_all_held, agree_after_changes, kept_by_changes}
@@ -60,22 +58,10 @@ breaks_supported c r e rest fails v = when (fails && not (has e.sqe.flags io_har
         in_left (λ (u : Use). u.written && member_of u.item (chain_flag c.chain)) (order_uses r c) rest (either_right (c.barrier && member_of (one (Rattle.world_parts.specs.Items.ring_order r)) (chain_flag c.chain)) _ (subst (λ b. T (list_any (λ (u : Use). u.written && member_of u.item (chain_flag c.chain)) (cond b (writes (one (chain_flag c.chain)) ∷ []) []))) (sym two) (either_left _ _ (same_atom_refl (chain_flag c.chain)))))
 
     when : (a b : Bool) → (T b → T (writes_atom F (chain_flag c.chain))) → SupportsAll F v (cond (a && b) (break_chain c.chain (cond (has e.sqe.flags skip_success) quiet loud) ∷ []) [])
-    when true true g = (g tt, tt)
-    when true false g = tt
-    when false b g = tt
-
--- What an entry's turn runs.
-ring_run : Option Turn → ℕ
-ring_run (Some (runs r e o)) = r
-ring_run _ = 0
-
-operation_run : Option Turn → Operation
-operation_run (Some (runs r e o)) = o
-operation_run _ = Operation.nop
+    when a b g = grind arith
 
 pub same_run : (r q : ℕ) (e d : Entry) (o p : Operation) → Some (runs r e o) ≡ Some (runs q d p) → ◌≡◌ {A = ℕ × Operation} (r, o) (q, p)
-unfolding ring_run operation_run
-same_run r q e d o p h = λ i. (ring_run (h i), operation_run (h i))
+same_run r q e d o p h = let rings : r ≡ q = cc in let operations : o ≡ p = cc in λ i. (rings i, operations i)
 
 -- What a row tells of an operation: its meaning, and the row itself.
 pub record Tells (t : Trace) (k r : ℕ) (s u : World) (o : Operation) : Type 0 where
@@ -151,10 +137,6 @@ pub record Contains (f g : Footprint) : Type 0 where
 pub record Owes (t : Trace) (k r : ℕ) (o : Operation) (s : World) : Type 0 where
   pub tells : (u : World) → RowTells t k r s u o
   pub supports : (u : World) → Unused t k u → Agree (row t k r s (tried true) o) s u → RowSupports t k r u o
-
--- What an accepted answer changes is supported where that of its effect is.
-pub supports_effect : (g : Footprint) (u : World) (x y : Effect) → ◌≡◌ {A = Result Effect Errno} (Ok x) (Ok y) → SupportsAll g u x.changes → SupportsAll g u y.changes
-supports_effect g u x y e h = subst (λ z. SupportsAll g u z.changes) (ok_same x y e) h
 
 -- The statement of cover for one operation at every place that runs it.
 abbrev pub OperationCovers : Operation → Type 0

@@ -1,9 +1,9 @@
 -- A read's footprint decides what it answers and changes.
-use Rattle.std.specs.Prelude.{◌≡◌, ℕ, zero, suc, Bool, true, false, cond, not, ◌==◌, ltb, leb, min, ◌+◌, ◌<◌, ◌≤◌, T, List, [], ◌∷◌, ◌++◌, length, take, drop, Option, Some, None, Result, Ok, Err, ok_or, refl, slice_index_or, unwrap_or, IfSome}
-use Rattle.std.specs.Option.{option_map}
+use Rattle.std.proofs.lemmas.Grind.{same_number_lists}
+use Rattle.std.proofs.lemmas.List.{get_or-drop, get_or-take, length-drop, length-take}
+use Rattle.std.specs.Prelude.{◌-◌, ◌≡◌, ℕ, Bool, true, false, cond, not, ◌==◌, min, ◌+◌, ◌<◌, ◌≤◌, List, [], ◌∷◌, ◌++◌, length, take, drop, Option, Some, Result, Ok, ok_or, refl, slice_index_or, unwrap_or}
 use mathlib.Core.Path.{sym, ap, ◌∙◌}
 use native.Mathlib.Omega.{arith}
-use lib.Dec.{lt→ltb, le→leb, eqb_refl}
 use Rattle.sqe_codec.specs.declared.errno.Errno.{Errno}
 use Rattle.sqe_codec.specs.declared.errno.Errno.TheVariants.{EBADF, EISDIR, EINVAL}
 use Rattle.trace_format.specs.declared.trace.Trace.{Trace}
@@ -11,50 +11,29 @@ use Rattle.sqe_codec.specs.Answers.{each, ◌>>=◌, ◌>>◌, require}
 use Rattle.entry_checks.specs.Operation.{File, at_position, file_limit}
 use Rattle.world_parts.specs.World.{World, IsWorld, bytes, position, set_position}
 use Rattle.file_tree.specs.Tree.{byte_of}
-use Rattle.op_meaning.specs.Meaning.{Effect, done, Handle, handle, held, can_read, is_file, is_bad_offset, Destination, read_effect, read_meaning, bytes_in, delivered}
-use Rattle.world_parts.specs.Items.{description_at, size_of, byte_at, position_of, value, one, reads, writes, Footprint, has_atom, Agree, within}
-use Rattle.op_meaning.specs.Footprint.{on_file, of_file, of_description, file_reads, range_of, transfer_range, position_written, read_row}
-use Rattle.world_parts.proofs.Collision.{both, either_left}
-use Rattle.foot_print.proofs.Agreement.{agree_left, agree_right, agree_head, agree_tail, handle_same, agree_on_content, held_same}
+use Rattle.op_meaning.specs.Meaning.{Effect, done, Handle, handle, can_read, is_file, is_bad_offset, Destination, read_effect, read_meaning, bytes_in, delivered}
+use Rattle.world_parts.specs.Items.{size_of, byte_at, position_of, value, one, reads, writes, Footprint, Agree}
+use Rattle.op_meaning.specs.Footprint.{of_file, range_of, transfer_range, position_written, read_row}
+use Rattle.foot_print.proofs.OpenFile.{on_file_alike, length_same, bounded, in_range}
+use Rattle.foot_print.proofs.Agreement.{agree_left, agree_head, agree_tail, handle_same, agree_on_content}
 
 -- A slice is decided by the length and the bytes in its range.
 pub slice_same : (n at : ℕ) (xs ys : List ℕ) → length xs ≡ length ys → ((p : ℕ) → at ≤ p → p < at + n → p < length xs → slice_index_or xs p 0 ≡ slice_index_or ys p 0) → take n (drop at xs) ≡ take n (drop at ys)
-slice_same n zero [] [] e h = refl
-slice_same n (suc at) [] [] e h = refl
-slice_same n at [] (y ∷ ys) e h = absurd (omega arith)
-slice_same n at (x ∷ xs) [] e h = absurd (omega arith)
-slice_same zero zero (x ∷ xs) (y ∷ ys) e h = refl
-slice_same (suc n) zero (x ∷ xs) (y ∷ ys) e h = λ i. h 0 (omega arith) (omega arith) (omega arith) i ∷ slice_same n zero xs ys (omega arith) (λ p a b c. h (suc p) (omega arith) (omega arith) (omega arith)) i
-slice_same n (suc at) (x ∷ xs) (y ∷ ys) e h = slice_same n at xs ys (omega arith) (λ p a b c. h (suc p) (omega arith) (omega arith) (omega arith))
-
-pub same_length : (x y : Option (List ℕ)) → option_map length x ≡ option_map length y → length (unwrap_or x []) ≡ length (unwrap_or y [])
-same_length x y e = by_unwrap x ∙ ap (λ o. unwrap_or o 0) e ∙ sym (by_unwrap y)
-  where
-    by_unwrap : (z : Option (List ℕ)) → length (unwrap_or z []) ≡ unwrap_or (option_map length z) 0
-    by_unwrap None = refl
-    by_unwrap (Some bs) = refl
+slice_same n at xs ys e h =
+    let same : length (take n (drop at xs)) ≡ length (take n (drop at ys)) = simp (length-take, length-drop) (ap (λ m. min n (m - at)) e) in
+    same_number_lists _ _ same (λ k b. grind (arith, length-take n (drop at xs), length-drop at xs, get_or-take, get_or-drop, h (at + k)))
 
 byte_in : (x : Option (List ℕ)) (p : ℕ) → slice_index_or (unwrap_or x []) p 0 ≡ byte_of x p
-byte_in None p = refl
-byte_in (Some bs) p = refl
-
-fits : (x : Option (List ℕ)) → IfSome (option_map length x) (λ n. n ≤ file_limit) → length (unwrap_or x []) ≤ file_limit
-fits None h = omega arith
-fits (Some bs) h = h
-
-in_range : (i low high p : ℕ) → low ≤ p → p < high → p < file_limit → T (has_atom (reads (range_of i low high) ∷ []) (byte_at i p))
-in_range i low high p below above limit =
-    let inside : p < min high file_limit = omega arith in
-    either_left _ _ (both (i == i) (within low (min high file_limit) p) (eqb_refl i) (both (leb low p) (ltb p (min high file_limit)) (le→leb low p below) (lt→ltb p _ inside)))
+byte_in x p = grind arith
 
 -- A file's bytes in a range are the same where worlds agree on its size and on the range.
 pub range_same : (s u : World) (i n at low high : ℕ) → IsWorld s → value s (size_of i) ≡ value u (size_of i) → Agree (reads (range_of i low high) ∷ []) s u
     → ((p : ℕ) → at ≤ p → p < at + n → p < file_limit → (low ≤ p) × (p < high)) → take n (drop at (bytes_in u i)) ≡ take n (drop at (bytes_in s i))
-range_same s u i n at low high w z a inside = sym (slice_same n at (bytes_in s i) (bytes_in u i) (same_length (bytes s i) (bytes u i) z) byte_same)
+range_same s u i n at low high w z a inside = sym (slice_same n at (bytes_in s i) (bytes_in u i) (sym (length_same s u i z)) byte_same)
   where
     byte_same : (p : ℕ) → at ≤ p → p < at + n → p < length (bytes_in s i) → slice_index_or (bytes_in s i) p 0 ≡ slice_index_or (bytes_in u i) p 0
     byte_same p below above has =
-        let limit : length (bytes_in s i) ≤ file_limit = fits (bytes s i) (w.files_fit i) in
+        let limit : length (bytes_in s i) ≤ file_limit = bounded s i w in
         let under : p < file_limit = omega arith in
         let r = inside p below above under in
         byte_in (bytes s i) p ∙ a.same (byte_at i p) (in_range i low high p r.0 r.1 under) ∙ sym (byte_in (bytes u i) p)
@@ -107,20 +86,11 @@ effect_same s u r h o n to w a =
 -- What a read does with a handle is the same.
 from_same : (s u : World) (r o n : ℕ) (span : Result Destination Errno) (h : Handle) → IsWorld s → Agree (content o n h.opened.target.node h) s u → read_from u r o n span h ≡ read_from s r o n span h
 unfolding read_from
-from_same s u r o n (Err e) h w a = refl
-from_same s u r o n (Ok to) h w a = ap (λ x. require (not (is_bad_offset o)) EINVAL >> Ok (cond (n == 0) (done []) x)) (effect_same s u r h o n to w a)
+from_same s u r o n span h w a = let same = λ (to : Destination). effect_same s u r h o n to w a in grind (arith, same)
 
 with_same : (s u : World) (r o n : ℕ) (span : Result Destination Errno) (x : Option Handle) → IsWorld s → ((h : Handle) → x ≡ Some h → Agree (of_file (content o n) h) s u) → read_with u r o n span x ≡ read_with s r o n span x
 unfolding read_with
-with_same s u r o n span None w a = refl
-with_same s u r o n span (Some h) w a =
-    elim (can_read h.opened.access) as (λ b. ((require b EBADF >> (require (is_file h.opened) EISDIR >> Ok h)) >>= read_from u r o n span) ≡ ((require b EBADF >> (require (is_file h.opened) EISDIR >> Ok h)) >>= read_from s r o n span)) [
-      | true ↦ elim (is_file h.opened) as (λ b. Agree (cond b (content o n h.opened.target.node h) []) s u → ((require b EISDIR >> Ok h) >>= read_from u r o n span) ≡ ((require b EISDIR >> Ok h) >>= read_from s r o n span)) [
-        | true ↦ λ k. from_same s u r o n span h w k
-        | false ↦ λ k. refl
-      ] (a h refl)
-      | false ↦ refl
-    ]
+with_same s u r o n span x w a = let same = λ (h : Handle). from_same s u r o n span h w in grind (arith, same)
 
 -- A read answers and changes the same in every world that agrees on its row.
 pub read_same : (t : Trace) (s u : World) (r : ℕ) (f : File) (o n : ℕ) (span : Result Destination Errno) → IsWorld s → Agree (read_row t s r f o n) s u → read_meaning u r (handle t u r f) o n span ≡ read_meaning s r (handle t s r f) o n span
@@ -131,17 +101,8 @@ read_same t s u r f o n span w a =
     ∙ with_same s u r o n span (handle t s r f) w (agree_on_content t s u r f (content o n) (agree_left s u _ _ a))
     ∙ sym (reads_with t s r f o n span)
 
--- What an operation has of an open file is the same in every world that agrees on it.
-pub on_file_same : (t : Trace) (s u : World) (r : ℕ) (f : File) (c : ℕ → Handle → Footprint) → Agree (on_file t s r f c) s u → on_file t u r f c ≡ on_file t s r f c
-on_file_same t s u r f c a =
-    (λ i. file_reads t r f ++ each (of_description u c) (held_same t s u r f (agree_left s u _ _ a) i))
-    ∙ ap (λ x. file_reads t r f ++ x) (at_description (held t s r f) (agree_right s u (file_reads t r f) _ a))
-  where
-    at_description : (d : Option ℕ) → Agree (each (of_description s c) d) s u → each (of_description u c) d ≡ each (of_description s c) d
-    at_description None k = refl
-    at_description (Some d) k = ap (λ x. reads (one (description_at d)) ∷ each (of_file c) (option_map (λ y. record { description = d; opened = y }) x)) (sym (agree_head s u (description_at d) false _ k))
-
 pub read_row_same : (t : Trace) (s u : World) (r : ℕ) (f : File) (o n : ℕ) → Agree (read_row t s r f o n) s u → read_row t u r f o n ≡ read_row t s r f o n
 unfolding content
 read_row_same t s u r f o n a =
-    λ i. on_file_same t s u r f (content o n) (agree_left s u _ _ a) i ++ each (λ h. position_written h o) (handle_same t s u r f (content o n) (agree_left s u _ _ a) i)
+    let same = on_file_alike t s u r f (content o n) (content o n) (content o n) (λ h k. refl) (agree_left s u _ _ a) in
+    λ i. same i ++ each (λ h. position_written h o) (handle_same t s u r f (content o n) (agree_left s u _ _ a) i)

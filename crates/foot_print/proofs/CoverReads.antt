@@ -12,27 +12,22 @@ use Rattle.trace_format.specs.declared.trace.Trace.{Trace}
 use Rattle.sqe_codec.specs.Answers.{each, ◌>>◌, require}
 use Rattle.entry_checks.specs.Operation.{read, readv, read_fixed, File, Span, at_position}
 use Rattle.trace_format.specs.Sides.{most_moved}
-use Rattle.world_parts.specs.World.{World, set_position}
+use Rattle.world_parts.specs.World.{World}
 use Rattle.op_meaning.specs.Meaning.{Effect, done, Handle, handle, can_read, is_file, is_bad_offset, Destination, reply, into, delivered, advance, transfer_start, bytes_in, read_effect, readable, read_meaning, span_start, span_destination}
 use Rattle.world_parts.specs.Items.{position_of, buffer_byte, member_of, one, buffer_bytes, Use, writes, Footprint, writes_atom}
 use Rattle.op_meaning.specs.Footprint.{on_file, position_written, position_use, read_row, span_use, read_content}
 use Rattle.foot_print.specs.Laws.{Awaits}
 use Rattle.world_parts.proofs.Collision.{both, either_left, left, right, true_of}
 use Rattle.foot_print.proofs.Agreement.{in_left, in_right, agree_left}
-use Rattle.world_parts.proofs.Trees.{some_apart}
-use Rattle.foot_print.proofs.Answered.{ok_same, was_ok, was_required, was_there}
+use Rattle.foot_print.proofs.Accepted.{err_apart, ok_same, ok_bind, ok_require, ok_some, supports_effect}
 use Rattle.foot_print.proofs.OpenFile.{in_on_file}
 use Rattle.foot_print.proofs.CoverRead.{read_same, read_row_same}
 use Rattle.foot_print.proofs.CoverChanges.{SupportsAll}
-use Rattle.foot_print.proofs.CoverOperation.{Contains, Owes, supports_effect}
+use Rattle.foot_print.proofs.CoverOperation.{Contains, Owes}
 
 -- A transfer at the position is supported where the position is written.
 pub advance_supported : (g : Footprint) (v : World) (h : Handle) (o end : ℕ) → (T (o == at_position) → T (writes_atom g (position_of h.description))) → SupportsAll g v (advance h o end)
-advance_supported g v h o end w = by (o == at_position) w
-  where
-    by : (b : Bool) → (T b → T (writes_atom g (position_of h.description))) → SupportsAll g v (cond b (set_position h.description end ∷ []) [])
-    by true k = (k tt, tt)
-    by false k = tt
+advance_supported g v h o end w = grind arith
 
 -- Where a transfer uses the position, it is written.
 pub position_is_written : (h : Handle) (o : ℕ) → T (o == at_position) → T (writes_atom (position_written h o) (position_of h.description))
@@ -54,13 +49,13 @@ module _ (t : Trace) (r : ℕ) (f : File) (o n : ℕ) (span : Result Destination
   -- What a read's row, and what it has of its destination, supports its changes.
   pub read_supported : (e : Effect) → read_meaning s r (handle t s r f) o n span ≡ Ok e → Contains g (read_row t s r f o n) → ((to : Destination) → span ≡ Ok to → IsWritten to) → SupportsAll g s e.changes
   read_supported e q c d =
-      let m = was_ok (readable (handle t s r f)) _ e q in
-      let l = was_ok (ok_or (handle t s r f) EBADF) (λ h. require (can_read h.opened.access) EBADF >> (require (is_file h.opened) EISDIR >> Ok h)) m.0 m.1 in
-      let i = was_required (is_file l.0.opened) EISDIR (Ok l.0) m.0 (was_required (can_read l.0.opened.access) EBADF _ m.0 l.2).1 in
-      let there = was_there (handle t s r f) EBADF m.0 (l.1 ∙ i.1) in
-      let x = was_ok span _ e m.2 in
-      let y = was_required (not (is_bad_offset o)) EINVAL _ e x.2 in
-      supports_effect g s _ e y.1 (moves m.0 x.0 (n == 0) (subst (λ h. T (is_file h.opened)) (ok_same l.0 m.0 i.1) i.0) there (d x.0 x.1))
+      let m = ok_bind (readable (handle t s r f)) _ e q in
+      let l = ok_bind (ok_or (handle t s r f) EBADF) (λ h. require (can_read h.opened.access) EBADF >> (require (is_file h.opened) EISDIR >> Ok h)) m.0 m.1 in
+      let i = ok_require (is_file l.0.opened) EISDIR (Ok l.0) m.0 (ok_require (can_read l.0.opened.access) EBADF _ m.0 l.2).0 in
+      let there = ok_some (handle t s r f) EBADF m.0 (l.1 ∙ i.0) in
+      let x = ok_bind span _ e m.2 in
+      let y = ok_require (not (is_bad_offset o)) EINVAL _ e x.2 in
+      supports_effect g s _ e y.0 (moves m.0 x.0 (n == 0) (subst (λ h. T (is_file h.opened)) (ok_same l.0 m.0 i.0) i.1) there (d x.0 x.1))
     where
       moves : (h : Handle) (to : Destination) (none : Bool) → T (is_file h.opened) → handle t s r f ≡ Some h → IsWritten to → SupportsAll g s (cond none (done []) (read_effect s r h o n to)).changes
       moves h to true i there w = tt
@@ -101,7 +96,7 @@ read_fixed_owes t k r s f o x w = record {
     n = min x.length most_moved
 
     destination : (u : World) (y : Option ℕ) → span_start t r x ≡ y → (to : Destination) → ok_or (option_map (λ at. into x.index at) y) EFAULT ≡ Ok to → IsWritten t r f o (min x.length most_moved) (span_destination t r x) u (read_row t u r f o (min x.length most_moved) ++ span_use true t r x) to
-    destination u None e to h = absurd (some_apart (sym (was_there None EFAULT to h)))
+    destination u None e to h = absurd (err_apart h)
     destination u (Some at) e to h = subst (IsWritten t r f o (min x.length most_moved) (span_destination t r x) u (read_row t u r f o (min x.length most_moved) ++ span_use true t r x)) (ok_same (into x.index at) to h) (λ p below above.
         in_right (λ (z : Use). z.written && member_of z.item (buffer_byte r x.index p)) (read_row t u r f o (min x.length most_moved)) (span_use true t r x)
         (in_span true t r x (λ (z : Use). z.written && member_of z.item (buffer_byte r x.index p)) at e (offset_in_span r x.index at x.length p below (omega arith))))

@@ -1,9 +1,9 @@
 -- Operations that set a file's size or zero a range of it: fallocate and ftruncate.
-use Rattle.std.specs.Prelude.{◌≡◌, ℕ, Bool, true, false, not, ◌&&◌, ◌==◌, ltb, leb, min, max, ◌+◌, ◌^◌, ◌<◌, ◌≤◌, ◌⊎◌, T, List, [], ◌∷◌, length, Option, Some, None, Result, Ok, ok_or, refl, unwrap_or, IfSome}
+use Rattle.std.specs.Prelude.{◌≡◌, ℕ, Bool, false, not, ◌&&◌, ◌==◌, ltb, leb, min, max, ◌+◌, ◌^◌, ◌<◌, ◌≤◌, ◌⊎◌, T, List, [], ◌∷◌, length, Option, Some, None, Result, Ok, ok_or, refl, unwrap_or, IfSome}
 use mathlib.Core.Path.{sym, subst, ap}
-use mathlib.Core.Logic.{inl, inr}
+use mathlib.Core.Logic.{inl}
 use native.Mathlib.Omega.{arith}
-use lib.Dec.{ltb→lt, lt→ltb, leb→le, le→leb, eqb_refl, nltb→le}
+use lib.Dec.{ltb→lt, leb→le, eqb_refl, nltb→le}
 use Rattle.sqe_codec.specs.declared.errno.Errno.{Errno}
 use Rattle.sqe_codec.specs.declared.errno.Errno.TheVariants.{EBADF, EINVAL, EFBIG, EOPNOTSUPP}
 use Rattle.trace_format.specs.declared.trace.Trace.{Trace}
@@ -11,21 +11,15 @@ use Rattle.sqe_codec.specs.Answers.{◌>>=◌, ◌>>◌, require}
 use Rattle.entry_checks.specs.Operation.{fallocate, ftruncate, File, file_limit}
 use Rattle.world_parts.specs.World.{World, bytes, size, Change, apply, set_size, zero_bytes}
 use Rattle.op_meaning.specs.Meaning.{Effect, done, Handle, handle, can_write, bytes_in, Allocation, allocation, extend, reserve, punch, zero_extend, zero_within, allocate, extended}
-use Rattle.world_parts.specs.Items.{size_of, byte_at, value, member_of, within, one, Use, writes, Footprint, writes_atom, Agree}
+use Rattle.world_parts.specs.Items.{size_of, byte_at, value, member_of, one, Use, writes, Footprint, writes_atom, Agree}
 use Rattle.op_meaning.specs.Footprint.{range_of, would_extend, allocation_uses, on_file}
 use Rattle.foot_print.specs.Laws.{Awaits}
 use Rattle.world_parts.proofs.Collision.{both, either_left, either_right, left, right}
 use Rattle.foot_print.proofs.Agreement.{agree_head}
-use Rattle.foot_print.proofs.Answered.{was_ok, was_required, was_there}
-use Rattle.foot_print.proofs.OpenFile.{with_handle, on_file_same, in_on_file, on_its_file, handles_sound, handles_sound_too, writable_is_file, sizes_fit, length_same, length_by_size}
+use Rattle.foot_print.proofs.Accepted.{ok_bind, ok_require, ok_some, supports_effect}
+use Rattle.foot_print.proofs.OpenFile.{with_handle, on_file_same, in_on_file, on_its_file, handles_sound, handles_sound_too, writable_is_file, sizes_fit, length_same, length_by_size, in_range}
 use Rattle.foot_print.proofs.CoverChanges.{Supports, SupportsAll}
-use Rattle.foot_print.proofs.CoverOperation.{Contains, Owes, supports_effect}
-
--- An offset of a range below the largest size is in the range's item.
-pub written_in_range : (i low high p : ℕ) → low ≤ p → p < high → p < file_limit → T (writes_atom (writes (range_of i low high) ∷ []) (byte_at i p))
-written_in_range i low high p below above limit =
-    let inside : p < min high file_limit = omega arith in
-    either_left _ _ (both (i == i) (within low (min high file_limit) p) (eqb_refl i) (both (leb low p) (ltb p (min high file_limit)) (le→leb low p below) (lt→ltb p _ inside)))
+use Rattle.foot_print.proofs.CoverOperation.{Contains, Owes}
 
 -- What an operation says of an allocation is the same where worlds agree on the file's size, which each has.
 module _ (s u : World) (i at end : ℕ) where
@@ -34,21 +28,13 @@ module _ (s u : World) (i at end : ℕ) where
 
   has_size : (a : Option Allocation) → Agree (uses s a) s u → value s (size_of i) ≡ value u (size_of i)
   has_size (Some extend) h = agree_head s u (size_of i) _ _ h
-  has_size (Some reserve) h = agree_head s u (size_of i) _ _ h
-  has_size (Some punch) h = agree_head s u (size_of i) _ _ h
-  has_size (Some zero_extend) h = agree_head s u (size_of i) _ _ h
-  has_size (Some zero_within) h = agree_head s u (size_of i) _ _ h
-  has_size None h = agree_head s u (size_of i) _ _ h
+  has_size _ h = agree_head s u (size_of i) _ _ h
 
   same_uses : (a : Option Allocation) → value s (size_of i) ≡ value u (size_of i) → uses u a ≡ uses s a
   same_uses a z = ap (λ m. allocation_uses (ltb m (min end file_limit)) i at end a) (length_same s u i z)
 
   same_allocate : (a : Allocation) → value s (size_of i) ≡ value u (size_of i) → allocate u i at end a ≡ allocate s i at end a
-  same_allocate extend z = ap (λ m. set_size i (max m end) ∷ []) (length_same s u i z)
-  same_allocate reserve z = refl
-  same_allocate punch z = refl
-  same_allocate zero_extend z = ap (λ m. set_size i (max m end) ∷ zero_bytes i at end ∷ []) (length_same s u i z)
-  same_allocate zero_within z = refl
+  same_allocate a z = let sizes = length_same s u i z in grind arith
 
 -- What an allocation writes supports its changes.
 module _ (s : World) (g : Footprint) (i at end : ℕ) (fits : end ≤ file_limit) where
@@ -56,19 +42,16 @@ module _ (s : World) (g : Footprint) (i at end : ℕ) (fits : end ≤ file_limit
   growth_supported w = (sized (would_extend s i end) refl, nothing_behind (size s i) (length_by_size (bytes s i)))
     where
       nothing_behind : (x : Option ℕ) → length (bytes_in s i) ≡ unwrap_or x 0 → IfSome x (λ m. (p : ℕ) → max (length (bytes_in s i)) end ≤ p → p < m → T (writes_atom g (byte_at i p)))
-      nothing_behind None e = tt
-      nothing_behind (Some m) e = λ p h b. absurd (omega arith)
+      nothing_behind x e = grind arith
 
       kept : (x : Option ℕ) → unwrap_or x 0 ≡ max (unwrap_or x 0) end → IfSome x (λ m. m ≡ max (unwrap_or x 0) end)
-      kept None h = tt
-      kept (Some m) h = h
+      kept x h = grind arith
 
       sized : (b : Bool) → would_extend s i end ≡ b → T (writes_atom g (size_of i)) ⊎ IfSome (size s i) (λ m. m ≡ max (length (bytes_in s i)) end)
-      sized true e = inl (w (subst T (sym e) tt))
-      sized false e =
-          let long : min end file_limit ≤ length (bytes_in s i) = nltb→le _ _ (subst (λ b. T (not b)) (sym e) tt) in
+      sized b e =
+          let long : would_extend s i end ≡ false → min end file_limit ≤ length (bytes_in s i) = λ q. nltb→le _ _ (subst (λ c. T (not c)) (sym q) tt) in
           let l : length (bytes_in s i) ≡ unwrap_or (size s i) 0 = length_by_size (bytes s i) in
-          inr (subst (λ n. IfSome (size s i) (λ m. m ≡ max n end)) (sym l) (kept (size s i) (omega arith)))
+          grind (arith, w, long)
 
   zeros_supported : ((p : ℕ) → at ≤ p → p < end → T (writes_atom g (byte_at i p))) → (v : World) → SupportsAll g v (zero_bytes i at end ∷ [])
   zeros_supported w v = (λ p m. w p (leb→le at p (left _ _ m)) (ltb→lt p end (right (leb at p) _ m)), tt)
@@ -76,22 +59,19 @@ module _ (s : World) (g : Footprint) (i at end : ℕ) (fits : end ≤ file_limit
   allocation_supported : (a : Allocation) → Contains g (allocation_uses (would_extend s i end) i at end (Some a)) → SupportsAll g s (allocate s i at end a)
   allocation_supported extend c = (growth_supported (λ h. c.uses (λ (x : Use). x.written && member_of x.item (size_of i)) (either_left _ _ (both (would_extend s i end) (i == i) h (eqb_refl i)))), tt)
   allocation_supported reserve c = tt
-  allocation_supported punch c = zeros_supported (λ p b l. c.uses (λ (x : Use). x.written && member_of x.item (byte_at i p)) (written_in_range i at end p b l (omega arith))) s
+  allocation_supported punch c = zeros_supported (λ p b l. c.uses (λ (x : Use). x.written && member_of x.item (byte_at i p)) (in_range i at end p b l (omega arith))) s
   allocation_supported zero_extend c = (
     growth_supported (λ h. c.uses (λ (x : Use). x.written && member_of x.item (size_of i)) (either_left _ _ (both (would_extend s i end) (i == i) h (eqb_refl i)))),
-    zeros_supported (λ p b l. c.uses (λ (x : Use). x.written && member_of x.item (byte_at i p)) (either_right (would_extend s i end && false) _ (written_in_range i at end p b l (omega arith)))) (apply (extended s i end) s),
+    zeros_supported (λ p b l. c.uses (λ (x : Use). x.written && member_of x.item (byte_at i p)) (either_right (would_extend s i end && false) _ (in_range i at end p b l (omega arith)))) (apply (extended s i end) s),
   )
-  allocation_supported zero_within c = zeros_supported (λ p b l. c.uses (λ (x : Use). x.written && member_of x.item (byte_at i p)) (written_in_range i at end p b l (omega arith))) s
+  allocation_supported zero_within c = zeros_supported (λ p b l. c.uses (λ (x : Use). x.written && member_of x.item (byte_at i p)) (in_range i at end p b l (omega arith))) s
 
 -- What fallocate answers by its tests, for the changes of an allocation.
 abbrev allocated_by : Bool → Option Allocation → Bool → Bool → (Allocation → List Change) → Result Effect Errno
 allocated_by p x w l cs = require p EINVAL >> (ok_or x EOPNOTSUPP >>= λ a. require w EBADF >> (require l EFBIG >> Ok (done (cs a))))
 
 allocated_same : (p : Bool) (x : Option Allocation) (w l : Bool) (cs ds : Allocation → List Change) → (T w → (a : Allocation) → cs a ≡ ds a) → allocated_by p x w l cs ≡ allocated_by p x w l ds
-allocated_same false x w l cs ds h = refl
-allocated_same true None w l cs ds h = refl
-allocated_same true (Some a) false l cs ds h = refl
-allocated_same true (Some a) true l cs ds h = ap (λ c. require l EFBIG >> Ok (done c)) (h tt a)
+allocated_same p x w l cs ds h = grind arith
 
 abbrev allocated : World → ℕ → ℕ → ℕ → Handle → Result Effect Errno
 allocated s o n mode h = allocated_by (ltb o (2 ^ 63) && not (n == 0) && ltb n (2 ^ 63)) (allocation mode) (can_write h.opened.access) (leb (o + n) file_limit) (allocate s h.opened.target.node o (o + n))
@@ -105,18 +85,18 @@ fallocate_owes t k r s f o n mode w = record {
     same_row = λ x. on_file_same t s u r f (content s) (content u) (λ h b. same_uses s u h.opened.target.node o (o + n) (allocation mode) (has_size s u h.opened.target.node o (o + n) (allocation mode) b)) a;
   };
   supports = λ u v a e q.
-      let m = was_ok (ok_or (handle t u r f) EBADF) (allocated u o n mode) e q in
-      let l = was_required _ EINVAL _ e m.2 in
-      let x = was_ok (ok_or (allocation mode) EOPNOTSUPP) _ e l.1 in
-      let y = was_required (can_write m.0.opened.access) EBADF _ e x.2 in
-      let z = was_required (leb (o + n) file_limit) EFBIG _ e y.1 in
+      let m = ok_bind (ok_or (handle t u r f) EBADF) (allocated u o n mode) e q in
+      let l = ok_require _ EINVAL _ e m.2 in
+      let x = ok_bind (ok_or (allocation mode) EOPNOTSUPP) _ e l.0 in
+      let y = ok_require (can_write m.0.opened.access) EBADF _ e x.2 in
+      let z = ok_require (leb (o + n) file_limit) EFBIG _ e y.0 in
       let i = m.0.opened.target.node in
-      let there = was_there (handle t u r f) EBADF m.0 m.1 in
-      let here = was_there (allocation mode) EOPNOTSUPP x.0 x.1 in
-      let whole : Contains (on_file t u r f (content u)) (content u i m.0) = record { uses = λ p d. in_on_file t u r f (content u) p m.0 there (writable_is_file m.0 (handles_sound_too t s u r f (content s) w.is_world a m.0 there) y.0) d } in
+      let there = ok_some (handle t u r f) EBADF m.0 m.1 in
+      let here = ok_some (allocation mode) EOPNOTSUPP x.0 x.1 in
+      let whole : Contains (on_file t u r f (content u)) (content u i m.0) = record { uses = λ p d. in_on_file t u r f (content u) p m.0 there (writable_is_file m.0 (handles_sound_too t s u r f (content s) w.is_world a m.0 there) y.1) d } in
       let part : Contains (on_file t u r f (content u)) (allocation_uses (would_extend u i (o + n)) i o (o + n) (Some x.0)) = subst (λ b. Contains (on_file t u r f (content u)) (allocation_uses (would_extend u i (o + n)) i o (o + n) b)) here whole in
-      let limit : o + n ≤ file_limit = leb→le (o + n) file_limit z.0 in
-      supports_effect (on_file t u r f (content u)) u (done (allocate u i o (o + n) x.0)) e z.1 (allocation_supported u (on_file t u r f (content u)) i o (o + n) limit x.0 part);
+      let limit : o + n ≤ file_limit = leb→le (o + n) file_limit z.1 in
+      supports_effect (on_file t u r f (content u)) u (done (allocate u i o (o + n) x.0)) e z.0 (allocation_supported u (on_file t u r f (content u)) i o (o + n) limit x.0 part);
 }
   where
     content : World → ℕ → Handle → Footprint
@@ -130,16 +110,16 @@ pub ftruncate_owes : (t : Trace) (k r : ℕ) (s : World) (f : File) (n : ℕ) �
 ftruncate_owes t k r s f n w = record {
   tells = λ u d a. record { same_meaning = with_handle t s u r f content (truncated n) (truncated n) a (λ h e b. refl); same_row = λ x. on_file_same t s u r f content content (λ h b. refl) a };
   supports = λ u v a e q.
-      let m = was_ok (ok_or (handle t u r f) EBADF) (truncated n) e q in
-      let l = was_required _ EINVAL _ e m.2 in
-      let y = was_required (can_write m.0.opened.access) EINVAL _ e l.1 in
-      let z = was_required (leb n file_limit) EFBIG _ e y.1 in
+      let m = ok_bind (ok_or (handle t u r f) EBADF) (truncated n) e q in
+      let l = ok_require _ EINVAL _ e m.2 in
+      let y = ok_require (can_write m.0.opened.access) EINVAL _ e l.0 in
+      let z = ok_require (leb n file_limit) EFBIG _ e y.0 in
       let i = m.0.opened.target.node in
-      let there = was_there (handle t u r f) EBADF m.0 m.1 in
-      let whole : Contains (on_file t u r f content) (content i m.0) = record { uses = λ p d. in_on_file t u r f content p m.0 there (writable_is_file m.0 (handles_sound_too t s u r f content w.is_world a m.0 there) y.0) d } in
+      let there = ok_some (handle t u r f) EBADF m.0 m.1 in
+      let whole : Contains (on_file t u r f content) (content i m.0) = record { uses = λ p d. in_on_file t u r f content p m.0 there (writable_is_file m.0 (handles_sound_too t s u r f content w.is_world a m.0 there) y.1) d } in
       let same = on_file_same t s u r f content content (λ h b. refl) a in
       let fits = sizes_fit (on_file t u r f content) s u w.is_world (subst (λ g. Agree g s u) (sym same) a) in
-      supports_effect (on_file t u r f content) u (done (set_size i n ∷ [])) e z.1 ((inl (whole.uses (λ (x : Use). x.written && member_of x.item (size_of i)) (either_left _ _ (eqb_refl i))), cut_off (on_file t u r f content) i (size u i) (fits i (whole.uses (λ (x : Use). member_of x.item (size_of i)) (either_left _ _ (eqb_refl i)))) whole), tt);
+      supports_effect (on_file t u r f content) u (done (set_size i n ∷ [])) e z.0 ((inl (whole.uses (λ (x : Use). x.written && member_of x.item (size_of i)) (either_left _ _ (eqb_refl i))), cut_off (on_file t u r f content) i (size u i) (fits i (whole.uses (λ (x : Use). member_of x.item (size_of i)) (either_left _ _ (eqb_refl i)))) whole), tt);
 }
   where
     content : ℕ → Handle → Footprint
@@ -147,4 +127,4 @@ ftruncate_owes t k r s f n w = record {
 
     cut_off : (g : Footprint) (i : ℕ) (x : Option ℕ) → IfSome x (λ m. m ≤ file_limit) → Contains g (writes (one (size_of i)) ∷ writes (range_of i n file_limit) ∷ []) → IfSome x (λ m. (p : ℕ) → n ≤ p → p < m → T (writes_atom g (byte_at i p)))
     cut_off g i None l c = tt
-    cut_off g i (Some m) l c = λ p b q. c.uses (λ (x : Use). x.written && member_of x.item (byte_at i p)) (written_in_range i n file_limit p b (omega arith) (omega arith))
+    cut_off g i (Some m) l c = λ p b q. c.uses (λ (x : Use). x.written && member_of x.item (byte_at i p)) (in_range i n file_limit p b (omega arith) (omega arith))

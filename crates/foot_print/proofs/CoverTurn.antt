@@ -1,15 +1,14 @@
 -- What each operation owes, and how the footprints of places are covered then.
-use Rattle.std.specs.Prelude.{◌≡◌, ℕ, Bool, true, false, ◌&&◌, ◌==◌, ◌+◌, T, List, length, Option, Some, None, refl}
+use Rattle.std.specs.Prelude.{◌≡◌, ℕ, Bool, true, false, ◌&&◌, ◌==◌, ◌+◌, T, length, Option, Some, refl}
 use Rattle.std.specs.List.{list_any}
 use mathlib.Core.Path.{sym, subst, ◌∙◌}
 use lib.Dec.{eqb_refl}
-use Rattle.sqe_codec.specs.declared.errno.Errno.{Errno}
 use Rattle.trace_format.specs.declared.trace.Trace.{Trace}
 use Rattle.sqe_codec.specs.Answers.{each}
 use Rattle.entry_checks.specs.Operation.{Operation}
 use Rattle.chain_plan.specs.Chain.{role}
 use Rattle.world_parts.specs.World.{World}
-use Rattle.op_meaning.specs.Step.{Turn, filled, refused, canceled, runs, turn, changes_in}
+use Rattle.op_meaning.specs.Step.{Turn, filled, runs, turn, changes_in}
 use Rattle.world_parts.specs.Items.{buffer_byte, member_of, within, Use}
 use Rattle.op_meaning.specs.Footprint.{order_uses, turn_uses, ring_at, footprint}
 use Rattle.foot_print.specs.Laws.{Awaits, Covers, FootprintsCover}
@@ -28,7 +27,6 @@ pub idle_covers : (t : Trace) (k : ℕ) (s : World) (x : Option Turn) → turn t
 idle_covers t k s x h n w = covers t k s (λ u r e o g a. absurd (subst (λ y. T (idles y)) (sym h ∙ g) n)) (λ u v a. subst (λ y. SupportsAll (footprint t k s) u (each (changes_in t k s) y)) (sym h) (supports u x h n)) w
   where
     supports : (u : World) (y : Option Turn) → turn t k s ≡ y → T (idles y) → SupportsAll (footprint t k s) u (each (changes_in t k s) y)
-    supports u None g m = tt
     supports u (Some (filled r b at new)) g m = (
       λ p l.
           let q : Use → Bool = λ (x : Use). x.written && member_of x.item (buffer_byte r b p) in
@@ -36,26 +34,13 @@ idle_covers t k s x h n w = covers t k s (λ u r e o g a. absurd (subst (λ y. T
           (either_left _ _ (both (r == r && b == b) (within at (at + length new) p) (both _ _ (eqb_refl r) (eqb_refl b)) l))),
       tt,
     )
-    supports u (Some (refused e l)) g m = tt
-    supports u (Some (canceled l)) g m = tt
     supports u (Some (runs r e o)) g m = absurd m
-
-pub fill_covers : (t : Trace) (k : ℕ) (s : World) (r b at : ℕ) (new : List ℕ) → turn t k s ≡ Some (filled r b at new) → Awaits t k s → Covers t k (footprint t k s) s
-fill_covers t k s r b at new h w = idle_covers t k s _ h tt w
-
-pub refused_covers : (t : Trace) (k : ℕ) (s : World) (e : Errno) (posted : Bool) → turn t k s ≡ Some (refused e posted) → Awaits t k s → Covers t k (footprint t k s) s
-refused_covers t k s e posted h w = idle_covers t k s _ h tt w
-
-pub canceled_covers : (t : Trace) (k : ℕ) (s : World) (posted : Bool) → turn t k s ≡ Some (canceled posted) → Awaits t k s → Covers t k (footprint t k s) s
-canceled_covers t k s posted h w = idle_covers t k s _ h tt w
+    supports u _ g m = tt
 
 -- Where each operation is covered, all footprints cover their places.
 pub footprints_cover : ((o : Operation) → OperationCovers o) → FootprintsCover
 footprints_cover operations t k s w = by (turn t k s) refl
   where
     by : (x : Option Turn) → turn t k s ≡ x → Covers t k (footprint t k s) s
-    by None h = idle_covers t k s _ h tt w
-    by (Some (filled r b at new)) h = fill_covers t k s r b at new h w
-    by (Some (refused e p)) h = refused_covers t k s e p h w
-    by (Some (canceled p)) h = canceled_covers t k s p h w
     by (Some (runs r e o)) h = operations o t k s r e h w
+    by _ h = idle_covers t k s _ h tt w

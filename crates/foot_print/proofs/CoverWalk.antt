@@ -1,23 +1,20 @@
 -- A walk is decided by the names on the path.
-use Rattle.std.specs.Prelude.{◌≡◌, ℕ, true, false, cond, List, [], ◌∷◌, map, Option, Some, None, Result, Ok, Err, refl}
-use Rattle.std.specs.Option.{option_map, option_and_then}
+use native.Mathlib.Omega.{arith}
+use Rattle.std.specs.Prelude.{◌≡◌, ℕ, true, false, cond, List, [], ◌∷◌, map, Option, Result, Ok, Err, refl}
 use mathlib.Core.Path.{sym, subst, ap, ◌∙◌}
 use Rattle.sqe_codec.specs.declared.errno.Errno.{Errno}
 use Rattle.sqe_codec.specs.declared.errno.Errno.TheVariants.{EBADF, ENAMETOOLONG}
 use Rattle.sqe_codec.specs.Answers.{◌>>=◌, ◌>>◌, require, each_ok}
 use Rattle.entry_checks.specs.Operation.{Path}
 use Rattle.trace_format.specs.Paths.{components}
-use Rattle.finite_maps.specs.Table.{get}
-use Rattle.world_parts.specs.World.{World, names, name}
-use Rattle.file_tree.specs.Tree.{target}
-use Rattle.file_tree.specs.Tree.{Names}
+use Rattle.world_parts.specs.World.{World, name}
 use Rattle.file_tree.specs.Tree.{Target}
 use Rattle.file_tree.specs.Walk.{Place, walk, walk_from, names_from, names_on, directory_at, fits_name, starts_at_root}
 use Rattle.world_parts.specs.Items.{name_at, one, Use, reads, Footprint, Agree}
 use Rattle.op_meaning.specs.Footprint.{path_reads}
 use Rattle.foot_print.proofs.Agreement.{agree_head, agree_tail}
 use Rattle.world_parts.proofs.ChangesOfNames.{Leads}
-use Rattle.foot_print.proofs.Accepted.{err_apart, ok_same, ok_bind, ok_require}
+use Rattle.foot_print.proofs.Accepted.{err_apart, ok_require}
 
 abbrev look : ℕ × List ℕ → Use
 look e = reads (one (name_at e.0 e.1))
@@ -64,18 +61,10 @@ names_from_same s u d (n ∷ ns) a =
     further f (Err x) k = refl
 
 pub walk_same : (s u : World) (p : Path) → Agree (path_reads s p) s u → walk u.nodes p ≡ walk s.nodes p
-walk_same s u p a =
-    elim (starts_at_root p) as (λ b. Agree (map look (cond b (names_from s.nodes 0 (components p.text)) [])) s u → (require b EBADF >> walk_from u.nodes 0 (components p.text)) ≡ (require b EBADF >> walk_from s.nodes 0 (components p.text))) [
-      | true ↦ λ k. walk_from_same s u 0 (components p.text) k
-      | false ↦ λ k. refl
-    ] a
+walk_same s u p a = let walked = walk_from_same s u 0 (components p.text) in grind (arith, walked)
 
 pub names_on_same : (s u : World) (p : Path) → Agree (path_reads s p) s u → names_on u.nodes p ≡ names_on s.nodes p
-names_on_same s u p a =
-    elim (starts_at_root p) as (λ b. Agree (map look (cond b (names_from s.nodes 0 (components p.text)) [])) s u → ◌≡◌ {A = List (ℕ × List ℕ)} (cond b (names_from u.nodes 0 (components p.text)) []) (cond b (names_from s.nodes 0 (components p.text)) [])) [
-      | true ↦ λ k. names_from_same s u 0 (components p.text) k
-      | false ↦ λ k. refl
-    ] a
+names_on_same s u p a = let looked_up = names_from_same s u 0 (components p.text) in grind (arith, looked_up)
 
 pub path_reads_same : (s u : World) (p : Path) → Agree (path_reads s p) s u → path_reads u p ≡ path_reads s p
 path_reads_same s u p a = ap (map look) (names_on_same s u p a)
@@ -83,20 +72,16 @@ path_reads_same s u p a = ap (map look) (names_on_same s u p a)
 -- What a walk finds is what its last name leads to.
 walk_from_finds : (s : World) (d : ℕ) (ns : List (List ℕ)) (q : Place) → walk_from s.nodes d ns ≡ Ok q → q.target ≡ name s q.parent q.name
 walk_from_finds s d [] q h = absurd (err_apart h)
-walk_from_finds s d (n ∷ []) q h =
-    let e = ok_same _ q (ok_require (fits_name n) ENAMETOOLONG (found d n (name s d n)) q h).0 in
-    subst (λ (x : Place). x.target ≡ name s x.parent x.name) e refl
-walk_from_finds s d (n ∷ m ∷ ns) q h =
-    let e = ok_bind (directory_at (name s d n)) (λ e. walk_from s.nodes e (m ∷ ns)) q (ok_require (fits_name n) ENAMETOOLONG (directory_at (name s d n) >>= λ e. walk_from s.nodes e (m ∷ ns)) q h).0 in
-    walk_from_finds s e.0 (m ∷ ns) q e.2
+walk_from_finds s d (n ∷ []) q h = grind arith
+walk_from_finds s d (n ∷ m ∷ ns) q h = let rest = λ (e : ℕ). walk_from_finds s e (m ∷ ns) q in grind (arith, rest)
 
 pub walk_finds : (s : World) (p : Path) (q : Place) → walk s.nodes p ≡ Ok q → q.target ≡ name s q.parent q.name
 walk_finds s p q h = walk_from_finds s 0 (components p.text) q (ok_require (starts_at_root p) EBADF (walk_from s.nodes 0 (components p.text)) q h).0
 
--- What a walk finds is of the kind that it says.
+-- What a name leads to is of the kind that it says.
+pub name_leads : (s : World) (d : ℕ) (n : List ℕ) → Leads s (name s d n)
+name_leads s d n = grind arith
+
+-- So is what a walk finds.
 pub walk_leads : (s : World) (p : Path) (q : Place) → walk s.nodes p ≡ Ok q → Leads s q.target
-walk_leads s p q h = subst (Leads s) (sym (walk_finds s p q h)) (name_leads (option_and_then (λ (ns : Names). get ns q.name) (names s q.parent)))
-  where
-    name_leads : (o : Option ℕ) → Leads s (option_map (target s.nodes) o)
-    name_leads None = tt
-    name_leads (Some i) = refl
+walk_leads s p q h = subst (Leads s) (sym (walk_finds s p q h)) (name_leads s q.parent q.name)

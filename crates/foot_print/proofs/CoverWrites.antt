@@ -1,11 +1,13 @@
 -- Operations that write an open file: write, writev, and write_fixed, which writes from a registered buffer.
+use Rattle.foot_print.proofs.Writing.{is_false}
+use Rattle.std.proofs.lemmas.Bool.{eqb-false, ne_eqb}
 use Rattle.std.specs.Prelude.{◌≡◌, ℕ, zero, suc, Bool, true, false, cond, not, ◌&&◌, ◌||◌, ◌==◌, ltb, leb, min, ◌+◌, ◌-◌, ◌<◌, ◌≤◌, ◌⊎◌, T, List, [], ◌∷◌, ◌++◌, length, take, drop, Option, Some, None, Result, Ok, ok_or, refl, unwrap_or, IfSome}
 use Rattle.std.specs.List.{slice_get}
 use Rattle.std.specs.Option.{option_map, option_and_then, is_some}
 use mathlib.Core.Path.{sym, subst, ap, ◌∙◌}
 use mathlib.Core.Logic.{inl, inr}
 use native.Mathlib.Omega.{arith}
-use lib.Dec.{ltb→lt, lt→ltb, leb→le, le→leb, eqb→eq, eqb_refl, nltb→le}
+use lib.Dec.{ltb→lt, lt→ltb, leb→le, le→leb, eqb_refl, nltb→le}
 use Rattle.std.proofs.Math.ListN.{length-take}
 use Rattle.sqe_codec.specs.declared.errno.Errno.{Errno}
 use Rattle.sqe_codec.specs.declared.errno.Errno.TheVariants.{EBADF, EINVAL, EFBIG, EFAULT}
@@ -13,18 +15,18 @@ use Rattle.trace_format.specs.declared.trace.Trace.{Trace}
 use Rattle.sqe_codec.specs.Answers.{each, ◌>>=◌, ◌>>◌, require}
 use Rattle.entry_checks.specs.Operation.{write, writev, write_fixed, File, Span, at_position, file_limit}
 use Rattle.trace_format.specs.Sides.{most_moved}
-use Rattle.world_parts.specs.World.{World, IsWorld, bytes, size, position, buffer}
-use Rattle.op_meaning.specs.Meaning.{Effect, done, Handle, handle, can_write, is_bad_offset, transfer_start, write_start, write_effect, writable, write_meaning, bytes_in, span_start, span_bytes}
+use Rattle.world_parts.specs.World.{World, IsWorld, bytes, size, buffer}
+use Rattle.op_meaning.specs.Meaning.{Effect, done, Handle, handle, can_write, is_bad_offset, write_start, write_effect, writable, write_meaning, bytes_in, span_start, span_bytes}
 use Rattle.world_parts.specs.Items.{Atom, member_of, size_of, byte_at, position_of, buffer_byte, within, one, Use, writes, Footprint, writes_atom, Agree}
 use Rattle.op_meaning.specs.Footprint.{Taken, tried, is_foreseen, use_of, on_file, transfer_range, position_written, position_use, would_extend, write_row, span_use}
 use Rattle.foot_print.specs.Laws.{Awaits}
 use Rattle.world_parts.proofs.Collision.{both, either_left, either_right, left, right}
 use Rattle.foot_print.proofs.Agreement.{in_left, agree_left, agree_right, agree_head, agree_tail, handle_same}
 use Rattle.world_parts.proofs.Trees.{some_same, some_apart}
-use Rattle.foot_print.proofs.Answered.{ok_same, was_ok, was_required, was_there}
+use Rattle.foot_print.proofs.Accepted.{ok_same, ok_bind, ok_require, ok_some}
 use Rattle.foot_print.proofs.OpenFile.{with_handle, on_file_same, in_on_file, on_its_file, handles_sound, handles_sound_too, HandlesSound, writable_is_file, file_there, length_same, length_by_size}
 use Rattle.foot_print.proofs.CoverChanges.{SupportsAll}
-use Rattle.foot_print.proofs.CoverOperation.{Contains, Owes, supports_effect}
+use Rattle.foot_print.proofs.CoverOperation.{Contains, Owes}
 use Rattle.foot_print.proofs.CoverReads.{advance_supported, position_is_written, in_span, offset_in_span}
 
 -- What a write of at most n bytes has of the file.
@@ -45,13 +47,10 @@ write_row_same t s u r x f o n b =
 -- Where a write starts is the same where worlds agree on its content.
 start_same : (s u : World) (ext : Bool) (o n : ℕ) (h : Handle) → Agree (content s ext o n h.opened.target.node h) s u → write_start u h o ≡ write_start s h o
 start_same s u ext o n h a =
-    elim h.opened.append as (λ b. cond b (length (bytes_in u h.opened.target.node)) (transfer_start u h o) ≡ cond b (length (bytes_in s h.opened.target.node)) (transfer_start s h o)) [
-      | true ↦ length_same s u h.opened.target.node (agree_head s u (size_of h.opened.target.node) _ _ a)
-      | false ↦ elim (o == at_position) as (λ b. Agree (cond b (writes (one (position_of h.description)) ∷ []) []) s u → cond b (unwrap_or (position u h.description) 0) o ≡ cond b (unwrap_or (position s h.description) 0) o) [
-        | true ↦ λ k. ap (λ x. unwrap_or x 0) (sym (agree_head s u (position_of h.description) true [] k))
-        | false ↦ λ k. refl
-      ] (agree_tail s u _ _ (agree_tail s u _ _ a))
-    ]
+    let sizes = length_same s u h.opened.target.node (agree_head s u (size_of h.opened.target.node) _ _ a) in
+    let rest = agree_tail s u _ _ (agree_tail s u _ _ a) in
+    let places = λ (k : Agree (writes (one (position_of h.description)) ∷ []) s u). agree_head s u (position_of h.description) true [] k in
+    grind (arith, places)
 
 -- What a write does from a place in a file, and with a handle.
 abbrev writes_from : ℕ → Handle → ℕ → List ℕ → Result Effect Errno
@@ -61,15 +60,10 @@ abbrev handed : World → ℕ → Result (List ℕ) Errno → Bool → Handle �
 handed s o source cw h = (require cw EBADF >> Ok h) >>= λ g. source >>= λ new. require (not (is_bad_offset o)) EINVAL >> writes_from o g (write_start s g o) new
 
 by_handle : (t : Trace) (s : World) (r : ℕ) (f : File) (o : ℕ) (source : Result (List ℕ) Errno) → write_meaning s (handle t s r f) o source ≡ (ok_or (handle t s r f) EBADF >>= λ h. handed s o source (can_write h.opened.access) h)
-by_handle t s r f o source = by (handle t s r f)
-  where
-    by : (x : Option Handle) → ((ok_or x EBADF >>= λ h. require (can_write h.opened.access) EBADF >> Ok h) >>= λ h. source >>= λ new. require (not (is_bad_offset o)) EINVAL >> writes_from o h (write_start s h o) new) ≡ (ok_or x EBADF >>= λ h. handed s o source (can_write h.opened.access) h)
-    by None = refl
-    by (Some h) = refl
+by_handle t s r f o source = grind arith
 
 handed_same : (s u : World) (o : ℕ) (source : Result (List ℕ) Errno) (cw : Bool) (h : Handle) → (T cw → write_start u h o ≡ write_start s h o) → handed u o source cw h ≡ handed s o source cw h
-handed_same s u o source false h a = refl
-handed_same s u o source true h a = ap (λ x. source >>= λ new. require (not (is_bad_offset o)) EINVAL >> writes_from o h x new) (a tt)
+handed_same s u o source cw h a = grind arith
 
 write_same : (t : Trace) (s u : World) (r : ℕ) (x : Taken) (f : File) (o n : ℕ) (source : Result (List ℕ) Errno) → IsWorld s → Agree (write_row t s r x f o n) s u → write_meaning u (handle t u r f) o source ≡ write_meaning s (handle t s r f) o source
 write_same t s u r x f o n source w a =
@@ -83,24 +77,16 @@ write_same t s u r x f o n source w a =
 
 -- Without an append flag and the position, a write starts at its offset.
 start_is : (a b : Bool) (x y o : ℕ) → (a || b) ≡ false → cond a x (cond b y o) ≡ o
-start_is true b x y o e = absurd (subst T e tt)
-start_is false true x y o e = absurd (subst T e tt)
-start_is false false x y o e = refl
+start_is a b x y o e = grind arith
 
 at_most : (x : Option ℕ) (a : ℕ) → a ≤ unwrap_or x 0 → IfSome x (λ n. a ≤ n)
-at_most None a h = tt
-at_most (Some n) a h = h
-
-false_of : (b : Bool) → (T b → ⊥) → b ≡ false
-false_of true h = absurd (h tt)
-false_of false h = refl
+at_most x a h = grind arith
 
 not_zero : (n : ℕ) → 0 < n → T (not (n == 0))
-not_zero n h = elim (n == 0) as (λ b. (n == 0) ≡ b → T (not b)) [ true ↦ λ e. (let z : n ≡ 0 = eqb→eq n 0 (subst T (sym e) tt) in absurd (omega arith)) | false ↦ λ e. tt ] refl
+not_zero n h = subst (λ b. T (not b)) (sym (ne_eqb n 0 (λ e. omega arith))) tt
 
 positive : (n : ℕ) → (n == 0) ≡ false → 0 < n
-positive zero e = absurd (subst T e tt)
-positive (suc n) e = omega arith
+positive n e = let other = eqb-false n 0 e in omega arith
 
 -- What the content of a write writes supports its changes.
 module _ (s : World) (o n : ℕ) (new : List ℕ) (h : Handle) (g : Footprint) (c : Contains g (content s false o n h.opened.target.node h))
@@ -122,7 +108,7 @@ module _ (s : World) (o n : ℕ) (new : List ℕ) (h : Handle) (g : Footprint) (
   growth at from below some =
       elim flag as (λ b. flag ≡ b → T (writes_atom g (size_of i)) ⊎ IfSome (size s i) (λ m. at + length (take (file_limit - at) new) ≤ m)) [
         | true ↦ λ e. inl (written (size_of i) (either_left _ _ (both flag (i == i) (subst T (sym e) tt) (eqb_refl i))))
-        | false ↦ λ e. inr (at_most (size s i) _ (short (false_of anywhere (λ w. subst T e (either_left anywhere _ w))) (false_of (would_extend s i (o + n)) (λ w. subst T e (either_right anywhere _ (both _ _ (not_zero n (omega arith)) w))))))
+        | false ↦ λ e. inr (at_most (size s i) _ (short (is_false anywhere (λ w. subst T e (either_left anywhere _ w))) (is_false (would_extend s i (o + n)) (λ w. subst T e (either_right anywhere _ (both _ _ (not_zero n (omega arith)) w))))))
       ] refl
     where
       short : anywhere ≡ false → would_extend s i (o + n) ≡ false → at + length (take (file_limit - at) new) ≤ unwrap_or (size s i) 0
@@ -156,25 +142,21 @@ module _ (s : World) (o n : ℕ) (new : List ℕ) (h : Handle) (g : Footprint) (
   )
 
   from_supported : (e : Effect) → writes_from o h (write_start s h o) new ≡ Ok e → SupportsAll g s e.changes
-  from_supported e q = by (length new == 0) refl q
-    where
-      by : (b : Bool) → (length new == 0) ≡ b → cond b (Ok (done [])) (require (ltb (write_start s h o) file_limit) EFBIG >> Ok (write_effect h o (write_start s h o) (take (file_limit - write_start s h o) new))) ≡ Ok e → SupportsAll g s e.changes
-      by true z k = supports_effect g s (done []) e k tt
-      by false z k = let x = was_required (ltb (write_start s h o) file_limit) EFBIG _ e k in supports_effect g s _ e x.1 (moves (ltb→lt _ _ x.0) (positive (length new) z))
+  from_supported e q = grind (arith, moves, ltb→lt, positive)
 
 -- What a write's row writes supports its changes.
 write_supported : (t : Trace) (r : ℕ) (f : File) (o n : ℕ) (source : Result (List ℕ) Errno) (s : World) (g : Footprint) → HandlesSound t s r f → ((new : List ℕ) → source ≡ Ok new → length new ≤ n)
     → (e : Effect) → write_meaning s (handle t s r f) o source ≡ Ok e → Contains g (on_file t s r f (content s false o n)) → SupportsAll g s e.changes
 write_supported t r f o n source s g w few e q c =
-    let m = was_ok (writable (handle t s r f)) _ e q in
-    let l = was_ok (ok_or (handle t s r f) EBADF) (λ h. require (can_write h.opened.access) EBADF >> Ok h) m.0 m.1 in
-    let i = was_required (can_write l.0.opened.access) EBADF (Ok l.0) m.0 l.2 in
-    let there = was_there (handle t s r f) EBADF m.0 (l.1 ∙ i.1) in
-    let can = subst (λ h. T (can_write h.opened.access)) (ok_same l.0 m.0 i.1) i.0 in
-    let y = was_ok source _ e m.2 in
-    let k = was_required (not (is_bad_offset o)) EINVAL _ e y.2 in
+    let m = ok_bind (writable (handle t s r f)) _ e q in
+    let l = ok_bind (ok_or (handle t s r f) EBADF) (λ h. require (can_write h.opened.access) EBADF >> Ok h) m.0 m.1 in
+    let i = ok_require (can_write l.0.opened.access) EBADF (Ok l.0) m.0 l.2 in
+    let there = ok_some (handle t s r f) EBADF m.0 (l.1 ∙ i.0) in
+    let can = subst (λ h. T (can_write h.opened.access)) (ok_same l.0 m.0 i.0) i.1 in
+    let y = ok_bind source _ e m.2 in
+    let k = ok_require (not (is_bad_offset o)) EINVAL _ e y.2 in
     let d = on_content m.0 there can in
-    from_supported s o n y.0 m.0 g d (file_there t s r f m.0 (w m.0 there) there can) (few y.0 y.1) e k.1
+    from_supported s o n y.0 m.0 g d (file_there t s r f m.0 (w m.0 there) there can) (few y.0 y.1) e k.0
   where
     on_content : (h : Handle) → handle t s r f ≡ Some h → T (can_write h.opened.access) → Contains g (content s false o n h.opened.target.node h)
     on_content h there can = record { uses = λ p m. c.uses p (in_on_file t s r f (content s false o n) p h there (writable_is_file h (w h there) can) m) }
@@ -206,8 +188,7 @@ slice_decided (suc n) (suc at) (x ∷ xs) [] h = slice_decided (suc n) at xs [] 
 slice_decided (suc n) (suc at) (x ∷ xs) (y ∷ ys) h = slice_decided (suc n) at xs ys (λ p a b. h (suc p) (omega arith) (omega arith))
 
 found_in : (o : Option (List ℕ)) (p : ℕ) → slice_get (unwrap_or o []) p ≡ option_and_then (λ bs. slice_get bs p) o
-found_in None p = refl
-found_in (Some bs) p = refl
+found_in o p = grind arith
 
 -- The bytes of a span are the same where worlds agree on them.
 span_bytes_same : (t : Trace) (s u : World) (r : ℕ) (x : Span) → Agree (span_use false t r x) s u → span_bytes t u r x ≡ span_bytes t s r x
@@ -222,11 +203,7 @@ span_bytes_same t s u r x a = by (span_start t r x) refl
         found_in (buffer u r x.index) p ∙ sym (a.same (buffer_byte r x.index p) (in_span false t r x (λ (z : Use). member_of z.item (buffer_byte r x.index p)) at e (offset_in_span r x.index at x.length p below (omega arith)))) ∙ sym (found_in (buffer s r x.index) p)))
 
 span_bytes_fit : (t : Trace) (s : World) (r : ℕ) (x : Span) (new : List ℕ) → span_bytes t s r x ≡ Ok new → length new ≤ min x.length most_moved
-span_bytes_fit t s r x new e = by (span_start t r x) e
-  where
-    by : (y : Option ℕ) → ok_or (option_map (λ at. take (min x.length most_moved) (drop at (unwrap_or (buffer s r x.index) []))) y) EFAULT ≡ Ok new → length new ≤ min x.length most_moved
-    by None h = absurd (some_apart (sym (was_there None EFAULT new h)))
-    by (Some at) h = let l = length-take (min x.length most_moved) (drop at (unwrap_or (buffer s r x.index) [])) in subst (λ y. length y ≤ min x.length most_moved) (ok_same _ new h) (omega arith)
+span_bytes_fit t s r x new e = grind (arith, length-take)
 
 pub write_fixed_owes : (t : Trace) (k r : ℕ) (s : World) (f : File) (o : ℕ) (x : Span) → Awaits t k s → Owes t k r (write_fixed f o x) s
 write_fixed_owes t k r s f o x w = record {

@@ -1,5 +1,7 @@
 -- When one footprint holds another, for the atoms that pass a test.
-use Rattle.std.specs.Prelude.{ℕ, Bool, true, false, cond, ◌&&◌, ◌||◌, T, List, [], ◌∷◌, ◌++◌, Option, Some, None, Result, Ok, Err}
+use native.Mathlib.Omega.{arith}
+use Rattle.std.proofs.lemmas.List.Folds.{list_all-append, list_any-append}
+use Rattle.std.specs.Prelude.{ℕ, Bool, true, false, cond, ◌&&◌, ◌||◌, T, List, [], ◌∷◌, ◌++◌, Option, Result}
 use Rattle.std.proofs.Common.{◌⊎◌, inl, inr}
 use Rattle.std.specs.List.{list_any, list_all}
 use Rattle.sqe_codec.specs.declared.errno.Errno.{Errno}
@@ -7,9 +9,9 @@ use Rattle.trace_format.specs.declared.trace.Trace.{Trace}
 use Rattle.sqe_codec.specs.Answers.{each, each_ok}
 use Rattle.entry_checks.specs.Operation.{File}
 use Rattle.world_parts.specs.World.{World}
-use Rattle.op_meaning.specs.Meaning.{Handle, held, handle_of, is_file}
-use Rattle.world_parts.specs.Items.{Atom, description_at, Item, one, member_of, Use, reads, writes, Footprint, has_atom, writes_atom}
-use Rattle.op_meaning.specs.Footprint.{as_reads, use_of, file_reads, of_file, of_description, on_file}
+use Rattle.op_meaning.specs.Meaning.{Handle}
+use Rattle.world_parts.specs.Items.{Atom, Item, member_of, Use, writes, Footprint, has_atom, writes_atom}
+use Rattle.op_meaning.specs.Footprint.{as_reads, use_of, on_file}
 use Rattle.world_parts.proofs.Collision.{both, left, right}
 use Rattle.foot_print.proofs.Agreement.{in_left, in_right}
 
@@ -22,13 +24,10 @@ abbrev pub always : Atom → Bool
 always a = true
 
 pub split : {A : Type 0} (p : A → Bool) (xs ys : List A) → T (list_any p (xs ++ ys)) → T (list_any p xs) ⊎ T (list_any p ys)
-split p [] ys h = inr h
-split p (x ∷ xs) ys h =
-    elim (p x) as (λ b. T (b || list_any p (xs ++ ys)) → T (b || list_any p xs) ⊎ T (list_any p ys)) [ true ↦ λ k. inl tt | false ↦ λ k. split p xs ys k ] h
+split p xs ys h = let either = rw list_any-append at h in grind arith
 
 pub drop_false : (b : Bool) → T (b || false) → T b
-drop_false true h = tt
-drop_false false h = h
+drop_false b h = grind arith
 
 pub drop_unwritten : (f : Footprint) (a : Atom) → T (writes_atom (as_reads f) a) → ⊥
 drop_unwritten [] a h = h
@@ -85,24 +84,13 @@ module _ (p : Atom → Bool) where
 
   -- What an operation has of an open file is held where its content is.
   pub over_on_file : (t : Trace) (s : World) (r : ℕ) (f : File) (c d : ℕ → Handle → Footprint) → ((i : ℕ) (h : Handle) → Over p (c i h) (d i h)) → Over p (on_file t s r f c) (on_file t s r f d)
-  over_on_file t s r f c d x = over_both (file_reads t r f) _ (file_reads t r f) _ (over_self (file_reads t r f)) (at (held t s r f))
-    where
-      of_handle : (o : Option Handle) → Over p (each (of_file c) o) (each (of_file d) o)
-      of_handle None = over_nothing []
-      of_handle (Some h) = elim (is_file h.opened) as (λ b. Over p (cond b (c h.opened.target.node h) []) (cond b (d h.opened.target.node h) [])) [ true ↦ x h.opened.target.node h | false ↦ over_nothing [] ]
-
-      at : (o : Option ℕ) → Over p (each (of_description s c) o) (each (of_description s d) o)
-      at None = over_nothing []
-      at (Some n) = over_more _ _ (reads (one (description_at n))) (of_handle (handle_of s n))
+  over_on_file t s r f c d x = grind (arith, over_both, over_self, over_nothing, over_more)
 
 pub all_append : {A : Type 0} (test : A → Bool) (xs ys : List A) → T (list_all test xs) → T (list_all test ys) → T (list_all test (xs ++ ys))
-all_append test [] ys h k = k
-all_append test (x ∷ xs) ys h k = both (test x) _ (left (test x) _ h) (all_append test xs ys (right (test x) _ h) k)
+all_append test xs ys h k = rw list_all-append (both _ _ h k)
 
 pub all_each : {A : Type 0} (test : Use → Bool) (f : A → Footprint) (o : Option A) → ((x : A) → T (list_all test (f x))) → T (list_all test (each f o))
-all_each test f None h = tt
-all_each test f (Some x) h = h x
+all_each test f o h = grind arith
 
 pub all_each_ok : {A : Type 0} (test : Use → Bool) (f : A → Footprint) (o : Result A Errno) → ((x : A) → T (list_all test (f x))) → T (list_all test (each_ok f o))
-all_each_ok test f (Err e) h = tt
-all_each_ok test f (Ok x) h = h x
+all_each_ok test f o h = grind arith

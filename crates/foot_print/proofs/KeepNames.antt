@@ -1,47 +1,36 @@
 -- Operations that make, link, rename and remove names leave a world.
-use Rattle.std.specs.Prelude.{◌≡◌, ℕ, Bool, true, false, cond, not, ◌==◌, ◌⊎◌, T, List, [], ◌∷◌, Option, Some, None, Result, Ok, Err, ok_or, is_some, is_none, refl, IfSome}
+use native.Mathlib.Omega.{arith}
+use Rattle.std.specs.Prelude.{◌≡◌, ℕ, Bool, true, false, cond, not, ◌==◌, ◌⊎◌, T, List, [], ◌∷◌, Option, Some, None, Result, Ok, ok_or, is_some, is_none, refl, IfSome}
 use Rattle.std.specs.List.{list_any}
 use Rattle.std.specs.Option.{option_map, option_and_then}
 use mathlib.Core.Path.{sym, subst, ap, ◌∙◌}
 use mathlib.Core.Logic.{inl, inr}
 use lib.Dec.{eqb_refl}
 use Rattle.sqe_codec.specs.declared.errno.Errno.{Errno}
-use Rattle.sqe_codec.specs.declared.errno.Errno.TheVariants.{EPERM, ENOENT, EEXIST, ENOTDIR, EBADF, ENAMETOOLONG}
+use Rattle.sqe_codec.specs.declared.errno.Errno.TheVariants.{EPERM, ENOENT, EEXIST, EBADF, ENAMETOOLONG}
 use Rattle.trace_format.specs.declared.trace.Trace.{Trace}
 use Rattle.sqe_codec.specs.Answers.{◌>>=◌, each_ok}
 use Rattle.entry_checks.specs.Operation.{Operation, unlinkat, mkdirat, linkat, Path}
 use Rattle.trace_format.specs.Paths.{components}
 use Rattle.finite_maps.specs.Table.{get}
-use Rattle.world_parts.specs.World.{World, kind, names, name, name_count, IsWorld, Change, set_name, make_node, apply, apply_all}
-use Rattle.file_tree.specs.Tree.{target}
-use Rattle.file_tree.specs.Tree.{Kind, a_directory, a_file, kind_of_node, names_of_node, Target, Above, names_it, one_below, IsTree}
-use Rattle.file_tree.specs.Tree.{Names}
+use Rattle.world_parts.specs.World.{World, kind, name, name_count, IsWorld, Change, set_name, make_node, apply, apply_all}
+use Rattle.file_tree.specs.Tree.{target, Kind, a_directory, a_file, kind_of_node, names_of_node, Target, Above, names_it, one_below, IsTree, Names}
 use Rattle.file_tree.specs.Walk.{Place, walk, walk_from, names_from, is_above, is_directory, directory_at, fits_name, starts_at_root}
 use Rattle.op_meaning.specs.Meaning.{Effect, meaning, done, made_node, made_description, may_remove}
 use Rattle.foot_print.specs.Laws.{Awaits}
 use Rattle.world_parts.proofs.Collision.{either_left, either_right, true_of}
-use Rattle.world_parts.proofs.Collision.{not_both}
-use Rattle.world_parts.proofs.Trees.{some_apart, some_same}
+use Rattle.world_parts.proofs.Trees.{some_apart, some_same, Look, directory_of, put, UpTo, MayPut, may_remove_name, put_tree, tree_same}
 use Rattle.world_parts.proofs.ChangesOfNames.{Leads}
 use Rattle.world_parts.proofs.ChangesOfMaking.{Unused, made-kind, making-name}
-use Rattle.foot_print.proofs.CoverWalk.{walk_leads, walk_finds}
+use Rattle.foot_print.proofs.CoverWalk.{name_leads, walk_leads, walk_finds}
 use Rattle.foot_print.proofs.Awaiting.{awaits_unused, node_unused}
+use Rattle.foot_print.proofs.OpenFile.{kind_of}
 use Rattle.foot_print.proofs.Accepted.{err_apart, ok_same, ok_bind, ok_then, ok_require, ok_some}
-use Rattle.world_parts.proofs.Trees.{Look, directory_of, put, UpTo, MayPut, may_remove_name, put_tree, tree_same}
 use Rattle.world_parts.proofs.KeepWorld.{sound, is_world, naming_sound, naming_names, making_sound, AllMakeOnly}
-
-kind_is : (k : Option Kind) → T (is_directory k) → k ≡ Some a_directory
-kind_is None h = absurd h
-kind_is (Some a_directory) h = refl
-kind_is (Some a_file) h = absurd h
 
 -- A component that leads to a directory.
 leads_down : (o : Option Target) (e : ℕ) → directory_at o ≡ Ok e → o ≡ Some (directory_of e)
-leads_down None e h = absurd (err_apart h)
-leads_down (Some t) e h = elim (is_directory t.kind) as (λ b. is_directory t.kind ≡ b → cond b (Ok t.node) (Err ENOTDIR) ≡ Ok e → Some t ≡ Some (directory_of e)) [
-  | true ↦ λ q g. (let k = kind_is t.kind (subst T (sym q) tt) in λ i. Some (record { node = ok_same t.node e g i; kind = k i }))
-  | false ↦ λ q g. absurd (err_apart g)
-] refl h
+leads_down o e h = grind (arith, kind_of)
 
 -- What is above a directory that has a name is at its parent or above that.
 above_parent : (look : Look) → IsTree look → (i d e : ℕ) (n : List ℕ) → look d n ≡ Some (directory_of e) → Above look i e → UpTo look i d
@@ -87,23 +76,17 @@ on_the_way s w i d (n ∷ m ∷ ns) q h u =
 pub not_passed : (s : World) → IsTree (name s) → (p : Path) (q : Place) → walk s.nodes p ≡ Ok q → (i : ℕ) → T (not (is_above s.nodes i p)) → ¬ (UpTo (name s) i q.parent)
 not_passed s w p q h i n u =
     let k = ok_require (starts_at_root p) EBADF (walk_from s.nodes 0 (components p.text)) q h in
-    by k.1 (on_the_way s w i 0 (components p.text) q k.0 u)
-  where
-    by : T (starts_at_root p) → T (list_any (at_node i) (names_from s.nodes 0 (components p.text))) ⊎ Above (name s) i 0 → ⊥
-    by f (inl a) = not_both (is_above s.nodes i p) n (subst (λ b. T (list_any (at_node i) (cond b (names_from s.nodes 0 (components p.text)) []))) (sym (true_of _ f)) a)
-    by f (inr a) = not_above_root (name s) w i 0 a refl
+    let way = on_the_way s w i 0 (components p.text) q k.0 u in
+    grind (arith, not_above_root (name s) w i 0)
 
 -- The parent that a walk finds is a directory.
 parent_from : (s : World) (d : ℕ) (ns : List (List ℕ)) (q : Place) → kind s d ≡ Some a_directory → walk_from s.nodes d ns ≡ Ok q → kind s q.parent ≡ Some a_directory
 parent_from s d [] q k h = absurd (err_apart h)
-parent_from s d (n ∷ []) q k h = subst (λ (x : Place). kind s x.parent ≡ Some a_directory) (ok_same _ q (ok_require (fits_name n) ENAMETOOLONG (Ok (record { parent = d; name = n; target = name s d n })) q h).0) k
+parent_from s d (n ∷ []) q k h = grind arith
 parent_from s d (n ∷ m ∷ ns) q k h =
-    let e = ok_bind (directory_at (name s d n)) (λ e. walk_from s.nodes e (m ∷ ns)) q (ok_require (fits_name n) ENAMETOOLONG (directory_at (name s d n) >>= λ e. walk_from s.nodes e (m ∷ ns)) q h).0 in
-    parent_from s e.0 (m ∷ ns) q (subst (Leads s) (leads_down (name s d n) e.0 e.1) (leads (option_and_then (λ (x : Names). get x n) (names s d)))) e.2
-  where
-    leads : (o : Option ℕ) → Leads s (option_map (target s.nodes) o)
-    leads None = tt
-    leads (Some i) = refl
+    let rest = λ (e : ℕ). parent_from s e (m ∷ ns) q in
+    let led = name_leads s d n in
+    grind (arith, rest, leads_down)
 
 pub parent_there : (s : World) → IsWorld s → (p : Path) (q : Place) → walk s.nodes p ≡ Ok q → kind s q.parent ≡ Some a_directory
 parent_there s w p q h = parent_from s 0 (components p.text) q w.root (ok_require (starts_at_root p) EBADF (walk_from s.nodes 0 (components p.text)) q h).0

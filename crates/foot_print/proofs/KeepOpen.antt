@@ -1,16 +1,16 @@
 -- Opening a file leaves a world.
-use Rattle.std.specs.Prelude.{◌≡◌, ℕ, Bool, true, false, cond, not, ◌&&◌, ◌||◌, ◌==◌, T, [], ◌∷◌, ◌++◌, Option, Some, None, is_some, is_ok, refl, IfSome}
+use Rattle.std.specs.Prelude.{◌≡◌, ℕ, Bool, true, false, cond, not, ◌&&◌, ◌||◌, T, [], ◌∷◌, ◌++◌, Option, Some, None, is_some, is_ok, refl, IfSome}
 use mathlib.Core.Path.{sym, subst, ap, ◌∙◌}
 use native.Mathlib.Omega.{arith}
 use lib.Dec.{eqb_refl}
-use Rattle.trace_format.specs.declared.trace.Access.TheVariants.{Read, Write, Both}
+use Rattle.trace_format.specs.declared.trace.Access.TheVariants.{Read}
 use Rattle.trace_format.specs.declared.trace.Trace.{Trace}
 use Rattle.entry_checks.specs.Operation.{openat, Path, OpenFlags, File, in_slot, at_descriptor}
 use Rattle.world_parts.specs.World.{World, kind, name, opened, set_name, set_size, set_slot, set_descriptor, make_node, make_description, apply}
 use Rattle.file_tree.specs.Tree.{a_directory, a_file, Target, IsTree, rewritten_node}
 use Rattle.extent_bytes.specs.Bytes.{resized}
 use Rattle.finite_maps.specs.Table.{adjust_number}
-use Rattle.file_tree.specs.Walk.{Place, walk, is_directory}
+use Rattle.file_tree.specs.Walk.{Place, walk}
 use Rattle.op_meaning.specs.Meaning.{Effect, made_node, made_description, room, filled, may_open, found_or_made, open_changes, opened_with, access_of, open_as}
 use Rattle.world_parts.specs.Items.{description_at}
 use Rattle.foot_print.specs.Laws.{Awaits}
@@ -26,17 +26,11 @@ use Rattle.world_parts.proofs.KeepWorld.{IsSound, sound, is_world, sizing_sound,
 use Rattle.foot_print.proofs.KeepNames.{parent_there, made_and_named, Leaves, Keeps}
 
 zero_asked : (directory create truncate zero : Bool) → directory ≡ true → T (not (directory && (create || truncate || not zero))) → zero ≡ true
-zero_asked false c x z e h = absurd (subst T (sym e) tt)
-zero_asked true true x z e h = absurd h
-zero_asked true false true z e h = absurd h
-zero_asked true false false true e h = refl
-zero_asked true false false false e h = absurd h
+zero_asked directory create truncate zero e h = grind arith
 
 -- A directory is opened to read alone.
 reads_alone : (g : OpenFlags) (x : Target) → T (is_ok (may_open g (Some x))) → x.kind ≡ Some a_directory → access_of g.access ≡ Read
-reads_alone g x h c =
-    let zero = zero_asked (is_directory x.kind) g.create g.truncate (g.access == 0) (ap is_directory c) (second_test _ _ _ h) in
-    ap (λ b. cond b Read (cond (g.access == 1) Write Both)) zero
+reads_alone g x h c = grind (arith, zero_asked, second_test)
 
 module _ (t : Trace) (k r : ℕ) (g : OpenFlags) (at : File) where
   abbrev d : ℕ
@@ -66,11 +60,8 @@ module _ (t : Trace) (k r : ℕ) (g : OpenFlags) (at : File) where
       let x = found_or_made i None in
       let between = apply (set_name q.parent q.name (Some x)) (apply (make_node i a_file) s) in
       let z = made_and_named s i q.parent q.name a_file w.is_world (node_unused t k s (awaits_unused t k s w)) p refl in
-      let o = opened_world between x z.tree (sound between z) (naming-kind q.name (Some x) (apply (make_node i a_file) s) q.parent i ∙ made-kind s i a_file) refl (λ e. absurd (a_file_is_none e)) in
+      let o = opened_world between x z.tree (sound between z) (naming-kind q.name (Some x) (apply (make_node i a_file) s) q.parent i ∙ made-kind s i a_file) refl (λ e. (cc)) in
       (o.0, (refl, (tt, o.1)))
-    where
-      a_file_is_none : Some a_file ≡ Some a_directory → ⊥
-      a_file_is_none e = subst (λ y. T (not (is_directory y))) e tt
   open_leaves s w q p (Some y) f l c = by g.truncate
     where
       some_kind : is_some y.kind ≡ true

@@ -1,40 +1,31 @@
 -- Renaming leaves a world.
-use Rattle.std.specs.Prelude.{◌≡◌, ℕ, Bool, true, false, cond, not, ◌&&◌, ◌==◌, ◌⊎◌, T, List, [], ◌∷◌, Option, Some, None, Result, Ok, ok_or, is_some, refl}
-use Rattle.std.specs.Option.{option_map, option_and_then}
+use native.Mathlib.Omega.{arith}
+use Rattle.std.proofs.lemmas.Bool.{eqb-false}
+use Rattle.std.specs.Prelude.{◌≡◌, ℕ, Bool, true, false, cond, not, ◌&&◌, ◌==◌, T, List, [], ◌∷◌, Option, Some, None, Result, Ok, ok_or, is_some, refl}
 use Rattle.std.specs.Str.{bytes_eq}
 use mathlib.Core.Path.{sym, subst, ap, ◌∙◌}
 use mathlib.Core.Logic.{inl, inr}
-use lib.Dec.{eqb_refl}
 use Rattle.sqe_codec.specs.declared.errno.Errno.{Errno}
 use Rattle.sqe_codec.specs.declared.errno.Errno.TheVariants.{ENOENT, EEXIST, EINVAL}
 use Rattle.trace_format.specs.declared.trace.Trace.{Trace}
 use Rattle.sqe_codec.specs.Answers.{◌>>◌, require}
 use Rattle.entry_checks.specs.Operation.{renameat, Path}
-use Rattle.finite_maps.specs.Table.{get}
 use Rattle.world_parts.specs.World.{World, name, name_count, IsWorld, set_name, apply}
-use Rattle.file_tree.specs.Tree.{target}
 use Rattle.file_tree.specs.Tree.{a_directory, Target, IsTree}
-use Rattle.file_tree.specs.Tree.{Names, Node, directory, file, names_of_node, count_of_node}
 use Rattle.file_tree.specs.Walk.{Place, walk, is_above, is_directory}
 use Rattle.op_meaning.specs.Meaning.{Effect, done, goes_below, exchange_meaning, exchanged, move_meaning, moved_name, may_replace, rename_to}
 use Rattle.world_parts.proofs.Collision.{left, right}
-use Rattle.world_parts.proofs.Trees.{some_apart}
+use Rattle.world_parts.proofs.Trees.{put, UpTo, MayPut, here_or_not, may_move, exchange_tree, remove_tree}
 use Rattle.world_parts.proofs.ChangesOfNames.{Leads, naming-kind}
 use Rattle.foot_print.proofs.CoverWalk.{walk_leads, walk_finds}
 use Rattle.foot_print.proofs.CoverNames.{leads_after}
 use Rattle.foot_print.proofs.Accepted.{err_apart, ok_bind, ok_then, ok_require, ok_some}
-use Rattle.world_parts.proofs.Trees.{put, UpTo, MayPut, here_or_not, may_move, exchange_tree, remove_tree}
 use Rattle.world_parts.proofs.KeepWorld.{sound, is_world, naming_sound, naming_names}
 use Rattle.foot_print.proofs.KeepNames.{named_tree, not_passed, Leaves, Keeps, of_changes}
 
 -- A directory that has a name is one.
 has_count : (s : World) (d : ℕ) (n : List ℕ) (x : Target) → name s d n ≡ Some x → is_some (name_count s d) ≡ true
-has_count s d n x h = by (get s.nodes d) h
-  where
-    by : (o : Option Node) → option_map (target s.nodes) (option_and_then (λ (k : Names). get k n) (option_and_then names_of_node o)) ≡ Some x → is_some (option_and_then count_of_node o) ≡ true
-    by None g = absurd (some_apart (sym g))
-    by (Some (directory ns k)) g = refl
-    by (Some (file bs)) g = absurd (some_apart (sym g))
+has_count s d n x h = grind arith
 
 -- The names after one is set in a directory.
 names_put : (s : World) (d : ℕ) (n : List ℕ) (x : Option Target) → Leads s x → is_some (name_count s d) ≡ true → name (apply (set_name d n x) s) ≡ put (name s) d n x
@@ -70,25 +61,17 @@ module _ (t : Trace) (k : ℕ) (s : World) (w : IsWorld s) (old new : Path) (p q
       let between = apply (set_name p.parent p.name (Some y)) s in
       let look = names_put s p.parent p.name (Some y) led_other (has_count s p.parent p.name x at) in
       let led_after = leads_after s between (Some x) (λ i. naming-kind p.name (Some y) s p.parent i) led in
-      let still : name between q.parent q.name ≡ Some y = ap (λ l. l q.parent q.name) look ∙ elsewhere y there apart (here_or_not (name s) p.parent p.name (Some y) q.parent q.name) in
+      let still : name between q.parent q.name ≡ Some y = ap (λ l. l q.parent q.name) look
+      ∙ elim (here_or_not (name s) p.parent p.name (Some y) q.parent q.name) [ inl a ↦ a.0 | inr a ↦ a.0 ∙ there ] in
       let last = names_put between q.parent q.name (Some x) led_after (has_count between q.parent q.name y still) ∙ ap (λ l. put l q.parent q.name (Some x)) look in (
         is_world (apply (set_name q.parent q.name (Some x)) between)
             (subst IsTree (sym last) (exchange_tree (name s) w.tree p.parent q.parent p.name q.name x at (not_below s w.tree new q walked_new x g) y there apart (not_below s w.tree old p walked_old y h)))
             (naming_sound between q.parent q.name (Some x) (naming_sound s p.parent p.name (Some y) (sound s w))),
         (tt, (tt, tt)),
       )
-    where
-      elsewhere : (y : Target) → name s q.parent q.name ≡ Some y → ¬ (x.node ≡ y.node)
-          → ((put (name s) p.parent p.name (Some y) q.parent q.name ≡ Some y) × (q.parent ≡ p.parent) × (q.name ≡ p.name)) ⊎ ((put (name s) p.parent p.name (Some y) q.parent q.name ≡ name s q.parent q.name) × ((q.parent ≡ p.parent) → (q.name ≡ p.name) → ⊥))
-          → put (name s) p.parent p.name (Some y) q.parent q.name ≡ Some y
-      elsewhere y there apart (inl a) = a.0
-      elsewhere y there apart (inr a) = a.0 ∙ there
 
   nothing : (e : Effect) → ◌≡◌ {A = Result Effect Errno} (Ok (done [])) (Ok e) → Leaves t k s e.changes
   nothing e h = of_changes t k s [] e h (w, tt)
-
-  differ : (a b : ℕ) → (a == b) ≡ false → ¬ (a ≡ b)
-  differ a b h e = subst T h (subst (λ c. T (a == c)) e (eqb_refl a))
 
   exchange_keeps : (e : Effect) (z : Option Target) → q.target ≡ z → exchange_meaning s old new p q x z ≡ Ok e → Leaves t k s e.changes
   exchange_keeps e None f h = absurd (err_apart h)
@@ -96,7 +79,7 @@ module _ (t : Trace) (k : ℕ) (s : World) (w : IsWorld s) (old new : Path) (p q
     where
       by : T (not (goes_below s x new) && not (goes_below s y old)) → (b : Bool) → (x.node == y.node) ≡ b → ◌≡◌ {A = Result Effect Errno} (Ok (cond b (done []) (done (set_name p.parent p.name (Some y) ∷ set_name q.parent q.name (Some x) ∷ [])))) (Ok e) → Leaves t k s e.changes
       by c true n g = nothing e g
-      by c false n g = of_changes t k s _ e g (exchange_leaves y f (differ x.node y.node n) (left _ _ c) (right (not (goes_below s x new)) _ c))
+      by c false n g = of_changes t k s _ e g (exchange_leaves y f (eqb-false x.node y.node n) (left _ _ c) (right (not (goes_below s x new)) _ c))
 
   move_keeps : (e : Effect) → T (not (goes_below s x new)) → (z : Option Target) → move_meaning s p q x z ≡ Ok e → Leaves t k s e.changes
   move_keeps e c None h = of_changes t k s _ e h (move_leaves c)
@@ -110,8 +93,7 @@ module _ (t : Trace) (k : ℕ) (s : World) (w : IsWorld s) (old new : Path) (p q
   rename_keeps e flags h = by (flags == 2) h
     where
       below : (a : Bool) (r : Result Effect Errno) → (require a EEXIST >> require (not (goes_below s x new)) EINVAL >> r) ≡ Ok e → (r ≡ Ok e) × T (not (goes_below s x new))
-      below true r g = ok_require (not (goes_below s x new)) EINVAL r e g
-      below false r g = absurd (err_apart g)
+      below a r g = grind arith
 
       by : (b : Bool) → cond b (exchange_meaning s old new p q x q.target) (require (not (flags == 1 && is_some q.target)) EEXIST >> require (not (goes_below s x new)) EINVAL >> move_meaning s p q x q.target) ≡ Ok e → Leaves t k s e.changes
       by true g = exchange_keeps e q.target refl g

@@ -1,5 +1,5 @@
 -- The replay of a trace keeps the laws of footprints and reaches.
-use Rattle.std.specs.Prelude.{◌≡◌, ◌≢◌, ℕ, Bool, true, false, not, T, List, [], ◌++◌, Option, Some, None, refl}
+use Rattle.std.specs.Prelude.{◌≡◌, ◌≢◌, ℕ, Bool, true, false, not, T, List, [], ◌++◌, Option, Some, refl}
 use mathlib.Core.Path.{sym, subst, ap}
 use native.Mathlib.Omega.{arith}
 use Rattle.interleaving.specs.System.{AgreeOn, Holds, DifferOnlyBy, Thinner}
@@ -11,29 +11,28 @@ use Rattle.sqe_codec.specs.Answers.{each}
 use Rattle.chain_plan.specs.Chain.{role}
 use Rattle.world_parts.specs.World.{World, IsWorld}
 use Rattle.world_parts.specs.Start.{start}
-use Rattle.op_meaning.specs.Step.{Turn, filled, refused, canceled, runs, turn_under, step_world}
-use Rattle.world_parts.specs.Items.{Atom, chain_flag, descriptor_at, value, one, all_descriptors, member_of, Use, Footprint, has_atom, writes_atom, Agree}
+use Rattle.op_meaning.specs.Step.{Turn, filled, runs, turn_under, step_world}
+use Rattle.world_parts.specs.Items.{Atom, chain_flag, descriptor_at, one, all_descriptors, member_of, Use, Footprint, has_atom, Agree}
 use Rattle.op_meaning.specs.Footprint.{footprint, turn_uses}
-use Rattle.foot_print.specs.Laws.{Awaits, Covers, CoversAt, FootprintsCover}
+use Rattle.foot_print.specs.Laws.{Awaits, CoversAt, FootprintsCover}
 use Rattle.foot_print.specs.Reach.{makes, task, is_canceled, look_of, extras_of, unresolved_of, order_of, running_row, reach}
 use Rattle.foot_print.proofs.Awaiting.{awaits_unused}
 use Rattle.foot_print.proofs.Cover.{all_covered}
 use Rattle.foot_print.proofs.Keep.{steps_keep_worlds}
 use Rattle.foot_print.specs.Replayed.{Unused, IsBefore, Bounded, is_earlier, replayed, rows}
 use Rattle.world_parts.proofs.Values.{atoms_make_the_world}
-use Rattle.world_parts.proofs.Collision.{true_of}
+use Rattle.world_parts.proofs.Collision.{true_of, same_atom_refl, writes-has}
 use Rattle.foot_print.proofs.Agreement.{agree_right, in_right}
-use Rattle.world_parts.proofs.Collision.{same_atom_refl}
 use Rattle.foot_print.proofs.CoverPlace.{turn_same}
-use Rattle.world_parts.proofs.Collision.{writes-has}
 use Rattle.foot_print.proofs.Holding.{Over, always, over_self, over_nothing, over_first, over_both}
 use Rattle.foot_print.proofs.Beginning.{starts_before}
 use Rattle.foot_print.proofs.Bounds.{taken_bound}
 use Rattle.foot_print.proofs.ReachRows.{footprint_is_by_rows}
 use Rattle.foot_print.proofs.RowsHeld.{accepted_over_row, room_thin_held}
 use Rattle.foot_print.proofs.RowsWide.{unresolved_over_taken}
-use Rattle.foot_print.proofs.RowsSeen.{seen_same, taken_same, seen_in_row, room_same, room_told}
+use Rattle.foot_print.proofs.RowsSeen.{seen_same, taken_same, room_same, room_told}
 use Rattle.foot_print.proofs.RowSame.{running_row_same}
+use Rattle.foot_print.proofs.Unmet.{deciding_within}
 use Rattle.foot_print.proofs.Writing.{is_false, not_false, unwritten, unmet, written_thin, met_thin, writes_touches, apart_from_collide_lem, collide_held_lem}
 use Rattle.world_parts.proofs.Sharing.{holds_true}
 
@@ -52,60 +51,34 @@ module _ (t : Trace) where
 
   module _ (k : ℕ) where
     look_told : (s u : World) (x : Option Turn) → Agree (look_of t k s x).deciding s u → look_of t k u x ≡ look_of t k s x
-    look_told s u None a = refl
-    look_told s u (Some (filled r b at new)) a = refl
-    look_told s u (Some (refused e p)) a = refl
-    look_told s u (Some (canceled p)) a = refl
     look_told s u (Some (runs r e o)) a = λ i. record { deciding = seen_same t r s u o a i; items = taken_same t r s u k o a i }
-
-    deciding_in_uses : (s : World) (a : Atom) (x : Option Turn) → T (has_atom (look_of t k s x).deciding a) → T (has_atom (each (turn_uses t k s) x) a)
-    deciding_in_uses s a None h = h
-    deciding_in_uses s a (Some (filled r b at new)) h = absurd h
-    deciding_in_uses s a (Some (refused e p)) h = h
-    deciding_in_uses s a (Some (canceled p)) h = h
-    deciding_in_uses s a (Some (runs r e o)) h = seen_in_row t k r s o a h
+    look_told s u _ a = refl
 
     accepted_over : (s : World) (earlier : List Footprint) (x : Option Turn) → Over always ((look_of t k s x).items ++ extras_of t k s earlier x) (each (turn_uses t k s) x)
-    accepted_over s earlier None = over_nothing always _
     accepted_over s earlier (Some (filled r b at new)) = over_first always (turn_uses t k s (filled r b at new)) [] _ (over_self always _)
-    accepted_over s earlier (Some (refused e p)) = over_nothing always _
-    accepted_over s earlier (Some (canceled p)) = over_nothing always _
     accepted_over s earlier (Some (runs r e o)) = accepted_over_row t k r s o earlier
+    accepted_over s earlier _ = over_nothing always _
 
     unresolved_over : (s : World) (x : Option Turn) → Over (is_earlier t k) (unresolved_of t k s x) (look_of t k s x).items
-    unresolved_over s None = over_nothing _ _
     unresolved_over s (Some (filled r b at new)) = over_self _ _
-    unresolved_over s (Some (refused e p)) = over_nothing _ _
-    unresolved_over s (Some (canceled p)) = over_nothing _ _
     unresolved_over s (Some (runs r e o)) = unresolved_over_taken t k r s o
+    unresolved_over s _ = over_nothing _ _
 
     unresolved_same : (s u : World) (x : Option Turn) → unresolved_of t k u x ≡ unresolved_of t k s x
-    unresolved_same s u None = refl
-    unresolved_same s u (Some (filled r b at new)) = refl
-    unresolved_same s u (Some (refused e p)) = refl
-    unresolved_same s u (Some (canceled p)) = refl
     unresolved_same s u (Some (runs r e o)) = refl
+    unresolved_same s u _ = refl
 
     extras_same : (s u : World) (earlier : List Footprint) → DifferOnlyBy (replayed t) earlier s u → (x : Option Turn) → extras_of t k u earlier x ≡ extras_of t k s earlier x
-    extras_same s u earlier d None = refl
-    extras_same s u earlier d (Some (filled r b at new)) = refl
-    extras_same s u earlier d (Some (refused e p)) = refl
-    extras_same s u earlier d (Some (canceled p)) = refl
     extras_same s u earlier d (Some (runs r e o)) = ap (λ f. makes t k o ++ f) (room_same t r s u earlier o (λ h n. d (descriptor_at n) (unwritten t earlier all_descriptors (descriptor_at n) h tt)))
+    extras_same s u earlier d _ = refl
 
     extras_told : (s u : World) (earlier : List Footprint) (x : Option Turn) → Agree (each (turn_uses t k s) x) s u → extras_of t k u earlier x ≡ extras_of t k s earlier x
-    extras_told s u earlier None a = refl
-    extras_told s u earlier (Some (filled r b at new)) a = refl
-    extras_told s u earlier (Some (refused e p)) a = refl
-    extras_told s u earlier (Some (canceled p)) a = refl
     extras_told s u earlier (Some (runs r e o)) a = ap (λ f. makes t k o ++ f) (room_told t k r s u earlier o a)
+    extras_told s u earlier _ a = refl
 
     extras_thin : (s : World) (earlier thin : List Footprint) → Thinner (replayed t) thin earlier → (x : Option Turn) → Over always (extras_of t k s earlier x) (extras_of t k s thin x)
-    extras_thin s earlier thin n None = over_nothing always _
-    extras_thin s earlier thin n (Some (filled r b at new)) = over_nothing always _
-    extras_thin s earlier thin n (Some (refused e p)) = over_nothing always _
-    extras_thin s earlier thin n (Some (canceled p)) = over_nothing always _
     extras_thin s earlier thin n (Some (runs r e o)) = over_both always (makes t k o) _ (makes t k o) _ (over_self always _) (room_thin_held t k r s earlier thin o (written_thin t all_descriptors thin earlier n))
+    extras_thin s earlier thin n _ = over_nothing always _
 
     uses_agree : (s u : World) → AgreeOn (replayed t) (running_row t k s) s u → Agree (each (turn_uses t k s) (task t k)) s u
     uses_agree s u h = agree_right s u (order_of t k) _ (to_agree (running_row t k s) s u h)
@@ -121,7 +94,7 @@ module _ (t : Trace) where
     canceled_same = λ k s u h. ap is_canceled (turn_same t k s u (to_agree (order_of t k) s u h));
     look_same = λ k s u h. look_told k s u (task t k) (record { same = λ a m. h a (true_of _ m) });
     row_same = λ k s u ws wu h. running_row_same t k cover s u (awaits k s ws.0 ws.1) (awaits k u wu.0 wu.1) (λ a m. h a (true_of _ m));
-    look_in_row = λ k s a h. true_of _ (in_right (λ (v : Use). member_of v.item a) (order_of t k) (each (turn_uses t k s) (task t k)) (deciding_in_uses k s a (task t k) (holds_true _ h)));
+    look_in_row = λ k s a h. true_of _ (in_right (λ (v : Use). member_of v.item a) (order_of t k) (each (turn_uses t k s) (task t k)) (deciding_within t k s a (task t k) (holds_true _ h)));
     row_holds_bare = λ k s. to_holds _ _ (over_first always (order_of t k) _ _ (over_self always (order_of t k)));
     accepted_holds_row = λ k s earlier. to_holds _ _ (over_both always (order_of t k) _ (order_of t k) _ (over_self always (order_of t k)) (accepted_over k s earlier (task t k)));
     wide_holds_accepted = λ k s earlier b. to_holds _ _ (over_both always (order_of t k) _ (order_of t k) _ (over_self always (order_of t k))
@@ -145,25 +118,14 @@ module _ (t : Trace) where
 
   module _ (k : ℕ) (s : World) (w : IsWorld s) (before : IsBefore t k s) where
     look_bound : (x : Option Turn) → Bounded t k (look_of t k s x)
-    look_bound None a h = absurd (holds_true _ h)
     look_bound (Some (filled r b at new)) a h = true_of _ (filled_bound a (holds_true _ h))
       where
         filled_bound : (c : Atom) → T (has_atom (turn_uses t k s (filled r b at new)) c) → T (is_earlier t k c)
-        filled_bound (Rattle.world_parts.specs.Items.buffer_byte q c p) m = tt
-        filled_bound (Rattle.world_parts.specs.Items.buffer_size q c) m = tt
-        filled_bound (Rattle.world_parts.specs.Items.chain_flag c) m = tt
-        filled_bound (Rattle.world_parts.specs.Items.ring_order c) m = tt
-        filled_bound (Rattle.world_parts.specs.Items.slot_at q c) m = tt
-        filled_bound (Rattle.world_parts.specs.Items.descriptor_at c) m = tt
-        filled_bound _ m = absurd m
-    look_bound (Some (refused e p)) a h = absurd (holds_true _ h)
-    look_bound (Some (canceled p)) a h = absurd (holds_true _ h)
+        filled_bound c m = grind arith
     look_bound (Some (runs r e o)) a h = true_of _ (taken_bound t k s w before r o a (holds_true _ h))
+    look_bound _ a h = absurd (holds_true _ h)
 
 module _ (t : Trace) (starts : IsWorld (start t)) where
-  abbrev covering : (k : ℕ) (s : World) → IsWorld s → Unused t k s → Covers t k (footprint t k s) s
-  covering k s w n = all_covered t k s (awaits t k s w n)
-
   abbrev keeping : (k : ℕ) (s : World) → IsWorld s → Unused t k s → IsWorld (step_world t k s) × ((j : ℕ) → ¬ (j ≡ k) → Awaits t j s → Awaits t j (step_world t k s))
   keeping k s w n = steps_keep_worlds t k s (awaits t k s w n)
 
@@ -173,7 +135,7 @@ module _ (t : Trace) (starts : IsWorld (start t)) where
       record { no_node = a.no_node; no_description = a.no_description }
 
   covers_same : (k : ℕ) (s u : World) (ws : IsWorld s) (wu : IsWorld u) (ns : Unused t k s) (nu : Unused t k u) → AgreeOn (replayed t) (footprint t k s) s u → CoversAt t k (footprint t k s) s u
-  covers_same k s u ws wu ns nu h = covering k s ws ns u (awaits_unused t k u (awaits t k u wu nu)) (to_agree t (footprint t k s) s u h)
+  covers_same k s u ws wu ns nu h = all_covered t k s (awaits t k s ws ns) u (awaits_unused t k u (awaits t k u wu nu)) (to_agree t (footprint t k s) s u h)
 
   pub replay_covers : Cover (replayed t)
   replay_covers = record {

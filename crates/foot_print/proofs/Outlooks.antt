@@ -1,4 +1,6 @@
 -- The items by which a place waits, by what it does if its chain isn't broken.
+use Rattle.foot_print.proofs.Agreement.{in_right}
+use Rattle.world_parts.proofs.Collision.{either_left}
 use Rattle.std.specs.Prelude.{◌≡◌, ◌⊎◌, ℕ, List, suc, ◌+◌, Bool, true, false, not, ◌&&◌, ◌||◌, leb, [], ◌∷◌, ◌++◌, take, cond, Option, Some, None, Result, Ok, Err, IfOk, IfSome, is_some, refl, if◌then◌else◌}
 use Rattle.std.specs.List.{position_from}
 use Rattle.std.proofs.Common.{add-one, arith, inl, inr, subst}
@@ -49,29 +51,17 @@ module _ (w : Item → Bool) where
       ] refl e
 
   pub first_written : (n : ℕ) (f : Footprint) → position_from (λ u. w u.item) 0 f ≡ Some n → IsFirstWritten w f (take (n + 1) f)
-  first_written n f e =
-      let found = first_from 0 n f e in
-      let same : found.0 ≡ n = omega (arith, found.1) in
-      rw add-one (subst (λ j. IsFirstWritten w f (take (suc j) f)) same found.2)
+  first_written n f e = grind (arith, first_from, add-one)
 
   none_from : (m : ℕ) (f : Footprint) → position_from (λ u. w u.item) m f ≡ None → meets_written w f ≡ false
   none_from m [] e = refl
-  none_from m (u ∷ f) e =
-      elim (w u.item) as (λ b. cond b (Some m) (position_from (λ v. w v.item) (m + 1) f) ≡ None → (b || meets_written w f) ≡ false) [
-        | true ↦ λ e. absurd (cc)
-        | false ↦ λ e. none_from (m + 1) f e
-      ] e
+  none_from m (u ∷ f) e = grind (arith, none_from (m + 1) f)
 
   pub none_written : (f : Footprint) → position_from (λ u. w u.item) 0 f ≡ None → meets_written w f ≡ false
   none_written f e = none_from 0 f e
 
   some_from : (m n : ℕ) (f : Footprint) → position_from (λ u. w u.item) m f ≡ Some n → meets_written w f ≡ true
-  some_from m n [] e = absurd (cc)
-  some_from m n (u ∷ f) e =
-      elim (w u.item) as (λ b. cond b (Some m) (position_from (λ v. w v.item) (m + 1) f) ≡ Some n → (b || meets_written w f) ≡ true) [
-        | true ↦ λ e. refl
-        | false ↦ λ e. some_from (m + 1) n f e
-      ] e
+  some_from m n f e = grind (arith, first_from, in_right, either_left)
 
 -- what a place that may run an operation awaits, and its reach
 module _ (order : Footprint) (t : Trace) (k r : ℕ) (s : World) (w : Item → Bool) (p : Operation) (x : Shape) (shaped : x ≡ shape p) (d : Footprint) (looked : d ≡ shape_seen t r s x) where
@@ -112,8 +102,7 @@ module _ (t : Trace) (k : ℕ) (s : World) (w : Item → Bool) (o : Outlook) whe
 
   -- a fill, and a place that is refused, run whatever earlier places do
   settled : (row : Footprint) (waits : Bool) → Awaits w [] row true false o → Awaits w [] row (if waits then true else true) false o
-  settled row true a = a
-  settled row false a = a
+  settled row waits a = grind arith
 
   running_at : (order : Footprint) (waits : Bool) (r : ℕ) (e : Entry) (c : Role) (b : Option Broken) (p : Operation)
       → AwaitsAsOperation order t k r s w p (member_runs c b waits) o → awaits_at order waits (Some (runs r e p)) (Some (running_turn r e c b p))
@@ -124,8 +113,7 @@ module _ (t : Trace) (k : ℕ) (s : World) (w : Item → Bool) (o : Outlook) whe
       elim (leb 2 c.length) as (λ l. AwaitsAsOperation order t k r s w p (not (l && true)) o → awaits_at order false (Some (runs r e p)) (Some (if l then canceled (posts f) else runs r e p))) [ true ↦ λ a. a | false ↦ λ a. a ] a
 
   told : (a : Option Footprint) → IfSome a (λ f. IsFirstWritten w (look_of t k s (task t k)).deciding f ⊎ ((meets_written w (look_of t k s (task t k)).deciding ≡ false) × (f ≡ running_row t k s))) → is_some a ≡ may_run t k s w → IfSome a (λ f. WaitsBy t k s w f)
-  told None h e = tt
-  told (Some f) h e = record { runs = sym e; by = h }
+  told a h e = grind arith
 
   at_task : (y : Turn) → Some y ≡ task t k → o.reach ≡ reach_given t k s w → awaits_at (order_of t k) (w (one (chain_flag (role t k).chain))) (Some y) (Some (under_flag (role t k) (broken s (role t k).chain) y)) → IsOutlook t k s w o
   at_task y is reach awaits =

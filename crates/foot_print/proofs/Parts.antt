@@ -1,5 +1,6 @@
 -- Places run on parts, which are put back.
-use Rattle.std.specs.Prelude.{◌≡◌, ℕ, ◌-◌, true, false, cond, [], ◌∷◌, replicate, Option, Some, None, refl, IfSome}
+use native.Mathlib.Omega.{arith}
+use Rattle.std.specs.Prelude.{◌≡◌, ℕ, ◌-◌, true, false, cond, [], ◌∷◌, replicate, Option, None, refl, IfSome}
 use Rattle.std.specs.Option.{option_map}
 use mathlib.Core.Logic.{inl, inr}
 use mathlib.Core.Path.{sym, subst, ap, ◌∙◌}
@@ -7,7 +8,7 @@ use Rattle.trace_format.specs.declared.trace.Trace.{Trace}
 use Rattle.file_tree.specs.Tree.{kind_of_node}
 use Rattle.finite_maps.specs.Table.{get}
 use Rattle.world_parts.specs.World.{World, IsWorld, kind, opened, opened_by, zero_bytes, write_buffer, apply_all}
-use Rattle.world_parts.specs.Items.{Item, one, file_bytes, buffer_bytes, all_names, all_bytes_and_sizes, all_positions, all_descriptions, all_descriptors, Use, Footprint}
+use Rattle.world_parts.specs.Items.{Item, file_bytes, buffer_bytes, Use, Footprint}
 use Rattle.world_parts.specs.Cutting.{zeros_in, holed, Shows, IsPartOf, PutsTo}
 use Rattle.op_meaning.specs.Meaning.{made_node, made_description}
 use Rattle.op_meaning.specs.Step.{step_world}
@@ -16,23 +17,17 @@ use Rattle.foot_print.specs.Laws.{Unused, CoversAt}
 use Rattle.foot_print.specs.Parts.{PlacesRunOnParts, HolesKeepWorlds}
 use Rattle.world_parts.proofs.Collision.{writes-has}
 use Rattle.world_parts.proofs.Holes.{after_use, holed-first, holed-left, same_put}
-use Rattle.foot_print.proofs.Awaiting.{awaits_unused}
+use Rattle.foot_print.proofs.Awaiting.{awaits_unused, nothing}
 use Rattle.foot_print.proofs.Cover.{all_covered}
 use Rattle.foot_print.proofs.KeepContents.{contents_world}
-use Rattle.world_parts.proofs.Trees.{some_apart}
 
 -- What the whole doesn't have, its part doesn't show.
 hidden : {A : Type 0} (x y : Option A) → Shows x y → y ≡ None → x ≡ None
-hidden x y (inl e) h = e
-hidden x y (inr e) h = e ∙ h
+hidden x y s h = grind arith
 
 shown : {A : Type 0} (P : A → Type 0) (x y : Option A) → Shows x y → IfSome y P → IfSome x P
 shown P x y (inl e) h = subst (λ z. IfSome z P) (sym e) tt
 shown P x y (inr e) h = subst (λ z. IfSome z P) (sym e) h
-
-nothing : {A B : Type 0} (f : A → B) (x : Option A) → option_map f x ≡ None → x ≡ None
-nothing f None e = refl
-nothing f (Some a) e = absurd (some_apart e)
 
 -- What a place makes is unused in each part of a world that awaits it.
 pub part_unused : (t : Trace) (k : ℕ) (s part : World) (f : Footprint) → Unused t k s → IsPartOf s f part → Unused t k part
@@ -70,12 +65,7 @@ run_on_parts t k s part w is = record { reply = covered.same_reply; puts = puts;
 item_world : (x : Item) (s : World) → IsWorld s → IsWorld (apply_all (zeros_in x) s)
 item_world (file_bytes i low high) s w = contents_world s (zero_bytes i low high) tt w
 item_world (buffer_bytes r b low high) s w = contents_world s (write_buffer r b low (replicate (high - low) 0)) tt w
-item_world (one _) s w = w
-item_world (all_names _) s w = w
-item_world (all_bytes_and_sizes _) s w = w
-item_world (all_positions _) s w = w
-item_world (all_descriptions _) s w = w
-item_world all_descriptors s w = w
+item_world _ s w = w
 
 use_world : (u : Use) (s : World) → IsWorld s → IsWorld (after_use u s)
 use_world u s w = elim u.written as (λ b. IsWorld (apply_all (cond b (zeros_in u.item) []) s)) [ true ↦ item_world u.item s w | false ↦ w ]

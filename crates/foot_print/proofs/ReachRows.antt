@@ -1,8 +1,10 @@
 -- Reaches are by rows, and so are footprints.
-use Rattle.std.specs.Prelude.{◌≡◌, ℕ, true, false, cond, leb, List, [], ◌∷◌, ◌++◌, Option, Some, None, refl}
+use native.Mathlib.Omega.{arith}
+use Rattle.std.specs.Prelude.{◌≡◌, ℕ, cond, ◌++◌, Option, Some}
 use Rattle.std.specs.Option.{option_map}
 use Rattle.std.proofs.Common.{subst}
-use mathlib.Core.Path.{ap, sym}
+use Rattle.std.proofs.lemmas.List.{append-nil}
+use mathlib.Core.Path.{sym}
 use Rattle.interleaving.specs.Rows.{foot_by_rows}
 use Rattle.trace_format.specs.declared.trace.Trace.{Trace}
 use Rattle.trace_format.specs.declared.entry.Entry.{Entry}
@@ -11,15 +13,11 @@ use Rattle.chain_plan.specs.Chain.{role}
 use Rattle.sqe_codec.specs.Answers.{each}
 use Rattle.entry_checks.specs.Operation.{Operation}
 use Rattle.world_parts.specs.World.{World, Broken, broken}
-use Rattle.op_meaning.specs.Step.{Turn, filled, refused, canceled, runs, posts, running_turn}
+use Rattle.op_meaning.specs.Step.{Turn, runs, running_turn}
 use Rattle.op_meaning.specs.Footprint.{footprint, turn_uses}
 use Rattle.op_meaning.proofs.Turns.{by_flag, under_flag}
 use Rattle.foot_print.specs.Reach.{task, is_canceled, order_of}
 use Rattle.foot_print.specs.Replayed.{replayed, rows}
-
-append_nothing : {A : Type 0} (xs : List A) → xs ++ [] ≡ xs
-append_nothing [] = refl
-append_nothing (x ∷ xs) = ap (λ ys. x ∷ ys) (append_nothing xs)
 
 -- Under any flag a place is canceled, or does what it would do if its chain weren't broken.
 abbrev pub uses_as : Trace → ℕ → World → Option Turn → Option Turn → Type 0
@@ -27,16 +25,10 @@ uses_as t k s x y = order_of t k ++ each (turn_uses t k s) x ≡ cond (is_cancel
 
 module _ (t : Trace) (k : ℕ) (s : World) where
   running_as : (r : ℕ) (e : Entry) (c : Role) (b : Option Broken) (o : Operation) → uses_as t k s (Some (running_turn r e c b o)) (Some (runs r e o))
-  running_as r e c None o = refl
-  running_as r e c (Some b) o =
-      elim (leb 2 c.length) as (λ q. uses_as t k s (Some (cond q (canceled (posts b)) (runs r e o))) (Some (runs r e o))) [ true ↦ append_nothing (order_of t k) | false ↦ refl ]
+  running_as r e c b o = let nothing_behind = append-nil (order_of t k) in grind arith
 
   flag_as : (c : Role) (b : Option Broken) (y : Option Turn) → uses_as t k s (option_map (under_flag c b) y) y
-  flag_as c b None = refl
-  flag_as c b (Some (filled r buffer at new)) = refl
-  flag_as c b (Some (refused e posted)) = refl
-  flag_as c b (Some (canceled posted)) = append_nothing (order_of t k)
-  flag_as c b (Some (runs r e o)) = running_as r e c b o
+  flag_as c b y = grind (arith, append-nil, running_as)
 
   pub footprint_is_by_rows : footprint t k s ≡ foot_by_rows (replayed t) (rows t) k s
   footprint_is_by_rows =

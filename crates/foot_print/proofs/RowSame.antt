@@ -1,13 +1,13 @@
 -- The row of a place as running is decided by its own items: it is the footprint in the world in which no chain is broken.
-use Rattle.std.specs.Prelude.{◌≡◌, ℕ, T, ◌++◌, Option, Some, None, refl}
+use Rattle.std.specs.Prelude.{◌≡◌, ℕ, T, ◌++◌, Option, Some, refl}
 use mathlib.Core.Path.{sym, subst, ap, ◌∙◌}
 use Rattle.trace_format.specs.declared.trace.Trace.{Trace}
 use Rattle.sqe_codec.specs.Answers.{each}
 use Rattle.entry_checks.specs.Operation.{Operation, nop}
 use Rattle.finite_maps.specs.Table.{empty}
 use Rattle.world_parts.specs.World.{World, IsWorld}
-use Rattle.op_meaning.specs.Step.{Turn, filled, refused, canceled, runs}
-use Rattle.world_parts.specs.Items.{Atom, chain_flag, ring_order, slot_at, descriptor_at, description_at, position_of, size_of, byte_at, name_at, names_in, buffer_size, buffer_byte, value, has_atom, Agree}
+use Rattle.op_meaning.specs.Step.{Turn, runs}
+use Rattle.world_parts.specs.Items.{Atom, chain_flag, value, has_atom, Agree}
 use Rattle.op_meaning.specs.Footprint.{footprint, row_in, turn_uses}
 use Rattle.foot_print.specs.Laws.{Awaits, FootprintsCover}
 use Rattle.foot_print.proofs.Awaiting.{awaits_unused}
@@ -23,43 +23,21 @@ module _ (t : Trace) (k : ℕ) where
   row_unbroken r s _ = refl
 
   uses_unbroken : (s : World) (x : Option Turn) → each (turn_uses t k (unbroken s)) x ≡ each (turn_uses t k s) x
-  uses_unbroken s None = refl
-  uses_unbroken s (Some (filled r b at new)) = refl
-  uses_unbroken s (Some (refused e p)) = refl
-  uses_unbroken s (Some (canceled p)) = refl
   uses_unbroken s (Some (runs r e o)) = row_unbroken r s o
+  uses_unbroken s _ = refl
 
   row_is_footprint : (s : World) → footprint t k (unbroken s) ≡ running_row t k s
   row_is_footprint s = ap (λ x. order_of t k ++ x) (uses_unbroken s (task t k))
 
   world_unbroken : (s : World) → IsWorld s → IsWorld (unbroken s)
-  world_unbroken s w = record {
-    root = w.root;
-    tree = w.tree;
-    descriptions_lead = w.descriptions_lead;
-    slots_lead = w.slots_lead;
-    descriptors_lead = w.descriptors_lead;
-    files_fit = w.files_fit;
-    directories_are_read = w.directories_are_read;
-    all_shown = w.all_shown;
-  }
+  world_unbroken s w = assumption
 
   awaits_unbroken : (s : World) → Awaits t k s → Awaits t k (unbroken s)
   awaits_unbroken s a = record { is_world = world_unbroken s a.is_world; no_node = a.no_node; no_description = a.no_description }
 
   same_unbroken : (s u : World) (a : Atom) → value s a ≡ value u a → value (unbroken s) a ≡ value (unbroken u) a
   same_unbroken s u (chain_flag c) e = refl
-  same_unbroken s u (ring_order r) e = e
-  same_unbroken s u (slot_at r n) e = e
-  same_unbroken s u (descriptor_at n) e = e
-  same_unbroken s u (description_at d) e = e
-  same_unbroken s u (position_of d) e = e
-  same_unbroken s u (size_of i) e = e
-  same_unbroken s u (byte_at i p) e = e
-  same_unbroken s u (name_at d n) e = e
-  same_unbroken s u (names_in d) e = e
-  same_unbroken s u (buffer_size r b) e = e
-  same_unbroken s u (buffer_byte r b p) e = e
+  same_unbroken s u _ e = e
 
   pub running_row_same : FootprintsCover → (s u : World) → Awaits t k s → Awaits t k u → ((a : Atom) → T (has_atom (running_row t k s) a) → value s a ≡ value u a) → running_row t k u ≡ running_row t k s
   running_row_same cover s u ws wu same =

@@ -1,17 +1,18 @@
 -- Each operation's row as accepted holds its row, and its row where it is unresolved holds the one as accepted.
-use Rattle.std.specs.Prelude.{ℕ, Bool, true, false, cond, not, ◌&&◌, ◌||◌, ◌==◌, ◌+◌, T, List, [], ◌∷◌, ◌++◌, Option, Some, None, Result, Ok, Err, is_ok}
+use native.Mathlib.Omega.{arith}
+use Rattle.std.specs.Prelude.{ℕ, Bool, true, false, cond, not, ◌||◌, ◌+◌, T, List, [], ◌∷◌, ◌++◌, Option, Some, None, Result, Ok, Err, is_ok}
 use mathlib.Core.Path.{subst}
 use Rattle.sqe_codec.specs.declared.errno.Errno.{Errno}
 use Rattle.trace_format.specs.declared.trace.Trace.{Trace}
 use Rattle.sqe_codec.specs.Answers.{each, each_ok}
-use Rattle.entry_checks.specs.Operation.{Operation, File, Path, OpenFlags, file_limit, at_position}
+use Rattle.entry_checks.specs.Operation.{Operation, File, Path, OpenFlags, file_limit}
 use Rattle.world_parts.specs.World.{World}
 use Rattle.file_tree.specs.Tree.{Target}
 use Rattle.file_tree.specs.Walk.{Place, walk}
-use Rattle.op_meaning.specs.Meaning.{meaning, made_node, Handle, allocation, Allocation, extend, reserve, punch, zero_extend, zero_within}
+use Rattle.op_meaning.specs.Meaning.{meaning, made_node, allocation, Allocation, extend, zero_extend}
 use Rattle.world_parts.specs.Items.{Atom, description_at, position_of, size_of, byte_at, name_at, names_in, same_atom, Item, one, file_bytes, all_names, all_bytes_and_sizes, all_descriptors, member_of, Use, reads, writes, Footprint, has_atom, writes_atom}
-use Rattle.op_meaning.specs.Footprint.{Shape, idle, looking, moving, allocating, resizing, closing, opening, making, freeing, linking, renaming, shape, transfer_row, shape_row, tried, foreseen, use_of, position_use, span_use, write_row, allocation_uses, path_reads, name_written, made_where, room_uses, description_made, open_uses, openat_row, mkdirat_row, row, row_in, would_extend, write_content}
-use Rattle.foot_print.specs.Reach.{written_by, shape_makes, shape_asked, room_asked, room_at, node_made, room_taken}
+use Rattle.op_meaning.specs.Footprint.{Shape, idle, looking, moving, allocating, resizing, closing, opening, making, freeing, linking, renaming, shape, transfer_row, shape_row, tried, foreseen, use_of, span_use, write_row, allocation_uses, path_reads, name_written, made_where, room_uses, description_made, open_uses, openat_row, mkdirat_row, row_in, would_extend}
+use Rattle.foot_print.specs.Reach.{written_by, shape_makes, shape_asked, room_at, node_made, room_taken}
 use Rattle.world_parts.proofs.Collision.{same_atom-eq}
 use Rattle.foot_print.proofs.Holding.{Over, always, drop_false, over_self, over_nothing, over_all, over_first, over_second, over_both, over_written, over_reads, over_taken, over_on_file}
 
@@ -26,20 +27,12 @@ module _ (t : Trace) (k r : ℕ) (s : World) where
   accepted_part earlier o = shape_part earlier (shape o)
 
   write_held : (b : Bool) (f : File) (o n : ℕ) → Over always (write_row t s r foreseen f o n) (write_row t s r (tried b) f o n)
-  write_held b f o n = over_both always _ (position_use t s r f o) _ (position_use t s r f o)
-      (over_on_file always t s r f (write_content s foreseen o n) _ (λ i h. over_both always (writes (one (size_of i)) ∷ []) _ (use_of (grows i h) (one (size_of i)) ∷ []) _ (over_written always (grows i h) (one (size_of i))) (over_self always _)))
-      (over_self always (position_use t s r f o))
-    where
-      grows : ℕ → Handle → Bool
-      grows i h = h.opened.append || o == at_position || (not (n == 0) && would_extend s i (o + n))
+  write_held b f o n = grind (arith, over_both, over_on_file, over_written, over_self)
 
   allocation_held : (b : Bool) (i at end : ℕ) (a : Option Allocation) → Over always (allocation_uses true i at end a) (allocation_uses b i at end a)
   allocation_held b i at end (Some extend) = over_written always _ (one (size_of i))
-  allocation_held b i at end (Some reserve) = over_self always _
-  allocation_held b i at end (Some punch) = over_self always _
   allocation_held b i at end (Some zero_extend) = over_both always (writes (one (size_of i)) ∷ []) _ (use_of b (one (size_of i)) ∷ []) _ (over_written always b (one (size_of i))) (over_self always _)
-  allocation_held b i at end (Some zero_within) = over_self always _
-  allocation_held b i at end None = over_self always _
+  allocation_held b i at end _ = over_self always _
 
   first : (o : Shape) (earlier : List Footprint) (f : Footprint) → Over always (shape_row t k r s foreseen o) f → Over always (shape_part earlier o) f
   first o earlier f x = over_first always (shape_row t k r s foreseen o) (shape_makes t k o ++ shape_room earlier o) f x
@@ -55,12 +48,7 @@ module _ (t : Trace) (k r : ℕ) (s : World) where
           number a e h = subst (λ (b : Atom). T (member_of all_descriptors b || false)) (same_atom-eq (Rattle.world_parts.specs.Items.descriptor_at m) a (drop_false _ h)) tt
 
   room_held : (asked : Option ℕ) (earlier : List Footprint) → Over always (room_at t s r (written_by earlier) asked) (room_uses t s r asked)
-  room_held None earlier =
-      elim (written_by earlier all_descriptors) as (λ b. Over always (cond b (writes all_descriptors ∷ []) (room_uses t s r None)) (room_uses t s r None)) [
-        | true ↦ any_descriptor 0
-        | false ↦ over_self always (room_uses t s r None)
-      ]
-  room_held (Some n) earlier = over_self always (room_uses t s r (Some n))
+  room_held asked earlier = grind (arith, any_descriptor 0, over_self)
 
   made_held : (b : Bool) (q f : Footprint) → Over always q f → Over always q (made_where (tried b) f)
   made_held true q f h = h
@@ -127,11 +115,8 @@ module _ (t : Trace) (k r : ℕ) (s : World) where
   shape_held b (linking old new) earlier = first (linking old new) earlier _ (over_self always _)
   shape_held b (renaming old new) earlier = first (renaming old new) earlier _ (over_self always _)
 
-  row_held : (b : Bool) (o : Operation) (earlier : List Footprint) → Over always (accepted_part earlier o) (row t k r s (tried b) o)
-  row_held b o earlier = shape_held b (shape o) earlier
-
   pub accepted_over_row : (o : Operation) (earlier : List Footprint) → Over always (accepted_part earlier o) (row_in t k r s o)
-  accepted_over_row o earlier = over_taken always (accepted_part earlier o) (is_ok (meaning t k r s o)) _ (row_held (is_ok (meaning t k r s o)) o earlier)
+  accepted_over_row o earlier = over_taken always (accepted_part earlier o) (is_ok (meaning t k r s o)) _ (shape_held (is_ok (meaning t k r s o)) (shape o) earlier)
 
   room_at_held : (earlier thin : List Footprint) (asked : Option ℕ) → (T (written_by thin all_descriptors) → T (written_by earlier all_descriptors)) → Over always (room_at t s r (written_by earlier) asked) (room_at t s r (written_by thin) asked)
   room_at_held earlier thin None h =
@@ -142,8 +127,4 @@ module _ (t : Trace) (k r : ℕ) (s : World) where
   room_at_held earlier thin (Some n) h = over_self always _
 
   pub room_thin_held : (earlier thin : List Footprint) (o : Operation) → (T (written_by thin all_descriptors) → T (written_by earlier all_descriptors)) → Over always (room_taken t s r earlier o) (room_taken t s r thin o)
-  room_thin_held earlier thin o h = at (room_asked o)
-    where
-      at : (x : Option (Option ℕ)) → Over always (each (room_at t s r (written_by earlier)) x) (each (room_at t s r (written_by thin)) x)
-      at None = over_nothing always _
-      at (Some asked) = room_at_held earlier thin asked h
+  room_thin_held earlier thin o h = grind (arith, over_nothing, room_at_held)

@@ -1,20 +1,21 @@
 -- What an operation looks up tells its items, and stands in its row.
+use native.Mathlib.Omega.{arith}
 use Rattle.std.specs.Prelude.{◌≡◌, ℕ, Bool, true, false, cond, not, length, T, List, [], ◌∷◌, ◌++◌, Option, Some, None, refl, is_ok, is_none}
 use Rattle.std.specs.List.{find, range_with_len}
-use Rattle.std.specs.Option.{option_map}
-use mathlib.Core.Path.{sym, subst, ap, ◌∙◌, fun_ext}
+use mathlib.Core.Path.{sym, subst, ap, fun_ext}
 use Rattle.trace_format.specs.declared.trace.Trace.{Trace}
 use Rattle.sqe_codec.specs.Answers.{each, each_ok}
 use Rattle.entry_checks.specs.Operation.{Operation, File, Path}
 use Rattle.world_parts.specs.World.{World, descriptor}
 use Rattle.file_tree.specs.Walk.{Place, walk}
-use Rattle.op_meaning.specs.Meaning.{meaning, Handle, held, lowest_free}
-use Rattle.world_parts.specs.Items.{Atom, description_at, descriptor_at, one, all_descriptors, reads, writes, Footprint, has_atom, Agree}
-use Rattle.op_meaning.specs.Footprint.{Shape, idle, looking, moving, allocating, resizing, closing, opening, making, freeing, linking, renaming, shape, through, tried, foreseen, transfer_row, shape_row, as_reads, file_reads, of_file, of_description, on_file, position_written, position_use, span_use, path_reads, name_written, room_uses, row, row_in, read_content, write_content, allocated_content, resized_content, opened_at, directory_made, name_freed}
+use Rattle.op_meaning.specs.Meaning.{meaning, Handle, lowest_free}
+use Rattle.world_parts.specs.Items.{Atom, descriptor_at, one, all_descriptors, reads, writes, Footprint, has_atom, Agree}
+use Rattle.op_meaning.specs.Footprint.{Shape, idle, looking, moving, allocating, resizing, closing, opening, making, freeing, linking, renaming, shape, through, tried, foreseen, transfer_row, shape_row, as_reads, on_file, position_written, position_use, span_use, path_reads, name_written, room_uses, row_in, read_content, write_content, allocated_content, resized_content, opened_at, directory_made, name_freed}
 use Rattle.foot_print.specs.Reach.{written_by, shape_seen, shape_asked, room_asked, room_at, seen, file_seen, taken, room_taken}
-use Rattle.foot_print.proofs.Agreement.{agree_left, agree_right, agree_head, has_atom-as_reads, held_same, handle_same}
+use Rattle.foot_print.proofs.Agreement.{agree_left, agree_right, has_atom-as_reads, handle_same}
 use Rattle.foot_print.proofs.CoverWalk.{walk_same, path_reads_same}
 use Rattle.foot_print.proofs.Completing.{no_content}
+use Rattle.foot_print.proofs.OpenFile.{on_file_alike}
 use Rattle.foot_print.proofs.Holding.{Over, always, over_self, over_nothing, over_first, over_second, over_on_file}
 
 -- A room at the lowest free descriptor.
@@ -24,13 +25,7 @@ IsLowest _ = ⊥
 
 module _ (t : Trace) (r : ℕ) (s u : World) where
   on_file_told : (f : File) (c : ℕ → Handle → Footprint) → Agree (file_seen t s r f) s u → on_file t u r f c ≡ on_file t s r f c
-  on_file_told f c a =
-      (λ i. file_reads t r f ++ each (of_description u c) (held_same t s u r f (agree_left s u _ _ a) i))
-      ∙ ap (λ x. file_reads t r f ++ x) (at (held t s r f) (agree_right s u (file_reads t r f) _ a))
-    where
-      at : (d : Option ℕ) → Agree (each (of_description s no_content) d) s u → each (of_description u c) d ≡ each (of_description s c) d
-      at None k = refl
-      at (Some d) k = ap (λ x. reads (one (description_at d)) ∷ each (of_file c) (option_map (λ y. record { description = d; opened = y }) x)) (sym (agree_head s u (description_at d) false _ k))
+  on_file_told f c a = on_file_alike t s u r f no_content c c (λ h k. refl) a
 
   transfer_told : (f : File) (c : ℕ → Handle → Footprint) (o : ℕ) → Agree (file_seen t s r f) s u → on_file t u r f c ++ position_use t u r f o ≡ on_file t s r f c ++ position_use t s r f o
   transfer_told f c o a = λ i. on_file_told f c a i ++ each (λ h. position_written h o) (handle_same t s u r f no_content a i)
@@ -89,19 +84,10 @@ module _ (t : Trace) (r : ℕ) (s u : World) where
   -- The room is told by what an earlier reach doesn't write, and by the row.
   room_at_same : (earlier : List Footprint) (asked : Option ℕ) → (written_by earlier all_descriptors ≡ false → (n : ℕ) → descriptor s n ≡ descriptor u n) → room_at t u r (written_by earlier) asked ≡ room_at t s r (written_by earlier) asked
   room_at_same earlier (Some n) h = refl
-  room_at_same earlier None h =
-      elim (written_by earlier all_descriptors) as (λ b. (b ≡ false → (n : ℕ) → descriptor s n ≡ descriptor u n)
-      → cond b (writes all_descriptors ∷ []) (room_uses t u r None) ≡ cond b (writes all_descriptors ∷ []) (room_uses t s r None)) [
-        | true ↦ λ g. refl
-        | false ↦ λ g. room_uses_same None (g refl)
-      ] h
+  room_at_same earlier None h = let same = λ (e : written_by earlier all_descriptors ≡ false). room_uses_same None (h e) in grind (arith, same)
 
   pub room_same : (earlier : List Footprint) (o : Operation) → (written_by earlier all_descriptors ≡ false → (n : ℕ) → descriptor s n ≡ descriptor u n) → room_taken t u r earlier o ≡ room_taken t s r earlier o
-  room_same earlier o h = at (room_asked o)
-    where
-      at : (x : Option (Option ℕ)) → each (room_at t u r (written_by earlier)) x ≡ each (room_at t s r (written_by earlier)) x
-      at None = refl
-      at (Some asked) = room_at_same earlier asked h
+  room_same earlier o h = grind (arith, room_at_same)
 
 module _ (t : Trace) (k r : ℕ) (s : World) where
   on_file_seen : (f : File) (c : ℕ → Handle → Footprint) → Over always (on_file t s r f c) (file_seen t s r f)
@@ -131,15 +117,11 @@ module _ (t : Trace) (k r : ℕ) (s : World) where
   shape_row_seen b (linking old new) = path_first (path_reads s old ++ path_reads s new) _
   shape_row_seen b (renaming old new) = over_first always _ _ _ (over_first always _ _ _ (over_self always _))
 
-  row_seen : (b : Bool) (o : Operation) → Over always (row t k r s (tried b) o) (seen t r s o)
-  row_seen b o = shape_row_seen b (shape o)
-
   in_row : (b : Bool) (f : Footprint) (a : Atom) → T (has_atom f a) → T (has_atom (cond b f (as_reads f)) a)
-  in_row true f a h = h
-  in_row false f a h = has_atom-as_reads f a h
+  in_row b f a h = grind (arith, has_atom-as_reads f a)
 
   pub seen_in_row : (o : Operation) (a : Atom) → T (has_atom (seen t r s o) a) → T (has_atom (row_in t k r s o) a)
-  seen_in_row o a h = in_row (is_ok (meaning t k r s o)) _ a ((row_seen (is_ok (meaning t k r s o)) o).has a tt h)
+  seen_in_row o a h = in_row (is_ok (meaning t k r s o)) _ a ((shape_row_seen (is_ok (meaning t k r s o)) (shape o)).has a tt h)
 
   -- All descriptors stand in the row of an operation that asks for the lowest free one.
   row_asks : (b : Bool) (x : Shape) → IsLowest (shape_asked x) → Over always (shape_row t k r s (tried b) x) (room_uses t s r None)

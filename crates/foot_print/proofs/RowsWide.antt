@@ -1,5 +1,6 @@
 -- Where all that an operation looks up is of earlier places, its row where it is unresolved holds the one as accepted.
-use Rattle.std.specs.Prelude.{ℕ, Bool, true, false, cond, not, ◌&&◌, ◌||◌, ◌==◌, ◌+◌, min, T, List, [], ◌∷◌, ◌++◌, map, Option, Some, None, Result, Ok, Err}
+use native.Mathlib.Omega.{arith}
+use Rattle.std.specs.Prelude.{ℕ, Bool, true, false, cond, not, ◌&&◌, ◌||◌, ◌==◌, min, T, List, [], ◌∷◌, ◌++◌, map, Option, Some, None, Result, Ok, Err}
 use Rattle.std.specs.List.{list_all}
 use mathlib.Core.Path.{subst}
 use Rattle.sqe_codec.specs.declared.errno.Errno.{Errno}
@@ -9,13 +10,13 @@ use Rattle.entry_checks.specs.Operation.{Operation, File, Path, OpenFlags, file_
 use Rattle.world_parts.specs.World.{World}
 use Rattle.file_tree.specs.Tree.{Target}
 use Rattle.file_tree.specs.Walk.{Place, walk, is_directory, names_on}
-use Rattle.op_meaning.specs.Meaning.{made_node, Handle, handle, handle_of, held, is_file, allocation, Allocation, extend, reserve, punch, zero_extend, zero_within}
+use Rattle.op_meaning.specs.Meaning.{made_node, Handle, handle, held}
 use Rattle.world_parts.specs.Items.{Atom, description_at, position_of, size_of, byte_at, name_at, names_in, Item, one, file_bytes, all_bytes_and_sizes, member_of, Use, reads, writes, Footprint, has_atom, writes_atom}
-use Rattle.op_meaning.specs.Footprint.{Shape, idle, looking, moving, allocating, resizing, closing, opening, making, freeing, linking, renaming, shape, foreseen, transfer_row, shape_row, write_row, allocation_uses, open_uses, openat_row, file_reads, of_file, of_description, on_file, range_of, position_written, position_use, span_use, path_reads, name_written, directory_names, read_content, write_content, allocated_content, transfer_range, read_row}
+use Rattle.op_meaning.specs.Footprint.{Shape, idle, looking, moving, allocating, resizing, closing, opening, making, freeing, linking, renaming, shape, foreseen, transfer_row, shape_row, open_uses, openat_row, file_reads, of_description, on_file, range_of, position_written, position_use, span_use, path_reads, name_written, read_content, write_content, allocated_content, transfer_range, directory_made, name_freed}
 use Rattle.foot_print.specs.Reach.{unresolved_shape, taken, all_files, any_name, unresolved_file, unresolved_row}
 use Rattle.foot_print.specs.Replayed.{is_earlier}
 use Rattle.world_parts.proofs.Collision.{both, left, right, either_left, same_atom-eq}
-use Rattle.foot_print.proofs.Holding.{Over, drop_false, over_self, over_nothing, over_all, over_first, over_second, over_both, over_uses, all_append, all_each}
+use Rattle.foot_print.proofs.Holding.{Over, drop_false, over_self, over_nothing, over_all, over_first, over_second, over_both, over_uses, all_append, all_each, all_each_ok}
 
 -- Uses of a file and its description, and of names.
 abbrev pub is_file_use : Use → Bool
@@ -55,12 +56,7 @@ module _ (t : Trace) (k : ℕ) where
       go _ e m = absurd m
 
   file_use : (x : Item) (w : Bool) → T (is_file_use (record { item = x; written = w })) → Over earlier (all_files t k) (record { item = x; written = w } ∷ [])
-  file_use (one (size_of i)) w h = at_atom (all_files t k) (size_of i) w (λ e. either_left _ _ e) (λ e v. either_left _ _ e)
-  file_use (one (position_of d)) w h = at_atom (all_files t k) (position_of d) w (λ e. either_left _ _ e) (λ e v. either_left _ _ e)
-  file_use (one (description_at d)) true h = absurd h
-  file_use (one (description_at d)) false h = at_atom (all_files t k) (description_at d) false (λ e. either_left _ _ e) (λ e v. absurd v)
-  file_use (file_bytes i low high) w h = over_first earlier (writes (all_bytes_and_sizes (made_node t k)) ∷ []) _ _ (whole_file i low high w)
-  file_use _ w h = absurd h
+  file_use x w h = grind (arith, at_atom, either_left, over_first, whole_file)
 
   name_use : (x : Item) (w : Bool) → T (is_name_use (record { item = x; written = w })) → Over earlier (any_name t k) (record { item = x; written = w } ∷ [])
   name_use (one (name_at d n)) w h = at_atom (any_name t k) (name_at d n) w (λ e. either_left _ _ e) (λ e v. either_left _ _ e)
@@ -75,15 +71,10 @@ module _ (t : Trace) (k : ℕ) where
 
   module _ (r : ℕ) (s : World) where
     position_uses : (o : ℕ) (h : Handle) → T (list_all is_file_use (position_written h o))
-    position_uses o h = elim (o == at_position) as (λ b. T (list_all is_file_use (cond b (writes (one (position_of h.description)) ∷ []) []))) [ true ↦ tt | false ↦ tt ]
+    position_uses o h = grind arith
 
     content_uses : (c : ℕ → Handle → Footprint) → ((i : ℕ) (h : Handle) → T (list_all is_file_use (c i h))) → (x : Option ℕ) → T (list_all is_file_use (each (of_description s c) x))
-    content_uses c h None = tt
-    content_uses c h (Some d) = all_each is_file_use (of_file c) (handle_of s d) (λ (g : Handle). at g (is_file g.opened))
-      where
-        at : (g : Handle) (b : Bool) → T (list_all is_file_use (cond b (c g.opened.target.node g) []))
-        at g true = h g.opened.target.node g
-        at g false = tt
+    content_uses c h x = grind (arith, h)
 
     on_file_held : (f : File) (c : ℕ → Handle → Footprint) → ((i : ℕ) (h : Handle) → T (list_all is_file_use (c i h))) → Over earlier (unresolved_file t k r f) (on_file t s r f c)
     on_file_held f c h = over_both earlier (file_reads t r f) (all_files t k) (file_reads t r f) _ (over_self earlier (file_reads t r f)) (files_held _ (content_uses c h (held t s r f)))
@@ -92,23 +83,9 @@ module _ (t : Trace) (k : ℕ) where
     transfer_held f o c h = over_all earlier (unresolved_file t k r f) (on_file t s r f c) _ (on_file_held f c h)
         (over_second earlier (file_reads t r f) (all_files t k) _ (files_held _ (all_each is_file_use (λ g. position_written g o) (handle t s r f) (position_uses o))))
 
-    transfer_item : (b : Bool) (i low high : ℕ) (w : Bool) → T (is_file_use (record { item = cond b (range_of i 0 file_limit) (range_of i low high); written = w }))
-    transfer_item true i low high w = tt
-    transfer_item false i low high w = tt
-
-    read_held : (f : File) (o n : ℕ) → Over earlier (unresolved_file t k r f) (read_row t s r f o n)
-    read_held f o n = transfer_held f o (read_content o n) (λ i h. both (is_file_use (reads (transfer_range i (o == at_position) o n))) _ (transfer_item (o == at_position) i o (o + n) false) (position_uses o h))
-
-    write_held : (f : File) (o n : ℕ) → Over earlier (unresolved_file t k r f) (write_row t s r foreseen f o n)
-    write_held f o n = transfer_held f o (write_content s foreseen o n) (λ i h. both (is_file_use (writes (transfer_range i (h.opened.append || o == at_position) o n))) _ (transfer_item (h.opened.append || o == at_position) i o (o + n) true) (position_uses o h))
-
-    allocation_uses_files : (i at end : ℕ) (a : Option Allocation) → T (list_all is_file_use (allocation_uses true i at end a))
-    allocation_uses_files i at end (Some extend) = tt
-    allocation_uses_files i at end (Some reserve) = tt
-    allocation_uses_files i at end (Some punch) = tt
-    allocation_uses_files i at end (Some zero_extend) = tt
-    allocation_uses_files i at end (Some zero_within) = tt
-    allocation_uses_files i at end None = tt
+    moved_held : (w : Bool) (f : File) (o n : ℕ) → Over earlier (unresolved_file t k r f) (transfer_row t s r foreseen w f o n)
+    moved_held false f o n = transfer_held f o (read_content o n) (λ i h. both (is_file_use (reads (transfer_range i (o == at_position) o n))) _ (grind arith) (position_uses o h))
+    moved_held true f o n = transfer_held f o (write_content s foreseen o n) (λ i h. both (is_file_use (writes (transfer_range i (h.opened.append || o == at_position) o n))) _ (grind arith) (position_uses o h))
 
     names_on_path : (es : List (ℕ × List ℕ)) → T (list_all is_name_use (map (λ (e : ℕ × List ℕ). reads (one (name_at e.0 e.1))) es))
     names_on_path [] = tt
@@ -117,26 +94,10 @@ module _ (t : Trace) (k : ℕ) where
     path_names : (p : Path) → T (list_all is_name_use (path_reads s p))
     path_names p = names_on_path (names_on s.nodes p)
 
-    written_names : (w : Result Place Errno) → T (list_all is_name_use (each_ok name_written w))
-    written_names (Ok q) = tt
-    written_names (Err e) = tt
-
-    made_names : (w : Result Place Errno) → T (list_all is_name_use (each_ok (λ (q : Place). name_written q ++ []) w))
-    made_names (Ok q) = tt
-    made_names (Err e) = tt
-
-    directory_uses : (y : Option Target) → T (list_all is_name_use (directory_names y))
-    directory_uses None = tt
-    directory_uses (Some y) = elim (is_directory y.kind) as (λ b. T (list_all is_name_use (cond b (reads (one (names_in y.node)) ∷ []) []))) [ true ↦ tt | false ↦ tt ]
-
-    unlink_names : (removes : Bool) (w : Result Place Errno) → T (list_all is_name_use (each_ok (λ (q : Place). name_written q ++ cond removes (directory_names q.target) []) w))
-    unlink_names removes (Err e) = tt
-    unlink_names true (Ok q) = directory_uses q.target
-    unlink_names false (Ok q) = tt
-
-    rename_names : (w : Result Place Errno) → T (list_all is_name_use (each_ok (λ (q : Place). name_written q ++ directory_names q.target) w))
-    rename_names (Err e) = tt
-    rename_names (Ok q) = directory_uses q.target
+    -- What stands behind the names on a path is of names too.
+    behind_path : (looks : Footprint) (g : Place → Footprint) (p : Path) → T (list_all is_name_use looks) → ((q : Place) → T (list_all is_name_use (g q)))
+        → T (list_all is_name_use (looks ++ each_ok g (walk s.nodes p)))
+    behind_path looks g p h k = all_append is_name_use looks _ h (all_each_ok is_name_use g (walk s.nodes p) k)
 
     two_paths : (old new : Path) → T (list_all is_name_use (path_reads s old ++ path_reads s new))
     two_paths old new = all_append is_name_use (path_reads s old) (path_reads s new) (path_names old) (path_names new)
@@ -167,25 +128,22 @@ module _ (t : Trace) (k : ℕ) where
         at (Ok q) = opened_held g q q.target
         at (Err e) = over_nothing earlier _
 
-    moved_held : (w : Bool) (f : File) (o n : ℕ) → Over earlier (unresolved_file t k r f) (transfer_row t s r foreseen w f o n)
-    moved_held false f o n = read_held f o n
-    moved_held true f o n = write_held f o n
-
     unresolved_over_shape : (x : Shape) → Over earlier (unresolved_shape t k r x) (shape_row t k r s foreseen x)
     unfolding cut
     unresolved_over_shape idle = over_nothing earlier _
     unresolved_over_shape (looking f) = over_self earlier _
     unresolved_over_shape (moving w f o n None) = moved_held w f o n
     unresolved_over_shape (moving w f o n (Some x)) = over_both earlier _ (span_use (not w) t r x) _ (span_use (not w) t r x) (moved_held w f o n) (over_self earlier _)
-    unresolved_over_shape (allocating f o n mode) = on_file_held f (allocated_content s foreseen o n mode) (λ i h. allocation_uses_files i o (o + n) (allocation mode))
+    unresolved_over_shape (allocating f o n mode) = on_file_held f (allocated_content s foreseen o n mode) (λ i h. grind arith)
     unresolved_over_shape (resizing f n) = on_file_held f (λ i h. writes (one (size_of i)) ∷ writes (range_of i n file_limit) ∷ []) (λ i h. tt)
     unresolved_over_shape (closing f) = over_self earlier _
     unresolved_over_shape (opening p g asked) = open_held p g asked
-    unresolved_over_shape (making p) = names_held _ (all_append is_name_use (path_reads s p) _ (path_names p) (made_names (walk s.nodes p)))
-    unresolved_over_shape (freeing p removes) = names_held _ (all_append is_name_use (path_reads s p) _ (path_names p) (unlink_names removes (walk s.nodes p)))
-    unresolved_over_shape (linking old new) = names_held _ (all_append is_name_use (path_reads s old ++ path_reads s new) _ (two_paths old new) (written_names (walk s.nodes new)))
+    unresolved_over_shape (making p) = names_held _ (behind_path (path_reads s p) (directory_made t k foreseen) p (path_names p) (λ q. tt))
+    unresolved_over_shape (freeing p removes) = names_held _ (behind_path (path_reads s p) (name_freed removes) p (path_names p) (λ q. grind arith))
+    unresolved_over_shape (linking old new) = names_held _ (behind_path (path_reads s old ++ path_reads s new) name_written new (two_paths old new) (λ q. tt))
     unresolved_over_shape (renaming old new) =
-        names_held _ (all_append is_name_use (path_reads s old ++ path_reads s new ++ each_ok name_written (walk s.nodes old)) _ (all_append is_name_use (path_reads s old ++ path_reads s new) _ (two_paths old new) (written_names (walk s.nodes old))) (rename_names (walk s.nodes new)))
+        names_held _ (behind_path (path_reads s old ++ path_reads s new ++ each_ok name_written (walk s.nodes old)) (name_freed true) new
+        (behind_path (path_reads s old ++ path_reads s new) name_written old (two_paths old new) (λ q. tt)) (λ q. grind arith))
 
     pub unresolved_over_taken : (o : Operation) → Over earlier (unresolved_row t k r o) (taken t k r s o)
     unresolved_over_taken o = unresolved_over_shape (shape o)

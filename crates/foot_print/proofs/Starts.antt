@@ -6,7 +6,7 @@ use Rattle.std.specs.Ordering.{nat_cmp, eq_by_cmp}
 use Rattle.std.specs.declared.cmp.Ordering.{Ordering}
 use Rattle.std.specs.Cmp.{unsigned_tied, IsTotalOrder}
 use Rattle.std.proofs.Common.{append_assoc}
-use Rattle.std.proofs.lemmas.Bool.{false≢true, leb-true, eqb-true, and_parts, and_from, or_cases, or_left, or_right, cases_lt, eq-eqb, ne_eqb}
+use Rattle.std.proofs.lemmas.Bool.{false≢true, leb-true, eqb-true, and_parts, and_from, or_cases, or_left, or_right, eqb-false}
 use Rattle.std.proofs.lemmas.List.{append-nil, length_push}
 use Rattle.std.proofs.lemmas.List.Elements.{All-head, All-tail}
 use Rattle.std.proofs.lemmas.Option.{slice_get_within, IfSome_then}
@@ -31,35 +31,28 @@ use Rattle.finite_maps.specs.Table.{Table, empty, get, insert, get-insert, numbe
 use Rattle.file_tree.specs.Tree.{Node, a_directory, a_file, Names, Target, target, IsTree, Above, names_it, one_below, kind_of_node, names_of_node, others_of_node, bytes_of_node}
 use Rattle.file_tree.specs.Walk.{Place, walk_from, directory_at, fits_name, starts_at_root, is_directory as is_directory_kind}
 use Rattle.extent_bytes.specs.Bytes.{resized, overwritten}
-use Rattle.world_parts.specs.World.{World, IsWorld, Description, kind, names, name, others, size, opened, opened_by, Opened, slot, descriptor, apply, apply_all, make_node, set_name, set_size, write_bytes}
+use Rattle.world_parts.specs.World.{World, IsWorld, Description, kind, name, size, opened, opened_by, Opened, slot, descriptor, apply, apply_all, make_node, set_name, set_size, write_bytes}
 use Rattle.world_parts.specs.Start.{start, bare, name_at, with_node, with_items, descriptions_from, slots_from, ring_slots, descriptors_from}
 use Rattle.world_parts.proofs.Changes.{rewriting-kind}
 use Rattle.world_parts.proofs.ChangesOfNames.{naming-kind}
 use Rattle.world_parts.proofs.ChangesOfMaking.{Unused, making-kind, made-kind, making-name}
 use Rattle.world_parts.proofs.Trees.{some_apart, some_same, MayPut}
 use Rattle.world_parts.proofs.KeepWorld.{sound, is_world, naming_sound, making_sound}
+use Rattle.foot_print.proofs.Awaiting.{unused_number, nothing}
+use Rattle.foot_print.proofs.Beginning.{above_bare}
 use Rattle.foot_print.proofs.KeepNames.{parent_there, named_tree, made_and_named}
 use Rattle.foot_print.proofs.KeepContents.{contents_leave}
 
 -- ---- the root alone
 
+-- What holds of the root and of no node holds at every number.
+at_each : (P : Option Node → Type 0) → P (Some (Node.directory empty 0)) → P None → (i : ℕ) → P (get bare.nodes i)
+at_each P root none i = subst P (sym (get-insert number_keys.total empty 0 (Node.directory empty 0) i))
+    (elim (eq_by_cmp nat_cmp i 0) as (λ b. P (cond b (Some (Node.directory empty 0)) None)) [ true ↦ root | false ↦ none ])
+
 -- The root has no names.
 no_names : (d : ℕ) (n : List ℕ) → name bare d n ≡ None
-no_names d n =
-    ap seen (get-insert number_keys.total empty 0 (Node.directory empty 0) d)
-    ∙ elim (eq_by_cmp nat_cmp d 0) as (λ b. seen (cond b (Some (Node.directory empty 0)) None) ≡ None) [ true ↦ refl | false ↦ refl ]
-  where
-    seen : Option Node → Option Target
-    seen x = option_map (target bare.nodes) (option_and_then (λ (ns : Names). get ns n) (option_and_then names_of_node x))
-
--- There are no files beside it.
-no_files : (i : ℕ) → size bare i ≡ None
-no_files i =
-    ap seen (get-insert number_keys.total empty 0 (Node.directory empty 0) i)
-    ∙ elim (eq_by_cmp nat_cmp i 0) as (λ b. seen (cond b (Some (Node.directory empty 0)) None) ≡ None) [ true ↦ refl | false ↦ refl ]
-  where
-    seen : Option Node → Option ℕ
-    seen x = option_map length (option_and_then bytes_of_node x)
+no_names d n = at_each (λ x. option_map (target bare.nodes) (option_and_then (λ (ns : Names). get ns n) (option_and_then names_of_node x)) ≡ None) refl refl d
 
 -- The root alone is a world.
 bare_world : IsWorld bare
@@ -74,18 +67,11 @@ bare_world = record {
   descriptions_lead = λ d. tt;
   slots_lead = λ r n. tt;
   descriptors_lead = λ n. tt;
-  files_fit = λ i. subst (λ x. IfSome x (λ n. n ≤ file_limit)) (sym (no_files i)) tt;
+  files_fit = at_each (λ x. IfSome (option_map length (option_and_then bytes_of_node x)) (λ n. n ≤ file_limit)) tt tt;
   directories_are_read = λ d. tt;
-  all_shown = all_shown;
+  all_shown = at_each (λ x. IfSome (option_and_then others_of_node x) (λ n. n ≡ 0)) refl tt;
 }
   where
-    seen : Option Node → Option ℕ
-    seen x = option_and_then others_of_node x
-
-    all_shown : (d : ℕ) → IfSome (others bare d) (λ n. n ≡ 0)
-    all_shown d = subst (λ x. IfSome (seen x) (λ n. n ≡ 0)) (sym (get-insert number_keys.total empty 0 (Node.directory empty 0) d))
-        (elim (eq_by_cmp nat_cmp d 0) as (λ b. IfSome (seen (cond b (Some (Node.directory empty 0)) None)) (λ n. n ≡ 0)) [ true ↦ refl | false ↦ tt ])
-
     nothing_above : (d i : ℕ) → ¬ (Above (name bare) d i)
     nothing_above d i (names_it _ _ n h) = some_apart (sym h ∙ no_names d n)
     nothing_above d i (one_below _ c _ n a h) = some_apart (sym h ∙ no_names c n)
@@ -138,8 +124,7 @@ parent_found s path p w h = parent_there s w (from_root path) p (ap (λ b. requi
     from_root text = record { directory = negsuc 99; text = text }
 
     at_root : (text : List ℕ) → starts_at_root (from_root text) ≡ true
-    at_root [] = refl
-    at_root (b ∷ bs) = or_right (b == 47) true refl
+    at_root text = grind arith
 
 -- A directory that is made and named leaves a world.
 directory_named : (s : World) (path : List ℕ) (i : ℕ) → IsWorld s → Unused s i → IsWorld (name_at (apply (make_node i a_directory) s) path i)
@@ -174,27 +159,8 @@ file_made t s i size stored w u fits =
     (contents_leave t 0 made (write_bytes i 0 stored ∷ set_size i size ∷ []) (omega (arith, room, limit), (limit, tt)) world).0
 
 -- A number that leads to no node is unused in a world.
-unused_number : (s : World) (i : ℕ) → IsWorld s → kind s i ≡ None → Unused s i
-unused_number s i w h = record {
-  no_node = nothing (get s.nodes i) h;
-  unnamed = λ d n. target_apart (option_and_then (λ (ns : Names). get ns n) (names s d)) (w.tree.names_lead d n);
-  unopened = λ d. opened_apart (get s.descriptions d) (w.descriptions_lead d);
-}
-  where
-    nothing : (x : Option Node) → option_map kind_of_node x ≡ None → x ≡ None
-    nothing None e = refl
-    nothing (Some x) e = absurd (some_apart e)
-
-    apart : (j : ℕ) → is_some (kind s j) ≡ true → ¬ (j ≡ i)
-    apart j g e = false≢true (sym (ap is_some (ap (kind s) e ∙ h)) ∙ g)
-
-    target_apart : (o : Option ℕ) → IfSome (option_map (target s.nodes) o) (λ x. is_some x.kind ≡ true) → IfSome (option_map (target s.nodes) o) (λ x. ¬ (x.node ≡ i))
-    target_apart None g = tt
-    target_apart (Some j) g = apart j g
-
-    opened_apart : (o : Option Description) → IfSome (option_map (opened_by s) o) (λ x. is_some x.target.kind ≡ true) → IfSome (option_map (opened_by s) o) (λ x. ¬ (x.target.node ≡ i))
-    opened_apart None g = tt
-    opened_apart (Some d) g = apart d.node g
+unused_there : (s : World) (i : ℕ) → IsWorld s → kind s i ≡ None → Unused s i
+unused_there s i w h = unused_number s i w (nothing kind_of_node (get s.nodes i) h)
 
 -- What the number of an item leads to.
 abbrev IsMade : World → ℕ → InitialNode → Type 0
@@ -232,9 +198,7 @@ found_made s test items number so f =
 
 -- An item that makes a file has made one.
 file_there : (s : World) (i : ℕ) (y : InitialNode) → is_file y ≡ true → IsMade s i y → kind s i ≡ Some a_file
-file_there s i Directory h m = absurd (false≢true h)
-file_there s i (File size stored) h m = m
-file_there s i (OtherName j) h m = absurd (false≢true h)
+file_there s i y h m = grind arith
 
 -- One more item leaves the kinds of the other numbers.
 item_kinds : (s : World) (i : ℕ) (path : List ℕ) (x : InitialNode) (j : ℕ) → ¬ (j ≡ i) → kind (with_node s i path x) j ≡ kind s j
@@ -250,15 +214,13 @@ item_made s i path (OtherName k) = tt
 
 -- What an item made stays made where the kind stays.
 still_made : (s u : World) (i : ℕ) (y : InitialNode) → kind u i ≡ kind s i → IsMade s i y → IsMade u i y
-still_made s u i Directory e m = e ∙ m
-still_made s u i (File size stored) e m = e ∙ m
-still_made s u i (OtherName j) e m = tt
+still_made s u i y e m = grind arith
 
 -- One more item that fits those before it leaves a world.
 item_world : (t : Trace) (s : World) (earlier : List Item) (i : ℕ) (path : List ℕ) (x : InitialNode) → IsSoFar s earlier → length earlier < i → NodeFits earlier x → IsWorld (with_node s i path x)
-item_world t s earlier i path Directory so later fits = directory_named s path i so.is_world (unused_number s i so.is_world (so.unmade i later))
+item_world t s earlier i path Directory so later fits = directory_named s path i so.is_world (unused_there s i so.is_world (so.unmade i later))
 item_world t s earlier i path (File size stored) so later fits =
-    file_named (with_file s i size stored) path i (file_made t s i size stored so.is_world (unused_number s i so.is_world (so.unmade i later)) fits) (file_kinds s i size stored i ∙ made-kind s i a_file)
+    file_named (with_file s i size stored) path i (file_made t s i size stored so.is_world (unused_there s i so.is_world (so.unmade i later)) fits) (file_kinds s i size stored i ∙ made-kind s i a_file)
 item_world t s earlier i path (OtherName j) so later fits =
     let f = found_item is_file earlier j fits in
     file_named s path j so.is_world (file_there s j f.x.node f.passes (found_made s is_file earlier j so f))
@@ -299,11 +261,11 @@ items_so_far t items fit (x ∷ rest) earlier s i e here so =
 
 -- The root alone is a world of no items.
 nothing_made : IsSoFar bare []
-nothing_made = record { is_world = bare_world; made = λ k x h. absurd (some_apart (sym h)); unmade = no_node }
-  where
-    no_node : (j : ℕ) → 0 < j → kind bare j ≡ None
-    no_node j h = ap (option_map kind_of_node) (get-insert number_keys.total empty 0 (Node.directory empty 0) j
-        ∙ ap (λ b. cond b (Some (Node.directory empty 0)) None) (unsigned_tied j 0 ∙ ne_eqb j 0 (λ e. absurd (omega (arith, e, h)))))
+nothing_made = record {
+  is_world = bare_world;
+  made = λ k x h. absurd (some_apart (sym h));
+  unmade = λ j h. ap (option_map kind_of_node) (above_bare j h);
+}
 
 -- ---- descriptions, slots and descriptors
 
@@ -319,16 +281,12 @@ each_description P (d ∷ ds) n all q = inserted P number_keys.total (descriptio
 -- A description that is numbered is there.
 description_there : (ds : List Description) (n q : ℕ) → n ≤ q → q < n + length ds → is_some (get (descriptions_from n ds) q) ≡ true
 description_there [] n q low high = absurd (omega (arith, low, high))
-description_there (d ∷ ds) n q low high = by (λ l. description_there ds (suc n) q l (omega (arith, high)))
-  where
-    found : (b : Bool) → (q == n) ≡ b → is_some (get (descriptions_from n (d ∷ ds)) q) ≡ is_some (cond b (Some d) (get (descriptions_from (suc n) ds) q))
-    found b e = ap is_some (get-insert number_keys.total (descriptions_from (suc n) ds) n d q ∙ ap (λ c. cond c (Some d) (get (descriptions_from (suc n) ds) q)) (unsigned_tied q n ∙ e))
-
-    by : (suc n ≤ q → is_some (get (descriptions_from (suc n) ds) q) ≡ true) → is_some (get (descriptions_from n (d ∷ ds)) q) ≡ true
-    by f = elim (cases_lt n q) [
-      | inl l ↦ found false (ne_eqb q n (λ e. absurd (omega (arith, l, e)))) ∙ f (omega (arith, l))
-      | inr l ↦ found true (eq-eqb q n (omega (arith, low, l)))
-    ]
+description_there (d ∷ ds) n q low high =
+    ap is_some (get-insert number_keys.total (descriptions_from (suc n) ds) n d q ∙ ap (λ c. cond c (Some d) (get (descriptions_from (suc n) ds) q)) (unsigned_tied q n))
+    ∙ elim (q == n) as (λ b. (q == n) ≡ b → is_some (cond b (Some d) (get (descriptions_from (suc n) ds) q)) ≡ true) [
+      | true ↦ λ e. refl
+      | false ↦ λ e. let other = eqb-false q n e in description_there ds (suc n) q (omega arith) (omega (arith, high))
+    ] refl
 
 -- The slots of a list of numbers up to a limit have descriptions below it.
 each_slot : (limit r n : ℕ) (ds : List ℕ) (m : Table pair_cmp ℕ) → All (λ d. d ≤ limit) ds → ((q : ℕ × ℕ) → IfSome (get m q) (λ d. d < limit)) → (q : ℕ × ℕ) → IfSome (get (slots_from r n ds m) q) (λ d. d < limit)
@@ -357,9 +315,7 @@ each_descriptor limit n (suc d ∷ ds) all q =
 
 -- A directory or a file that an item makes is there.
 node_there : (s : World) (i : ℕ) (y : InitialNode) → (is_directory y || is_file y) ≡ true → IsMade s i y → is_some (kind s i) ≡ true
-node_there s i Directory h m = ap is_some m
-node_there s i (File size stored) h m = ap is_some m
-node_there s i (OtherName j) h m = absurd (false≢true h)
+node_there s i y h m = grind arith
 
 -- A number of a description leads to a node that is there.
 number_leads : (s : World) (items : List Item) (number : ℕ) → IsSoFar s items → is_node items number ≡ true → is_some (kind s number) ≡ true
@@ -371,9 +327,7 @@ number_leads s items number so h = elim (or_cases (number == 0) _ h) [
 
 -- An item that makes a directory is one.
 directory_said : (s : World) (i : ℕ) (y : InitialNode) → (is_directory y || is_file y) ≡ true → IsMade s i y → kind s i ≡ Some a_directory → is_directory y ≡ true
-directory_said s i Directory h m k = refl
-directory_said s i (File size stored) h m k = absurd (file_apart (sym m ∙ k))
-directory_said s i (OtherName j) h m k = absurd (false≢true h)
+directory_said s i y h m k = grind arith
 
 -- A number of a description that leads to a directory is a directory's.
 number_of_directory : (s : World) (items : List Item) (number : ℕ) → IsSoFar s items → is_node items number ≡ true → kind s number ≡ Some a_directory → is_directory_number items number ≡ true
@@ -388,8 +342,7 @@ number_of_directory s items number so h k = elim (or_cases (number == 0) _ h) [
 
 -- What holds of a description holds of what it opens.
 seen_opened : (s : World) (P : Description → Type 0) (Q : Opened → Type 0) → ((d : Description) → P d → Q (opened_by s d)) → (o : Option Description) → IfSome o P → IfSome (option_map (opened_by s) o) Q
-seen_opened s P Q f None h = tt
-seen_opened s P Q f (Some d) h = f d h
+seen_opened s P Q f o h = grind arith
 
 -- A trace that some bytes spell starts in a world.
 pub starts_in_world : (t : Trace) → IsSpelled t → IsWorld (start t)
@@ -418,8 +371,7 @@ starts_in_world t spelled = record {
     described d = each_description (DescriptionFits t.items) t.descriptions 0 facts.descriptions d
 
     mapped : (o : Option Description) → is_some (option_map (opened_by (start t)) o) ≡ is_some o
-    mapped None = refl
-    mapped (Some d) = refl
+    mapped o = grind arith
 
     there : (d : ℕ) → d < length t.descriptions → is_some (opened (start t) d) ≡ true
     there d h = mapped (get (descriptions_from 0 t.descriptions) d) ∙ description_there t.descriptions 0 d (omega arith) (omega (arith, h))

@@ -1,10 +1,9 @@
 -- Which atoms earlier reaches write, and that fewer or narrower reaches write less.
+use native.Mathlib.Omega.{arith}
 use Rattle.std.specs.Prelude.{◌≡◌, Bool, true, false, ◌&&◌, ◌||◌, T, List, [], ◌∷◌, refl}
-use Rattle.std.proofs.Common.{◌⊎◌, inl, inr}
 use Rattle.std.specs.List.{list_any}
 use mathlib.Core.Path.{subst}
-use Rattle.interleaving.specs.System.{System, NoneWrites, Thinner}
-use Rattle.interleaving.specs.System.{Apart, Holds}
+use Rattle.interleaving.specs.System.{System, NoneWrites, Thinner, Apart, Holds}
 use Rattle.trace_format.specs.declared.trace.Trace.{Trace}
 use Rattle.world_parts.specs.Items.{Atom, Item, member_of, share, Use, Footprint, has_atom, writes_atom, collide}
 use Rattle.foot_print.specs.Reach.{written_by, is_met}
@@ -13,13 +12,12 @@ use Rattle.world_parts.proofs.Collision.{both, left, right, either_left, either_
 use Rattle.world_parts.proofs.Sharing.{Common, common, holds_true, atom_of_collide}
 
 pub is_false : (b : Bool) → (T b → ⊥) → b ≡ false
-is_false true h = absurd (h tt)
-is_false false h = refl
+is_false b h = grind arith
 
 pub not_false : (b : Bool) → b ≡ false → T b → ⊥
 not_false b e h = subst T e h
 
-abbrev writes_some : Item → Footprint → Bool
+abbrev pub writes_some : Item → Footprint → Bool
 writes_some x f = list_any (λ (u : Use). u.written && share u.item x) f
 
 pub atom_of_writes : (x : Item) (f : Footprint) → T (writes_some x f) → (a : Atom) × T (writes_atom f a) × T (member_of x a)
@@ -82,10 +80,4 @@ module _ (t : Trace) where
   )
 
   pub collide_held_lem : (f r r₁ : Footprint) → Holds (replayed t) r r₁ → collide f r ≡ false → collide f r₁ ≡ false
-  collide_held_lem f r r₁ held e = is_false _ (λ c. go (atom_of_collide f r₁ c))
-    where
-      go : (a : Atom) × T (has_atom f a) × T (has_atom r₁ a) × (T (writes_atom f a) ⊎ T (writes_atom r₁ a)) → ⊥
-      go n = elim n.3 [
-        | inl w ↦ not_false _ e (first_writes-collide f r n.0 w (holds_true _ (held.0 n.0 (true_of _ n.2))))
-        | inr w ↦ not_false _ e (second_writes-collide f r n.0 n.1 (holds_true _ (held.1 n.0 (true_of _ w))))
-      ]
+  collide_held_lem f r r₁ held e = grind (arith, atom_of_collide, first_writes-collide, second_writes-collide)

@@ -56,7 +56,7 @@ pub record Awaits (w : Item → Bool) (deciding row : Footprint) (may takes : Bo
   pub told : is_some (items_awaited o.waits_by o.reach) ≡ may
   pub lowest : o.takes_lowest ≡ takes
 
--- Of a place that has an operation, behind its order; and of an entry that has one if its chain isn't doomed.
+-- Of a place that has an operation, behind its order.
 abbrev pub AwaitsAsOperation : Footprint → Trace → ℕ → ℕ → World → (Item → Bool) → Operation → Bool → Outlook → Type 0
 AwaitsAsOperation order t k r s w p may o = Awaits w (seen t r s p) (order ++ row_in t k r s p) may (takes_lowest p) o
 

@@ -18,17 +18,20 @@ pub fn footprints_cover()
 {}
 
 /// A step leaves a world of a replay, in which the numbers of other places are still unused.
+#[tactic(auto, using(crate::proofs::Keep::steps_keep_worlds))]
 pub fn steps_keep_worlds()
     ensures { StepsKeepWorlds }
 {}
 
 /// Two places whose footprints do not collide give the same world and the same replies in either
 /// order.
+#[tactic(auto, using(crate::proofs::Keep::all_commute))]
 pub fn steps_commute()
     ensures { StepsCommute }
 {}
 
 /// A part that is cut out of a world and put back unchanged leaves the world as it was.
+#[tactic(auto, using(world_parts::proofs::Holes::cut_then_put))]
 pub fn cut_then_put()
     ensures { CutThenPut }
 {}
@@ -45,12 +48,14 @@ pub fn holes_keep_worlds()
 {}
 
 /// The footprint of a place names single items and ranges, so that a part can be cut by it.
+#[tactic(auto, using(crate::proofs::Narrow::all_narrow))]
 pub fn footprints_are_narrow()
     ensures { FootprintsAreNarrow }
 {}
 
 /// A part that is cut while others are out, with none of which it collides, is a part of the world
 /// as it was.
+#[tactic(auto, using(world_parts::proofs::Holes::part_of_whole))]
 pub fn parts_are_of_the_whole()
     ensures { PartsAreOfTheWhole }
 {}
@@ -64,6 +69,7 @@ pub fn put_is_step()
 
 /// The parts of places whose footprints do not collide, all cut out of one world, run, and put back
 /// one after another, leave the world and the replies of the places' steps in order.
+#[tactic(auto, using(crate::proofs::Putting::round_is_steps))]
 pub fn round_is_steps()
     ensures { RoundIsSteps }
 {}

@@ -1,31 +1,27 @@
 -- A place that is clear of the reaches before it may run ahead of them.
-use Rattle.std.proofs.Common.{◌≡◌, ◌≢◌, ℕ, zero, suc, ◌<◌, ◌≤◌, Bool, true, false, if◌then◌else◌, ◌==◌, ◌⊎◌, inl, inr, refl, sym, ◌∙◌, ap, subst, arith}
-use Rattle.std.proofs.lemmas.Bool.{cases_Bool, cond-true, cond-false, eq-eqb, ne_eqb}
-use Rattle.interleaving.specs.System.{System, Apart, Holds, DifferOnlyBy, NoneWrites, stepped, reaches}
+use Rattle.std.proofs.Common.{◌≡◌, ◌≢◌, ℕ, zero, suc, ◌<◌, ◌≤◌, Bool, true, false, if◌then◌else◌, ◌==◌, inl, inr, refl, sym, ◌∙◌, ap, subst, arith}
+use Rattle.std.proofs.lemmas.Bool.{cases_Bool}
+use Rattle.interleaving.specs.System.{System, Apart, Holds, DifferOnlyBy, stepped, reaches}
 use Rattle.interleaving.specs.Laws.{Laws}
 use Rattle.interleaving.proofs.Commute.{unless, apart_swap, apart_held, foot_kept, commute}
-use Rattle.interleaving.proofs.Skipping.{stepped-out, stepped-in, reaches-out, reaches-in, stepped-none}
+use Rattle.interleaving.proofs.Skipping.{reaches-out, reaches-in, stepped-none}
 
 -- the places that are done, and one more
 abbrev pub adding : (ℕ → Bool) → ℕ → ℕ → Bool
 adding done k j = if j == k then true else done j
 
 pub adding-here : (done : ℕ → Bool) (k : ℕ) → adding done k k ≡ true
-adding-here done k = cond-true (k == k) true (done k) (eq-eqb k k refl)
+adding-here done k = grind arith
 
 pub adding-other : (done : ℕ → Bool) (k j : ℕ) → j ≢ k → adding done k j ≡ done j
-adding-other done k j ne = cond-false (j == k) true (done j) (ne_eqb j k ne)
+adding-other done k j ne = grind arith
 
 -- whatever is done is left out
 abbrev pub Covers : (ℕ → Bool) → (ℕ → Bool) → Type 0
 Covers out done = (i : ℕ) → done i ≡ true → out i ≡ true
 
 pub not_done : (out done : ℕ → Bool) → Covers out done → (i : ℕ) → out i ≡ false → done i ≡ false
-not_done out done covers i o = go (cases_Bool (done i))
-  where
-    go : (done i ≡ true) ⊎ (done i ≡ false) → done i ≡ false
-    go (inl d) = let both : true ≡ false = sym (covers i d) ∙ o in (cc)
-    go (inr d) = d
+not_done out done covers i o = grind (arith, covers i)
 
 -- what holds of a world while the places that aren't done can still run in order
 pub record Sound (m : System) (done : ℕ → Bool) (s : m.World) : Type 0 where
@@ -47,21 +43,17 @@ module _ (m : System) (laws : Laws m) where
   pub stepped-fine : (out : ℕ → Bool) (s : World) (n : ℕ) → IsWorld s → ((i : ℕ) → i < n → out i ≡ false → Unused i s)
       → IsWorld (stepped m out s n) × ((k : ℕ) → Unused k s → ((i : ℕ) → i < n → out i ≡ false → i ≢ k) → Unused k (stepped m out s n))
   stepped-fine out s zero w u = (w, λ k uk ne. uk)
-  stepped-fine out s (suc n) w u = go (stepped-fine out s n w (λ i lt o. u i (omega arith) o)) (cases_Bool (out n))
-    where
-      go : IsWorld (stepped m out s n) × ((k : ℕ) → Unused k s → ((i : ℕ) → i < n → out i ≡ false → i ≢ k) → Unused k (stepped m out s n))
-          → (out n ≡ true) ⊎ (out n ≡ false)
-          → IsWorld (stepped m out s (suc n)) × ((k : ℕ) → Unused k s → ((i : ℕ) → i < suc n → out i ≡ false → i ≢ k) → Unused k (stepped m out s (suc n)))
-      go before (inl e) = (
-        subst IsWorld (sym (stepped-out m out s n e)) before.0,
-        λ k uk ne. subst (Unused k) (sym (stepped-out m out s n e)) (before.1 k uk (λ i lt. ne i (omega arith))),
-      )
-      go before (inr e) =
-          let here : Unused n (stepped m out s n) = before.1 n (u n (omega arith) e) (λ i lt o. omega arith) in (
-            subst IsWorld (sym (stepped-in m out s n e)) (laws.step_is_world n (stepped m out s n) before.0 here),
-            λ k uk ne. subst (Unused k) (sym (stepped-in m out s n e))
-                (laws.step_keeps_unused k n (stepped m out s n) before.0 here (before.1 k uk (λ i lt. ne i (omega arith))) (λ same. ne n (omega arith) e (sym same))),
-          )
+  stepped-fine out s (suc n) w u =
+      let before = stepped-fine out s n w (λ i lt o. u i (omega arith) o) in
+      elim (cases_Bool (out n)) [
+        | inl e ↦ (rw e before.0, λ k uk ne. rw e (before.1 k uk (λ i lt. ne i (omega arith))))
+        | inr e ↦
+            let here : Unused n (stepped m out s n) = before.1 n (u n (omega arith) e) (λ i lt o. omega arith) in (
+              rw e (laws.step_is_world n (stepped m out s n) before.0 here),
+              λ k uk ne. rw e (laws.step_keeps_unused k n (stepped m out s n) before.0 here (before.1 k uk (λ i lt. ne i (omega arith)))
+                  (λ same. ne n (omega arith) e (sym same))),
+            )
+      ]
 
   module _ (done : ℕ → Bool) (s : World) (sound : Sound m done s) where
     pub known-now : (j : ℕ) → done j ≡ false → Known j s (reaches m done s j)
@@ -83,22 +75,20 @@ module _ (m : System) (laws : Laws m) where
 
     pub differ-ahead : (out : ℕ → Bool) → Covers out done → (n : ℕ) → DifferOnlyBy m (reaches m done s n) s (stepped m out s n)
     differ-ahead out covers zero a none = refl
-    differ-ahead out covers (suc n) a none = go (differ-ahead out covers n) (cases_Bool (done n)) (cases_Bool (out n))
-      where
-        go : DifferOnlyBy m (reaches m done s n) s (stepped m out s n) → (done n ≡ true) ⊎ (done n ≡ false) → (out n ≡ true) ⊎ (out n ≡ false)
-            → value s a ≡ value (stepped m out s (suc n)) a
-        go before (inl d) o =
-            before a (subst (λ rs. NoneWrites m rs a) (reaches-out m done s n d) none) ∙ ap (λ t. value t a) (sym (stepped-out m out s n (covers n d)))
-        go before (inr d) (inl o) =
-            before a ((subst (λ rs. NoneWrites m rs a) (reaches-in m done s n d) none).1) ∙ ap (λ t. value t a) (sym (stepped-out m out s n o))
-        go before (inr d) (inr o) =
-            let parts = subst (λ rs. NoneWrites m rs a) (reaches-in m done s n d) none in
-            let holds = holds-from out covers n d before in
-            let unwritten : writes (foot n (stepped m out s n)) a ≡ false =
-            unless (writes (foot n (stepped m out s n)) a) (writes (reach n s (reaches m done s n)) a) (holds.1 a) parts.0 in
-            before a parts.1
-            ∙ sym (laws.others_kept n (stepped m out s n) a ((fine out covers n).0) (unused-ahead out covers n n (omega arith) d) unwritten)
-            ∙ ap (λ t. value t a) (sym (stepped-in m out s n o))
+    differ-ahead out covers (suc n) a none = elim (cases_Bool (done n)) [
+      | inl d ↦ rw (covers n d) (differ-ahead out covers n a (rw (reaches-out m done s n d) at none))
+      | inr d ↦
+          let parts = rw (reaches-in m done s n d) at none in
+          elim (cases_Bool (out n)) [
+            | inl o ↦ rw o (differ-ahead out covers n a parts.1)
+            | inr o ↦
+                let t = stepped m out s n in
+                let holds = holds-from out covers n d (differ-ahead out covers n) in
+                let unwritten : writes (foot n t) a ≡ false = unless (writes (foot n t) a) (writes (reach n s (reaches m done s n)) a) (holds.1 a) parts.0 in
+                rw o (differ-ahead out covers n a parts.1
+                ∙ sym (laws.others_kept n t a ((fine out covers n).0) (unused-ahead out covers n n (omega arith) d) unwritten))
+          ]
+    ]
 
     -- the reach of a place holds its footprint in every world that none or some of the earlier ones leave
     pub holds-ahead : (out : ℕ → Bool) → Covers out done → (j : ℕ) → done j ≡ false
@@ -118,28 +108,21 @@ module _ (m : System) (laws : Laws m) where
     pub passes : (out : ℕ → Bool) → Covers out done → (k : ℕ) → done k ≡ false → (n : ℕ) → n ≤ k
         → ((i : ℕ) → i < n → out i ≡ false → collide (foot k s) (reach i s (reaches m done s i)) ≡ false) → Passes m out k n s
     passes out covers k d zero le clear = record { world = refl; foot = refl; reply = refl }
-    passes out covers k d (suc n) le clear = go (passes out covers k d n (omega arith) (λ i lt. clear i (omega arith))) (cases_Bool (out n))
-      where
-        t : World
-        t = stepped m out s n
-
-        go : Passes m out k n s → (out n ≡ true) ⊎ (out n ≡ false) → Passes m out k (suc n) s
-        go before (inl o) = record {
-          world = stepped-out m out (step k s) n o ∙ before.world ∙ ap (step k) (sym (stepped-out m out s n o));
-          foot = ap (foot k) (stepped-out m out s n o) ∙ before.foot;
-          reply = ap (reply k) (stepped-out m out s n o) ∙ before.reply;
-        }
-        go before (inr o) =
-            let dn : done n ≡ false = not_done out done covers n o in
-            let ne : k ≢ n = omega arith in
-            let w : IsWorld t = (fine out covers n).0 in
-            let uk : Unused k t = unused-ahead out covers k n (omega arith) d in
-            let un : Unused n t = unused-ahead out covers n n (omega arith) dn in
-            let apart : Apart m (foot k t) (foot n t) =
-            subst (λ f. Apart m f (foot n t)) (sym before.foot) (apart-ahead out covers (foot k s) n dn (clear n (omega arith) o)) in
-            let both = commute m laws.cover k n t w uk un ne apart in
-            record {
-              world = stepped-in m out (step k s) n o ∙ ap (step n) before.world ∙ both.world ∙ ap (step k) (sym (stepped-in m out s n o));
-              foot = ap (foot k) (stepped-in m out s n o) ∙ foot_kept m laws.cover n k t w un uk (λ e. ne (sym e)) (apart_swap m laws.cover (foot k t) (foot n t) apart) ∙ before.foot;
-              reply = ap (reply k) (stepped-in m out s n o) ∙ both.reply_first ∙ before.reply;
-            }
+    passes out covers k d (suc n) le clear =
+        let before = passes out covers k d n (omega arith) (λ i lt. clear i (omega arith)) in
+        elim (cases_Bool (out n)) [
+          | inl o ↦ record { world = rw o before.world; foot = rw o before.foot; reply = rw o before.reply }
+          | inr o ↦
+              let t = stepped m out s n in
+              let dn : done n ≡ false = not_done out done covers n o in
+              let w : IsWorld t = (fine out covers n).0 in
+              let uk : Unused k t = unused-ahead out covers k n (omega arith) d in
+              let un : Unused n t = unused-ahead out covers n n (omega arith) dn in
+              let apart : Apart m (foot k t) (foot n t) = rw before.foot (apart-ahead out covers (foot k s) n dn (clear n (omega arith) o)) in
+              let both = commute m laws.cover k n t w uk un (omega arith) apart in
+              record {
+                world = rw o (ap (step n) before.world ∙ both.world);
+                foot = rw o (foot_kept m laws.cover n k t w un uk (omega arith) (apart_swap m laws.cover (foot k t) (foot n t) apart) ∙ before.foot);
+                reply = rw o (both.reply_first ∙ before.reply);
+              }
+        ]

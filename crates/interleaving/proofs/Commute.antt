@@ -1,5 +1,5 @@
 -- Steps whose footprints are apart commute.
-use Rattle.std.proofs.Common.{◌≡◌, ◌≢◌, ℕ, Bool, true, false, ◌⊎◌, inl, inr, refl, sym, ◌∙◌, ap}
+use Rattle.std.proofs.Common.{◌≡◌, ◌≢◌, ℕ, Bool, true, false, inl, inr, sym, ◌∙◌, ap, arith}
 use Rattle.std.proofs.lemmas.Bool.{cases_Bool}
 use Rattle.interleaving.specs.System.{System, AgreeOn, Apart, Holds}
 use Rattle.interleaving.specs.Laws.{Cover}
@@ -7,13 +7,11 @@ use Rattle.interleaving.specs.Commuting.{ApartCommute}
 
 -- a test that would turn another one is false while that one holds
 pub turned : (b c : Bool) → (b ≡ true → c ≡ false) → c ≡ true → b ≡ false
-turned true c h t = let f = h refl in cc
-turned false c h t = refl
+turned b c h t = grind arith
 
 -- a test that would bring another one is false where that one is
 pub unless : (b c : Bool) → (b ≡ true → c ≡ true) → c ≡ false → b ≡ false
-unless true c h f = let t = h refl in cc
-unless false c h f = refl
+unless b c h f = grind arith
 
 module _ (m : System) (laws : Cover m) where
   open m use {World, Footprint, Atom, step, reply, foot, value, writes, touches, IsWorld, Unused}
@@ -33,63 +31,59 @@ module _ (m : System) (laws : Cover m) where
   kept_apart k s g w u apart a t =
       sym (laws.others_kept k s a w u (turned (writes (foot k s) a) (touches g a) (apart.0 a) t))
 
-  -- a step apart from a place's footprint leaves that footprint as it is
-  pub foot_kept : (j k : ℕ) (s : World) → IsWorld s → Unused j s → Unused k s → j ≢ k
-      → Apart m (foot j s) (foot k s) → foot k (step j s) ≡ foot k s
-  foot_kept j k s w uj uk ne apart =
-      laws.foot_same k s (step j s) w (laws.step_is_world j s w uj) uk (laws.step_keeps_unused k j s w uj uk (λ e. ne (sym e)))
-      (kept_apart j s (foot k s) w uj apart)
+  -- a step that is apart from a place's footprint: that place finds what it found before
+  module _ (j k : ℕ) (s : World) (w : IsWorld s) (uj : Unused j s) (uk : Unused k s) (ne : j ≢ k) (apart : Apart m (foot j s) (foot k s)) where
+    there : IsWorld (step j s)
+    there = laws.step_is_world j s w uj
 
-  pub reply_kept : (j k : ℕ) (s : World) → IsWorld s → Unused j s → Unused k s → j ≢ k
-      → Apart m (foot j s) (foot k s) → reply k (step j s) ≡ reply k s
-  reply_kept j k s w uj uk ne apart =
-      laws.reply_same k s (step j s) w (laws.step_is_world j s w uj) uk (laws.step_keeps_unused k j s w uj uk (λ e. ne (sym e)))
-      (kept_apart j s (foot k s) w uj apart)
+    agree : AgreeOn m (foot k s) s (step j s)
+    agree = kept_apart j s (foot k s) w uj apart
 
-  -- what one of the two writes ends alike in either order
-  one_side : (j k : ℕ) (s : World) → IsWorld s → Unused j s → Unused k s → j ≢ k → Apart m (foot j s) (foot k s)
-      → (a : Atom) → writes (foot k s) a ≡ true → value (step k (step j s)) a ≡ value (step j (step k s)) a
-  one_side j k s w uj uk ne apart a wr =
-      let same_foot : foot j (step k s) ≡ foot j s = foot_kept k j s w uk uj (λ e. ne (sym e)) (apart_swap (foot j s) (foot k s) apart) in
-      let untouched : touches (foot j s) a ≡ false = apart.1 a wr in
-      let unwritten : writes (foot j s) a ≡ false = unless (writes (foot j s) a) (touches (foot j s) a) (laws.writes_touches (foot j s) a) untouched in
-      let unwritten_later : writes (foot j (step k s)) a ≡ false = ap (λ f. writes f a) same_foot ∙ unwritten in
-      let later : value (step k s) a ≡ value (step k (step j s)) a =
-      laws.values_same k s (step j s) w (laws.step_is_world j s w uj) uk (laws.step_keeps_unused k j s w uj uk (λ e. ne (sym e)))
-      (kept_apart j s (foot k s) w uj apart) a (laws.writes_touches (foot k s) a wr) in
-      sym later ∙ sym (laws.others_kept j (step k s) a (laws.step_is_world k s w uk) (laws.step_keeps_unused j k s w uk uj ne) unwritten_later)
+    pub unused_kept : Unused k (step j s)
+    unused_kept = laws.step_keeps_unused k j s w uj uk (λ e. ne (sym e))
 
-  -- what neither writes stays
-  neither_side : (j k : ℕ) (s : World) → IsWorld s → Unused j s → Unused k s → j ≢ k → Apart m (foot j s) (foot k s)
-      → (a : Atom) → writes (foot j s) a ≡ false → writes (foot k s) a ≡ false → value (step k (step j s)) a ≡ value s a
-  neither_side j k s w uj uk ne apart a nj nk =
-      let same_foot : foot k (step j s) ≡ foot k s = foot_kept j k s w uj uk ne apart in
-      laws.others_kept k (step j s) a (laws.step_is_world j s w uj) (laws.step_keeps_unused k j s w uj uk (λ e. ne (sym e)))
-      (ap (λ f. writes f a) same_foot ∙ nk)
-      ∙ laws.others_kept j s a w uj nj
+    pub foot_kept : foot k (step j s) ≡ foot k s
+    foot_kept = laws.foot_same k s (step j s) w there uk unused_kept agree
 
-  same_values : (j k : ℕ) (s : World) → IsWorld s → Unused j s → Unused k s → j ≢ k → Apart m (foot j s) (foot k s)
-      → (a : Atom) → value (step k (step j s)) a ≡ value (step j (step k s)) a
-  same_values j k s w uj uk ne apart a = go (cases_Bool (writes (foot k s) a)) (cases_Bool (writes (foot j s) a))
-    where
-      back : Apart m (foot k s) (foot j s)
-      back = apart_swap (foot j s) (foot k s) apart
+    pub reply_kept : reply k (step j s) ≡ reply k s
+    reply_kept = laws.reply_same k s (step j s) w there uk unused_kept agree
 
-      turn : k ≢ j
-      turn e = ne (sym e)
+    pub values_kept : AgreeOn m (foot k s) (step k s) (step k (step j s))
+    values_kept = laws.values_same k s (step j s) w there uk unused_kept agree
 
-      go : (writes (foot k s) a ≡ true) ⊎ (writes (foot k s) a ≡ false) → (writes (foot j s) a ≡ true) ⊎ (writes (foot j s) a ≡ false)
-          → value (step k (step j s)) a ≡ value (step j (step k s)) a
-      go (inl wk) wj = one_side j k s w uj uk ne apart a wk
-      go (inr nk) (inl wj) = sym (one_side k j s w uk uj turn back a wj)
-      go (inr nk) (inr nj) = neither_side j k s w uj uk ne apart a nj nk ∙ sym (neither_side k j s w uk uj turn back a nk nj)
+    both_steps : IsWorld (step k (step j s))
+    both_steps = laws.step_is_world k (step j s) there unused_kept
+
+    unwritten_kept : (a : Atom) → writes (foot k s) a ≡ false → value (step k (step j s)) a ≡ value (step j s) a
+    unwritten_kept a n = laws.others_kept k (step j s) a there unused_kept (ap (λ f. writes f a) foot_kept ∙ n)
+
+  -- what one of the two writes ends as it leaves it, in either order
+  written_first : (j k : ℕ) (s : World) → IsWorld s → Unused j s → Unused k s → j ≢ k → Apart m (foot j s) (foot k s) → Apart m (foot k s) (foot j s)
+      → (a : Atom) → writes (foot j s) a ≡ true → value (step k (step j s)) a ≡ value (step j (step k s)) a
+  written_first j k s w uj uk ne apart back a wr =
+      unwritten_kept j k s w uj uk ne apart a (unless (writes (foot k s) a) (touches (foot k s) a) (laws.writes_touches (foot k s) a) (apart.0 a wr))
+      ∙ values_kept k j s w uk uj (λ e. ne (sym e)) back a (laws.writes_touches (foot j s) a wr)
 
   pub commute : ApartCommute m
   commute j k s w uj uk ne apart = record {
-    world = laws.same_world (step k (step j s)) (step j (step k s))
-        (laws.step_is_world k (step j s) (laws.step_is_world j s w uj) (laws.step_keeps_unused k j s w uj uk (λ e. ne (sym e))))
-        (laws.step_is_world j (step k s) (laws.step_is_world k s w uk) (laws.step_keeps_unused j k s w uk uj ne))
-        (same_values j k s w uj uk ne apart);
-    reply_first = reply_kept k j s w uk uj (λ e. ne (sym e)) (apart_swap (foot j s) (foot k s) apart);
+    world = laws.same_world (step k (step j s)) (step j (step k s)) (both_steps j k s w uj uk ne apart) (both_steps k j s w uk uj turn back) same_values;
+    reply_first = reply_kept k j s w uk uj turn back;
     reply_second = reply_kept j k s w uj uk ne apart;
   }
+    where
+      turn : k ≢ j
+      turn e = ne (sym e)
+
+      back : Apart m (foot k s) (foot j s)
+      back = apart_swap (foot j s) (foot k s) apart
+
+      same_values : (a : Atom) → value (step k (step j s)) a ≡ value (step j (step k s)) a
+      same_values a = elim (cases_Bool (writes (foot j s) a)) [
+        | inl wj ↦ written_first j k s w uj uk ne apart back a wj
+        | inr nj ↦ elim (cases_Bool (writes (foot k s) a)) [
+          | inl wk ↦ sym (written_first k j s w uk uj turn back apart a wk)
+          | inr nk ↦
+              unwritten_kept j k s w uj uk ne apart a nk ∙ laws.others_kept j s a w uj nj
+              ∙ sym (unwritten_kept k j s w uk uj turn back a nj ∙ laws.others_kept k s a w uk nk)
+        ]
+      ]

@@ -1,11 +1,11 @@
 -- Every legal and complete list of events gives what one place at a time gives.
-use Rattle.std.proofs.Common.{◌≡◌, ◌≢◌, ℕ, zero, suc, ◌<◌, ◌≤◌, Bool, true, false, ◌==◌, List, [], ◌∷◌, ◌++◌, Some, ◌⊎◌, inl, inr, refl, sym, ◌∙◌, ap, subst, arith}
-use Rattle.std.proofs.lemmas.Bool.{cases_Bool, cases_eq, cond-true, cond-false, eq-eqb, ne_eqb}
+use Rattle.std.proofs.Common.{◌≡◌, ◌≢◌, ℕ, zero, suc, ◌<◌, ◌≤◌, Bool, true, false, List, [], ◌∷◌, ◌++◌, Some, inl, inr, refl, sym, ◌∙◌, ap, arith}
+use Rattle.std.proofs.lemmas.Bool.{cases_Bool, cases_eq, true_from_ne_false, both_ways}
 use Rattle.interleaving.specs.System.{System, Holds, stepped, reaches, sequential}
 use Rattle.interleaving.specs.Laws.{Cover, Laws}
 use Rattle.interleaving.specs.Machine.{Event, Start, Finish, has, reply_of, State, opening, happens, run, is_free, IsLegal, AllLegal, IsComplete, IsSequential, EveryOrder, KeepsOrder, ReachesHold, ReachesShrink}
-use Rattle.interleaving.proofs.Skipping.{stepped-out, stepped-in, stepped-same, stepped-none, clear-of}
-use Rattle.interleaving.proofs.Ahead.{adding, adding-other, Sound, holds-ahead}
+use Rattle.interleaving.proofs.Skipping.{stepped-same, stepped-none, clear-of}
+use Rattle.interleaving.proofs.Ahead.{adding-other, Sound, holds-ahead}
 use Rattle.interleaving.proofs.Finish.{not_added, sound_after, clear_after, end_after, reply_ahead, reply_after, holds_after}
 
 -- what is kept from event to event
@@ -19,34 +19,31 @@ pub record OnCourse (m : System) (n : ℕ) (s : State m) : Type 0 where
   pub kept : (j : ℕ) → has s.finished j ≡ true → reply_of s.replies j ≡ Some (m.reply j (sequential m j))
 
 pub reply-here : {R : Type 0} (k : ℕ) (r : R) (ps : List (ℕ × R)) → reply_of ((k, r) ∷ ps) k ≡ Some r
-reply-here k r ps = cond-true (k == k) (Some r) (reply_of ps k) (eq-eqb k k refl)
+reply-here k r ps = grind arith
 
 pub reply-other : {R : Type 0} (j k : ℕ) (r : R) (ps : List (ℕ × R)) → j ≢ k → reply_of ((k, r) ∷ ps) j ≡ reply_of ps j
-reply-other j k r ps ne = cond-false (j == k) (Some r) (reply_of ps j) (ne_eqb j k ne)
+reply-other j k r ps ne = grind arith
 
 module _ (m : System) (laws : Cover m) where
   pub before_stepped : (out : ℕ → Bool) (j n : ℕ) → n ≤ j → m.IsWorld (stepped m out m.start n) × m.IsBefore j (stepped m out m.start n)
   before_stepped out j zero le = (laws.start_is_world, laws.start_is_before j)
-  before_stepped out j (suc n) le = go (before_stepped out j n (omega arith)) (before_stepped out n n (omega arith)) (cases_Bool (out n))
-    where
-      t : m.World
-      t = stepped m out m.start n
-
-      go : m.IsWorld t × m.IsBefore j t → m.IsWorld t × m.IsBefore n t → (out n ≡ true) ⊎ (out n ≡ false)
-          → m.IsWorld (stepped m out m.start (suc n)) × m.IsBefore j (stepped m out m.start (suc n))
-      go b bn (inl o) = (subst m.IsWorld (sym (stepped-out m out m.start n o)) b.0, subst (m.IsBefore j) (sym (stepped-out m out m.start n o)) b.1)
-      go b bn (inr o) =
-          let u : m.Unused n t = laws.before_unused n t bn.1 in (
-            subst m.IsWorld (sym (stepped-in m out m.start n o)) (laws.step_is_world n t b.0 u),
-            subst (m.IsBefore j) (sym (stepped-in m out m.start n o)) (laws.step_is_before j n t b.0 u le b.1),
-          )
+  before_stepped out j (suc n) le =
+      let b = before_stepped out j n (omega arith) in
+      let t = stepped m out m.start n in
+      let u : m.Unused n t = laws.before_unused n t ((before_stepped out n n (omega arith)).1) in
+      elim (cases_Bool (out n)) [
+        | inl o ↦ rw o b
+        | inr o ↦ rw o (laws.step_is_world n t b.0 u, laws.step_is_before j n t b.0 u le b.1)
+      ]
 
 module _ (m : System) (laws : Laws m) where
   pub sound_at_start : Sound m (λ k. false) m.start
   sound_at_start = record {
     world = laws.start_is_world;
     unused = λ j d. laws.before_unused j m.start (laws.start_is_before j);
-    known = λ j d out covers. let b = before_stepped m laws.cover out j j (omega arith) in laws.before_known j (stepped m out m.start j) (reaches m (λ k. false) m.start j) b.0 b.1;
+    known = λ j d out covers.
+        let b = before_stepped m laws.cover out j j (omega arith) in
+        laws.before_known j (stepped m out m.start j) (reaches m (λ k. false) m.start j) b.0 b.1;
   }
 
   pub on_course_at_start : (n : ℕ) → OnCourse m n (opening m)
@@ -61,21 +58,26 @@ module _ (m : System) (laws : Laws m) where
   pub on_course_next : (n : ℕ) (s : State m) (e : Event) → OnCourse m n s → IsLegal m n s e → OnCourse m n (happens m s e)
   on_course_next n s (Start k) c legal = record {
     sound = c.sound;
-    free = λ j. go j (cases_eq j k);
+    free = λ j st fin. elim (cases_eq j k) [
+      | inl e ↦ rw e (legal.0, legal.2)
+      | inr ne ↦ c.free j (sym (adding-other (has s.started) k j ne) ∙ st) fin
+    ];
     end = c.end;
     to_come = c.to_come;
     kept = c.kept;
   }
-    where
-      go : (j : ℕ) → (j ≡ k) ⊎ (j ≢ k) → adding (has s.started) k j ≡ true → has s.finished j ≡ false → (j < n) × (is_free m s j ≡ true)
-      go j (inr ne) st fin = c.free j (sym (adding-other (has s.started) k j ne) ∙ st) fin
-      go j (inl e) st fin = subst (λ i. (i < n) × (is_free m s i ≡ true)) (sym e) (legal.0, legal.2)
   on_course_next n s (Finish k) c legal = record {
     sound = sound_after m laws done s.world c.sound k legal.1 free.1;
-    free = rest;
+    free = λ j st o.
+        let other = not_added done k j o in
+        let mine = c.free j st other.1 in
+        (mine.0, clear_after m laws done s.world c.sound k legal.1 free.1 j other.0 other.1 mine.1);
     end = end_after m laws done s.world c.sound k legal.1 free.1 n free.0 ∙ c.end;
     to_come = λ j o. reply_after m laws done s.world c.sound k legal.1 free.1 j o ∙ c.to_come j ((not_added done k j o).1);
-    kept = λ j. kept_next j (cases_eq j k);
+    kept = λ j o. elim (cases_eq j k) [
+      | inl e ↦ rw e (reply-here k r s.replies ∙ ap Some (reply_ahead m laws done s.world c.sound k legal.1 free.1 ∙ c.to_come k legal.1))
+      | inr ne ↦ reply-other j k r s.replies ne ∙ c.kept j (sym (adding-other done k j ne) ∙ o)
+    ];
   }
     where
       done : ℕ → Bool
@@ -84,19 +86,8 @@ module _ (m : System) (laws : Laws m) where
       free : (k < n) × (is_free m s k ≡ true)
       free = c.free k legal.0 legal.1
 
-      rest : (j : ℕ) → has s.started j ≡ true → adding done k j ≡ false → (j < n) × (is_free m (happens m s (Finish k)) j ≡ true)
-      rest j st o =
-          let other = not_added done k j o in
-          let mine = c.free j st other.1 in
-          (mine.0, clear_after m laws done s.world c.sound k legal.1 free.1 j other.0 other.1 mine.1)
-
       r : m.Reply
       r = m.reply k s.world
-
-      kept_next : (j : ℕ) → (j ≡ k) ⊎ (j ≢ k) → adding done k j ≡ true → reply_of ((k, r) ∷ s.replies) j ≡ Some (m.reply j (sequential m j))
-      kept_next j (inr ne) o = reply-other j k r s.replies ne ∙ c.kept j (sym (adding-other done k j ne) ∙ o)
-      kept_next j (inl e) o = subst (λ i. reply_of ((k, r) ∷ s.replies) i ≡ Some (m.reply i (sequential m i))) (sym e)
-          (reply-here k r s.replies ∙ ap Some (reply_ahead m laws done s.world c.sound k legal.1 free.1 ∙ c.to_come k legal.1))
 
   pub on_course : (n : ℕ) (s : State m) (es : List Event) → OnCourse m n s → AllLegal m n s es → OnCourse m n (run m s es)
   on_course n s [] c legal = c
@@ -132,19 +123,12 @@ module _ (m : System) (laws : Laws m) where
       let parts = legal_parts n (opening m) es (e ∷ []) legal in
       shrink_next n (run m (opening m) es) e (on_course n (opening m) es (on_course_at_start n) parts.0) parts.1.0 j d
 
+  -- where the footprint of a place always collides with an earlier reach, it is free only once that place has finished
+  pub finished_before : (s : State m) (i k : ℕ) → i < k → ((t : m.World) (rs : List m.Footprint) → m.collide (m.foot k t) (m.reach i t rs) ≡ true)
+      → is_free m s k ≡ true → has s.finished i ≡ true
+  finished_before s i k lt meets free = true_from_ne_false (has s.finished i) (λ e. both_ways true
+      (sym (meets s.world (reaches m (has s.finished) s.world i)) ∙ clear-of m (m.foot k s.world) (has s.finished) s.world k free i lt e) refl)
+
   pub keeps_order_lem : KeepsOrder m
-  keeps_order_lem n i k lt meets before after legal = go (cases_Bool (has s.finished i))
-    where
-      s : State m
-      s = run m (opening m) before
-
-      parts : AllLegal m n (opening m) before × AllLegal m n s (Start k ∷ after)
-      parts = legal_parts n (opening m) before (Start k ∷ after) legal
-
-      go : (has s.finished i ≡ true) ⊎ (has s.finished i ≡ false) → has s.finished i ≡ true
-      go (inl e) = e
-      go (inr e) =
-          let free = parts.1.0.2 in
-          let clash : true ≡ false =
-          sym (meets s.world (reaches m (has s.finished) s.world i)) ∙ clear-of m (m.foot k s.world) (has s.finished) s.world k free i lt e in
-          (cc)
+  keeps_order_lem n i k lt meets before after legal =
+      finished_before (run m (opening m) before) i k lt meets ((legal_parts n (opening m) before (Start k ∷ after) legal).1.0.2)

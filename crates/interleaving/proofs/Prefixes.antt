@@ -1,6 +1,6 @@
 -- Rounds that never overtake give what one place at a time gives.
-use Rattle.std.proofs.Common.{◌≡◌, ◌≢◌, ℕ, zero, suc, ◌+◌, ◌<◌, ◌≤◌, min, Bool, true, false, if◌then◌else◌, List, [], ◌∷◌, ◌++◌, take, length, Some, ◌⊎◌, inl, inr, refl, sym, ◌∙◌, ap, subst, arith}
-use Rattle.std.proofs.lemmas.Bool.{cases_eq, false_from_ne_true}
+use Rattle.std.proofs.Common.{◌≡◌, ◌≢◌, ℕ, zero, suc, ◌+◌, ◌<◌, ◌≤◌, min, Bool, true, false, List, [], ◌∷◌, ◌++◌, take, length, Some, inl, inr, refl, sym, ◌∙◌, ap, subst, arith}
+use Rattle.std.proofs.lemmas.Bool.{cases_Bool, cases_eq, false_from_ne_true}
 use Rattle.std.proofs.lemmas.List.{length-append, length-take}
 use Rattle.interleaving.specs.System.{System, Apart, is_clear, sequential}
 use Rattle.interleaving.specs.Laws.{Cover}
@@ -11,7 +11,8 @@ use Rattle.interleaving.specs.Prefix.{apart_prefix, prefix, prefix_rounds, Prefi
 use Rattle.interleaving.proofs.Commute.{apart_swap}
 use Rattle.interleaving.proofs.Skipping.{clear-tail}
 use Rattle.interleaving.proofs.Orders.{before_stepped, reply-here, reply-other}
-use Rattle.interleaving.proofs.Members.{has-here, has-other, has-later, has-cases, pending-in, pending-none}
+use Rattle.interleaving.proofs.Members.{has-other, has-cases, pending-in, pending-none}
+use Rattle.interleaving.proofs.Onwards.{ran}
 
 -- numbers that count up from d
 abbrev pub CountsFrom : ℕ → List ℕ → Type 0
@@ -29,16 +30,12 @@ counts-take (suc w) d (k ∷ ks) h = (h.0, counts-take w (suc d) ks h.1)
 
 counts-above : (d k : ℕ) (ks : List ℕ) → CountsFrom d ks → has ks k ≡ true → d ≤ k
 counts-above d k [] h m = (cc)
-counts-above d k (x ∷ ks) h m = go (counts-above (suc d) k ks h.1) (has-cases k x ks m)
-  where
-    go : (has ks k ≡ true → suc d ≤ k) → (k ≡ x) ⊎ (has ks k ≡ true) → d ≤ k
-    go later (inl e) = let same : x ≡ d = h.0 in omega arith
-    go later (inr f) = let less : suc d ≤ k = later f in omega arith
+counts-above d k (x ∷ ks) h m = grind (arith, counts-above (suc d) k ks h.1)
 
 counts-different : (d : ℕ) (ks : List ℕ) → CountsFrom d ks → AllDifferent ks
 counts-different d [] h = tt
 counts-different d (k ∷ ks) h = (
-  false_from_ne_true (has ks k) (λ f. let less : suc d ≤ k = counts-above (suc d) k ks h.1 f in let same : k ≡ d = h.0 in omega arith),
+  false_from_ne_true (has ks k) (λ f. absurd (omega (arith, counts-above (suc d) k ks h.1 f, h.0))),
   counts-different (suc d) ks h.1,
 )
 
@@ -46,21 +43,13 @@ counts-different d (k ∷ ks) h = (
 pending-counts : (done : ℕ → Bool) (d n : ℕ) → ((k : ℕ) → k < d → done k ≡ true) → ((k : ℕ) → d ≤ k → done k ≡ false) → d ≤ n
     → CountsFrom d (pending done n) × (d + length (pending done n) ≡ n)
 pending-counts done d zero below above le = (tt, omega arith)
-pending-counts done d (suc n) below above le = go (pending-counts done d n below above) (cases_eq d (suc n))
-  where
-    go : (d ≤ n → CountsFrom d (pending done n) × (d + length (pending done n) ≡ n)) → (d ≡ suc n) ⊎ (d ≢ suc n)
-        → CountsFrom d (pending done (suc n)) × (d + length (pending done (suc n)) ≡ suc n)
-    go before (inl e) =
-        let none : pending done (suc n) ≡ [] = pending-none done (suc n) (λ k lt. below k (omega arith)) in (
-          subst (CountsFrom d) (sym none) tt,
-          ap (λ ks. d + length ks) none ∙ omega arith,
-        )
-    go before (inr ne) =
-        let found = before (omega arith) in
-        let more : pending done (suc n) ≡ pending done n ++ (n ∷ []) = pending-in done n (above n (omega arith)) in (
-          subst (CountsFrom d) (sym more) (counts-snoc d (pending done n) n found.0 (sym found.1)),
-          ap (λ ks. d + length ks) more ∙ ap (λ l. d + l) (length-append (pending done n) (n ∷ [])) ∙ omega (arith, found.1),
-        )
+pending-counts done d (suc n) below above le = elim (cases_eq d (suc n)) [
+  | inl e ↦ rw (pending-none done (suc n) (λ k lt. below k (omega arith))) (tt, omega arith)
+  | inr ne ↦
+      let found = pending-counts done d n below above (omega arith) in
+      rw (pending-in done n (above n (omega arith)), length-append (pending done n) (n ∷ []))
+      (counts-snoc d (pending done n) n found.0 (sym found.1), omega (arith, found.1))
+]
 
 -- d places are done, in order
 pub record DoneTo (m : System) (d : ℕ) (s : State m) : Type 0 where
@@ -72,48 +61,30 @@ pub record DoneTo (m : System) (d : ℕ) (s : State m) : Type 0 where
 module _ (m : System) (laws : Cover m) where
   done_one : (d : ℕ) (s : State m) → DoneTo m d s → DoneTo m (suc d) (happens m (happens m s (Start d)) (Finish d))
   done_one d s c = record {
-    below = λ k lt. go_below k (cases_eq k d) lt;
+    below = λ k lt. grind (arith, c.below k);
     above = λ k le. has-other k d s.finished (omega arith) ∙ c.above k (omega arith);
     world = ap (m.step d) c.world;
-    kept = λ k lt. go_kept k (cases_eq k d) lt;
+    kept = λ k lt. elim (cases_eq k d) [
+      | inl e ↦ rw e (reply-here d (m.reply d s.world) s.replies ∙ ap (λ t. Some (m.reply d t)) c.world)
+      | inr ne ↦ reply-other k d (m.reply d s.world) s.replies ne ∙ c.kept k (omega arith)
+    ];
   }
-    where
-      go_below : (k : ℕ) → (k ≡ d) ⊎ (k ≢ d) → k < suc d → has (d ∷ s.finished) k ≡ true
-      go_below k (inr ne) lt = has-later k d s.finished (c.below k (omega arith))
-      go_below k (inl e) lt = ap (has (d ∷ s.finished)) e ∙ has-here d s.finished
-
-      r : m.Reply
-      r = m.reply d s.world
-
-      go_kept : (k : ℕ) → (k ≡ d) ⊎ (k ≢ d) → k < suc d → reply_of ((d, r) ∷ s.replies) k ≡ Some (m.reply k (sequential m k))
-      go_kept k (inr ne) lt = reply-other k d r s.replies ne ∙ c.kept k (omega arith)
-      go_kept k (inl e) lt = subst (λ i. reply_of ((d, r) ∷ s.replies) i ≡ Some (m.reply i (sequential m i))) (sym e)
-          (reply-here d r s.replies ∙ ap (λ t. Some (m.reply d t)) c.world)
 
   done_more : (ks : List ℕ) (d : ℕ) (s : State m) → CountsFrom d ks → DoneTo m d s → DoneTo m (d + length ks) (run m s (in_turn ks))
   done_more [] d s h c = subst (λ i. DoneTo m i s) (omega arith) c
   done_more (k ∷ ks) d s h c =
-      let t : State m = happens m (happens m s (Start k)) (Finish k) in
-      let one : DoneTo m (suc d) t = subst (λ i. DoneTo m (suc d) (happens m (happens m s (Start i)) (Finish i))) (sym h.0) (done_one d s c) in
-      subst (λ i. DoneTo m i (run m t (in_turn ks))) (omega arith) (done_more ks (suc d) t h.1 one)
+      subst (λ i. DoneTo m i (run m (ran m s k) (in_turn ks))) (omega arith) (done_more ks (suc d) (ran m s k) h.1 (rw h.0 (done_one d s c)))
 
   prefix-counts : (s : m.World) (fs : List m.Footprint) (d : ℕ) (ks : List ℕ) → CountsFrom d ks → CountsFrom d (apart_prefix m s fs ks)
   prefix-counts s fs d [] h = tt
-  prefix-counts s fs d (k ∷ ks) h = go (prefix-counts s (m.foot k s ∷ fs) (suc d) ks h.1) (is_clear m (m.foot k s) fs)
-    where
-      go : CountsFrom (suc d) (apart_prefix m s (m.foot k s ∷ fs) ks) → (b : Bool)
-          → CountsFrom d (if b then k ∷ apart_prefix m s (m.foot k s ∷ fs) ks else [])
-      go later true = (h.0, later)
-      go later false = tt
+  prefix-counts s fs d (k ∷ ks) h = elim (cases_Bool (is_clear m (m.foot k s) fs)) [
+    | inl e ↦ rw e (h.0, prefix-counts s (m.foot k s ∷ fs) (suc d) ks h.1)
+    | inr e ↦ rw e tt
+  ]
 
   prefix-fits : (s : m.World) (fs : List m.Footprint) (ks : List ℕ) → length (apart_prefix m s fs ks) ≤ length ks
   prefix-fits s fs [] = omega arith
-  prefix-fits s fs (k ∷ ks) = go (prefix-fits s (m.foot k s ∷ fs) ks) (is_clear m (m.foot k s) fs)
-    where
-      go : length (apart_prefix m s (m.foot k s ∷ fs) ks) ≤ length ks → (b : Bool)
-          → length (if b then k ∷ apart_prefix m s (m.foot k s ∷ fs) ks else []) ≤ suc (length ks)
-      go later true = omega arith
-      go later false = omega arith
+  prefix-fits s fs (k ∷ ks) = grind (arith, prefix-fits s (m.foot k s ∷ fs) ks)
 
   -- a round goes on by one place at least
   prefix-some : (w : ℕ) (s : m.World) (ks : List ℕ) → 1 ≤ w → 1 ≤ length ks → 1 ≤ length (apart_prefix m s [] (take w ks))
@@ -147,11 +118,7 @@ module _ (m : System) (laws : Cover m) where
       (later.0, later.1, later.2, λ one many. later.3 one (goes (here.4 one) here.2 many))
     where
       goes : {e : ℕ} → (d < n → d < e) → d ≤ e → n ≤ d + suc r → n ≤ e + r
-      goes {e} more up many = go (cases_eq d n)
-        where
-          go : (d ≡ n) ⊎ (d ≢ n) → n ≤ e + r
-          go (inr ne) = let less : d < e = more (omega arith) in omega arith
-          go (inl same) = omega arith
+      goes {e} more up many = grind (arith, more)
 
   done_none : DoneTo m 0 (opening m)
   done_none = record { below = λ k lt. absurd (omega arith); above = λ k le. refl; world = refl; kept = λ k lt. absurd (omega arith) }
@@ -166,22 +133,24 @@ module _ (m : System) (laws : Cover m) where
   -- each place of a prefix is clear of what stands before it
   prefix-clear : (s : m.World) (fs : List m.Footprint) (ks : List ℕ) (k : ℕ) → has (apart_prefix m s fs ks) k ≡ true → is_clear m (m.foot k s) fs ≡ true
   prefix-clear s fs [] k h = (cc)
-  prefix-clear s fs (x ∷ ks) k h = go (prefix-clear s (m.foot x s ∷ fs) ks k) (is_clear m (m.foot x s) fs) refl h
-    where
-      go : (has (apart_prefix m s (m.foot x s ∷ fs) ks) k ≡ true → is_clear m (m.foot k s) (m.foot x s ∷ fs) ≡ true)
-          → (b : Bool) → is_clear m (m.foot x s) fs ≡ b
-          → has (if b then x ∷ apart_prefix m s (m.foot x s ∷ fs) ks else []) k ≡ true → is_clear m (m.foot k s) fs ≡ true
-      go later false e f = (cc)
-      go later true e f = at (has-cases k x (apart_prefix m s (m.foot x s ∷ fs) ks) f)
-        where
-          at : (k ≡ x) ⊎ (has (apart_prefix m s (m.foot x s ∷ fs) ks) k ≡ true) → is_clear m (m.foot k s) fs ≡ true
-          at (inl same) = ap (λ i. is_clear m (m.foot i s) fs) same ∙ e
-          at (inr g) = (clear-tail m (m.foot k s) (m.foot x s) fs (later g)).1
+  prefix-clear s fs (x ∷ ks) k h = grind (arith, prefix-clear s (m.foot x s ∷ fs) ks k)
 
   prefix-apart : (s : m.World) (fs : List m.Footprint) (ks : List ℕ) (j k : ℕ) → has (apart_prefix m s fs ks) j ≡ true → has (apart_prefix m s fs ks) k ≡ true
       → j ≢ k → Apart m (m.foot j s) (m.foot k s)
   prefix-apart s fs [] j k hj hk ne = (cc)
-  prefix-apart s fs (x ∷ ks) j k hj hk ne = go (prefix-apart s (m.foot x s ∷ fs) ks j k) (is_clear m (m.foot x s) fs) hj hk
+  prefix-apart s fs (x ∷ ks) j k hj hk ne = elim (cases_Bool (is_clear m (m.foot x s) fs)) [
+    | inl e ↦ elim (has-cases j x rest (rw e at hj)) [
+      | inl ej ↦ elim (has-cases k x rest (rw e at hk)) [
+        | inl ek ↦ absurd (ne (ej ∙ sym ek))
+        | inr gk ↦ rw ej (apart_swap m laws (m.foot k s) (m.foot x s) (apart_first k gk))
+      ]
+      | inr gj ↦ elim (has-cases k x rest (rw e at hk)) [
+        | inl ek ↦ rw ek (apart_first j gj)
+        | inr gk ↦ prefix-apart s (m.foot x s ∷ fs) ks j k gj gk ne
+      ]
+    ]
+    | inr e ↦ let none : has [] j ≡ true = rw e at hj in (cc)
+  ]
     where
       rest : List ℕ
       rest = apart_prefix m s (m.foot x s ∷ fs) ks
@@ -189,17 +158,6 @@ module _ (m : System) (laws : Cover m) where
       apart_first : (i : ℕ) → has rest i ≡ true → Apart m (m.foot i s) (m.foot x s)
       apart_first i h = laws.apart_from_collide (m.foot i s) (m.foot x s)
           ((clear-tail m (m.foot i s) (m.foot x s) fs (prefix-clear s (m.foot x s ∷ fs) ks i h)).0)
-
-      go : (has rest j ≡ true → has rest k ≡ true → j ≢ k → Apart m (m.foot j s) (m.foot k s)) → (b : Bool)
-          → has (if b then x ∷ rest else []) j ≡ true → has (if b then x ∷ rest else []) k ≡ true → Apart m (m.foot j s) (m.foot k s)
-      go later false fj fk = (cc)
-      go later true fj fk = at (has-cases j x rest fj) (has-cases k x rest fk)
-        where
-          at : (j ≡ x) ⊎ (has rest j ≡ true) → (k ≡ x) ⊎ (has rest k ≡ true) → Apart m (m.foot j s) (m.foot k s)
-          at (inl ej) (inl ek) = absurd (ne (ej ∙ sym ek))
-          at (inl ej) (inr gk) = subst (λ i. Apart m (m.foot i s) (m.foot k s)) (sym ej) (apart_swap m laws (m.foot k s) (m.foot x s) (apart_first k gk))
-          at (inr gj) (inl ek) = subst (λ i. Apart m (m.foot j s) (m.foot i s)) (sym ek) (apart_first j gj)
-          at (inr gj) (inr gk) = later gj gk ne
 
   prefix_side : (n w d : ℕ) (s : State m) → DoneTo m d s → d ≤ n → SideBySide m s.world (prefix m n w s)
   prefix_side n w d s c le = record {

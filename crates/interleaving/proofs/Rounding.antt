@@ -1,17 +1,17 @@
 -- Rounds are legal, and give what one place at a time gives.
-use Rattle.std.proofs.Common.{◌≡◌, ◌≢◌, ℕ, zero, suc, ◌+◌, ◌<◌, ◌≤◌, true, false, List, [], ◌∷◌, ◌++◌, length, ◌⊎◌, inl, inr, refl, sym, ◌∙◌, ap, arith}
-use Rattle.std.proofs.lemmas.Bool.{cases_Bool, cases_eq, false_from_ne_true}
+use Rattle.std.proofs.Common.{◌≡◌, ◌≢◌, ℕ, zero, suc, ◌+◌, ◌<◌, ◌≤◌, true, false, List, [], ◌∷◌, ◌++◌, length, inl, inr, refl, sym, ◌∙◌, ap, arith}
+use Rattle.std.proofs.lemmas.Bool.{cases_Bool, cases_eq, false_from_ne_true, both_ways}
 use Rattle.interleaving.specs.System.{System, reaches, is_clear}
 use Rattle.interleaving.specs.Laws.{Laws}
 use Rattle.interleaving.specs.Machine.{Event, Start, Finish, has, State, opening, happens, run, is_free, IsLegal, AllLegal}
 use Rattle.interleaving.specs.Gather.{AllDifferent, SideBySide, in_order}
 use Rattle.interleaving.specs.Rounds.{in_turn, joined, chosen, round, rounds, AreOf, IsRound, AreRounds, RoundsAreLegal, RoundsAreSequential, RoundsAreGathered, RoundsGoOn, RoundsKeepOrder}
 use Rattle.interleaving.proofs.Skipping.{clear-of, reaches-none}
-use Rattle.interleaving.proofs.Ahead.{adding, holds-now}
+use Rattle.interleaving.proofs.Ahead.{holds-now}
 use Rattle.interleaving.proofs.Finish.{not_added, clear_after, clear_apart, reply_ahead}
-use Rattle.interleaving.proofs.Orders.{OnCourse, on_course_at_start, on_course_next, end_of}
+use Rattle.interleaving.proofs.Orders.{OnCourse, on_course_at_start, on_course_next, end_of, finished_before}
 use Rattle.interleaving.proofs.Members.{has-here, has-other, has-later, has-different, different-choice, first-chosen, first_open, has-cases, has-choice}
-use Rattle.interleaving.proofs.Onwards.{run-append, stays_finished}
+use Rattle.interleaving.proofs.Onwards.{ran, run-append, stays_finished, ends_finished, chosen_open}
 
 -- what is kept within a round of the places ks
 pub record InRound (m : System) (n : ℕ) (ks : List ℕ) (s : State m) : Type 0 where
@@ -22,36 +22,26 @@ pub record InRound (m : System) (n : ℕ) (ks : List ℕ) (s : State m) : Type 0
 module _ (m : System) (laws : Laws m) where
   next_in_round : (n : ℕ) (ks : List ℕ) (s : State m) (e : Event) → InRound m n ks s → AreOf m ks s (e ∷ [])
       → IsLegal m n s e × InRound m n ks (happens m s e)
-  next_in_round n ks s (Start k) c of_round = (legal, record { on = on_course_next m laws n s (Start k) c.on legal; begun = begun; free = c.free })
-    where
-      unfinished : has s.finished k ≡ false
-      unfinished = false_from_ne_true (has s.finished k) (λ f. let both : true ≡ false = sym (c.begun k f) ∙ of_round.1 in (cc))
-
-      legal : IsLegal m n s (Start k)
-      legal = let free = c.free k of_round.0 unfinished in (free.0, of_round.1, free.1)
-
-      begun : (j : ℕ) → has s.finished j ≡ true → has (k ∷ s.started) j ≡ true
-      begun j f = has-later j k s.started (c.begun j f)
-  next_in_round n ks s (Finish k) c of_round = (legal, record { on = on_course_next m laws n s (Finish k) c.on legal; begun = begun; free = rest })
-    where
-      legal : IsLegal m n s (Finish k)
-      legal = (of_round.0, of_round.1)
-
-      mine : (k < n) × (is_free m s k ≡ true)
-      mine = c.on.free k of_round.0 of_round.1
-
-      begun : (j : ℕ) → has (k ∷ s.finished) j ≡ true → has s.started j ≡ true
-      begun j f = go (has-cases j k s.finished f)
-        where
-          go : (j ≡ k) ⊎ (has s.finished j ≡ true) → has s.started j ≡ true
-          go (inl e) = ap (has s.started) e ∙ of_round.0
-          go (inr g) = c.begun j g
-
-      rest : (j : ℕ) → has ks j ≡ true → adding (has s.finished) k j ≡ false → (j < n) × (is_free m (happens m s (Finish k)) j ≡ true)
-      rest j h o =
-          let other = not_added (has s.finished) k j o in
-          let free = c.free j h other.1 in
-          (free.0, clear_after m laws (has s.finished) s.world c.on.sound k of_round.1 mine.1 j other.0 other.1 free.1)
+  next_in_round n ks s (Start k) c of_round =
+      let unfinished = false_from_ne_true (has s.finished k) (λ f. both_ways (has s.started k) of_round.1 (c.begun k f)) in
+      let free = c.free k of_round.0 unfinished in
+      let legal : IsLegal m n s (Start k) = (free.0, of_round.1, free.1) in (
+        legal,
+        record { on = on_course_next m laws n s (Start k) c.on legal; begun = λ j f. has-later j k s.started (c.begun j f); free = c.free },
+      )
+  next_in_round n ks s (Finish k) c of_round =
+      let legal : IsLegal m n s (Finish k) = (of_round.0, of_round.1) in
+      let mine = c.on.free k of_round.0 of_round.1 in (
+        legal,
+        record {
+          on = on_course_next m laws n s (Finish k) c.on legal;
+          begun = λ j f. elim (has-cases j k s.finished f) [ inl e ↦ rw e of_round.0 | inr g ↦ c.begun j g ];
+          free = λ j h o.
+              let other = not_added (has s.finished) k j o in
+              let free = c.free j h other.1 in
+              (free.0, clear_after m laws (has s.finished) s.world c.on.sound k of_round.1 mine.1 j other.0 other.1 free.1);
+        },
+      )
 
   first_of_round : (ks : List ℕ) (s : State m) (e : Event) (es : List Event) → AreOf m ks s (e ∷ es) → AreOf m ks s (e ∷ []) × AreOf m ks (happens m s e) es
   first_of_round ks s (Start k) es h = ((h.0, h.1, tt), h.2)
@@ -89,24 +79,22 @@ module _ (m : System) (laws : Laws m) where
       (ap (is_clear m (m.foot r s.world)) (reaches-none m (has s.finished) s.world r all))
 
   pub go_on_lem : RoundsGoOn m
-  go_on_lem n w s k le lt d = go (first_open (has s.finished) n)
-    where
-      go : ((j : ℕ) → j < n → has s.finished j ≡ true)
-          ⊎ ((r : ℕ) × (r < n) × (has s.finished r ≡ false) × ((j : ℕ) → j < r → has s.finished j ≡ true))
-          → (j : ℕ) × (has (chosen m n w s) j ≡ true)
-      go (inl all) = let both : true ≡ false = sym (all k lt) ∙ d in (cc)
-      go (inr found) = (found.0, first_is_chosen n w s found.0 le found.3 found.2 found.1)
+  go_on_lem n w s k le lt d = elim (first_open (has s.finished) n) [
+    | inl all ↦ let both : true ≡ false = sym (all k lt) ∙ d in (cc)
+    | inr found ↦ (found.0, first_is_chosen n w s found.0 le found.3 found.2 found.1)
+  ]
 
   -- so each round finishes one more of the first places
   one_more : (n w d : ℕ) (s : State m) (es : List Event) → 1 ≤ w → ((k : ℕ) → k < n → k < d → has s.finished k ≡ true)
       → ((k : ℕ) → has (chosen m n w s) k ≡ true → has (run m s es).finished k ≡ true)
       → (k : ℕ) → k < n → k < suc d → has (run m s es).finished k ≡ true
-  one_more n w d s es le all ends k lt less = go (cases_Bool (has s.finished k)) (cases_eq k d)
-    where
-      go : (has s.finished k ≡ true) ⊎ (has s.finished k ≡ false) → (k ≡ d) ⊎ (k ≢ d) → has (run m s es).finished k ≡ true
-      go (inl f) same = stays_finished m s es k f
-      go (inr f) (inr ne) = let both : true ≡ false = sym (all k lt (omega arith)) ∙ f in (cc)
-      go (inr f) (inl e) = ends k (first_is_chosen n w s k le (λ j l. all j (omega arith) (omega arith)) f lt)
+  one_more n w d s es le all ends k lt less = elim (cases_Bool (has s.finished k)) [
+    | inl f ↦ stays_finished m s es k f
+    | inr f ↦ elim (cases_eq k d) [
+      | inl e ↦ ends k (first_is_chosen n w s k le (λ j l. all j (omega arith) (omega arith)) f lt)
+      | inr ne ↦ let both : true ≡ false = sym (all k lt (omega arith)) ∙ f in (cc)
+    ]
+  ]
 
   rounds_legal : (n w d : ℕ) (ks : List ℕ) (s : State m) (rs : List (List Event)) → 1 ≤ w → InRound m n ks s
       → ((k : ℕ) → k < n → k < d → has s.finished k ≡ true) → AreRounds m n w s rs
@@ -130,44 +118,28 @@ module _ (m : System) (laws : Laws m) where
       → AreOf m ks s (in_turn js) × ((j : ℕ) → has js j ≡ true → has (run m s (in_turn js)).finished j ≡ true)
   in_turn_of ks [] s diff sub st fin = (tt, λ j h. (cc))
   in_turn_of ks (k ∷ js) s diff sub st fin =
-      let t : State m = happens m (happens m s (Start k)) (Finish k) in
       let ne : (j : ℕ) → has js j ≡ true → j ≢ k = λ j h. has-different j k js diff.0 h in
-      let later = in_turn_of ks js t diff.1 (λ j h. sub j (has-later j k js h))
+      let later = in_turn_of ks js (ran m s k) diff.1 (λ j h. sub j (has-later j k js h))
       (λ j h. has-other j k s.started (ne j h) ∙ st j (has-later j k js h))
       (λ j h. has-other j k s.finished (ne j h) ∙ fin j (has-later j k js h)) in (
         (sub k (has-here k js), st k (has-here k js), (has-here k s.started, fin k (has-here k js), later.0)),
-        λ j h. ends j h later.1 (has-cases j k js h),
+        λ j h. ends_finished m (k ∷ js) s j h,
       )
-    where
-      t : State m
-      t = happens m (happens m s (Start k)) (Finish k)
-
-      ends : (j : ℕ) → has (k ∷ js) j ≡ true → ((i : ℕ) → has js i ≡ true → has (run m t (in_turn js)).finished i ≡ true)
-          → (j ≡ k) ⊎ (has js j ≡ true) → has (run m t (in_turn js)).finished j ≡ true
-      ends j h later (inl e) = stays_finished m t (in_turn js) j (ap (has (k ∷ s.finished)) e ∙ has-here k s.finished)
-      ends j h later (inr g) = later j g
 
   in_turn_settled : (js : List ℕ) (s : State m) → ((j : ℕ) → has s.started j ≡ true → has s.finished j ≡ true)
       → (j : ℕ) → has (run m s (in_turn js)).started j ≡ true → has (run m s (in_turn js)).finished j ≡ true
   in_turn_settled [] s h = h
-  in_turn_settled (k ∷ js) s h = in_turn_settled js (happens m (happens m s (Start k)) (Finish k)) after
-    where
-      after : (j : ℕ) → has (k ∷ s.started) j ≡ true → has (k ∷ s.finished) j ≡ true
-      after j st = go (has-cases j k s.started st)
-        where
-          go : (j ≡ k) ⊎ (has s.started j ≡ true) → has (k ∷ s.finished) j ≡ true
-          go (inl e) = ap (has (k ∷ s.finished)) e ∙ has-here k s.finished
-          go (inr g) = has-later j k s.finished (h j g)
+  in_turn_settled (k ∷ js) s h = in_turn_settled js (ran m s k) (λ j st. grind (arith, h j))
+
+  -- what is chosen between rounds hasn't started
+  pub chosen_unstarted : (n w : ℕ) (s : State m) → ((j : ℕ) → has s.started j ≡ true → has s.finished j ≡ true)
+      → (j : ℕ) → has (chosen m n w s) j ≡ true → has s.started j ≡ false
+  chosen_unstarted n w s settled j h =
+      false_from_ne_true (has s.started j) (λ st. both_ways (has s.finished j) (chosen_open m n w s j h) (settled j st))
 
   round_is : (n w : ℕ) (s : State m) → ((j : ℕ) → has s.started j ≡ true → has s.finished j ≡ true) → IsRound m n w s (in_turn (chosen m n w s))
-  round_is n w s settled =
-      in_turn_of (chosen m n w s) (chosen m n w s) s (different-choice (is_free m s) w (has s.finished) n) (λ j h. h) unstarted unfinished
-    where
-      unfinished : (j : ℕ) → has (chosen m n w s) j ≡ true → has s.finished j ≡ false
-      unfinished j h = (has-choice (is_free m s) w (has s.finished) n j h).2
-
-      unstarted : (j : ℕ) → has (chosen m n w s) j ≡ true → has s.started j ≡ false
-      unstarted j h = false_from_ne_true (has s.started j) (λ st. let both : true ≡ false = sym (settled j st) ∙ unfinished j h in (cc))
+  round_is n w s settled = in_turn_of (chosen m n w s) (chosen m n w s) s (different-choice (is_free m s) w (has s.finished) n) (λ j h. h)
+      (chosen_unstarted n w s settled) (chosen_open m n w s)
 
   -- where r rounds lead
   after_rounds : (n w d r : ℕ) (ks : List ℕ) (s : State m) → InRound m n ks s → ((j : ℕ) → has s.started j ≡ true → has s.finished j ≡ true)
@@ -207,7 +179,7 @@ module _ (m : System) (laws : Laws m) where
 
   world_in_turn : (s : State m) (ks : List ℕ) → (run m s (in_turn ks)).world ≡ in_order m s.world ks
   world_in_turn s [] = refl
-  world_in_turn s (k ∷ ks) = world_in_turn (happens m (happens m s (Start k)) (Finish k)) ks
+  world_in_turn s (k ∷ ks) = world_in_turn (ran m s k) ks
 
   pub rounds_gathered_lem : RoundsAreGathered m
   rounds_gathered_lem n w r =
@@ -227,20 +199,9 @@ module _ (m : System) (laws : Laws m) where
       )
 
   pub rounds_keep_order_lem : RoundsKeepOrder m
-  rounds_keep_order_lem n w r i k lt meets chosen_k = go (cases_Bool (has s.finished i))
-    where
-      s : State m
-      s = rounds m n w r (opening m)
-
-      found : (is_free m s k ≡ true) × (k < n) × (has s.finished k ≡ false)
-      found = has-choice (is_free m s) w (has s.finished) n k chosen_k
-
-      go : (has s.finished i ≡ true) ⊎ (has s.finished i ≡ false) → has s.finished i ≡ true
-      go (inl f) = f
-      go (inr d) =
-          let clash : true ≡ false =
-          sym (meets s.world (reaches m (has s.finished) s.world i)) ∙ clear-of m (m.foot k s.world) (has s.finished) s.world k found.0 i lt d in
-          (cc)
+  rounds_keep_order_lem n w r i k lt meets chosen_k =
+      let s = rounds m n w r (opening m) in
+      finished_before m laws s i k lt meets ((has-choice (is_free m s) w (has s.finished) n k chosen_k).0)
 
   -- between rounds nothing is on its way
   pub rounds_settled : (n w r : ℕ) (s : State m) → ((j : ℕ) → has s.started j ≡ true → has s.finished j ≡ true)

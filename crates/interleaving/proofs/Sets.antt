@@ -1,183 +1,111 @@
 -- Any sets of a round's places occur as what has started and what has finished.
-use Rattle.std.proofs.Common.{◌≡◌, ℕ, true, false, not, if◌then◌else◌, ◌==◌, List, [], ◌∷◌, ◌++◌, filter, ◌⊎◌, inl, inr, refl, sym, ◌∙◌, ap, subst}
-use Rattle.std.proofs.lemmas.Bool.{cases_Bool, false_from_ne_true, not-true, cond-true, cond-false}
+use Rattle.std.proofs.Common.{◌≡◌, ℕ, true, false, not, map, if◌then◌else◌, ◌==◌, List, [], ◌∷◌, ◌++◌, filter, refl, ◌∙◌, ap, arith}
+use Rattle.std.proofs.lemmas.Bool.{not-true}
 use Rattle.interleaving.specs.System.{System}
 use Rattle.interleaving.specs.Laws.{Laws}
 use Rattle.interleaving.specs.Machine.{Event, Start, Finish, has, State, opening, happens, run, is_free}
 use Rattle.interleaving.specs.Gather.{AllDifferent, in_order}
-use Rattle.interleaving.specs.Rounds.{in_turn, chosen, rounds, AreOf, IsRound, AnySetsOccur}
-use Rattle.interleaving.proofs.Members.{has-here, has-other, has-later, has-different, different-choice, different-filter, filter-keeps, has-choice, has-filter}
-use Rattle.interleaving.proofs.Onwards.{run-append, stays_finished, or_swap}
-use Rattle.interleaving.proofs.Rounding.{in_turn_of, rounds_settled}
+use Rattle.interleaving.specs.Rounds.{chosen, rounds, AreOf, IsRound, AnySetsOccur}
+use Rattle.interleaving.proofs.Members.{has-here, has-other, has-later, has-different, different-choice, different-filter, filter-keeps, has-filter}
+use Rattle.interleaving.proofs.Onwards.{run-append, or_swap, chosen_open}
+use Rattle.interleaving.proofs.Rounding.{chosen_unstarted, rounds_settled}
 
-starts : List ℕ → List Event
-starts [] = []
-starts (k ∷ ks) = Start k ∷ starts ks
-
-finishes : List ℕ → List Event
-finishes [] = []
-finishes (k ∷ ks) = Finish k ∷ finishes ks
-
+-- Places that start, and then places that finish.
 module _ (m : System) where
-  started_by : (s : State m) (ks : List ℕ) (j : ℕ) → has (run m s (starts ks)).started j ≡ (if has ks j then true else has s.started j)
-  unfolding starts
-  started_by s [] j = refl
-  started_by s (k ∷ ks) j = started_by (happens m s (Start k)) ks j ∙ or_swap (j == k) (has ks j) (has s.started j)
-
-  starts_finish_none : (s : State m) (ks : List ℕ) → (run m s (starts ks)).finished ≡ s.finished
-  unfolding starts
-  starts_finish_none s [] = refl
-  starts_finish_none s (k ∷ ks) = starts_finish_none (happens m s (Start k)) ks
-
-  starts_keep_world : (s : State m) (ks : List ℕ) → (run m s (starts ks)).world ≡ s.world
-  unfolding starts
-  starts_keep_world s [] = refl
-  starts_keep_world s (k ∷ ks) = starts_keep_world (happens m s (Start k)) ks
-
-  finished_by : (s : State m) (ks : List ℕ) (j : ℕ) → has (run m s (finishes ks)).finished j ≡ (if has ks j then true else has s.finished j)
-  unfolding finishes
-  finished_by s [] j = refl
-  finished_by s (k ∷ ks) j = finished_by (happens m s (Finish k)) ks j ∙ or_swap (j == k) (has ks j) (has s.finished j)
-
-  finishes_start_none : (s : State m) (ks : List ℕ) → (run m s (finishes ks)).started ≡ s.started
-  unfolding finishes
+  finishes_start_none : (s : State m) (es : List ℕ) → (run m s (map Finish es)).started ≡ s.started
   finishes_start_none s [] = refl
-  finishes_start_none s (k ∷ ks) = finishes_start_none (happens m s (Finish k)) ks
+  finishes_start_none s (e ∷ es) = finishes_start_none (happens m s (Finish e)) es
 
-  finishes_step : (s : State m) (ks : List ℕ) → (run m s (finishes ks)).world ≡ in_order m s.world ks
-  unfolding finishes
+  started_then : (s : State m) (bs es : List ℕ) (j : ℕ) → has (run m s (map Start bs ++ map Finish es)).started j ≡ (if has bs j then true else has s.started j)
+  started_then s [] es j = ap (λ ks. has ks j) (finishes_start_none s es)
+  started_then s (b ∷ bs) es j = started_then (happens m s (Start b)) bs es j ∙ or_swap (j == b) (has bs j) (has s.started j)
+
+  finished_by : (s : State m) (es : List ℕ) (j : ℕ) → has (run m s (map Finish es)).finished j ≡ (if has es j then true else has s.finished j)
+  finished_by s [] j = refl
+  finished_by s (e ∷ es) j = finished_by (happens m s (Finish e)) es j ∙ or_swap (j == e) (has es j) (has s.finished j)
+
+  finished_then : (s : State m) (bs es : List ℕ) (j : ℕ)
+      → has (run m s (map Start bs ++ map Finish es)).finished j ≡ (if has es j then true else has s.finished j)
+  finished_then s [] es j = finished_by s es j
+  finished_then s (b ∷ bs) es j = finished_then (happens m s (Start b)) bs es j
+
+  finishes_step : (s : State m) (es : List ℕ) → (run m s (map Finish es)).world ≡ in_order m s.world es
   finishes_step s [] = refl
-  finishes_step s (k ∷ ks) = finishes_step (happens m s (Finish k)) ks
+  finishes_step s (e ∷ es) = finishes_step (happens m s (Finish e)) es
+
+  world_then : (s : State m) (bs es : List ℕ) → (run m s (map Start bs ++ map Finish es)).world ≡ in_order m s.world es
+  world_then s [] es = finishes_step s es
+  world_then s (b ∷ bs) es = world_then (happens m s (Start b)) bs es
 
   are-append : (ks : List ℕ) (s : State m) (es fs : List Event) → AreOf m ks s es → AreOf m ks (run m s es) fs → AreOf m ks s (es ++ fs)
   are-append ks s [] fs h g = g
   are-append ks s (Start k ∷ es) fs h g = (h.0, h.1, are-append ks (happens m s (Start k)) es fs h.2 g)
   are-append ks s (Finish k ∷ es) fs h g = (h.0, h.1, are-append ks (happens m s (Finish k)) es fs h.2 g)
 
-  starts_of : (ks js : List ℕ) (s : State m) → AllDifferent js → ((j : ℕ) → has js j ≡ true → has ks j ≡ true)
-      → ((j : ℕ) → has js j ≡ true → has s.started j ≡ false) → AreOf m ks s (starts js)
-  unfolding starts
-  starts_of ks [] s diff sub st = tt
-  starts_of ks (k ∷ js) s diff sub st = (
-    sub k (has-here k js),
-    st k (has-here k js),
-    starts_of ks js (happens m s (Start k)) diff.1 (λ j h. sub j (has-later j k js h))
-        (λ j h. has-other j k s.started (has-different j k js diff.0 h) ∙ st j (has-later j k js h)),
+  finishes_of : (ks es : List ℕ) (s : State m) → AllDifferent es → ((j : ℕ) → has es j ≡ true → has s.started j ≡ true)
+      → ((j : ℕ) → has es j ≡ true → has s.finished j ≡ false) → AreOf m ks s (map Finish es)
+  finishes_of ks [] s diff st fin = tt
+  finishes_of ks (e ∷ es) s diff st fin = (
+    st e (has-here e es),
+    fin e (has-here e es),
+    finishes_of ks es (happens m s (Finish e)) diff.1 (λ j h. st j (has-later j e es h))
+        (λ j h. has-other j e s.finished (has-different j e es diff.0 h) ∙ fin j (has-later j e es h)),
   )
 
-  finishes_of : (ks js : List ℕ) (s : State m) → AllDifferent js → ((j : ℕ) → has js j ≡ true → has s.started j ≡ true)
-      → ((j : ℕ) → has js j ≡ true → has s.finished j ≡ false) → AreOf m ks s (finishes js)
-  unfolding finishes
-  finishes_of ks [] s diff st fin = tt
-  finishes_of ks (k ∷ js) s diff st fin = (
-    st k (has-here k js),
-    fin k (has-here k js),
-    finishes_of ks js (happens m s (Finish k)) diff.1 (λ j h. st j (has-later j k js h))
-        (λ j h. has-other j k s.finished (has-different j k js diff.0 h) ∙ fin j (has-later j k js h)),
+  are_then : (ks bs es : List ℕ) (s : State m) → AllDifferent bs → AllDifferent es → ((j : ℕ) → has bs j ≡ true → has ks j ≡ true)
+      → ((j : ℕ) → has bs j ≡ true → has s.started j ≡ false) → ((j : ℕ) → has es j ≡ true → (if has bs j then true else has s.started j) ≡ true)
+      → ((j : ℕ) → has es j ≡ true → has s.finished j ≡ false) → AreOf m ks s (map Start bs ++ map Finish es)
+  are_then ks [] es s diff_b diff_e sub new begun open_e = finishes_of ks es s diff_e begun open_e
+  are_then ks (b ∷ bs) es s diff_b diff_e sub new begun open_e = (
+    sub b (has-here b bs),
+    new b (has-here b bs),
+    are_then ks bs es (happens m s (Start b)) diff_b.1 diff_e (λ j h. sub j (has-later j b bs h))
+        (λ j h. has-other j b s.started (has-different j b bs diff_b.0 h) ∙ new j (has-later j b bs h))
+        (λ j h. or_swap (j == b) (has bs j) (has s.started j) ∙ begun j h) open_e,
   )
 
 module _ (m : System) (laws : Laws m) (n w : ℕ) (s : State m) (settled : (j : ℕ) → has s.started j ≡ true → has s.finished j ≡ true)
     (begun ended : List ℕ) (diff_begun : AllDifferent begun) (diff_ended : AllDifferent ended)
     (sub_begun : (k : ℕ) → has begun k ≡ true → has (chosen m n w s) k ≡ true) (sub_ended : (k : ℕ) → has ended k ≡ true → has begun k ≡ true) where
-  unfinished : (k : ℕ) → has (chosen m n w s) k ≡ true → has s.finished k ≡ false
-  unfinished k h = (has-choice (is_free m s) w (has s.finished) n k h).2
+  -- the chosen places that aren't of these
+  abbrev without : List ℕ → List ℕ
+  without ks = filter (λ k. not (has ks k)) (chosen m n w s)
 
-  unstarted : (k : ℕ) → has (chosen m n w s) k ≡ true → has s.started k ≡ false
-  unstarted k h = false_from_ne_true (has s.started k) (λ st. let both : true ≡ false = sym (settled k st) ∙ unfinished k h in (cc))
+  in_without : (ks : List ℕ) (j : ℕ) → has (without ks) j ≡ true → (has ks j ≡ false) × (has (chosen m n w s) j ≡ true)
+  in_without ks j h = let found = has-filter (λ k. not (has ks k)) (chosen m n w s) j h in (not-true (has ks j) found.0, found.1)
 
-  abbrev after_starts : State m
-  after_starts = run m s (starts begun)
+  different_without : (ks : List ℕ) → AllDifferent (without ks)
+  different_without ks = different-filter (λ k. not (has ks k)) (chosen m n w s) (different-choice (is_free m s) w (has s.finished) n)
 
-  abbrev at_sets : State m
-  at_sets = run m after_starts (finishes ended)
+  -- the sets occur after the first of these events, and the rest end the round
+  abbrev first : List Event
+  first = map Start begun ++ map Finish ended
 
-  at-started : (j : ℕ) → has at_sets.started j ≡ (if has begun j then true else has s.started j)
-  at-started j = ap (λ l. has l j) (finishes_start_none m after_starts ended) ∙ started_by m s begun j
+  abbrev rest : List Event
+  rest = map Start (without begun) ++ map Finish (without ended)
 
-  at-finished : (j : ℕ) → has at_sets.finished j ≡ (if has ended j then true else has s.finished j)
-  at-finished j = finished_by m after_starts ended j ∙ ap (λ l. if has ended j then true else has l j) (starts_finish_none m s begun)
-
-  abbrev left : List ℕ
-  left = filter (λ k. not (has ended k)) begun
-
-  abbrev others : List ℕ
-  others = filter (λ k. not (has begun k)) (chosen m n w s)
-
-  abbrev after_left : State m
-  after_left = run m at_sets (finishes left)
-
-  in_left : (j : ℕ) → has left j ≡ true → (has ended j ≡ false) × (has begun j ≡ true)
-  in_left j h = let found = has-filter (λ k. not (has ended k)) begun j h in (not-true (has ended j) found.0, found.1)
-
-  in_others : (j : ℕ) → has others j ≡ true → (has begun j ≡ false) × (has (chosen m n w s) j ≡ true)
-  in_others j h = let found = has-filter (λ k. not (has begun k)) (chosen m n w s) j h in (not-true (has begun j) found.0, found.1)
-
-  first_part : AreOf m (chosen m n w s) s (starts begun ++ finishes ended)
-  first_part = are-append m (chosen m n w s) s (starts begun) (finishes ended)
-      (starts_of m (chosen m n w s) begun s diff_begun sub_begun (λ j h. unstarted j (sub_begun j h)))
-      (finishes_of m (chosen m n w s) ended after_starts diff_ended
-      (λ j h. started_by m s begun j ∙ cond-true (has begun j) true (has s.started j) (sub_ended j h))
-      (λ j h. ap (λ l. has l j) (starts_finish_none m s begun) ∙ unfinished j (sub_begun j (sub_ended j h))))
-
-  left_part : AreOf m (chosen m n w s) at_sets (finishes left)
-  left_part = finishes_of m (chosen m n w s) left at_sets (different-filter (λ k. not (has ended k)) begun diff_begun)
-      (λ j h. at-started j ∙ cond-true (has begun j) true (has s.started j) ((in_left j h).1))
-      (λ j h. at-finished j ∙ cond-false (has ended j) true (has s.finished j) ((in_left j h).0) ∙ unfinished j (sub_begun j ((in_left j h).1)))
-
-  not_left : (j : ℕ) → has begun j ≡ false → has left j ≡ false
-  not_left j out = false_from_ne_true (has left j) (λ h. let both : true ≡ false = sym ((in_left j h).1) ∙ out in (cc))
-
-  not_ended : (j : ℕ) → has begun j ≡ false → has ended j ≡ false
-  not_ended j out = false_from_ne_true (has ended j) (λ h. let both : true ≡ false = sym (sub_ended j h) ∙ out in (cc))
-
-  others_part : AreOf m (chosen m n w s) after_left (in_turn others) × ((j : ℕ) → has others j ≡ true → has (run m after_left (in_turn others)).finished j ≡ true)
-  others_part = in_turn_of m laws (chosen m n w s) others after_left
-      (different-filter (λ k. not (has begun k)) (chosen m n w s) (different-choice (is_free m s) w (has s.finished) n))
-      (λ j h. (in_others j h).1)
-      (λ j h. ap (λ l. has l j) (finishes_start_none m at_sets left) ∙ at-started j ∙ cond-false (has begun j) true (has s.started j) ((in_others j h).0)
-      ∙ unstarted j ((in_others j h).1))
-      (λ j h. let out = (in_others j h).0 in
-      finished_by m at_sets left j ∙ cond-false (has left j) true (has at_sets.finished j) (not_left j out)
-      ∙ at-finished j ∙ cond-false (has ended j) true (has s.finished j) (not_ended j out) ∙ unfinished j ((in_others j h).1))
-
-  at_sets_is : run m s (starts begun ++ finishes ended) ≡ at_sets
-  at_sets_is = run-append m s (starts begun) (finishes ended)
-
-  whole : AreOf m (chosen m n w s) s ((starts begun ++ finishes ended) ++ (finishes left ++ in_turn others))
-  whole = are-append m (chosen m n w s) s (starts begun ++ finishes ended) (finishes left ++ in_turn others) first_part
-      (subst (λ t. AreOf m (chosen m n w s) t (finishes left ++ in_turn others)) (sym at_sets_is)
-      (are-append m (chosen m n w s) at_sets (finishes left) (in_turn others) left_part others_part.0))
-
-  end_is : run m s ((starts begun ++ finishes ended) ++ (finishes left ++ in_turn others)) ≡ run m after_left (in_turn others)
-  end_is = run-append m s (starts begun ++ finishes ended) (finishes left ++ in_turn others)
-      ∙ ap (λ t. run m t (finishes left ++ in_turn others)) at_sets_is
-      ∙ run-append m at_sets (finishes left) (in_turn others)
-
-  all_end : (k : ℕ) → has (chosen m n w s) k ≡ true
-      → has (run m s ((starts begun ++ finishes ended) ++ (finishes left ++ in_turn others))).finished k ≡ true
-  all_end k h = ap (λ t. has t.finished k) end_is ∙ go (cases_Bool (has begun k)) (cases_Bool (has ended k))
+  whole : AreOf m (chosen m n w s) s (first ++ rest)
+  whole = are-append m (chosen m n w s) s first rest
+      (are_then m (chosen m n w s) begun ended s diff_begun diff_ended sub_begun (λ j h. chosen_unstarted m laws n w s settled j (sub_begun j h))
+      (λ j h. rw (sub_ended j h)) (λ j h. chosen_open m n w s j (sub_begun j (sub_ended j h))))
+      (are_then m (chosen m n w s) (without begun) (without ended) (run m s first) (different_without begun) (different_without ended)
+      (λ j h. (in_without begun j h).1)
+      (λ j h. rw (started_then m s begun ended j, (in_without begun j h).0) (chosen_unstarted m laws n w s settled j ((in_without begun j h).1)))
+      (λ j h. started j ((in_without ended j h).1))
+      (λ j h. rw (finished_then m s begun ended j, (in_without ended j h).0) (chosen_open m n w s j ((in_without ended j h).1))))
     where
-      go : (has begun k ≡ true) ⊎ (has begun k ≡ false) → (has ended k ≡ true) ⊎ (has ended k ≡ false)
-          → has (run m after_left (in_turn others)).finished k ≡ true
-      go (inr out) e = others_part.1 k (filter-keeps (λ i. not (has begun i)) (chosen m n w s) k (ap not out) h)
-      go (inl inside) (inl e) = stays_finished m after_left (in_turn others) k
-          (stays_finished m at_sets (finishes left) k (at-finished k ∙ cond-true (has ended k) true (has s.finished k) e))
-      go (inl inside) (inr e) = stays_finished m after_left (in_turn others) k
-          (finished_by m at_sets left k
-          ∙ cond-true (has left k) true (has at_sets.finished k) (filter-keeps (λ i. not (has ended i)) begun k (ap not e) inside))
+      started : (j : ℕ) → has (chosen m n w s) j ≡ true → (if has (without begun) j then true else has (run m s first).started j) ≡ true
+      started j h = grind (arith, started_then m s begun ended j, filter-keeps (λ k. not (has begun k)) (chosen m n w s) j)
+
+  all_end : (k : ℕ) → has (chosen m n w s) k ≡ true → has (run m s (first ++ rest)).finished k ≡ true
+  all_end k h = rw (run-append m s first rest, finished_then m (run m s first) (without begun) (without ended) k, finished_then m s begun ended k)
+      (grind (arith, filter-keeps (λ j. not (has ended j)) (chosen m n w s) k))
 
   pub sets_at : (es : List Event) × (rest : List Event) × IsRound m n w s (es ++ rest)
       × ((k : ℕ) → has (run m s es).started k ≡ (if has begun k then true else has s.started k))
       × ((k : ℕ) → has (run m s es).finished k ≡ (if has ended k then true else has s.finished k))
       × ((run m s es).world ≡ in_order m s.world ended)
-  sets_at = (
-    starts begun ++ finishes ended,
-    finishes left ++ in_turn others,
-    (whole, all_end),
-    λ k. ap (λ t. has t.started k) at_sets_is ∙ at-started k,
-    λ k. ap (λ t. has t.finished k) at_sets_is ∙ at-finished k,
-    ap (λ t. t.world) at_sets_is ∙ finishes_step m after_starts ended ∙ ap (λ t. in_order m t ended) (starts_keep_world m s begun),
-  )
+  sets_at = (first, rest, (whole, all_end), started_then m s begun ended, finished_then m s begun ended, world_then m s begun ended)
 
 module _ (m : System) (laws : Laws m) where
   pub sets_occur_lem : AnySetsOccur m

@@ -1,5 +1,5 @@
 -- Where footprints collide exactly by an atom of both that one of them writes, they keep the laws on collisions.
-use Rattle.std.proofs.Common.{◌≡◌, true, false, ◌⊎◌, inl, inr, Decides}
+use Rattle.std.proofs.Common.{◌≡◌, true, false, inl, inr, ⊎_elim, Decides}
 use Rattle.std.proofs.lemmas.Bool.{false_from_ne_true}
 use Rattle.std.proofs.lemmas.Bool.Decides.{not_from_Decides}
 use Rattle.interleaving.specs.System.{System, Apart, Holds}
@@ -17,11 +17,6 @@ module _ (m : System) (writes_touches : (f : m.Footprint) (a : m.Atom) → m.wri
   )
 
   pub collide_from_held : (f r r₁ : m.Footprint) → Holds m r r₁ → m.collide f r ≡ false → m.collide f r₁ ≡ false
-  collide_from_held f r r₁ holds h = false_from_ne_true (m.collide f r₁) (λ c. go ((sharing f r₁).0 c))
-    where
-      go : Shares m f r₁ → ⊥
-      go shared = at shared.3
-        where
-          at : (m.writes f shared.0 ≡ true) ⊎ (m.writes r₁ shared.0 ≡ true) → ⊥
-          at (inl w) = shares_none f r h (shared.0, shared.1, holds.0 shared.0 shared.2, inl w)
-          at (inr w) = shares_none f r h (shared.0, shared.1, holds.0 shared.0 shared.2, inr (holds.1 shared.0 w))
+  collide_from_held f r r₁ holds h = false_from_ne_true (m.collide f r₁) (λ c.
+      let shared = (sharing f r₁).0 c in
+      shares_none f r h (shared.0, shared.1, holds.0 shared.0 shared.2, ⊎_elim (λ w. inl w) (λ w. inr (holds.1 shared.0 w)) shared.3))

@@ -1,5 +1,5 @@
 -- Stepping the places below a bound, some left out.
-use Rattle.std.proofs.Common.{◌≡◌, ℕ, zero, suc, ◌<◌, Bool, true, false, if◌then◌else◌, List, [], ◌∷◌, ◌⊎◌, inl, inr, refl, sym, ◌∙◌, ap, arith}
+use Rattle.std.proofs.Common.{◌≡◌, ℕ, zero, suc, ◌<◌, Bool, true, false, List, [], ◌∷◌, ◌⊎◌, inl, inr, refl, ◌∙◌, arith}
 use Rattle.std.specs.List.{AllByRecursion}
 use Rattle.std.proofs.lemmas.Bool.{cases_Bool}
 use Rattle.interleaving.specs.System.{System, stepped, reaches, is_clear, NoneWrites, Thinner}
@@ -11,26 +11,17 @@ below_suc k n h = grind arith
 module _ (m : System) where
   open m use {World, Footprint, step, foot, reach, collide}
 
-  pub stepped-out : (out : ℕ → Bool) (s : World) (n : ℕ) → out n ≡ true → stepped m out s (suc n) ≡ stepped m out s n
-  stepped-out out s n e = rw e refl
-
-  pub stepped-in : (out : ℕ → Bool) (s : World) (n : ℕ) → out n ≡ false → stepped m out s (suc n) ≡ step n (stepped m out s n)
-  stepped-in out s n e = rw e refl
-
   pub reaches-out : (out : ℕ → Bool) (s : World) (n : ℕ) → out n ≡ true → reaches m out s (suc n) ≡ reaches m out s n
-  reaches-out out s n e = rw e refl
+  reaches-out out s n e = rw e
 
   pub reaches-in : (out : ℕ → Bool) (s : World) (n : ℕ) → out n ≡ false
       → reaches m out s (suc n) ≡ reach n s (reaches m out s n) ∷ reaches m out s n
-  reaches-in out s n e = rw e refl
+  reaches-in out s n e = rw e
 
   -- only the places below the bound count
   pub stepped-same : (out out₁ : ℕ → Bool) (s : World) (n : ℕ) → ((k : ℕ) → k < n → out k ≡ out₁ k) → stepped m out s n ≡ stepped m out₁ s n
   stepped-same out out₁ s zero h = refl
-  stepped-same out out₁ s (suc n) h =
-      let here : out n ≡ out₁ n = h n (omega arith) in
-      let below : stepped m out s n ≡ stepped m out₁ s n = stepped-same out out₁ s n (λ k lt. h k (omega arith)) in
-      rw (here, below) refl
+  stepped-same out out₁ s (suc n) h = rw (h n (omega arith), stepped-same out out₁ s n (λ k lt. h k (omega arith)))
 
   -- where all are left out, nothing changes
   pub stepped-none : (s : World) (n : ℕ) → stepped m (λ k. true) s n ≡ s
@@ -44,11 +35,7 @@ module _ (m : System) where
 
   -- what is clear of a list is clear of each of it
   pub clear-tail : (f r : Footprint) (rs : List Footprint) → is_clear m f (r ∷ rs) ≡ true → (collide f r ≡ false) × (is_clear m f rs ≡ true)
-  clear-tail f r rs h = go (collide f r) refl h
-    where
-      go : (b : Bool) → collide f r ≡ b → (if b then false else is_clear m f rs) ≡ true → (collide f r ≡ false) × (is_clear m f rs ≡ true)
-      go true e t = (cc)
-      go false e t = (e, t)
+  clear-tail f r rs h = grind arith
 
   pub clear-cons : (f r : Footprint) (rs : List Footprint) → collide f r ≡ false → is_clear m f rs ≡ true → is_clear m f (r ∷ rs) ≡ true
   clear-cons f r rs e h = rw e h
@@ -57,14 +44,13 @@ module _ (m : System) where
   pub each-of : (P : Footprint → Type 0) (out : ℕ → Bool) (s : World) (n : ℕ) → AllByRecursion P (reaches m out s n)
       → (k : ℕ) → k < n → out k ≡ false → P (reach k s (reaches m out s k))
   each-of P out s zero h k lt o = absurd (omega arith)
-  each-of P out s (suc n) h k lt o = go (each-of P out s n) (cases_Bool (out n)) (below_suc k n lt)
-    where
-      go : (AllByRecursion P (reaches m out s n) → (k : ℕ) → k < n → out k ≡ false → P (reach k s (reaches m out s k)))
-          → (out n ≡ true) ⊎ (out n ≡ false) → (k < n) ⊎ (k ≡ n) → P (reach k s (reaches m out s k))
-      go later (inl e) (inl less) = later (rw (reaches-out out s n e) at h) k less o
-      go later (inl e) (inr same) = let wrong : true ≡ false = sym e ∙ ap out (sym same) ∙ o in (cc)
-      go later (inr e) (inl less) = later ((rw (reaches-in out s n e) at h).1) k less o
-      go later (inr e) (inr same) = rw same ((rw (reaches-in out s n e) at h).0)
+  each-of P out s (suc n) h k lt o = elim (cases_Bool (out n)) [
+    | inl e ↦ each-of P out s n (rw (reaches-out out s n e) at h) k (grind arith) o
+    | inr e ↦ elim (below_suc k n lt) [
+      | inl less ↦ each-of P out s n ((rw (reaches-in out s n e) at h).1) k less o
+      | inr same ↦ rw same ((rw (reaches-in out s n e) at h).0)
+    ]
+  ]
 
   each-clear : (f : Footprint) (rs : List Footprint) → is_clear m f rs ≡ true → AllByRecursion (λ r. collide f r ≡ false) rs
   each-clear f [] h = tt

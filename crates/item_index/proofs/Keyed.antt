@@ -1,5 +1,5 @@
 -- Maps from a key to a set: one set changed, one set more, and the set at a key.
-use Rattle.std.specs.Prelude.{◌≡◌, ℕ, Bool, true, false, ◌&&◌, ◌||◌, ◌==◌, ltb, List, [], ◌∷◌, cond, filter, refl, Some, None}
+use Rattle.std.specs.Prelude.{◌≡◌, ℕ, Bool, true, false, ◌&&◌, ◌||◌, ◌==◌, ltb, List, [], ◌∷◌, filter, refl, Some, None}
 use Rattle.std.specs.List.{list_any, IsDistinct}
 use Rattle.std.specs.List.Sorted.{IsStrictlySortedBy}
 use Rattle.std.specs.Cmp.{IsTotalOrder, eq_by_cmp_equiv, Equal-is}
@@ -17,12 +17,7 @@ use Rattle.std.proofs.lemmas.Bool.Decides.{nat_tests}
 use mathlib.Core.Path.{ap, sym, ◌∙◌}
 use native.Mathlib.Omega.{arith}
 use Rattle.item_index.proofs.Pieces.{added}
-use mathlib.Core.Bool.{or_comm, or_assoc, and-or_distrib_left}
 use Rattle.world_parts.proofs.Changes.{tied_then}
-
-swap_last : (a b c : Bool) → ((a || b) || c) ≡ ((a || c) || b)
-swap_last true b c = refl
-swap_last false b c = or_comm b c
 
 module _ {K V : Type 0} (cmp : K → K → Ordering) (exact : (x y : K) → cmp x y ≡ Equal → x ≡ y) (h : V → Bool) (k : K) where
   module _ (g : K → Bool) where
@@ -31,20 +26,9 @@ module _ {K V : Type 0} (cmp : K → K → Ordering) (exact : (x y : K) → cmp 
 
     pub changed : (es : List (K × V)) (old new : V) (b : Bool) → lookup (is_at (cmp k)) es ≡ Some old → h new ≡ (h old || b) → list_any passes (set_value (is_at (cmp k)) es new) ≡ (list_any passes es || (g k && b))
     changed [] old new b e l = absurd cc
-    changed (x ∷ es) old new b e l = by (is_eq (cmp k x.0)) refl (λ e. changed es old new b e l) e
-      where
-        by : (c : Bool) → is_eq (cmp k x.0) ≡ c
-            → (lookup (is_at (cmp k)) es ≡ Some old → list_any passes (set_value (is_at (cmp k)) es new) ≡ (list_any passes es || (g k && b)))
-            → cond c (Some x.1) (lookup (is_at (cmp k)) es) ≡ Some old
-            → list_any passes (cond c ((x.0, new) ∷ es) (x ∷ set_value (is_at (cmp k)) es new)) ≡ ((passes x || list_any passes es) || (g k && b))
-        by true t f e =
-            let same : k ≡ x.0 = exact k x.0 ((Equal-is (cmp k x.0)).0 t) in
-            let was : x.1 ≡ old = cc in
-            ap (λ c. (g x.0 && c) || list_any passes es) (l ∙ ap (λ v. h v || b) (sym was))
-            ∙ ap (λ c. c || list_any passes es) (and-or_distrib_left (g x.0) (h x.1) b)
-            ∙ swap_last (passes x) (g x.0 && b) (list_any passes es)
-            ∙ ap (λ y. (passes x || list_any passes es) || (g y && b)) (sym same)
-        by false t f e = ap (λ c. passes x || c) (f e) ∙ sym (or_assoc (passes x) (list_any passes es) (g k && b))
+    changed (x ∷ es) old new b e l =
+        let here : is_eq (cmp k x.0) ≡ true → k ≡ x.0 = λ t. exact k x.0 ((Equal-is (cmp k x.0)).0 t) in
+        grind (arith, changed es old new b, here)
 
     pub placed : (es : List (K × V)) (new : V) (b : Bool) → lookup (is_at (cmp k)) es ≡ None → h new ≡ b → list_any passes (insert_entry cmp es k new) ≡ (list_any passes es || (g k && b))
     placed es new b e l = added cmp passes es k new (none_passes_from_lookup (is_at (cmp k)) es e) ∙ ap (λ c. list_any passes es || (g k && c)) l
@@ -55,45 +39,37 @@ module _ {K V : Type 0} (cmp : K → K → Ordering) (exact : (x y : K) → cmp 
 
     none_fits : (es : List (K × V)) → NonePasses (is_at (cmp k)) es → list_any fits es ≡ false
     none_fits [] n = refl
-    none_fits (x ∷ es) n = ap (λ b. (b && h x.1) || list_any fits es) (sym (tells x.0) ∙ n.0) ∙ none_fits es n.1
+    none_fits (x ∷ es) n = rw (← tells x.0, n.0) (none_fits es n.1)
 
     pub at_none : (es : List (K × V)) → lookup (is_at (cmp k)) es ≡ None → false ≡ list_any fits es
     at_none es e = sym (none_fits es (none_passes_from_lookup (is_at (cmp k)) es e))
 
     at_first : (total : IsTotalOrder cmp) (es : List (K × V)) (v : V) → IsDistinct (eq_by_cmp cmp) (keys_of es) → lookup (is_at (cmp k)) es ≡ Some v → h v ≡ list_any fits es
     at_first total [] v d e = absurd cc
-    at_first total (x ∷ es) v d e = by (is_eq (cmp k x.0)) refl (at_first total es v (IsDistinct-tail (eq_by_cmp cmp) x.0 (keys_of es) d)) e
-      where
-        by : (c : Bool) → is_eq (cmp k x.0) ≡ c
-            → (lookup (is_at (cmp k)) es ≡ Some v → h v ≡ list_any fits es)
-            → cond c (Some x.1) (lookup (is_at (cmp k)) es) ≡ Some v
-            → h v ≡ (fits x || list_any fits es)
-        by true t f e =
-            let was : v ≡ x.1 = cc in
-            let rest : list_any fits es ≡ false = none_fits es (none_past_head (eq_by_cmp_equiv total) k x es d t) in
-            ap h was ∙ sym (ap (λ b. (b && h x.1) || list_any fits es) (sym (tells x.0) ∙ t) ∙ ap (λ b. h x.1 || b) rest ∙ or_comm (h x.1) false)
-        by false t f e = f e ∙ ap (λ b. (b && h x.1) || list_any fits es) (sym t ∙ tells x.0)
+    at_first total (x ∷ es) v d e =
+        let later = at_first total es v (IsDistinct-tail (eq_by_cmp cmp) x.0 (keys_of es) d) in
+        let rest : is_eq (cmp k x.0) ≡ true → list_any fits es ≡ false = λ t. none_fits es (none_past_head (eq_by_cmp_equiv total) k x es d t) in
+        grind (arith, later, rest, tells x.0)
 
     pub at_some : (total : IsTotalOrder cmp) (es : List (K × V)) (v : V) → IsStrictlySortedBy cmp (keys_of es) → lookup (is_at (cmp k)) es ≡ Some v → h v ≡ list_any fits es
     at_some total es v s e = at_first total es v (IsDistinct-from_sorted cmp (keys_of es) s) e
 
 -- the same at a map that is seen as a list
-module _ {K V : Type 0} (cmp : K → K → Ordering) (exact : (x y : K) → cmp x y ≡ Equal → x ≡ y) (k : K) (es seen : List (K × V)) (is : es ≡ seen) (g : K → Bool) (h : V → Bool) (b : Bool) where
-  pub changed_seen : (next : List (K × V)) (old new : V) → next ≡ set_value (is_at (cmp k)) es new → Some old ≡ lookup (is_at (cmp k)) es → h new ≡ (h old || b) → list_any (λ (e : K × V). g e.0 && h e.1) next ≡ (list_any (λ (e : K × V). g e.0 && h e.1) seen || (g k && b))
-  changed_seen next old new made was law =
-      ap (list_any (λ (e : K × V). g e.0 && h e.1)) made ∙ changed cmp exact h k g es old new b (sym was) law ∙ ap (λ xs. list_any (λ (e : K × V). g e.0 && h e.1) xs || (g k && b)) is
+module _ {K V : Type 0} (cmp : K → K → Ordering) (exact : (x y : K) → cmp x y ≡ Equal → x ≡ y) (k : K) (es seen : List (K × V)) (is : es ≡ seen) where
+  pub changed_seen : (next : List (K × V)) (old new : V) → next ≡ set_value (is_at (cmp k)) es new → Some old ≡ lookup (is_at (cmp k)) es
+      → (g : K → Bool) (h : V → Bool) (b : Bool) → h new ≡ (h old || b)
+      → list_any (λ (e : K × V). g e.0 && h e.1) next ≡ (list_any (λ (e : K × V). g e.0 && h e.1) seen || (g k && b))
+  changed_seen next old new made was g h b law = rw (made, changed cmp exact h k g es old new b (sym was) law, is)
 
-  pub placed_seen : (there next : List (K × V)) (new : V) → there ≡ es → next ≡ insert_entry cmp there k new → None ≡ lookup (is_at (cmp k)) es → h new ≡ b → list_any (λ (e : K × V). g e.0 && h e.1) next ≡ (list_any (λ (e : K × V). g e.0 && h e.1) seen || (g k && b))
-  placed_seen there next new same made was law =
-      ap (list_any (λ (e : K × V). g e.0 && h e.1)) (made ∙ ap (λ xs. insert_entry cmp xs k new) same) ∙ placed cmp exact h k g es new b (sym was) law ∙ ap (λ xs. list_any (λ (e : K × V). g e.0 && h e.1) xs || (g k && b)) is
+  pub placed_seen : (there next : List (K × V)) (new : V) → there ≡ es → next ≡ insert_entry cmp there k new → None ≡ lookup (is_at (cmp k)) es
+      → (g : K → Bool) (h : V → Bool) (b : Bool) → h new ≡ b
+      → list_any (λ (e : K × V). g e.0 && h e.1) next ≡ (list_any (λ (e : K × V). g e.0 && h e.1) seen || (g k && b))
+  placed_seen there next new same made was g h b law = rw (made, same, placed cmp exact h k g es new b (sym was) law, is)
 
 -- a walk over the keys below an end, seen as the whole
 pub any_kept : {X : Type 0} (q p : X → Bool) (xs : List X) → list_any p (filter q xs) ≡ list_any (λ x. q x && p x) xs
 any_kept q p [] = refl
-any_kept q p (x ∷ xs) = elim (q x) as (λ b. list_any p (cond b (x ∷ filter q xs) (filter q xs)) ≡ ((b && p x) || list_any (λ x. q x && p x) xs)) [
-  | true ↦ ap (λ b. p x || b) (any_kept q p xs)
-  | false ↦ any_kept q p xs
-]
+any_kept q p (x ∷ xs) = grind (arith, any_kept q p xs)
 
 pub tells_number : (k x : ℕ) → is_eq (nat_cmp k x) ≡ (x == k)
 tells_number k x = grind (arith, nat_tests)
@@ -111,8 +87,7 @@ any_below {V} p end es seen kept is between =
     ∙ (λ i. list_any (λ (e : ℕ × V). below_end end e.0 i && p e.1) (is i))
 
 pub and_true : (a b : Bool) → (a || (b && true)) ≡ (a || b)
-and_true a true = refl
-and_true a false = refl
+and_true a b = grind arith
 
 -- pairs of numbers as keys
 pub tells_pair : (k x : ℕ × ℕ) → is_eq (pair_cmp k x) ≡ (x.0 == k.0 && x.1 == k.1)

@@ -9,7 +9,7 @@ use Rattle.std.specs.declared.cmp.Ordering.TheVariants.{Less, Equal, Greater}
 use Rattle.std.specs.Ordering.{nat_cmp, match_ordering, is_eq, is_lt}
 use Rattle.std.specs.FinMap.{nat_cmp-IsAntisymmetric}
 use Rattle.std.proofs.Common.{not, inl, inr}
-use Rattle.std.proofs.lemmas.Bool.{cases_lt, le-leb, or_cases, or_left, or_right, lt-ltb, ltb-false, leb-true, leb-false}
+use Rattle.std.proofs.lemmas.Bool.{cases_Bool, cases_lt, le-ltb, or_cases, or_left, or_right, lt-ltb, leb-true, leb-false}
 use Rattle.std.proofs.lemmas.Bool.Decides.{nat_tests, same_from_decides}
 use mathlib.Core.Path.{ap, sym, subst, ◌∙◌}
 use native.Mathlib.Omega.{arith}
@@ -19,9 +19,7 @@ use mathlib.Core.Bool.{or_comm, or_assoc}
 
 -- what is true already: to add it changes nothing
 pub or_already : (a b : Bool) → (b ≡ true → a ≡ true) → a ≡ (a || b)
-or_already true b f = refl
-or_already false true f = f refl
-or_already false false f = refl
+or_already a b f = grind arith
 
 -- what a search up to a limit keeps
 pub up_to : (limit x : ℕ) → leb x limit ≡ not (is_lt (nat_cmp limit x))
@@ -35,38 +33,29 @@ pub are_some : (rs : List (ℕ × ℕ)) → AreApart rs → AllByRecursion (λ (
 are_some [] a = tt
 are_some (r ∷ rs) a = (a.0, are_some rs a.2)
 
-same_key : (k x : ℕ) → is_eq (nat_cmp k x) ≡ true → k ≡ x
-same_key k x e = grind (arith, nat_tests)
-
-other_key : (k x : ℕ) → x < k → is_eq (nat_cmp k x) ≡ false
-other_key k x e = grind (arith, nat_tests)
-
-here_key : (k x : ℕ) → k ≡ x → is_eq (nat_cmp k x) ≡ true
-here_key k x e = grind (arith, nat_tests)
-
-pair_of : (r : ℕ × ℕ) (k v : ℕ) → k ≡ r.0 → Some r.1 ≡ Some v → r ≡ (k, v)
-pair_of r k v a e =
+-- the range whose first number is the key
+pair_of : (r : ℕ × ℕ) (k v : ℕ) → is_eq (nat_cmp k r.0) ≡ true → Some r.1 ≡ Some v → r ≡ (k, v)
+pair_of r k v t e =
+    let a : r.0 ≡ k = grind (arith, nat_tests) in
     let b : r.1 ≡ v = cc in
-    λ i. (sym a i, b i)
+    λ i. (a i, b i)
 
 -- what holds of each range holds of the one at a key
 pub at_found : (P : ℕ × ℕ → Type 0) (rs : List (ℕ × ℕ)) (k v : ℕ) → AllByRecursion P rs → lookup (is_at (nat_cmp k)) rs ≡ Some v → P (k, v)
 at_found P [] k v h e = absurd cc
-at_found P (r ∷ rs) k v h e = by (is_eq (nat_cmp k r.0)) refl (at_found P rs k v h.1) e
-  where
-    by : (b : Bool) → is_eq (nat_cmp k r.0) ≡ b → (lookup (is_at (nat_cmp k)) rs ≡ Some v → P (k, v)) → cond b (Some r.1) (lookup (is_at (nat_cmp k)) rs) ≡ Some v → P (k, v)
-    by true t f e = subst P (pair_of r k v (same_key k r.0 t) e) h.0
-    by false t f e = f e
+at_found P (r ∷ rs) k v h e = elim (cases_Bool (is_eq (nat_cmp k r.0))) [
+  | inl t ↦ subst P (pair_of r k v t (rw t at e)) h.0
+  | inr t ↦ at_found P rs k v h.1 (rw t at e)
+]
 
 module _ (q : ℕ → Bool) where
   -- no range passes where none is chosen
   pub none_chosen : (rs : List (ℕ × ℕ)) → filter (λ r. q r.0) rs ≡ [] → AllByRecursion (λ r. q r.0 ≡ false) rs
   none_chosen [] e = tt
-  none_chosen (r ∷ rs) e = by (q r.0) refl (none_chosen rs) e
-    where
-      by : (b : Bool) → q r.0 ≡ b → (filter (λ r. q r.0) rs ≡ [] → AllByRecursion (λ r. q r.0 ≡ false) rs) → cond b (r ∷ filter (λ r. q r.0) rs) (filter (λ r. q r.0) rs) ≡ [] → AllByRecursion (λ r. q r.0 ≡ false) (r ∷ rs)
-      by true h f e = absurd cc
-      by false h f e = (h, f e)
+  none_chosen (r ∷ rs) e = elim (cases_Bool (q r.0)) [
+    | inl h ↦ let some : r ∷ filter (λ x. q x.0) rs ≡ [] = rw h at e in absurd cc
+    | inr h ↦ (h, none_chosen rs (rw h at e))
+  ]
 
   -- what the last range that is chosen tells
   pub record IsLast (rs : List (ℕ × ℕ)) (k v : ℕ) : Type 0 where
@@ -74,71 +63,46 @@ module _ (q : ℕ → Bool) where
     pub chosen : q k ≡ true
     pub ends : AllByRecursion (λ r. q r.0 ≡ true → r.1 ≤ v) rs
 
-  first_found : (r : ℕ × ℕ) (rs : List (ℕ × ℕ)) (k v : ℕ) → r ≡ (k, v) → lookup (is_at (nat_cmp k)) (r ∷ rs) ≡ Some v
-  first_found r rs k v e = rw (here_key k r.0 (sym (ap (λ x. x.0) e))) (ap (λ x. Some x.1) e)
-
-  later_found : (r : ℕ × ℕ) (rs : List (ℕ × ℕ)) (k v : ℕ) → AreApart (r ∷ rs) → lookup (is_at (nat_cmp k)) rs ≡ Some v → lookup (is_at (nat_cmp k)) (r ∷ rs) ≡ Some v
-  later_found r rs k v a e =
-      let below : r.1 < k = at_found (λ x. r.1 < x.0) rs k v a.1 e in
-      let first : r.0 < r.1 = a.0 in
-      rw (other_key k r.0 (omega arith)) e
-
-  both : (x : ℕ) → q x ≡ false → q x ≡ true → ⊥
-  both x f t = absurd cc
-
   pub last_chosen : (rs before : List (ℕ × ℕ)) (k v : ℕ) → AreApart rs → filter (λ r. q r.0) rs ≡ before ++ (k, v) ∷ [] → IsLast rs k v
   last_chosen [] [] k v a e = absurd cc
   last_chosen [] (x ∷ before) k v a e = absurd cc
   last_chosen (r ∷ rs) before k v a e = by (q r.0) refl (λ t. last_chosen rs t k v a.2) before e
     where
-      by : (b : Bool) → q r.0 ≡ b → ((t : List (ℕ × ℕ)) → filter (λ r. q r.0) rs ≡ t ++ (k, v) ∷ [] → IsLast rs k v) → (t : List (ℕ × ℕ)) → cond b (r ∷ filter (λ r. q r.0) rs) (filter (λ r. q r.0) rs) ≡ t ++ (k, v) ∷ [] → IsLast (r ∷ rs) k v
+      later : IsLast rs k v → (r.1 < k → q r.0 ≡ true → r.1 ≤ v) → IsLast (r ∷ rs) k v
+      later l first =
+          let below : r.1 < k = at_found (λ x. r.1 < x.0) rs k v a.1 l.found in
+          let fits : r.0 < r.1 = a.0 in
+          let other : is_eq (nat_cmp k r.0) ≡ false = grind (arith, nat_tests) in
+          record { found = rw other l.found; chosen = l.chosen; ends = (first below, l.ends) }
+
+      by : (b : Bool) → q r.0 ≡ b → ((t : List (ℕ × ℕ)) → filter (λ r. q r.0) rs ≡ t ++ (k, v) ∷ [] → IsLast rs k v)
+          → (t : List (ℕ × ℕ)) → cond b (r ∷ filter (λ r. q r.0) rs) (filter (λ r. q r.0) rs) ≡ t ++ (k, v) ∷ [] → IsLast (r ∷ rs) k v
       by true h f [] e =
           let here : r ≡ (k, v) = cc in
           let rest : filter (λ r. q r.0) rs ≡ [] = cc in
+          let same : is_eq (nat_cmp k k) ≡ true = grind (arith, nat_tests) in
           record {
-            found = first_found r rs k v here;
-            chosen = sym (ap (λ x. q x.0) here) ∙ h;
-            ends = (λ t. let b : r.1 ≡ v = ap (λ x. x.1) here in omega arith, all_from (λ x n t. absurd (both x.0 n t)) rs (none_chosen rs rest));
+            found = rw (here, same);
+            chosen = rw here at h;
+            ends = (λ t. let b : r.1 ≡ v = ap (λ x. x.1) here in omega arith, all_from (λ x n t. absurd cc) rs (none_chosen rs rest));
           }
       by true h f (x ∷ t) e =
           let l = f t cc in
-          let below : r.1 < k = at_found (λ x. r.1 < x.0) rs k v a.1 l.found in
           let some : k < v = at_found (λ x. x.0 < x.1) rs k v (are_some rs a.2) l.found in
-          record {
-            found = later_found r rs k v a l.found;
-            chosen = l.chosen;
-            ends = (λ t. omega arith, l.ends);
-          }
-      by false h f t e =
-          let l = f t e in
-          record {
-            found = later_found r rs k v a l.found;
-            chosen = l.chosen;
-            ends = (λ t. absurd (both r.0 h t), l.ends);
-          }
+          later l (λ below chosen. omega arith)
+      by false h f t e = later (f t e) (λ below chosen. absurd cc)
 
 -- one range less
 pub taken : (p : ℕ × ℕ → Bool) (rs : List (ℕ × ℕ)) (k v : ℕ) → lookup (is_at (nat_cmp k)) rs ≡ Some v → list_any p rs ≡ (list_any p (remove_entry (is_at (nat_cmp k)) rs) || p (k, v))
 taken p [] k v e = absurd cc
-taken p (r ∷ rs) k v e = by (is_eq (nat_cmp k r.0)) refl (taken p rs k v) e
-  where
-    by : (b : Bool) → is_eq (nat_cmp k r.0) ≡ b
-        → (lookup (is_at (nat_cmp k)) rs ≡ Some v → list_any p rs ≡ (list_any p (remove_entry (is_at (nat_cmp k)) rs) || p (k, v)))
-        → cond b (Some r.1) (lookup (is_at (nat_cmp k)) rs) ≡ Some v
-        → (p r || list_any p rs) ≡ (list_any p (cond b rs (r ∷ remove_entry (is_at (nat_cmp k)) rs)) || p (k, v))
-    by true t f e = ap (λ x. p x || list_any p rs) (pair_of r k v (same_key k r.0 t) e) ∙ or_comm (p (k, v)) (list_any p rs)
-    by false t f e = ap (λ b. p r || b) (f e) ∙ sym (or_assoc (p r) (list_any p (remove_entry (is_at (nat_cmp k)) rs)) (p (k, v)))
+taken p (r ∷ rs) k v e = elim (cases_Bool (is_eq (nat_cmp k r.0))) [
+  | inl t ↦ rw (t, pair_of r k v t (rw t at e)) (or_comm (p (k, v)) (list_any p rs))
+  | inr t ↦ rw (t, taken p rs k v (rw t at e), or_assoc)
+]
 
 pub fewer : (rs : List (ℕ × ℕ)) (k v : ℕ) → lookup (is_at (nat_cmp k)) rs ≡ Some v → length (remove_entry (is_at (nat_cmp k)) rs) < length rs
 fewer [] k v e = absurd cc
-fewer (r ∷ rs) k v e = by (is_eq (nat_cmp k r.0)) (fewer rs k v) e
-  where
-    by : (b : Bool)
-        → (lookup (is_at (nat_cmp k)) rs ≡ Some v → length (remove_entry (is_at (nat_cmp k)) rs) < length rs)
-        → cond b (Some r.1) (lookup (is_at (nat_cmp k)) rs) ≡ Some v
-        → length (cond b rs (r ∷ remove_entry (is_at (nat_cmp k)) rs)) < length (r ∷ rs)
-    by true f e = omega arith
-    by false f e = let l = f e in omega arith
+fewer (r ∷ rs) k v e = grind (arith, fewer rs k v)
 
 all_less : (P : ℕ × ℕ → Type 0) (test : ℕ → Bool) (rs : List (ℕ × ℕ)) → AllByRecursion P rs → AllByRecursion P (remove_entry test rs)
 all_less P test [] h = tt
@@ -153,56 +117,36 @@ module _ (low high : ℕ) (some : low < high) where
   abbrev pub IsClear : ℕ × ℕ → Type 0
   IsClear r = (r.1 < low) ⊎ (high < r.0)
 
-  less : (r : ℕ × ℕ) → r.0 < r.1 → IsClear r → nat_cmp low r.0 ≡ Less → high < r.0
-  less r s c e = elim c [ inl b ↦ absurd (grind (arith, nat_tests)) | inr a ↦ a ]
-
-  equal : (r : ℕ × ℕ) → r.0 < r.1 → IsClear r → nat_cmp low r.0 ≡ Equal → ⊥
-  equal r s c e = elim c [ inl b ↦ grind (arith, nat_tests) | inr a ↦ grind (arith, nat_tests) ]
-
-  greater : (r : ℕ × ℕ) → r.0 < r.1 → IsClear r → nat_cmp low r.0 ≡ Greater → r.1 < low
-  greater r s c e = elim c [ inl b ↦ b | inr a ↦ absurd (grind (arith, nat_tests)) ]
-
   pub absent : (rs : List (ℕ × ℕ)) → AreApart rs → AllByRecursion IsClear rs → AllByRecursion (λ (r : ℕ × ℕ). is_eq (nat_cmp low r.0) ≡ false) rs
   absent [] a c = tt
-  absent (r ∷ rs) a c = (elim c.0 [ inl b ↦ let s : r.0 < r.1 = a.0 in grind (arith, nat_tests) | inr b ↦ grind (arith, nat_tests) ], absent rs a.2 c.1)
+  absent (r ∷ rs) a c = (let fits : r.0 < r.1 = a.0 in grind (arith, nat_tests, c.0), absent rs a.2 c.1)
 
   all_more : (P : ℕ × ℕ → Type 0) (rs : List (ℕ × ℕ)) → P (low, high) → AllByRecursion P rs → AllByRecursion P (insert_entry nat_cmp rs low high)
   all_more P [] h all = (h, tt)
-  all_more P (r ∷ rs) h all = by (nat_cmp low r.0) refl (all_more P rs h all.1)
-    where
-      by : (o : Ordering) → nat_cmp low r.0 ≡ o → AllByRecursion P (insert_entry nat_cmp rs low high) → AllByRecursion P (match_ordering o ((low, high) ∷ r ∷ rs) ((r.0, high) ∷ rs) (r ∷ insert_entry nat_cmp rs low high))
-      by Less e f = (h, all)
-      by Equal e f =
-          let same : low ≡ r.0 = nat_cmp-IsAntisymmetric low r.0 e in
-          (subst P (λ i. (same i, high)) h, all.1)
-      by Greater e f = (all.0, f)
+  all_more P (r ∷ rs) h all =
+      let later = insert_entry nat_cmp rs low high in
+      elim (nat_cmp low r.0) as (λ o. nat_cmp low r.0 ≡ o → AllByRecursion P (match_ordering o ((low, high) ∷ r ∷ rs) ((r.0, high) ∷ rs) (r ∷ later))) [
+        | Less ↦ λ e. (h, all)
+        | Equal ↦ λ e. (rw (nat_cmp-IsAntisymmetric low r.0 e) at h, all.1)
+        | Greater ↦ λ e. (all.0, all_more P rs h all.1)
+      ] refl
 
   pub apart_more : (rs : List (ℕ × ℕ)) → AreApart rs → AllByRecursion IsClear rs → AreApart (insert_entry nat_cmp rs low high)
   apart_more [] a c = (some, tt, tt)
-  apart_more (r ∷ rs) a c = by (nat_cmp low r.0) refl (apart_more rs a.2 c.1)
-    where
-      by : (o : Ordering) → nat_cmp low r.0 ≡ o → AreApart (insert_entry nat_cmp rs low high) → AreApart (match_ordering o ((low, high) ∷ r ∷ rs) ((r.0, high) ∷ rs) (r ∷ insert_entry nat_cmp rs low high))
-      by Less e f =
-          let l : high < r.0 = less r a.0 c.0 e in
-          let s : r.0 < r.1 = a.0 in
-          (some, (l, all_from (λ q b. omega arith) rs a.1), a)
-      by Equal e f = absurd (equal r a.0 c.0 e)
-      by Greater e f =
-          let l : r.1 < low = greater r a.0 c.0 e in
-          (a.0, all_more (λ q. r.1 < q.0) rs l a.1, f)
+  apart_more (r ∷ rs) a c =
+      let fits : r.0 < r.1 = a.0 in
+      let clear : IsClear r = c.0 in
+      let later = insert_entry nat_cmp rs low high in
+      elim (nat_cmp low r.0) as (λ o. nat_cmp low r.0 ≡ o → AreApart (match_ordering o ((low, high) ∷ r ∷ rs) ((r.0, high) ∷ rs) (r ∷ later))) [
+        | Less ↦ λ e. let above : high < r.0 = grind (arith, nat_tests) in (some, (above, all_from (λ q b. omega arith) rs a.1), a)
+        | Equal ↦ λ e. absurd (grind (arith, nat_tests))
+        | Greater ↦ λ e. (fits, all_more (λ q. r.1 < q.0) rs (grind (arith, nat_tests)) a.1, apart_more rs a.2 c.1)
+      ] refl
 
 -- a test of one entry more, whose key is new
 pub added : {K V : Type 0} (cmp : K → K → Ordering) (p : K × V → Bool) (es : List (K × V)) (k : K) (v : V) → AllByRecursion (λ (e : K × V). is_eq (cmp k e.0) ≡ false) es → list_any p (insert_entry cmp es k v) ≡ (list_any p es || p (k, v))
 added cmp p [] k v h = or_comm (p (k, v)) false
-added {K} {V} cmp p (e ∷ es) k v h = by (cmp k e.0) refl (added cmp p es k v h.1)
-  where
-    by : (o : Ordering) → cmp k e.0 ≡ o → list_any p (insert_entry cmp es k v) ≡ (list_any p es || p (k, v)) → list_any p (match_ordering o ((k, v) ∷ e ∷ es) ((e.0, v) ∷ es) (e ∷ insert_entry cmp es k v)) ≡ ((p e || list_any p es) || p (k, v))
-    by Less o f = or_comm (p (k, v)) (p e || list_any p es)
-    by Equal o f =
-        let never : is_eq (cmp k e.0) ≡ true = ap is_eq o in
-        let n : is_eq (cmp k e.0) ≡ false = h.0 in
-        absurd cc
-    by Greater o f = ap (λ b. p e || b) f ∙ sym (or_assoc (p e) (list_any p es) (p (k, v)))
+added cmp p (e ∷ es) k v h = grind (arith, added cmp p es k v h.1, h.0)
 
 -- a range within one piece
 pub within_piece : (low high k v : ℕ) (rs : List (ℕ × ℕ)) → lookup (is_at (nat_cmp k)) rs ≡ Some v → k ≤ low → high ≤ v → (p : ℕ) → covers rs p ≡ (covers rs p || within low high p)
@@ -228,14 +172,12 @@ module _ (t : ℕ × ℕ → Bool) (S : ℕ → Type 0) (each : (r : ℕ × ℕ)
   -- the law of an insert at each number is its law at each such test
   pub from_points : (old new : List (ℕ × ℕ)) (low high : ℕ) → ((p : ℕ) → covers new p ≡ (covers old p || within low high p)) → list_any t new ≡ (list_any t old || t (low, high))
   from_points old new low high law = same_from_decides (list_any t new) (list_any t old || t (low, high)) (some_point new) (
-    (λ e. elim (or_cases (list_any t old) (t (low, high)) e) [
-      | inl a ↦ let h = (some_point old).0 a in (h.0, law h.0 ∙ or_left (covers old h.0) (within low high h.0) h.1, h.2)
-      | inr b ↦ let h = (each (low, high)).0 b in (h.0, law h.0 ∙ or_right (covers old h.0) (within low high h.0) h.1, h.2)
-    ]),
-    (λ h. elim (or_cases (covers old h.0) (within low high h.0) (sym (law h.0) ∙ h.1)) [
-      | inl a ↦ or_left (list_any t old) (t (low, high)) ((some_point old).1 (h.0, a, h.2))
-      | inr b ↦ or_right (list_any t old) (t (low, high)) ((each (low, high)).1 (h.0, b, h.2))
-    ]),
+    (λ e.
+        let h = (some_point ((low, high) ∷ old)).0 (or_comm (t (low, high)) (list_any t old) ∙ e) in
+        (h.0, law h.0 ∙ or_comm (covers old h.0) (within low high h.0) ∙ h.1, h.2)),
+    (λ h.
+        or_comm (list_any t old) (t (low, high))
+        ∙ (some_point ((low, high) ∷ old)).1 (h.0, or_comm (within low high h.0) (covers old h.0) ∙ sym (law h.0) ∙ h.1, h.2)),
   )
 
 in_both : (from to : ℕ) (r : ℕ × ℕ) → Decides (ranges_meet r.0 r.1 from to) ((p : ℕ) × (within r.0 r.1 p ≡ true) × ((from ≤ p) × (p < to)))
@@ -275,52 +217,28 @@ module _ (from to : ℕ) where
     crosses_none e = none_crosses rs (all_from (λ r h. grind (arith, nat_tests)) rs (none_chosen (λ x. leb x (to - 1)) rs e))
 
     pub crosses_last : (k v : ℕ) → AreApart rs → IsLast (λ x. leb x (to - 1)) rs k v → ltb from v ≡ crosses rs from to
-    crosses_last k v a l =
-        elim (ltb from v) as (λ b. ltb from v ≡ b → b ≡ crosses rs from to) [
-          | true ↦ λ t.
-              let fits : k < v = at_found (λ x. x.0 < x.1) rs k v (are_some rs a) l.found in
-              let begins : leb k (to - 1) ≡ true = l.chosen in
-              let here : ranges_meet k v from to ≡ true = grind (arith, nat_tests) in
-              sym (taken (λ r. ranges_meet r.0 r.1 from to) rs k v l.found ∙ or_right (list_any (λ r. ranges_meet r.0 r.1 from to) (remove_entry (is_at (nat_cmp k)) rs)) (ranges_meet k v from to) here)
-          | false ↦ λ t.
-              let ended : v ≤ from = ltb-false from v t in
-              sym (none_crosses rs (all_from (λ r h. ends_before r v ended h) rs l.ends))
-        ] refl
-      where
-        ends_before : (r : ℕ × ℕ) (v : ℕ) → v ≤ from → (leb r.0 (to - 1) ≡ true → r.1 ≤ v) → ranges_meet r.0 r.1 from to ≡ false
-        ends_before r v ended h =
-            elim (cases_lt (to - 1) r.0) [
-              | inl late ↦ grind (arith, nat_tests)
-              | inr soon ↦ let e : r.1 ≤ v = h (le-leb r.0 (to - 1) soon) in grind (arith, nat_tests)
-            ]
+    crosses_last k v a l = elim (cases_lt from v) [
+      | inl lt ↦
+          let fits : k < v = at_found (λ x. x.0 < x.1) rs k v (are_some rs a) l.found in
+          let begins : leb k (to - 1) ≡ true = l.chosen in
+          let here : ranges_meet k v from to ≡ true = grind (arith, nat_tests) in
+          rw (lt-ltb from v lt, taken (λ r. ranges_meet r.0 r.1 from to) rs k v l.found, here)
+          (sym (or_right (list_any (λ r. ranges_meet r.0 r.1 from to) (remove_entry (is_at (nat_cmp k)) rs)) true refl))
+      | inr le ↦ rw le-ltb (sym (none_crosses rs (all_from (λ r h. grind (arith, nat_tests)) rs l.ends)))
+    ]
 
 pub some_unless_empty : (rs : List (ℕ × ℕ)) (b : Bool) → AreApart rs → (b ≡ true → length rs ≡ 0) → (length rs ≡ 0 → b ≡ true) → not b ≡ has_some rs
 some_unless_empty [] b a f g = ap not (g refl)
-some_unless_empty (r ∷ rs) b a f g =
-    let some : ltb r.0 r.1 ≡ true = lt-ltb r.0 r.1 a.0 in
-    elim b as (λ c. b ≡ c → not c ≡ (ltb r.0 r.1 || has_some rs)) [
-      | true ↦ λ e. absurd (omega (arith, f e))
-      | false ↦ λ e. sym (or_left (ltb r.0 r.1) (has_some rs) some)
-    ] refl
+some_unless_empty (r ∷ rs) b a f g = let some : r.0 < r.1 = a.0 in grind (arith, nat_tests, f)
 
 -- what takes out a piece that touches a range, and makes one range of both
-module _ (start end k v : ℕ) where
-  one_range : start < end → k < v → k ≤ end → start ≤ v → (p : ℕ) → within (min start k) (max end v) p ≡ (within k v p || within start end p)
-  one_range a b c d p = grind (arith, nat_tests)
-
-  module _ (rs : List (ℕ × ℕ)) (a : AreApart rs) (some : start < end) (touches : start ≤ v) (l : IsLast (λ x. leb x end) rs k v) where
-    begins : k ≤ end
-    begins = leb-true k end l.chosen
-
-    pub fits : k < v
-    fits = at_found (λ x. x.0 < x.1) rs k v (are_some rs a) l.found
-
-    pub absorbed : (p : ℕ) → (covers (remove_entry (is_at (nat_cmp k)) rs) p || within (min start k) (max end v) p) ≡ (covers rs p || within start end p)
-    absorbed p =
-        let rest = covers (remove_entry (is_at (nat_cmp k)) rs) p in
-        ap (λ b. rest || b) (one_range some fits begins touches p)
-        ∙ sym (or_assoc rest (within k v p) (within start end p))
-        ∙ ap (λ b. b || within start end p) (sym (taken (λ r. within r.0 r.1 p) rs k v l.found))
+pub absorbed : (start end k v : ℕ) (rs : List (ℕ × ℕ)) → AreApart rs → start < end → start ≤ v → IsLast (λ x. leb x end) rs k v → (p : ℕ)
+    → (covers (remove_entry (is_at (nat_cmp k)) rs) p || within (min start k) (max end v) p) ≡ (covers rs p || within start end p)
+absorbed start end k v rs a some touches l p =
+    let begins : k ≤ end = leb-true k end l.chosen in
+    let fits : k < v = at_found (λ x. x.0 < x.1) rs k v (are_some rs a) l.found in
+    let one_range : within (min start k) (max end v) p ≡ (within k v p || within start end p) = grind (arith, nat_tests) in
+    rw (one_range, taken (λ r. within r.0 r.1 p) rs k v l.found, or_assoc)
 
 -- and when there is none
 module _ (start end : ℕ) (rs : List (ℕ × ℕ)) where
@@ -328,4 +246,4 @@ module _ (start end : ℕ) (rs : List (ℕ × ℕ)) where
   clear_first e = all_from (λ r h. inr (leb-false r.0 end h)) rs (none_chosen (λ x. leb x end) rs e)
 
   pub clear_last : (k v : ℕ) → v < start → IsLast (λ x. leb x end) rs k v → AllByRecursion (λ (r : ℕ × ℕ). (r.1 < start) ⊎ (end < r.0)) rs
-  clear_last k v before l = all_from (λ r h. elim (cases_lt end r.0) [ inl a ↦ inr a | inr b ↦ let c : r.1 ≤ v = h (le-leb r.0 end b) in inl (omega arith) ]) rs l.ends
+  clear_last k v before l = all_from (λ r h. grind (arith, nat_tests)) rs l.ends

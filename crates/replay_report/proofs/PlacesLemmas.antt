@@ -1,31 +1,21 @@
 -- The lists of the places of each ring grow by a place at each step of a walk over a trace.
-use Rattle.std.proofs.Common.{Vec, Global, ◌≡◌, ℕ, ◌+◌, ◌<◌, List, [], ◌∷◌, ◌++◌, length, map, get_or, replicate, Some, inl, inr, true, refl, sym, ap, ◌∙◌, arith}
-use Rattle.std.specs.List.{range_with_len, filter, slice_get}
+use Rattle.std.proofs.Common.{Vec, Global, ◌≡◌, ℕ, ◌+◌, ◌<◌, List, [], ◌∷◌, ◌++◌, length, map, get_or, replicate, Some, inl, inr, if◌then◌else◌, ◌==◌, true, sym, ap, ◌∙◌, arith}
+use Rattle.std.specs.List.{range_with_len, slice_get}
 use Rattle.std.proofs.Math.ListN.{set, length-set}
 use Rattle.std.proofs.lemmas.Bool.{cases_eq, cases_lt, eq-eqb, false≢true, ne_eqb}
-use Rattle.std.proofs.lemmas.List.{append-nil, map-id, map-set, get_or-map, length-replicate, get_or-replicate, get_or-set_same, get_or-set_other}
+use Rattle.std.proofs.lemmas.List.{append-nil, map-set, get_or-map, length-replicate, get_or-replicate, get_or-set_same, get_or-set_other}
 use Rattle.std.proofs.lemmas.List.Elements.{All-same, filter-append, filter_passes}
 use Rattle.std.proofs.lemmas.Option.{get_or_from_slice_get, slice_get_past}
-use Rattle.std.proofs.lemmas.List.FromFn.{fill_by_all, length-map-range_with_len, get_or-map-range_with_len, map-range_with_len_more}
+use Rattle.std.proofs.lemmas.List.FromFn.{fill_by_all, length-map-range_with_len, get_or-map-range_with_len}
 use Rattle.trace_format.specs.declared.trace.Trace.{Trace}
 use Rattle.trace_format.specs.Steps.{Step, places, step_at, steps}
 use Rattle.replay_report.specs.Places.{is_step_of, items, places_below, places_by_ring, places_of_ring, with_place}
-
-range_more : (n : ℕ) → range_with_len 0 (n + 1) ≡ range_with_len 0 n ++ n ∷ []
-range_more n =
-    sym (map-id (range_with_len 0 (n + 1))) ∙ map-range_with_len_more (λ k. k) 0 n n (omega arith) ∙ ap (λ ks. ks ++ n ∷ []) (map-id (range_with_len 0 n))
+use Rattle.replay_report.proofs.ReportLemmas.{range_more}
 
 -- one place more
-places_more : (t : Trace) (n ring : ℕ) → places_below t (n + 1) ring ≡ places_below t n ring ++ filter (λ place. is_step_of ring (step_at t place)) (n ∷ [])
-places_more t n ring =
-    let p = λ (place : ℕ). is_step_of ring (step_at t place) in
-    ap (filter p) (range_more n) ∙ filter-append p (range_with_len 0 n) (n ∷ [])
-
-place_here : (t : Trace) (n : ℕ) (step : Step) → step_at t n ≡ Some step → places_below t (n + 1) step.ring ≡ places_below t n step.ring ++ n ∷ []
-place_here t n step stands = places_more t n step.ring ∙ rw (stands, eq-eqb step.ring step.ring refl) refl
-
-place_elsewhere : (t : Trace) (n ring : ℕ) (step : Step) → step_at t n ≡ Some step → (step.ring ≡ ring → ⊥) → places_below t (n + 1) ring ≡ places_below t n ring
-place_elsewhere t n ring step stands other = places_more t n ring ∙ rw (stands, ne_eqb step.ring ring other) (append-nil (places_below t n ring))
+place_more : (t : Trace) (n ring : ℕ) (step : Step) → step_at t n ≡ Some step
+    → places_below t (n + 1) ring ≡ places_below t n ring ++ (if step.ring == ring then n ∷ [] else [])
+place_more t n ring step stands = rw (range_more n, filter-append (λ place. is_step_of ring (step_at t place)) (range_with_len 0 n) (n ∷ []), stands)
 
 -- a list with a place more, put back
 pub list_put : (lists : List (Vec ℕ Global)) (ring place : ℕ) (list longer : Vec ℕ Global) → ring < length lists → list ≡ get_or lists ring list → longer.items ≡ list.items ++ place ∷ []
@@ -49,9 +39,11 @@ places_walked t n rings step lists stands so_far =
     fill_by_all (places_below t (n + 1)) (with_place lists step.ring n) rings [] (length-set lists step.ring longer ∙ long) (λ k lt. elim (cases_eq k step.ring) [
       | inl here ↦
           ap (λ i. get_or (with_place lists step.ring n) i []) here ∙ get_or-set_same lists step.ring longer [] (omega (arith, here, long))
-          ∙ ap (λ xs. xs ++ n ∷ []) (read step.ring (omega (arith, here))) ∙ sym (place_here t n step stands) ∙ ap (places_below t (n + 1)) (sym here)
+          ∙ ap (λ xs. xs ++ n ∷ []) (ap (λ i. get_or lists i []) (sym here) ∙ read k lt)
+          ∙ sym (rw (eq-eqb step.ring k (sym here)) at (place_more t n k step stands))
       | inr other ↦
-          get_or-set_other lists step.ring k longer [] other ∙ read k lt ∙ sym (place_elsewhere t n k step stands (λ e. other (sym e)))
+          get_or-set_other lists step.ring k longer [] other ∙ read k lt
+          ∙ sym (rw (ne_eqb step.ring k (λ e. other (sym e)), append-nil (places_below t n k)) at (place_more t n k step stands))
     ])
 
 -- each ring has its list
@@ -68,11 +60,8 @@ listed_stands t ring ks i d e lt =
     let p = λ (place : ℕ). is_step_of ring (step_at t place) in
     All-same (λ place. p place ≡ true) ks (places_of_ring t ring) e (filter_passes p (range_with_len 0 (places t))) i d lt
 
-is_place : (t : Trace) (ring place : ℕ) → is_step_of ring (step_at t place) ≡ true → place < places t
-is_place t ring place here = elim (cases_lt place (places t)) [
-  | inl lt ↦ lt
-  | inr past ↦ absurd (false≢true (rw (slice_get_past (steps t) place past) at here))
-]
-
 pub listed_within : (t : Trace) (ring : ℕ) (ks : List ℕ) (i d : ℕ) → ks ≡ places_of_ring t ring → i < length ks → get_or ks i d < places t
-listed_within t ring ks i d e lt = is_place t ring (get_or ks i d) (listed_stands t ring ks i d e lt)
+listed_within t ring ks i d e lt = elim (cases_lt (get_or ks i d) (places t)) [
+  | inl within ↦ within
+  | inr past ↦ absurd (false≢true (rw (slice_get_past (steps t) (get_or ks i d) past) at (listed_stands t ring ks i d e lt)))
+]

@@ -1,10 +1,11 @@
 -- Texts that grow by a piece for each number or element, and the sizes that an image tells.
-use Rattle.std.proofs.Common.{◌≡◌, ℕ, zero, suc, ◌+◌, ◌<◌, ◌≤◌, ⊎_elim, inl, inr, List, ◌++◌, All, length, take, get_or, refl, sym, ap, ◌∙◌, arith, add-one, append_assoc, Some}
+use Rattle.std.proofs.Common.{◌≡◌, ℕ, ◌+◌, ◌<◌, inl, inr, List, ◌++◌, All, length, take, get_or, refl, ap, ◌∙◌, arith, Some}
 use Rattle.std.specs.List.{flat_map, range_with_len, slice_get}
-use Rattle.std.specs.Prelude.{Bool, true, false, ◌==◌, nat_le, filter, [], ◌∷◌, Option, None}
+use Rattle.std.specs.Prelude.{Bool, true, false, ◌==◌, filter, [], ◌∷◌, Option, None}
 use Rattle.std.proofs.lemmas.Bool.{cases_Bool, cases_lt, lt-leb, ne_eqb}
-use Rattle.std.proofs.lemmas.List.{append-nil, length-take, take_all, take-take, take_more, flat_map_more}
+use Rattle.std.proofs.lemmas.List.{length-take-le, map-id, take_all, take-take, take_more, flat_map_more}
 use Rattle.std.proofs.lemmas.List.Elements.{All-map}
+use Rattle.std.proofs.lemmas.List.FromFn.{map-range_with_len_more}
 use Rattle.trace_format.specs.declared.trace.Trace.{Trace}
 use Rattle.trace_format.specs.Steps.{Step, places, step_at}
 use Rattle.op_meaning.specs.declared.reply.Reply.{Reply}
@@ -15,17 +16,13 @@ use Rattle.replay_report.specs.Places.{is_step_of, places_of_ring}
 use Rattle.replay_report.specs.Report.{IsSized, action_line, data_text, entry_outcome, line, place_line, posting, step_line}
 
 -- one number more
-flat_map-range_suc : (f : ℕ → List ℕ) (a n j : ℕ) → a + n ≡ j → flat_map f (range_with_len a (suc n)) ≡ flat_map f (range_with_len a n) ++ f j
-flat_map-range_suc f a zero j e = let same : a ≡ j = omega arith in append-nil (f a) ∙ ap f same
-flat_map-range_suc f a (suc n) j e =
-    ap (λ rest. f a ++ rest) (flat_map-range_suc f (a + 1) n j (omega arith)) ∙ sym (append_assoc (f a) (flat_map f (range_with_len (a + 1) n)) (f j))
+pub range_more : (n : ℕ) → range_with_len 0 (n + 1) ≡ range_with_len 0 n ++ n ∷ []
+range_more n = simp map-id at (map-range_with_len_more (λ (k : ℕ). k) 0 n n (omega arith))
 
 -- a text with the pieces of the numbers below k, and then with that of k
 pub range_grown : (old now next : List ℕ) (f : ℕ → List ℕ) (k : ℕ) → now ≡ old ++ flat_map f (range_with_len 0 k) → next ≡ now ++ f k
     → next ≡ old ++ flat_map f (range_with_len 0 (k + 1))
-range_grown old now next f k so_far e =
-    let more : flat_map f (range_with_len 0 (k + 1)) ≡ flat_map f (range_with_len 0 k) ++ f k = rw add-one (flat_map-range_suc f 0 k k (omega arith)) in
-    rw more (e ∙ ap (λ text. text ++ f k) so_far ∙ append_assoc old (flat_map f (range_with_len 0 k)) (f k))
+range_grown old now next f k so_far e = rw (range_more k) (e ∙ ap (λ text. text ++ f k) so_far ∙ flat_map_more f old (range_with_len 0 k) k)
 
 -- a text with the pieces of the first elements, and then with that of the next
 pub list_grown : {X Y : Type 0} (old now next : List Y) (f : X → List Y) (xs : List X) (i : ℕ) (d : X) → i < length xs → now ≡ old ++ flat_map f (take i xs) → next ≡ now ++ f (get_or xs i d)
@@ -34,14 +31,12 @@ list_grown old now next f xs i d lt so_far e = rw (take_more xs i d lt) (e ∙ a
 
 -- the bytes that are shown, and one more, tell how the line of an entry ends
 data_text_shown : (bytes : List ℕ) → data_text (take 33 bytes) ≡ data_text bytes
-data_text_shown bytes = ⊎_elim
-    (λ (more : 33 < length bytes).
-    let count : length (take 33 bytes) ≡ 33 = length-take 33 bytes ∙ omega arith in
-    let some : (length bytes == 0) ≡ false = ne_eqb (length bytes) 0 (λ e. absurd (omega (arith, e, more))) in
-    let many : nat_le (length bytes) 32 ≡ false = lt-leb (length bytes) 32 (omega arith) in
-    rw (count, take-take 32 33 bytes (omega arith), some, many) refl)
-    (λ (all : length bytes ≤ 33). ap data_text (take_all 33 bytes all))
-    (cases_lt 33 (length bytes))
+data_text_shown bytes = elim (cases_lt 33 (length bytes)) [
+  | inl more ↦
+      let count : length (take 33 bytes) ≡ 33 = length-take-le 33 bytes (omega arith) in
+      rw (count, take-take 32 33 bytes (omega arith), ne_eqb (length bytes) 0 (λ e. omega (arith, e, more)), lt-leb (length bytes) 32 (omega arith))
+  | inr all ↦ ap data_text (take_all 33 bytes all)
+]
 
 pub entry_outcome_shown : (posted : Bool) (shown bytes : List ℕ) → shown ≡ take 33 bytes → entry_outcome posted shown ≡ entry_outcome posted bytes
 entry_outcome_shown posted shown bytes e = ap (λ text. line (posting posted ++ text)) (ap data_text e ∙ data_text_shown bytes)

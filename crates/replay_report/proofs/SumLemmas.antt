@@ -3,11 +3,10 @@ use Rattle.std.proofs.Common.{◌≡◌, ℕ, zero, suc, ◌+◌, ◌-◌, ◌<�
 use Rattle.std.proofs.lemmas.List.{append-nil, append_assoc, take_more, take-append-drop, drop-take, take-take, take_all}
 use Rattle.std.proofs.lemmas.List.Elements.{All-cons, All-contains, All-contains_itself, All-head, All-map, All-nil, All-push, All-tail, All-weaker, Contains-append_left, Contains-append_right, Contains-push, filter_map-append}
 use Rattle.std.proofs.lemmas.Map.Lookups.{CmpEqualImpliesEq, exact_pairs, exact_unsigned}
-use Rattle.std.proofs.lemmas.Map.Views.{All-insert_key, Contains-from_lookup, tells_apart}
-use Rattle.std.specs.BTreeMap.{insert_entry, is_at}
+use Rattle.std.proofs.lemmas.Map.Views.{All-insert_key}
+use Rattle.std.specs.BTreeMap.{insert_entry}
 use Rattle.std.specs.BTreeSet.{insert_key}
-use Rattle.std.specs.List.{Contains, cons_option, filter_map, flat_map}
-use Rattle.std.specs.Map.{lookup}
+use Rattle.std.specs.List.{Contains, cons_option, filter_map}
 use Rattle.std.specs.Ordering.{match_ordering, nat_cmp}
 use Rattle.std.specs.Option.{option_map}
 use Rattle.std.specs.declared.cmp.Ordering.{Ordering}
@@ -24,7 +23,6 @@ use Rattle.replay_report.specs.declared.sums.Holder.TheVariants.{File, Buffer}
 use Rattle.replay_report.specs.Report.{IsLong}
 use Rattle.replay_report.specs.declared.sums.Holder.{Holder}
 use Rattle.replay_report.specs.Sums.{HaveSame}
-use Rattle.replay_report.proofs.ReportLemmas.{list_grown}
 use Rattle.world_parts.proofs.Collision.{left, right}
 
 -- the first bytes and the piece after them
@@ -40,11 +38,7 @@ pub whole_range : (xs : List ℕ) (n : ℕ) → length xs ≡ n → range_of xs 
 unfolding range_of
 whole_range xs n e = let all : n - 0 ≡ n = omega arith in rw all (take_all n xs (omega arith))
 
--- what holds of each entry holds of the one that a look-up finds
-pub entry_known : {K X : Type 0} (R : K → K → Ordering) → CmpEqualImpliesEq R → (P : K × X → Type 0) (es : List (K × X)) → All P es → (k : K) (v : X) → lookup (is_at (R k)) es ≡ Some v → P (k, v)
-entry_known R exact P es a k v e = All-contains P es (k, v) a (Contains-from_lookup (tells_apart exact) k v es e)
-
--- and it holds of each after one more was put in
+-- what holds of each entry holds of each after one more was put in
 pub entry_more : {K X : Type 0} (R : K → K → Ordering) → CmpEqualImpliesEq R → (P : K × X → Type 0) (es : List (K × X)) → All P es → (k : K) (v : X) → P (k, v) → All P (insert_entry R es k v)
 entry_more R exact P [] a k v p = All-cons P (k, v) [] p (All-nil P)
 entry_more R exact P (e ∷ es) a k v p = by (R k e.0) refl (entry_more R exact P es (All-tail P e es a) k v p)
@@ -116,16 +110,12 @@ module _ {K : Type 0} (R : K → K → Ordering) (exact : CmpEqualImpliesEq R) (
       let new = All-weaker (Contains xs) (Contains (xs ++ k ∷ [])) (λ x c. Contains-append_left xs (k ∷ []) x c) ks h.0 in
       (All-insert_key R k (Contains (xs ++ k ∷ [])) ks new (Contains-push xs k), All-push (Contains ys) xs k old (All-head (Contains ys) k ks all))
 
--- the files and buffers that are shown, with the next one
-pub same_grown : {X K : Type 0} (ks old now : List K) (f : X → List K) (xs : List X) (i : ℕ) (d : X) → i < length xs → now ≡ old ++ flat_map f (take i xs) → HaveSame ks (now ++ f (get_or xs i d)) → HaveSame ks (old ++ flat_map f (take (i + 1) xs))
-same_grown ks old now f xs i d lt so_far h = subst (HaveSame ks) (list_grown old now (now ++ f (get_or xs i d)) f xs i d lt so_far refl) h
-
 -- a holder behind its size or length is known by how it compares
 pub exact_shown : CmpEqualImpliesEq (λ (x y : ℕ × Holder). ordering_then (nat_cmp x.0 y.0) (cmp-value.it x.1 y.1))
 exact_shown = exact_pairs nat_cmp cmp-value.it exact_unsigned same_holder
 
--- the same of the files that have sums
-pub same_filtered : {X K : Type 0} (ks old : List K) (h : X → Option K) (xs : List X) (i : ℕ) (d : X) → i < length xs → HaveSame ks (old ++ filter_map h (take i xs) ++ cons_option (h (get_or xs i d)) []) → HaveSame ks (old ++ filter_map h (take (i + 1) xs))
-same_filtered ks old h xs i d lt same =
-    let next = filter_map-append h (take i xs) (get_or xs i d ∷ []) in
-    rw (take_more xs i d lt, next, sym (append_assoc old (filter_map h (take i xs)) (cons_option (h (get_or xs i d)) []))) same
+-- the files that have sums, with that of the next name
+pub files_grown : {X K : Type 0} (old : List K) (h : X → Option K) (xs : List X) (i : ℕ) (d : X) → i < length xs
+    → old ++ filter_map h (take (i + 1) xs) ≡ old ++ filter_map h (take i xs) ++ cons_option (h (get_or xs i d)) []
+files_grown old h xs i d lt = rw (take_more xs i d lt, filter_map-append h (take i xs) (get_or xs i d ∷ []))
+    (sym (append_assoc old (filter_map h (take i xs)) (cons_option (h (get_or xs i d)) [])))

@@ -47,6 +47,7 @@ fn add_place(lists: &mut Vec<Vec<u32>>, ring: usize, place: u32) -> Result<(), A
 impl PlacesByRing {
     /// The places of a trace's rings, in one walk over its places. It takes time and memory linear
     /// in the places and the rings.
+    #[tactic(auto, using(crate::proofs::PlacesLemmas::no_places))]
     pub fn of(alloc: Global, trace: &Trace) -> Result<Self, AllocError>
         ensures { IfOk result (λ p. p ≡ places_by_ring trace.now) }
     {

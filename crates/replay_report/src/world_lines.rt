@@ -65,6 +65,7 @@ fn push_summed(
 }
 
 /// The lines of the image of a world, with the sums that were made ahead where they are asked for.
+#[tactic(auto, using(crate::proofs::ReportLemmas::image_is_sized, crate::proofs::SumLemmas::image_is_long))]
 fn push_image(
     alloc: Global,
     text: &mut String,

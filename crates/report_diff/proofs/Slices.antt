@@ -1,8 +1,9 @@
 -- Lists of slices, by their bytes.
-use Rattle.std.proofs.Common.{◌≡◌, ◌<◌, ◌+◌, ℕ, zero, suc, Bool, true, false, List, [], ◌∷◌, ◌++◌, length, get_or, take, refl, ap, ◌∙◌, arith}
+use Rattle.std.proofs.Common.{◌≡◌, ◌<◌, ◌+◌, ℕ, Bool, true, false, List, [], ◌∷◌, ◌++◌, length, get_or, take, ap, ◌∙◌}
 use Rattle.std.specs.List.{list_all, list_any}
 use Rattle.std.specs.Borrow.{Bor}
 use Rattle.std.proofs.lemmas.List.{map-append, take_more, length-map}
+use Rattle.std.proofs.Math.ListN.{get_or-map}
 use Rattle.std.proofs.lemmas.List.Folds.{list_all_at, list_any_at}
 use Rattle.report_diff.specs.Lines.{texts}
 
@@ -11,9 +12,7 @@ abbrev pub no_slice : Bor (List ℕ)
 no_slice = record { ref_ptr = (0, 0); now = [] }
 
 pub text_at : (slices : List (Bor (List ℕ))) (i : ℕ) → get_or (texts slices) i [] ≡ (get_or slices i no_slice).now
-text_at [] i = refl
-text_at (s ∷ slices) zero = refl
-text_at (s ∷ slices) (suc i) = text_at slices i
+text_at slices i = get_or-map (λ (s : Bor (List ℕ)). s.now) slices i no_slice
 
 -- one slice more
 pub texts_more : (slices : List (Bor (List ℕ))) (i : ℕ) → i < length slices
@@ -24,10 +23,8 @@ texts_more slices i lt = ap texts (take_more slices i no_slice lt)
 -- some slice passes, or fails
 pub some_passes : (p : List ℕ → Bool) (slices : List (Bor (List ℕ))) (i : ℕ) → i < length slices → p (get_or slices i no_slice).now ≡ true
     → list_any p (texts slices) ≡ true
-some_passes p slices i lt passes =
-    list_any_at p (texts slices) i [] (omega (arith, length-map slices (λ (s : Bor (List ℕ)). s.now))) (ap p (text_at slices i) ∙ passes)
+some_passes p slices i lt passes = list_any_at p (texts slices) i [] (rw length-map lt) (rw (text_at slices i) passes)
 
 pub some_fails : (p : List ℕ → Bool) (slices : List (Bor (List ℕ))) (i : ℕ) → i < length slices → p (get_or slices i no_slice).now ≡ false
     → list_all p (texts slices) ≡ false
-some_fails p slices i lt fails =
-    list_all_at p (texts slices) i [] (omega (arith, length-map slices (λ (s : Bor (List ℕ)). s.now))) (ap p (text_at slices i) ∙ fails)
+some_fails p slices i lt fails = list_all_at p (texts slices) i [] (rw length-map lt) (rw (text_at slices i) fails)

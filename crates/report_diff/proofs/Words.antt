@@ -1,6 +1,6 @@
 -- The first words of a line, byte by byte.
-use Rattle.std.proofs.Common.{◌≡◌, ◌==◌, ◌<◌, ◌≤◌, ◌+◌, ℕ, zero, suc, true, false, cond, List}
-use Rattle.std.proofs.Common.{[], ◌∷◌, ◌++◌, length, get_or, take, drop, refl, sym, ap, ◌∙◌, arith, append_assoc}
+use Rattle.std.proofs.Common.{◌≡◌, ◌==◌, ◌<◌, ◌≤◌, ◌+◌, ℕ, zero, suc, false, List}
+use Rattle.std.proofs.Common.{[], ◌∷◌, ◌++◌, length, get_or, take, drop, refl, arith, append_assoc}
 use Rattle.std.specs.List.{join_with_byte, onto_first}
 use Rattle.std.proofs.lemmas.List.{append-nil, drop_more, drop_all, take_more, take_all}
 use Rattle.std.proofs.lemmas.List.Splits.{length-slice_split}
@@ -16,7 +16,7 @@ onto (suc n) b (p ∷ q ∷ parts) = refl
 
 letter : (n b : ℕ) (rest : List ℕ) → (b == 32) ≡ false → first_words (suc n) (b ∷ rest) ≡ b ∷ first_words (suc n) rest
 unfolding first_words
-letter n b rest other = ap (λ t. join_with_byte 32 (take (suc n) (cond t ([] ∷ words rest) (onto_first b (words rest))))) other ∙ onto n b (words rest)
+letter n b rest other = rw other (onto n b (words rest))
 
 -- a space before a further word
 between : (n : ℕ) (parts : List (List ℕ)) → 0 < length parts
@@ -24,15 +24,13 @@ between : (n : ℕ) (parts : List (List ℕ)) → 0 < length parts
 between n [] some = absurd (omega arith)
 between n (p ∷ parts) some = refl
 
-space : (n b : ℕ) (rest : List ℕ) → (b == 32) ≡ true → b ≡ 32 → first_words (suc (suc n)) (b ∷ rest) ≡ b ∷ first_words (suc n) rest
+space : (n : ℕ) (rest : List ℕ) → first_words (suc (suc n)) (32 ∷ rest) ≡ 32 ∷ first_words (suc n) rest
 unfolding first_words
-space n b rest same is =
-    ap (λ t. join_with_byte 32 (take (suc (suc n)) (cond t ([] ∷ words rest) (onto_first b (words rest))))) same
-    ∙ between n (words rest) (omega (arith, length-slice_split (λ c. c == 32) rest)) ∙ ap (λ c. c ∷ join_with_byte 32 (take (suc n) (words rest))) (sym is)
+space n rest = between n (words rest) (omega (arith, length-slice_split (λ c. c == 32) rest))
 
-last_space : (b : ℕ) (rest : List ℕ) → (b == 32) ≡ true → first_words 1 (b ∷ rest) ≡ []
+last_space : (rest : List ℕ) → first_words 1 (32 ∷ rest) ≡ []
 unfolding first_words
-last_space b rest same = ap (λ t. join_with_byte 32 (take 1 (cond t ([] ∷ words rest) (onto_first b (words rest))))) same
+last_space rest = refl
 
 none_left : (n : ℕ) → first_words (suc n) [] ≡ []
 unfolding first_words
@@ -44,38 +42,27 @@ abbrev pub KnownTo : ℕ → List ℕ → ℕ → ℕ → Type 0
 KnownTo count line place left = first_words count line ≡ take place line ++ first_words left (drop place line)
 
 -- a place further, within a word and past a space
-pub known_letter : (count : ℕ) (line : List ℕ) (place left b : ℕ) → place < length line → b ≡ get_or line place 0 → 1 ≤ left → (b == 32) ≡ false
+pub known_letter : (count : ℕ) (line : List ℕ) (place left : ℕ) → place < length line → 1 ≤ left → (get_or line place 0 == 32) ≡ false
     → KnownTo count line place left → KnownTo count line (place + 1) left
-known_letter count line place zero b lt is some other known = absurd (omega arith)
-known_letter count line place (suc left) b lt is some other known =
-    let here : drop place line ≡ b ∷ drop (place + 1) line = rw is (drop_more line place 0 lt) in
-    let more : take (place + 1) line ≡ take place line ++ b ∷ [] = rw is (take_more line place 0 lt) in
-    known ∙ ap (λ rest. take place line ++ first_words (suc left) rest) here ∙ ap (λ t. take place line ++ t) (letter left b (drop (place + 1) line) other)
-    ∙ sym (append_assoc (take place line) (b ∷ []) (first_words (suc left) (drop (place + 1) line)))
-    ∙ ap (λ t. t ++ first_words (suc left) (drop (place + 1) line)) (sym more)
+known_letter count line place zero lt some other known = absurd (omega arith)
+known_letter count line place (suc left) lt some other known =
+    let b = get_or line place 0 in
+    rw (take_more line place 0 lt, append_assoc) (rw (drop_more line place 0 lt, letter left b (drop (place + 1) line) other) at known)
 
-pub known_space : (count : ℕ) (line : List ℕ) (place left b : ℕ) → place < length line → b ≡ get_or line place 0 → 1 ≤ left → b ≡ 32
+pub known_space : (count : ℕ) (line : List ℕ) (place left : ℕ) → place < length line → 1 ≤ left → get_or line place 0 ≡ 32
     → KnownTo count line place (left + 1) → KnownTo count line (place + 1) left
-known_space count line place zero b lt is some same known = absurd (omega arith)
-known_space count line place (suc left) b lt is some same known =
-    let here : drop place line ≡ b ∷ drop (place + 1) line = rw is (drop_more line place 0 lt) in
-    let more : take (place + 1) line ≡ take place line ++ b ∷ [] = rw is (take_more line place 0 lt) in
+known_space count line place zero lt some same known = absurd (omega arith)
+known_space count line place (suc left) lt some same known =
     let two : suc left + 1 ≡ suc (suc left) = omega arith in
-    known ∙ ap (λ n. take place line ++ first_words n (drop place line)) two ∙ ap (λ rest. take place line ++ first_words (suc (suc left)) rest) here
-    ∙ ap (λ t. take place line ++ t) (space left b (drop (place + 1) line) (ap (λ x. x == 32) same) same)
-    ∙ sym (append_assoc (take place line) (b ∷ []) (first_words (suc left) (drop (place + 1) line)))
-    ∙ ap (λ t. t ++ first_words (suc left) (drop (place + 1) line)) (sym more)
+    rw (take_more line place 0 lt, same, append_assoc)
+    (rw (two, drop_more line place 0 lt, same, space left (drop (place + 1) line)) at known)
 
-pub known_last : (count : ℕ) (line : List ℕ) (place b : ℕ) → place < length line → b ≡ get_or line place 0 → b ≡ 32 → KnownTo count line place 1
+pub known_last : (count : ℕ) (line : List ℕ) (place : ℕ) → place < length line → get_or line place 0 ≡ 32 → KnownTo count line place 1
     → first_words count line ≡ take place line
-known_last count line place b lt is same known =
-    let here : drop place line ≡ b ∷ drop (place + 1) line = rw is (drop_more line place 0 lt) in
-    known ∙ ap (λ rest. take place line ++ first_words 1 rest) here
-    ∙ ap (λ t. take place line ++ t) (last_space b (drop (place + 1) line) (ap (λ x. x == 32) same)) ∙ append-nil (take place line)
+known_last count line place lt same known =
+    rw (drop_more line place 0 lt, same, last_space (drop (place + 1) line), append-nil) at known
 
 pub known_end : (count : ℕ) (line : List ℕ) (place left : ℕ) → length line ≤ place → 1 ≤ left → KnownTo count line place left
     → first_words count line ≡ line
 known_end count line place zero past some known = absurd (omega arith)
-known_end count line place (suc left) past some known =
-    known ∙ ap (λ rest. take place line ++ first_words (suc left) rest) (drop_all place line past)
-    ∙ ap (λ t. take place line ++ t) (none_left left) ∙ append-nil (take place line) ∙ take_all place line past
+known_end count line place (suc left) past some known = rw (drop_all place line past, none_left left, append-nil, take_all place line past) at known

@@ -198,6 +198,7 @@ impl Buffers {
     }
 
     /// The buffers in the order of ring and index.
+    #[tactic(auto, using(crate::proofs::Looked::held))]
     pub fn iter(&self) -> Iter<'_, (u8, u32), Extents>
         ensures { result ≡ self.now.entries }
     {

@@ -44,6 +44,7 @@ impl Descriptions {
 
     /// What a description says.
     #[inline(always)]
+    #[tactic(auto, using(crate::proofs::Looked::held))]
     pub fn get(&self, number: u32) -> Option<Description>
         ensures { result ≡ get self.now number }
     {

@@ -42,6 +42,7 @@ impl Descriptors {
 
     /// The open file description that a descriptor holds.
     #[inline(always)]
+    #[tactic(auto, using(crate::proofs::Looked::held))]
     pub fn get(&self, number: u32) -> Option<u32>
         ensures { result ≡ get self.now number }
     {
@@ -70,6 +71,7 @@ impl Descriptors {
     }
 
     /// The descriptors that are taken, in order, each with its open file description.
+    #[tactic(auto, using(crate::proofs::Looked::held))]
     pub fn iter(&self) -> Iter<'_, u32, u32>
         ensures { result ≡ self.now.entries }
     {
@@ -86,6 +88,7 @@ impl Descriptors {
 
     /// Whether both have the same open file descriptions at the same descriptors. It takes no
     /// memory.
+    #[tactic(auto, using(crate::proofs::Looked::held))]
     pub fn same(&self, other: &Descriptors) -> bool
         ensures { IsTrue result ↔ (self.now ≡ other.now) }
     {

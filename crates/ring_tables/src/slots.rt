@@ -63,6 +63,7 @@ impl Slots {
     }
 
     /// The full slots in the order of ring and slot, each with its open file description.
+    #[tactic(auto, using(crate::proofs::Looked::held))]
     pub fn iter(&self) -> Iter<'_, (u8, u32), u32>
         ensures { result ≡ self.now.entries }
     {
@@ -70,6 +71,7 @@ impl Slots {
     }
 
     /// Whether both have the same open file descriptions in the same slots. It takes no memory.
+    #[tactic(auto, using(crate::proofs::Looked::held))]
     pub fn same(&self, other: &Slots) -> bool
         ensures { IsTrue result ↔ (self.now ≡ other.now) }
     {

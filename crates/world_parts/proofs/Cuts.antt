@@ -1,16 +1,16 @@
 -- What cutting by a footprint takes and leaves, use by use.
-use Rattle.std.specs.Prelude.{◌≡◌, ℕ, zero, suc, Bool, true, false, ◌||◌, ◌+◌, ◌<◌, T, List, [], ◌∷◌, ◌++◌, map, take, length, get_or, refl, ◌⊎◌}
+use Rattle.std.specs.Prelude.{◌≡◌, ℕ, zero, suc, Bool, ◌+◌, ◌<◌, T, List, [], ◌∷◌, ◌++◌, map, take, length, get_or, refl, ◌⊎◌}
 use mathlib.Core.Path.{sym, subst, ap, ◌∙◌}
 use mathlib.Core.Logic.{inl, inr}
 use native.Mathlib.Omega.{arith}
 use Rattle.std.proofs.Common.{Vec, Global, add-one}
 use Rattle.std.proofs.Math.Seq.{take-suc}
 use Rattle.world_parts.specs.declared.footprint.Item as code
-use Rattle.world_parts.specs.declared.footprint.Item.TheVariants.{Chain, Ring, Slot, Descriptor, Description, Position, Size, Bytes, Name, Names, Buffer, AllNames, AllBytesAndSizes, AllPositions, AllDescriptions, AllDescriptors}
+use Rattle.world_parts.specs.declared.footprint.Item.TheVariants.{Chain, Ring, Slot, Descriptor, Description, Position, Size, Bytes, Name, Names, Buffer, AllDescriptors}
 use Rattle.world_parts.specs.declared.footprint.Use as code_use
 use Rattle.world_parts.specs.Uses.{item_meant, use_meant}
 use Rattle.world_parts.specs.World.{World}
-use Rattle.world_parts.specs.Items.{Atom, ring_order, value, member_of, Footprint, has_atom, Agree}
+use Rattle.world_parts.specs.Items.{Atom, ring_order, member_of, Footprint, has_atom, Agree}
 use Rattle.world_parts.specs.Cutting.{is_narrow_use, is_narrow, holed}
 use Rattle.world_parts.specs.Copying.{IsShadow, IsCopied}
 use Rattle.world_parts.proofs.Collision.{left, right}
@@ -24,23 +24,20 @@ narrow_at (v ∷ us) (suc i) u h e n = narrow_at us i u (omega arith) e (right (
 
 -- The atoms of a footprint with one more use.
 has_more : (us : List code_use.Use) (u : code_use.Use) (a : Atom) → T (has_atom (map use_meant (us ++ u ∷ [])) a) → T (has_atom (map use_meant us) a) ⊎ T (member_of (item_meant u.item) a)
-has_more [] u a h = elim (member_of (item_meant u.item) a) as (λ b. T (b || false) → T false ⊎ T b) [ true ↦ λ k. inr tt | false ↦ λ k. absurd k ] h
-has_more (v ∷ us) u a h =
-    elim (member_of (item_meant v.item) a) as (λ b. T (b || has_atom (map use_meant (us ++ u ∷ [])) a) → T (b || has_atom (map use_meant us) a) ⊎ T (member_of (item_meant u.item) a)) [
-      | true ↦ λ k. inl tt
-      | false ↦ λ k. has_more us u a k
-    ] h
+has_more [] u a h = grind arith
+has_more (v ∷ us) u a h = grind (arith, has_more us u a)
 
 -- A copied item more.
 pub agree_more : (s p q : World) (us : List code_use.Use) (i : ℕ) (u : code_use.Use) → i < length us → u ≡ get_or us i u → Agree (map use_meant (take i us)) s p → IsCopied s p q (item_meant u.item) → Agree (map use_meant (take (i + 1) us)) s q
-agree_more s p q us i u h e g c = record { same = λ a m. by a (has_more (take i us) u a (subst (λ xs. T (has_atom (map use_meant xs) a)) more m)) }
+agree_more s p q us i u h e g c = record {
+  same = λ a m. elim (has_more (take i us) u a (subst (λ xs. T (has_atom (map use_meant xs) a)) more m)) [
+    | inl k ↦ c.nearer.atoms a (g.same a k)
+    | inr k ↦ c.item a k
+  ];
+}
   where
     more : take (i + 1) us ≡ take i us ++ u ∷ []
     more = ap (λ n. take n us) (add-one i) ∙ take-suc us i u h ∙ ap (λ x. take i us ++ x ∷ []) (sym e)
-
-    by : (a : Atom) → T (has_atom (map use_meant (take i us)) a) ⊎ T (member_of (item_meant u.item) a) → value s a ≡ value q a
-    by a (inl m) = c.nearer.atoms a (g.same a m)
-    by a (inr m) = c.item a m
 
 -- The world that is left, by the uses of a footprint.
 pub world_left : (w s q : World) (f : Footprint) (us vs : List code_use.Use) → s ≡ w → us ≡ vs → map use_meant vs ≡ f → q ≡ holed (map use_meant us) s → q ≡ holed f w
@@ -62,19 +59,5 @@ pub record IsOther (x : code.Item) : Type 0 where
 
 -- Of those a narrow use has only a ring's order, which has one value.
 pub other_copied : (s p : World) (x : code.Item) (w : Bool) → IsShadow s p → IsOther x → T (is_narrow_use (record { item = item_meant x; written = w })) → IsCopied s p p (item_meant x)
-other_copied s p (Chain c) w sh o n = absurd (o.no_chain c refl)
 other_copied s p (Ring r) w sh o n = record { nearer = nothing_moved s p sh; item = one_item s p (ring_order r) refl }
-other_copied s p (Slot r m) w sh o n = absurd (o.no_slot r m refl)
-other_copied s p (Descriptor m) w sh o n = absurd (o.no_descriptor m refl)
-other_copied s p (Description d) w sh o n = absurd (o.no_description d refl)
-other_copied s p (Position d) w sh o n = absurd (o.no_position d refl)
-other_copied s p (Size i) w sh o n = absurd (o.no_size i refl)
-other_copied s p (Bytes i low high) w sh o n = absurd (o.no_bytes i low high refl)
-other_copied s p (Name d m) w sh o n = absurd (o.no_name d m refl)
-other_copied s p (Names d) w sh o n = absurd (o.no_names d refl)
-other_copied s p (Buffer r b low high) w sh o n = absurd (o.no_buffer r b low high refl)
-other_copied s p AllDescriptors w sh o n = absurd (o.no_descriptors refl)
-other_copied s p (AllNames m) w sh o n = absurd n
-other_copied s p (AllBytesAndSizes m) w sh o n = absurd n
-other_copied s p (AllPositions m) w sh o n = absurd n
-other_copied s p (AllDescriptions m) w sh o n = absurd n
+other_copied s p x w sh o n = absurd (grind arith)

@@ -1,18 +1,11 @@
 -- Names are names of files: at the start, and after changes that set no others.
-use Rattle.std.specs.Prelude.{◌≡◌, ℕ, suc, ◌==◌, Bool, true, false, cond, not, nat_le, ◌||◌, ◌⊎◌, T, List, [], ◌∷◌, length, filter, Option, Some, None, IfSome, Result, Ok, Err, refl}
-use Rattle.std.specs.List.{onto_first}
-use Rattle.std.specs.Option.{option_map, option_and_then}
-use Rattle.std.specs.Ordering.{nat_cmp, eq_by_cmp}
-use Rattle.std.specs.Cmp.{Equal-is}
-use Rattle.std.specs.Cmp.Lexicographic.{slice_cmp}
-use mathlib.Core.Path.{sym, subst, ap, ◌∙◌}
-use mathlib.Core.Logic.{inl, inr}
+use Rattle.std.specs.Prelude.{◌≡◌, ℕ, suc, ◌==◌, Bool, not, nat_le, ◌&&◌, ◌⊎◌, T, List, [], ◌∷◌, length, filter, Option, Some, None, Result, Ok, Err, refl}
+use Rattle.std.specs.List.{list_all, onto_first}
+use Rattle.std.specs.Option.{option_map}
+use mathlib.Core.Path.{sym}
 use native.Mathlib.Omega.{arith}
-use Rattle.std.proofs.lemmas.Bool.{le-leb}
 use Rattle.extent_bytes.specs.Bytes.{overwritten, resized, zeroed}
 use Rattle.sqe_codec.specs.declared.errno.Errno.{Errno}
-use Rattle.sqe_codec.specs.declared.errno.Errno.TheVariants.{EBADF, ENAMETOOLONG}
-use Rattle.sqe_codec.specs.Answers.{◌>>=◌, ◌>>◌, require}
 use Rattle.trace_format.specs.declared.trace.Trace.{Trace}
 use Rattle.trace_format.specs.declared.trace.Item as initial_item
 use Rattle.trace_format.specs.declared.trace.Node as initial_node
@@ -20,13 +13,14 @@ use Rattle.trace_format.specs.declared.trace.Node.TheVariants.{Directory, File, 
 use Rattle.trace_format.specs.Paths.{components, runs, has_slash}
 use Rattle.entry_checks.specs.Operation.{Path}
 use Rattle.finite_maps.specs.Table.{empty, get, insert, get-assign, get-insert, adjust_number, number_keys, text_keys}
-use Rattle.file_tree.specs.Tree.{Tree, Node, Names, directory, file, names_of_node, name, target, Kind, a_directory, a_file, new_node, renamed_node, rewritten_node}
+use Rattle.file_tree.specs.Tree.{Tree, Node, directory, target, Kind, a_directory, a_file, new_node, renamed_node, rewritten_node}
 use Rattle.file_tree.specs.Found.{node_of}
-use Rattle.file_tree.specs.Walk.{Place, fits_name, walk_from, directory_at, walk, starts_at_root}
+use Rattle.file_tree.specs.Walk.{Place, walk_from, walk}
 use Rattle.world_parts.specs.World.{World, Change, set_name, make_node, set_slot, set_descriptor, make_description, set_position, set_size, write_bytes, zero_bytes, write_buffer, break_chain, apply, apply_all}
 use Rattle.world_parts.specs.Start.{start, with_items, with_node, name_at, bare}
 use Rattle.world_parts.specs.Paths.{is_file_name, HasFileNames}
-use Rattle.world_parts.proofs.Collision.{both}
+use Rattle.world_parts.proofs.Collision.{right}
+use Rattle.world_parts.proofs.Raw.{entry}
 use Rattle.world_parts.proofs.Changes.{adjusted}
 use Rattle.world_parts.proofs.Ways.{looked}
 use Rattle.world_parts.proofs.Trees.{some_apart}
@@ -36,74 +30,42 @@ abbrev pub Named : Tree → Type 0
 Named tree = (d : ℕ) (n : List ℕ) (i : ℕ) → looked tree d n ≡ Some i → T (is_file_name n)
 
 pub has_file_names : (s : World) → Named s.nodes → HasFileNames s
-has_file_names s h d n = by (looked s.nodes d n) refl
-  where
-    by : (o : Option ℕ) → looked s.nodes d n ≡ o → IfSome (option_map (target s.nodes) o) (λ t. T (is_file_name n))
-    by None e = tt
-    by (Some i) e = h d n i e
+has_file_names s h d n = grind (arith, h d n)
 
 -- Walks.
 
-abbrev AllPlain : List (List ℕ) → Type 0
-AllPlain [] = Unit {0}
-AllPlain (n ∷ ns) = T (not (has_slash n)) × AllPlain ns
+abbrev is_plain : List ℕ → Bool
+is_plain n = not (has_slash n)
 
-abbrev AllGood : List (List ℕ) → Type 0
-AllGood [] = Unit {0}
-AllGood (n ∷ ns) = (T (nat_le 1 (length n)) × T (not (has_slash n))) × AllGood ns
+abbrev is_good : List ℕ → Bool
+is_good n = nat_le 1 (length n) && is_plain n
 
-put_first : (b : ℕ) → (b == 47) ≡ false → (ns : List (List ℕ)) → AllPlain ns → AllPlain (onto_first b ns)
-put_first b e [] h = (subst (λ c. T (not (c || false))) (sym e) tt, tt)
-put_first b e (n ∷ ns) h = (subst (λ c. T (not (c || has_slash n))) (sym e) h.0, h.1)
+plain_first : (b : ℕ) (ns : List (List ℕ)) → T (not (b == 47)) → T (list_all is_plain ns) → T (list_all is_plain (onto_first b ns))
+plain_first b ns e h = grind arith
 
-plain_runs : (bs : List ℕ) → AllPlain (runs bs)
-plain_runs [] = (tt, tt)
-plain_runs (b ∷ bs) = by (b == 47) refl (plain_runs bs)
-  where
-    by : (c : Bool) → (b == 47) ≡ c → AllPlain (runs bs) → AllPlain (cond c ([] ∷ runs bs) (onto_first b (runs bs)))
-    by true e h = (tt, h)
-    by false e h = put_first b e (runs bs) h
+plain_runs : (bs : List ℕ) → T (list_all is_plain (runs bs))
+plain_runs [] = tt
+plain_runs (b ∷ bs) = grind (arith, plain_runs bs, plain_first b (runs bs))
 
-filled : (n : List ℕ) → not (length n == 0) ≡ true → T (nat_le 1 (length n))
-filled [] h = absurd (subst T (sym h) tt)
-filled (b ∷ bs) h = subst T (sym (le-leb 1 (length (b ∷ bs)) (omega arith))) tt
-
-good_kept : (ns : List (List ℕ)) → AllPlain ns → AllGood (filter (λ run. not (length run == 0)) ns)
+good_kept : (ns : List (List ℕ)) → T (list_all is_plain ns) → T (list_all is_good (filter (λ run. not (length run == 0)) ns))
 good_kept [] h = tt
-good_kept (n ∷ ns) h = by (not (length n == 0)) refl (good_kept ns h.1)
-  where
-    by : (c : Bool) → not (length n == 0) ≡ c → AllGood (filter (λ run. not (length run == 0)) ns) → AllGood (cond c (n ∷ filter (λ run. not (length run == 0)) ns) (filter (λ run. not (length run == 0)) ns))
-    by true e k = ((filled n e, h.0), k)
-    by false e k = k
+good_kept (n ∷ ns) h = grind (arith, good_kept ns)
 
-abbrev IsNamed : Result Place Errno → Type 0
-IsNamed (Ok p) = T (is_file_name p.name)
-IsNamed (Err e) = Unit {0}
+walked_on : (tree : Tree) (d : ℕ) (n m : List ℕ) (ns : List (List ℕ)) (p : Place) → walk_from tree d (n ∷ m ∷ ns) ≡ Ok p
+    → (e : ℕ) × (walk_from tree e (m ∷ ns) ≡ Ok p)
+walked_on tree d n m ns p h = grind arith
 
-named_walk : (tree : Tree) (d : ℕ) (ns : List (List ℕ)) → AllGood ns → IsNamed (walk_from tree d ns)
-named_walk tree d [] h = tt
-named_walk tree d (n ∷ []) h = by (fits_name n) refl
-  where
-    by : (b : Bool) → fits_name n ≡ b → IsNamed (require b ENAMETOOLONG >> Ok (record { parent = d; name = n; target = name tree d n }))
-    by true e = both (nat_le 1 (length n)) _ h.0.0 (both (fits_name n) _ (subst T (sym e) tt) h.0.1)
-    by false e = tt
-named_walk tree d (n ∷ m ∷ ns) h = by (fits_name n) (directory_at (name tree d n)) (λ e. named_walk tree e (m ∷ ns) h.1)
-  where
-    by : (b : Bool) (r : Result ℕ Errno) → ((e : ℕ) → IsNamed (walk_from tree e (m ∷ ns))) → IsNamed (require b ENAMETOOLONG >> (r >>= λ (e : ℕ). walk_from tree e (m ∷ ns)))
-    by true (Ok e) k = k e
-    by true (Err e) k = tt
-    by false r k = tt
+named_walk : (tree : Tree) (d : ℕ) (ns : List (List ℕ)) → T (list_all is_good ns) → (p : Place) → walk_from tree d ns ≡ Ok p → T (is_file_name p.name)
+named_walk tree d [] h p e = grind arith
+named_walk tree d (n ∷ []) h p e = grind arith
+named_walk tree d (n ∷ m ∷ ns) h p e = let w = walked_on tree d n m ns p e in named_walk tree w.0 (m ∷ ns) (right (is_good n) _ h) p w.1
 
-named_way : (tree : Tree) (path : List ℕ) → IsNamed (walk_from tree 0 (components path))
+named_way : (tree : Tree) (path : List ℕ) (p : Place) → walk_from tree 0 (components path) ≡ Ok p → T (is_file_name p.name)
 named_way tree path = named_walk tree 0 (components path) (good_kept (runs path) (plain_runs path))
 
 -- the last name of a walk is the name of a file
 pub named_place : (tree : Tree) (path : Path) (p : Place) → walk tree path ≡ Ok p → T (is_file_name p.name)
-named_place tree path p e = subst IsNamed e (by (starts_at_root path))
-  where
-    by : (b : Bool) → IsNamed (require b EBADF >> walk_from tree 0 (components path.text))
-    by true = named_way tree path.text
-    by false = tt
+named_place tree path p e = named_way tree path.text p (grind arith)
 
 -- Changes.
 
@@ -116,49 +78,30 @@ abbrev pub AllNaming : List Change → Type 0
 AllNaming [] = Unit {0}
 AllNaming (c ∷ cs) = IsNaming c × AllNaming cs
 
-abbrev found : Option Node → List ℕ → Option ℕ
-found o n = option_and_then (λ (ns : Names). get ns n) (option_and_then names_of_node o)
-
 -- where the names of a node stay, or only names of files come
-named_adjusted : (f : Node → Node) (tree : Tree) (d : ℕ) → ((o : Option Node) (m : List ℕ) (i : ℕ) → found (option_map f o) m ≡ Some i → T (is_file_name m) ⊎ (found o m ≡ Some i)) → Named tree → Named (adjust_number f tree d)
-named_adjusted f tree d kept h e m i l = by (e == d) (ap (λ o. found o m) (sym (adjusted f tree d e)) ∙ l)
-  where
-    either : T (is_file_name m) ⊎ (found (get tree e) m ≡ Some i) → T (is_file_name m)
-    either (inl a) = a
-    either (inr b) = h e m i b
+named_adjusted : (f : Node → Node) (tree : Tree) (d : ℕ)
+    → ((o : Option Node) (m : List ℕ) (i : ℕ) → entry (option_map f o) m ≡ Some i → T (is_file_name m) ⊎ (entry o m ≡ Some i)) → Named tree
+    → Named (adjust_number f tree d)
+named_adjusted f tree d kept h e m i l = grind (arith, adjusted f tree d e, kept (get tree e) m i, h e m i)
 
-    by : (b : Bool) → found (cond b (option_map f (get tree e)) (get tree e)) m ≡ Some i → T (is_file_name m)
-    by true k = either (kept (get tree e) m i k)
-    by false k = h e m i k
+renamed : (n : List ℕ) (x : Option ℕ) → T (is_file_name n) → (o : Option Node) (m : List ℕ) (i : ℕ) → entry (option_map (renamed_node n x) o) m ≡ Some i
+    → T (is_file_name m) ⊎ (entry o m ≡ Some i)
+renamed n x good o m i h = grind (arith, get-assign {X = ℕ} text_keys.total, text_keys.same)
 
-renamed : (n : List ℕ) (x : Option ℕ) → T (is_file_name n) → (o : Option Node) (m : List ℕ) (i : ℕ) → found (option_map (renamed_node n x) o) m ≡ Some i → T (is_file_name m) ⊎ (found o m ≡ Some i)
-renamed n x good None m i h = inr h
-renamed n x good (Some (file bs)) m i h = inr h
-renamed n x good (Some (directory ns k)) m i h = by (eq_by_cmp (slice_cmp nat_cmp) m n) refl (sym (get-assign text_keys.total ns n x m) ∙ h)
-  where
-    by : (b : Bool) → eq_by_cmp (slice_cmp nat_cmp) m n ≡ b → cond b x (get ns m) ≡ Some i → T (is_file_name m) ⊎ (get ns m ≡ Some i)
-    by true e l = inl (subst (λ y. T (is_file_name y)) (sym (text_keys.same m n ((Equal-is (slice_cmp nat_cmp m n)).0 e))) good)
-    by false e l = inr l
+rewritten : (f : List ℕ → List ℕ) (o : Option Node) (m : List ℕ) (i : ℕ) → entry (option_map (rewritten_node f) o) m ≡ Some i
+    → T (is_file_name m) ⊎ (entry o m ≡ Some i)
+rewritten f o m i h = grind arith
 
-rewritten : (f : List ℕ → List ℕ) (o : Option Node) (m : List ℕ) (i : ℕ) → found (option_map (rewritten_node f) o) m ≡ Some i → T (is_file_name m) ⊎ (found o m ≡ Some i)
-rewritten f None m i h = inr h
-rewritten f (Some (file bs)) m i h = inr h
-rewritten f (Some (directory ns k)) m i h = inr h
+-- a node without names that is made
+named_made : (tree : Tree) (d : ℕ) (x : Node) → ((m : List ℕ) → entry (Some x) m ≡ None) → Named tree → Named (insert number_keys.total tree d x)
+named_made tree d x none h e m i l = grind (arith, get-insert number_keys.total tree d x e, none m, h e m i)
 
-made : (k : Kind) (m : List ℕ) → found (Some (new_node k)) m ≡ None
-made a_directory m = refl
-made a_file m = refl
-
-named_made : (tree : Tree) (d : ℕ) (k : Kind) → Named tree → Named (insert number_keys.total tree d (new_node k))
-named_made tree d k h e m i l = by (eq_by_cmp nat_cmp e d) (ap (λ o. found o m) (sym (get-insert number_keys.total tree d (new_node k) e)) ∙ l)
-  where
-    by : (b : Bool) → found (cond b (Some (new_node k)) (get tree e)) m ≡ Some i → T (is_file_name m)
-    by true g = absurd (some_apart (sym g ∙ made k m))
-    by false g = h e m i g
+made : (k : Kind) (m : List ℕ) → entry (Some (new_node k)) m ≡ None
+made k m = grind arith
 
 pub named_change : (s : World) (c : Change) → IsNaming c → Named s.nodes → Named (apply c s).nodes
 named_change s (set_name d n x) good h = named_adjusted (renamed_node n (node_of x)) s.nodes d (renamed n (node_of x) good) h
-named_change s (make_node i k) good h = named_made s.nodes i k h
+named_change s (make_node i k) good h = named_made s.nodes i (new_node k) (made k) h
 named_change s (set_slot r n d) good h = h
 named_change s (set_descriptor n d) good h = h
 named_change s (make_description n o) good h = h
@@ -179,11 +122,11 @@ named_at : (s : World) (path : List ℕ) (i : ℕ) → Named s.nodes → Named (
 named_at s path i h = by (walk_from s.nodes 0 (components path)) refl
   where
     by : (r : Result Place Errno) → walk_from s.nodes 0 (components path) ≡ r → Named (name_at s path i).nodes
-    by (Ok p) e = rw e (named_change s (set_name p.parent p.name (Some (target s.nodes i))) (subst IsNamed e (named_way s.nodes path)) h)
+    by (Ok p) e = rw e (named_change s (set_name p.parent p.name (Some (target s.nodes i))) (named_way s.nodes path p e) h)
     by (Err x) e = rw e h
 
 named_node : (s : World) (i : ℕ) (path : List ℕ) (x : initial_node.Node) → Named s.nodes → Named (with_node s i path x).nodes
-named_node s i path Directory h = named_at (apply (make_node i a_directory) s) path i (named_made s.nodes i a_directory h)
+named_node s i path Directory h = named_at (apply (make_node i a_directory) s) path i (named_made s.nodes i (new_node a_directory) (made a_directory) h)
 named_node s i path (File size stored) h =
     let cs = make_node i a_file ∷ write_bytes i 0 stored ∷ set_size i size ∷ [] in
     named_at (apply_all cs s) path i (named_changes s cs (tt, (tt, (tt, tt))) h)
@@ -194,11 +137,7 @@ named_items s i [] h = h
 named_items s i (x ∷ xs) h = named_items (with_node s i x.path x.node) (suc i) xs (named_node s i x.path x.node h)
 
 named_bare : Named bare.nodes
-named_bare d n i h = by (eq_by_cmp nat_cmp d 0) (ap (λ o. found o n) (sym (get-insert number_keys.total empty 0 (directory empty 0) d)) ∙ h)
-  where
-    by : (b : Bool) → found (cond b (Some (directory empty 0)) None) n ≡ Some i → T (is_file_name n)
-    by true g = absurd (some_apart (sym g))
-    by false g = absurd (some_apart (sym g))
+named_bare = named_made empty 0 (directory empty 0) (λ m. refl) (λ d n i h. absurd (some_apart (sym h)))
 
 pub named_start : (t : Trace) → Named (start t).nodes
 named_start t = named_items bare 1 t.items named_bare

@@ -24,10 +24,7 @@ module _ {K X : Type 0} {R : K → K → Ordering} (o : IsKeyOrder R) where
   keep m k (Some x) = insert o.total m k x
 
   keep_swap : (m : Table R X) (j k : K) (v w : Option X) → (j ≡ k → ⊥) → keep (keep m j v) k w ≡ keep (keep m k w) j v
-  keep_swap m j k None None apart = refl
-  keep_swap m j k None (Some y) apart = refl
-  keep_swap m j k (Some x) None apart = refl
-  keep_swap m j k (Some x) (Some y) apart = insert_swap m j k x y apart
+  keep_swap m j k v w apart = grind (arith, insert_swap m j k)
 
 module _ {K X A : Type 0} {R : K → K → Ordering} (o : IsKeyOrder R) (value : A → Option X) where
   -- the map with the values of a list, which is numbered from n, each put at the key of its number
@@ -82,3 +79,13 @@ module _ {X A B : Type 0} {R : ℕ × ℕ → ℕ × ℕ → Ordering} (o : IsKe
       ap (filled o value (λ i. (r, i)) 0 (row y)) (rows_filled-push (suc r) ys x)
       ∙ filled-swap o value (λ i. (r, i)) (λ i. (suc r + length ys, i)) (λ i j h. let same = ap (λ (p : ℕ × ℕ). p.0) h in absurd (omega arith)) 0 0 (row y) (row x) (rows_filled (suc r) ys)
       ∙ ap (λ (n : ℕ). filled o value (λ i. (n, i)) 0 (row x) (rows_filled r (y ∷ ys))) e
+
+  -- the same of what a walk over a list of rows comes to
+  pub rows_next : (from : List B → Table R X) → ((xs : List B) → from xs ≡ rows_filled 0 xs) → (fill : ℕ → List A → Table R X → Table R X)
+      → ((r : ℕ) (ys : List A) (m : Table R X) → fill r ys m ≡ filled o value (λ i. (r, i)) 0 ys m)
+      → (xs : List B) (i : ℕ) (d : B) → i < length xs → from (take (i + 1) xs) ≡ fill i (row (get_or xs i d)) (from (take i xs))
+  rows_next from is fill does xs i d lt =
+      let x = get_or xs i d in
+      let here : 0 + length (take i xs) ≡ i = omega (arith, length-take-le i xs) in
+      ap from (take_more xs i d lt) ∙ is (take i xs ++ x ∷ []) ∙ rows_filled-push 0 (take i xs) x
+      ∙ (λ j. filled o value (λ k. (here j, k)) 0 (row x) (sym (is (take i xs)) j)) ∙ sym (does i (row x) (from (take i xs)))

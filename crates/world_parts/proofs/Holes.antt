@@ -1,17 +1,17 @@
 -- What parts leave of a world, and what there is again once they are put back.
-use Rattle.std.specs.Prelude.{◌≡◌, ℕ, Bool, true, false, cond, not, ◌&&◌, ◌||◌, ◌==◌, leb, ◌+◌, ◌-◌, ◌<◌, ◌≤◌, T, List, [], ◌∷◌, ◌++◌, length, replicate, Option, Some, None, refl}
+use Rattle.std.specs.Prelude.{◌≡◌, ℕ, Bool, true, false, cond, not, ◌&&◌, ◌||◌, ◌-◌, T, List, [], ◌∷◌, ◌++◌, replicate, refl}
 use Rattle.std.specs.List.{list_all}
 use mathlib.Core.Path.{sym, subst, ap, ◌∙◌}
+use mathlib.Core.Logic.{inl, inr}
 use native.Mathlib.Omega.{arith}
-use lib.Dec.{eqb→eq, eqb_refl, leb→le, le→leb, ltb→lt, lt→ltb}
 use Rattle.std.proofs.lemmas.List.{length-replicate}
 use Rattle.world_parts.specs.World.{World, kind, name, opened, Change, apply, apply_all}
-use Rattle.world_parts.specs.Items.{Atom, description_at, byte_at, name_at, buffer_byte, Value, value, within, Item, one, file_bytes, buffer_bytes, all_names, all_bytes_and_sizes, all_positions, all_descriptions, all_descriptors, member_of, Use, Footprint, writes_atom, collide}
+use Rattle.world_parts.specs.Items.{Atom, description_at, byte_at, name_at, buffer_byte, Value, value, Item, file_bytes, buffer_bytes, member_of, Use, Footprint, writes_atom, collide}
 use Rattle.world_parts.specs.Cutting.{zeros, zeros_in, holed, holed_by, Shows, IsPartOf, PutsTo}
-use Rattle.world_parts.proofs.Collision.{both, left, right, not_both, first_unwritten, writes-has}
+use Rattle.world_parts.proofs.Collision.{decided, left, right, first_unwritten, writes-has}
 use Rattle.world_parts.proofs.Changes.{rewriting-kind}
 use Rattle.extent_bytes.specs.Bytes.{zeroed}
-use Rattle.world_parts.proofs.ChangesOfFiles.{emptied, zero_bytes-value, put_at, buffered, write_buffer-value}
+use Rattle.world_parts.proofs.ChangesOfFiles.{emptied, zero_bytes-value, buffered, write_buffer-value}
 use Rattle.world_parts.proofs.Values.{atoms_make_the_world}
 
 -- What a part that writes an item leaves of each atom.
@@ -23,43 +23,13 @@ left_of _ = λ a v. v
 item_leaves : (x : Item) (s : World) (a : Atom) → value (apply_all (zeros_in x) s) a ≡ left_of x a (value s a)
 item_leaves (file_bytes i low high) s a = zero_bytes-value s i low high a
 item_leaves (buffer_bytes r b low high) s a = write_buffer-value s r b low (replicate (high - low) 0) a
-item_leaves (one _) s a = refl
-item_leaves (all_names _) s a = refl
-item_leaves (all_bytes_and_sizes _) s a = refl
-item_leaves (all_positions _) s a = refl
-item_leaves (all_descriptions _) s a = refl
-item_leaves all_descriptors s a = refl
-
-unless : {A : Type 0} (b : Bool) (x y : A) → (T b → x ≡ y) → cond b x y ≡ y
-unless true x y h = h tt
-unless false x y h = refl
-
--- Zeros that fill a range are written within it.
-range_within : (low high p : ℕ) → T (within low (low + length (replicate {A = ℕ} (high - low) 0)) p) → T (within low high p)
-range_within low high p h =
-    let count = length-replicate {A = ℕ} (high - low) 0 in
-    let below : low ≤ p = leb→le low p (left (leb low p) _ h) in
-    let above : p < low + length (replicate {A = ℕ} (high - low) 0) = ltb→lt p _ (right (leb low p) _ h) in
-    both _ _ (le→leb low p below) (lt→ltb p high (omega arith))
+item_leaves _ s a = refl
 
 -- What is no member of an item is left as it is.
 spared : (x : Item) (a : Atom) (v : Value a) → T (not (member_of x a)) → left_of x a v ≡ v
-spared (file_bytes i low high) (byte_at j p) v n = unless (j == i) _ _ (λ q. unless (within low high p) _ _ (λ w.
-    absurd (not_both _ n (both (i == j) _ (subst (λ k. T (i == k)) (sym (eqb→eq j i q)) (eqb_refl i)) w))))
-spared (buffer_bytes r b low high) (buffer_byte q c p) v n = unless (q == r && c == b) _ _ (λ e. untouched v (λ w.
-    not_both _ n (both (r == q && b == c) _ (both _ _ (subst (λ k. T (r == k)) (sym (eqb→eq q r (left (q == r) _ e))) (eqb_refl r)) (subst (λ k. T (b == k)) (sym (eqb→eq c b (right (q == r) _ e))) (eqb_refl b))) (range_within low high p w))))
-  where
-    untouched : (x : Option ℕ) → (T (within low (low + length (replicate {A = ℕ} (high - low) 0)) p) → ⊥) → put_at low (replicate (high - low) 0) p x ≡ x
-    untouched None k = refl
-    untouched (Some y) k = ap (λ z. Some z) (unless (within low (low + length (replicate {A = ℕ} (high - low) 0)) p) _ _ (λ w. absurd (k w)))
-spared (file_bytes i low high) _ v n = refl
-spared (buffer_bytes r b low high) _ v n = refl
-spared (one _) a v n = refl
-spared (all_names _) a v n = refl
-spared (all_bytes_and_sizes _) a v n = refl
-spared (all_positions _) a v n = refl
-spared (all_descriptions _) a v n = refl
-spared all_descriptors a v n = refl
+spared (file_bytes i low high) (byte_at j p) v n = grind arith
+spared (buffer_bytes r b low high) (buffer_byte q c p) v n = grind (arith, length-replicate {A = ℕ} (high - low) 0)
+spared _ _ v n = refl
 
 pub apply_all-append : (cs ds : List Change) (s : World) → apply_all (cs ++ ds) s ≡ apply_all ds (apply_all cs s)
 apply_all-append [] ds s = refl
@@ -81,30 +51,19 @@ use_leaves u s a = elim u.written as (λ b. value (apply_all (cond b (zeros_in u
 use_spares : (u : Use) (a : Atom) (v : Value a) → T (not (u.written && member_of u.item a)) → left_by u a v ≡ v
 use_spares u a v n = elim u.written as (λ b. T (not (b && member_of u.item a)) → cond b (left_of u.item a v) v ≡ v) [ true ↦ spared u.item a v | false ↦ λ k. refl ] n
 
-neither_left : (a b : Bool) → T (not (a || b)) → T (not a)
-neither_left true b h = h
-neither_left false b h = tt
-
-neither_right : (a b : Bool) → T (not (a || b)) → T (not b)
-neither_right true b h = absurd h
-neither_right false b h = h
+neither : (a b : Bool) → T (not (a || b)) → T (not a) × T (not b)
+neither a b h = grind arith
 
 -- What a part doesn't write is there as before.
 pub holed-left : (f : Footprint) (s : World) (a : Atom) → T (not (writes_atom f a)) → value (holed f s) a ≡ value s a
 holed-left [] s a n = refl
-holed-left (u ∷ f) s a n =
-    ap (λ w. value w a) (holed-first u f s)
-    ∙ holed-left f (after_use u s) a (neither_right (u.written && member_of u.item a) _ n)
-    ∙ use_leaves u s a
-    ∙ use_spares u a (value s a) (neither_left (u.written && member_of u.item a) _ n)
+holed-left (u ∷ f) s a n = grind (arith, holed-first u f s, holed-left f (after_use u s) a, use_leaves u s a, use_spares u a (value s a))
 
 -- What is left of an atom is told by what it was.
 pub holed-alike : (f : Footprint) (s u : World) (a : Atom) → value s a ≡ value u a → value (holed f s) a ≡ value (holed f u) a
 holed-alike [] s u a e = e
 holed-alike (x ∷ f) s u a e =
-    ap (λ w. value w a) (holed-first x f s)
-    ∙ holed-alike f (after_use x s) (after_use x u) a (use_leaves x s a ∙ ap (left_by x a) e ∙ sym (use_leaves x u a))
-    ∙ sym (ap (λ w. value w a) (holed-first x f u))
+    grind (arith, holed-first x f s, holed-first x f u, holed-alike f (after_use x s) (after_use x u) a, use_leaves x s a, use_leaves x u a)
 
 -- The same of several parts.
 pub holed_by-left : (test : Footprint → Bool) (a : Atom) → ((g : Footprint) → T (test g) → T (not (writes_atom g a))) → (gs : List Footprint) → T (list_all test gs) → (s : World) → value (holed_by gs s) a ≡ value s a
@@ -123,15 +82,8 @@ is_byte _ = false
 
 item_spares : (x : Item) (a : Atom) (v : Value a) → T (not (is_byte a)) → left_of x a v ≡ v
 item_spares (file_bytes i low high) (byte_at j p) v n = absurd n
-item_spares (file_bytes i low high) _ v n = refl
 item_spares (buffer_bytes r b low high) (buffer_byte q c p) v n = absurd n
-item_spares (buffer_bytes r b low high) _ v n = refl
-item_spares (one _) a v n = refl
-item_spares (all_names _) a v n = refl
-item_spares (all_bytes_and_sizes _) a v n = refl
-item_spares (all_positions _) a v n = refl
-item_spares (all_descriptions _) a v n = refl
-item_spares all_descriptors a v n = refl
+item_spares _ _ v n = refl
 
 pub holed-spares : (f : Footprint) (s : World) (a : Atom) → T (not (is_byte a)) → value (holed f s) a ≡ value s a
 holed-spares [] s a n = refl
@@ -141,19 +93,11 @@ holed-spares (u ∷ f) s a n =
 
 item_kind : (x : Item) (s : World) (i : ℕ) → kind (apply_all (zeros_in x) s) i ≡ kind s i
 item_kind (file_bytes j low high) s i = rewriting-kind (λ bs. zeroed bs low high) s j i
-item_kind (buffer_bytes r b low high) s i = refl
-item_kind (one _) s i = refl
-item_kind (all_names _) s i = refl
-item_kind (all_bytes_and_sizes _) s i = refl
-item_kind (all_positions _) s i = refl
-item_kind (all_descriptions _) s i = refl
-item_kind all_descriptors s i = refl
+item_kind _ s i = refl
 
 pub holed-kind : (f : Footprint) (s : World) (i : ℕ) → kind (holed f s) i ≡ kind s i
 holed-kind [] s i = refl
-holed-kind (u ∷ f) s i =
-    ap (λ w. kind w i) (holed-first u f s) ∙ holed-kind f (after_use u s) i
-    ∙ elim u.written as (λ b. kind (apply_all (cond b (zeros_in u.item) []) s) i ≡ kind s i) [ true ↦ item_kind u.item s i | false ↦ refl ]
+holed-kind (u ∷ f) s i = grind (arith, holed-first u f s, holed-kind f (after_use u s) i, item_kind u.item s i)
 
 -- A part that is cut while others are out is a part of the world as it was.
 pub part_of_whole : (f : Footprint) (gs : List Footprint) (s part : World) → T (list_all (λ g. not (collide g f)) gs) → IsPartOf (holed_by gs s) f part → IsPartOf s f part
@@ -174,11 +118,10 @@ part_of_whole f gs s part h is = record {
 
 -- A part is put back into a world in one way.
 pub same_put : (f : Footprint) (before part u v : World) → PutsTo f before part u → PutsTo f before part v → u ≡ v
-same_put f before part u v p q = atoms_make_the_world u v (λ a.
-    elim (writes_atom f a) as (λ b. writes_atom f a ≡ b → value u a ≡ value v a) [
-      | true ↦ λ e. let w : T (writes_atom f a) = subst T (sym e) tt in p.given a w ∙ sym (q.given a w)
-      | false ↦ λ e. let n : T (not (writes_atom f a)) = subst (λ b. T (not b)) (sym e) tt in p.kept a n ∙ sym (q.kept a n)
-    ] refl)
+same_put f before part u v p q = atoms_make_the_world u v (λ a. elim (decided (writes_atom f a)) [
+  | inl h ↦ p.given a h ∙ sym (q.given a h)
+  | inr n ↦ p.kept a n ∙ sym (q.kept a n)
+])
 
 -- What is cut out and put back is there again.
 pub cut_then_put : (s part after : World) (f : Footprint) → IsPartOf s f part → PutsTo f (holed f s) part after → after ≡ s

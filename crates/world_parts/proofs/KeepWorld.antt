@@ -1,24 +1,21 @@
 -- What each change leaves of a world.
-use Rattle.std.specs.Prelude.{◌≡◌, ℕ, true, false, cond, ◌&&◌, ◌==◌, ◌≤◌, T, List, [], ◌∷◌, Option, Some, None, refl, IfSome}
+use Rattle.std.specs.Prelude.{◌≡◌, ℕ, true, cond, ◌==◌, ◌≤◌, List, [], ◌∷◌, Option, Some, None, refl, IfSome}
 use Rattle.std.specs.Option.{option_map, is_some}
 use Rattle.std.specs.Ordering.{nat_cmp}
 use Rattle.std.specs.Cmp.{unsigned_tied}
-use mathlib.Core.Path.{sym, subst, ap, ◌∙◌}
+use mathlib.Core.Path.{sym, ap, ◌∙◌}
 use native.Mathlib.Omega.{arith}
-use lib.Dec.{eqb→eq}
 use Rattle.trace_format.specs.declared.trace.Access.{Access}
 use Rattle.entry_checks.specs.Operation.{file_limit}
-use Rattle.finite_maps.specs.Table.{Table, get, get-insert, number_keys}
+use Rattle.finite_maps.specs.Table.{Table, get, get-insert, number_keys, adjust_number}
 use Rattle.world_parts.specs.World.{World, IsWorld, kind, name, name_count, others, size, Opened, opened, slot, descriptor, Change, set_name, make_node, set_slot, set_descriptor, make_description, set_position, set_size, write_bytes, zero_bytes, break_chain, new_description, node_of, apply, apply_all}
-use Rattle.file_tree.specs.Tree.{IsTree, Kind, a_directory, a_file, Target, new_node, renamed_node, rewritten_node}
+use Rattle.file_tree.specs.Tree.{IsTree, Kind, a_directory, kind_of_node, Target, new_node, renamed_node, rewritten_node}
 use Rattle.extent_bytes.specs.Bytes.{resized, overwritten, zeroed}
-use Rattle.finite_maps.specs.Table.{adjust_number}
 use Rattle.world_parts.specs.Items.{slot_at, descriptor_at, description_at, size_of, name_at}
-use Rattle.world_parts.proofs.Trees.{some_apart}
-use Rattle.world_parts.proofs.Changes.{adjusted, opened_kept, rewriting-kind, rewriting-others}
+use Rattle.world_parts.proofs.Trees.{some_apart, put}
+use Rattle.world_parts.proofs.Changes.{adjusted, opened_kept, rewriting-kind, rewriting-opened, rewriting-others}
 use Rattle.world_parts.proofs.ChangesOfNames.{Leads, naming-kind, naming-bytes, naming-others, set_name-value}
 use Rattle.world_parts.proofs.ChangesOfMaking.{Unused, making-kind, making-others, making-description, make_node-value, make_description-value, set_slot-value, set_descriptor-value, set_size-value}
-use Rattle.world_parts.proofs.Trees.{put}
 
 -- What a world is apart from its tree.
 pub record IsSound (s : World) : Type 0 where
@@ -40,69 +37,55 @@ is_world s t w = record { root = w.root; tree = t; descriptions_lead = w.descrip
 pub sound_kept : (s u : World) → kind u 0 ≡ kind s 0 → ((d : ℕ) → opened u d ≡ opened s d) → ((r n : ℕ) → slot u r n ≡ slot s r n) → ((n : ℕ) → descriptor u n ≡ descriptor s n) → ((i : ℕ) → IfSome (size u i) (λ n. n ≤ file_limit)) → ((e : ℕ) → IfSome (others u e) (λ n. n ≡ 0)) → IsSound s → IsSound u
 sound_kept s u k o l d z a w = record {
   root = k ∙ w.root;
-  descriptions_lead = λ e. subst (λ x. IfSome x (λ y. is_some y.target.kind ≡ true)) (sym (o e)) (w.descriptions_lead e);
-  slots_lead = λ r n. subst (λ x. IfSome x (λ e. is_some (opened u e) ≡ true)) (sym (l r n)) (subst (λ (g : ℕ → Option Opened). IfSome (slot s r n) (λ e. is_some (g e) ≡ true)) (λ i e. sym (o e) i) (w.slots_lead r n));
-  descriptors_lead = λ n. subst (λ x. IfSome x (λ e. is_some (opened u e) ≡ true)) (sym (d n)) (subst (λ (g : ℕ → Option Opened). IfSome (descriptor s n) (λ e. is_some (g e) ≡ true)) (λ i e. sym (o e) i) (w.descriptors_lead n));
+  descriptions_lead = λ e. grind (arith, o e, w.descriptions_lead e);
+  slots_lead = λ r n. grind (arith, l r n, o, w.slots_lead r n);
+  descriptors_lead = λ n. grind (arith, d n, o, w.descriptors_lead n);
   files_fit = z;
-  directories_are_read = λ e. subst (λ x. IfSome x (λ y. y.target.kind ≡ Some a_directory → y.access ≡ Access.Read)) (sym (o e)) (w.directories_are_read e);
+  directories_are_read = λ e. grind (arith, o e, w.directories_are_read e);
   all_shown = a;
 }
 
 pub naming_sound : (s : World) (d : ℕ) (n : List ℕ) (x : Option Target) → IsSound s → IsSound (apply (set_name d n x) s)
-naming_sound s d n x w = sound_kept s (apply (set_name d n x) s) (naming-kind n x s d 0) (opened_kept s (adjust_number (renamed_node n (node_of x)) s.nodes d) (naming-kind n x s d)) (λ r m. refl) (λ m. refl)
-    (λ i. subst (λ y. IfSome (option_map Rattle.std.specs.Prelude.length y) (λ m. m ≤ file_limit)) (sym (naming-bytes n x s d i)) (w.files_fit i))
-    (λ i. subst (λ y. IfSome y (λ m. m ≡ 0)) (sym (naming-others n x s d i)) (w.all_shown i)) w
+naming_sound s d n x w =
+    sound_kept s (apply (set_name d n x) s) (naming-kind n x s d 0) (opened_kept s (adjust_number (renamed_node n (node_of x)) s.nodes d) (naming-kind n x s d))
+    (λ r m. refl) (λ m. refl)
+    (λ i. grind (arith, naming-bytes n x s d i, w.files_fit i)) (λ i. grind (arith, naming-others n x s d i, w.all_shown i)) w
 
 pub naming_names : (s : World) (d : ℕ) (n : List ℕ) (x : Option Target) → Leads s x → (e : ℕ) (m : List ℕ) → name (apply (set_name d n x) s) e m ≡ put (name s) d n (cond (is_some (name_count s d)) x None) e m
 naming_names s d n x h e m = set_name-value n x s d (name_at e m) h
 
 pub making_sound : (s : World) (i : ℕ) (k : Kind) → Unused s i → IsSound s → IsSound (apply (make_node i k) s)
-making_sound s i k u w = sound_kept s (apply (make_node i k) s) (making-kind s i k 0 (λ e. some_apart (sym w.root ∙ ap (kind s) e ∙ ap (option_map Rattle.file_tree.specs.Tree.kind_of_node) u.no_node))) (making-description s i k u) (λ r m. refl) (λ m. refl) (fits k u) (λ j. making-others s i k j (w.all_shown j)) w
-  where
-    fits : (q : Kind) → Unused s i → (j : ℕ) → IfSome (size (apply (make_node i q) s) j) (λ n. n ≤ file_limit)
-    fits a_directory v j = subst (λ x. IfSome x (λ n. n ≤ file_limit)) (sym (make_node-value s i a_directory (size_of j) v)) (w.files_fit j)
-    fits a_file v j = subst (λ x. IfSome x (λ n. n ≤ file_limit)) (sym (make_node-value s i a_file (size_of j) v)) (elim (j == i) as (λ b. IfSome (cond b (Some 0) (size s j)) (λ n. n ≤ file_limit)) [ true ↦ omega arith | false ↦ w.files_fit j ])
+making_sound s i k u w =
+    sound_kept s (apply (make_node i k) s) (making-kind s i k 0 (λ e. some_apart (sym w.root ∙ ap (kind s) e ∙ ap (option_map kind_of_node) u.no_node)))
+    (making-description s i k u) (λ r m. refl) (λ m. refl)
+    (λ j. grind (arith, make_node-value s i k (size_of j) u, w.files_fit j)) (λ j. making-others s i k j (w.all_shown j)) w
 
 pub sizing_sound : (s : World) (i n : ℕ) → n ≤ file_limit → IsSound s → IsSound (apply (set_size i n) s)
-sizing_sound s i n h w = sound_kept s (apply (set_size i n) s) (rewriting-kind (λ bs. resized bs n) s i 0) (opened_kept s (adjust_number (rewritten_node (λ bs. resized bs n)) s.nodes i) (rewriting-kind (λ bs. resized bs n) s i)) (λ r m. refl) (λ m. refl)
-    (λ j. subst (λ x. IfSome x (λ m. m ≤ file_limit)) (sym (set_size-value s i n (size_of j))) (elim (j == i) as (λ b. IfSome (cond b (option_map (λ m. n) (size s j)) (size s j)) (λ m. m ≤ file_limit)) [ true ↦ cut_fits (size s j) | false ↦ w.files_fit j ]))
-    (λ j. subst (λ x. IfSome x (λ m. m ≡ 0)) (sym (rewriting-others (λ bs. resized bs n) s i j)) (w.all_shown j)) w
-  where
-    cut_fits : (x : Option ℕ) → IfSome (option_map (λ m. n) x) (λ m. m ≤ file_limit)
-    cut_fits None = tt
-    cut_fits (Some m) = h
+sizing_sound s i n h w =
+    sound_kept s (apply (set_size i n) s) (rewriting-kind (λ bs. resized bs n) s i 0) (rewriting-opened (λ bs. resized bs n) s i) (λ r m. refl) (λ m. refl)
+    (λ j. grind (arith, set_size-value s i n (size_of j), w.files_fit j)) (λ j. grind (arith, rewriting-others (λ bs. resized bs n) s i j, w.all_shown j)) w
 
 -- A description that is made leads to a node that is there, and reads a directory only.
 pub describing_sound : (s : World) (n : ℕ) (o : Opened) → kind s o.target.node ≡ o.target.kind → is_some o.target.kind ≡ true → (o.target.kind ≡ Some a_directory → o.access ≡ Access.Read) → IsSound s → IsSound (apply (make_description n o) s)
 describing_sound s n o h l r w = record {
   root = w.root;
-  descriptions_lead = λ e. either (λ y. is_some y.target.kind ≡ true) e l (w.descriptions_lead e);
-  slots_lead = λ q m. still (slot s q m) (w.slots_lead q m);
-  descriptors_lead = λ m. still (descriptor s m) (w.descriptors_lead m);
+  descriptions_lead = λ e. grind (arith, seen e, w.descriptions_lead e);
+  slots_lead = λ q m. grind (arith, seen, w.slots_lead q m);
+  descriptors_lead = λ m. grind (arith, seen, w.descriptors_lead m);
   files_fit = w.files_fit;
-  directories_are_read = λ e. either (λ y. y.target.kind ≡ Some a_directory → y.access ≡ Access.Read) e r (w.directories_are_read e);
+  directories_are_read = λ e. grind (arith, seen e, w.directories_are_read e);
   all_shown = w.all_shown;
 }
   where
     seen : (e : ℕ) → opened (apply (make_description n o) s) e ≡ cond (e == n) (Some o) (opened s e)
     seen e = make_description-value s n o (description_at e) h
 
-    either : (P : Opened → Type 0) (e : ℕ) → P o → IfSome (opened s e) P → IfSome (opened (apply (make_description n o) s) e) P
-    either P e a b = subst (λ x. IfSome x P) (sym (seen e)) (elim (e == n) as (λ c. IfSome (cond c (Some o) (opened s e)) P) [ true ↦ a | false ↦ b ])
-
-    there : (e : ℕ) → is_some (opened s e) ≡ true → is_some (opened (apply (make_description n o) s) e) ≡ true
-    there e a = ap is_some (seen e) ∙ elim (e == n) as (λ c. is_some (cond c (Some o) (opened s e)) ≡ true) [ true ↦ refl | false ↦ a ]
-
-    still : (x : Option ℕ) → IfSome x (λ d. is_some (opened s d) ≡ true) → IfSome x (λ d. is_some (opened (apply (make_description n o) s) d) ≡ true)
-    still None a = tt
-    still (Some e) a = there e a
-
 -- A slot, and a descriptor, that is filled with a description that is there, or emptied.
 pub slotting_sound : (s : World) (r n : ℕ) (x : Option ℕ) → IfSome x (λ d. is_some (opened s d) ≡ true) → IsSound s → IsSound (apply (set_slot r n x) s)
 slotting_sound s r n x h w = record {
   root = w.root;
   descriptions_lead = w.descriptions_lead;
-  slots_lead = λ q m. subst (λ y. IfSome y (λ d. is_some (opened s d) ≡ true)) (sym (set_slot-value s r n x (slot_at q m))) (elim (q == r && m == n) as (λ c. IfSome (cond c x (slot s q m)) (λ d. is_some (opened s d) ≡ true)) [ true ↦ h | false ↦ w.slots_lead q m ]);
+  slots_lead = λ q m. grind (arith, set_slot-value s r n x (slot_at q m), w.slots_lead q m);
   descriptors_lead = w.descriptors_lead;
   files_fit = w.files_fit;
   directories_are_read = w.directories_are_read;
@@ -114,7 +97,7 @@ holding_sound s n x h w = record {
   root = w.root;
   descriptions_lead = w.descriptions_lead;
   slots_lead = w.slots_lead;
-  descriptors_lead = λ m. subst (λ y. IfSome y (λ d. is_some (opened s d) ≡ true)) (sym (set_descriptor-value s n x (descriptor_at m))) (elim (m == n) as (λ c. IfSome (cond c x (descriptor s m)) (λ d. is_some (opened s d) ≡ true)) [ true ↦ h | false ↦ w.descriptors_lead m ]);
+  descriptors_lead = λ m. grind (arith, set_descriptor-value s n x (descriptor_at m), w.descriptors_lead m);
   files_fit = w.files_fit;
   directories_are_read = w.directories_are_read;
   all_shown = w.all_shown;
@@ -134,11 +117,10 @@ AllMakeOnly i d [] = Unit {0}
 AllMakeOnly i d (c ∷ cs) = MakesOnly i d c × AllMakeOnly i d cs
 
 still_none : {X : Type 0} (f : X → X) (m : Table nat_cmp X) (k q : ℕ) → get m q ≡ None → get (adjust_number f m k) q ≡ None
-still_none f m k q h = adjusted f m k q ∙ elim (q == k) as (λ b. cond b (option_map f (get m q)) (get m q) ≡ None) [ true ↦ ap (option_map f) h | false ↦ h ]
+still_none f m k q h = grind (arith, adjusted f m k q)
 
 elsewhere : {X : Type 0} (m : Table nat_cmp X) (k q : ℕ) (x : X) → ¬ (q ≡ k) → get m q ≡ None → get (Rattle.finite_maps.specs.Table.insert number_keys.total m k x) q ≡ None
-elsewhere m k q x n h = get-insert number_keys.total m k x q ∙ ap (λ b. cond b (Some x) (get m q)) (unsigned_tied q k)
-    ∙ elim (q == k) as (λ b. (q == k) ≡ b → cond b (Some x) (get m q) ≡ None) [ true ↦ λ e. absurd (n (eqb→eq q k (subst T (sym e) tt))) | false ↦ λ e. h ] refl
+elsewhere m k q x n h = grind (arith, get-insert number_keys.total m k x q, unsigned_tied)
 
 pub unmade_node : (s : World) (c : Change) (i d j : ℕ) → MakesOnly i d c → ¬ (j ≡ i) → get s.nodes j ≡ None → get (apply c s).nodes j ≡ None
 unmade_node s (set_name e n x) i d j m a h = still_none (renamed_node n (node_of x)) s.nodes e j h

@@ -1,58 +1,47 @@
 -- Names in directories that are known, and which changes leave these directories where they are.
-use Rattle.std.proofs.Common.{◌≡◌, ℕ, ◌≤◌, Bool, true, false, cond, List, [], ◌∷◌, ◌++◌, length, Option, Some, None, Result, Ok, Err, sym, ◌∙◌, ap, refl, subst, arith, eqb→eq}
-use Rattle.std.specs.Prelude.{T, IfSome, not, filter, ◌==◌, if◌then◌else◌}
+use Rattle.std.proofs.Common.{◌≡◌, ℕ, ◌≤◌, Bool, true, cond, List, [], ◌∷◌, ◌++◌, length, Option, Some, None, Ok, sym, ◌∙◌, ap, refl, subst, arith}
+use Rattle.std.specs.Prelude.{IfSome, not, filter, ◌==◌}
 use Rattle.std.specs.List.{onto_first}
-use Rattle.std.specs.Option.{option_map, option_and_then}
-use Rattle.std.specs.Ordering.{nat_cmp, eq_by_cmp}
-use Rattle.std.specs.Cmp.{Equal-is}
+use Rattle.std.specs.Option.{option_map}
+use Rattle.std.specs.Ordering.{nat_cmp}
+use Rattle.std.specs.Cmp.{unsigned_tied}
 use Rattle.std.specs.Cmp.Lexicographic.{slice_cmp}
 use Rattle.std.specs.Str.{bytes_eq}
 use Rattle.std.specs.Map.{lookup, update}
 use Rattle.std.specs.Borrow.{Bor}
 use Rattle.std.specs.BTreeMap.{IsEmpty, is_at}
-use Rattle.std.proofs.lemmas.Bool.{ne_eqb, le-leb}
+use Rattle.std.proofs.lemmas.Bool.{ne_eqb, le-leb, cond_both}
+use Rattle.std.proofs.lemmas.Option.{IfSome_then}
 use Rattle.std.proofs.lemmas.List.Elements.{filter-append}
-use Rattle.std.proofs.lemmas.List.Splits.{slice_split_none}
+use Rattle.std.proofs.lemmas.List.Splits.{length-slice_split, slice_split_none}
 use Rattle.std.proofs.lemmas.Slice.Eq.{bytes_eq-Decides}
-use Rattle.sqe_codec.specs.declared.errno.Errno.{Errno}
-use Rattle.sqe_codec.specs.declared.errno.Errno.TheVariants.{ENAMETOOLONG, ENOTDIR}
-use Rattle.sqe_codec.specs.Answers.{◌>>=◌, ◌>>◌, require}
+use Rattle.sqe_codec.specs.declared.errno.Errno.TheVariants.{ENAMETOOLONG}
+use Rattle.sqe_codec.specs.Answers.{◌>>◌, require}
 use Rattle.trace_format.specs.Paths.{components, runs}
 use Rattle.extent_bytes.specs.Bytes.{overwritten, resized}
 use Rattle.finite_maps.specs.Table.{get, insert, adjust_number, get-insert, number_keys, text_keys}
-use Rattle.file_tree.specs.Tree.{Tree, Node, Names, Kind, directory, file, names_of_node, kind, kind_of_node, a_directory, a_file, name, target, renamed_node, rewritten_node}
+use Rattle.file_tree.specs.Tree.{Tree, Node, kind, kind_of_node, a_directory, name, target, renamed_node, rewritten_node}
 use Rattle.file_tree.specs.Found.{node_of}
-use Rattle.file_tree.specs.Walk.{fits_name, walk_from, directory_at, is_directory}
+use Rattle.file_tree.specs.Walk.{fits_name, walk_from, directory_at}
 use Rattle.world_parts.specs.Known.{Known, known_at, directory_of, Enters, Knows, IsLastName, IsNewPlace}
 use Rattle.world_parts.specs.World.{World}
 use Rattle.world_parts.specs.Start.{name_at}
 use Rattle.world_parts.proofs.Changes.{adjusted}
-use Rattle.world_parts.proofs.Ways.{looked, same_number}
-use Rattle.world_parts.proofs.Trees.{some_apart, some_same}
+use Rattle.world_parts.proofs.Raw.{entry}
+use Rattle.world_parts.proofs.Ways.{looked, same_number, directory_there}
+use Rattle.world_parts.proofs.Trees.{some_same}
 
 -- The names of a path.
 
-first_run : (path : List ℕ) → (n : List ℕ) × (ns : List (List ℕ)) × (runs path ≡ n ∷ ns)
-first_run [] = ([], [], refl)
-first_run (b ∷ bs) = by (b == 47) (first_run bs)
-  where
-    by : (c : Bool) → (n : List ℕ) × (ns : List (List ℕ)) × (runs bs ≡ n ∷ ns) → (n : List ℕ) × (ns : List (List ℕ)) × (cond c ([] ∷ runs bs) (onto_first b (runs bs)) ≡ n ∷ ns)
-    by true h = ([], runs bs, refl)
-    by false h = (b ∷ h.0, h.1, ap (onto_first b) h.2)
+onto_over : (b : ℕ) (xs ys : List (List ℕ)) → 1 ≤ length xs → onto_first b (xs ++ ys) ≡ onto_first b xs ++ ys
+onto_over b xs ys h = grind arith
 
 runs_over : (path n : List ℕ) → runs (path ++ 47 ∷ n) ≡ runs path ++ runs n
 runs_over [] n = refl
-runs_over (b ∷ bs) n = by (b == 47) (first_run bs) (runs_over bs n)
-  where
-    by : (c : Bool) → (n : List ℕ) × (ns : List (List ℕ)) × (runs bs ≡ n ∷ ns) → runs (bs ++ 47 ∷ n) ≡ runs bs ++ runs n
-        → cond c ([] ∷ runs (bs ++ 47 ∷ n)) (onto_first b (runs (bs ++ 47 ∷ n))) ≡ cond c ([] ∷ runs bs) (onto_first b (runs bs)) ++ runs n
-    by true h e = ap (λ (l : List (List ℕ)). [] ∷ l) e
-    by false h e =
-        ap (onto_first b) (e ∙ ap (λ (l : List (List ℕ)). l ++ runs n) h.2)
-        ∙ sym (ap (λ (l : List (List ℕ)). onto_first b l ++ runs n) h.2)
+runs_over (b ∷ bs) n = grind (arith, runs_over bs n, onto_over b (runs bs) (runs n), length-slice_split (λ c. c == 47) bs)
 
 filled : (n : List ℕ) → 1 ≤ length n → not (length n == 0) ≡ true
-filled n h = ap not (ne_eqb (length n) 0 (λ e. omega arith))
+filled n h = grind arith
 
 -- a path's names are those before its last slash, and the one behind it
 pub components_over : (path n : List ℕ) → IsLastName n → components (path ++ 47 ∷ n) ≡ components path ++ n ∷ []
@@ -66,9 +55,7 @@ components_over path n h =
 -- Walks.
 
 entered : (tree : Tree) (d e : ℕ) (n m : List ℕ) (ns : List (List ℕ)) → fits_name n ≡ true → directory_at (name tree d n) ≡ Ok e → walk_from tree d (n ∷ m ∷ ns) ≡ walk_from tree e (m ∷ ns)
-entered tree d e n m ns fits h =
-    ap (λ (b : Bool). require b ENAMETOOLONG >> (directory_at (name tree d n) >>= λ (i : ℕ). walk_from tree i (m ∷ ns))) fits
-    ∙ ap (λ (r : Result ℕ Errno). r >>= λ (i : ℕ). walk_from tree i (m ∷ ns)) h
+entered tree d e n m ns fits h = grind arith
 
 -- behind names that lead to a directory a walk goes on from there
 pub walk_over : (tree : Tree) (d e : ℕ) (ns : List (List ℕ)) (n : List ℕ) → Enters tree d ns e → walk_from tree d (ns ++ n ∷ []) ≡ walk_from tree e (n ∷ [])
@@ -116,99 +103,55 @@ enters_kept tree other keeps d [] e h = h
 enters_kept tree other keeps d (n ∷ ns) e h = (h.0, h.1, keeps d n h.0 h.2, enters_kept tree other keeps h.0 ns e h.3)
 
 pub knows_kept : (tree other : Tree) (known : Known) → Keeps tree other → Knows tree known → Knows other known
-knows_kept tree other known keeps h path = by (known_at known path) (h path)
-  where
-    by : (o : Option ℕ) → IfSome o (Enters tree 0 (components path)) → IfSome o (Enters other 0 (components path))
-    by None k = tt
-    by (Some e) k = enters_kept tree other keeps 0 (components path) e k
+knows_kept tree other known keeps h path = IfSome_then (known_at known path) (h path) (λ e k. enters_kept tree other keeps 0 (components path) e k)
 
 -- a directory more is known
 pub knows_more : (tree : Tree) (old new : Known) (path : List ℕ) (d : ℕ) → ((p : List ℕ) → known_at new p ≡ update bytes_eq (known_at old) path (Some d) p) → Enters tree 0 (components path) d → Knows tree old → Knows tree new
-knows_more tree old new path d adds enters h p = subst (λ (o : Option ℕ). IfSome o (Enters tree 0 (components p))) (sym (adds p)) (by (bytes_eq path p) refl)
-  where
-    by : (b : Bool) → bytes_eq path p ≡ b → IfSome (cond b (Some d) (known_at old p)) (Enters tree 0 (components p))
-    by true e = subst (λ (q : List ℕ). Enters tree 0 (components q) d) ((bytes_eq-Decides path p).0 e) enters
-    by false e = h p
+knows_more tree old new path d adds enters h p =
+    subst (λ (o : Option ℕ). IfSome o (Enters tree 0 (components p))) (sym (adds p))
+    (cond_both (bytes_eq path p) (Some d) (known_at old p) (λ o. IfSome o (Enters tree 0 (components p)))
+    (λ e. subst (λ (q : List ℕ). Enters tree 0 (components q) d) ((bytes_eq-Decides path p).0 e) enters) (λ e. h p))
 
 -- what is seen of a node as a directory stays
-abbrev in_node : Option Node → List ℕ → Option ℕ
-in_node o n = option_and_then (λ (ns : Names). get ns n) (option_and_then names_of_node o)
-
 abbrev pub Grows : Option Node → Option Node → Type 0
-Grows x y = ((n : List ℕ) (e : ℕ) → in_node x n ≡ Some e → in_node y n ≡ Some e) × (option_map kind_of_node x ≡ Some a_directory → option_map kind_of_node y ≡ Some a_directory)
-
-abbrev IsFound : Result ℕ Errno → Type 0
-IsFound (Ok i) = Unit {0}
-IsFound (Err x) = ⊥
+Grows x y =
+    ((n : List ℕ) (e : ℕ) → entry x n ≡ Some e → entry y n ≡ Some e) ×
+    (option_map kind_of_node x ≡ Some a_directory → option_map kind_of_node y ≡ Some a_directory)
 
 found : (tree : Tree) (o : Option ℕ) (e : ℕ) → directory_at (option_map (target tree) o) ≡ Ok e → (o ≡ Some e) × (kind tree e ≡ Some a_directory)
-found tree None e h = absurd (subst IsFound (sym h) tt)
-found tree (Some i) e h = by (kind tree i) refl h
-  where
-    number : Result ℕ Errno → ℕ
-    number (Ok j) = j
-    number (Err x) = i
-
-    by : (k : Option Kind) → kind tree i ≡ k → (if is_directory k then Ok i else Err ENOTDIR) ≡ Ok e → (◌≡◌ {A = Option ℕ} (Some i) (Some e)) × (kind tree e ≡ Some a_directory)
-    by None q g = absurd (subst IsFound (sym g) tt)
-    by (Some a_file) q g = absurd (subst IsFound (sym g) tt)
-    by (Some a_directory) q g = (let s : i ≡ e = ap number g in (ap (λ (j : ℕ). Some j) s, ap (kind tree) (sym s) ∙ q))
-
-lead : (tree : Tree) (o : Option ℕ) (e : ℕ) → o ≡ Some e → kind tree e ≡ Some a_directory → directory_at (option_map (target tree) o) ≡ Ok e
-lead tree o e h k = ap (λ (x : Option ℕ). directory_at (option_map (target tree) x)) h ∙ ap (λ (x : Option Kind). if is_directory x then Ok e else Err ENOTDIR) k
+found tree o e h = grind arith
 
 pub keeps_grown : (tree other : Tree) → ((q : ℕ) → Grows (get tree q) (get other q)) → Keeps tree other
 keeps_grown tree other grows d n e h =
     let f = found tree (looked tree d n) e h in
-    lead other (looked other d n) e ((grows d).0 n e f.0) ((grows e).1 f.1)
+    directory_there other (looked other d n) e ((grows d).0 n e f.0) ((grows e).1 f.1)
 
 -- a node that is made where there was none
 pub made_keeps : (tree : Tree) (i : ℕ) (x : Node) → get tree i ≡ None → Keeps tree (insert number_keys.total tree i x)
-made_keeps tree i x free = keeps_grown tree (insert number_keys.total tree i x) (λ q. subst (Grows (get tree q)) (sym (get-insert number_keys.total tree i x q)) (by q (eq_by_cmp nat_cmp q i) refl))
+made_keeps tree i x free = keeps_grown tree (insert number_keys.total tree i x) (λ q. (λ n e h. grind (arith, here q), λ h. grind (arith, here q)))
   where
-    from_none : (o y : Option Node) → o ≡ None → Grows o y
-    from_none o y e = subst (λ (z : Option Node). Grows z y) (sym e) (λ n f h. absurd (some_apart (sym h)), λ h. absurd (some_apart (sym h)))
-
-    by : (q : ℕ) (b : Bool) → eq_by_cmp nat_cmp q i ≡ b → Grows (get tree q) (cond b (Some x) (get tree q))
-    by q true e = from_none (get tree q) (Some x) (ap (get tree) (number_keys.same q i ((Equal-is (nat_cmp q i)).0 e)) ∙ free)
-    by q false e = (λ n f h. h, λ h. h)
+    here : (q : ℕ) → get (insert number_keys.total tree i x) q ≡ cond (q == i) (Some x) (get tree q)
+    here q = grind (arith, get-insert number_keys.total tree i x q, unsigned_tied)
 
 -- a node that is adjusted
 adjusted_keeps : (f : Node → Node) (tree : Tree) (d : ℕ) → Grows (get tree d) (option_map f (get tree d)) → Keeps tree (adjust_number f tree d)
-adjusted_keeps f tree d grows = keeps_grown tree (adjust_number f tree d) (λ q. subst (Grows (get tree q)) (sym (adjusted f tree d q)) (by q (q == d) refl))
-  where
-    by : (q : ℕ) (b : Bool) → (q == d) ≡ b → Grows (get tree q) (cond b (option_map f (get tree q)) (get tree q))
-    by q true e = subst (λ (k : ℕ). Grows (get tree k) (option_map f (get tree k))) (sym (eqb→eq q d (subst T (sym e) tt))) grows
-    by q false e = (λ n g h. h, λ h. h)
+adjusted_keeps f tree d grows =
+    keeps_grown tree (adjust_number f tree d)
+    (λ q. (λ n e h. grind (arith, adjusted f tree d q, grows.0 n e), λ h. grind (arith, adjusted f tree d q, grows.1)))
 
 -- a file that is written or sized
 pub rewritten_keeps : (f : List ℕ → List ℕ) (tree : Tree) (i : ℕ) → Keeps tree (adjust_number (rewritten_node f) tree i)
-rewritten_keeps f tree i = adjusted_keeps (rewritten_node f) tree i (by (get tree i))
-  where
-    by : (o : Option Node) → Grows o (option_map (rewritten_node f) o)
-    by None = (λ n e h. h, λ h. h)
-    by (Some (directory ns k)) = (λ n e h. h, λ h. h)
-    by (Some (file bs)) = (λ n e h. h, λ h. absurd (not_file h))
-      where
-        not_file : Some a_file ≡ Some a_directory → ⊥
-        not_file e = subst IsFile e tt
-          where
-            IsFile : Option Kind → Type 0
-            IsFile (Some a_file) = Unit {0}
-            IsFile _ = ⊥
+rewritten_keeps f tree i = adjusted_keeps (rewritten_node f) tree i (λ n e h. grind arith, λ h. grind arith)
 
 -- a name that a directory hadn't
 pub named_keeps : (tree : Tree) (d : ℕ) (n : List ℕ) (i : ℕ) → node_of (name tree d n) ≡ None → Keeps tree (adjust_number (renamed_node n (Some i)) tree d)
-named_keeps tree d n i is_new = adjusted_keeps (renamed_node n (Some i)) tree d (by (get tree d) (sym (same_number tree (looked tree d n)) ∙ is_new))
+named_keeps tree d n i is_new =
+    adjusted_keeps (renamed_node n (Some i)) tree d
+    (λ m e h. named_more (get tree d) n i m e (sym (same_number tree (looked tree d n)) ∙ is_new) h, λ h. grind arith)
   where
-    by : (o : Option Node) → in_node o n ≡ None → Grows o (option_map (renamed_node n (Some i)) o)
-    by None none = (λ m e h. h, λ h. h)
-    by (Some (file bs)) none = (λ m e h. h, λ h. h)
-    by (Some (directory ns k)) none = (λ m e h. get-insert text_keys.total ns n i m ∙ at m e h (eq_by_cmp (slice_cmp nat_cmp) m n) refl, λ h. h)
-      where
-        at : (m : List ℕ) (e : ℕ) → get ns m ≡ Some e → (b : Bool) → eq_by_cmp (slice_cmp nat_cmp) m n ≡ b → cond b (Some i) (get ns m) ≡ Some e
-        at m e h true same = absurd (some_apart (sym h ∙ ap (get ns) (text_keys.same m n ((Equal-is (slice_cmp nat_cmp m n)).0 same)) ∙ none))
-        at m e h false same = h
+    named_more : (o : Option Node) (n : List ℕ) (i : ℕ) (m : List ℕ) (e : ℕ) → entry o n ≡ None → entry o m ≡ Some e
+        → entry (option_map (renamed_node n (Some i)) o) m ≡ Some e
+    named_more o n i m e none h = grind (arith, get-insert {X = ℕ} text_keys.total, text_keys.same)
 
 -- A directory's new name.
 module _ (s : World) (path : List ℕ) (parent : ℕ) (n : List ℕ) (i : ℕ) (place : IsNewPlace s.nodes path parent n) where
@@ -230,12 +173,8 @@ module _ (s : World) (path : List ℕ) (parent : ℕ) (n : List ℕ) (i : ℕ) (
 
 -- A node that is made, and then written.
 
-absent : (o : Option Node) → option_map kind_of_node o ≡ None → o ≡ None
-absent None h = refl
-absent (Some x) h = absurd (some_apart h)
-
 pub made_known : (tree : Tree) (known : Known) (i : ℕ) (x : Node) → Knows tree known → kind tree i ≡ None → Knows (insert number_keys.total tree i x) known
-made_known tree known i x knows free = knows_kept tree (insert number_keys.total tree i x) known (made_keeps tree i x (absent (get tree i) free)) knows
+made_known tree known i x knows free = knows_kept tree (insert number_keys.total tree i x) known (made_keeps tree i x (grind arith)) knows
 
 pub file_known : (tree : Tree) (known : Known) (i size : ℕ) (stored : List ℕ) → Knows tree known
     → Knows (adjust_number (rewritten_node (λ bs. resized bs size)) (adjust_number (rewritten_node (λ bs. overwritten bs 0 stored)) tree i) i) known

@@ -18,7 +18,6 @@ pub mod Starts
 pub mod Fills
 pub mod KnownPaths
 pub mod Listing
-pub mod Lines
 pub mod Sized
 pub mod Holes
 pub mod Raw

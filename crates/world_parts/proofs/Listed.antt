@@ -1,5 +1,5 @@
 -- The paths that are listed below a directory are those of the names that lead from it.
-use Rattle.std.specs.Prelude.{◌≡◌, ℕ, zero, suc, ◌≤◌, ◌==◌, Bool, true, false, cond, not, nat_le, ◌&&◌, ◌||◌, ◌⊎◌, T, List, [], ◌∷◌, ◌++◌, length, filter, Option, Some, None, IfSome, refl}
+use Rattle.std.specs.Prelude.{◌≡◌, ℕ, zero, suc, ◌≤◌, ◌==◌, true, false, cond, not, nat_le, ◌&&◌, ◌⊎◌, T, List, [], ◌∷◌, ◌++◌, length, filter, Option, Some, None, IfSome, refl}
 use Rattle.std.specs.List.{All}
 use Rattle.std.specs.Option.{option_map, option_and_then}
 use Rattle.std.specs.Ordering.{nat_cmp}
@@ -11,8 +11,6 @@ use Rattle.std.proofs.Common.{append_assoc}
 use mathlib.Core.Path.{sym, subst, ap, ◌∙◌}
 use mathlib.Core.Logic.{inl, inr}
 use native.Mathlib.Omega.{arith}
-use lib.Dec.{leb→le}
-use Rattle.std.proofs.lemmas.Bool.{ne_eqb}
 use Rattle.sqe_codec.specs.Answers.{each}
 use Rattle.trace_format.specs.Paths.{components, runs, has_slash}
 use Rattle.finite_maps.specs.Table.{Table, insert, get, text_keys}
@@ -32,31 +30,23 @@ abbrev pub AllNames : List (List ℕ) → Type 0
 AllNames [] = Unit {0}
 AllNames (n ∷ ns) = T (is_file_name n) × AllNames ns
 
-is_false : (b : Bool) → T (not b) → b ≡ false
-is_false true h = absurd h
-is_false false h = refl
-
 pub all_fit : (ns : List (List ℕ)) → AllNames ns → AllFit ns
 all_fit [] h = tt
 all_fit (n ∷ ns) h = (true_of (fits_name n) (left _ (not (has_slash n)) (right (nat_le 1 (length n)) _ h.0)), all_fit ns h.1)
 
 no_slashes : (n : List ℕ) → has_slash n ≡ false → All (λ b. (b == 47) ≡ false) n
 no_slashes [] h = All-nil (λ (b : ℕ). (b == 47) ≡ false)
-no_slashes (b ∷ bs) h = by (b == 47) refl h (no_slashes bs)
-  where
-    by : (c : Bool) → (b == 47) ≡ c → (c || has_slash bs) ≡ false → (has_slash bs ≡ false → All (λ b. (b == 47) ≡ false) bs) → All (λ b. (b == 47) ≡ false) (b ∷ bs)
-    by true e k rest = absurd (subst T k tt)
-    by false e k rest = All-cons (λ (b : ℕ). (b == 47) ≡ false) b bs e (rest k)
+no_slashes (b ∷ bs) h = All-cons (λ (c : ℕ). (c == 47) ≡ false) b bs (grind arith) (no_slashes bs (grind arith))
 
 plain : (n : List ℕ) → T (is_file_name n) → All (λ b. (b == 47) ≡ false) n
-plain n h = no_slashes n (is_false (has_slash n) (right (fits_name n) _ (right (nat_le 1 (length n)) _ h)))
+plain n h = no_slashes n (grind arith)
 
 runs_of : (n : List ℕ) (ns : List (List ℕ)) → AllNames (n ∷ ns) → runs (n ++ path_of ns) ≡ n ∷ ns
 runs_of n [] h = ap runs (append-nil n) ∙ slice_split_none (λ b. b == 47) n (plain n h.0)
 runs_of n (m ∷ ms) h = slice_split_at (λ b. b == 47) n 47 (m ++ path_of ms) (plain n h.0) refl ∙ ap (λ (l : List (List ℕ)). n ∷ l) (runs_of m ms h.1)
 
 filled : (n : List ℕ) → T (nat_le 1 (length n)) → not (length n == 0) ≡ true
-filled n h = (let some : 1 ≤ length n = leb→le 1 (length n) h in ap not (ne_eqb (length n) 0 (λ e. omega arith)))
+filled n h = grind arith
 
 all_kept : (ns : List (List ℕ)) → AllNames ns → filter (λ run. not (length run == 0)) ns ≡ ns
 all_kept [] h = refl
@@ -88,18 +78,16 @@ module _ (tree : Tree) where
   pub way_of_listed : (levels : ℕ) (path : List ℕ) (d : ℕ) (p : List ℕ) (i : ℕ) → In (p, i) (paths_below levels tree path d)
       → (n : List ℕ) × (ns : List (List ℕ)) × (path ++ path_of (n ∷ ns) ≡ p) × Leads tree d (n ∷ ns) i
   way_of_listed zero path d p i h = absurd h
-  way_of_listed (suc levels) path d p i h = by (in_flat_map (paths_at levels tree path) (p, i) (each (λ (ns : Names). ns.entries) (names tree d)) h) (λ full e k. way_of_listed levels full e p i k)
-    where
-      by : ((e : List ℕ × ℕ) × In e (each (λ (ns : Names). ns.entries) (names tree d)) × In (p, i) (paths_at levels tree path e))
-          → ((full : List ℕ) (e : ℕ) → In (p, i) (paths_below levels tree full e) → (n : List ℕ) × (ns : List (List ℕ)) × (full ++ path_of (n ∷ ns) ≡ p) × Leads tree e (n ∷ ns) i)
-          → (n : List ℕ) × (ns : List (List ℕ)) × (path ++ path_of (n ∷ ns) ≡ p) × Leads tree d (n ∷ ns) i
-      by f deeper = at f.2
-        where
-          at : (◌≡◌ {A = List ℕ × ℕ} (path ++ 47 ∷ f.0.0, f.0.1) (p, i)) ⊎ In (p, i) (paths_below levels tree (path ++ 47 ∷ f.0.0) f.0.1) → (n : List ℕ) × (ns : List (List ℕ)) × (path ++ path_of (n ∷ ns) ≡ p) × Leads tree d (n ∷ ns) i
-          at (inl e) = (f.0.0, [], ap (λ (l : List ℕ). path ++ 47 ∷ l) (append-nil f.0.0) ∙ ap (λ (q : List ℕ × ℕ). q.0) e, (f.0.1, named_by (names tree d) f.0 f.1, ap (λ (q : List ℕ × ℕ). q.1) e))
-          at (inr k) =
-              let r = deeper (path ++ 47 ∷ f.0.0) f.0.1 k in
-              (f.0.0, r.0 ∷ r.1, sym (append_assoc path (47 ∷ f.0.0) (path_of (r.0 ∷ r.1))) ∙ r.2, (f.0.1, named_by (names tree d) f.0 f.1, r.3))
+  way_of_listed (suc levels) path d p i h =
+      let f = in_flat_map (paths_at levels tree path) (p, i) (each (λ (ns : Names). ns.entries) (names tree d)) h in
+      let there = named_by (names tree d) f.0 f.1 in
+      elim f.2 [
+        | inl e ↦
+            (f.0.0, [], ap (λ (l : List ℕ). path ++ 47 ∷ l) (append-nil f.0.0) ∙ ap (λ (q : List ℕ × ℕ). q.0) e, (f.0.1, there, ap (λ (q : List ℕ × ℕ). q.1) e))
+        | inr k ↦
+            let r = way_of_listed levels (path ++ 47 ∷ f.0.0) f.0.1 p i k in
+            (f.0.0, r.0 ∷ r.1, sym (append_assoc path (47 ∷ f.0.0) (path_of (r.0 ∷ r.1))) ∙ r.2, (f.0.1, there, r.3))
+      ]
 
   -- what has a way of so many names is listed
   pub listed_of_way : (levels : ℕ) (path : List ℕ) (d : ℕ) (n : List ℕ) (ns : List (List ℕ)) (i : ℕ) → length (n ∷ ns) ≤ levels → Leads tree d (n ∷ ns) i → In (path ++ path_of (n ∷ ns), i) (paths_below levels tree path d)
@@ -114,23 +102,16 @@ module _ (tree : Tree) where
 -- what a map of paths has is in the list that it was made of, or was there before
 pub from_by_path : (m : Table (slice_cmp nat_cmp) ℕ) (es : List (List ℕ × ℕ)) (p : List ℕ) (i : ℕ) → get (by_path m es) p ≡ Some i → In (p, i) es ⊎ (get m p ≡ Some i)
 from_by_path m [] p i h = inr h
-from_by_path m (e ∷ es) p i h = by (from_by_path (insert text_keys.total m e.0 e.1) es p i h)
-  where
-    put : ((e.0 ≡ p) × (e.1 ≡ i)) ⊎ (get m p ≡ Some i) → In (p, i) (e ∷ es) ⊎ (get m p ≡ Some i)
-    put (inl s) = inl (inl (λ k. (s.0 k, s.1 k)))
-    put (inr s) = inr s
-
-    by : In (p, i) es ⊎ (get (insert text_keys.total m e.0 e.1) p ≡ Some i) → In (p, i) (e ∷ es) ⊎ (get m p ≡ Some i)
-    by (inl s) = inl (inr s)
-    by (inr s) = put (put_either text_keys m e.0 e.1 p i s)
+from_by_path m (e ∷ es) p i h = elim (from_by_path (insert text_keys.total m e.0 e.1) es p i h) [
+  | inl s ↦ inl (inr s)
+  | inr s ↦ elim (put_either text_keys m e.0 e.1 p i s) [ inl k ↦ inl (inl (λ z. (k.0 z, k.1 z))) | inr k ↦ inr k ]
+]
 
 -- a path that stands in the list with one node alone is in the map with that node
 pub in_by_path : (m : Table (slice_cmp nat_cmp) ℕ) (es : List (List ℕ × ℕ)) (p : List ℕ) (i : ℕ) → ((j : ℕ) → In (p, j) es → j ≡ i) → In (p, i) es ⊎ (get m p ≡ Some i) → get (by_path m es) p ≡ Some i
 in_by_path m [] p i one (inl h) = absurd h
 in_by_path m [] p i one (inr h) = h
-in_by_path m (e ∷ es) p i one h = in_by_path (insert text_keys.total m e.0 e.1) es p i (λ j k. one j (inr k)) (by h)
-  where
-    by : In (p, i) (e ∷ es) ⊎ (get m p ≡ Some i) → In (p, i) es ⊎ (get (insert text_keys.total m e.0 e.1) p ≡ Some i)
-    by (inl (inl s)) = inr (put_here text_keys m e.0 e.1 p (ap (λ (q : List ℕ × ℕ). q.0) s) ∙ ap (λ (q : List ℕ × ℕ). Some q.1) s)
-    by (inl (inr s)) = inl s
-    by (inr s) = inr (put_over text_keys m e.0 e.1 p i (λ k. one e.1 (inl (λ z. (k z, e.1)))) s)
+in_by_path m (e ∷ es) p i one h = in_by_path (insert text_keys.total m e.0 e.1) es p i (λ j k. one j (inr k)) (elim h [
+  | inl s ↦ elim s [ inl t ↦ inr (put_here text_keys m e.0 e.1 p (ap (λ (q : List ℕ × ℕ). q.0) t) ∙ ap (λ (q : List ℕ × ℕ). Some q.1) t) | inr t ↦ inl t ]
+  | inr s ↦ inr (put_over text_keys m e.0 e.1 p i (λ k. one e.1 (inl (λ z. (k z, e.1)))) s)
+])

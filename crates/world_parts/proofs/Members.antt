@@ -1,17 +1,17 @@
 -- Members of lists and of tables.
-use Rattle.std.specs.Prelude.{◌≡◌, ℕ, zero, suc, ◌<◌, Bool, true, false, cond, ◌⊎◌, T, List, [], ◌∷◌, ◌++◌, length, map, Some, refl, slice_index_or}
+use Rattle.std.specs.Prelude.{◌≡◌, zero, suc, true, cond, ◌⊎◌, T, List, [], ◌∷◌, ◌++◌, map, Some, refl}
 use Rattle.std.specs.List.{Contains, flat_map}
 use Rattle.std.specs.Ordering.{eq_by_cmp, is_lt, is_eq}
 use Rattle.std.specs.declared.cmp.Ordering.{Ordering}
-use Rattle.std.specs.declared.cmp.Ordering.TheVariants.{Less, Equal, Greater}
 use Rattle.std.specs.Cmp.{Equal-is, eq_by_cmp_equiv}
 use Rattle.std.specs.FinMap.Entries.{find, below_all, is_sorted}
 use mathlib.Core.Path.{sym, subst, ap, ◌∙◌}
 use mathlib.Core.Logic.{inl, inr}
 use native.Mathlib.Omega.{arith}
+use Rattle.std.proofs.lemmas.Bool.{cond-false, false_from_ne_true}
 use Rattle.finite_maps.specs.Table.{Table, IsKeyOrder, get, insert, get-insert}
 use Rattle.world_parts.proofs.Collision.{left, right}
-use Rattle.world_parts.proofs.Trees.{some_apart, some_same}
+use Rattle.world_parts.proofs.Trees.{some_apart}
 
 -- an element of a list
 abbrev pub In : {A : Type 0} → A → List A → Type 0
@@ -25,11 +25,8 @@ contained x (y ∷ ys) (inr h) = (let c = contained x ys h in (suc c.0, omega (a
 
 pub element : {A : Type 0} (x : A) (xs : List A) → Contains xs x → In x xs
 element x [] c = absurd (omega (arith, c.1))
-element {A} x (y ∷ ys) c = at c.0 c.1 c.2 (λ k l e. element x ys (k, l, e))
-  where
-    at : (k : ℕ) → k < length (y ∷ ys) → slice_index_or (y ∷ ys) k x ≡ x → ((k : ℕ) → k < length ys → slice_index_or ys k x ≡ x → In x ys) → In x (y ∷ ys)
-    at zero l e rest = inl e
-    at (suc k) l e rest = inr (rest k (omega arith) e)
+element x (y ∷ ys) (zero, l, e) = inl e
+element x (y ∷ ys) (suc k, l, e) = inr (element x ys (k, omega arith, e))
 
 pub in_left : {A : Type 0} (x : A) (xs ys : List A) → In x xs → In x (xs ++ ys)
 in_left x [] ys h = absurd h
@@ -68,13 +65,7 @@ in_map-at f a (x ∷ xs) (inl e) = inl (ap f e)
 in_map-at f a (x ∷ xs) (inr h) = inr (in_map-at f a xs h)
 
 not_less : (o : Ordering) → T (is_lt o) → T (is_eq o) → ⊥
-not_less Less h k = k
-not_less Equal h k = h
-not_less Greater h k = h
-
-turned : {X : Type 0} (b : Bool) (x y : X) → (T b → ⊥) → cond b x y ≡ y
-turned true x y h = absurd (h tt)
-turned false x y h = refl
+not_less o h k = grind arith
 
 ties : {K : Type 0} {R : K → K → Ordering} → IsKeyOrder R → (p q : K) → p ≡ q → eq_by_cmp R p q ≡ true
 ties {K} {R} o p q e = subst (λ r. eq_by_cmp R p r ≡ true) e ((eq_by_cmp_equiv o.total).refl p)
@@ -91,15 +82,12 @@ module _ {K X : Type 0} {R : K → K → Ordering} (o : IsKeyOrder R) where
       ap (λ b. cond b (Some e.1) (find R q es)) (ties o q e.0 (sym (ap (λ (y : K × X). y.0) h))) ∙ ap (λ (y : K × X). Some y.1) h
   found_at q x (e ∷ es) s (inr h) =
       let lower : T (is_lt (R e.0 q)) = above e.0 q x es (left _ _ s) h in
-      turned (eq_by_cmp R q e.0) (Some e.1) (find R q es) (λ t. not_less (R e.0 q) lower (subst T ((eq_by_cmp_equiv o.total).symm q e.0) t))
-      ∙ found_at q x es (right _ _ s) h
+      cond-false (eq_by_cmp R q e.0) (Some e.1) (find R q es)
+      (false_from_ne_true _ (λ t. not_less (R e.0 q) lower (subst T (sym ((eq_by_cmp_equiv o.total).symm e.0 q ∙ t)) tt))) ∙ found_at q x es (right _ _ s) h
 
   found_in : (q : K) (x : X) (es : List (K × X)) → find R q es ≡ Some x → In (q, x) es
   found_in q x [] h = absurd (some_apart (sym h))
-  found_in q x (e ∷ es) h = elim (eq_by_cmp R q e.0) as (λ b. eq_by_cmp R q e.0 ≡ b → cond b (Some e.1) (find R q es) ≡ Some x → In (q, x) (e ∷ es)) [
-    | true ↦ λ t k. inl (λ i. (sym (o.same q e.0 ((Equal-is (R q e.0)).0 t)) i, some_same e.1 x k i))
-    | false ↦ λ t k. inr (found_in q x es k)
-  ] refl h
+  found_in q x (e ∷ es) h = grind (arith, o.same q e.0, Equal-is (R q e.0), found_in q x es)
 
   -- what a table has at a key is among its entries
   pub entry_of : (m : Table R X) (q : K) (x : X) → get m q ≡ Some x → In (q, x) m.entries
@@ -110,16 +98,10 @@ module _ {K X : Type 0} {R : K → K → Ordering} (o : IsKeyOrder R) where
 
   -- what a table has at a key after a value was put at one: that value where the keys are one, else what it had
   pub put_either : (m : Table R X) (k : K) (v : X) (q : K) (x : X) → get (insert o.total m k v) q ≡ Some x → ((k ≡ q) × (v ≡ x)) ⊎ (get m q ≡ Some x)
-  put_either m k v q x h = elim (eq_by_cmp R q k) as (λ b. eq_by_cmp R q k ≡ b → cond b (Some v) (get m q) ≡ Some x → ((k ≡ q) × (v ≡ x)) ⊎ (get m q ≡ Some x)) [
-    | true ↦ λ t e. inl (sym (o.same q k ((Equal-is (R q k)).0 t)), some_same v x e)
-    | false ↦ λ t e. inr e
-  ] refl (sym (get-insert o.total m k v q) ∙ h)
+  put_either m k v q x h = grind (arith, get-insert o.total m k v q, o.same q k, Equal-is (R q k))
 
   pub put_here : (m : Table R X) (k : K) (v : X) (q : K) → k ≡ q → get (insert o.total m k v) q ≡ Some v
   put_here m k v q e = get-insert o.total m k v q ∙ ap (λ b. cond b (Some v) (get m q)) (ties o q k (sym e))
 
   pub put_over : (m : Table R X) (k : K) (v : X) (q : K) (x : X) → (k ≡ q → v ≡ x) → get m q ≡ Some x → get (insert o.total m k v) q ≡ Some x
-  put_over m k v q x same h = get-insert o.total m k v q ∙ elim (eq_by_cmp R q k) as (λ b. eq_by_cmp R q k ≡ b → cond b (Some v) (get m q) ≡ Some x) [
-    | true ↦ λ t. ap (λ (y : X). Some y) (same (sym (o.same q k ((Equal-is (R q k)).0 t))))
-    | false ↦ λ t. h
-  ] refl
+  put_over m k v q x same h = grind (arith, get-insert o.total m k v q, o.same q k, Equal-is (R q k))

@@ -1,22 +1,19 @@
 -- Bytes put over those of a buffer, or of a file that grows first.
 use Rattle.std.proofs.Common.{◌≡◌, ℕ, ◌+◌, ◌-◌, ◌<◌, ◌≤◌, List, length, take, drop, min, arith, sym, subst, ◌∙◌, ap, refl, ⊎_elim}
-use Rattle.std.specs.Prelude.{Bool, true, false, cond, ◌==◌, T, Option, Some, None, IfSome, unwrap_or}
+use Rattle.std.specs.Prelude.{Option, Some, None, IfSome, unwrap_or}
 use Rattle.std.specs.Option.{option_map, option_and_then}
 use Rattle.std.specs.Ordering.{nat_cmp}
-use lib.Dec.{eqb→eq, eqb_refl}
 use Rattle.std.proofs.lemmas.Bool.{cases_lt}
 use Rattle.std.proofs.lemmas.List.{length-take, take_all, take_min, take-take}
 use Rattle.std.proofs.lemmas.Grind.{same_number_lists}
 use Rattle.extent_bytes.specs.Bytes.{overlaid, overwritten, range_of, resized}
 use Rattle.extent_bytes.proofs.Lengths.{length-overwritten, length-resized}
-use Rattle.extent_bytes.proofs.Lists.{get_or-overwritten_below, get_or-overwritten_inside}
 use Rattle.ring_tables.proofs.BufferBytes.{overlaid-clipped, overlaid-past}
 use Rattle.finite_maps.specs.Table.{Table, get, adjust_number, number_keys, same_table}
-use Rattle.file_tree.specs.Tree.{Node, directory, file, bytes_of_node, rewritten_node}
+use Rattle.file_tree.specs.Tree.{Node, bytes_of_node, rewritten_node}
 use Rattle.world_parts.specs.World.{World, size, set_size, write_bytes, apply}
-use Rattle.world_parts.proofs.ByteWords.{byte-resized}
+use Rattle.world_parts.proofs.ByteWords.{byte-overwritten, each-resized, past_end}
 use Rattle.world_parts.proofs.Changes.{adjusted}
-use Rattle.world_parts.proofs.Copies.{chosen}
 
 -- a range that ends where there is no more room
 pub range_of-clipped : (bs : List ℕ) (low high end room : ℕ) → end ≡ min high (low + room) → range_of bs low end ≡ take room (range_of bs low high)
@@ -36,8 +33,7 @@ fills old new at room e some = ap (overwritten old at) (sym (take_min room new))
 
 pub shared_over : (o : Option (List ℕ)) (new : List ℕ) (at room : ℕ) → room ≡ unwrap_or (option_map length o) 0 - at → 0 < room
     → option_map (λ bs. overwritten bs at (take room new)) o ≡ option_map (λ bs. overlaid bs at new) o
-shared_over None new at room e some = refl
-shared_over (Some old) new at room e some = ap Some (fills old new at room e some)
+shared_over o new at room e some = grind (arith, fills)
 
 pub copied_over : (o : Option (List ℕ)) (new : List ℕ) (at room : ℕ) → room ≡ unwrap_or (option_map length o) 0 - at
     → option_map (λ bs. overlaid bs at (take room new)) o ≡ option_map (λ bs. overlaid bs at new) o
@@ -50,42 +46,21 @@ copied_over (Some old) new at room e = ap Some (⊎_elim
 -- a list that grows to the end of what is put at its end
 overwritten-resized : (old part : List ℕ) (at n : ℕ) → n ≡ at + length part → length old < n → overwritten (resized old n) at part ≡ overwritten old at part
 overwritten-resized old part at n e short =
-    let long : length (resized old n) ≡ n = length-resized old n in
-    let count : length (overwritten (resized old n) at part) ≡ n = length-overwritten (resized old n) at part ∙ omega (arith, long) in
-    same_number_lists (overwritten (resized old n) at part) (overwritten old at part) (count ∙ sym (length-overwritten old at part ∙ omega arith))
-    (λ i b. ⊎_elim
-    (λ (k : i < at). get_or-overwritten_below (resized old n) at part i k ∙ byte-resized old n i (omega arith) ∙ sym (get_or-overwritten_below old at part i k))
-    (λ (k : at ≤ i).
-    let l : i < at + length part = omega (arith, count) in
-    get_or-overwritten_inside (resized old n) at part i k l ∙ sym (get_or-overwritten_inside old at part i k l))
-    (cases_lt i at))
+    same_number_lists (overwritten (resized old n) at part) (overwritten old at part) (grind (arith, length-resized, length-overwritten))
+    (λ i b. grind (arith, byte-overwritten, each-resized, past_end))
 
 grown : (x : Option Node) (at n : ℕ) (part : List ℕ) → n ≡ at + length part → IfSome (option_map length (option_and_then bytes_of_node x)) (λ m. m < n)
     → option_map (rewritten_node (λ old. overwritten old at part)) (option_map (rewritten_node (λ bs. resized bs n)) x) ≡ option_map (rewritten_node (λ old. overwritten old at part)) x
-grown None at n part e short = refl
-grown (Some (directory ns o)) at n part e short = refl
-grown (Some (file bs)) at n part e short = ap (λ xs. Some (file xs)) (overwritten-resized bs part at n e short)
+grown x at n part e short = grind (arith, overwritten-resized)
 
 -- a value that is adjusted twice
 adjusted_twice : {X : Type 0} (f g : X → X) (m : Table nat_cmp X) (k : ℕ) → option_map g (option_map f (get m k)) ≡ option_map g (get m k) → adjust_number g (adjust_number f m k) k ≡ adjust_number g m k
-adjusted_twice f g m k e =
-    same_table number_keys (adjust_number g (adjust_number f m k) k) (adjust_number g m k)
-    (λ q. adjusted g (adjust_number f m k) k q ∙ ap (λ x. cond (q == k) (option_map g x) x) (adjusted f m k q) ∙ here q (q == k) refl ∙ sym (adjusted g m k q))
-  where
-    here : (q : ℕ) (b : Bool) → (q == k) ≡ b
-        → cond b (option_map g (cond b (option_map f (get m q)) (get m q))) (cond b (option_map f (get m q)) (get m q)) ≡ cond b (option_map g (get m q)) (get m q)
-    here q true is = subst (λ i. option_map g (option_map f (get m i)) ≡ option_map g (get m i)) (sym (eqb→eq q k (subst T (sym is) tt))) e
-    here q false is = refl
+adjusted_twice f g m k e = same_table number_keys _ _ (λ q. grind (arith, adjusted g (adjust_number f m k) k q, adjusted f m k q, adjusted g m k q))
 
 -- the size of a file that was extended
 pub size-extended : (s w : World) (i n k : ℕ) → w ≡ apply (set_size i n) s → k ≤ n → IfSome (size w i) (λ m. k ≤ m)
-size-extended s w i n k e few = subst (λ v. IfSome (size v i) (λ m. k ≤ m)) (sym e) (subst (λ y. IfSome (option_map length (option_and_then bytes_of_node y)) (λ m. k ≤ m))
-    (sym (adjusted (rewritten_node (λ bs. resized bs n)) s.nodes i i ∙ chosen (i == i) _ _ (eqb_refl i))) (of (get s.nodes i)))
-  where
-    of : (x : Option Node) → IfSome (option_map length (option_and_then bytes_of_node (option_map (rewritten_node (λ bs. resized bs n)) x))) (λ m. k ≤ m)
-    of None = tt
-    of (Some (directory ns o)) = tt
-    of (Some (file bs)) = omega (arith, length-resized bs n)
+size-extended s w i n k e few =
+    subst (λ v. IfSome (size v i) (λ m. k ≤ m)) (sym e) (grind (arith, adjusted (rewritten_node (λ bs. resized bs n)) s.nodes i i, length-resized))
 
 -- bytes written into a file that was extended for them
 pub extended_written : (s w v : World) (i at n : ℕ) (part : List ℕ) → n ≡ at + length part → IfSome (size s i) (λ m. m < n) → w ≡ apply (set_size i n) s
@@ -96,9 +71,7 @@ extended_written s w v i at n part e short x y =
 
 -- what a size that may be there tells
 pub reaches : (o : Option ℕ) (n k : ℕ) → k ≤ n → n ≤ unwrap_or o n → IfSome o (λ m. k ≤ m)
-reaches None n k a h = tt
-reaches (Some m) n k a h = omega arith
+reaches o n k a h = grind arith
 
 pub ends_before : (o : Option ℕ) (n k : ℕ) → n ≤ k → unwrap_or o n < n → IfSome o (λ m. m < k)
-ends_before None n k a h = tt
-ends_before (Some m) n k a h = omega arith
+ends_before o n k a h = grind arith

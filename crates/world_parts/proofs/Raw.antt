@@ -1,15 +1,17 @@
 -- Worlds by what each node, description and name has itself, apart from the kind of the node that it leads to.
 use Rattle.std.specs.Prelude.{◌≡◌, ℕ, Bool, List, length, Option, Some, None, IfSome, refl}
 use Rattle.std.specs.Option.{option_map, option_and_then, is_some}
+use Rattle.std.specs.List.{slice_get}
 use mathlib.Core.Path.{sym, ap, ◌∙◌}
+use native.Mathlib.Omega.{arith}
+use Rattle.std.proofs.lemmas.Grind.{same_number_lists}
+use Rattle.std.proofs.lemmas.Option.{gets, same_Some}
 use Rattle.trace_format.specs.declared.trace.Access.{Access}
 use Rattle.finite_maps.specs.Table.{get, same_table, number_keys, pair_keys, text_keys}
-use Rattle.file_tree.specs.Tree.{Node, Names, target, directory, file, names_of_node, others_of_node, count_of_node, bytes_of_node, byte_of}
+use Rattle.file_tree.specs.Tree.{Node, Names, directory, file, names_of_node, others_of_node, bytes_of_node, byte_of}
 use Rattle.file_tree.specs.Found.{node_of}
-use Rattle.world_parts.specs.World.{World, Description, Opened, opened_by}
+use Rattle.world_parts.specs.World.{World, Description, Opened, names}
 use Rattle.world_parts.specs.Items.{Atom, chain_flag, slot_at, descriptor_at, description_at, position_of, size_of, byte_at, name_at, names_in, buffer_size, buffer_byte, Value, value}
-use Rattle.world_parts.proofs.Values.{same_bytes, same_buffer}
-use Rattle.world_parts.proofs.Trees.{some_same}
 
 -- What a description says, apart from its position.
 pub record Head : Type 0 where
@@ -19,6 +21,9 @@ pub record Head : Type 0 where
 
 abbrev pub head_of : Description → Head
 head_of d = record { node = d.node; access = d.access; append = d.append }
+
+abbrev pub spot : Option Description → Option ℕ
+spot x = option_map (λ (d : Description). d.position) x
 
 -- What is seen of a node: its size, its bytes, whether it is a directory, and its names.
 abbrev pub long : Option Node → Option ℕ
@@ -32,6 +37,10 @@ lists x = is_some (option_and_then names_of_node x)
 
 abbrev pub entry : Option Node → List ℕ → Option ℕ
 entry x n = option_and_then (λ (ns : Names). get ns n) (option_and_then names_of_node x)
+
+-- A byte of a buffer that may be there.
+abbrev pub byte_got : Option (List ℕ) → ℕ → Option ℕ
+byte_got x p = option_and_then (λ bs. slice_get bs p) x
 
 abbrev pub RawValue : Atom → Type 0
 RawValue (description_at d) = Option Head
@@ -53,22 +62,9 @@ strip (names_in d) v = is_some v
 strip a v = v
 
 pub raw-value : (s : World) (a : Atom) → raw s a ≡ strip a (value s a)
-raw-value s (description_at d) = by (get s.descriptions d)
-  where
-    by : (x : Option Description) → option_map head_of x ≡ strip (description_at d) (option_map (opened_by s) x)
-    by None = refl
-    by (Some e) = refl
-raw-value s (name_at d n) = by (entry (get s.nodes d) n)
-  where
-    by : (o : Option ℕ) → o ≡ node_of (option_map (target s.nodes) o)
-    by None = refl
-    by (Some i) = refl
-raw-value s (names_in d) = by (get s.nodes d)
-  where
-    by : (x : Option Node) → lists x ≡ is_some (option_and_then count_of_node x)
-    by None = refl
-    by (Some (directory ns o)) = refl
-    by (Some (file bs)) = refl
+raw-value s (description_at d) = grind arith
+raw-value s (name_at d n) = grind arith
+raw-value s (names_in d) = grind arith
 raw-value s _ = refl
 
 pub raw-same : (s u : World) (a : Atom) → value s a ≡ value u a → raw s a ≡ raw u a
@@ -81,35 +77,45 @@ ShownNode x = IfSome (option_and_then others_of_node x) (λ n. n ≡ 0)
 abbrev pub AllShown : World → Type 0
 AllShown s = (i : ℕ) → ShownNode (get s.nodes i)
 
-same_node : (x y : Option Node) → long x ≡ long y → ((p : ℕ) → byte_in x p ≡ byte_in y p) → lists x ≡ lists y → ((n : List ℕ) → entry x n ≡ entry y n) → ShownNode x → ShownNode y → x ≡ y
-same_node None None z b c n g h = refl
-same_node None (Some (directory m o)) z b c n g h = cc
-same_node None (Some (file bs)) z b c n g h = cc
-same_node (Some (directory m o)) None z b c n g h = cc
-same_node (Some (file bs)) None z b c n g h = cc
-same_node (Some (directory m o)) (Some (file bs)) z b c n g h = cc
-same_node (Some (file bs)) (Some (directory m o)) z b c n g h = cc
-same_node (Some (directory m o)) (Some (directory k q)) z b c n g h = λ i. Some (directory (same_table text_keys m k n i) ((g ∙ sym h) i))
-same_node (Some (file bs)) (Some (file cs)) z b c n g h = ap (λ q. Some (file q)) (same_bytes bs cs (some_same _ _ z) b)
+pub same_listing : (x y : Option Names) → is_some x ≡ is_some y → ((n : List ℕ) → option_and_then (λ ns. get ns n) x ≡ option_and_then (λ ns. get ns n) y)
+    → x ≡ y
+same_listing None y l e = grind arith
+same_listing (Some m) None l e = cc
+same_listing (Some m) (Some k) l e = ap Some (same_table text_keys m k e)
 
-abbrev rebuilt : Option Head → Option ℕ → Option Description
-rebuilt (Some o) (Some p) = Some (record { node = o.node; access = o.access; append = o.append; position = p })
-rebuilt _ _ = None
+same_node : (x y : Option Node) → long x ≡ long y → ((p : ℕ) → byte_in x p ≡ byte_in y p) → option_and_then names_of_node x ≡ option_and_then names_of_node y
+    → option_and_then others_of_node x ≡ option_and_then others_of_node y → x ≡ y
+same_node None y z b n o = grind arith
+same_node (Some (directory m k)) y z b n o = grind arith
+same_node (Some (file bs)) None z b n o = cc
+same_node (Some (file bs)) (Some (directory m k)) z b n o = cc
+same_node (Some (file bs)) (Some (file cs)) z b n o = ap (λ q. Some (file q)) (same_number_lists bs cs (same_Some _ _ z) (λ i l. b i))
 
-rebuilds : (x : Option Description) → rebuilt (option_map head_of x) (option_map (λ e. e.position) x) ≡ x
-rebuilds None = refl
-rebuilds (Some d) = refl
+pub same_description : (x y : Option Description) → option_map head_of x ≡ option_map head_of y → spot x ≡ spot y → x ≡ y
+same_description x y o p = grind arith
 
-pub same_description : (x y : Option Description) → option_map head_of x ≡ option_map head_of y → option_map (λ e. e.position) x ≡ option_map (λ e. e.position) y → x ≡ y
-same_description x y o p = sym (rebuilds x) ∙ (λ i. rebuilt (o i) (p i)) ∙ rebuilds y
+same_buffer : (x y : Option (List ℕ)) → option_map length x ≡ option_map length y → ((p : ℕ) → byte_got x p ≡ byte_got y p) → x ≡ y
+same_buffer None y z b = grind arith
+same_buffer (Some xs) None z b = cc
+same_buffer (Some xs) (Some ys) z b = ap Some (same_number_lists xs ys (same_Some _ _ z) (λ i l. grind (arith, gets, b i)))
 
--- Two worlds that show all names, with the same raw values, are one.
-pub raws_make_the_world : (s u : World) → AllShown s → AllShown u → ((a : Atom) → raw s a ≡ raw u a) → s ≡ u
-raws_make_the_world s u f g h =
-    let nodes = same_table number_keys s.nodes u.nodes (λ i. same_node (get s.nodes i) (get u.nodes i) (h (size_of i)) (λ p. h (byte_at i p)) (h (names_in i)) (λ q. h (name_at i q)) (f i) (g i)) in
+-- Two worlds with the same raw values that hide as many names are one.
+pub raws_make_one : (s u : World) → ((i : ℕ) → option_and_then others_of_node (get s.nodes i) ≡ option_and_then others_of_node (get u.nodes i))
+    → ((a : Atom) → raw s a ≡ raw u a) → s ≡ u
+raws_make_one s u o h =
+    let listing = λ (i : ℕ). same_listing (names s i) (names u i) (h (names_in i)) (λ n. h (name_at i n)) in
+    let nodes =
+    same_table number_keys s.nodes u.nodes (λ i. same_node (get s.nodes i) (get u.nodes i) (h (size_of i)) (λ p. h (byte_at i p)) (listing i) (o i)) in
     let descriptions = same_table number_keys s.descriptions u.descriptions (λ d. same_description (get s.descriptions d) (get u.descriptions d) (h (description_at d)) (h (position_of d))) in
     let slots = same_table pair_keys s.slots u.slots (λ q. h (slot_at q.0 q.1)) in
     let descriptors = same_table number_keys s.descriptors u.descriptors (λ n. h (descriptor_at n)) in
     let buffers = same_table pair_keys s.buffers u.buffers (λ q. same_buffer (get s.buffers q) (get u.buffers q) (h (buffer_size q.0 q.1)) (λ p. h (buffer_byte q.0 q.1 p))) in
     let broken = same_table number_keys s.broken u.broken (λ c. h (chain_flag c)) in
     λ i. record { nodes = nodes i; descriptions = descriptions i; slots = slots i; descriptors = descriptors i; buffers = buffers i; broken = broken i }
+
+-- So are two worlds that show all names.
+both_shown : (x y : Option Node) → lists x ≡ lists y → ShownNode x → ShownNode y → option_and_then others_of_node x ≡ option_and_then others_of_node y
+both_shown x y l f g = grind arith
+
+pub raws_make_the_world : (s u : World) → AllShown s → AllShown u → ((a : Atom) → raw s a ≡ raw u a) → s ≡ u
+raws_make_the_world s u f g h = raws_make_one s u (λ i. both_shown (get s.nodes i) (get u.nodes i) (h (names_in i)) (f i) (g i)) h

@@ -1,10 +1,10 @@
 -- The items of a spelled trace fit files.
 use Rattle.std.proofs.Common.{◌≡◌, ℕ, ◌+◌, ◌<◌, List, [], ◌∷◌, ◌++◌, length, take, drop, get_or, ap, sym, ◌∙◌, append_assoc}
 use Rattle.std.specs.Prelude.{All}
+use native.Mathlib.Omega.{arith}
 use Rattle.std.proofs.lemmas.List.{take_more, take-append-drop}
 use Rattle.trace_format.specs.declared.trace.Item.{Item}
 use Rattle.trace_format.specs.declared.trace.Node.{Node}
-use Rattle.trace_format.specs.declared.trace.Node.TheVariants.{Directory, File, OtherName}
 use Rattle.trace_format.specs.declared.trace.Trace.{Trace}
 use Rattle.trace_format.specs.Sound.{NodeFits}
 use Rattle.trace_format.specs.Text.{IsSpelled}
@@ -12,9 +12,7 @@ use Rattle.trace_format.proofs.Sound.{spelled_sound}
 use Rattle.world_parts.specs.Sized.{IsSizedNode, IsSized}
 
 sized : (earlier : List Item) (x : Node) → NodeFits earlier x → IsSizedNode x
-sized earlier Directory h = tt
-sized earlier (File size stored) h = h
-sized earlier (OtherName number) h = tt
+sized earlier x h = grind arith
 
 -- a list around one of its elements
 around : {A : Type 0} (xs : List A) (i : ℕ) (x : A) → i < length xs → xs ≡ take i xs ++ get_or xs i x ∷ drop (i + 1) xs

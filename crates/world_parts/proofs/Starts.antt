@@ -1,6 +1,6 @@
 -- The world that a trace starts with, a part at a time.
-use Rattle.std.proofs.Common.{◌≡◌, ℕ, zero, suc, ◌+◌, ◌-◌, ◌<◌, ◌≤◌, List, [], ◌∷◌, ◌++◌, length, take, get_or, Some, None, sym, ◌∙◌, ap, refl, arith, eqb}
-use Rattle.std.specs.Prelude.{Option, Bool, true, false, cond, replicate}
+use Rattle.std.proofs.Common.{◌≡◌, ℕ, zero, suc, ◌+◌, ◌-◌, ◌<◌, ◌≤◌, List, [], ◌∷◌, ◌++◌, length, take, get_or, Some, None, ◌∙◌, ap, refl, arith, eqb}
+use Rattle.std.specs.Prelude.{Option, Bool, cond, replicate}
 use Rattle.std.proofs.lemmas.List.{take_more, length-take-le}
 use Rattle.std.proofs.lemmas.Bool.{eq-eqb, ne_eqb}
 use Rattle.std.specs.Ordering.{nat_cmp}
@@ -10,7 +10,7 @@ use Rattle.trace_format.specs.declared.trace.Buffer.{Buffer}
 use Rattle.finite_maps.specs.Table.{Table, empty, insert, number_keys, pair_keys, pair_cmp}
 use Rattle.world_parts.specs.World.{World, Description}
 use Rattle.world_parts.specs.Start.{descriptions_from, descriptors_from, slots_from, buffers_from, ring_slots, ring_buffers, with_node, with_items}
-use Rattle.world_parts.proofs.Fills.{keep, filled, rows_filled, rows_filled-push, filled_next}
+use Rattle.world_parts.proofs.Fills.{keep, filled, rows_filled, rows_next, filled_next}
 
 -- what a slot or a descriptor holds
 abbrev pub held : ℕ → Option ℕ
@@ -18,12 +18,10 @@ held zero = None
 held (suc d) = Some d
 
 pub held-full : (n d : ℕ) → 1 ≤ n → d ≡ n - 1 → held n ≡ Some d
-held-full zero d lt e = absurd (omega arith)
-held-full (suc n) d lt e = ap Some (omega arith)
+held-full n d lt e = grind arith
 
 pub held-empty : (n : ℕ) → (1 ≤ n → ⊥) → held n ≡ None
-held-empty zero none = refl
-held-empty (suc n) none = absurd (none (omega arith))
+held-empty n none = grind arith
 
 -- the bytes of a buffer that is no empty entry
 abbrev pub zeros : Buffer → Option (List ℕ)
@@ -41,21 +39,15 @@ descriptions_filled n (d ∷ ds) = ap (λ (t : Table nat_cmp Description). inser
 
 descriptors_filled : (n : ℕ) (ds : List ℕ) → descriptors_from n ds ≡ filled number_keys held (λ i. i) n ds empty
 descriptors_filled n [] = refl
-descriptors_filled n (zero ∷ ds) = descriptors_filled (suc n) ds
-descriptors_filled n (suc d ∷ ds) = ap (λ (t : Table nat_cmp ℕ). insert number_keys.total t n d) (descriptors_filled (suc n) ds)
+descriptors_filled n (d ∷ ds) = grind (arith, descriptors_filled (suc n) ds)
 
 slots_filled : (r n : ℕ) (ds : List ℕ) (m : Table pair_cmp ℕ) → slots_from r n ds m ≡ filled pair_keys held (λ i. (r, i)) n ds m
 slots_filled r n [] m = refl
-slots_filled r n (zero ∷ ds) m = slots_filled r (suc n) ds m
-slots_filled r n (suc d ∷ ds) m = ap (λ (t : Table pair_cmp ℕ). insert pair_keys.total t (r, n) d) (slots_filled r (suc n) ds m)
-
-zeros_kept : (empty_entry : Bool) (m : Table pair_cmp (List ℕ)) (k : ℕ × ℕ) (bs : List ℕ) → cond empty_entry m (insert pair_keys.total m k bs) ≡ keep pair_keys m k (cond empty_entry None (Some bs))
-zeros_kept true m k bs = refl
-zeros_kept false m k bs = refl
+slots_filled r n (d ∷ ds) m = grind (arith, slots_filled r (suc n) ds m)
 
 buffers_filled : (r n : ℕ) (bs : List Buffer) (m : Table pair_cmp (List ℕ)) → buffers_from r n bs m ≡ filled pair_keys zeros (λ i. (r, i)) n bs m
 buffers_filled r n [] m = refl
-buffers_filled r n (b ∷ bs) m = zeros_kept (eqb b.len 0) (buffers_from r (suc n) bs m) (r, n) (replicate b.len 0) ∙ ap (λ (t : Table pair_cmp (List ℕ)). keep pair_keys t (r, n) (zeros b)) (buffers_filled r (suc n) bs m)
+buffers_filled r n (b ∷ bs) m = grind (arith, buffers_filled r (suc n) bs m)
 
 ring_slots_filled : (r : ℕ) (xs : List Ring) → ring_slots r xs ≡ rows_filled pair_keys held (λ x. x.slots) r xs
 ring_slots_filled r [] = refl
@@ -84,25 +76,12 @@ buffers-more r bs m i b lt = filled_next pair_keys zeros (λ i. (r, i)) (same_nu
 
 pub ring_slots-more : (xs : List Ring) (i : ℕ) (x : Ring) → i < length xs → ring_slots 0 (take (i + 1) xs) ≡ slots_from i 0 (get_or xs i x).slots (ring_slots 0 (take i xs))
 ring_slots-more xs i x lt =
-    let y = get_or xs i x in
-    let here : 0 + length (take i xs) ≡ i = omega (arith, length-take-le i xs) in
-    ap (ring_slots 0) (take_more xs i x lt)
-    ∙ ring_slots_filled 0 (take i xs ++ y ∷ [])
-    ∙ rows_filled-push pair_keys held (λ x. x.slots) 0 (take i xs) y
-    ∙ ap (filled pair_keys held (λ k. (0 + length (take i xs), k)) 0 y.slots) (sym (ring_slots_filled 0 (take i xs)))
-    ∙ sym (slots_filled (0 + length (take i xs)) 0 y.slots (ring_slots 0 (take i xs)))
-    ∙ ap (λ (r : ℕ). slots_from r 0 y.slots (ring_slots 0 (take i xs))) here
+    rows_next pair_keys held (λ x. x.slots) (ring_slots 0) (ring_slots_filled 0) (λ r ds m. slots_from r 0 ds m) (λ r ds m. slots_filled r 0 ds m) xs i x lt
 
 pub ring_buffers-more : (xs : List Ring) (i : ℕ) (x : Ring) → i < length xs → ring_buffers 0 (take (i + 1) xs) ≡ buffers_from i 0 (get_or xs i x).buffers (ring_buffers 0 (take i xs))
 ring_buffers-more xs i x lt =
-    let y = get_or xs i x in
-    let here : 0 + length (take i xs) ≡ i = omega (arith, length-take-le i xs) in
-    ap (ring_buffers 0) (take_more xs i x lt)
-    ∙ ring_buffers_filled 0 (take i xs ++ y ∷ [])
-    ∙ rows_filled-push pair_keys zeros (λ x. x.buffers) 0 (take i xs) y
-    ∙ ap (filled pair_keys zeros (λ k. (0 + length (take i xs), k)) 0 y.buffers) (sym (ring_buffers_filled 0 (take i xs)))
-    ∙ sym (buffers_filled (0 + length (take i xs)) 0 y.buffers (ring_buffers 0 (take i xs)))
-    ∙ ap (λ (r : ℕ). buffers_from r 0 y.buffers (ring_buffers 0 (take i xs))) here
+    rows_next pair_keys zeros (λ x. x.buffers) (ring_buffers 0) (ring_buffers_filled 0) (λ r bs m. buffers_from r 0 bs m)
+    (λ r bs m. buffers_filled r 0 bs m) xs i x lt
 
 with_items-push : (s : World) (n : ℕ) (xs : List Item) (x : Item) → with_items s n (xs ++ x ∷ []) ≡ with_node (with_items s n xs) (n + length xs) x.path x.node
 with_items-push s n [] x =

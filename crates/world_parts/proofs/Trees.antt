@@ -1,13 +1,15 @@
 -- Trees of names: what setting a name, and exchanging two, leaves.
-use Rattle.std.specs.Prelude.{◌≡◌, ℕ, true, false, cond, ◌&&◌, ◌==◌, ◌⊎◌, T, List, Option, Some, None, refl, IfSome}
+use Rattle.std.specs.Prelude.{◌≡◌, ℕ, true, cond, ◌&&◌, ◌==◌, ◌⊎◌, T, List, Option, Some, None, refl, IfSome}
 use Rattle.std.specs.Option.{is_some}
 use Rattle.std.specs.Str.{bytes_eq}
+use Rattle.std.proofs.lemmas.Bool.{cond_both}
 use Rattle.std.proofs.lemmas.Slice.Eq.{bytes_eq-Decides}
 use mathlib.Core.Path.{sym, subst, ap, ◌∙◌}
 use mathlib.Core.Logic.{inl, inr}
-use lib.Dec.{eqb→eq, eqb_refl}
+use native.Mathlib.Omega.{arith}
+use lib.Dec.{eqb→eq}
 use Rattle.file_tree.specs.Tree.{a_directory, Target, Above, names_it, one_below, IsTree}
-use Rattle.world_parts.proofs.Collision.{text_eq, left, right, both}
+use Rattle.world_parts.proofs.Collision.{text_eq, left, right}
 
 pub some_apart : {A : Type 0} {x : A} → ¬ (Some x ≡ None)
 some_apart e = subst (λ o. T (is_some o)) e tt
@@ -66,74 +68,53 @@ may_remove_name look d n = record { leads = tt; not_root = tt; alone = λ t k q.
 
 -- At the place that is set, or elsewhere.
 pub here_or_not : (look : Look) (d : ℕ) (n : List ℕ) (x : Option Target) (e : ℕ) (m : List ℕ) → ((put look d n x e m ≡ x) × (e ≡ d) × (m ≡ n)) ⊎ ((put look d n x e m ≡ look e m) × ((e ≡ d) → (m ≡ n) → ⊥))
-here_or_not look d n x e m = elim (e == d && bytes_eq m n) as (λ b. (e == d && bytes_eq m n) ≡ b → ((cond b x (look e m) ≡ x) × (e ≡ d) × (m ≡ n)) ⊎ ((cond b x (look e m) ≡ look e m) × ((e ≡ d) → (m ≡ n) → ⊥))) [
-  | true ↦ λ q. inl (refl, eqb→eq e d (left _ _ (subst T (sym q) tt)), text_eq m n (right (e == d) _ (subst T (sym q) tt)))
-  | false ↦ λ q. inr (refl, λ a b. subst T q (both _ _ (subst (λ k. T (e == k)) a (eqb_refl e)) (subst T (sym ((bytes_eq-Decides m n).1 b)) tt)))
-] refl
+here_or_not look d n x e m = grind (arith, text_eq, bytes_eq-Decides)
 
 module _ (look : Look) (d : ℕ) (n : List ℕ) (x : Option Target) (may : MayPut look d n x) where
   -- What is above another afterwards was so before, or goes through the new name.
   pub above_put : (e i : ℕ) → Above (put look d n x) e i → Above look e i ⊎ ((t : ℕ) × (x ≡ Some (directory_of t)) × UpTo look e d × UpTo look t i)
-  above_put e i (names_it _ _ m h) = by (here_or_not look d n x e m)
-    where
-      by : ((put look d n x e m ≡ x) × (e ≡ d) × (m ≡ n)) ⊎ ((put look d n x e m ≡ look e m) × ((e ≡ d) → (m ≡ n) → ⊥)) → Above look e i ⊎ ((t : ℕ) × (x ≡ Some (directory_of t)) × UpTo look e d × UpTo look t i)
-      by (inl k) = inr (i, sym k.0 ∙ h, inl k.1, inl refl)
-      by (inr k) = inl (names_it e i m (sym k.0 ∙ h))
-  above_put e i (one_below _ c _ m a h) = by (here_or_not look d n x c m) (above_put e c a)
-    where
-      by : ((put look d n x c m ≡ x) × (c ≡ d) × (m ≡ n)) ⊎ ((put look d n x c m ≡ look c m) × ((c ≡ d) → (m ≡ n) → ⊥)) → Above look e c ⊎ ((t : ℕ) × (x ≡ Some (directory_of t)) × UpTo look e d × UpTo look t c) → Above look e i ⊎ ((t : ℕ) × (x ≡ Some (directory_of t)) × UpTo look e d × UpTo look t i)
-      by (inr k) (inl b) = inl (one_below e c i m b (sym k.0 ∙ h))
-      by (inr k) (inr b) = inr (b.0, b.1, b.2, inr (above_with look b.0 c i m b.3 (sym k.0 ∙ h)))
-      by (inl k) (inl b) = inr (i, sym k.0 ∙ h, inr (subst (Above look e) k.1 b), inl refl)
-      by (inl k) (inr b) = absurd (may.not_below b.0 b.1 (subst (UpTo look b.0) k.1 b.3))
+  above_put e i (names_it _ _ m h) = elim (here_or_not look d n x e m) [
+    | inl k ↦ inr (i, sym k.0 ∙ h, inl k.1, inl refl)
+    | inr k ↦ inl (names_it e i m (sym k.0 ∙ h))
+  ]
+  above_put e i (one_below _ c _ m a h) = elim (here_or_not look d n x c m) [
+    | inl k ↦ elim (above_put e c a) [
+      | inl b ↦ inr (i, sym k.0 ∙ h, inr (subst (Above look e) k.1 b), inl refl)
+      | inr b ↦ absurd (may.not_below b.0 b.1 (subst (UpTo look b.0) k.1 b.3))
+    ]
+    | inr k ↦ elim (above_put e c a) [
+      | inl b ↦ inl (one_below e c i m b (sym k.0 ∙ h))
+      | inr b ↦ inr (b.0, b.1, b.2, inr (above_with look b.0 c i m b.3 (sym k.0 ∙ h)))
+    ]
+  ]
 
   -- Setting such a name leaves a tree.
   pub put_tree : IsTree look → IsTree (put look d n x)
-  put_tree w = record { names_lead = names_lead; root_unnamed = root_unnamed; one_name = one_name; no_cycle = no_cycle }
+  put_tree w = record {
+    names_lead = either (λ t. is_some t.kind ≡ true) may.leads w.names_lead;
+    root_unnamed = either (λ t. ¬ (t.node ≡ 0)) may.not_root w.root_unnamed;
+    one_name = one_name;
+    no_cycle = no_cycle;
+  }
     where
       either : (P : Target → Type 0) → IfSome x P → ((e : ℕ) (m : List ℕ) → IfSome (look e m) P) → (e : ℕ) (m : List ℕ) → IfSome (put look d n x e m) P
-      either P a b e m = by (here_or_not look d n x e m)
-        where
-          by : ((put look d n x e m ≡ x) × (e ≡ d) × (m ≡ n)) ⊎ ((put look d n x e m ≡ look e m) × ((e ≡ d) → (m ≡ n) → ⊥)) → IfSome (put look d n x e m) P
-          by (inl k) = subst (λ o. IfSome o P) (sym k.0) a
-          by (inr k) = subst (λ o. IfSome o P) (sym k.0) (b e m)
-
-      names_lead : (e : ℕ) (m : List ℕ) → IfSome (put look d n x e m) (λ t. is_some t.kind ≡ true)
-      names_lead = either (λ t. is_some t.kind ≡ true) may.leads w.names_lead
-
-      root_unnamed : (e : ℕ) (m : List ℕ) → IfSome (put look d n x e m) (λ t. ¬ (t.node ≡ 0))
-      root_unnamed = either (λ t. ¬ (t.node ≡ 0)) may.not_root w.root_unnamed
+      either P a b e m = cond_both (e == d && bytes_eq m n) x (look e m) (λ o. IfSome o P) (λ h. a) (λ h. b e m)
 
       one_name : (e f : ℕ) (m k : List ℕ) (t : Target) → t.kind ≡ Some a_directory → put look d n x e m ≡ Some t → put look d n x f k ≡ Some t → (e ≡ f) × (m ≡ k)
-      one_name e f m k t c g h = by (here_or_not look d n x e m) (here_or_not look d n x f k)
-        where
-          by : ((put look d n x e m ≡ x) × (e ≡ d) × (m ≡ n)) ⊎ ((put look d n x e m ≡ look e m) × ((e ≡ d) → (m ≡ n) → ⊥))
-              → ((put look d n x f k ≡ x) × (f ≡ d) × (k ≡ n)) ⊎ ((put look d n x f k ≡ look f k) × ((f ≡ d) → (k ≡ n) → ⊥)) → (e ≡ f) × (m ≡ k)
-          by (inl a) (inl b) = (a.1 ∙ sym b.1, a.2 ∙ sym b.2)
-          by (inl a) (inr b) = (let o = may.alone t c (sym a.0 ∙ g) f k (sym b.0 ∙ h) in (a.1 ∙ sym o.0, a.2 ∙ sym o.1))
-          by (inr a) (inl b) = (let o = may.alone t c (sym b.0 ∙ h) e m (sym a.0 ∙ g) in (o.0 ∙ sym b.1, o.1 ∙ sym b.2))
-          by (inr a) (inr b) = w.one_name e f m k t c (sym a.0 ∙ g) (sym b.0 ∙ h)
+      one_name e f m k t c g h = grind (arith, here_or_not look d n x e m, here_or_not look d n x f k, may.alone t c, w.one_name e f m k t c)
 
       no_cycle : (i : ℕ) → ¬ (Above (put look d n x) i i)
-      no_cycle i a = by (above_put i i a)
-        where
-          by : Above look i i ⊎ ((t : ℕ) × (x ≡ Some (directory_of t)) × UpTo look i d × UpTo look t i) → ⊥
-          by (inl b) = w.no_cycle i b
-          by (inr b) = may.not_below b.0 b.1 (up_over look b.0 i d b.3 b.2)
+      no_cycle i a = elim (above_put i i a) [ inl b ↦ w.no_cycle i b | inr b ↦ may.not_below b.0 b.1 (up_over look b.0 i d b.3 b.2) ]
 
 pub remove_tree : (look : Look) (d : ℕ) (n : List ℕ) → IsTree look → IsTree (put look d n None)
 remove_tree look d n w = put_tree look d n None (may_remove_name look d n) w
 
 -- A name that is left after another is taken away was there before.
 left_there : (look : Look) (d : ℕ) (n : List ℕ) (e : ℕ) (m : List ℕ) (t : Target) → put look d n None e m ≡ Some t → (look e m ≡ Some t) × ((e ≡ d) → (m ≡ n) → ⊥)
-left_there look d n e m t h = by (here_or_not look d n None e m)
-  where
-    by : ((put look d n None e m ≡ None) × (e ≡ d) × (m ≡ n)) ⊎ ((put look d n None e m ≡ look e m) × ((e ≡ d) → (m ≡ n) → ⊥)) → (look e m ≡ Some t) × ((e ≡ d) → (m ≡ n) → ⊥)
-    by (inl k) = absurd (some_apart (sym h ∙ k.0))
-    by (inr k) = (sym k.0 ∙ h, k.1)
+left_there look d n e m t h = grind (arith, here_or_not look d n None e m)
 
 as_directory : (i : ℕ) (x : Target) → Some x ≡ Some (directory_of i) → (x.node ≡ i) × (x.kind ≡ Some a_directory)
-as_directory i x h = (let e = some_same x (directory_of i) h in (ap (λ (y : Target). y.node) e, ap (λ (y : Target). y.kind) e))
+as_directory i x h = grind arith
 
 -- Moving a name: one place's target goes to another, which isn't in it or below.
 module _ (look : Look) (w : IsTree look) (p q : ℕ) (n m : List ℕ) (x : Target) (at : look p n ≡ Some x) (apart : x.kind ≡ Some a_directory → ¬ (UpTo look x.node q)) where
@@ -173,22 +154,16 @@ module _ (look : Look) (w : IsTree look) (p q : ℕ) (n m : List ℕ) (x : Targe
     }
       where
         nowhere : (t : Target) → t.kind ≡ Some a_directory → y ≡ t → (e : ℕ) (k : List ℕ) → moved e k ≡ Some t → ⊥
-        nowhere t c z e k g = by (here_or_not without q m (Some x) e k)
-          where
-            by : ((moved e k ≡ Some x) × (e ≡ q) × (k ≡ m)) ⊎ ((moved e k ≡ without e k) × ((e ≡ q) → (k ≡ m) → ⊥)) → ⊥
-            by (inl a) = other (ap (λ (v : Target). v.node) (some_same x t (sym a.0 ∙ g) ∙ sym z))
-            by (inr a) =
-                let old = left_there look p n e k t (sym a.0 ∙ g) in
-                let o = w.one_name e q k m t c old.0 (at_other ∙ ap (λ v. Some v) z) in
-                a.1 o.0 o.1
+        nowhere t c z e k g = grind (arith, here_or_not without q m (Some x) e k, left_there look p n e k t, w.one_name e q k m t c)
 
         not_up : y.kind ≡ Some a_directory → ¬ (UpTo moved y.node p)
         not_up c (inl a) = apart_other c (inl a)
-        not_up c (inr a) = by (above_put without q m (Some x) may_move y.node p a)
-          where
-            by : Above without y.node p ⊎ ((t : ℕ) × (Some x ≡ Some (directory_of t)) × UpTo without y.node q × UpTo without t p) → ⊥
-            by (inl b) = apart_other c (inr (above_in without look in_without y.node p b))
-            by (inr b) = w.no_cycle y.node (above_with look y.node q y.node m (up_in without look in_without y.node q b.2) (at_other ∙ (λ i. Some (record { node = y.node; kind = c i }))))
+        not_up c (inr a) = elim (above_put without q m (Some x) may_move y.node p a) [
+          | inl b ↦ apart_other c (inr (above_in without look in_without y.node p b))
+          | inr b ↦
+              w.no_cycle y.node
+              (above_with look y.node q y.node m (up_in without look in_without y.node q b.2) (at_other ∙ (λ i. Some (record { node = y.node; kind = c i }))))
+        ]
 
     exchanged_later : IsTree (put moved p n (Some y))
     exchanged_later = put_tree moved p n (Some y) may_exchange move_tree
@@ -197,15 +172,10 @@ module _ (look : Look) (w : IsTree look) (p q : ℕ) (n m : List ℕ) (x : Targe
     exchange_tree = tree_same (put moved p n (Some y)) (put (put look p n (Some y)) q m (Some x)) same exchanged_later
       where
         same : (e : ℕ) (k : List ℕ) → put (put look p n (Some y)) q m (Some x) e k ≡ put moved p n (Some y) e k
-        same e k = elim (e == q && bytes_eq k m) as (λ b. (e == q && bytes_eq k m) ≡ b → cond b (Some x) (cond (e == p && bytes_eq k n) (Some y) (look e k)) ≡ cond (e == p && bytes_eq k n) (Some y) (cond b (Some x) (cond (e == p && bytes_eq k n) None (look e k)))) [
-          | true ↦ λ g. elim (e == p && bytes_eq k n) as (λ c. (e == p && bytes_eq k n) ≡ c → Some x ≡ cond c (Some y) (Some x)) [ true ↦ λ h. absurd (clash g h) | false ↦ λ h. refl ] refl
-          | false ↦ λ g. elim (e == p && bytes_eq k n) as (λ c. cond c (Some y) (look e k) ≡ cond c (Some y) (cond c None (look e k))) [ true ↦ refl | false ↦ refl ]
-        ] refl
+        same e k = grind (arith, clash e k)
           where
-            clash : (e == q && bytes_eq k m) ≡ true → (e == p && bytes_eq k n) ≡ true → ⊥
-            clash g h =
-                let gt : T (e == q && bytes_eq k m) = subst T (sym g) tt in
-                let ht : T (e == p && bytes_eq k n) = subst T (sym h) tt in
-                let one : look e k ≡ Some y = (λ i. look (eqb→eq e q (left _ _ gt) i) (text_eq k m (right (e == q) _ gt) i)) ∙ at_other in
-                let two : look e k ≡ Some x = (λ i. look (eqb→eq e p (left _ _ ht) i) (text_eq k n (right (e == p) _ ht) i)) ∙ at in
+            clash : (e : ℕ) (k : List ℕ) → T (e == q && bytes_eq k m) → T (e == p && bytes_eq k n) → ⊥
+            clash e k g h =
+                let one : look e k ≡ Some y = (λ i. look (eqb→eq e q (left _ _ g) i) (text_eq k m (right (e == q) _ g) i)) ∙ at_other in
+                let two : look e k ≡ Some x = (λ i. look (eqb→eq e p (left _ _ h) i) (text_eq k n (right (e == p) _ h) i)) ∙ at in
                 other (ap (λ (v : Target). v.node) (some_same x y (sym two ∙ one)))

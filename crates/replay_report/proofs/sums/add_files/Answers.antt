@@ -2,7 +2,7 @@ use Rattle.std.proofs.Common.{◌≡◌, ◌++◌, [], take, get_or, ap, sym, �
 use Rattle.std.specs.List.{cons_option, filter_map}
 use Rattle.std.proofs.lemmas.List.{append-nil, take_all}
 use Rattle.replay_report.specs.Sums.{HaveSame, file_to_sum}
-use Rattle.replay_report.proofs.SumLemmas.{exact_shown, same_filtered, same_itself, same_more}
+use Rattle.replay_report.proofs.SumLemmas.{exact_shown, files_grown, same_itself, same_more}
 use Rattle.replay_report.proofs.sums.add_files.Goals.{in-Some+in_ok-insert, in_default}
 use Rattle.replay_report.proofs.sums.add_files.Goals as goal
 
@@ -23,7 +23,7 @@ loop-name-preserved c =
           let none : file_to_sum name ≡ None = sym c.file_to_sum.ensures ∙ w.in_default.is in
           rw (none, append-nil now, ap (λ s. s.keys) w.shown-is) c.loop-name.invariant
     ] in
-    same_filtered c.match-file_to_sum.shown.keys old file_to_sum c.args.names.now c.loop-name.name-index name c.loop-name-test.true (rw here grown)
+    rw (files_grown old file_to_sum c.args.names.now c.loop-name.name-index name c.loop-name-test.true, here) grown
 
 pub returns : goal.returns
 returns c = rw (take_all c.loop-name.name-index c.args.names.now c.loop-name-test.false) at c.loop-name.invariant

@@ -1,12 +1,11 @@
-use Rattle.std.proofs.Common.{◌≡◌, ℕ, false, [], List, get_or, sym, ap, ◌∙◌, arith}
+use Rattle.std.proofs.Common.{◌≡◌, ℕ, false, [], List, get_or, sym, arith}
 use borrow.Author.Count.{below_more}
 use Rattle.std.specs.Borrow.{Bor}
 use Rattle.std.proofs.lemmas.List.{length-map}
 use Rattle.std.proofs.lemmas.List.Sums.{position_or_len_is}
-use Rattle.std.specs.Str.{bytes_eq}
 use Rattle.report_diff.specs.Inputs.{is_end}
 use Rattle.report_diff.specs.Lines.{texts}
-use Rattle.report_diff.proofs.Slices.{no_slice, text_at}
+use Rattle.report_diff.proofs.Slices.{text_at}
 use Rattle.report_diff.proofs.comparing.end_of.Goals as goal
 
 pub returns-then-eq-clause-place : goal.returns-then-eq-clause-place
@@ -14,15 +13,13 @@ returns-then-eq-clause-place c =
     let lines = c.args.lines.now in
     let size = length-map lines (λ (s : Bor (List ℕ)). s.now) in
     sym (position_or_len_is is_end (texts lines) c.loop-place.place [] (omega arith) c.loop-place.invariant
-    (λ lt. ap is_end (text_at lines c.loop-place.place) ∙ ap (bytes_eq (get_or lines c.loop-place.place no_slice).now) (sym c.as_slice.ensures)
-    ∙ sym c.eq.ensures ∙ c.if-eq.true))
+    (λ lt. rw (text_at lines c.loop-place.place, ← c.as_slice.ensures, ← c.eq.ensures) c.if-eq.true))
 
 pub loop-place-preserved : goal.loop-place-preserved
 loop-place-preserved c =
     let lines = c.args.lines.now in
     below_more (λ k. is_end (get_or (texts lines) k []) ≡ false) c.loop-place.place c.loop-place.invariant
-    (ap is_end (text_at lines c.loop-place.place) ∙ ap (bytes_eq (get_or lines c.loop-place.place no_slice).now) (sym c.as_slice.ensures)
-    ∙ sym c.eq.ensures ∙ c.if-eq.false)
+    (rw (text_at lines c.loop-place.place, ← c.as_slice.ensures, ← c.eq.ensures) c.if-eq.false)
 
 pub returns-clause-place : goal.returns-clause-place
 returns-clause-place c =

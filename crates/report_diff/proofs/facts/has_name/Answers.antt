@@ -1,4 +1,4 @@
-use Rattle.std.proofs.Common.{sym, ap, ◌∙◌}
+use Rattle.std.proofs.Common.{sym}
 use Rattle.std.specs.Str.{bytes_eq}
 use Rattle.report_diff.specs.Differences.{fact_name}
 use Rattle.report_diff.proofs.Slices.{some_passes}
@@ -7,4 +7,4 @@ use Rattle.report_diff.proofs.facts.has_name.Goals as goal
 pub returns-then-eq : goal.returns-then-eq
 returns-then-eq c =
     sym (some_passes (λ fact. bytes_eq c.args.name.now (fact_name fact)) c.args.facts.now c.loop-fact.fact-index c.loop-fact-test.true
-    (ap (bytes_eq c.args.name.now) (sym c.fact_name.ensures) ∙ sym c.eq.ensures ∙ c.if-eq.true))
+    (rw (← c.fact_name.ensures, ← c.eq.ensures) c.if-eq.true))

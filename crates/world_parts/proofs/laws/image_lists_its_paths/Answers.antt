@@ -1,12 +1,10 @@
-use Rattle.std.specs.Prelude.{◌≡◌, ℕ, ◌⊎◌, List, [], ◌∷◌, Some, refl}
-use Rattle.std.specs.Ordering.{nat_cmp}
-use Rattle.std.specs.Cmp.Lexicographic.{slice_cmp}
+use Rattle.std.specs.Prelude.{◌≡◌, ℕ, List, [], ◌∷◌, refl}
 use mathlib.Core.Path.{sym, subst, ap, ◌∙◌}
 use mathlib.Core.Logic.{inl, inr}
 use Rattle.sqe_codec.specs.declared.errno.Errno.TheVariants.{EBADF}
 use Rattle.sqe_codec.specs.Answers.{◌>>◌, require}
 use Rattle.trace_format.specs.Paths.{components}
-use Rattle.finite_maps.specs.Table.{empty, get, count, text_keys}
+use Rattle.finite_maps.specs.Table.{empty, count, text_keys}
 use Rattle.file_tree.specs.Walk.{walk_from}
 use Rattle.world_parts.specs.World.{World, IsWorld}
 use Rattle.world_parts.specs.Image.{all_paths, paths_below, name_entry}
@@ -43,11 +41,7 @@ module _ (s : World) (w : IsWorld s) (f : HasFileNames s) (p : List ℕ) (i : �
   listed_path c =
       let m = in_map (name_entry s.nodes) (name_entry s.nodes (p, i)) (all_paths s.nodes).entries (element (name_entry s.nodes (p, i)) _ c) in
       let here : In (p, i) (all_paths s.nodes).entries = subst (λ (e : List ℕ × ℕ). In e (all_paths s.nodes).entries) (λ z. (ap (λ (e : NameEntry). e.path) m.2 z, ap (λ (e : NameEntry). e.node) m.2 z)) m.1 in
-      by (from_by_path empty listed p i (get_entry text_keys (all_paths s.nodes) p i here))
-    where
-      by : In (p, i) listed ⊎ (get {R = slice_cmp nat_cmp} empty p ≡ Some i) → IsPathTo s p i
-      by (inl h) = is_path h
-      by (inr h) = absurd (some_apart (sym h))
+      elim (from_by_path empty listed p i (get_entry text_keys (all_paths s.nodes) p i here)) [ inl h ↦ is_path h | inr h ↦ absurd (some_apart (sym h)) ]
 
   path_listed : IsPathTo s p i → Lists s p i
   path_listed h = by (components p) refl (leads_of_walk s.nodes 0 (components p) i (sym walked ∙ h.1))

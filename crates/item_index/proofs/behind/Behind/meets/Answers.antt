@@ -1,11 +1,7 @@
-use Rattle.std.proofs.Common.{Bool, ap, ◌∙◌}
-use Rattle.std.specs.List.{list_any}
+use Rattle.std.proofs.Common.{◌∙◌}
 use Rattle.item_index.specs.Ahead.{written_before}
-use Rattle.world_parts.specs.Items as items
 use Rattle.world_parts.proofs.FootprintCode.{any-meant}
 use Rattle.item_index.proofs.behind.Behind.meets.Goals as goal
 
 pub returns : goal.returns
-returns c =
-    let p : items.Use → Bool = λ u. written_before c.args.self.now u.item in
-    c.meets_one.ensures ∙ any-meant p c.uses.result.now ∙ ap (list_any p) c.uses.ensures
+returns c = rw (← c.uses.ensures) (c.meets_one.ensures ∙ any-meant (λ u. written_before c.args.self.now u.item) c.uses.result.now)

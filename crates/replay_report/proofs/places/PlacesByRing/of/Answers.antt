@@ -1,11 +1,8 @@
 use Rattle.std.proofs.Common.{◌∙◌, length, map}
 use Rattle.trace_format.specs.Steps.{step_meant}
 use Rattle.replay_report.specs.Places.{items}
-use Rattle.replay_report.proofs.PlacesLemmas.{no_places, places_walked}
+use Rattle.replay_report.proofs.PlacesLemmas.{places_walked}
 use Rattle.replay_report.proofs.places.PlacesByRing.of.Goals as goal
-
-pub loop-place-init : goal.loop-place-init
-loop-place-init c = rw c.as_slice.ensures at c.in_ok-lists.ensures ∙ no_places c.args.trace.now (length c.args.trace.now.rings)
 
 pub loop-place-preserved : goal.loop-place-preserved
 loop-place-preserved c =

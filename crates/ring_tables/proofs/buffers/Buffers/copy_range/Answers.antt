@@ -14,7 +14,7 @@ change lo hi bytes old = overwritten old lo (range_of bytes lo hi)
 
 pub returns-in_default-clause-ok : goal.returns-in_default-clause-ok
 returns-in_default-clause-ok c =
-    let none = bytes_at-absent c.source.inside.entries.entries c.args.source.now c.args.ring c.args.index c.source.view_is c.in_default.ensures.value in
+    let none = bytes_at-absent _ _ c.args.ring c.args.index c.source.view_is c.in_default.ensures.value in
     let empty : c.args.hi ≤ 0 = subst (λ (bs : List ℕ). c.args.hi ≤ length bs) none c.requires.there in
     rewritten-same pair_keys c.args.self.now (c.args.ring, c.args.index) (change c.args.lo c.args.hi (bytes_at c.args.source.now c.args.ring c.args.index))
     (subst (λ xs. (bs : List ℕ) → change c.args.lo c.args.hi xs bs ≡ bs) (sym none) (none_put c.args.lo c.args.hi c.requires.forward empty))
@@ -25,16 +25,18 @@ returns-in_default-get_mut-clause-ok c =
 
 pub copy_range-requires-clause-there : goal.copy_range-requires-clause-there
 copy_range-requires-clause-there c =
-    subst (λ xs. c.args.hi ≤ length xs) (bytes_at-found c.source.inside.entries.entries c.args.source.now c.args.ring c.args.index c.in-Some.bytes.now c.source.view_is c.in-Some.ensures.value) c.requires.there
+    let found = bytes_at-found _ _ c.args.ring c.args.index _ c.source.view_is c.in-Some.ensures.value in
+    rw found at c.requires.there
 
 pub copy_range-requires-clause-inside : goal.copy_range-requires-clause-inside
 copy_range-requires-clause-inside c =
-    subst (λ xs. c.args.hi ≤ length xs) (bytes_at-found c.self.inside.entries.entries c.args.self.now c.args.ring c.args.index c.in-Some-get_mut.buffer.now c.self.view_is c.in-Some-get_mut.ensures.value) c.requires.inside
+    let found = bytes_at-found _ _ c.args.ring c.args.index _ c.self.view_is c.in-Some-get_mut.ensures.value in
+    rw found at c.requires.inside
 
 pub returns-clause-ok : goal.returns-clause-ok
 returns-clause-ok c =
     let w = c.copy_range.new.self in
-    let there = bytes_at-found c.source.inside.entries.entries c.args.source.now c.args.ring c.args.index c.in-Some.bytes.now c.source.view_is c.in-Some.ensures.value in
+    let there = bytes_at-found _ _ c.args.ring c.args.index _ c.source.view_is c.in-Some.ensures.value in
     on_ok_weaker c.copy_range.result
     (λ e.
     rewritten_through pair_keys (change c.args.lo c.args.hi c.in-Some.bytes.now) c.self.inside.entries (c.get_mut.follows.lender w) c.args.self.now (c.args.ring, c.args.index) c.in-Some-get_mut.buffer.now w c.self.view_is (c.get_mut.follows.holds w) c.in-Some-get_mut.ensures.value e

@@ -1,13 +1,12 @@
-use Rattle.std.proofs.Common.{◌≡◌, ◌≤◌, length, subst, sym, ◌∙◌}
-use Rattle.std.specs.Prelude.{IfOk}
-use Rattle.extent_bytes.specs.Bytes.{range_of, zeroed}
+use Rattle.std.proofs.Common.{◌∙◌}
+use Rattle.extent_bytes.specs.Bytes.{zeroed}
 use Rattle.finite_maps.specs.Table.{pair_keys}
 use Rattle.ring_tables.proofs.Looked.{bytes_at-found, range_of-absent}
 use Rattle.ring_tables.proofs.buffers.Buffers.cut.Goals as goal
 use Rattle.finite_maps.proofs.Maps.{rewritten_none, rewritten_err, rewritten_ok}
 
 pub returns-in_default-clause-part : goal.returns-in_default-clause-part
-returns-in_default-clause-part c = c.new.ensures ∙ range_of-absent c.self.inside.entries.entries c.args.self.now c.args.ring c.args.index c.args.lo c.args.hi c.self.view_is c.in_default.ensures.value
+returns-in_default-clause-part c = c.new.ensures ∙ range_of-absent _ _ c.args.ring c.args.index c.args.lo c.args.hi c.self.view_is c.in_default.ensures.value
 
 pub returns-in_default-clause-rest : goal.returns-in_default-clause-rest
 returns-in_default-clause-rest c =
@@ -15,12 +14,13 @@ returns-in_default-clause-rest c =
 
 pub cut-requires-clause-inside : goal.cut-requires-clause-inside
 cut-requires-clause-inside c =
-    subst (λ xs. c.args.hi ≤ length xs) (bytes_at-found c.self.inside.entries.entries c.args.self.now c.args.ring c.args.index c.in-Some.buffer.now c.self.view_is c.in-Some.ensures.value) c.requires.inside
+    let found = bytes_at-found _ _ c.args.ring c.args.index _ c.self.view_is c.in-Some.ensures.value in
+    rw found at c.requires.inside
 
 pub returns-clause-part : goal.returns-clause-part
 returns-clause-part c =
-    subst (λ xs. IfOk c.cut.result (λ part. part ≡ range_of xs c.args.lo c.args.hi))
-    (sym (bytes_at-found c.self.inside.entries.entries c.args.self.now c.args.ring c.args.index c.in-Some.buffer.now c.self.view_is c.in-Some.ensures.value)) c.cut.ensures.part
+    let found = bytes_at-found _ _ c.args.ring c.args.index _ c.self.view_is c.in-Some.ensures.value in
+    rw found c.cut.ensures.part
 
 pub returns-clause-rest : goal.returns-clause-rest
 returns-clause-rest c =

@@ -1,4 +1,4 @@
-use Rattle.std.proofs.Common.{◌+◌, ◌≤◌, length, subst, arith}
+use Rattle.std.proofs.Common.{arith}
 use Rattle.extent_bytes.specs.Bytes.{overwritten}
 use Rattle.finite_maps.specs.Table.{pair_keys}
 use Rattle.ring_tables.proofs.Looked.{bytes_at-found}
@@ -11,9 +11,8 @@ returns-in_default-clause-ok c =
 
 pub put_back-requires : goal.put_back-requires
 put_back-requires c =
-    let within : c.args.lo + length c.args.part ≤ length c.in-Some.buffer.now =
-    subst (λ xs. c.args.lo + length c.args.part ≤ length xs) (bytes_at-found c.self.inside.entries.entries c.args.self.now c.args.ring c.args.index c.in-Some.buffer.now c.self.view_is c.in-Some.ensures.value) c.requires in
-    omega arith
+    let found = bytes_at-found _ _ c.args.ring c.args.index _ c.self.view_is c.in-Some.ensures.value in
+    omega (arith, rw found at c.requires)
 
 pub returns-clause-ok : goal.returns-clause-ok
 returns-clause-ok c =

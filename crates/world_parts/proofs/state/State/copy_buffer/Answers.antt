@@ -1,4 +1,4 @@
-use Rattle.std.proofs.Common.{◌≤◌, ◌<◌, ℕ, [], arith, sym, ◌∙◌, refl}
+use Rattle.std.proofs.Common.{◌≤◌, ◌<◌, ℕ, [], arith, refl}
 use Rattle.std.specs.Prelude.{unwrap_or}
 use Rattle.std.proofs.lemmas.Result.{on_ok_weaker}
 use Rattle.extent_bytes.specs.Bytes.{range_of}
@@ -8,7 +8,6 @@ use Rattle.world_parts.proofs.Copies.{copied_to}
 use Rattle.world_parts.proofs.CopiesOfNodes.{copied_after}
 use Rattle.world_parts.proofs.CopiesOfBytes.{range_copied, no_range_copied}
 use Rattle.world_parts.proofs.state.State.copy_buffer.Goals as goal
-use Rattle.world_parts.proofs.ByteWords.{size-some}
 
 pub returns-in_default : goal.returns-in_default
 returns-in_default c =
@@ -16,17 +15,6 @@ returns-in_default c =
     let q = c.copy_buffer_len.new.self in
     let near = c.in_ok-copy_buffer_len.ensures.nearer in
     copied_after s c.args.self.now q q (buffer_bytes c.args.ring c.args.index c.args.low c.args.high) near (no_range_copied s q c.args.ring c.args.index c.args.low c.args.high near.shadow c.in_default.ensures)
-
-pub copy_buffer_range-requires-clause-there : goal.copy_buffer_range-requires-clause-there
-copy_buffer_range-requires-clause-there c =
-    let l = size-some (world.buffer c.args.from.now c.args.ring c.args.index) c.in-Some.len c.in-Some.ensures in
-    omega (arith, c.min-end.ensures, l)
-
-pub copy_buffer_range-requires-clause-inside : goal.copy_buffer_range-requires-clause-inside
-copy_buffer_range-requires-clause-inside c =
-    let q = c.copy_buffer_len.new.self in
-    let l = size-some (world.buffer q c.args.ring c.args.index) c.in-Some.len (c.in-Some.ensures ∙ sym c.in_ok-copy_buffer_len.ensures.len) in
-    omega (arith, c.min-end.ensures, l)
 
 pub returns : goal.returns
 returns c =

@@ -1,14 +1,13 @@
-use Rattle.std.proofs.Common.{◌≤◌, ◌<◌, ℕ, [], arith, subst, ◌∙◌, refl}
-use Rattle.std.specs.Prelude.{IfSome, unwrap_or}
+use Rattle.std.proofs.Common.{◌≤◌, ◌<◌, ℕ, [], arith, refl}
+use Rattle.std.specs.Prelude.{unwrap_or}
 use Rattle.std.proofs.lemmas.Result.{on_ok_weaker}
 use Rattle.extent_bytes.specs.Bytes.{range_of}
 use Rattle.world_parts.specs.Items.{file_bytes}
 use Rattle.world_parts.specs.World as world
 use Rattle.world_parts.proofs.Copies.{copied_to}
-use Rattle.world_parts.proofs.CopiesOfNodes.{copied_after, same_size}
+use Rattle.world_parts.proofs.CopiesOfNodes.{copied_after}
 use Rattle.world_parts.proofs.CopiesOfBytes.{bytes_copied, no_bytes_copied}
 use Rattle.world_parts.proofs.state.State.copy_bytes.Goals as goal
-use Rattle.world_parts.proofs.ByteWords.{size-some}
 
 pub returns-in_default : goal.returns-in_default
 returns-in_default c =
@@ -16,18 +15,6 @@ returns-in_default c =
     let q = c.copy_node.new.self in
     let near = c.in_ok-copy_node.ensures.nearer in
     copied_after s c.args.self.now q q (file_bytes c.args.node c.args.low c.args.high) near (no_bytes_copied s q c.args.node c.args.low c.args.high near.shadow c.in_default.ensures.value c.in_ok-copy_node.ensures.node)
-
-pub copy_file_range-requires-clause-there : goal.copy_file_range-requires-clause-there
-copy_file_range-requires-clause-there c =
-    let l = size-some (world.bytes c.args.from.now c.args.node) c.in-Some.size c.in-Some.ensures.value in
-    omega (arith, c.min-end.ensures, l)
-
-pub copy_file_range-requires-clause-inside : goal.copy_file_range-requires-clause-inside
-copy_file_range-requires-clause-inside c =
-    let s = c.args.from.now in
-    let q = c.copy_node.new.self in
-    let end : c.min-end.result ≤ c.in-Some.size = omega (arith, c.min-end.ensures) in
-    subst (λ x. IfSome x (λ size. c.min-end.result ≤ size)) (c.in-Some.ensures.value ∙ same_size s q c.args.node c.in_ok-copy_node.ensures.node) end
 
 pub returns : goal.returns
 returns c =

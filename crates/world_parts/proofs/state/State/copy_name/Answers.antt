@@ -1,7 +1,7 @@
-use Rattle.std.proofs.Common.{Some, None}
+use Rattle.std.proofs.Common.{None}
 use Rattle.std.proofs.lemmas.Result.{on_ok_weaker}
 use Rattle.world_parts.specs.Items.{one, name_at}
-use Rattle.world_parts.proofs.Copies.{nearer_still, outline_stays, same_kind}
+use Rattle.world_parts.proofs.Copies.{nearer_still}
 use Rattle.world_parts.proofs.CopiesOfNodes.{copied_after}
 use Rattle.world_parts.proofs.CopiesOfNames.{no_name_copied, number_of}
 use Rattle.world_parts.proofs.state.State.copy_name.Goals as goal
@@ -12,15 +12,6 @@ returns-in_default c =
     let q = c.copy_node.new.self in
     let near = c.in_ok-copy_node.ensures.nearer in
     copied_after s c.args.self.now q q (one (name_at c.args.directory c.args.name.now)) near (no_name_copied s q c.args.directory c.args.name.now near.shadow (number_of s c.args.directory c.args.name.now None c.in_default.ensures))
-
-pub show_name-requires-clause-leads : goal.show_name-requires-clause-leads
-show_name-requires-clause-leads c = number_of c.args.from.now c.args.directory c.args.name.now (Some c.in-Some.node) c.in-Some.ensures
-
-pub show_name-requires-clause-directory : goal.show_name-requires-clause-directory
-show_name-requires-clause-directory c = outline_stays c.args.from.now c.copy_node.new.self c.copy_node-2.new.self c.args.directory c.in_ok-copy_node-2.ensures.nearer c.in_ok-copy_node.ensures.node
-
-pub show_name-requires-clause-node : goal.show_name-requires-clause-node
-show_name-requires-clause-node c = same_kind c.args.from.now c.copy_node-2.new.self c.in-Some.node c.in_ok-copy_node-2.ensures.node
 
 pub returns : goal.returns
 returns c =

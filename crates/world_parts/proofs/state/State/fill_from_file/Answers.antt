@@ -27,13 +27,9 @@ returns-then-saturating_sub-le-MOST_COPIED c =
 
 pub put_buffer_bytes-requires : goal.put_buffer_bytes-requires
 put_buffer_bytes-requires c =
-    let s = c.args.self.now in
-    let at = c.args.at in
-    let o = buffer s c.args.ring c.args.index in
-    let room : c.saturating_sub-room.result ≡ unwrap_or (option_map length o) 0 - at = c.saturating_sub-room.ensures ∙ ap (λ n. n - at) (c.unwrap_or.ensures ∙ ap (λ x. unwrap_or x 0) c.buffer_len.ensures) in
-    let end : c.min-end.result ≡ min c.args.high (c.args.low + c.saturating_sub-room.result) = omega arith in
-    let long = ap length c.in_ok-part.ensures in
-    omega (arith, room, end, length-there o, long, length-range_of-most (unwrap_or (tree.bytes c.self.inside.nodes c.args.node) []) c.args.low c.min-end.result, c.saturating_sub.ensures, c.if-saturating_sub-le-MOST_COPIED.false)
+    let there = length-there (buffer c.args.self.now c.args.ring c.args.index) in
+    let most = length-range_of-most (unwrap_or (tree.bytes c.self.inside.nodes c.args.node) []) c.args.low c.min-end.result in
+    grind (arith, there, most, c.saturating_sub-room.ensures, c.unwrap_or.ensures, c.buffer_len.ensures, c.in_ok-part.ensures, c.saturating_sub.ensures)
 
 pub returns : goal.returns
 returns c =

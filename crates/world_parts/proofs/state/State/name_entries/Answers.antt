@@ -1,4 +1,4 @@
-use Rattle.std.proofs.Common.{ℕ, List, ◌∷◌, [], ap, sym, ◌∙◌}
+use Rattle.std.proofs.Common.{ℕ, List, ◌∷◌, ◌++◌, [], ap, sym, ◌∙◌}
 use Rattle.std.specs.Prelude.{Vec, map}
 use Rattle.std.specs.declared.alloc.Global.{Global}
 use Rattle.std.specs.List.{flat_map}
@@ -7,8 +7,7 @@ use Rattle.std.proofs.lemmas.List.Folds.{flat_map-map}
 use Rattle.finite_maps.specs.Table.{text_keys}
 use Rattle.file_tree.specs.Tree.{Tree}
 use Rattle.world_parts.specs.declared.image.NameEntry.{NameEntry}
-use Rattle.world_parts.specs.Image.{image_of, all_paths, name_entry}
-use Rattle.world_parts.proofs.Lines.{no_lines}
+use Rattle.world_parts.specs.Image.{all_paths, name_entry}
 use Rattle.finite_maps.proofs.Ordered.{seen_entries_of}
 use Rattle.world_parts.proofs.state.State.name_entries.Goals as goal
 
@@ -22,8 +21,8 @@ pub loop-path-init : goal.loop-path-init
 loop-path-init c =
     let tree = c.args.self.now.nodes in
     let given = c.into_iter-path-iterator.ensures.into_iter_gives in
-    no_lines (λ e. line tree (seen e)) (image_of c.args.self.now).names c.new-entries.result.items c.into_iter-path-iterator.result c.new-entries.ensures.items
-    (sym (flat_map-map (line tree) seen c.into_iter-path-iterator.result)
+    ap (λ es. es ++ flat_map (λ e. line tree (seen e)) c.into_iter-path-iterator.result) c.new-entries.ensures.items
+    ∙ (sym (flat_map-map (line tree) seen c.into_iter-path-iterator.result)
     ∙ ap (λ es. flat_map (line tree) (map seen es)) given.0
     ∙ ap (flat_map (line tree)) (seen_entries_of text_keys (λ k. k.items) c.in_ok-items.items.entries (all_paths tree) given.5 c.in_ok-items.ensures)
     ∙ flat_map_single (name_entry tree) (all_paths tree).entries)

@@ -29,8 +29,3 @@ loop-name-preserved c =
     c.in-Some-2.ensures.steps c.in_ok-push.ensures.items
     (ap (λ q. (q, node) ∷ paths_below below tree q node) c.in_ok-joined.ensures)
     c.loop-name.invariant
-
-pub returns : goal.returns
-returns c =
-    let tree = c.args.self.now.nodes in
-    ap (λ xs. flat_map (paths_at c.in-Some.below tree c.args.path.now) xs ++ paths_pending tree c.loop-name.pending.items) (sym c.in-None.ensures.steps.0) ∙ c.loop-name.invariant
