@@ -1,25 +1,27 @@
 -- One walk over the places of a trace finds all chains.
-use Rattle.std.proofs.Common.{◌≡◌, ℕ, zero, suc, ◌+◌, ◌-◌, ◌<◌, ◌≤◌, Bool, true, false, cond, List, [], ◌∷◌, ◌++◌, length, get_or, map, Option, Some, None, refl, sym, ap, ◌∙◌, ◌^◌, arith, inl, inr, add-one}
+use Rattle.std.proofs.Common.{◌≡◌, ℕ, zero, suc, ◌+◌, ◌-◌, ◌<◌, ◌≤◌, Bool, true, false, cond, List, [], ◌∷◌, ◌++◌, length, get_or, map, Option, Some, None, refl, sym, ap, ◌∙◌, ◌^◌, arith, inl, inr, add-one, true≢false}
 use Rattle.std.specs.Prelude.{IfSome, not, leb, is_some, ◌&&◌, ◌||◌, ◌==◌, if◌then◌else◌}
 use Rattle.std.specs.List.{list_any, filter, range_with_len, slice_get}
 use Rattle.std.proofs.lemmas.Bool.{eq-eqb, ne_eqb, leb-true, cases_eq, cases_lt, cases_Bool}
-use Rattle.std.proofs.lemmas.List.{length-map, get_or-map, append-nil, map-id, get_or_past, length_push}
-use Rattle.std.proofs.lemmas.Option.{get_or_from_slice_get, slice_get_within, slice_get_read}
+use Rattle.std.proofs.lemmas.List.{length-map, get_or-map, append-nil, ext_get_or, map-id, get_or_past, length_push}
+use Rattle.std.proofs.lemmas.Option.{get_or_from_slice_get, none-some, slice_get_past, slice_get_within}
 use Rattle.std.proofs.lemmas.List.Folds.{list_any-append}
 use Rattle.std.proofs.lemmas.Bool.Decides.{nat_tests}
 use Rattle.std.proofs.lemmas.Grind.{common_steps}
-use Rattle.std.proofs.lemmas.List.FromFn.{filter_of_map_range_with_len_more, length-map-range_with_len, get_or-map-range_with_len, map-range_with_len_more, fill_by_all}
+use Rattle.std.proofs.lemmas.List.FromFn.{filter_of_map_range_with_len_more, length-map-range_with_len, get_or-map-range_with_len, map-range_with_len_more}
 use Rattle.trace_format.specs.declared.entry.Entry.{Entry}
 use Rattle.trace_format.specs.declared.trace.Trace.{Trace}
 use Rattle.chain_plan.specs.declared.role.Role.{Role}
-use Rattle.trace_format.specs.Steps.{Step, places, step_at}
+use Rattle.trace_format.specs.Steps.{Step, places, step_at, steps}
 use Rattle.entry_checks.specs.Check.{has, io_drain, skip_success}
-use Rattle.chain_plan.specs.Chain.{action_passes, entry_passes, has_link, is_linked, chain_of, ahead, fails_check, role}
-use Rattle.chain_plan.specs.declared.plan.Member.{Member}
-use Rattle.chain_plan.specs.declared.plan.Chain.{Chain}
-use Rattle.chain_plan.specs.declared.plan.Marks.{Marks}
-use Rattle.chain_plan.specs.declared.plan.Linked.{Linked}
-use Rattle.chain_plan.specs.Plan.{roles, marks_of, followed, member_after, no_members, with_member, counted, joined, link_from}
+use Rattle.chain_plan.specs.Chain.{action_passes, entry_passes, has_link, is_linked, same_record, chain_of, ahead, fails_check, role}
+use Rattle.chain_plan.specs.declared.stretch.Member.{Member}
+use Rattle.chain_plan.specs.declared.stretch.Chain.{Chain}
+use Rattle.chain_plan.specs.declared.stretch.Marks.{Marks}
+use Rattle.chain_plan.specs.declared.stretch.Linked.{Linked}
+use Rattle.chain_plan.specs.Plan.{roles}
+use Rattle.chain_plan.specs.Stretch.{IsApart, IsHeld, IsStretch, Roles, chains_ahead, end_of, roles_of}
+use Rattle.chain_plan.specs.Walk.{marks_of, followed, member_after, no_members, with_member, counted, joined, link_from}
 
 -- the tests of the model
 abbrev skips : Entry → Bool
@@ -49,11 +51,6 @@ chain_over t ks = record { length = length ks; doomed = list_any (fails_joined t
 abbrev pub chain_at : Trace → ℕ → ℕ → Chain
 chain_at t n c = chain_over t (below t n c)
 
--- how many chains the places below n have
-abbrev pub chain_count : Trace → ℕ → ℕ
-chain_count t zero = 0
-chain_count t (suc k) = suc (chain_of t k)
-
 -- what a step may be followed from
 abbrev pub link_of : Trace → ℕ → Option Step → Option Linked
 link_of t k None = None
@@ -64,11 +61,14 @@ abbrev pub link_at : Trace → ℕ → Option Linked
 link_at t zero = None
 link_at t (suc k) = link_of t k (step_at t k)
 
--- the walk has come to the place n
-pub record Walked (t : Trace) (n : ℕ) (ms : List Member) (cs : List Chain) (l : Option Linked) : Type 0 where
-  pub each_member : ms ≡ map (member_at t) (range_with_len 0 n)
-  pub each_chain : cs ≡ map (chain_at t n) (range_with_len 0 (chain_count t n))
-  pub link : l ≡ link_at t n
+-- the walk from the place `first`, to which none is linked, has come to the place n
+pub record Walked (t : Trace) (first n : ℕ) (ms : List Member) (cs : List Chain) (l : Option Linked) : Type 0 where
+  pub starts : IsApart t first
+  pub forward : first ≤ n
+  pub within : n ≤ places t
+  pub each_member : ms ≡ map (member_at t) (range_with_len first (n - first))
+  pub each_chain : cs ≡ map (chain_at t n) (range_with_len (chains_ahead t first) (chains_ahead t n - chains_ahead t first))
+  pub link : (s : Step) → step_at t n ≡ Some s → followed l s.from_record ≡ followed (link_at t n) s.from_record
 
 -- the place n stands in its chain, and in no other
 below_more : (t : Trace) (n c : ℕ) → below t (suc n) c ≡ below t n c ++ cond (chain_of t n == c) (n ∷ []) []
@@ -95,26 +95,26 @@ chain_of-mono t k (suc n) le = elim (cases_eq k (suc n)) [
   | inr ne ↦ omega (arith, chain_of-mono t k n (omega (arith, ne)), chain_of-suc t n)
 ]
 
-pub chain_within : (t : Trace) (k n : ℕ) → k < n → chain_of t k < chain_count t n
+pub chain_within : (t : Trace) (k n : ℕ) → k < n → chain_of t k < chains_ahead t n
 chain_within t k zero lt = absurd (omega arith)
 chain_within t k (suc n) lt = omega (arith, chain_of-mono t k n (omega arith))
 
 -- no place below n stands in a chain that comes later
-below_next : (t : Trace) (n m c : ℕ) → m ≤ n → chain_count t n ≤ c → below t m c ≡ []
+below_next : (t : Trace) (n m c : ℕ) → m ≤ n → chains_ahead t n ≤ c → below t m c ≡ []
 below_next t n zero c le new = refl
 below_next t n (suc m) c le new = below_other t m c (λ e. absurd (omega (arith, e, chain_within t m n (omega arith)))) ∙ below_next t n m c (omega arith) new
 
-pub chain_count-le : (t : Trace) (n : ℕ) → chain_count t n ≤ n
-chain_count-le t zero = omega arith
-chain_count-le t (suc zero) = omega arith
-chain_count-le t (suc (suc n)) = grind (arith, chain_count-le t (suc n))
+pub chains_ahead-le : (t : Trace) (n : ℕ) → chains_ahead t n ≤ n
+chains_ahead-le t zero = omega arith
+chains_ahead-le t (suc zero) = omega arith
+chains_ahead-le t (suc (suc n)) = grind (arith, chains_ahead-le t (suc n))
 
 pub ahead-le : (t : Trace) (k : ℕ) → ahead t k ≤ k
 ahead-le t zero = omega arith
 ahead-le t (suc k) = grind (arith, ahead-le t k)
 
 -- the count of chains beside the chain of the place n
-count_near : (t : Trace) (n : ℕ) → (chain_of t n ≤ chain_count t n) × (chain_count t n ≤ suc (chain_of t n))
+count_near : (t : Trace) (n : ℕ) → (chain_of t n ≤ chains_ahead t n) × (chains_ahead t n ≤ suc (chain_of t n))
 count_near t zero = (omega arith, omega arith)
 count_near t (suc k) = (grind arith, grind arith)
 
@@ -140,7 +140,7 @@ next_if t k s now false e =
     let start : suc k - 0 ≡ suc k = omega arith in
     rw (e, start, now) refl
 
-pub member_next : (t : Trace) (n : ℕ) (s : Step) → step_at t n ≡ Some s → member_after (followed (link_at t n) s.from_record) (chain_count t n) (action_passes skips (Some s)) ≡ member_at t n
+pub member_next : (t : Trace) (n : ℕ) (s : Step) → step_at t n ≡ Some s → member_after (followed (link_at t n) s.from_record) (chains_ahead t n) (action_passes skips (Some s)) ≡ member_at t n
 member_next t zero s now =
     let start : 0 - 0 ≡ 0 = omega arith in
     rw (start, now) refl
@@ -179,11 +179,6 @@ counted_at cs c j m le = grind (arith, common_steps, get_or_past cs c no_members
 length-counted : (cs : List Chain) (c : ℕ) (m : Marks) → c ≤ length cs → length cs ≤ suc c → length (counted cs c m) ≡ suc c
 length-counted cs c m le near = grind (arith, common_steps)
 
-map_next : {X : Type 0} (f : ℕ → X) (n : ℕ) → map f (range_with_len 0 (suc n)) ≡ map f (range_with_len 0 n) ++ f n ∷ []
-map_next f n =
-    let one : n + 1 ≡ suc n = omega arith in
-    rw one at (map-range_with_len_more f 0 n n (omega arith))
-
 abbrev IsShort : Option Member → Type 0
 IsShort o = IfSome o (λ m. m.ahead + 1 < 2 ^ 32)
 
@@ -206,7 +201,7 @@ below-le t (suc n) c = omega (arith, below-more-le t n c, below-le t n c)
 not_linking : (t : Trace) (k : ℕ) → joins t k ≡ false → (entry_passes t has_link k ≡ false) × (ahead t k ≡ 0)
 not_linking t k is = grind (arith, nat_tests)
 
-starts_chain : (t : Trace) (k : ℕ) → ahead t k ≡ 0 → chain_count t k ≤ chain_of t k
+starts_chain : (t : Trace) (k : ℕ) → ahead t k ≡ 0 → chains_ahead t k ≤ chain_of t k
 starts_chain t zero none = omega arith
 starts_chain t (suc k) none = grind arith
 
@@ -218,7 +213,7 @@ alone : (t : Trace) (n k c : ℕ) → k < n → chain_of t k ≡ c → joins t k
 alone t zero k c lt here is = absurd (omega arith)
 alone t (suc n) k c lt here is = elim (cases_eq k n) [
   | inl e ↦
-      let start : chain_count t n ≤ chain_of t n = starts_chain t n (rw e at (not_linking t k is).1) in
+      let start : chains_ahead t n ≤ chain_of t n = starts_chain t n (rw e at (not_linking t k is).1) in
       let none : below t n c ≡ [] = below_next t n n c (omega arith) (omega (arith, start, rw e at here)) in
       omega (arith, below-more-le t n c, ap length none)
   | inr ne ↦
@@ -250,100 +245,227 @@ doomed_same t n c = elim (cases_Bool (leb 2 (length (below t n c)))) [
       | inr e ↦ absurd (omega (arith, alone t n k c lt here e))
     ]
 
+-- the chains ahead of a place are no fewer further on
+ahead-mono : (t : Trace) (k n : ℕ) → k ≤ n → chains_ahead t k ≤ chains_ahead t n
+ahead-mono t zero n le = omega arith
+ahead-mono t (suc k) zero le = absurd (omega arith)
+ahead-mono t (suc k) (suc n) le = omega (arith, chain_of-mono t k n (omega arith))
+
+-- a place to which none is linked begins a chain, behind those ahead of it
+apart_above : (t : Trace) (n k : ℕ) → IsApart t n → n ≤ k → chains_ahead t n ≤ chain_of t k
+apart_above t zero k apart le = omega arith
+apart_above t (suc j) k apart le =
+    let next : chain_of t (suc j) ≡ suc (chain_of t j) = rw apart refl in
+    omega (arith, next, chain_of-mono t (suc j) k le)
+
+-- so its chains ahead get no further members
+below_kept : (t : Trace) (n m c : ℕ) → IsApart t n → n ≤ m → c < chains_ahead t n → below t m c ≡ below t n c
+below_kept t n zero c apart le lt =
+    let e : n ≡ 0 = omega arith in
+    rw e refl
+below_kept t n (suc m) c apart le lt = elim (cases_eq n (suc m)) [
+  | inl e ↦ rw e refl
+  | inr ne ↦
+      let above = apart_above t n m apart (omega (arith, ne)) in
+      below_other t m c (λ e. absurd (omega (arith, e, above, lt))) ∙ below_kept t n m c apart (omega (arith, ne)) lt
+]
+
+-- a place that follows none, as the walk sees it
+pub seen_apart : (t : Trace) (n : ℕ) (s : Step) → step_at t n ≡ Some s → followed (link_at t n) s.from_record ≡ None → IsApart t n
+seen_apart t zero s now none = tt
+seen_apart t (suc k) s now none = by (is_linked t k) refl
+  where
+    by : (b : Bool) → is_linked t k ≡ b → is_linked t k ≡ false
+    by true e = absurd (none-some _ (sym (rw (followed_is t k s now, e) at none)))
+    by false e = e
+
+apart_follows : (t : Trace) (n : ℕ) (s : Step) → IsApart t n → step_at t n ≡ Some s → None ≡ followed (link_at t n) s.from_record
+apart_follows t zero s apart now = refl
+apart_follows t (suc k) s apart now = sym (followed_is t k s now ∙ rw apart refl)
+
+-- no place is linked to the end of the trace
+pub end_apart : (t : Trace) (n : ℕ) → places t ≤ n → IsApart t n
+end_apart t zero le = tt
+end_apart t (suc k) le =
+    let none : step_at t (suc k) ≡ None = slice_get_past (steps t) (suc k) le in
+    rw none (by (step_at t k) (entry_passes t has_link k))
+  where
+    by : (o : Option Step) (b : Bool) → (b && same_record o None) ≡ false
+    by None true = refl
+    by None false = refl
+    by (Some s) true = refl
+    by (Some s) false = refl
+
+fill_from : {X : Type 0} (f : ℕ → X) (a n : ℕ) (xs : List X) (d : X) → length xs ≡ n → ((k : ℕ) → k < n → get_or xs k d ≡ f (a + k)) → xs ≡ map f (range_with_len a n)
+fill_from f a n xs d long h =
+    ext_get_or d xs _ (long ∙ sym (length-map-range_with_len f a n)) (λ k lt. h k (omega arith) ∙ sym (get_or-map-range_with_len f a n k (a + k) d (omega arith) refl))
+
 -- what the walk has found so far
-module _ {t : Trace} {n : ℕ} {ms : List Member} {cs : List Chain} {l : Option Linked} (w : Walked t n ms cs l) where
-  chain_total : length cs ≡ chain_count t n
-  chain_total = ap length w.each_chain ∙ length-map-range_with_len (chain_at t n) 0 (chain_count t n)
+module _ {t : Trace} {first n : ℕ} {ms : List Member} {cs : List Chain} {l : Option Linked} (w : Walked t first n ms cs l) where
+  abbrev before : ℕ
+  before = chains_ahead t first
 
-  member_total : length ms ≡ n
-  member_total = ap length w.each_member ∙ length-map-range_with_len (member_at t) 0 n
+  forward_ahead : before ≤ chains_ahead t n
+  forward_ahead = ahead-mono t first n w.forward
 
-  chain_read : (c : ℕ) (d : Chain) → c < length cs → get_or cs c d ≡ chain_at t n c
-  chain_read c d lt =
-      ap (λ xs. get_or xs c d) w.each_chain ∙ get_or-map-range_with_len (chain_at t n) 0 (chain_count t n) c c d (omega (arith, chain_total)) (omega arith)
+  chain_total : length cs ≡ chains_ahead t n - before
+  chain_total = ap length w.each_chain ∙ length-map-range_with_len (chain_at t n) before (chains_ahead t n - before)
 
-  member_read : (k : ℕ) (d : Member) → k < n → get_or ms k d ≡ member_at t k
-  member_read k d lt = ap (λ xs. get_or xs k d) w.each_member ∙ get_or-map-range_with_len (member_at t) 0 n k k d lt (omega arith)
+  member_total : length ms ≡ n - first
+  member_total = ap length w.each_member ∙ length-map-range_with_len (member_at t) first (n - first)
+
+  chain_read : (i : ℕ) (d : Chain) → i < length cs → get_or cs i d ≡ chain_at t n (before + i)
+  chain_read i d lt =
+      ap (λ xs. get_or xs i d) w.each_chain ∙ get_or-map-range_with_len (chain_at t n) before (chains_ahead t n - before) i (before + i) d (omega (arith, chain_total)) refl
+
+  member_read : (i : ℕ) (d : Member) → i < length ms → get_or ms i d ≡ member_at t (first + i)
+  member_read i d lt =
+      ap (λ xs. get_or xs i d) w.each_member ∙ get_or-map-range_with_len (member_at t) first (n - first) i (first + i) d (omega (arith, member_total)) refl
 
   -- chains to come have no members
-  chain_each : (c : ℕ) → get_or cs c no_members ≡ chain_at t n c
-  chain_each c = elim (cases_lt c (length cs)) [
-    | inl lt ↦ chain_read c no_members lt
-    | inr ge ↦ get_or_past cs c no_members ge ∙ sym (ap (chain_over t) (below_next t n n c (omega arith) (omega (arith, chain_total))))
+  chain_each : (i : ℕ) → get_or cs i no_members ≡ chain_at t n (before + i)
+  chain_each i = elim (cases_lt i (length cs)) [
+    | inl lt ↦ chain_read i no_members lt
+    | inr ge ↦ get_or_past cs i no_members ge ∙ sym (ap (chain_over t) (below_next t n n (before + i) (omega arith) (omega (arith, chain_total, forward_ahead))))
   ]
 
-  chain_after : (s : Step) → step_at t n ≡ Some s → (j : ℕ)
-      → (if j == chain_of t n then with_member (get_or cs (chain_of t n) no_members) (marks_at t n s) else get_or cs j no_members) ≡ chain_at t (suc n) j
-  chain_after s now j = elim (cases_eq j (chain_of t n)) [
-    | inl e ↦ rw (eq-eqb _ _ e, chain_each (chain_of t n)) (chain_grown t n s now ∙ ap (chain_at t (suc n)) (sym e))
-    | inr ne ↦ rw (ne_eqb _ _ ne, chain_each j) (chain_same t n j (λ h. ne (sym h)))
-  ]
+  -- the place n stands in a chain that began in the walk
+  here_above : before ≤ chain_of t n
+  here_above = apart_above t first n w.starts w.forward
+
+  chain_after : (s : Step) → step_at t n ≡ Some s → (i : ℕ)
+      → (if i == chain_of t n - before then with_member (get_or cs (chain_of t n - before) no_members) (marks_at t n s) else get_or cs i no_members)
+      ≡ chain_at t (suc n) (before + i)
+  chain_after s now i =
+      let here : before + (chain_of t n - before) ≡ chain_of t n = omega (arith, here_above) in
+      elim (cases_eq i (chain_of t n - before)) [
+        | inl e ↦
+            let there : before + i ≡ chain_of t n = omega (arith, e, here) in
+            rw (eq-eqb _ _ e) (ap (λ c. with_member c (marks_at t n s)) (chain_each (chain_of t n - before) ∙ ap (chain_at t n) here)
+            ∙ chain_grown t n s now ∙ ap (chain_at t (suc n)) (sym there))
+        | inr ne ↦ rw (ne_eqb _ _ ne, chain_each i) (chain_same t n (before + i) (λ h. ne (omega (arith, h))))
+      ]
 
   chains_next : (s : Step) → step_at t n ≡ Some s
-      → counted cs (chain_of t n) (marks_at t n s) ≡ map (chain_at t (suc n)) (range_with_len 0 (suc (chain_of t n)))
+      → counted cs (chain_of t n - before) (marks_at t n s) ≡ map (chain_at t (suc n)) (range_with_len before (suc (chain_of t n) - before))
   chains_next s now =
       let near = count_near t n in
-      let within : chain_of t n ≤ length cs = omega (arith, chain_total, near.0) in
-      let many = length-counted cs (chain_of t n) (marks_at t n s) within (omega (arith, chain_total, near.1)) in
-      let each = λ (j : ℕ) (lt : j < suc (chain_of t n)). counted_at cs (chain_of t n) j (marks_at t n s) within ∙ chain_after s now j in
-      fill_by_all (chain_at t (suc n)) _ (suc (chain_of t n)) no_members many each
+      let c : ℕ = chain_of t n - before in
+      let within : c ≤ length cs = omega (arith, chain_total, near.0) in
+      let many = length-counted cs c (marks_at t n s) within (omega (arith, chain_total, near.1, here_above, forward_ahead)) in
+      let each = λ (i : ℕ) (lt : i < suc (chain_of t n) - before). counted_at cs c i (marks_at t n s) within ∙ chain_after s now i in
+      fill_from (chain_at t (suc n)) before (suc (chain_of t n) - before) _ no_members (many ∙ omega (arith, here_above)) each
 
   -- the walk goes on
   pub walks_on : (s : Step) (more : List Member) (next : List Chain) (after : Option Linked)
       → (m : Member) (a : Option Member) (count : ℕ) (marks : Marks)
-      → step_at t n ≡ Some s → marks ≡ marks_of t.version (is_some a) s → a ≡ followed l s.from_record → count ≡ length cs
-      → m ≡ member_after a count marks.skips → next ≡ counted cs m.chain marks
-      → after ≡ link_from m s.from_record marks.links → more ≡ ms ++ m ∷ [] → Walked t (n + 1) more next after
+      → step_at t n ≡ Some s → marks ≡ marks_of t.version (is_some a) s → a ≡ followed l s.from_record → count ≡ before + length cs
+      → m ≡ member_after a count marks.skips → next ≡ counted cs (m.chain - before) marks
+      → after ≡ link_from m s.from_record marks.links → more ≡ ms ++ m ∷ [] → Walked t first (n + 1) more next after
   walks_on s more next after m a count marks now marked following counting is grown linking longer =
       let one : n + 1 ≡ suc n = omega arith in
-      let total : count ≡ chain_count t n = counting ∙ chain_total in
-      rw (longer, grown, linking, is, marked, following, total, w.link, member_next t n s now, one) (record {
-        each_member = ap (λ xs. xs ++ member_at t n ∷ []) w.each_member ∙ sym (map_next (member_at t) n);
+      let total : count ≡ chains_ahead t n = omega (arith, counting, chain_total, forward_ahead) in
+      let follows : a ≡ followed (link_at t n) s.from_record = following ∙ w.link s now in
+      let longer_by : (n - first) + 1 ≡ suc n - first = omega (arith, w.forward) in
+      rw (longer, grown, linking, is, marked, follows, total, member_next t n s now, one) (record {
+        starts = w.starts;
+        forward = omega (arith, w.forward);
+        within = omega (arith, slice_get_within (steps t) n s now);
+        each_member = ap (λ xs. xs ++ member_at t n ∷ []) w.each_member
+            ∙ sym (rw longer_by at (map-range_with_len_more (member_at t) first (n - first) n (omega (arith, w.forward))));
         each_chain = chains_next s now;
-        link = sym (ap (link_of t n) now ∙ ap (λ o. link_from (member_at t n) s.from_record (action_passes has_link o)) now);
+        link = λ u next. ap (λ o. followed o u.from_record) (sym (ap (link_of t n) now ∙ ap (λ o. link_from (member_at t n) s.from_record (action_passes has_link o)) now));
       })
 
   -- the numbers stay small
-  pub chains_long : length cs ≤ n
-  chains_long = omega (arith, chain_total, chain_count-le t n)
+  pub chains_long : before + length cs ≤ n
+  chains_long = omega (arith, chain_total, forward_ahead, chains_ahead-le t n)
 
   pub chain_short : n ≤ 2 ^ 20 → (j : ℕ) (c : Chain) → slice_get cs j ≡ Some c → c.length + 1 < 2 ^ 32
   chain_short le j c h =
-      let there : c ≡ chain_at t n j = sym (get_or_from_slice_get cs j c c h) ∙ chain_read j c (slice_get_within cs j c h) in
-      omega (arith, ap (λ x. x.length) there, below-le t n j)
+      let there : c ≡ chain_at t n (before + j) = sym (get_or_from_slice_get cs j c c h) ∙ chain_read j c (slice_get_within cs j c h) in
+      omega (arith, ap (λ x. x.length) there, below-le t n (before + j))
 
-  pub member_short : (r : ℕ) (a : Option Member) → n ≤ 2 ^ 20 → a ≡ followed l r → IsShort a
-  member_short r a le e = rw (e, w.link) (short_at t n r le)
+  pub member_short : (s : Step) (a : Option Member) → step_at t n ≡ Some s → n ≤ 2 ^ 20 → a ≡ followed l s.from_record → IsShort a
+  member_short s a now le e = rw (e, w.link s now) (short_at t n s.from_record le)
+
+  -- the member of the place n is of a chain that began in the walk
+  pub member_above : (s : Step) (a : Option Member) (count : ℕ) (skips : Bool) → step_at t n ≡ Some s → a ≡ followed l s.from_record → count ≡ before + length cs
+      → before ≤ (member_after a count skips).chain
+  member_above s a count skips now following counting =
+      rw (following, w.link s now) (by (followed (link_at t n) s.from_record) refl)
+    where
+      by : (o : Option Member) → followed (link_at t n) s.from_record ≡ o → before ≤ (member_after o count skips).chain
+      by None e = omega (arith, counting)
+      by (Some m) e = omega (arith, here_above, ap (λ x. x.chain) (rw e at (member_next t n s now)))
 
   -- each member names one of the chains
-  pub members_within : (k : ℕ) (m : Member) → slice_get ms k ≡ Some m → m.chain < length cs
-  members_within k m h =
-      let early : k < n = omega (arith, member_total, slice_get_within ms k m h) in
-      let there : m ≡ member_at t k = sym (get_or_from_slice_get ms k m m h) ∙ member_read k m early in
-      omega (arith, ap (λ x. x.chain) there, chain_total, chain_within t k n early)
+  members_held : (k : ℕ) (m : Member) → slice_get ms k ≡ Some m → (before ≤ m.chain) × (m.chain < before + length cs)
+  members_held k m h =
+      let early : k < length ms = slice_get_within ms k m h in
+      let there : m ≡ member_at t (first + k) = sym (get_or_from_slice_get ms k m m h) ∙ member_read k m early in
+      let chain = ap (λ x. x.chain) there in
+      (omega (arith, chain, apart_above t first (first + k) w.starts (omega arith)),
+      omega (arith, chain, chain_total, member_total, forward_ahead, chain_within t (first + k) n (omega (arith, member_total))))
 
-  role_read : n ≡ places t → (k : ℕ) → k < n → (d : Role) → get_or (map (joined cs) ms) k d ≡ role t k
-  role_read all k lt d =
-      let member = member_read k (member_at t k) lt in
-      let chain = chain_each (chain_of t k) in
-      get_or-map (joined cs) ms k (member_at t k) d (omega (arith, member_total)) ∙ ap (joined cs) member
-      ∙ rw (chain, all) (ap (λ b. record (role t k) { doomed = b }) (doomed_same t (places t) (chain_of t k)))
+  pub walked_held : n ≤ 2 ^ 20 → IsHeld first before cs ms
+  walked_held le = record {
+    each = members_held;
+    places = omega (arith, member_total, w.forward);
+    numbers = omega (arith, chains_long);
+  }
 
-  -- the walk over all places gives each role
-  pub walked_roles : n ≡ places t → map (joined cs) ms ≡ roles t
-  walked_roles all =
-      let d : Role = joined [] (record { chain = 0; ahead = 0; quiet = false }) in
-      rw all at (fill_by_all (role t) (map (joined cs) ms) n d (omega (arith, length-map ms (joined cs), member_total)) (λ k lt. role_read all k lt d))
+  -- a walk that stops at a step that follows none ends with a chain
+  pub stops_apart : (s : Step) (a : Option Member) → step_at t n ≡ Some s → a ≡ followed l s.from_record → is_some a ≡ false → IsApart t n
+  stops_apart s a now following none = seen_apart t n s now (sym (w.link s now) ∙ sym following ∙ by a none)
+    where
+      by : (o : Option Member) → is_some o ≡ false → o ≡ None
+      by None e = refl
+      by (Some m) e = absurd (true≢false e)
+
+  -- where the walk ends with a chain, it has found the roles
+  role_read : IsApart t n → (i : ℕ) → i < length ms → (d : Role) → get_or (map (joined before cs) ms) i d ≡ role t (first + i)
+  role_read apart i lt d =
+      let k : ℕ = first + i in
+      let c : ℕ = chain_of t k in
+      let early : k < n = omega (arith, member_total) in
+      let above = apart_above t first k w.starts (omega arith) in
+      let back : before + (c - before) ≡ c = omega (arith, above) in
+      let kept : below t (places t) c ≡ below t n c = below_kept t n (places t) c apart w.within (chain_within t k n early) in
+      get_or-map (joined before cs) ms i (member_at t k) d lt ∙ ap (joined before cs) (member_read i (member_at t k) lt)
+      ∙ rw (chain_each (c - before), back, ← kept) (ap (λ b. record (role t k) { doomed = b }) (doomed_same t (places t) c))
+
+  pub walked_stretch : IsApart t n → IsStretch t (roles_of first before cs ms)
+  walked_stretch apart =
+      let many : length (map (joined before cs) ms) ≡ length ms = length-map ms (joined before cs) in
+      let ends : first + length (map (joined before cs) ms) ≡ n = omega (arith, many, member_total, w.forward) in
+      let d : Role = joined 0 [] (record { chain = 0; ahead = 0; quiet = false }) in
+      record {
+        roles = fill_from (role t) first (length (map (joined before cs) ms)) _ d refl (λ i lt. role_read apart i (omega (arith, many)) d);
+        within = omega (arith, ends, w.within);
+        apart = rw ends apart;
+        chains = rw ends (omega (arith, chain_total, forward_ahead));
+      }
+
+  pub walked_long : length (map (joined before cs) ms) + first ≡ n
+  walked_long = omega (arith, length-map ms (joined before cs), member_total, w.forward)
 
 pub length-roles : (t : Trace) → length (roles t) ≡ places t
 length-roles t = length-map-range_with_len (role t) 0 (places t)
 
+-- the number of the chain behind a stretch
+pub next_number : (t : Trace) (s : Roles) (first before : ℕ) → IsStretch t s → first ≡ end_of s → before ≡ s.chains → before ≡ chains_ahead t first
+next_number t s first before stretch at number = number ∙ stretch.chains ∙ ap (chains_ahead t) (sym at)
+
+-- the role that is read of a stretch is the place's
+pub role_in : (t : Trace) (s : Roles) (k : ℕ) (r : Role) → IsStretch t s → s.first ≤ k → slice_get s.roles (k - s.first) ≡ Some r → r ≡ role t k
+role_in t s k r stretch from here =
+    sym (get_or_from_slice_get s.roles (k - s.first) r r here) ∙ ap (λ xs. get_or xs (k - s.first) r) stretch.roles
+    ∙ get_or-map-range_with_len (role t) s.first (length s.roles) (k - s.first) k r (slice_get_within s.roles (k - s.first) r here) (omega arith)
+
 -- the role that is read is the place's
-pub role_is : (t : Trace) (cs : List Chain) (ms : List Member) (us : List Role) (k : ℕ) (m : Member) (c : Chain) → map (joined cs) ms ≡ us → us ≡ roles t → k < length us → m ≡ get_or ms k m → c ≡ get_or cs m.chain c → ((i : ℕ) (x : Member) → slice_get ms i ≡ Some x → x.chain < length cs) → record { chain = m.chain; member = m.ahead; length = c.length; doomed = leb 2 c.length && c.doomed; quiet = m.quiet; barrier = c.barrier } ≡ role t k
-role_is t cs ms us k m c view own lt here there within =
-    let d : Role = joined [] (record { chain = 0; ahead = 0; quiet = false }) in
-    let long : length ms ≡ length us = sym (length-map ms (joined cs)) ∙ ap length view in
-    let all : length us ≡ places t = ap length own ∙ length-map-range_with_len (role t) 0 (places t) in
-    let chain : get_or cs m.chain no_members ≡ c = get_or_from_slice_get cs m.chain c no_members (slice_get_read cs (length cs) m.chain c refl (within k m (slice_get_read ms (length ms) k m refl (omega (arith, long)) here)) there) in
-    let read : get_or (map (joined cs) ms) k d ≡ joined cs m = get_or-map (joined cs) ms k m d (omega (arith, long)) ∙ ap (joined cs) (sym here) in
-    rw chain at (sym read ∙ ap (λ xs. get_or xs k d) (view ∙ own) ∙ get_or-map-range_with_len (role t) 0 (places t) k k d (omega (arith, all)) (omega arith))
+pub role_is : (t : Trace) (us : List Role) (k : ℕ) (r : Role) → us ≡ roles t → slice_get us k ≡ Some r → r ≡ role t k
+role_is t us k r own here =
+    let all : length us ≡ places t = ap length own ∙ length-roles t in
+    sym (get_or_from_slice_get us k r r here) ∙ ap (λ xs. get_or xs k r) own
+    ∙ get_or-map-range_with_len (role t) 0 (places t) k k r (omega (arith, all, slice_get_within us k r here)) (omega arith)

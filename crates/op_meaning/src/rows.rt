@@ -1,5 +1,5 @@
 //! The table of the operations: what each does, or why the world refuses it.
-ghost use Rattle.std.specs.Prelude.{◌≡◌, ◌≤◌, ℕ, IfOk, IfSome, is_ok, OnOk};
+ghost use Rattle.std.specs.Prelude.{◌≡◌, ◌≤◌, ℕ, IfOk, IfSome, None, is_ok, OnOk};
 ghost use Rattle.entry_checks.specs.Meant.{meant};
 ghost use Rattle.entry_checks.specs.Operation.{asked};
 ghost use Rattle.op_meaning.specs.Deciding.{Decides};
@@ -39,6 +39,50 @@ fn changing<'a>(changes: Result<NameChanges<'a>, Errno>) -> Result<Decision<'a>,
     Ok(Decision::ChangeNames(changes?))
 }
 
+/// What an operation that moves no bytes does where an entry stands: see [`decide`]. It is a
+/// function of its own, so that a transfer, of which there are most, has no room to fill for the
+/// others.
+fn decide_on_rest<'a>(
+    site: Site<'_>,
+    op: Op<'a>,
+    lookup: &Lookup<'a>,
+    state: &State,
+) -> Result<Decision<'a>, Errno>
+    requires rest { asked (meant op) ≡ None }
+    requires spelled { IsSpelled site.trace.now }
+    requires lookup { Tells lookup.now
+        (Finds site.trace.now site.ring state.now (shape (meant op)) lookup.now) }
+    ensures meaning { Decides
+        (meaning site.entry.trace.now site.entry.place site.entry.ring state.now (meant op.entry))
+        (effect_of site.entry.trace.now site.entry.place site.entry.ring state.now) result }
+    ensures limits { IfOk result (IsWithinLimits state.now site.entry.ring) }
+{
+    match op {
+        Op::Fsync { file } => syncing(site, file, state),
+        Op::Fallocate {
+            file,
+            offset,
+            size,
+            mode,
+        } => {
+            let request = AllocationRequest { offset, size, mode };
+            allocating(site, file, lookup, request, state)
+        }
+        Op::Openat { path, flags, slot } => find_opening(site, path, lookup, flags, slot, state),
+        Op::Close { file } => closing(site, file, state),
+        Op::Renameat { old, new, flags } => changing(renaming(old, new, lookup, flags, state)),
+        Op::Unlinkat {
+            path,
+            removes_directory,
+        } => changing(unlinking(path, lookup, removes_directory, state)),
+        Op::Mkdirat { path } => making(site, path, lookup, state),
+        Op::Linkat { old, new } => changing(linking(old, new, lookup, state)),
+        Op::Ftruncate { file, size } => resizing(site, file, lookup, size, state),
+        // A NOP, since transfers don't come here.
+        _ => Ok(Decision::Nothing),
+    }
+}
+
 /// What an operation does where an entry stands, by look-ups alone, those of which something is found
 /// already left out. It takes no memory.
 ///
@@ -62,7 +106,6 @@ fn decide<'a>(
         → IfOk result (IsWithinLimits state.now site.entry.ring) }
 {
     match op {
-        Op::Nop => Ok(Decision::Nothing),
         Op::Readv {
             file,
             offset,
@@ -73,24 +116,12 @@ fn decide<'a>(
             offset,
             bytes,
         } => writing(site, file, lookup, offset, bytes, state),
-        Op::Fsync { file } => syncing(site, file, state),
         Op::ReadFixed { file, offset, span } => {
             reading_fixed(site, file, lookup, offset, span, state)
         }
         Op::WriteFixed { file, offset, span } => {
             writing_fixed(site, file, lookup, offset, span, state)
         }
-        Op::Fallocate {
-            file,
-            offset,
-            size,
-            mode,
-        } => {
-            let request = AllocationRequest { offset, size, mode };
-            allocating(site, file, lookup, request, state)
-        }
-        Op::Openat { path, flags, slot } => { find_opening(site, path, lookup, flags, slot, state) }
-        Op::Close { file } => closing(site, file, state),
         Op::Read {
             file,
             offset,
@@ -101,14 +132,7 @@ fn decide<'a>(
             offset,
             bytes,
         } => writing(site, file, lookup, offset, bytes, state),
-        Op::Renameat { old, new, flags } => { changing(renaming(old, new, lookup, flags, state)) }
-        Op::Unlinkat {
-            path,
-            removes_directory,
-        } => changing(unlinking(path, lookup, removes_directory, state)),
-        Op::Mkdirat { path } => making(site, path, lookup, state),
-        Op::Linkat { old, new } => changing(linking(old, new, lookup, state)),
-        Op::Ftruncate { file, size } => resizing(site, file, lookup, size, state),
+        _ => decide_on_rest(site, op, lookup, state),
     }
 }
 
