@@ -404,9 +404,10 @@ module _ {t : Trace} {first n : ℕ} {ms : List Member} {cs : List Chain} {l : O
   members_held k m h =
       let early : k < length ms = slice_get_within ms k m h in
       let there : m ≡ member_at t (first + k) = sym (get_or_from_slice_get ms k m m h) ∙ member_read k m early in
-      let chain = ap (λ x. x.chain) there in
-      (omega (arith, chain, apart_above t first (first + k) w.starts (omega arith)),
-      omega (arith, chain, chain_total, member_total, forward_ahead, chain_within t (first + k) n (omega (arith, member_total))))
+      let chain = ap (λ x. x.chain) there in (
+        omega (arith, chain, apart_above t first (first + k) w.starts (omega arith)),
+        omega (arith, chain, chain_total, member_total, forward_ahead, chain_within t (first + k) n (omega (arith, member_total))),
+      )
 
   pub walked_held : n ≤ 2 ^ 20 → IsHeld first before cs ms
   walked_held le = record {

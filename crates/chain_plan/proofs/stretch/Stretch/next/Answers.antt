@@ -1,4 +1,4 @@
-use Rattle.std.proofs.Common.{◌≡◌, ◌+◌, arith, rules, ap, sym, refl, length, ◌∙◌}
+use Rattle.std.proofs.Common.{◌≡◌, ◌+◌, arith, ap, ◌∙◌}
 use Rattle.trace_format.proofs.Facts.{spelled_fits}
 use Rattle.trace_format.specs.Steps.{step_meant}
 use Rattle.chain_plan.specs.Stretch.{chains_ahead}
@@ -16,7 +16,7 @@ overflow_cast-next c =
 pub overflow_add-next : goal.overflow_add-next
 overflow_add-next c =
     let number : c.self.inside.chains_before + c.len.result ≡ chains_ahead c.args.trace.now c.end-first.result =
-        next_number c.args.trace.now c.args.self c.end-first.result _ c.requires.stretch c.end-first.ensures (omega (arith, c.len.ensures, ap (λ s. s.chains) c.self.view_is)) in
+    next_number c.args.trace.now c.args.self c.end-first.result _ c.requires.stretch c.end-first.ensures (omega (arith, c.len.ensures, ap (λ s. s.chains) c.self.view_is)) in
     omega (arith, number, c.len-in-loop-place.ensures, c.loop-place.chains.ok.0, chains_long c.loop-place.invariant, c.places-place-end.ensures.limit)
 
 pub member_after-member-requires : goal.member_after-member-requires
@@ -26,9 +26,9 @@ member_after-member-requires c =
 pub overflow_sub-member : goal.overflow_sub-member
 overflow_sub-member c =
     let number : c.self.inside.chains_before + c.len.result ≡ chains_ahead c.args.trace.now c.end-first.result =
-        next_number c.args.trace.now c.args.self c.end-first.result _ c.requires.stretch c.end-first.ensures (omega (arith, c.len.ensures, ap (λ s. s.chains) c.self.view_is)) in
+    next_number c.args.trace.now c.args.self c.end-first.result _ c.requires.stretch c.end-first.ensures (omega (arith, c.len.ensures, ap (λ s. s.chains) c.self.view_is)) in
     rw (number, c.member_after-member.ensures) (member_above c.loop-place.invariant _ _ _ _ c.step-step.ensures c.followed-ahead.ensures
-        (omega (arith, c.len-in-loop-place.ensures, c.loop-place.chains.ok.0)))
+    (omega (arith, c.len-in-loop-place.ensures, c.loop-place.chains.ok.0)))
 
 pub count_member-requires : goal.count_member-requires
 count_member-requires c =
@@ -37,7 +37,7 @@ count_member-requires c =
 pub loop-place-preserved : goal.loop-place-preserved
 loop-place-preserved c =
     let number : c.self.inside.chains_before + c.len.result ≡ chains_ahead c.args.trace.now c.end-first.result =
-        next_number c.args.trace.now c.args.self c.end-first.result _ c.requires.stretch c.end-first.ensures (omega (arith, c.len.ensures, ap (λ s. s.chains) c.self.view_is)) in
+    next_number c.args.trace.now c.args.self c.end-first.result _ c.requires.stretch c.end-first.ensures (omega (arith, c.len.ensures, ap (λ s. s.chains) c.self.view_is)) in
     let marks = c.marks_of-marks.ensures ∙ ap (λ b. marks_of c.args.trace.now.version b (step_meant c.step-step.result)) c.is_some.ensures in
     walks_on c.loop-place.invariant _ _ _ _ _ _ _ _ c.step-step.ensures marks c.followed-ahead.ensures
     (omega (arith, number, c.len-in-loop-place.ensures, c.loop-place.chains.ok.0))
@@ -46,13 +46,13 @@ loop-place-preserved c =
 pub invariant_of-result : goal.invariant_of-result
 invariant_of-result c =
     let number : c.self.inside.chains_before + c.len.result ≡ chains_ahead c.args.trace.now c.end-first.result =
-        next_number c.args.trace.now c.args.self c.end-first.result _ c.requires.stretch c.end-first.ensures (omega (arith, c.len.ensures, ap (λ s. s.chains) c.self.view_is)) in
+    next_number c.args.trace.now c.args.self c.end-first.result _ c.requires.stretch c.end-first.ensures (omega (arith, c.len.ensures, ap (λ s. s.chains) c.self.view_is)) in
     rw number (walked_held c.loop-place.invariant (omega (arith, c.places-place-end.ensures.limit)))
 
 pub returns-clause-stretch : goal.returns-clause-stretch
 returns-clause-stretch c =
     let number : c.self.inside.chains_before + c.len.result ≡ chains_ahead c.args.trace.now c.end-first.result =
-        next_number c.args.trace.now c.args.self c.end-first.result _ c.requires.stretch c.end-first.ensures (omega (arith, c.len.ensures, ap (λ s. s.chains) c.self.view_is)) in
+    next_number c.args.trace.now c.args.self c.end-first.result _ c.requires.stretch c.end-first.ensures (omega (arith, c.len.ensures, ap (λ s. s.chains) c.self.view_is)) in
     rw number (walked_stretch c.loop-place.invariant (elim c.loop-place-test.branch [
       | goal.else-loop-place-test w ↦ end_apart c.args.trace.now c.loop-place.place (omega (arith, w.loop-place-test.false, c.places-place-end.ensures.places))
       | goal.then-loop-place-test+then-is_none+then-place-first w ↦
@@ -62,7 +62,7 @@ returns-clause-stretch c =
 pub returns-clause-least : goal.returns-clause-least
 returns-clause-least c =
     let number : c.self.inside.chains_before + c.len.result ≡ chains_ahead c.args.trace.now c.end-first.result =
-        next_number c.args.trace.now c.args.self c.end-first.result _ c.requires.stretch c.end-first.ensures (omega (arith, c.len.ensures, ap (λ s. s.chains) c.self.view_is)) in
+    next_number c.args.trace.now c.args.self c.end-first.result _ c.requires.stretch c.end-first.ensures (omega (arith, c.len.ensures, ap (λ s. s.chains) c.self.view_is)) in
     rw number (elim c.loop-place-test.branch [
       | goal.else-loop-place-test w ↦ omega (arith, walked_long c.loop-place.invariant, w.loop-place-test.false, c.places-place-end.ensures.places)
       | goal.then-loop-place-test+then-is_none+then-place-first w ↦
