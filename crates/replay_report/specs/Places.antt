@@ -3,7 +3,7 @@ use Rattle.std.specs.Prelude.{ℕ, ◌==◌, Bool, false, List, [], ◌∷◌, �
 use Rattle.std.specs.Global.{Global}
 use Rattle.std.specs.List.{range_with_len}
 use Rattle.trace_format.specs.declared.trace.Trace.{Trace}
-use Rattle.trace_format.specs.Steps.{Step, places, step_at}
+use Rattle.trace_format.specs.Steps.{Action, Step, fill, places, step_at, submit}
 
 -- The numbers of a vector.
 abbrev pub items : Vec ℕ Global → List ℕ
@@ -29,3 +29,15 @@ places_by_ring t = map (places_of_ring t) (range_with_len 0 (length t.rings))
 -- Lists after a place is added to that of a ring; where the ring has none, the same.
 abbrev pub with_place : List (List ℕ) → ℕ → ℕ → List (List ℕ)
 with_place lists ring place = slice_set lists ring (slice_index_or lists ring [] ++ place ∷ [])
+
+-- The user data of what a step submits; a fill has none.
+abbrev pub user_data_of : Option Step → Option ℕ
+user_data_of None = None
+user_data_of (Some step) = submitted step.action
+  where
+    submitted : Action → Option ℕ
+    submitted (submit entry) = Some entry.sqe.user_data
+    submitted (fill buffer offset bytes) = None
+
+abbrev pub user_data_at : Trace → ℕ → Option ℕ
+user_data_at t place = user_data_of (step_at t place)
