@@ -455,8 +455,8 @@ pub length-roles : (t : Trace) → length (roles t) ≡ places t
 length-roles t = length-map-range_with_len (role t) 0 (places t)
 
 -- the number of the chain behind a stretch
-pub next_number : (t : Trace) (s : Roles) (first before : ℕ) → IsStretch t s → first ≡ end_of s → before ≡ s.chains → before ≡ chains_ahead t first
-next_number t s first before stretch at number = number ∙ stretch.chains ∙ ap (chains_ahead t) (sym at)
+pub next_number : (t : Trace) (s : Roles) (first next : ℕ) → IsStretch t s → first ≡ end_of s → next ≡ s.chains → next ≡ chains_ahead t first
+next_number t s first next stretch at number = number ∙ stretch.chains ∙ ap (chains_ahead t) (sym at)
 
 -- the role that is read of a stretch is the place's
 pub role_in : (t : Trace) (s : Roles) (k : ℕ) (r : Role) → IsStretch t s → s.first ≤ k → slice_get s.roles (k - s.first) ≡ Some r → r ≡ role t k
