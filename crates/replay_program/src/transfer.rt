@@ -116,13 +116,6 @@ pub enum TextFault {
     Memory,
 }
 
-/// Room for one piece.
-fn empty_piece(alloc: Global) -> Result<Vec<u8>, AllocError>
-    ensures { IfOk result (λ piece. vec_len piece ≡ PIECE) }
-{
-    vec![in alloc; 0u8; PIECE]
-}
-
 /// All that the reader has left, or its first `MOST_BYTES` bytes. The first failure ends the
 /// reading.
 pub fn read_text<S: Source>(alloc: Global, source: &mut S) -> Result<Vec<u8>, TextFault>
@@ -137,19 +130,18 @@ pub fn read_text<S: Source>(alloc: Global, source: &mut S) -> Result<Vec<u8>, Te
     ensures memory { result ≡ Err TextFault.Memory → S.failures source.new ≡ S.failures source.old }
 {
     let mut text = Vec::new(alloc);
-    let Ok(mut piece) = empty_piece(alloc) else {
-        return Err(TextFault::Memory);
-    };
     while text.len() < MOST_BYTES {
-        let room = PIECE.min(MOST_BYTES - text.len());
-        let buffer = &mut piece[..room];
-        match source.read_some(buffer) {
-            Ok(0) => return Ok(text),
-            Ok(count) => {
-                if text.extend_from_slice(&buffer[..count]).is_err() {
-                    return Err(TextFault::Memory);
-                }
+        let len = text.len();
+        let room = PIECE.min(MOST_BYTES - len);
+        if text.resize(len + room, 0).is_err() {
+            return Err(TextFault::Memory);
+        }
+        match source.read_some(&mut text[len..]) {
+            Ok(0) => {
+                text.truncate(len);
+                return Ok(text);
             }
+            Ok(count) => text.truncate(len + count),
             Err(Failed) => return Err(TextFault::Read),
         }
     }

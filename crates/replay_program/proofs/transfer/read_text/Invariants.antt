@@ -6,7 +6,6 @@ abbrev pub invariant-loop-text : goal.invariant-loop-text
 invariant-loop-text g l = record {
   taken : Consumes (g.S.Source.left l.initial.source) (g.S.Source.left l.source) l.text.items;
   bound : vec_len l.text ≤ 1073741825;
-  whole_piece : vec_len l.piece ≡ 65536;
   failures : g.S.Source.failures l.source ≡ g.S.Source.failures l.initial.source;
 }
 
