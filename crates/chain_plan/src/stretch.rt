@@ -1,5 +1,5 @@
 //! The roles of a stretch of a trace's places, found in one walk over it.
-ghost use Rattle.std.specs.Prelude.{◌≡◌, ◌<◌, ◌≤◌, ◌+◌, ◌-◌, ◌^◌, ◌&&◌, [], leb, true, length, min};
+ghost use Rattle.std.specs.Prelude.{◌≡◌, ◌<◌, ◌≤◌, ◌+◌, ◌-◌, ◌^◌, ◌&&◌, leb, true, length, min};
 ghost use Rattle.std.specs.Prelude.{IfOk, IfSome, Some};
 ghost use Rattle.std.specs.List.{slice_get};
 ghost use Rattle.trace_format.specs.Sides.{is_side_of};

@@ -6,7 +6,7 @@ ghost use Rattle.std.specs.Io.{ReadsAtMost, WritesAtMost};
 ghost use Rattle.std.specs.Io.KnownBytes.{Appends, Consumes, IsAtEnd, ReadConsumes, WriteAppends};
 ghost use Rattle.replay_program.specs.Transfer.{AppendsPart, ConsumesUpTo, took_some};
 
-use std::alloc::{AllocError, Global};
+use std::alloc::Global;
 use std::io::{Read, Write};
 
 /// A call of a reader or a writer failed.

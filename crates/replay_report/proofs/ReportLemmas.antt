@@ -1,7 +1,7 @@
 -- Texts that grow by a piece for each number or element, and the sizes that an image tells.
 use Rattle.std.proofs.Common.{◌≡◌, ℕ, ◌+◌, ◌-◌, ◌<◌, ◌≤◌, inl, inr, List, ◌++◌, All, append_assoc, drop, length, take, get_or, refl, ap, ◌∙◌, arith, Some}
 use Rattle.std.specs.List.{flat_map, range_with_len, slice_get}
-use Rattle.std.specs.Prelude.{Bool, true, false, ◌==◌, filter, [], ◌∷◌, Option, None}
+use Rattle.std.specs.Prelude.{Bool, true, false, filter, [], ◌∷◌, Option, None}
 use Rattle.std.proofs.lemmas.Bool.{cases_Bool, cases_lt, lt-leb, ne_eqb}
 use Rattle.std.proofs.Math.Seq.{take-add}
 use Rattle.std.proofs.lemmas.Grind.{flat_map-append}
@@ -14,8 +14,8 @@ use Rattle.op_meaning.specs.declared.reply.Reply.{Reply}
 use Rattle.world_parts.specs.World.{World}
 use Rattle.world_parts.specs.Image.{image_of, name_entry, all_paths}
 use Rattle.sqe_codec.specs.Answers.{each}
-use Rattle.replay_report.specs.Places.{is_step_of, places_of_ring}
-use Rattle.replay_report.specs.Report.{IsSized, action_line, data_text, entry_outcome, line, line_at, place_line, posting, step_line}
+use Rattle.replay_report.specs.Places.{is_step_of, line_at, places_of_ring}
+use Rattle.replay_report.specs.Report.{IsSized, action_line, data_text, entry_outcome, line, place_line, posting, step_line}
 
 -- one number more
 pub range_more : (n : ℕ) → range_with_len 0 (n + 1) ≡ range_with_len 0 n ++ n ∷ []

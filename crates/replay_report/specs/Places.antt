@@ -1,8 +1,11 @@
--- A view of code: the places of each ring, as lists of numbers.
+-- A view of code: the places of each ring, as lists of numbers, and what is looked up of them.
 use Rattle.std.specs.Prelude.{ℕ, ◌==◌, Bool, false, List, [], ◌∷◌, ◌++◌, length, map, filter, Option, Some, None, slice_set, slice_index_or, Vec}
 use Rattle.std.specs.Global.{Global}
-use Rattle.std.specs.List.{range_with_len}
+use Rattle.std.specs.List.{range_with_len, slice_get}
 use Rattle.trace_format.specs.declared.trace.Trace.{Trace}
+use Rattle.op_meaning.specs.declared.reply.Reply.{Reply}
+use Rattle.replay_report.specs.Report.{action_line}
+use Rattle.sqe_codec.specs.Answers.{each}
 use Rattle.trace_format.specs.Steps.{Action, Step, fill, places, step_at, submit}
 
 -- The numbers of a vector.
@@ -41,3 +44,7 @@ user_data_of (Some step) = submitted step.action
 
 abbrev pub user_data_at : Trace → ℕ → Option ℕ
 user_data_at t place = user_data_of (step_at t place)
+
+-- The line of a place, of whatever ring.
+abbrev pub line_at : Trace → List Reply → ℕ → List ℕ
+line_at t replies place = each (λ step. each (action_line place step.action) (slice_get replies place)) (step_at t place)

@@ -49,10 +49,6 @@ abbrev pub action_line : ℕ → Action → Reply → List ℕ
 action_line place (submit entry) reply = entry_line place entry.sqe.user_data reply
 action_line place (fill buffer offset bytes) reply = []
 
--- The line of a place, of whatever ring.
-abbrev pub line_at : Trace → List Reply → ℕ → List ℕ
-line_at t replies place = each (λ step. each (action_line place step.action) (slice_get replies place)) (step_at t place)
-
 -- The line of a step, where it is one of the ring.
 abbrev pub step_line : ℕ → ℕ → Step → Reply → List ℕ
 step_line ring place step reply = if step.ring == ring then action_line place step.action reply else []

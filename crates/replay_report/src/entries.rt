@@ -4,8 +4,8 @@ ghost use Rattle.std.specs.Fmt.{decimal};
 ghost use Rattle.std.specs.List.{flat_map, range_with_len};
 ghost use Rattle.std.proofs.Common.{get_or};
 ghost use Rattle.trace_format.specs.Steps.{places};
-ghost use Rattle.replay_report.specs.Places.{places_of_ring, user_data_at};
-ghost use Rattle.replay_report.specs.Report.{entry_line, line, line_at, ring_lines};
+ghost use Rattle.replay_report.specs.Places.{line_at, places_of_ring, user_data_at};
+ghost use Rattle.replay_report.specs.Report.{entry_line, line, ring_lines};
 
 use crate::entry_line::{SHOWN, push_line};
 use crate::places::PlacesByRing;

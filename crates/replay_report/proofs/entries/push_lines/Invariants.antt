@@ -1,6 +1,6 @@
 use Rattle.std.proofs.Common.{◌≡◌, ◌++◌, take}
 use Rattle.std.specs.List.{flat_map}
-use Rattle.replay_report.specs.Report.{line_at}
+use Rattle.replay_report.specs.Places.{line_at}
 use Rattle.replay_report.proofs.entries.push_lines.Given as goal
 
 abbrev pub invariant-loop-i : goal.invariant-loop-i

@@ -1,9 +1,10 @@
-use Rattle.std.proofs.Common.{◌≡◌, ◌∙◌, ◌+◌, ◌-◌, ◌<◌, ap, ◌++◌, drop, get_or, take, append_assoc, arith}
+use Rattle.std.proofs.Common.{◌∙◌, ◌+◌, ◌-◌, ◌<◌, ap, ◌++◌, drop, append_assoc, arith}
 use Rattle.std.specs.List.{flat_map, range_with_len}
-use Rattle.std.proofs.lemmas.List.{get_or-drop, get_or-take, length-take-le, take_all}
+use Rattle.std.proofs.lemmas.List.{get_or-drop, get_or-take, take_all}
 use Rattle.op_meaning.proofs.Moved.{length-taken}
 use Rattle.trace_format.specs.Steps.{places}
-use Rattle.replay_report.specs.Report.{line_at, place_line}
+use Rattle.replay_report.specs.Places.{line_at}
+use Rattle.replay_report.specs.Report.{place_line}
 use Rattle.replay_report.proofs.PlacesLemmas.{listed_within}
 use Rattle.replay_report.proofs.ReportLemmas.{lists_grown, ring_lines-listed}
 use Rattle.replay_report.proofs.entries.push_ring.Goals as goal
@@ -11,7 +12,7 @@ use Rattle.replay_report.proofs.entries.push_ring.Goals as goal
 pub push_lines-requires-clause-places : goal.push_lines-requires-clause-places
 push_lines-requires-clause-places c = λ k d lt.
     let few : k < c.min-end.result - c.loop-done.done =
-        omega (arith, lt, length-taken c.args.ring_places.now c.loop-done.done (c.min-end.result - c.loop-done.done)) in
+    omega (arith, lt, length-taken c.args.ring_places.now c.loop-done.done (c.min-end.result - c.loop-done.done)) in
     rw (get_or-take (c.min-end.result - c.loop-done.done) (drop c.loop-done.done c.args.ring_places.now) k d few, get_or-drop c.loop-done.done c.args.ring_places.now k d)
     (listed_within c.args.trace.now c.args.ring c.args.ring_places.now (c.loop-done.done + k) d c.requires.places (omega (arith, few, c.min-end.ensures)))
 

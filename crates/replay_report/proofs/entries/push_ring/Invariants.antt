@@ -1,6 +1,6 @@
 use Rattle.std.proofs.Common.{◌≡◌, ◌≤◌, ◌-◌, ◌++◌, length, take}
 use Rattle.std.specs.List.{flat_map}
-use Rattle.replay_report.specs.Report.{line_at}
+use Rattle.replay_report.specs.Places.{line_at}
 use Rattle.replay_report.proofs.entries.push_ring.Given as goal
 
 abbrev pub invariant-loop-done : goal.invariant-loop-done
