@@ -33,8 +33,6 @@ SPARE = 6
 # The lists of the command line's words are made as large as they will be ahead of time; where that alone is refused, they
 # grow on their own. So are the lists of the lines of two reports, and of the words of each line.
 TRIED_AGAIN = 4
-# So is the list of the pages of a range that is shared, from which the library makes a map: in these runs one at most.
-SHARED_AGAIN = 1
 
 
 def growths(count: int, spare: int) -> List[int]:
@@ -51,7 +49,7 @@ def swept(shim: Shim, program: Program, words: Words, trace: str, is_from: bool)
     wanted = program.run(words, given)
     ample, (count, _, _, before_read) = shim.run(program, words, given)
     lacking = [fault("memory"), *([fault("thread")] if has_workers else [])]
-    faults, refusals, tried_again, shared_again = [], 0, 0, 0
+    faults, refusals, tried_again = [], 0, 0
     if ample != wanted:
         faults.append("with ample memory: {}".format(shown(ample)))
     for at in growths(count, SPARE if has_workers else 1):
@@ -62,8 +60,6 @@ def swept(shim: Shim, program: Program, words: Words, trace: str, is_from: bool)
             continue
         if is_early and got == wanted and tried_again < TRIED_AGAIN:
             tried_again += 1
-        elif refused > 0 and not is_from and got == wanted and shared_again < SHARED_AGAIN:
-            shared_again += 1
         elif got not in (lacking if refused else [wanted]):
             faults.append("growth {}: {}".format(at, shown(got)))
     if not refusals:

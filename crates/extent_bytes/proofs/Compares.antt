@@ -1,6 +1,6 @@
 -- Bytes compared.
-use Rattle.std.proofs.Common.{IsSome, ◌≡◌, ℕ, ◌+◌, ◌-◌, ◌*◌, ◌/◌, ◌<◌, ◌≤◌, ◌↔◌, List, Bool, length, take, drop, get_or, replicate, arith, sym, ◌∙◌, ap, min, max, Some, None}
-use Rattle.std.specs.Prelude.{◌∷◌, IsTrue, All, nat_eq}
+use Rattle.std.proofs.Common.{IsSome, ◌≡◌, ℕ, ◌+◌, ◌-◌, ◌*◌, ◌/◌, ◌<◌, ◌≤◌, ◌↔◌, List, Bool, length, take, drop, get_or, replicate, arith, sym, ◌∙◌, ap, min, max, Some}
+use Rattle.std.specs.Prelude.{IsTrue, All, nat_eq}
 use Rattle.std.specs.Cmp.Lexicographic.{pointwise}
 use Rattle.std.proofs.lemmas.Bool.Decides.{Decides-eqb}
 use Rattle.std.proofs.lemmas.Slice.Eq.{slice_eq-Decides}
@@ -10,7 +10,6 @@ use Rattle.extent_bytes.specs.Pages.{StoredAgree, PageMap, page_of, byte_at, byt
 use Rattle.extent_bytes.proofs.ExtentFacts.{bytes_from-is, get_or-bytes_from}
 use Rattle.extent_bytes.proofs.Lists.{get_or-part, length-part}
 use Rattle.extent_bytes.proofs.PageFacts.{byte_at-stored}
-use Rattle.extent_bytes.proofs.Passes.{among_rest, page_among}
 
 -- bytes of a page against others, where the page is there
 pub part_holds : (f : ℕ → ℕ) (at n : ℕ) (xs bs : List ℕ) (r : Bool) → n ≡ length bs → xs ≡ bytes_from f at n → r ≡ pointwise nat_eq xs bs → IsTrue r ↔ HoldsAt f at bs
@@ -44,12 +43,13 @@ part_agrees other k start end target from to page long first last forward a b =
     )
 
 -- the stored pages that were compared agree, and then the next one
-pub agree_more : (m : PageMap) (other : ℕ → ℕ) (start end target number : ℕ) (page : List ℕ) (es t : List (ℕ × List ℕ)) → es ≡ (number, page) ∷ t → page_of m number ≡ Some page
+pub agree_more : (m : PageMap) (other : ℕ → ℕ) (start end target at last number : ℕ) (page : List ℕ) → page_of m number ≡ Some page → number < last
+    → ((j : ℕ) → at ≤ j → j < last → IsSome (page_of m j) → number ≤ j)
     → PageAgrees page number start end other target
-    → ((i : ℕ) → start + i < end → page_among es ((start + i) / 4096) ≡ None → IsSome (page_of m ((start + i) / 4096)) → other (target + i) ≡ byte_at m (start + i))
-    → (i : ℕ) → start + i < end → page_among t ((start + i) / 4096) ≡ None → IsSome (page_of m ((start + i) / 4096)) → other (target + i) ≡ byte_at m (start + i)
-agree_more m other start end target number page es t e stored agrees before i l none s =
-    grind (arith, stored, s, agrees i, before i, byte_at-stored, among_rest ((start + i) / 4096) number page es t e)
+    → ((i : ℕ) → start + i < end → (start + i) / 4096 < at → IsSome (page_of m ((start + i) / 4096)) → other (target + i) ≡ byte_at m (start + i))
+    → (i : ℕ) → start + i < end → (start + i) / 4096 < number + 1 → IsSome (page_of m ((start + i) / 4096)) → other (target + i) ≡ byte_at m (start + i)
+agree_more m other start end target at last number page stored below least agrees before i l h s =
+    grind (arith, stored, s, agrees i, before i, byte_at-stored, least ((start + i) / 4096))
 
 -- one stored page agrees if all do
 pub agree_at : (m : PageMap) (other : ℕ → ℕ) (start end target k : ℕ) (page : List ℕ) → page_of m k ≡ Some page → StoredAgree m start end other target → PageAgrees page k start end other target

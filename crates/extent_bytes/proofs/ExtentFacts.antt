@@ -1,10 +1,10 @@
 -- The list of bytes that stored pages stand for, after each kind of change.
-use Rattle.std.proofs.Common.{◌≡◌, ℕ, ◌+◌, ◌-◌, ◌*◌, ◌/◌, ◌%◌, ◌<◌, ◌≤◌, List, ◌++◌, [], length, take, drop, get_or, replicate, min, max, arith, sym, ◌∙◌, ap, refl}
+use Rattle.std.proofs.Common.{None, ◌≡◌, ℕ, ◌+◌, ◌-◌, ◌*◌, ◌/◌, ◌%◌, ◌<◌, ◌≤◌, List, ◌++◌, [], length, take, drop, get_or, replicate, min, max, arith, sym, ◌∙◌, ap, refl}
 use Rattle.std.proofs.lemmas.List.{length-append, length-take, length-replicate, get_or-replicate, get_or_append_left, get_or-append_right, get_or-take, get_or_past}
 use Rattle.std.proofs.lemmas.List.FromFn.{length-map-range_with_len, get_or-map-range_with_len}
 use Rattle.std.proofs.lemmas.Grind.{same_number_lists}
 use Rattle.extent_bytes.specs.Bytes.{overwritten, zeroed, resized, range_of}
-use Rattle.extent_bytes.specs.Pages.{PageMap, byte_at, bytes_from, bytes_of, SameBytes, SameBelow, SameRange, StoredAgree, Overlaid, WrittenAt}
+use Rattle.extent_bytes.specs.Pages.{page_of, PageMap, byte_at, bytes_from, bytes_of, SameBytes, SameBelow, SameRange, StoredAgree, Overlaid, WrittenAt}
 use Rattle.extent_bytes.proofs.Outcomes.{some_or_none}
 use Rattle.extent_bytes.proofs.Lists.{get_or-overwritten_above, get_or-overwritten_below, get_or-overwritten_inside, get_or-part, length-overwritten_within, length-part, zeroed_within}
 use Rattle.extent_bytes.proofs.Lengths.{length-overwritten}
@@ -94,7 +94,7 @@ bytes_of-zeroed m n s len lo hi h k o =
     ∙ sym (zeroed_within _ lo hi h (omega (arith, l)))
 
 -- all pages gone
-pub bytes_of-cleared : (m n : PageMap) (s len lo hi : ℕ) → lo ≡ 0 → hi ≡ len → n.entries ≡ [] → bytes_of n s len ≡ zeroed (bytes_of m s len) lo hi
+pub bytes_of-cleared : (m n : PageMap) (s len lo hi : ℕ) → lo ≡ 0 → hi ≡ len → ((j : ℕ) → page_of n j ≡ None) → bytes_of n s len ≡ zeroed (bytes_of m s len) lo hi
 bytes_of-cleared m n s len lo hi z h e =
     let l = length-bytes_of m s len in
     let k = length-replicate {A = ℕ} (hi - lo) 0 in

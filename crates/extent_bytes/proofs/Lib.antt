@@ -4,6 +4,7 @@ pub mod Kept
 pub mod Lists
 pub mod Whole
 pub mod PageFacts
+pub mod Puts
 pub mod NextPage
 pub mod Passes
 pub mod Overlays

@@ -1,18 +1,28 @@
 -- Ranges of pages as maps of their own.
-use Rattle.std.proofs.Common.{refl, get_or, Some, List, ◌≡◌, ℕ, ◌+◌, ◌-◌, ◌*◌, ◌/◌, ◌%◌, ◌<◌, ◌≤◌, arith, sym, ◌∙◌, ap, min, max, None}
-use Rattle.std.specs.Prelude.{◌∷◌}
+use Rattle.std.proofs.Common.{refl, get_or, Some, List, ◌≡◌, ℕ, ◌+◌, ◌-◌, ◌*◌, ◌/◌, ◌%◌, ◌<◌, ◌≤◌, arith, sym, ◌∙◌, ap, min, max, None, ⊎_elim}
+use Rattle.std.proofs.lemmas.Bool.{cases_lt}
 use Rattle.extent_bytes.specs.Pages.{PageMap, page_of, byte_at, SameRange, Overlaid}
-use Rattle.extent_bytes.proofs.PageFacts.{byte_at-stored}
-use Rattle.extent_bytes.proofs.Passes.{among_rest, page_among}
+use Rattle.extent_bytes.proofs.PageFacts.{byte_at-none, byte_at-stored}
 use Rattle.extent_bytes.proofs.Overlays.{overlaid_to}
 
+-- a page that is not stored is zeros, which lie there already
+pub moved_before : (pages a : PageMap) (start end target at bound : ℕ) → ((j : ℕ) → at ≤ j → j < bound → page_of pages j ≡ None)
+    → ((i : ℕ) → i < end - start → (start + i) / 4096 < at → byte_at a (target + i) ≡ byte_at pages (start + i))
+    → ((i : ℕ) → at ≤ (start + i) / 4096 → byte_at a (target + i) ≡ 0)
+    → (i : ℕ) → i < end - start → (start + i) / 4096 < bound → byte_at a (target + i) ≡ byte_at pages (start + i)
+moved_before pages a start end target at bound none done blank i l h =
+    ⊎_elim
+    (λ (q : (start + i) / 4096 < at). done i l q)
+    (λ (q : at ≤ (start + i) / 4096). blank i q ∙ sym (byte_at-none pages (start + i) (none ((start + i) / 4096) q h)))
+    (cases_lt ((start + i) / 4096) at)
+
 -- one more page is moved
-pub moved_step : (pages a b : PageMap) (start end target number : ℕ) (page : List ℕ) (es t : List (ℕ × List ℕ)) → es ≡ (number, page) ∷ t
-    → ((i : ℕ) → i < end - start → page_among es ((start + i) / 4096) ≡ None → byte_at a (target + i) ≡ byte_at pages (start + i))
+pub moved_step : (pages a b : PageMap) (start end target number : ℕ)
+    → ((i : ℕ) → i < end - start → (start + i) / 4096 < number → byte_at a (target + i) ≡ byte_at pages (start + i))
     → Overlaid a b (target + (max start (number * 4096) - start)) (target + (min end (number * 4096 + 4096) - start)) (λ p. byte_at pages (start + (p - target)))
-    → (i : ℕ) → i < end - start → page_among t ((start + i) / 4096) ≡ None → byte_at b (target + i) ≡ byte_at pages (start + i)
-moved_step pages a b start end target number page es t e done o i l none =
-    grind (arith, o.inside (target + i), o.below (target + i), o.above (target + i), done i, among_rest ((start + i) / 4096) number page es t e)
+    → (i : ℕ) → i < end - start → (start + i) / 4096 < number + 1 → byte_at b (target + i) ≡ byte_at pages (start + i)
+moved_step pages a b start end target number done o i l h =
+    grind (arith, o.inside (target + i), o.below (target + i), o.above (target + i), done i)
 
 -- the bytes of a stored page are the map's
 pub overlaid_stored : (m a b : PageMap) (k start end target : ℕ) (page : List ℕ) → page_of m k ≡ Some page → start ≤ end

@@ -1,7 +1,7 @@
 -- What is known of a value by its variant.
-use Rattle.std.proofs.Common.{◌≡◌, ◌⊎◌, inl, inr, List, sym, ◌∙◌, subst, refl, Some, None, false}
+use Rattle.std.proofs.Common.{◌≡◌, ◌⊎◌, inl, inr, List, sym, ◌∙◌, subst, refl, Some, None, false, true}
 use Rattle.std.specs.Prelude.{OnOk, OnErr, IsSome, Result, Ok, Err, Option}
-use Rattle.std.specs.Prelude.{is_some, is_ok, if◌then◌else◌}
+use Rattle.std.specs.Prelude.{is_some, is_ok, if◌then◌else◌, Bool, IfNone, not}
 
 pub err_of : {T E : Type 0} {P : Type 0} (r : Result T E) → P → OnErr r P
 err_of (Ok x) h = tt
@@ -10,6 +10,10 @@ err_of (Err e) h = h
 pub ok_of : {T E : Type 0} {P : Type 0} (r : Result T E) → P → OnOk r P
 ok_of (Ok x) h = h
 ok_of (Err e) h = tt
+
+pub on_ok_both : {T E P Q S : Type 0} (r : Result T E) → (P → Q → S) → OnOk r P → OnOk r Q → OnOk r S
+on_ok_both (Ok x) f p q = f p q
+on_ok_both (Err e) f p q = tt
 
 pub some_or_none : {X : Type 0} (o : Option X) → IsSome o ⊎ (o ≡ None)
 some_or_none None = inr refl
@@ -25,6 +29,10 @@ none_is (Some x) h = absurd (h refl)
 pub none_of : {X : Type 0} (o : Option X) → is_some o ≡ false → o ≡ None
 none_of None h = refl
 none_of (Some x) h = cc
+
+pub at_none : {X : Type 0} {P : Type 0} (o : Option X) (b : Bool) → is_some o ≡ not b → b ≡ true → IfNone o P → P
+at_none None b e t p = p
+at_none (Some x) b e t p = absurd (cc (e, t))
 
 pub some_not_none : {X : Type 0} (P : Type 0) (o : Option X) → o ≡ None → IsSome o → P
 some_not_none P None e s = cc

@@ -1,8 +1,10 @@
 -- A view of code: the bytes that stored pages of 4,096 bytes stand for.
 use Rattle.std.specs.Prelude.{◌≡◌, ℕ, ◌+◌, ◌-◌, ◌*◌, ◌/◌, ◌%◌, ◌<◌, ◌≤◌, max, min, List, Option, None, Some, IsSome, map, length, replicate, slice_get, slice_index}
-use Rattle.std.specs.BTreeMap.{BTreeMap, get}
+use Rattle.std.specs.BTreeMap.{get}
 use Rattle.std.specs.List.{range_with_len}
+use Rattle.std.specs.Option.{option_or}
 use Rattle.std.specs.Ordering.{nat_cmp}
+use Rattle.extent_bytes.specs.declared.pages.Pages.{Pages}
 
 -- A page of zeros.
 unfoldable pub blank_page : List ℕ
@@ -10,16 +12,20 @@ blank_page = replicate 4096 0
 
 -- Pages by their numbers.
 abbrev pub PageMap : Type 0
-PageMap = BTreeMap ℕ (List ℕ)
+PageMap = Pages
 
 -- The byte at i of a page, where a page that is not there is zeros.
 abbrev pub page_byte : Option (List ℕ) → ℕ → ℕ
 page_byte None i = 0
 page_byte (Some page) i = slice_index page i
 
--- The page of a number.
+-- The page of a number: the one in front, and else the map's.
 abbrev pub page_of : PageMap → ℕ → Option (List ℕ)
-page_of pages number = get nat_cmp pages number
+page_of pages number = option_or (slice_get pages.front.items number) (get nat_cmp pages.rest number)
+
+-- Both have the same page of each number.
+abbrev pub SamePages : PageMap → PageMap → Type 0
+SamePages old new = (j : ℕ) → page_of new j ≡ page_of old j
 
 -- The byte at a position p: page p / 4096 holds it, at p % 4096.
 unfoldable pub byte_at : PageMap → ℕ → ℕ
@@ -44,6 +50,16 @@ SameBytes old new = (p : ℕ) → byte_at new p ≡ byte_at old p
 -- Both have the same byte at each position below a bound.
 abbrev pub SameBelow : PageMap → PageMap → ℕ → Type 0
 SameBelow old new bound = (p : ℕ) → p < bound → byte_at new p ≡ byte_at old p
+
+-- Each page of a patch has a place, so many behind the first as its number says, if that is below the end.
+abbrev pub HasRoom : (ℕ → Option (List ℕ)) → PageMap → ℕ → ℕ → Type 0
+HasRoom patch pages first end = (j : ℕ) → first + j < end → IsSome (patch j) → IsSome (page_of pages (first + j))
+
+-- Each page of a patch has taken that place, and the others are as they were.
+pub record Adopted (patch : ℕ → Option (List ℕ)) (old new : PageMap) (first end : ℕ) : Type 0 where
+  pub taken : (j : ℕ) → first + j < end → page_of new (first + j) ≡ option_or (patch j) (page_of old (first + j))
+  pub below : (j : ℕ) → j < first → page_of new j ≡ page_of old j
+  pub above : (j : ℕ) → end ≤ j → page_of new j ≡ page_of old j
 
 -- The bytes from one position on are those of another map from another position on.
 abbrev pub SameRange : PageMap → ℕ → PageMap → ℕ → ℕ → Type 0

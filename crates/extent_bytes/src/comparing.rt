@@ -4,8 +4,9 @@ ghost use Rattle.extent_bytes.specs.Kept.{byte_held};
 ghost use Rattle.extent_bytes.specs.Pages.{HoldsAt, PageAgrees, StoredAgree};
 
 use crate::page::{PAGE_SIZE, Page, is_blank};
-use crate::page_map::{PAGE, Pages};
+use crate::page_map::PAGE;
 use crate::paged::Paged;
+use crate::pages::Pages;
 
 // Whether the bytes are those of one page, from a place in it on.
 fn page_holds(pages: &Paged<'_>, number: u64, offset: usize, bytes: &[u8]) -> bool
@@ -77,10 +78,12 @@ pub(crate) fn stored_agree(
         (byte_held other.now) other_start }
 {
     let last = end.div_ceil(PAGE);
-    for (number, page) in pages.range(start / PAGE..last) {
-        if !page_agrees(page, *number, start, end, other, other_start) {
+    let mut at = start / PAGE;
+    while let Some((number, page)) = pages.next(at, last) {
+        if !page_agrees(page, number, start, end, other, other_start) {
             return false;
         }
+        at = number + 1;
     }
     true
 }

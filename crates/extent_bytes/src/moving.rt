@@ -3,9 +3,9 @@ ghost use Rattle.std.specs.Prelude.{◌≡◌, ℕ, ◌+◌, ◌-◌, ◌*◌, �
 ghost use Rattle.extent_bytes.specs.Pages.{page_of, SameRange, PageMoved};
 
 use crate::page::Page;
-use crate::page_map::{PAGE, Pages, put_range};
+use crate::page_map::{PAGE, put_range};
+use crate::pages::Pages;
 use std::alloc::{AllocError, Global};
-use std::collections::BTreeMap;
 
 // The pages from `from` up to `to`, numbered from 0. They are shared and not copied.
 pub(crate) fn shared(pages: &Pages, alloc: Global, from: u64, to: u64) -> Result<Pages, AllocError>
@@ -13,11 +13,13 @@ pub(crate) fn shared(pages: &Pages, alloc: Global, from: u64, to: u64) -> Result
     ensures { IfOk result (λ part.
         (j : ℕ) → from + j < to → page_of part j ≡ page_of pages.now (from + j)) }
 {
-    let mut part = Vec::new(alloc);
-    for (number, page) in pages.range(from..to) {
-        part.push((*number - from, page.clone()?))?;
+    let mut part = Pages::new(alloc);
+    let mut at = from;
+    while let Some((number, page)) = pages.next(at, to) {
+        part.add(number - from, page.clone()?)?;
+        at = number + 1;
     }
-    part.into_iter().collect(alloc)
+    Ok(part)
 }
 
 // The bytes of the page of a number that lie from `start` up to `end`, written from `target` on.
@@ -57,10 +59,12 @@ fn moved(
     requires near { target < 4096 }
     ensures { IfOk result (λ moved. SameRange pages.now start moved target (end - start)) }
 {
-    let mut moved = BTreeMap::new(alloc);
+    let mut moved = Pages::new(alloc);
     let last = end.div_ceil(PAGE);
-    for (number, page) in pages.range(start / PAGE..last) {
-        move_page(&mut moved, alloc, page, *number, start, end, target)?;
+    let mut at = start / PAGE;
+    while let Some((number, page)) = pages.next(at, last) {
+        move_page(&mut moved, alloc, page, number, start, end, target)?;
+        at = number + 1;
     }
     Ok(moved)
 }

@@ -1,14 +1,14 @@
 // Bytes put over a range of a map of pages. After a refusal of memory the bytes are as they were.
 ghost use Rattle.std.specs.Prelude.{◌≡◌, ℕ, ◌+◌, ◌-◌, ◌*◌, ◌/◌, ◌<◌, ◌≤◌, ◌^◌, min};
-ghost use Rattle.std.specs.Prelude.{◌≢◌, length, slice_index, None, Some, IsSome, IsTrue};
+ghost use Rattle.std.specs.Prelude.{length, slice_index, None, IsSome, IsTrue};
 ghost use Rattle.std.specs.Prelude.{OnOk, OnErr};
-ghost use Rattle.extent_bytes.specs.Pages.{page_of, byte_at, blank_page, SameBytes};
+ghost use Rattle.extent_bytes.specs.Pages.{page_of, byte_at, blank_page, SameBytes, SamePages};
 ghost use Rattle.extent_bytes.specs.Pages.{SameBelow, Overlaid, WrittenAt, Completed};
 
 use crate::page::{PAGE_SIZE, Page};
-use crate::page_map::{PAGE, Pages, copy_bytes, next_page, put_bytes, put_range};
+use crate::page_map::{PAGE, copy_bytes, put_range};
+use crate::pages::Pages;
 use std::alloc::{AllocError, Global};
-use std::collections::BTreeMap;
 
 // Writes what surrounds the range in its first and its last page into the patch, whose page 0 is
 // page `first`.
@@ -46,8 +46,8 @@ fn reserve(pages: &mut Pages, number: u64, blank: &Page) -> Result<(), AllocErro
     ensures keeps { (j : ℕ) → IsSome (page_of pages.old j) → IsSome (page_of pages.new j) }
     ensures ok { OnOk result (IsSome (page_of pages.new number)) }
 {
-    if !pages.contains_key(&number) {
-        pages.insert(number, blank.clone()?)?;
+    if pages.get(number).is_none() {
+        pages.add(number, blank.clone()?)?;
     }
     Ok(())
 }
@@ -57,14 +57,12 @@ fn is_full(pages: &Pages, first: u64, end: u64) -> bool
     requires { first ≤ end }
     ensures { IsTrue result → (j : ℕ) → first ≤ j → j < end → IsSome (page_of pages.now j) }
 {
-    let mut next = first;
-    for (number, _) in pages.range(first..end) {
-        if *number != next {
+    for number in first..end {
+        if pages.get(number).is_none() {
             return false;
         }
-        next += 1;
     }
-    next == end
+    true
 }
 
 // Has a page stored wherever the patch has one.
@@ -80,19 +78,22 @@ fn make_room(
     ensures ok { OnOk result ((j : ℕ) → first + j < end →
         IsSome (page_of patch.now j) → IsSome (page_of pages.new (first + j))) }
 {
-    if patch.is_empty() || is_full(pages, first, end) {
+    if patch.next(0, end - first).is_none() || is_full(pages, first, end) {
         return Ok(());
     }
     let blank = Page::blank(alloc)?;
-    for (number, _) in patch.range(0..end - first) {
-        reserve(pages, first + *number, &blank)?;
+    let mut at = 0;
+    while let Some((number, _)) = patch.next(at, end - first) {
+        reserve(pages, first + number, &blank)?;
+        at = number + 1;
     }
     Ok(())
 }
 
 // Takes those pages from `first` up to `end` away that the patch lacks.
 fn remove_others(pages: &mut Pages, patch: &Pages, first: u64, end: u64)
-    requires { first ≤ end }
+    requires forward { first ≤ end }
+    requires short { length pages.old.front.items ≤ first }
     ensures gone { (j : ℕ) → first + j < end →
         page_of patch.now j ≡ None → page_of pages.new (first + j) ≡ None }
     ensures kept { (j : ℕ) → IsSome (page_of patch.now j) →
@@ -101,46 +102,31 @@ fn remove_others(pages: &mut Pages, patch: &Pages, first: u64, end: u64)
     ensures above { (j : ℕ) → end ≤ j → page_of pages.new j ≡ page_of pages.old j }
 {
     let mut at = first;
-    while let Some(number) = next_page(pages, at, end) {
-        if !patch.contains_key(&(number - first)) {
-            pages.remove(&number);
+    while let Some((number, _)) = pages.next(at, end) {
+        if patch.get(number - first).is_none() {
+            pages.remove(number);
         }
         at = number + 1;
     }
 }
 
-// Puts the patch's page of a number in its place, if that is below `end`.
-fn adopt_page(pages: &mut Pages, first: u64, end: u64, number: u64, page: Page)
-    requires forward { first ≤ end }
-    requires room { first + number < end → IsSome (page_of pages.old (first + number)) }
-    ensures taken { first + number < end → page_of pages.new (first + number) ≡ Some page }
-    ensures others { (j : ℕ) → j ≢ first + number → page_of pages.new j ≡ page_of pages.old j }
-    ensures above { (j : ℕ) → end ≤ j → page_of pages.new j ≡ page_of pages.old j }
+// Takes those pages from `first` up to `end` away that the patch lacks, where it lacks any.
+fn clear_others(pages: &mut Pages, patch: &Pages, first: u64, end: u64) -> Result<(), AllocError>
+    requires { first ≤ end }
+    ensures gone { OnOk result ((j : ℕ) → first + j < end →
+        page_of patch.now j ≡ None → page_of pages.new (first + j) ≡ None) }
+    ensures kept { OnOk result ((j : ℕ) → IsSome (page_of patch.now j) →
+        page_of pages.new (first + j) ≡ page_of pages.old (first + j)) }
+    ensures below { OnOk result ((j : ℕ) → j < first → page_of pages.new j ≡ page_of pages.old j) }
+    ensures above { OnOk result ((j : ℕ) → end ≤ j → page_of pages.new j ≡ page_of pages.old j) }
+    ensures err { OnErr result (SamePages pages.old pages.new) }
 {
-    if end - first <= number {
-        return;
+    if is_full(patch, 0, end - first) {
+        return Ok(());
     }
-    if let Some(place) = pages.get_mut(&(first + number)) {
-        *place = page;
-    }
-}
-
-// Puts the patch's pages in place of those from `first` up to `end`. It takes no memory, since each
-// has its place already.
-fn adopt(pages: &mut Pages, patch: Pages, first: u64, end: u64)
-    requires forward { first ≤ end }
-    requires room { (j : ℕ) → first + j < end →
-        IsSome (page_of patch j) → IsSome (page_of pages.old (first + j)) }
-    ensures taken { (j : ℕ) → first + j < end → page_of pages.new (first + j) ≡ page_of patch j }
-    ensures below { (j : ℕ) → j < first → page_of pages.new j ≡ page_of pages.old j }
-    ensures above { (j : ℕ) → end ≤ j → page_of pages.new j ≡ page_of pages.old j }
-{
-    if !is_full(&patch, 0, end - first) {
-        remove_others(pages, &patch, first, end);
-    }
-    for (number, page) in patch {
-        adopt_page(pages, first, end, number, page);
-    }
+    pages.shorten_front(first)?;
+    remove_others(pages, patch, first, end);
+    Ok(())
 }
 
 // Puts the bytes of the patch, whose page 0 is the page of `lo`, over the range from `lo` up to
@@ -174,7 +160,8 @@ pub(crate) fn overlay(
     complete(pages, alloc, &mut patch, lo, hi)?;
     let end = hi.div_ceil(PAGE);
     make_room(pages, alloc, &patch, first, end)?;
-    adopt(pages, patch, first, end);
+    clear_others(pages, &patch, first, end)?;
+    pages.adopt(patch, first, end);
     Ok(())
 }
 
@@ -191,7 +178,7 @@ pub(crate) fn zero_range(
     ensures err { OnErr result (SameBytes pages.old pages.new) }
 {
     if lo < hi {
-        overlay(pages, alloc, BTreeMap::new(alloc), lo, hi)?;
+        overlay(pages, alloc, Pages::new(alloc), lo, hi)?;
     }
     Ok(())
 }
@@ -210,9 +197,9 @@ fn replace_range(pages: &mut Pages, alloc: Global, at: u64, bytes: &[u8]) -> Res
     let first = at / PAGE;
     let offset = at % PAGE;
     if first == (hi - 1) / PAGE {
-        return put_bytes(pages, alloc, first, offset as usize, bytes);
+        return pages.write(alloc, first, offset as usize, bytes);
     }
-    let mut patch = BTreeMap::new(alloc);
+    let mut patch = Pages::new(alloc);
     put_range(&mut patch, alloc, offset, bytes)?;
     overlay(pages, alloc, patch, at, hi)
 }

@@ -1,5 +1,5 @@
 // A page of bytes. Several owners may share one, and each sees its own bytes.
-ghost use Rattle.std.specs.Prelude.{◌≡◌, ℕ, ◌+◌, ◌-◌, ◌≤◌, ◌↔◌, List, length};
+ghost use Rattle.std.specs.Prelude.{◌≡◌, ◌+◌, ◌-◌, ◌≤◌, ◌↔◌, length};
 ghost use Rattle.std.specs.Prelude.{replicate, IsTrue, All, IfOk, OnOk, OnErr};
 ghost use Rattle.extent_bytes.specs.Bytes.{overwritten};
 ghost use Rattle.extent_bytes.specs.Pages.{blank_page};
@@ -40,6 +40,8 @@ pub(crate) struct Page {
 }
 
 impl Model for Page {
+    ghost use Rattle.std.specs.Prelude.{ℕ, List};
+
     ghost Value = { List ℕ };
 
     ghost view = { λ p. p.bytes.value };

@@ -6,89 +6,11 @@ ghost use Rattle.std.specs.Prelude.{IfOk, OnOk, OnErr};
 ghost use Rattle.extent_bytes.specs.Pages.{page_of, bytes_of, PageWritten, PageCopied};
 ghost use Rattle.extent_bytes.specs.Pages.{SameBytes, SameBelow, Overlaid};
 
-use crate::page::{PAGE_SIZE, Page, is_blank};
+use crate::page::PAGE_SIZE;
+use crate::pages::Pages;
 use std::alloc::{AllocError, Global};
-use std::collections::BTreeMap;
-
-pub(crate) type Pages = BTreeMap<u64, Page>;
 
 pub(crate) const PAGE: u64 = PAGE_SIZE as u64;
-
-// The number of the first stored page from `from` on and below `to`.
-pub(crate) fn next_page(pages: &Pages, from: u64, to: u64) -> Option<u64>
-    requires { from ≤ to }
-    ensures stored { IfSome result (λ k. IsSome (page_of pages.now k)) }
-    ensures within { IfSome result (λ k. (from ≤ k) × (k < to)) }
-    ensures least { IfSome result (λ k.
-        (j : ℕ) → from ≤ j → j < to → IsSome (page_of pages.now j) → k ≤ j) }
-    ensures none { IfNone result ((j : ℕ) → from ≤ j → j < to → page_of pages.now j ≡ None) }
-{
-    if from == to {
-        return None;
-    }
-    match pages.range(from..to).next() {
-        Some((number, _)) => Some(*number),
-        None => None,
-    }
-}
-
-// Takes the pages from `from` up to `to` away.
-pub(crate) fn discard(pages: &mut Pages, from: u64, to: u64)
-    requires { from ≤ to }
-    ensures gone { (j : ℕ) → from ≤ j → j < to → page_of pages.new j ≡ None }
-    ensures below { (j : ℕ) → j < from → page_of pages.new j ≡ page_of pages.old j }
-    ensures above { (j : ℕ) → to ≤ j → page_of pages.new j ≡ page_of pages.old j }
-{
-    while let Some(number) = next_page(pages, from, to) {
-        pages.remove(&number);
-    }
-}
-
-// Writes the bytes into one page. Zeros are not stored where there is no page.
-#[inline(always)]
-pub(crate) fn put_bytes(
-    pages: &mut Pages,
-    alloc: Global,
-    number: u64,
-    at: usize,
-    bytes: &[u8],
-) -> Result<(), AllocError>
-    requires { at + length bytes.now ≤ PAGE_SIZE }
-    ensures ok { OnOk result
-        (PageWritten pages.old pages.new number at bytes.now) }
-    ensures err { OnErr result (SameBytes pages.old pages.new) }
-{
-    match pages.get_mut(&number) {
-        Some(page) => page.write(alloc, at, bytes),
-        None => {
-            if is_blank(bytes) {
-                return Ok(());
-            }
-            pages.insert(number, Page::new(alloc, at, bytes)?)?;
-            Ok(())
-        }
-    }
-}
-
-// Makes a part of one page zeros.
-fn clear_bytes(
-    pages: &mut Pages,
-    alloc: Global,
-    number: u64,
-    from: usize,
-    to: usize,
-) -> Result<(), AllocError>
-    requires forward { from ≤ to }
-    requires inside { to ≤ PAGE_SIZE }
-    ensures ok { OnOk result (Overlaid pages.old pages.new
-        (number * 4096 + from) (number * 4096 + to) (λ _. 0)) }
-    ensures err { OnErr result (SameBytes pages.old pages.new) }
-{
-    match pages.get_mut(&number) {
-        Some(page) => page.clear(alloc, from, to),
-        None => Ok(()),
-    }
-}
 
 // Writes a part of a page of another map into the same part of one page.
 pub(crate) fn copy_bytes(
@@ -109,12 +31,12 @@ pub(crate) fn copy_bytes(
     if from == to {
         return Ok(());
     }
-    match source.get(&source_number) {
+    match source.get(source_number) {
         Some(page) => {
             let bytes = page.as_slice();
-            put_bytes(pages, alloc, number, from, &bytes[from..to])
+            pages.write(alloc, number, from, &bytes[from..to])
         }
-        None => clear_bytes(pages, alloc, number, from, to),
+        None => pages.clear(alloc, number, from, to),
     }
 }
 
@@ -135,13 +57,7 @@ pub(crate) fn put_range(
         let position = at + done as u64;
         let offset = (position % PAGE) as usize;
         let count = (PAGE_SIZE - offset).min(bytes.len() - done);
-        put_bytes(
-            pages,
-            alloc,
-            position / PAGE,
-            offset,
-            &bytes[done..done + count],
-        )?;
+        pages.write(alloc, position / PAGE, offset, &bytes[done..done + count])?;
         done += count;
     }
     Ok(())
@@ -156,7 +72,7 @@ pub(crate) fn part_of_page(pages: &Pages, number: u64, from: usize, to: usize) -
     ensures none { IfNone result
         (bytes_of pages.now (number * 4096 + from) (to - from) ≡ replicate (to - from) 0) }
 {
-    match pages.get(&number) {
+    match pages.get(number) {
         Some(page) => {
             let stored = page.as_slice();
             Some(&stored[from..to])

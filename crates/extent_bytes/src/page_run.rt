@@ -7,8 +7,9 @@ ghost use Rattle.extent_bytes.specs.Pages.{page_of, byte_in, bytes_from, bytes_o
 
 use crate::comparing::page_agrees;
 use crate::page::Page;
-use crate::page_map::{PAGE, Pages};
+use crate::page_map::PAGE;
 use crate::paged::Paged;
+use crate::pages::Pages;
 use std::alloc::{AllocError, Global};
 use std::marker::Model;
 
@@ -52,7 +53,7 @@ fn stored_run(
     }
     let mut run = Vec::with_capacity(alloc, (to - from) as usize)?;
     for number in from..to {
-        match pages.get(&number) {
+        match pages.get(number) {
             Some(page) => run.push(page.clone()?)?,
             None => return Ok(None),
         }

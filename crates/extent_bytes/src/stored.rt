@@ -1,15 +1,15 @@
 // The stored pages of a list. Lists that have the same pages share the map of them.
 ghost use Rattle.std.specs.Prelude.{◌≡◌, ℕ, ◌+◌, ◌-◌, ◌*◌, ◌/◌, ◌<◌, ◌≤◌, ◌^◌};
-ghost use Rattle.std.specs.Prelude.{[], min, length, IfOk, OnOk, OnErr};
+ghost use Rattle.std.specs.Prelude.{None, min, length, IfOk, OnOk, OnErr};
 ghost use Rattle.extent_bytes.specs.Kept.{pages_in};
-ghost use Rattle.extent_bytes.specs.Pages.{page_of, byte_at, SameBytes};
+ghost use Rattle.extent_bytes.specs.Pages.{page_of, byte_at, SameBytes, SamePages};
 ghost use Rattle.extent_bytes.specs.Pages.{SameBelow, Overlaid, WrittenAt};
 
 use crate::moving::shared;
 use crate::overlaying::{overlay, write_range, zero_range};
-use crate::page_map::{PAGE, Pages, discard, next_page};
+use crate::page_map::PAGE;
+use crate::pages::Pages;
 use std::alloc::{AllocError, Global};
-use std::collections::BTreeMap;
 use std::mem;
 use std::sync::Arc;
 
@@ -28,9 +28,9 @@ pub(crate) enum Stored {
 impl Stored {
     // No pages.
     pub(crate) fn new(alloc: Global) -> Stored
-        ensures { (pages_in result).entries ≡ [] }
+        ensures { (j : ℕ) → page_of (pages_in result) j ≡ None }
     {
-        Stored::Own(BTreeMap::new(alloc))
+        Stored::Own(Pages::new(alloc))
     }
 
     pub(crate) fn pages(&self) -> &Pages
@@ -43,7 +43,7 @@ impl Stored {
     }
 
     pub(crate) fn into_pages(self) -> Result<Pages, AllocError>
-        ensures { IfOk result (λ pages. pages.entries ≡ (pages_in self).entries) }
+        ensures { IfOk result (λ pages. SamePages (pages_in self) pages) }
     {
         match self {
             Stored::Own(pages) => Ok(pages),
@@ -58,7 +58,7 @@ impl Stored {
             page_of (pages_in part) j ≡ page_of (pages_in self.now) (from + j)) }
     {
         match self {
-            Stored::Shared(pages) if from == 0 && next_page(pages, to, u64::MAX).is_none() => {
+            Stored::Shared(pages) if from == 0 && pages.next(to, u64::MAX).is_none() => {
                 Ok(Stored::Shared(Arc::try_clone(pages)?))
             }
             _ => Ok(Stored::Own(shared(self.pages(), alloc, from, to)?)),
@@ -73,7 +73,7 @@ impl Stored {
         if let Stored::Own(pages) = self
             && pages.len() > FEW
         {
-            let pages = mem::replace(pages, BTreeMap::new(alloc));
+            let pages = mem::replace(pages, Pages::new(alloc));
             *self = match Arc::new(alloc, pages) {
                 Ok(pages) => Stored::Shared(pages),
                 Err(refused) => Stored::Own(refused.value),
@@ -115,7 +115,7 @@ impl Stored {
         if lo == hi {
             return Ok(());
         }
-        let Some(_) = next_page(self.pages(), lo / PAGE, hi.div_ceil(PAGE)) else {
+        let Some(_) = self.pages().next(lo / PAGE, hi.div_ceil(PAGE)) else {
             return Ok(());
         };
         match self {
@@ -153,12 +153,12 @@ impl Stored {
             page_of (pages_in self.new) j ≡ page_of (pages_in self.old) j) }
         ensures err { OnErr result (SameBytes (pages_in self.old) (pages_in self.new)) }
     {
-        if next_page(self.pages(), from, u64::MAX).is_none() {
+        if self.pages().next(from, u64::MAX).is_none() {
             return Ok(());
         }
         match self {
-            Stored::Own(pages) => discard(pages, from, u64::MAX),
-            Stored::Shared(pages) => discard(Arc::make_mut(pages)?, from, u64::MAX),
+            Stored::Own(pages) => pages.truncate(from),
+            Stored::Shared(pages) => Arc::make_mut(pages)?.truncate(from),
         }
         Ok(())
     }

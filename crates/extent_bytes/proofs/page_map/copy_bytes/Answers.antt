@@ -15,15 +15,15 @@ returns-in-Some-clause-ok c =
     let page = c.in-Some.page.now in
     let long = c.as_slice-bytes.ensures.len in
     let back : k * 4096 + (from + (to - from)) ≡ k * 4096 + to = omega arith in
-    on_ok_weaker c.put_bytes.result
-    (overlaid_to c.args.pages.now c.put_bytes.new.pages _ _ (k * 4096 + from) (k * 4096 + to) _ _ refl (ap (λ n. k * 4096 + (from + n)) (length-part c.as_slice-bytes.result.now from to c.requires.forward (omega (arith, ap length c.as_slice-bytes.ensures.bytes))) ∙ back)
-    (λ p h l. get_or-part c.as_slice-bytes.result.now from to (p - (k * 4096 + from)) (p - k * 4096) (omega arith) (omega arith) ∙ ap (λ xs. get_or xs (p - k * 4096) 0) c.as_slice-bytes.ensures.bytes ∙ ap (λ o. page_byte o (p - k * 4096)) c.in-Some.ensures.value ∙ sym (byte_at-page source c.args.source_number (p - k * 4096) (omega arith))))
-    c.put_bytes.ensures.ok
+    on_ok_weaker c.write.result
+    (overlaid_to c.args.pages.now c.write.new.self _ _ (k * 4096 + from) (k * 4096 + to) _ _ refl (ap (λ n. k * 4096 + (from + n)) (length-part c.as_slice-bytes.result.now from to c.requires.forward (omega (arith, ap length c.as_slice-bytes.ensures.bytes))) ∙ back)
+    (λ p h l. get_or-part c.as_slice-bytes.result.now from to (p - (k * 4096 + from)) (p - k * 4096) (omega arith) (omega arith) ∙ ap (λ xs. get_or xs (p - k * 4096) 0) c.as_slice-bytes.ensures.bytes ∙ ap (λ o. page_byte o (p - k * 4096)) (sym c.in-Some.ensures.stored) ∙ sym (byte_at-page source c.args.source_number (p - k * 4096) (omega arith))))
+    c.write.ensures.ok
 
 pub returns-in-None-clause-ok : goal.returns-in-None-clause-ok
 returns-in-None-clause-ok c =
     let k = c.args.number in
-    on_ok_weaker c.clear_bytes.result
-    (overlaid_to c.args.pages.now c.clear_bytes.new.pages _ _ (k * 4096 + c.args.from) (k * 4096 + c.args.to) _ _ refl refl
-    (λ p h l. ap (λ o. page_byte o (p - k * 4096)) c.in-None.ensures.value ∙ sym (byte_at-page c.args.source.now c.args.source_number (p - k * 4096) (omega arith))))
-    c.clear_bytes.ensures.ok
+    on_ok_weaker c.clear.result
+    (overlaid_to c.args.pages.now c.clear.new.self _ _ (k * 4096 + c.args.from) (k * 4096 + c.args.to) _ _ refl refl
+    (λ p h l. ap (λ o. page_byte o (p - k * 4096)) (sym c.in-None.ensures.none) ∙ sym (byte_at-page c.args.source.now c.args.source_number (p - k * 4096) (omega arith))))
+    c.clear.ensures.ok

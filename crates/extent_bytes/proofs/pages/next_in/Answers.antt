@@ -1,5 +1,5 @@
 use Rattle.extent_bytes.proofs.NextPage.{first_is_least}
-use Rattle.extent_bytes.proofs.page_map.next_page.Goals as goal
+use Rattle.extent_bytes.proofs.pages.next_in.Goals as goal
 
 pub returns-in-Some-clause-least : goal.returns-in-Some-clause-least
 returns-in-Some-clause-least c = λ j h l s.
