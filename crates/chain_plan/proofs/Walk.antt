@@ -20,7 +20,7 @@ use Rattle.chain_plan.specs.declared.stretch.Chain.{Chain}
 use Rattle.chain_plan.specs.declared.stretch.Marks.{Marks}
 use Rattle.chain_plan.specs.declared.stretch.Linked.{Linked}
 use Rattle.chain_plan.specs.Plan.{roles}
-use Rattle.chain_plan.specs.Stretch.{IsApart, IsHeld, IsStretch, Roles, chains_ahead, end_of, roles_of}
+use Rattle.chain_plan.specs.Stretch.{AreFollowing, IsApart, IsHeld, IsStretch, Roles, chains_ahead, end_of, roles_of}
 use Rattle.chain_plan.specs.Walk.{marks_of, followed, member_after, no_members, with_member, counted, joined, link_from}
 
 -- the tests of the model
@@ -279,6 +279,15 @@ seen_apart t (suc k) s now none = by (is_linked t k) refl
     by true e = absurd (none-some _ (sym (rw (followed_is t k s now, e) at none)))
     by false e = e
 
+-- and one that follows another, which is the place before it
+seen_following : (t : Trace) (n : ℕ) (s : Step) → step_at t n ≡ Some s → is_some (followed (link_at t n) s.from_record) ≡ true → (k : ℕ) → suc k ≡ n → is_linked t k ≡ true
+seen_following t zero s now some k e = absurd (omega (arith, e))
+seen_following t (suc m) s now some k e = let d : k ≡ m = omega (arith, e) in rw d (by (is_linked t m) refl)
+  where
+    by : (b : Bool) → is_linked t m ≡ b → is_linked t m ≡ true
+    by true q = q
+    by false q = absurd (true≢false (sym (rw (followed_is t m s now, q) at some)))
+
 apart_follows : (t : Trace) (n : ℕ) (s : Step) → IsApart t n → step_at t n ≡ Some s → None ≡ followed (link_at t n) s.from_record
 apart_follows t zero s apart now = refl
 apart_follows t (suc k) s apart now = sym (followed_is t k s now ∙ rw apart refl)
@@ -423,6 +432,15 @@ module _ {t : Trace} {first n : ℕ} {ms : List Member} {cs : List Chain} {l : O
       by : (o : Option Member) → is_some o ≡ false → o ≡ None
       by None e = refl
       by (Some m) e = absurd (true≢false e)
+
+  -- and where it goes on past so many places it ends with none
+  pub goes_on : (from : ℕ) (s : Step) (a : Option Member) → step_at t n ≡ Some s → a ≡ followed l s.from_record → (from ≤ n → is_some a ≡ true) → AreFollowing t from n → AreFollowing t from (n + 1)
+  goes_on from s a now following goes before k least below = elim (cases_lt (suc k) n) [
+    | inl less ↦ before k least less
+    | inr reached ↦
+        let here : suc k ≡ n = omega (arith, below, reached) in
+        seen_following t n s now (ap is_some (sym (w.link s now) ∙ sym following) ∙ goes (omega (arith, least, here))) k here
+  ]
 
   -- where the walk ends with a chain, it has found the roles
   role_read : IsApart t n → (i : ℕ) → i < length ms → (d : Role) → get_or (map (joined before cs) ms) i d ≡ role t (first + i)

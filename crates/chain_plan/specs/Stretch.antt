@@ -1,5 +1,5 @@
 -- A view of code: the roles of places that follow one another, of whole chains.
-use Rattle.std.specs.Prelude.{ℕ, suc, zero, ◌≡◌, ◌+◌, ◌<◌, ◌≤◌, ◌^◌, List, Some, false, length, map}
+use Rattle.std.specs.Prelude.{ℕ, suc, zero, ◌≡◌, ◌+◌, ◌<◌, ◌≤◌, ◌^◌, List, Some, false, true, length, map}
 use Rattle.std.specs.List.{range_with_len, slice_get}
 use Rattle.trace_format.specs.declared.trace.Trace.{Trace}
 use Rattle.trace_format.specs.Steps.{places}
@@ -9,7 +9,7 @@ use Rattle.chain_plan.specs.declared.stretch.Chain.{Chain}
 use Rattle.chain_plan.specs.Chain.{chain_of, is_linked, role}
 use Rattle.chain_plan.specs.Walk.{joined}
 
--- Roles of places from a first one on, and how many chains end before the last of these places' end.
+-- Roles of places from a first one on, and how many chains there are up to the last of these.
 pub record Roles : Type 0 where
   pub first : ℕ
   pub chains : ℕ
@@ -28,6 +28,10 @@ chains_ahead t (suc k) = suc (chain_of t k)
 abbrev pub IsApart : Trace → ℕ → Type 0
 IsApart t zero = Unit
 IsApart t (suc k) = is_linked t k ≡ false
+
+-- Whether each place from one on, ahead of the end, follows the place before it.
+abbrev pub AreFollowing : Trace → ℕ → ℕ → Type 0
+AreFollowing t from end = (k : ℕ) → from ≤ suc k → suc k < end → is_linked t k ≡ true
 
 -- Whether these are the roles of places of a trace, up to the end of a chain.
 pub record IsStretch (t : Trace) (s : Roles) : Type 0 where

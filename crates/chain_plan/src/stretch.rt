@@ -7,7 +7,7 @@ ghost use Rattle.trace_format.specs.Steps.{places, step_meant, submit};
 ghost use Rattle.trace_format.specs.Text.{IsSpelled};
 ghost use Rattle.trace_format.specs.declared.entry.Entry.{Entry};
 ghost use Rattle.trace_format.specs.declared.trace.Trace.{Trace};
-ghost use Rattle.chain_plan.specs.Stretch.{IsStretch, end_of};
+ghost use Rattle.chain_plan.specs.Stretch.{AreFollowing, IsStretch, end_of};
 ghost use Rattle.chain_plan.specs.Walk.{marks_of, followed, member_after};
 ghost use Rattle.chain_plan.specs.Walk.{with_member, counted, link_from};
 ghost use Rattle.chain_plan.specs.declared.stretch.Chain.{Chain};
@@ -218,6 +218,8 @@ impl Stretch {
         ensures behind { IfOk result (λ s. s.first ≡ end_of self) }
         ensures least { IfOk result
             (λ s. min (s.first + least) (places trace.now) ≤ end_of s) }
+        ensures most { IfOk result
+            (λ s. AreFollowing trace.now (s.first + least) (end_of s)) }
     {
         let first = self.end();
         let chains_before = self.chains_before + self.chains.len() as u32;

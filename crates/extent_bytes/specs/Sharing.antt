@@ -6,4 +6,4 @@ use Rattle.extent_bytes.specs.declared.shared_pages.Sharing.TheVariants.{Run, Li
 -- the bytes
 abbrev pub shared_bytes : Sharing → List ℕ
 shared_bytes (Run bytes) = bytes
-shared_bytes (Listed bytes) = bytes
+shared_bytes (Listed list) = list.value

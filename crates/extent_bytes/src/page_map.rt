@@ -1,9 +1,8 @@
-// Stored pages by their numbers. Page k holds the bytes from 4,096 * k on, and one that is not
-// stored is zeros.
-ghost use Rattle.std.specs.Prelude.{◌≡◌, ℕ, ◌+◌, ◌-◌, ◌*◌, ◌<◌, ◌≤◌, ◌^◌, length};
-ghost use Rattle.std.specs.Prelude.{slice_index, replicate, None, IsSome, IfSome, IfNone};
+// Bytes of stored pages, by the number of their page and by their position.
+ghost use Rattle.std.specs.Prelude.{◌≡◌, ◌+◌, ◌-◌, ◌*◌, ◌<◌, ◌≤◌, ◌^◌, length};
+ghost use Rattle.std.specs.Prelude.{slice_index, replicate, None, IfSome, IfNone};
 ghost use Rattle.std.specs.Prelude.{IfOk, OnOk, OnErr};
-ghost use Rattle.extent_bytes.specs.Pages.{page_of, bytes_of, PageWritten, PageCopied};
+ghost use Rattle.extent_bytes.specs.Pages.{bytes_of, PageCopied};
 ghost use Rattle.extent_bytes.specs.Pages.{SameBytes, SameBelow, Overlaid};
 
 use crate::page::PAGE_SIZE;

@@ -76,7 +76,7 @@ impl ReadBytes {
             });
         }
         let front = list.read(lo, lo + FRONT as u64)?;
-        let list = SharedPages::of(list, lo, hi)?;
+        let list = SharedPages::of(alloc, list, lo, hi)?;
         let shared = Box::new(alloc, SharedBytes { list, front })?;
         Ok(ReadBytes {
             kept: Kept::Shared(shared),

@@ -12,8 +12,9 @@ use std::marker::Model;
 pub(crate) enum Sharing {
     // Each page that the bytes lie in is stored.
     Run(PageRun),
-    // Some are not, or the bytes are a whole list, which shares its map.
-    List(Extents),
+    // Some are not, or the bytes are a whole list, which shares its map. A list takes more than a
+    // run, and lies apart.
+    List(Box<Extents>),
 }
 
 // Bytes that share the pages that they were read from.
@@ -33,7 +34,12 @@ impl Model for SharedPages {
 
 impl SharedPages {
     // The bytes of a list from `lo` up to `hi`.
-    pub(crate) fn of(list: &Extents, lo: u64, hi: u64) -> Result<SharedPages, AllocError>
+    pub(crate) fn of(
+        alloc: Global,
+        list: &Extents,
+        lo: u64,
+        hi: u64,
+    ) -> Result<SharedPages, AllocError>
         requires forward { lo ≤ hi }
         requires inside { hi ≤ length list.now }
         ensures value { IfOk result (λ pages. pages ≡ range_of list.now lo hi) }
@@ -47,7 +53,7 @@ impl SharedPages {
             });
         }
         Ok(SharedPages {
-            sharing: Sharing::List(list.share(lo, hi)?),
+            sharing: Sharing::List(Box::new(alloc, list.share(lo, hi)?)?),
         })
     }
 

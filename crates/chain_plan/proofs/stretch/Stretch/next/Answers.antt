@@ -3,7 +3,7 @@ use Rattle.trace_format.proofs.Facts.{spelled_fits}
 use Rattle.trace_format.specs.Steps.{step_meant}
 use Rattle.chain_plan.specs.Stretch.{chains_ahead}
 use Rattle.chain_plan.specs.Walk.{marks_of}
-use Rattle.chain_plan.proofs.Walk.{walks_on, chains_long, member_short, member_above, chain_short, walked_held, walked_stretch, walked_long, stops_apart, end_apart, next_number}
+use Rattle.chain_plan.proofs.Walk.{walks_on, chains_long, member_short, member_above, chain_short, walked_held, walked_stretch, walked_long, stops_apart, goes_on, end_apart, next_number}
 use Rattle.chain_plan.proofs.stretch.Stretch.next.Goals as goal
 
 pub marks_of-marks-requires : goal.marks_of-marks-requires
@@ -11,52 +11,59 @@ marks_of-marks-requires c = λ e is. spelled_fits c.args.trace.now c.requires.sp
 
 pub overflow_cast-next : goal.overflow_cast-next
 overflow_cast-next c =
-    omega (arith, c.len-in-loop-place.ensures, c.loop-place.chains.ok.0, chains_long c.loop-place.invariant, c.places-place-end.ensures.limit)
+    omega (arith, c.len-in-loop-place.ensures, c.loop-place.chains.ok.0, chains_long c.loop-place.invariant.walked, c.places-place-end.ensures.limit)
 
 pub overflow_add-next : goal.overflow_add-next
 overflow_add-next c =
     let number : c.self.inside.chains_before + c.len.result ≡ chains_ahead c.args.trace.now c.end-first.result =
     next_number c.args.trace.now c.args.self c.end-first.result _ c.requires.stretch c.end-first.ensures (omega (arith, c.len.ensures, ap (λ s. s.chains) c.self.view_is)) in
-    omega (arith, number, c.len-in-loop-place.ensures, c.loop-place.chains.ok.0, chains_long c.loop-place.invariant, c.places-place-end.ensures.limit)
+    omega (arith, number, c.len-in-loop-place.ensures, c.loop-place.chains.ok.0, chains_long c.loop-place.invariant.walked, c.places-place-end.ensures.limit)
 
 pub member_after-member-requires : goal.member_after-member-requires
 member_after-member-requires c =
-    member_short c.loop-place.invariant _ _ c.step-step.ensures (omega (arith, c.places-place-end.ensures.limit)) c.followed-ahead.ensures
+    member_short c.loop-place.invariant.walked _ _ c.step-step.ensures (omega (arith, c.places-place-end.ensures.limit)) c.followed-ahead.ensures
 
 pub overflow_sub-member : goal.overflow_sub-member
 overflow_sub-member c =
     let number : c.self.inside.chains_before + c.len.result ≡ chains_ahead c.args.trace.now c.end-first.result =
     next_number c.args.trace.now c.args.self c.end-first.result _ c.requires.stretch c.end-first.ensures (omega (arith, c.len.ensures, ap (λ s. s.chains) c.self.view_is)) in
-    rw (number, c.member_after-member.ensures) (member_above c.loop-place.invariant _ _ _ _ c.step-step.ensures c.followed-ahead.ensures
+    rw (number, c.member_after-member.ensures) (member_above c.loop-place.invariant.walked _ _ _ _ c.step-step.ensures c.followed-ahead.ensures
     (omega (arith, c.len-in-loop-place.ensures, c.loop-place.chains.ok.0)))
 
 pub count_member-requires : goal.count_member-requires
 count_member-requires c =
-    chain_short c.loop-place.invariant (omega (arith, c.places-place-end.ensures.limit)) _
+    chain_short c.loop-place.invariant.walked (omega (arith, c.places-place-end.ensures.limit)) _
 
 pub loop-place-preserved : goal.loop-place-preserved
 loop-place-preserved c =
     let number : c.self.inside.chains_before + c.len.result ≡ chains_ahead c.args.trace.now c.end-first.result =
     next_number c.args.trace.now c.args.self c.end-first.result _ c.requires.stretch c.end-first.ensures (omega (arith, c.len.ensures, ap (λ s. s.chains) c.self.view_is)) in
-    let marks = c.marks_of-marks.ensures ∙ ap (λ b. marks_of c.args.trace.now.version b (step_meant c.step-step.result)) c.is_some.ensures in
-    walks_on c.loop-place.invariant _ _ _ _ _ _ _ _ c.step-step.ensures marks c.followed-ahead.ensures
-    (omega (arith, number, c.len-in-loop-place.ensures, c.loop-place.chains.ok.0))
-    c.member_after-member.ensures (rw number at c.in_ok-count_member.ensures) c.link_from-linked.ensures c.in_ok-push.ensures.items
+    let marks = c.marks_of-marks.ensures ∙ ap (λ b. marks_of c.args.trace.now.version b (step_meant c.step-step.result)) c.is_some.ensures in record {
+      walked = walks_on c.loop-place.invariant.walked _ _ _ _ _ _ _ _ c.step-step.ensures marks c.followed-ahead.ensures
+          (omega (arith, number, c.len-in-loop-place.ensures, c.loop-place.chains.ok.0))
+          c.member_after-member.ensures (rw number at c.in_ok-count_member.ensures) c.link_from-linked.ensures c.in_ok-push.ensures.items;
+      most = goes_on c.loop-place.invariant.walked (c.end-first.result + c.args.least) _ _ c.step-step.ensures c.followed-ahead.ensures
+          (λ reached. elim c.else-is_none.branch [
+            | goal.else-is_none-via-then-is_none+else-place-first w ↦ absurd (omega (arith, reached, w.if-place-first.false, c.loop-place.invariant.walked.forward))
+            | goal.else-is_none-via-else-is_none w ↦ w.if-is_none.ensures
+          ])
+          c.loop-place.invariant.most;
+    }
 
 pub invariant_of-result : goal.invariant_of-result
 invariant_of-result c =
     let number : c.self.inside.chains_before + c.len.result ≡ chains_ahead c.args.trace.now c.end-first.result =
     next_number c.args.trace.now c.args.self c.end-first.result _ c.requires.stretch c.end-first.ensures (omega (arith, c.len.ensures, ap (λ s. s.chains) c.self.view_is)) in
-    rw number (walked_held c.loop-place.invariant (omega (arith, c.places-place-end.ensures.limit)))
+    rw number (walked_held c.loop-place.invariant.walked (omega (arith, c.places-place-end.ensures.limit)))
 
 pub returns-clause-stretch : goal.returns-clause-stretch
 returns-clause-stretch c =
     let number : c.self.inside.chains_before + c.len.result ≡ chains_ahead c.args.trace.now c.end-first.result =
     next_number c.args.trace.now c.args.self c.end-first.result _ c.requires.stretch c.end-first.ensures (omega (arith, c.len.ensures, ap (λ s. s.chains) c.self.view_is)) in
-    rw number (walked_stretch c.loop-place.invariant (elim c.loop-place-test.branch [
+    rw number (walked_stretch c.loop-place.invariant.walked (elim c.loop-place-test.branch [
       | goal.else-loop-place-test w ↦ end_apart c.args.trace.now c.loop-place.place (omega (arith, w.loop-place-test.false, c.places-place-end.ensures.places))
       | goal.then-loop-place-test+then-is_none+then-place-first w ↦
-          stops_apart c.loop-place.invariant _ _ w.step-step.ensures w.followed-ahead.ensures w.if-is_none.ensures
+          stops_apart c.loop-place.invariant.walked _ _ w.step-step.ensures w.followed-ahead.ensures w.if-is_none.ensures
     ]))
 
 pub returns-clause-least : goal.returns-clause-least
@@ -64,7 +71,13 @@ returns-clause-least c =
     let number : c.self.inside.chains_before + c.len.result ≡ chains_ahead c.args.trace.now c.end-first.result =
     next_number c.args.trace.now c.args.self c.end-first.result _ c.requires.stretch c.end-first.ensures (omega (arith, c.len.ensures, ap (λ s. s.chains) c.self.view_is)) in
     rw number (elim c.loop-place-test.branch [
-      | goal.else-loop-place-test w ↦ omega (arith, walked_long c.loop-place.invariant, w.loop-place-test.false, c.places-place-end.ensures.places)
+      | goal.else-loop-place-test w ↦ omega (arith, walked_long c.loop-place.invariant.walked, w.loop-place-test.false, c.places-place-end.ensures.places)
       | goal.then-loop-place-test+then-is_none+then-place-first w ↦
-          omega (arith, walked_long c.loop-place.invariant, w.loop-place-test.true, w.if-place-first.true, c.places-place-end.ensures.places)
+          omega (arith, walked_long c.loop-place.invariant.walked, w.loop-place-test.true, w.if-place-first.true, c.places-place-end.ensures.places)
     ])
+
+pub returns-clause-most : goal.returns-clause-most
+returns-clause-most c =
+    let number : c.self.inside.chains_before + c.len.result ≡ chains_ahead c.args.trace.now c.end-first.result =
+    next_number c.args.trace.now c.args.self c.end-first.result _ c.requires.stretch c.end-first.ensures (omega (arith, c.len.ensures, ap (λ s. s.chains) c.self.view_is)) in
+    rw number (λ k least below. c.loop-place.invariant.most k least (omega (arith, below, walked_long c.loop-place.invariant.walked)))

@@ -1,6 +1,11 @@
+use Rattle.std.proofs.Common.{◌+◌}
+use Rattle.chain_plan.specs.Stretch.{AreFollowing}
 use Rattle.chain_plan.proofs.Walk.{Walked}
 use Rattle.chain_plan.proofs.stretch.Stretch.next.Given as goal
 
--- the walk has come to the place
+-- the walk has come to the place, and went on past the least number of places in chains alone
 abbrev pub invariant-loop-place : goal.invariant-loop-place
-invariant-loop-place l = Walked l.trace l.first l.place l.members.items l.chains.items l.linked
+invariant-loop-place l = record {
+  walked : Walked l.trace l.first l.place l.members.items l.chains.items l.linked;
+  most : AreFollowing l.trace (l.first + l.least) l.place;
+}
