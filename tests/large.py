@@ -9,8 +9,8 @@ from functools import partial
 from typing import Dict, List, Tuple
 
 from harness import TOP, Answer, Job, Outcome, Program, difference, first, read, reports_refused, shown, spoken
-from traces import FIXED_FILE, GREATEST_BUFFER, GREATEST_SIZE, NOP, READ, READ_FIXED, WRITE_FIXED
-from traces import description, directory, enter, entry, file, fill, fixed, head, ring
+from traces import FIXED_FILE, GREATEST_BUFFER, GREATEST_SIZE, NOP, READ, READ_FIXED, WRITE, WRITE_FIXED
+from traces import description, directory, enter, entry, file, fill, fixed, head, hole, ring
 
 MOST_PLACES = 1_048_576
 MOST_RINGS = 64
@@ -32,6 +32,9 @@ ZEROS_MEMORY = 100_000
 # How many times the processor time of transfers by offsets those at the position may take, which is 1 to 2 times.
 MOST_AT_POSITION = 5.0
 POSITION = (1 << 64) - 1
+# How many times the processor time of holes at the end of a file those at its start may take, which is 1 to 2 times. Were all
+# pages behind a hole moved each time, it would be over 50.
+MOST_AT_START = 5.0
 MODES: Tuple[Tuple[List[str], str], ...] = ((["serial"], ".report"), (["serial", "--sums"], ".sums"), (["check"], ".check"))
 # How often each pair of workers and window is tried on writes that are worth threads.
 OFTEN = 4
@@ -155,6 +158,16 @@ def at_the_position(program: Program) -> List[Outcome]:
     return outcomes
 
 
+def holes(program: Program) -> List[Outcome]:
+    """A page that is taken away and written again costs the same wherever in a file it lies, and however many lie behind it."""
+    size = 1 << 24
+    world = head(1, 1, 1, 1) + file(b"/a", size, os.urandom(size)) + description(1) + ring([1])
+    at_end, at_start = (min(program.seconds(["serial"], world + enter(0, [hole(at, 4096), entry(WRITE, FIXED_FILE, offset=at, length=1, side=b"x")] * (1 << 14)))
+                            for _ in range(3)) for at in (size - 4096, 0))
+    told = None if at_start < MOST_AT_START * at_end < math.inf else "{:.3f} seconds, at the end {:.3f}".format(at_start, at_end)
+    return [Outcome("holes at the start of a file by {}".format(program.compiler), told)]
+
+
 def jobs(programs: List[Program]) -> List[Job]:
-    alone = [partial(it, programs[0]) for it in (tried, long_reports, many_rings, deep_tree, many_entries, long_transfers, at_the_position, waiting)]
+    alone = [partial(it, programs[0]) for it in (tried, long_reports, many_rings, deep_tree, many_entries, long_transfers, at_the_position, holes, waiting)]
     return [*alone, *(partial(on_threads, it) for it in programs)]

@@ -3,7 +3,7 @@ import struct
 from typing import Iterable, Sequence, Tuple
 
 NOP, READV, WRITEV, READ_FIXED, WRITE_FIXED = 0, 1, 2, 4, 5
-OPENAT, READ, WRITE, RENAMEAT, LINKAT = 18, 22, 23, 35, 39
+FALLOCATE, OPENAT, READ, WRITE, RENAMEAT, LINKAT = 17, 18, 22, 23, 35, 39
 FIXED_FILE, DRAIN, LINK, SKIP = 1, 2, 4, 64
 GREATEST_SIZE = 1 << 40
 GREATEST_BUFFER = 1 << 30
@@ -54,6 +54,11 @@ def entry(opcode: int, flags: int = 0, fd: int = 0, offset: int = 0, length: int
 def fixed(opcode: int, length: int) -> bytes:
     """An entry of a transfer between the file in slot 0 and the registered buffer at address 4096."""
     return with_side(struct.pack("<BBHiQQIIQHHIQQ", opcode, FIXED_FILE, 0, 0, 0, 4096, length, 0, 0, 0, 0, 0, 0, 0))
+
+
+def hole(offset: int, length: int) -> bytes:
+    """An entry that makes a range of the file in slot 0 zeros: FALLOCATE with FALLOC_FL_PUNCH_HOLE and FALLOC_FL_KEEP_SIZE."""
+    return with_side(struct.pack("<BBHiQQIIQHHIQQ", FALLOCATE, FIXED_FILE, 0, 0, offset, length, 3, 0, 0, 0, 0, 0, 0, 0))
 
 
 def with_side(fields: bytes, side: bytes = b"") -> bytes:

@@ -85,6 +85,30 @@ fn stores_no_zeros(rt: HostRuntime) -> Result<(), Fail> {
     Ok(())
 }
 
+/// Whether pages behind a hole stay, and a page is there that is written into it, in a list whose
+/// pages are written from the last one back.
+fn keeps_pages_behind(list: &mut Extents) -> Result<bool, AllocError>
+    requires { length list.old ≡ 10 }
+{
+    list.write(16_384, b"e")?;
+    list.write(8_192, b"c")?;
+    list.write(4_096, b"b")?;
+    list.zero(4_096, 12_288)?;
+    let taken_away = shows(list, 4_096, b"\0\0")? && shows(list, 8_192, b"\0\0")?;
+    list.write(8_192, b"d")?;
+    list.write(4_096, b"f")?;
+    let written = shows(list, 4_096, b"f\0")? && shows(list, 8_192, b"d\0")?;
+    Ok(taken_away && written && shows(list, 8, b"89\0")? && shows(list, 16_384, b"e")?)
+}
+
+// Pages in front of a list and behind a gap, and how they change places.
+#[test]
+fn takes_pages_away(rt: HostRuntime) -> Result<(), Fail> {
+    let mut list = digits(rt.alloc())?;
+    assert!(rt; keeps_pages_behind(&mut list)?);
+    Ok(())
+}
+
 /// Whether ten bytes are those of a list that has them in another place of a page.
 fn is_part(list: &Extents, other: &Extents) -> Result<bool, AllocError>
     requires { length list.now ≡ 4100 }
