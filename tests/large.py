@@ -32,8 +32,8 @@ ZEROS_MEMORY = 100_000
 # How many times the processor time of transfers by offsets those at the position may take, which is 1 to 2 times.
 MOST_AT_POSITION = 5.0
 POSITION = (1 << 64) - 1
-# How many times the processor time of holes at the end of a file those at its start may take, which is 1 to 2 times. Were all
-# pages behind a hole moved each time, it would be over 50.
+# How many times the processor time of holes at the end of a file those at its start may take, which is 1 to 2 times. With all
+# pages behind a hole moved each time it was 170.
 MOST_AT_START = 5.0
 MODES: Tuple[Tuple[List[str], str], ...] = ((["serial"], ".report"), (["serial", "--sums"], ".sums"), (["check"], ".check"))
 # How often each pair of workers and window is tried on writes that are worth threads.
