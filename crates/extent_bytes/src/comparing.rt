@@ -4,7 +4,7 @@ ghost use Rattle.extent_bytes.specs.Kept.{byte_held};
 ghost use Rattle.extent_bytes.specs.Pages.{HoldsAt, PageAgrees, StoredAgree};
 
 use crate::page::{PAGE_SIZE, Page, is_blank};
-use crate::page_map::PAGE;
+use crate::page_bytes::PAGE;
 use crate::paged::Paged;
 use crate::pages::Pages;
 

@@ -5,7 +5,7 @@ ghost use Rattle.extent_bytes.specs.Bytes.{overwritten, zeroed, resized, range_o
 
 use crate::comparing::stored_agree;
 use crate::moving::aligned;
-use crate::page_map::{PAGE, copy_of_part, part_of_page};
+use crate::page_bytes::{PAGE, copy_of_part, part_of_page};
 use crate::page_run::PageRun;
 use crate::paged::Paged;
 use crate::stored::Stored;

@@ -3,7 +3,7 @@ ghost use Rattle.std.specs.Prelude.{◌≡◌, ℕ, ◌+◌, ◌-◌, ◌*◌, �
 ghost use Rattle.extent_bytes.specs.Pages.{page_of, SameRange, PageMoved};
 
 use crate::page::Page;
-use crate::page_map::{PAGE, put_range};
+use crate::page_bytes::{PAGE, put_range};
 use crate::pages::Pages;
 use std::alloc::{AllocError, Global};
 

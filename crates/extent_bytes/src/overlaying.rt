@@ -6,7 +6,7 @@ ghost use Rattle.extent_bytes.specs.Pages.{page_of, byte_at, blank_page, SameByt
 ghost use Rattle.extent_bytes.specs.Pages.{SameBelow, Overlaid, WrittenAt, Completed};
 
 use crate::page::{PAGE_SIZE, Page};
-use crate::page_map::{PAGE, copy_bytes, put_range};
+use crate::page_bytes::{PAGE, copy_bytes, put_range};
 use crate::pages::Pages;
 use std::alloc::{AllocError, Global};
 

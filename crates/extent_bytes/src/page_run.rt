@@ -7,7 +7,7 @@ ghost use Rattle.extent_bytes.specs.Pages.{page_of, byte_in, bytes_from, bytes_o
 
 use crate::comparing::page_agrees;
 use crate::page::Page;
-use crate::page_map::PAGE;
+use crate::page_bytes::PAGE;
 use crate::paged::Paged;
 use crate::pages::Pages;
 use std::alloc::{AllocError, Global};

@@ -5,7 +5,7 @@ ghost use Rattle.extent_bytes.specs.Kept.{byte_held};
 ghost use Rattle.extent_bytes.specs.Pages.{byte_in, bytes_from};
 
 use crate::page::Page;
-use crate::page_map::{PAGE, part_of_page};
+use crate::page_bytes::{PAGE, part_of_page};
 use crate::pages::Pages;
 use std::alloc::{AllocError, Global};
 

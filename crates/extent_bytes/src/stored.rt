@@ -7,7 +7,7 @@ ghost use Rattle.extent_bytes.specs.Pages.{SameBelow, Overlaid, WrittenAt};
 
 use crate::moving::shared;
 use crate::overlaying::{overlay, write_range, zero_range};
-use crate::page_map::PAGE;
+use crate::page_bytes::PAGE;
 use crate::pages::Pages;
 use std::alloc::{AllocError, Global};
 use std::mem;

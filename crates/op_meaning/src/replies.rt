@@ -132,6 +132,7 @@ impl Replies {
     /// # Errors
     ///
     /// Want of memory.
+    #[inline(always)]
     pub fn set(&mut self, place: usize, reply: Reply) -> Result<(), AllocError>
         requires { place < length self.old }
         ensures ok { OnOk result (self.new ≡ set self.old place reply) }

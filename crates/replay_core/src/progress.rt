@@ -182,6 +182,7 @@ impl Progress {
     }
 
     /// Keeps the reply of a place that the round has run.
+    #[inline(always)]
     fn keep(&mut self, place: u32, reply: Reply) -> Result<(), AllocError>
         requires replies { place < length self.old.replies }
         requires rounds { place < length self.old.rounds.items }

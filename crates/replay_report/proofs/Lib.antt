@@ -1,3 +1,3 @@
-mod PlacesLemmas
+mod RingEntriesLemmas
 pub mod ReportLemmas
 mod SumLemmas

@@ -1,21 +1,14 @@
 -- Texts that grow by a piece for each number or element, and the sizes that an image tells.
-use Rattle.std.proofs.Common.{◌≡◌, ℕ, ◌+◌, ◌-◌, ◌<◌, ◌≤◌, inl, inr, List, ◌++◌, All, append_assoc, drop, length, take, get_or, refl, ap, ◌∙◌, arith, Some}
-use Rattle.std.specs.List.{flat_map, range_with_len, slice_get}
-use Rattle.std.specs.Prelude.{Bool, true, false, filter, [], ◌∷◌, Option, None}
+use Rattle.std.proofs.Common.{◌≡◌, ℕ, ◌+◌, ◌<◌, inl, inr, List, ◌++◌, All, length, take, get_or, refl, ap, ◌∙◌, arith}
+use Rattle.std.specs.List.{flat_map, range_with_len}
+use Rattle.std.specs.Prelude.{Bool, true, false, filter, [], ◌∷◌}
 use Rattle.std.proofs.lemmas.Bool.{cases_Bool, cases_lt, lt-leb, ne_eqb}
-use Rattle.std.proofs.Math.Seq.{take-add}
-use Rattle.std.proofs.lemmas.Grind.{flat_map-append}
 use Rattle.std.proofs.lemmas.List.{length-take-le, map-id, take_all, take-take, take_more, flat_map_more}
 use Rattle.std.proofs.lemmas.List.Elements.{All-map}
 use Rattle.std.proofs.lemmas.List.FromFn.{map-range_with_len_more}
-use Rattle.trace_format.specs.declared.trace.Trace.{Trace}
-use Rattle.trace_format.specs.Steps.{Step, places, step_at}
-use Rattle.op_meaning.specs.declared.reply.Reply.{Reply}
 use Rattle.world_parts.specs.World.{World}
 use Rattle.world_parts.specs.Image.{image_of, name_entry, all_paths}
-use Rattle.sqe_codec.specs.Answers.{each}
-use Rattle.replay_report.specs.Places.{is_step_of, line_at, places_of_ring}
-use Rattle.replay_report.specs.Report.{IsSized, action_line, data_text, entry_outcome, line, place_line, posting, step_line}
+use Rattle.replay_report.specs.Report.{IsSized, data_text, entry_outcome, line, posting}
 
 -- one number more
 pub range_more : (n : ℕ) → range_with_len 0 (n + 1) ≡ range_with_len 0 n ++ n ∷ []
@@ -43,38 +36,14 @@ data_text_shown bytes = elim (cases_lt 33 (length bytes)) [
 pub entry_outcome_shown : (posted : Bool) (shown bytes : List ℕ) → shown ≡ take 33 bytes → entry_outcome posted shown ≡ entry_outcome posted bytes
 entry_outcome_shown posted shown bytes e = ap (λ text. line (posting posted ++ text)) (ap data_text e ∙ data_text_shown bytes)
 
--- a place of a ring has its line there, and one of another ring has none
-same_line : (ring place : ℕ) (step : Option Step) (reply : Option Reply) → is_step_of ring step ≡ true
-    → each (λ step. each (action_line place step.action) reply) step ≡ each (λ step. each (step_line ring place step) reply) step
-same_line ring place None reply here = refl
-same_line ring place (Some step) None here = refl
-same_line ring place (Some step) (Some reply) here = rw here refl
-
-no_line : (ring place : ℕ) (step : Option Step) (reply : Option Reply) → is_step_of ring step ≡ false → each (λ step. each (step_line ring place step) reply) step ≡ []
-no_line ring place None reply other = refl
-no_line ring place (Some step) None other = refl
-no_line ring place (Some step) (Some reply) other = rw other refl
-
-flat_map-filter : (p : ℕ → Bool) (f g : ℕ → List ℕ) → ((k : ℕ) → p k ≡ true → f k ≡ g k) → ((k : ℕ) → p k ≡ false → g k ≡ []) → (ks : List ℕ)
+-- the pieces of the elements that pass a test, where the others have none
+pub flat_map-filter : (p : ℕ → Bool) (f g : ℕ → List ℕ) → ((k : ℕ) → p k ≡ true → f k ≡ g k) → ((k : ℕ) → p k ≡ false → g k ≡ []) → (ks : List ℕ)
     → flat_map f (filter p ks) ≡ flat_map g ks
 flat_map-filter p f g same none [] = refl
 flat_map-filter p f g same none (k ∷ ks) = elim (cases_Bool (p k)) [
   | inl kept ↦ rw (kept, same k kept) (ap (λ rest. g k ++ rest) (flat_map-filter p f g same none ks))
   | inr left ↦ rw (left, none k left) (flat_map-filter p f g same none ks)
 ]
-
--- the lines of the places of a ring are those of all places
-pub ring_lines-listed : (t : Trace) (replies : List Reply) (ring : ℕ) → flat_map (line_at t replies) (places_of_ring t ring) ≡ flat_map (place_line t replies ring) (range_with_len 0 (places t))
-ring_lines-listed t replies ring =
-    flat_map-filter (λ place. is_step_of ring (step_at t place)) (line_at t replies) (place_line t replies ring)
-    (λ k here. same_line ring k (step_at t k) (slice_get replies k) here) (λ k other. no_line ring k (step_at t k) (slice_get replies k) other) (range_with_len 0 (places t))
-
--- a text with the pieces of the first elements, and then with those of more
-pub lists_grown : {X Y : Type 0} (old now next : List Y) (f : X → List Y) (xs : List X) (i n : ℕ) → i ≤ n → now ≡ old ++ flat_map f (take i xs) → next ≡ now ++ flat_map f (take (n - i) (drop i xs))
-    → next ≡ old ++ flat_map f (take n xs)
-lists_grown old now next f xs i n le so_far e =
-    let all : i + (n - i) ≡ n = omega arith in
-    rw (rw all at (take-add i (n - i) xs), flat_map-append f (take i xs) (take (n - i) (drop i xs)), e, so_far) (simp append_assoc)
 
 -- each name of an image has the size of its file
 pub image_is_sized : (s : World) → All (IsSized s) (image_of s).names

@@ -1,3 +1,3 @@
-pub mod Places
+pub mod RingEntries
 pub mod Report
 pub mod Sums

@@ -6,8 +6,8 @@
 mod entries;
 mod entry_line;
 mod escaping;
-mod places;
 mod report;
+mod ring_entries;
 mod sums;
 mod world_lines;
 mod zeros;

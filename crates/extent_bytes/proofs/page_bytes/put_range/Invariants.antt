@@ -1,6 +1,6 @@
 use Rattle.std.proofs.Common.{◌+◌, ◌-◌, ◌≤◌, length, get_or}
 use Rattle.extent_bytes.specs.Pages.{Overlaid}
-use Rattle.extent_bytes.proofs.page_map.put_range.Given as goal
+use Rattle.extent_bytes.proofs.page_bytes.put_range.Given as goal
 
 -- the first bytes are written
 abbrev pub invariant-loop-done : goal.invariant-loop-done

@@ -4,7 +4,7 @@ use Rattle.std.proofs.lemmas.Result.{on_ok_weaker}
 use Rattle.extent_bytes.proofs.Lists.{get_or-part, length-part}
 use Rattle.extent_bytes.proofs.PageFacts.{byte_at-page}
 use Rattle.extent_bytes.proofs.Overlays.{overlaid_to}
-use Rattle.extent_bytes.proofs.page_map.copy_bytes.Goals as goal
+use Rattle.extent_bytes.proofs.page_bytes.copy_bytes.Goals as goal
 
 pub returns-in-Some-clause-ok : goal.returns-in-Some-clause-ok
 returns-in-Some-clause-ok c =

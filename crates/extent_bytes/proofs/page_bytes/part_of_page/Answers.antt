@@ -3,7 +3,7 @@ use Rattle.std.proofs.Common.{◌-◌, take, drop, ap, ◌∙◌}
 use Rattle.extent_bytes.specs.Pages.{page_byte, byte_at}
 use Rattle.extent_bytes.proofs.PageFacts.{byte_at-page}
 use Rattle.extent_bytes.proofs.ExtentFacts.{part_of-none, part_of-page}
-use Rattle.extent_bytes.proofs.page_map.part_of_page.Goals as goal
+use Rattle.extent_bytes.proofs.page_bytes.part_of_page.Goals as goal
 
 pub returns-in-Some-clause-part : goal.returns-in-Some-clause-part
 returns-in-Some-clause-part c =
