@@ -10,7 +10,7 @@ use Rattle.op_meaning.specs.Listing.{bytes_at, reply_at, AreThere, Extends, IsTh
 -- the bytes of a spot are the same
 pub bytes-behind : (copied copied' : List ℕ) (lists lists' : List (List ℕ)) (spot : Spot) → Extends copied copied' → Extends lists lists' →
     IsThere copied lists spot → bytes_at copied' lists' spot ≡ bytes_at copied lists spot
-bytes-behind copied copied' lists lists' (Copied at count) c l there =
+bytes-behind copied copied' lists lists' (Copied count at) c l there =
     ap (λ xs. take count (drop at xs)) c.1 ∙ ap (take count) (drop-append-le at copied c.0 (omega (arith, there.0)))
     ∙ take-append-le count (drop at copied) c.0 (omega (arith, there.0, length-drop at copied))
 bytes-behind copied copied' lists lists' (Listed index) c l there = ap (λ xs. get_or xs index []) l.1 ∙ get_or_append_left lists l.0 [] index there.0
@@ -18,7 +18,7 @@ bytes-behind copied copied' lists lists' (Listed index) c l there = ap (λ xs. g
 -- and are still there
 pub there-behind : (copied copied' : List ℕ) (lists lists' : List (List ℕ)) (spot : Spot) → Extends copied copied' → Extends lists lists' →
     IsThere copied lists spot → IsThere copied' lists' spot
-there-behind copied copied' lists lists' (Copied at count) c l there = (omega (arith, there.0, ap length c.1, length-append copied c.0), there.1)
+there-behind copied copied' lists lists' (Copied count at) c l there = (omega (arith, there.0, ap length c.1, length-append copied c.0), there.1)
 there-behind copied copied' lists lists' (Listed index) c l there = (
   omega (arith, there.0, ap length l.1, length-append lists l.0),
   subst (λ bytes. 2048 < length bytes) (sym (bytes-behind copied copied' lists lists' (Listed index) c l there)) there.1,

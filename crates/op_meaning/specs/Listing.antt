@@ -9,12 +9,12 @@ use Rattle.op_meaning.specs.declared.replies.BytesRef.TheVariants as here
 
 -- the bytes of a reply, among those that are copied or in one of the lists
 abbrev pub bytes_at : List ℕ → List (List ℕ) → Spot → List ℕ
-bytes_at copied lists (Copied at count) = take count (drop at copied)
+bytes_at copied lists (Copied count at) = take count (drop at copied)
 bytes_at copied lists (Listed index) = slice_index_or lists index []
 
 -- they are there: few are copied, and many are a list
 abbrev pub IsThere : List ℕ → List (List ℕ) → Spot → Type 0
-IsThere copied lists (Copied at count) = (at + count ≤ length copied) × (count ≤ 2048)
+IsThere copied lists (Copied count at) = (at + count ≤ length copied) × (count ≤ 2048)
 IsThere copied lists (Listed index) = (index < length lists) × (2048 < length (slice_index_or lists index []))
 
 -- the reply that a line stands for

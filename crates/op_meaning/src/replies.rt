@@ -12,8 +12,8 @@ use std::marker::Model;
 /// Where the bytes of a reply are.
 #[derive(Clone, Copy)]
 pub(crate) enum Spot {
-    /// Among those that are copied: where they begin, and how many there are.
-    Copied { at: u32, count: u32 },
+    /// Among those that are copied: how many there are, and where they begin.
+    Copied { count: u16, at: u32 },
     /// In one of the lists.
     Listed(u32),
 }
@@ -27,7 +27,7 @@ pub(crate) struct Line {
 }
 
 /// The replies of places, in order. The bytes of a reply lie behind those of others where they are
-/// few, so that it takes 20 bytes beside them, and stay in a list of their own where they are many.
+/// few, so that it takes 16 bytes beside them, and stay in a list of their own where they are many.
 #[derive(Drop)]
 pub struct Replies {
     lines: Vec<Line>,
@@ -58,8 +58,8 @@ fn copy(copied: &mut Vec<u8>, few: &[u8]) -> Result<Spot, AllocError>
     let at = u32::try_from(copied.len()).map_err(|_| AllocError)?;
     copied.extend_from_slice(few)?;
     Ok(Spot::Copied {
+        count: few.len() as u16,
         at,
-        count: few.len() as u32,
     })
 }
 
@@ -150,9 +150,9 @@ impl Replies {
     {
         let line = self.lines[place];
         let bytes = match line.spot {
-            Spot::Copied { at, count } => {
+            Spot::Copied { count, at } => {
                 let start = at as usize;
-                BytesRef::Copied(&self.copied[start..start + count as usize])
+                BytesRef::Copied(&self.copied[start..start + usize::from(count)])
             }
             Spot::Listed(index) => BytesRef::Listed(&self.lists[index as usize]),
         };
