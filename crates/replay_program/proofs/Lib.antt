@@ -1,3 +1,4 @@
+mod CommandLemmas
 mod TransferLemmas
 mod SessionLemmas
 mod Comparison

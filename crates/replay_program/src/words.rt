@@ -2,8 +2,8 @@
 ghost use Rattle.std.specs.Prelude.{◌≡◌, ◌≤◌, ◌⊎◌, ℕ, string_bytes, IfOk, IsErrAnd, MatchResult};
 ghost use Rattle.std.specs.Prelude.{Some, map};
 ghost use Rattle.std.specs.Fmt.{decimal};
-ghost use Rattle.clap.specs.Words.{FailsBy, app_of, fault_of, found_of, kind_of, one_text};
-ghost use Rattle.clap.specs.Words.{subcommand_rows_of};
+ghost use Rattle.clap.specs.Words.{App, FailsBy, app_of, fault_of, found_of, kind_of, one_text};
+ghost use Rattle.clap.specs.Words.{subcommand_rows_of, with_subcommand};
 ghost use Rattle.replay_program.specs.Words.{AreFound, AskFor, AskForHelp, FailsByRules, GivesHelp};
 ghost use Rattle.replay_program.specs.Words.{GivesTask, HasApp, IsFound, IsRule};
 ghost use Rattle.replay_program.specs.Limits.{IsServed};
@@ -187,10 +187,21 @@ fn number_in(matches: &ArgMatches<'_>, id: &str, most: u32) -> u32
 fn program<'a>(alloc: Global) -> Result<Command<'a>, AllocError>
     ensures { IfOk result (λ command. app_of command ≡ replayer) }
 {
-    with_replays(alloc, program_alone(alloc)?)?
-        .subcommand(rounds_command(alloc)?)?
-        .subcommand(check_command(alloc))?
-        .subcommand(diff_command(alloc))
+    let command = with_replays(alloc, program_alone(alloc)?)?;
+    let command = with_subcommand(command, rounds_command(alloc))?;
+    let command = with_subcommand(command, Ok(check_command(alloc)))?;
+    with_subcommand(command, Ok(diff_command(alloc)))
+}
+
+/// A command line with a subcommand more, where there was memory for that.
+fn with_subcommand<'a>(
+    command: Command<'a>,
+    more: Result<Command<'a>, AllocError>,
+) -> Result<Command<'a>, AllocError>
+    ensures { (app : App) → IfOk more.entry (HasApp app) → IfOk result
+        (λ longer. app_of longer ≡ with_subcommand (app_of command.entry) app.top) }
+{
+    command.subcommand(more?)
 }
 
 /// The command line with no subcommand.
@@ -210,10 +221,9 @@ fn program_alone<'a>(alloc: Global) -> Result<Command<'a>, AllocError>
 fn with_replays<'a>(alloc: Global, command: Command<'a>) -> Result<Command<'a>, AllocError>
     ensures { IfOk result (λ more. app_of more ≡ with_replays (app_of command.entry)) }
 {
-    command
-        .subcommand(serial_command(alloc)?)?
-        .subcommand(run_command(alloc)?)?
-        .subcommand(compare_command(alloc)?)
+    let command = with_subcommand(command, serial_command(alloc))?;
+    let command = with_subcommand(command, run_command(alloc))?;
+    with_subcommand(command, compare_command(alloc))
 }
 
 fn serial_command<'a>(alloc: Global) -> Result<Command<'a>, AllocError>

@@ -1,12 +1,15 @@
-use Rattle.std.proofs.Common.{◌∙◌, ap, ap₂}
+use Rattle.std.proofs.Common.{◌∙◌, ap}
 use Rattle.std.proofs.lemmas.Result.{IfOk-weaker}
-use Rattle.clap.specs.Words.{App, with_subcommand}
-use Rattle.replay_program.specs.Words.{with_replays}
+use Rattle.clap.specs.Words.{with_subcommand}
+use Rattle.replay_program.specs.Words.{check_command, diff_command, rounds_command, with_replays}
 use Rattle.replay_program.proofs.words.program.Goals as goal
 
 pub returns : goal.returns
 returns c =
-    let replays = c.in_ok-with_replays.ensures ∙ ap with_replays c.in_ok-program_alone.ensures in
-    let with_rounds = c.in_ok-subcommand.ensures.shape c.in_ok-rounds_command.ensures.1 ∙ ap₂ with_subcommand replays (ap (λ (a : App). a.top) c.in_ok-rounds_command.ensures.0) in
-    let with_check = c.in_ok-subcommand-2.ensures.shape c.check_command.ensures.1 ∙ ap₂ with_subcommand with_rounds (ap (λ (a : App). a.top) c.check_command.ensures.0) in
-    IfOk-weaker c.subcommand-3.result _ _ (λ command h. h.shape c.diff_command.ensures.1 ∙ ap₂ with_subcommand with_check (ap (λ (a : App). a.top) c.diff_command.ensures.0)) c.subcommand-3.ensures
+    let replays = c.in_ok-command.ensures ∙ ap with_replays c.in_ok-program_alone.ensures in
+    let with_rounds = rw c.in_ok-command-2.was at (c.with_subcommand.ensures rounds_command c.rounds_command.ensures) in
+    let with_check = rw c.in_ok-command-3.was at (c.with_subcommand-2.ensures check_command c.check_command.ensures) in
+    IfOk-weaker c.with_subcommand-3.result _ _
+    (λ command h. h ∙ ap (λ app. with_subcommand app diff_command.top) (with_check
+    ∙ ap (λ app. with_subcommand app check_command.top) (with_rounds ∙ ap (λ app. with_subcommand app rounds_command.top) replays)))
+    (c.with_subcommand-3.ensures diff_command c.diff_command.ensures)

@@ -1,10 +1,13 @@
-use Rattle.std.proofs.Common.{◌∙◌, ap, ap₂}
+use Rattle.std.proofs.Common.{◌∙◌, ap}
 use Rattle.std.proofs.lemmas.Result.{IfOk-weaker}
-use Rattle.clap.specs.Words.{App, app_of, with_subcommand}
+use Rattle.clap.specs.Words.{with_subcommand}
+use Rattle.replay_program.specs.Words.{compare_command, run_command, serial_command}
 use Rattle.replay_program.proofs.words.with_replays.Goals as goal
 
 pub returns : goal.returns
 returns c =
-    let with_serial = c.in_ok-subcommand.ensures.shape c.in_ok-serial_command.ensures.1 ∙ ap (λ (a : App). with_subcommand (app_of c.args.command) a.top) c.in_ok-serial_command.ensures.0 in
-    let with_run = c.in_ok-subcommand-2.ensures.shape c.in_ok-run_command.ensures.1 ∙ ap₂ with_subcommand with_serial (ap (λ (a : App). a.top) c.in_ok-run_command.ensures.0) in
-    IfOk-weaker c.subcommand-3.result _ _ (λ command h. h.shape c.in_ok-compare_command.ensures.1 ∙ ap₂ with_subcommand with_run (ap (λ (a : App). a.top) c.in_ok-compare_command.ensures.0)) c.subcommand-3.ensures
+    let with_serial = rw c.in_ok-command.was at (c.with_subcommand.ensures serial_command c.serial_command.ensures) in
+    let with_run = rw c.in_ok-command-2.was at (c.with_subcommand-2.ensures run_command c.run_command.ensures) in
+    IfOk-weaker c.with_subcommand-3.result _ _
+    (λ command h. h ∙ ap (λ app. with_subcommand app compare_command.top) (with_run ∙ ap (λ app. with_subcommand app run_command.top) with_serial))
+    (c.with_subcommand-3.ensures compare_command c.compare_command.ensures)
