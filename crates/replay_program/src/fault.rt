@@ -1,34 +1,29 @@
 //! Why a run of the program gives no output.
-ghost use Rattle.std.specs.Prelude.{◌≡◌};
+ghost use Rattle.std.specs.Prelude.{◌≡◌, Some};
+ghost use Rattle.replay_program.specs.Status.{fault_line, kind_name, replay_line, reports_line};
 ghost use Rattle.replay_program.specs.Status.{status_of};
 
 use replay_core::ReplayFault;
 use report_diff::Refusal;
+use std::error::Error;
 use std::fmt;
-use thiserror::Error;
 use trace_format::{Kind, TraceFault};
 
 /// Why a run gives no output, or not all of it. Its text is the line for standard error, without
 /// the line feed.
-#[derive(Clone, Copy, Debug, PartialEq, Eq, Error)]
+#[derive(Clone, Copy, Debug, PartialEq, Eq)]
 pub enum RunFault {
     /// The trace is refused, or memory ran out before it was read.
-    #[error("{line}", line = TraceLine(*.0))]
     Trace(TraceFault),
     /// The replay gave nothing, or memory ran out for its report.
-    #[error("{line}", line = ReplayLine(*.0))]
     Replay(ReplayFault),
     /// The reports are refused, or memory ran out before they were compared.
-    #[error("{line}", line = ReportsLine(*.0))]
     Reports(ReportsFault),
     /// A call of the reader failed.
-    #[error("fault: read")]
     Read,
     /// A call of the writer failed, or took no bytes. What it took before is a front of the output.
-    #[error("fault: write")]
     Write,
     /// The run in rounds gave something else than the one in recorded order, or two reports differ.
-    #[error("different")]
     Different,
 }
 
@@ -67,57 +62,77 @@ impl RunFault {
     }
 }
 
-#[derive(Drop)]
-struct TraceLine(TraceFault);
+impl Error for RunFault {}
 
-impl fmt::Display for TraceLine {
+impl fmt::Display for RunFault {
+    ghost output = { λ fault. Some (fault_line fault) };
+
     fn fmt<W: fmt::Write>(&self, f: &mut fmt::Formatter<W>) -> fmt::Result {
-        let TraceFault { kind, at } = self.0;
-        match kind {
-            Kind::Memory => write!(f, "fault: memory"),
-            _ => write!(f, "trace refused: {kind:?} at {at}"),
+        match *self {
+            RunFault::Trace(
+                TraceFault {
+                    kind: Kind::Memory,
+                    ..
+                },
+            ) => f.write_str("fault: memory"),
+            RunFault::Trace(TraceFault { kind, at }) => {
+                let name = kind_name(kind);
+                write!(f, "trace refused: {name} at {at}")
+            }
+            RunFault::Replay(fault) => f.write_str(replay_line(fault)),
+            RunFault::Reports(fault) => f.write_str(reports_line(fault)),
+            RunFault::Read => f.write_str("fault: read"),
+            RunFault::Write => f.write_str("fault: write"),
+            RunFault::Different => f.write_str("different"),
         }
     }
 }
 
-#[derive(Drop)]
-struct ReplayLine(ReplayFault);
-
-impl fmt::Display for ReplayLine {
-    fn fmt<W: fmt::Write>(&self, f: &mut fmt::Formatter<W>) -> fmt::Result {
-        let cause = match self.0 {
-            ReplayFault::Memory => "memory",
-            ReplayFault::NoThread => "thread",
-            ReplayFault::Workers => "workers",
-            ReplayFault::Window => "window",
-        };
-        write!(f, "fault: {cause}")
+/// The name of what is wrong with a trace.
+fn kind_name(kind: Kind) -> &'static str
+    ensures { result.now ≡ kind_name kind }
+{
+    match kind {
+        Kind::Magic => "Magic",
+        Kind::Version => "Version",
+        Kind::Short => "Short",
+        Kind::Limit => "Limit",
+        Kind::Path => "Path",
+        Kind::NoParent => "NoParent",
+        Kind::Exists => "Exists",
+        Kind::Reference => "Reference",
+        Kind::Side => "Side",
+        Kind::Overlap => "Overlap",
+        Kind::Trailing => "Trailing",
+        Kind::Memory => "Memory",
     }
 }
 
-#[derive(Drop)]
-struct ReportsLine(ReportsFault);
+/// The line where a replay gave nothing.
+fn replay_line(fault: ReplayFault) -> &'static str
+    ensures { result.now ≡ replay_line fault }
+{
+    match fault {
+        ReplayFault::Memory => "fault: memory",
+        ReplayFault::NoThread => "fault: thread",
+        ReplayFault::Workers => "fault: workers",
+        ReplayFault::Window => "fault: window",
+    }
+}
 
-impl fmt::Display for ReportsLine {
-    fn fmt<W: fmt::Write>(&self, f: &mut fmt::Formatter<W>) -> fmt::Result {
-        match self.0 {
-            ReportsFault::Memory => write!(f, "fault: memory"),
-            ReportsFault::TooLong => write!(f, "reports refused: more than 1073741824 bytes"),
-            ReportsFault::Refused(Refusal::FirstHeading) => {
-                write!(
-                    f,
-                    "reports refused: the first does not begin with uring-report 1"
-                )
-            }
-            ReportsFault::Refused(Refusal::FirstEnd) => {
-                write!(f, "reports refused: the first has no line end")
-            }
-            ReportsFault::Refused(Refusal::SecondHeading) => {
-                write!(
-                    f,
-                    "reports refused: the second does not begin with uring-report 1"
-                )
-            }
+/// The line where reports are not compared.
+fn reports_line(fault: ReportsFault) -> &'static str
+    ensures { result.now ≡ reports_line fault }
+{
+    match fault {
+        ReportsFault::Memory => "fault: memory",
+        ReportsFault::TooLong => "reports refused: more than 1073741824 bytes",
+        ReportsFault::Refused(Refusal::FirstHeading) => {
+            "reports refused: the first does not begin with uring-report 1"
+        }
+        ReportsFault::Refused(Refusal::FirstEnd) => "reports refused: the first has no line end",
+        ReportsFault::Refused(Refusal::SecondHeading) => {
+            "reports refused: the second does not begin with uring-report 1"
         }
     }
 }
