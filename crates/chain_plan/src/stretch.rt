@@ -79,7 +79,7 @@ fn marks_of(step: &Step<'_>, version: Version, follows: bool) -> Marks
         → is_side_of e.sqe e.side ≡ true }
     ensures { result ≡ marks_of version follows (step_meant step.now) }
 {
-    match step.action {
+    match &step.action {
         Action::Submit(entry) => {
             let sqe = entry.sqe();
             let links = sqe.has(IO_LINK) || sqe.has(IO_HARDLINK);

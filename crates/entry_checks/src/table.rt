@@ -17,7 +17,7 @@ use trace_format::{Entry, Version};
 /// memory.
 #[tactic(auto, unfolding(trace_format::specs::Sides::is_side_of))]
 #[inline(always)]
-pub fn check(entry: &Entry, version: Version) -> Result<Op<'_>, Errno>
+pub fn check<'a>(entry: &Entry<'a>, version: Version) -> Result<Op<'a>, Errno>
     requires { is_side_of entry.now.sqe entry.now.side ≡ true }
     ensures { answer result ≡ check version entry.now }
 {

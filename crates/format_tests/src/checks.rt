@@ -3,7 +3,7 @@
 use entry_checks::{Op, check};
 use sqe_codec::Sqe;
 use std::alloc::{AllocError, Global};
-use trace_format::{Entry, Version, fits};
+use trace_format::{EntriesBuilder, Entry, Version, fits};
 
 /// LINKAT with the working directory beside both paths.
 const LINK: Sqe = Sqe {
@@ -24,7 +24,7 @@ const LINK: Sqe = Sqe {
 };
 
 /// Whether an entry asks for `/bc` as another name of `/a`.
-fn is_the_link(entry: &Entry) -> bool {
+fn is_the_link(entry: &Entry<'_>) -> bool {
     if !fits(&entry.sqe(), entry.side()) {
         return false;
     }
@@ -40,8 +40,11 @@ fn is_the_link(entry: &Entry) -> bool {
 }
 
 fn link_is_read(alloc: Global) -> Result<bool, AllocError> {
-    let entry = Entry::new(alloc, &LINK, b"\x02\x00/a/bc")?;
-    Ok(is_the_link(&entry))
+    let mut builder = EntriesBuilder::new(alloc);
+    builder.push(&LINK, b"\x02\x00/b/cd")?;
+    builder.push(&LINK, b"\x02\x00/a/bc")?;
+    let entries = builder.build(alloc)?;
+    Ok(entries.len() == 2 && !is_the_link(&entries.at(0)) && is_the_link(&entries.at(1)))
 }
 
 #[test]

@@ -18,11 +18,11 @@ use Rattle.world_parts.specs.World.{World, Broken, apply_all}
 use Rattle.op_meaning.specs.Step.{Turn, filled, runs, doomed_turn, running_turn, entry_turn, turn, turn_under, reply_of, changes_in, step_reply, step_world}
 
 -- of an entry
-pub submitted : (t : Trace) (k : ℕ) (b : Option Broken) (x : borrowed.Step) (e : Bor Entry) (c : Role) → step_at t k ≡ Some (step_meant x) → x.action ≡ actions.Submit e → c ≡ role t k
-    → Some (entry_turn x.ring e.now c b (check t.version e.now)) ≡ turn_under t k b
+pub submitted : (t : Trace) (k : ℕ) (b : Option Broken) (x : borrowed.Step) (e : Entry) (c : Role) → step_at t k ≡ Some (step_meant x) → x.action ≡ actions.Submit e → c ≡ role t k
+    → Some (entry_turn x.ring e c b (check t.version e)) ≡ turn_under t k b
 submitted t k b x e c at is own =
-    let here : step_at t k ≡ Some (record { ring = x.ring; from_record = x.record_number; action = submit e.now }) = at ∙ ap (λ a. Some (record { ring = x.ring; from_record = x.record_number; action = action_meant a })) is in
-    rw here (ap (λ d. Some (entry_turn x.ring e.now d b (check t.version e.now))) own)
+    let here : step_at t k ≡ Some (record { ring = x.ring; from_record = x.record_number; action = submit e }) = at ∙ ap (λ a. Some (record { ring = x.ring; from_record = x.record_number; action = action_meant a })) is in
+    rw here (ap (λ d. Some (entry_turn x.ring e d b (check t.version e))) own)
 
 -- where a buffer is filled
 pub fills : (t : Trace) (k : ℕ) (b : Option Broken) (x : borrowed.Step) (buffer at : ℕ) (bytes : Bor (List ℕ)) → step_at t k ≡ Some (step_meant x) → x.action ≡ actions.Fill buffer at bytes

@@ -15,7 +15,7 @@ abbrev pub kind_meant : ℕ → TurnKind → Turn
 kind_meant r (Fills b at bytes) = filled r b at bytes.now
 kind_meant r (Refused e posted) = refused e posted
 kind_meant r (Canceled posted) = canceled posted
-kind_meant r (Runs e o) = runs r e.now (meant o)
+kind_meant r (Runs e o) = runs r e (meant o)
 
 abbrev pub turn_meant : code.Turn → Turn
 turn_meant x = kind_meant x.ring x.kind

@@ -70,21 +70,21 @@ pub fn run_on_state(
     ensures state { OnOk result (state.new ≡ step_world trace.now place state.old) }
 {
     let Turn { ring, kind } = turn_of(place, trace, role_there, state);
-    match kind {
+    match &kind {
         TurnKind::Fills {
             buffer,
             offset,
             bytes,
         } => {
-            let buffer = u32::from(buffer);
-            state.write_buffer(ring, buffer, u64::from(offset), bytes.as_slice())?;
+            let buffer = u32::from(*buffer);
+            state.write_buffer(ring, buffer, u64::from(*offset), bytes.as_slice())?;
             Ok(silent(alloc))
         }
-        TurnKind::Refused { error, posted } => Ok(refused(alloc, error, posted)),
-        TurnKind::Canceled { posted } => Ok(refused(alloc, Errno::ECANCELED, posted)),
+        TurnKind::Refused { error, posted } => Ok(refused(alloc, *error, *posted)),
+        TurnKind::Canceled { posted } => Ok(refused(alloc, Errno::ECANCELED, *posted)),
         TurnKind::Runs { entry, op } => {
             let site = Site { trace, place, ring };
-            run(alloc, site, entry, op, role_there, state)
+            run(alloc, site, entry, *op, role_there, state)
         }
     }
 }
@@ -93,7 +93,7 @@ pub fn run_on_state(
 fn run(
     alloc: Global,
     site: Site<'_>,
-    entry: &Entry,
+    entry: &Entry<'_>,
     op: Op<'_>,
     role_there: &Role,
     state: &mut State,
@@ -147,7 +147,7 @@ fn failed(asked: Option<u64>, outcome: &Outcome) -> bool
 /// Breaks the chain of an entry that fails, unless it has a hard link or stands last.
 fn break_chain(
     role_there: &Role,
-    entry: &Entry,
+    entry: &Entry<'_>,
     fails: bool,
     state: &mut State,
 ) -> Result<(), AllocError>

@@ -21,7 +21,7 @@ use trace_format::{Action, Blob, Entry, Trace};
 use world_parts::{Broken, State};
 
 /// What a place does, and the ring of which it is.
-#[derive(Clone, Copy)]
+#[derive(Drop)]
 pub struct Turn<'a> {
     /// The number of its ring.
     pub ring: u8,
@@ -30,7 +30,7 @@ pub struct Turn<'a> {
 }
 
 /// What a place does.
-#[derive(Clone, Copy)]
+#[derive(Drop)]
 pub enum TurnKind<'a> {
     /// It puts bytes into a registered buffer of its ring, from an offset of it on.
     Fills {
@@ -50,7 +50,7 @@ pub enum TurnKind<'a> {
     },
     /// It runs an operation.
     Runs {
-        entry: &'a Entry,
+        entry: Entry<'a>,
         op: Op<'a>,
     },
 }
@@ -72,16 +72,16 @@ pub fn turn_under<'a>(
     ensures short { IsShort result.kind }
 {
     let step = trace.step(place);
-    let kind = match step.action {
+    let kind = match &step.action {
         Action::Submit(entry) => submitted(trace, entry, role_there, flag),
         Action::Fill {
             buffer,
             offset,
             bytes,
         } => TurnKind::Fills {
-            buffer,
-            offset,
-            bytes,
+            buffer: *buffer,
+            offset: *offset,
+            bytes: *bytes,
         },
     };
     Turn {
@@ -94,7 +94,7 @@ pub fn turn_under<'a>(
 #[inline(always)]
 fn submitted<'a>(
     trace: &'a Trace,
-    entry: &'a Entry,
+    entry: &Entry<'a>,
     role_there: &Role,
     flag: Option<Broken>,
 ) -> TurnKind<'a>
@@ -119,7 +119,7 @@ fn submitted<'a>(
 /// What the place of an entry does that passes its tests, in a chain of such.
 #[inline(always)]
 fn executed<'a>(
-    entry: &'a Entry,
+    entry: &Entry<'a>,
     op: Op<'a>,
     role_there: &Role,
     flag: Option<Broken>,
@@ -132,7 +132,10 @@ fn executed<'a>(
         Some(flag) if role_there.length >= 2 => TurnKind::Canceled {
             posted: posts(flag),
         },
-        _ => TurnKind::Runs { entry, op },
+        _ => TurnKind::Runs {
+            entry: entry.again(),
+            op,
+        },
     }
 }
 

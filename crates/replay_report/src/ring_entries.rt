@@ -17,9 +17,9 @@ pub struct RingEntries {
 }
 
 impl Model for RingEntries {
-    ghost use Rattle.std.specs.Prelude.{List, ℕ};
+    ghost use Rattle.replay_report.specs.RingEntries.{Listed};
 
-    ghost Value = { List ℕ × List ℕ };
+    ghost Value = { Listed };
 
     ghost view = { λ e. (e.places.items, e.user_data.items) };
 }
@@ -75,7 +75,7 @@ fn add_step(lists: &mut Vec<RingEntries>, place: u32, step: &Step<'_>) -> Result
     ensures { OnOk result (lists.new.items
         ≡ with_step lists.old.items place (step_meant step.now)) }
 {
-    if let Action::Submit(entry) = step.action {
+    if let Action::Submit(entry) = &step.action {
         if let Some(list) = lists.get_mut(step.ring as usize) {
             list.push(place, entry.sqe().user_data)?;
         }
@@ -90,9 +90,10 @@ pub struct EntriesByRing {
 }
 
 impl Model for EntriesByRing {
-    ghost use Rattle.std.specs.Prelude.{List, ℕ};
+    ghost use Rattle.std.specs.Prelude.{List};
+    ghost use Rattle.replay_report.specs.RingEntries.{Listed};
 
-    ghost Value = { List (List ℕ × List ℕ) };
+    ghost Value = { List Listed };
 
     ghost view = { λ e. e.lists.items };
 }

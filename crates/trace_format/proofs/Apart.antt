@@ -95,6 +95,13 @@ apart {B = B} keeps o =
       whole = s.3;
     }
 
+-- A claim of the whole value, by a part whose value is only named and what follows that.
+pub onward : {X A C : Type 0} {B : List ℕ → Type 0} {m : Grammar X} {k : X → Grammar A} {y : A}
+    → Keeps B → Own B (Then m k) y → ((x : X) → Own B m x → Own B (k x) y → C) → C
+onward keeps o more =
+    let p = apart keeps o in
+    more p.x p.own p.after
+
 -- a number is within its limit
 pub within_limit : {B : List ℕ → Type 0} → Keeps B → (w : Width) (limit n : ℕ) → Own B (number_to w limit) n → n ≤ limit
 within_limit keeps w limit n o =

@@ -10,3 +10,8 @@ pub goes_out : {X Y Z : Type 0} (view : X → Y) (out : Result X ReadError) (e :
 goes_out view (Ok x) e part whole h fails on = absurd h
 goes_out view (Err y) errors.OutOfMemory part whole h fails on = rw h tt
 goes_out view (Err y) (errors.Fault f) part whole h fails on = rw h (on f fails)
+
+-- where memory was refused, all is open
+pub no_memory : {X Y : Type 0} (view : X → Y) (out : Result X ReadError) (whole : Result Y TraceFault) → IsErrAnd out (λ y. y ≡ errors.OutOfMemory) → Gives view out whole
+no_memory view (Ok x) whole h = absurd h
+no_memory view (Err y) whole h = rw h tt

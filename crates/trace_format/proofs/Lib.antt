@@ -10,8 +10,9 @@ pub mod Spots
 pub mod KnownNames
 pub mod KnownSpans
 pub mod Apart
-pub mod Entries
+pub mod Spotted
 mod Exits
 pub mod Facts
 pub mod Sizes
 pub mod Sound
+pub mod Numbered

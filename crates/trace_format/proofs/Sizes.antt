@@ -9,7 +9,7 @@ use Rattle.trace_format.specs.declared.version.Version.TheVariants.{One, Two}
 use Rattle.trace_format.specs.Versions.{rules}
 use Rattle.trace_format.specs.Text.{Counts, header, item, description, slot, ring, IsSpelled}
 use Rattle.trace_format.specs.Sizes.{HasSizes}
-use Rattle.trace_format.proofs.Apart.{AnyText, keeps_any, Own, apart, at_place, at_test, at_known, at_done, within_limit, each, length-several}
+use Rattle.trace_format.proofs.Apart.{AnyText, keeps_any, Own, onward, at_place, at_test, at_known, at_done, within_limit, each, length-several}
 use Rattle.trace_format.proofs.Facts.{trace_parts}
 
 record RingSizes (r : Ring) : Type 0 where
@@ -19,17 +19,17 @@ record RingSizes (r : Ring) : Type 0 where
 ring_sizes : (descriptions : ℕ) (r : Ring) → Own AnyText (ring descriptions) r → RingSizes r
 unfolding ring
 ring_sizes descriptions r o =
-    let slot_count = apart keeps_any o in
-    let slots = apart keeps_any slot_count.after in
-    let buffer_count = apart keeps_any slots.after in
-    let buffers = apart keeps_any buffer_count.after in
-    let e = at_done buffers.after in
-    let slot_limit = within_limit keeps_any w16 1024 slot_count.x slot_count.own in
-    let buffer_limit = within_limit keeps_any w16 1024 buffer_count.x buffer_count.own in
+    onward keeps_any o (λ n n_own o.
+    onward keeps_any o (λ slots slots_own o.
+    onward keeps_any o (λ m m_own o.
+    onward keeps_any o (λ buffers buffers_own o.
+    let e = (at_done o).1 in
+    let slot_limit = within_limit keeps_any w16 1024 n n_own in
+    let buffer_limit = within_limit keeps_any w16 1024 m m_own in
     record {
-      slots = omega (arith, slot_limit, length-several _ _ slots.x keeps_any slots.own, ap (λ (x : Ring). length x.slots) e.1);
-      buffers = omega (arith, buffer_limit, length-several _ _ buffers.x keeps_any buffers.own, ap (λ (x : Ring). length x.buffers) e.1);
-    }
+      slots = omega (arith, slot_limit, length-several _ _ slots keeps_any slots_own, ap (λ (x : Ring). length x.slots) e);
+      buffers = omega (arith, buffer_limit, length-several _ _ buffers keeps_any buffers_own, ap (λ (x : Ring). length x.buffers) e);
+    }))))
 
 record CountSizes (c : Counts) : Type 0 where
   items : c.items ≤ 65535
@@ -44,25 +44,25 @@ table_size Two = omega arith
 count_sizes : (c : Counts) → Own AnyText header c → CountSizes c
 unfolding header
 count_sizes c o =
-    let magic = apart keeps_any o in
-    let number = apart keeps_any (at_place (at_test magic.after)) in
-    let version = number.after.is.2 in
-    let items = apart keeps_any (at_known number.after) in
-    let descriptions = apart keeps_any items.after in
-    let rings = apart keeps_any descriptions.after in
-    let records = apart keeps_any rings.after in
-    let descriptors = apart keeps_any records.after in
-    let e = (at_done descriptors.after).1 in
-    let item_limit = within_limit keeps_any w32 65535 items.x items.own in
-    let description_limit = within_limit keeps_any w32 65535 descriptions.x descriptions.own in
-    let ring_limit = within_limit keeps_any w32 64 rings.x rings.own in
-    let table_limit = within_limit keeps_any w32 (rules version).most_descriptors descriptors.x descriptors.own in
+    onward keeps_any o (λ _ _ tested.
+    onward keeps_any (at_place (at_test tested)) (λ _ _ known.
+    let version = known.is.2 in
+    onward keeps_any (at_known known) (λ items items_own o.
+    onward keeps_any o (λ descriptions descriptions_own o.
+    onward keeps_any o (λ rings rings_own o.
+    onward keeps_any o (λ records _ o.
+    onward keeps_any o (λ descriptors descriptors_own o.
+    let e = (at_done o).1 in
+    let item_limit = within_limit keeps_any w32 65535 items items_own in
+    let description_limit = within_limit keeps_any w32 65535 descriptions descriptions_own in
+    let ring_limit = within_limit keeps_any w32 64 rings rings_own in
+    let table_limit = within_limit keeps_any w32 (rules version).most_descriptors descriptors descriptors_own in
     record {
       items = omega (arith, item_limit, ap (λ (x : Counts). x.items) e);
       descriptions = omega (arith, description_limit, ap (λ (x : Counts). x.descriptions) e);
       rings = omega (arith, ring_limit, ap (λ (x : Counts). x.rings) e);
       descriptors = omega (arith, table_limit, table_size version, ap (λ (x : Counts). x.descriptors) e);
-    }
+    })))))))
 
 pub sizes : (t : Trace) → IsSpelled t → HasSizes t
 sizes t h =

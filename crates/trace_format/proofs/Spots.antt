@@ -4,7 +4,7 @@ use Rattle.std.proofs.lemmas.List.{length-map, take_more, length-take-le, append
 use Rattle.std.specs.List.{slice_get}
 use Rattle.std.proofs.lemmas.Bool.{cases_lt}
 use Rattle.std.proofs.lemmas.Grind.{common_steps}
-use Rattle.std.proofs.lemmas.Option.{slice_get-get_or, slice_get_read, slice_get-map, get_or_from_slice_get}
+use Rattle.std.proofs.lemmas.Option.{slice_get-get_or, slice_get-map, get_or_from_slice_get}
 use Rattle.trace_format.specs.declared.trace.Record.{Record}
 use Rattle.trace_format.specs.declared.trace.Record.TheVariants.{Enter, Fill}
 use Rattle.trace_format.specs.declared.entry.Entry.{Entry}
@@ -150,10 +150,10 @@ module _ {k : ℕ} {rs : List Record} {numbers firsts : List ℕ} {all : List St
       let same : item ≡ f.item = read_there rs f.index item f.item f.item_there (rw number_read at item_here) in
       rw (entry, same, is) (f.within, f.step)
 
-pub enter_step : (n ring k : ℕ) (entries : List Entry) (e : Entry) → k < length entries → e ≡ get_or entries k e
+pub enter_step : (n ring k : ℕ) (entries : List Entry) (e : Entry) → slice_get entries k ≡ Some e
     → slice_get (record_steps n (Enter ring entries)) k ≡ Some (record { ring = ring; from_record = n; action = submit e })
-enter_step n ring k entries e lt here =
-    rw (slice_get-map _ entries k, slice_get_read entries (length entries) k e refl lt here) refl
+enter_step n ring k entries e here =
+    rw (slice_get-map _ entries k, here) refl
 
 pub fill_step : (n ring buffer offset k : ℕ) (bytes : List ℕ) → k < 1
     → slice_get (record_steps n (Fill ring buffer offset bytes)) k ≡ Some (record { ring = ring; from_record = n; action = fill buffer offset bytes })

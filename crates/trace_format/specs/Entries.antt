@@ -1,13 +1,17 @@
--- A view of code: where a text has an entry.
-use Rattle.std.specs.Prelude.{ℕ, ◌+◌, List, take, drop}
+-- A view of code: where a text has entries.
+use Rattle.std.specs.Prelude.{ℕ, ◌+◌, ◌≤◌, List, length, take, drop}
 use Rattle.sqe_codec.specs.Fields.{entry_of}
 use Rattle.trace_format.specs.Submitted.{Submitted}
-use Rattle.trace_format.specs.declared.entry.Entry.TheInside.{Inside}
+use Rattle.trace_format.specs.declared.entries.Spot.{Spot}
 
--- the entry from a place of a text on: its 64 bytes, four of a length, and so many bytes beside it
-abbrev pub entry_in : List ℕ → ℕ → ℕ → Submitted
-entry_in text at side_len = record { sqe = entry_of (take 64 (drop at text)); side = take side_len (drop (at + 68) text) }
+-- the entry that a text spells as long as it is: its 64 bytes, four of a length, and the bytes beside it
+abbrev pub entry_spelled : List ℕ → Submitted
+entry_spelled text = record { sqe = entry_of (take 64 text); side = drop 68 text }
 
--- the entry in the text that it shares
-abbrev pub submitted_in : Inside → Submitted
-submitted_in e = entry_in e.text.value.items e.at e.side_len
+-- the entry at a spot of a text
+abbrev pub entry_at : List ℕ → Spot → Submitted
+entry_at text s = entry_spelled (take (68 + s.side_len) (drop s.at text))
+
+-- the spot is inside
+abbrev pub IsInside : List ℕ → Spot → Type 0
+IsInside text s = s.at + 68 + s.side_len ≤ length text

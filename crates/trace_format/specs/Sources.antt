@@ -1,10 +1,13 @@
 -- A helper: reading on from what is left of a text.
-use Rattle.std.specs.Prelude.{ℕ, List, Result}
+use Rattle.std.specs.Prelude.{ℕ, ◌+◌, List, Result, nat_le}
 use Rattle.trace_format.specs.declared.fault.TraceFault.{TraceFault}
+use Rattle.trace_format.specs.declared.fault.Kind.TheVariants.{Reference}
 use Rattle.trace_format.specs.declared.header.Counts as code
 use Rattle.trace_format.specs.declared.source.Source.{Source}
+use Rattle.trace_format.specs.declared.trace.Record.{Record}
+use Rattle.trace_format.specs.declared.trace.Record.TheVariants.{Fill}
 use Rattle.std.specs.Int.{w32}
-use Rattle.trace_format.specs.Grammar.{Grammar, Done, ◌>>=◌, number_to}
+use Rattle.trace_format.specs.Grammar.{Grammar, Done, Bytes, Place, Test, ◌>>=◌, fault, number, number_to}
 use Rattle.trace_format.specs.Read.{reading}
 use Rattle.trace_format.specs.Text.{Counts}
 use Rattle.trace_format.specs.Versions.{rules}
@@ -31,3 +34,13 @@ sizes version = do
   records ← number_to w32 1048576
   descriptors ← number_to w32 (rules version).most_descriptors
   Done (record { version = version; items = items; descriptions = descriptions; rings = rings; records = records; descriptors = descriptors })
+
+-- what a fill has behind its buffer, which is so long
+abbrev pub filled : ℕ → ℕ → ℕ → Grammar Record
+filled ring buffer end = do
+  place ← Place
+  offset ← number w32
+  len ← number w32
+  _ ← Test (nat_le (offset + len) end) (fault Reference place)
+  bytes ← Bytes len
+  Done (Fill ring buffer offset bytes)

@@ -44,7 +44,7 @@ step_at t k = slice_get (steps t) k
 
 -- The step that a borrowed one stands for.
 abbrev pub action_meant : BorrowedAction → Action
-action_meant (borrowed.Submit entry) = submit entry.now
+action_meant (borrowed.Submit entry) = submit entry
 action_meant (borrowed.Fill buffer offset bytes) = fill buffer offset bytes.now
 
 -- The same with its ring and its record.

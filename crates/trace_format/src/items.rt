@@ -98,8 +98,9 @@ pub(crate) fn items_of(
     let mut source = source;
     for _ in 0..count {
         let (item, path, after) = item_of(&items, &names, source)?;
-        add_name(&mut names, path, is_directory(&item.node))?;
+        let directory = is_directory(&item.node);
         items.push(item)?;
+        add_name(&mut names, path, directory)?;
         source = after;
     }
     Ok((items, source))

@@ -14,6 +14,7 @@
 
 mod blob;
 mod descriptions;
+mod entries;
 mod entry;
 mod fault;
 mod header;
@@ -34,6 +35,7 @@ mod version;
 mod writing;
 
 pub use blob::Blob;
+pub use entries::{Entries, EntriesBuilder};
 pub use entry::Entry;
 pub use fault::{Kind, TraceFault};
 pub use list::Series;

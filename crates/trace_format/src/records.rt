@@ -1,14 +1,14 @@
 //! The records.
-ghost use Rattle.std.specs.Prelude.{◌≡◌, ◌≤◌, ◌+◌, [], ◌∷◌, IfOk, vec_len};
+ghost use Rattle.std.specs.Prelude.{◌≡◌, ◌≤◌, ◌+◌, [], ◌∷◌, IfOk, length};
+ghost use Rattle.trace_format.specs.Entries.{IsInside, entry_at};
 ghost use Rattle.trace_format.specs.Grammar.{several};
 ghost use Rattle.trace_format.specs.Read.{Gives};
-ghost use Rattle.trace_format.specs.Sources.{reading_from, with_rest};
+ghost use Rattle.trace_format.specs.Sources.{filled, reading_from, with_rest};
 ghost use Rattle.trace_format.specs.Counts.{places_in, places_limit};
 ghost use Rattle.trace_format.specs.Text.{entry, enter, fill, one_record, buffer_len};
 
-use crate::entry::Entry;
+use crate::entries::{Entries, Spot};
 use crate::fault::{Kind, ReadError, refused};
-use crate::list::Series;
 use crate::sides::fits;
 use crate::source::{Source, blob_of, bytes_of, u8_of, u16_of, u16_to, u32_of};
 use crate::steps::{Records, step_count};
@@ -22,9 +22,13 @@ const PLACES: u32 = 1_048_576;
 /// How many bytes an entry takes at least: its 64, and the length of its side bytes.
 const SMALLEST_ENTRY: usize = 68;
 
+/// Where the text has an entry.
 #[tactic(auto, unfolding(crate::specs::Text::entry))]
-fn entry_of(source: Source<'_>) -> Result<(Entry, Source<'_>), ReadError>
-    ensures { Gives with_rest result (reading_from source.entry entry) }
+fn spot_of(source: Source<'_>) -> Result<(Spot, Source<'_>), ReadError>
+    ensures read { Gives (λ x. with_rest (entry_at source.entry.text.now.value.items x.0, x.1))
+        result (reading_from source.entry entry) }
+    ensures inside { IfOk result (λ x. IsInside source.entry.text.now.value.items x.0) }
+    ensures text { IfOk result (λ x. x.1.text.now ≡ source.entry.text.now) }
 {
     let start = source;
     let (bytes, source) = bytes_of(source, 64)?;
@@ -32,32 +36,33 @@ fn entry_of(source: Source<'_>) -> Result<(Entry, Source<'_>), ReadError>
     array.copy_from_slice(bytes);
     let sqe = unpack(&array);
     let place = source.place;
-    let (len, source) = u32_of(source)?;
-    let (side, source) = bytes_of(source, len as usize)?;
+    let (side_len, source) = u32_of(source)?;
+    let (side, source) = bytes_of(source, side_len as usize)?;
     if !fits(&sqe, side) {
         return Err(refused(Kind::Side, place));
     }
-    Ok((Entry::part(start.text, start.place, len)?, source))
+    let at = start.place as u32;
+    Ok((Spot { at, side_len }, source))
 }
 
 fn entries_of(
     alloc: Global,
     count: u16,
     source: Source<'_>,
-) -> Result<(Vec<Entry>, Source<'_>), ReadError>
-    ensures read { Gives (λ x. with_rest (x.0.items, x.1)) result
+) -> Result<(Entries, Source<'_>), ReadError>
+    ensures read { Gives with_rest result
         (reading_from source.entry (several count (λ _. entry) [])) }
-    ensures len { IfOk result (λ x. vec_len x.0 ≡ count) }
+    ensures len { IfOk result (λ x. length x.0 ≡ count) }
 {
     let most = usize::from(count).min(source.rest.len() / SMALLEST_ENTRY);
-    let mut entries = Vec::with_capacity(alloc, most)?;
+    let mut spots = Vec::with_capacity(alloc, most)?;
     let mut source = source;
     for _ in 0..count {
-        let (entry, after) = entry_of(source)?;
-        entries.push(entry)?;
+        let (spot, after) = spot_of(source)?;
+        spots.push(spot)?;
         source = after;
     }
-    Ok((entries, source))
+    Ok((Entries::part(source.text, spots)?, source))
 }
 
 #[tactic(auto, unfolding(crate::specs::Text::enter))]
@@ -82,7 +87,6 @@ fn enter_of(
         return Err(refused(Kind::Limit, place));
     }
     let (entries, source) = entries_of(alloc, count, source)?;
-    let entries = Series::from_vec(entries);
     Ok((Record::Enter { ring, entries }, source))
 }
 
@@ -99,21 +103,16 @@ fn buffer_len(rings: &[Ring], ring: u8, number: u16) -> Option<u32>
     }
 }
 
-#[tactic(auto, unfolding(crate::specs::Text::fill))]
-fn fill_of<'a>(rings: &[Ring], source: Source<'a>) -> Result<(Record, Source<'a>), ReadError>
-    ensures read { Gives with_rest result (reading_from source.entry (fill rings.now)) }
+/// What a fill has behind its ring and its buffer, which is so long.
+fn filled_of(
+    ring: u8,
+    buffer: u16,
+    end: u32,
+    source: Source<'_>,
+) -> Result<(Record, Source<'_>), ReadError>
+    ensures read { Gives with_rest result (reading_from source.entry (filled ring buffer end)) }
     ensures one { IfOk result (λ x. places_in (x.0 ∷ []) ≡ 1) }
 {
-    let place = source.place;
-    let (ring, source) = u8_of(source)?;
-    if ring as usize >= rings.len() {
-        return Err(refused(Kind::Reference, place));
-    }
-    let place = source.place;
-    let (buffer, source) = u16_of(source)?;
-    let Some(end) = buffer_len(rings, ring, buffer) else {
-        return Err(refused(Kind::Reference, place));
-    };
     let place = source.place;
     let (offset, source) = u32_of(source)?;
     let (len, source) = u32_of(source)?;
@@ -130,6 +129,24 @@ fn fill_of<'a>(rings: &[Ring], source: Source<'a>) -> Result<(Record, Source<'a>
         },
         source,
     ))
+}
+
+#[tactic(auto, unfolding(crate::specs::Text::fill))]
+fn fill_of<'a>(rings: &[Ring], source: Source<'a>) -> Result<(Record, Source<'a>), ReadError>
+    ensures read { Gives with_rest result (reading_from source.entry (fill rings.now)) }
+    ensures one { IfOk result (λ x. places_in (x.0 ∷ []) ≡ 1) }
+{
+    let place = source.place;
+    let (ring, source) = u8_of(source)?;
+    if ring as usize >= rings.len() {
+        return Err(refused(Kind::Reference, place));
+    }
+    let place = source.place;
+    let (buffer, source) = u16_of(source)?;
+    match buffer_len(rings, ring, buffer) {
+        Some(end) => filled_of(ring, buffer, end, source),
+        None => Err(refused(Kind::Reference, place)),
+    }
 }
 
 #[tactic(auto, unfolding(crate::specs::Text::one_record))]

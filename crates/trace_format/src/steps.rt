@@ -12,10 +12,10 @@ use std::alloc::{AllocError, Global};
 use std::marker::Model;
 
 /// What a step does: it submits an entry, or puts bytes into a registered buffer at an offset.
-#[derive(Clone, Copy)]
+#[derive(Drop)]
 pub enum Action<'a> {
     /// Submits an entry.
-    Submit(&'a Entry),
+    Submit(Entry<'a>),
     /// Puts the bytes into the ring's buffer of this number, from this offset in it on.
     Fill {
         buffer: u16,
@@ -25,7 +25,7 @@ pub enum Action<'a> {
 }
 
 /// A step of a trace, with its ring and the number of its record.
-#[derive(Clone, Copy)]
+#[derive(Drop)]
 pub struct Step<'a> {
     /// The number of its ring.
     pub ring: u8,
@@ -67,7 +67,7 @@ pub(crate) fn step_count(item: &Record) -> usize
     ensures { result ≡ step_count item.now }
 {
     match item {
-        Record::Enter { ring: _, entries } => entries.as_slice().len(),
+        Record::Enter { ring: _, entries } => entries.len(),
         Record::Fill {
             ring: _,
             buffer: _,
@@ -147,7 +147,7 @@ impl Records {
             Record::Enter { ring, entries } => Step {
                 ring: *ring,
                 record_number,
-                action: Action::Submit(&entries.as_slice()[entry as usize]),
+                action: Action::Submit(entries.at(entry as usize)),
             },
             Record::Fill {
                 ring,

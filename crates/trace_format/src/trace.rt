@@ -4,7 +4,7 @@ ghost use Rattle.trace_format.specs.Counts.{places_limit};
 ghost use Rattle.trace_format.specs.Steps.{places, step_at, step_meant};
 
 use crate::blob::Blob;
-use crate::entry::Entry;
+use crate::entries::Entries;
 use crate::list::Series;
 use crate::steps::{Records, Step};
 use crate::version::Version;
@@ -77,7 +77,7 @@ pub enum Record {
     /// The entries of one io_uring_enter(2), on a ring.
     Enter {
         ring: u8,
-        entries: Series<Entry>,
+        entries: Entries,
     },
     /// Bytes that the program put into a registered buffer of a ring, from an offset in it on.
     Fill {

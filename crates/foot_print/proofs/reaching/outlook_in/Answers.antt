@@ -44,5 +44,5 @@ returns-in-Runs c =
     let r = c.turn_under-ring.result.ring in
     let f = c.in-Runs in
     let task = ap (λ kind. Some (kind_meant r kind)) (sym f.is) ∙ c.turn_under-ring.ensures.turn in
-    members_outlook c.args.trace.now c.args.place c.args.state.now (written_before c.args.behind.now) r c.args.role_there.now f.entry.now (meant f.op) c.turn_under-ring.ensures.ring c.requires.role task
+    members_outlook c.args.trace.now c.args.place c.args.state.now (written_before c.args.behind.now) r c.args.role_there.now f.entry (meant f.op) c.turn_under-ring.ensures.ring c.requires.role task
     c.running_outlook.result c.running_outlook.ensures.reach c.running_outlook.ensures.awaits

@@ -8,7 +8,7 @@ use Rattle.op_meaning.proofs.turn.turn_under.Goals.{in-Submit, in-Fill}
 use Rattle.op_meaning.proofs.turn.turn_under.Goals as goal
 
 pub submitted-kind-requires : goal.submitted-kind-requires
-submitted-kind-requires c = record { side = spelled_fits c.args.trace.now c.requires.trace c.args.place (step_meant c.step-step.result) c.in-Submit.entry.now c.step-step.ensures (ap action_meant c.in-Submit.is) }
+submitted-kind-requires c = record { side = spelled_fits c.args.trace.now c.requires.trace c.args.place (step_meant c.step-step.result) c.in-Submit.entry c.step-step.ensures (ap action_meant c.in-Submit.is) }
 
 pub returns-clause-turn : goal.returns-clause-turn
 returns-clause-turn c =

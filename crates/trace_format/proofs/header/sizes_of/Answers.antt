@@ -3,6 +3,13 @@ use Rattle.trace_format.specs.Sources.{counts_meant, with_rest}
 use Rattle.trace_format.proofs.Exits.{goes_out}
 use Rattle.trace_format.proofs.header.sizes_of.Goals as goal
 
+pub returns-in_err-items-clause-read : goal.returns-in_err-items-clause-read
+returns-in_err-items-clause-read c = goes_out (λ x. with_rest (counts_meant x.0, x.1)) _ _ _ _ c.from_residual.ensures.1 c.in_err-items.ensures (λ f e. rw e refl)
+
+pub returns-in_err-descriptions-clause-read : goal.returns-in_err-descriptions-clause-read
+returns-in_err-descriptions-clause-read c =
+    goes_out (λ x. with_rest (counts_meant x.0, x.1)) _ _ _ _ c.from_residual-in_err-descriptions.ensures.1 c.in_err-descriptions.ensures (λ f e. rw (c.in_ok-items.ensures, e) refl)
+
 pub returns-in_err-rings-clause-read : goal.returns-in_err-rings-clause-read
 returns-in_err-rings-clause-read c =
     goes_out (λ x. with_rest (counts_meant x.0, x.1)) _ _ _ _ c.from_residual-in_err-rings.ensures.1 c.in_err-rings.ensures (λ f e. rw (c.in_ok-items.ensures, c.in_ok-descriptions.ensures, e) refl)

@@ -6,6 +6,18 @@ use Rattle.trace_format.specs.Text.{item}
 use Rattle.trace_format.proofs.Exits.{goes_out}
 use Rattle.trace_format.proofs.items.item_of.Goals as goal
 
+pub returns-in_err-kind-clause-read : goal.returns-in_err-kind-clause-read
+unfolding item
+returns-in_err-kind-clause-read c =
+    goes_out (λ x. with_rest (x.0, x.2)) _ _ _ _ c.from_residual.ensures.1 c.in_err-kind.ensures (λ f e. rw e refl)
+
+pub returns-in_err-path-clause-read : goal.returns-in_err-path-clause-read
+unfolding item
+returns-in_err-path-clause-read c =
+    let least : nat_le 1 c.in_ok-kind.kind ≡ true = le-leb _ _ (omega arith) in
+    let most : nat_le c.in_ok-kind.kind 3 ≡ true = le-leb _ _ (omega arith) in
+    goes_out (λ x. with_rest (x.0, x.2)) _ _ _ _ c.from_residual-in_err-path.ensures.1 (c.in_err-path.ensures.read c.args.items.now c.requires) (λ f e. rw (c.in_ok-kind.ensures, least, most, e) refl)
+
 pub returns-in_err-node-clause-read : goal.returns-in_err-node-clause-read
 unfolding item
 returns-in_err-node-clause-read c =

@@ -1,7 +1,31 @@
-use Rattle.std.proofs.Common.{◌≡◌, true, sym, ◌∙◌}
+use Rattle.std.proofs.Common.{◌≡◌, true, false, refl, sym, ◌∙◌}
 use Rattle.trace_format.specs.Paths.{has_directory}
+use Rattle.trace_format.specs.Sources.{with_rest}
 use Rattle.trace_format.specs.Text.{new_path}
+use Rattle.trace_format.proofs.Exits.{goes_out}
 use Rattle.trace_format.proofs.names.path_of.Goals as goal
+
+pub returns-then-not-is_path-clause-read : goal.returns-then-not-is_path-clause-read
+unfolding new_path
+returns-then-not-is_path-clause-read c items knows =
+    rw (c.refused.ensures, c.in_ok-len.ensures, c.in_ok-bytes.ensures.read, ← c.if-not-is_path.ensures) refl
+
+pub returns-then-not-has_directory-clause-read : goal.returns-then-not-has_directory-clause-read
+unfolding new_path
+returns-then-not-has_directory-clause-read c items knows =
+    let there : has_directory items c.parent_of.result.now ≡ false = rw (← knows.directories c.parent_of.result.now) (sym c.if-not-has_directory.ensures) in
+    rw (c.refused-then-not-has_directory.ensures, c.in_ok-len.ensures, c.in_ok-bytes.ensures.read, ← c.if-not-is_path.ensures, ← c.parent_of.ensures, there) refl
+
+pub returns-then-has_name-clause-read : goal.returns-then-has_name-clause-read
+unfolding new_path
+returns-then-has_name-clause-read c items knows =
+    let there : has_directory items c.parent_of.result.now ≡ true = rw (← knows.directories c.parent_of.result.now) (sym c.if-not-has_directory.ensures) in
+    rw (c.refused-then-has_name.ensures, c.in_ok-len.ensures, c.in_ok-bytes.ensures.read, ← c.if-not-is_path.ensures, ← c.parent_of.ensures, there, ← knows.all c.in_ok-bytes.bytes.now, ← c.if-has_name.ensures) refl
+
+pub returns-in_err-path-clause-read : goal.returns-in_err-path-clause-read
+unfolding new_path
+returns-in_err-path-clause-read c items knows =
+    goes_out (λ x. with_rest (x.0, x.2)) _ _ _ _ c.from_residual-in_err-path.ensures.1 c.in_err-path.ensures (λ f e. absurd (cc (sym c.in_ok-bytes.ensures.read ∙ e)))
 
 pub returns-clause-read : goal.returns-clause-read
 unfolding new_path

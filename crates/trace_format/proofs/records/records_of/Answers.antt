@@ -1,7 +1,17 @@
 use Rattle.std.proofs.Common.{[], ◌∷◌, arith, length-append}
+use Rattle.trace_format.specs.Sources.{with_rest}
+use Rattle.trace_format.proofs.Exits.{no_memory}
 use Rattle.trace_format.proofs.Loops.{goes_on, ends}
 use Rattle.trace_format.proofs.Sums.{places_in-push}
 use Rattle.trace_format.proofs.records.records_of.Goals as goal
+
+pub returns-in_err-push : goal.returns-in_err-push
+returns-in_err-push c =
+    no_memory with_rest _ _ c.from_residual-in_err-push.ensures.1
+
+pub returns-in_err-from_vec : goal.returns-in_err-from_vec
+returns-in_err-from_vec c =
+    no_memory with_rest _ _ c.from_residual-in_err-from_vec.ensures.1
 
 pub returns-in_err-record : goal.returns-in_err-record
 returns-in_err-record c = ends _ _ _ c.from_residual.ensures.1 c.loop-test.true (rw c.loop.invariant.used at c.in_err-record.ensures.read) c.loop.invariant.read

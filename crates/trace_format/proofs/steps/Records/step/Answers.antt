@@ -1,4 +1,4 @@
-use Rattle.std.proofs.Common.{arith, ◌∙◌}
+use Rattle.std.proofs.Common.{arith, ◌∙◌, ◌-◌}
 use Rattle.std.proofs.lemmas.Option.{slice_get_within}
 use Rattle.trace_format.proofs.Spots.{found_here, number_read, first_read, step_read, enter_step, fill_step}
 use Rattle.trace_format.proofs.steps.Records.step.Goals as goal
@@ -23,17 +23,17 @@ index-requires-2 c =
     let f = found_here _ _ _ _ _ c.self.invariant.0 c.self.invariant.1 c.self.view_is c.requires in
     omega (arith, c.self.inside.items.ok.0, slice_get_within c.self.inside.items.items _ f.item f.item_there, number_read f _ c.index-record_number.ensures)
 
-pub bounds-as_slice-entry : goal.bounds-as_slice-entry
-bounds-as_slice-entry c =
+pub at-requires : goal.at-requires
+at-requires c =
     let f = found_here _ _ _ _ _ c.self.invariant.0 c.self.invariant.1 c.self.view_is c.requires in
     let r = step_read f _ c.index-record_number.ensures _ _ c.index.ensures c.index-2.ensures in
-    rw (c.as_slice.ensures) (rw c.in-Enter.is at r.0)
+    rw c.in-Enter.is at r.0
 
 pub returns-in-Enter : goal.returns-in-Enter
 returns-in-Enter c =
     let f = found_here _ _ _ _ _ c.self.invariant.0 c.self.invariant.1 c.self.view_is c.requires in
     let r = rw c.in-Enter.is at (step_read f _ c.index-record_number.ensures _ _ c.index.ensures c.index-2.ensures) in
-    r.1 ∙ enter_step _ _ _ _ _ r.0 (rw c.as_slice.ensures at c.index-as_slice-entry.is)
+    r.1 ∙ enter_step _ _ (c.args.place - c.index.result.now) c.in-Enter.entries c.at.result c.at.ensures
 
 pub returns-in-Fill : goal.returns-in-Fill
 returns-in-Fill c =

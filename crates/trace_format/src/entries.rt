@@ -1,0 +1,154 @@
+//! Lists of entries that share a text.
+ghost use Rattle.std.specs.Prelude.{◌≡◌, ◌<◌, [], ◌∷◌, ◌++◌, All, length, map, take, Some, IfOk};
+ghost use Rattle.std.specs.Int.{w32, to_le_bytes};
+ghost use Rattle.std.specs.List.{slice_get};
+ghost use Rattle.std.specs.Prelude.{OnOk, OnErr};
+ghost use Rattle.trace_format.specs.Entries.{IsInside, entry_at};
+
+use crate::blob::Text;
+use crate::entry::{Entry, HEAD};
+use sqe_codec::{Sqe, pack};
+use std::alloc::{AllocError, Global};
+use std::marker::Model;
+use std::sync::Arc;
+
+/// Where a text has an entry, and how many bytes are beside it.
+#[derive(Clone, Copy)]
+pub(crate) struct Spot {
+    pub at: u32,
+    pub side_len: u32,
+}
+
+/// Entries of one io_uring_enter(2), in the order of their submission. They are ranges of a text
+/// that several lists share: neither fields nor bytes are copied.
+#[derive(Drop)]
+pub struct Entries {
+    text: Text,
+    spots: Vec<Spot>,
+}
+
+impl Model for Entries {
+    ghost use Rattle.std.specs.Prelude.{All, List, map};
+    ghost use Rattle.trace_format.specs.Submitted.{Submitted};
+
+    ghost Value = { List Submitted };
+
+    ghost use Rattle.trace_format.specs.Entries.{IsInside, entry_at};
+
+    ghost view = { λ e. map (entry_at e.text.value.items) e.spots.items };
+
+    ghost invariant = { λ e. All (IsInside e.text.value.items) e.spots.items };
+}
+
+impl Entries {
+    /// The entries at some spots of a text.
+    pub(crate) fn part(text: &Text, spots: Vec<Spot>) -> Result<Self, AllocError>
+        requires { All (IsInside text.now.value.items) spots.items }
+        ensures { IfOk result (λ e. e ≡ map (entry_at text.now.value.items) spots.items) }
+    {
+        Ok(Entries {
+            text: Arc::try_clone(text)?,
+            spots,
+        })
+    }
+
+    /// How many there are.
+    pub fn len(&self) -> usize
+        ensures { result ≡ length self.now }
+    {
+        self.spots.len()
+    }
+
+    /// The entry of a number, from 0.
+    pub fn at(&self, number: usize) -> Entry<'_>
+        requires { number < length self.now }
+        ensures { slice_get self.now number ≡ Some result }
+    {
+        let spot = self.spots[number];
+        let from = spot.at as usize;
+        Entry::of(&self.text[from..from + HEAD + spot.side_len as usize])
+    }
+}
+
+/// Entries that are put together one by one, with a text of their own.
+#[derive(Drop)]
+pub struct EntriesBuilder {
+    text: Vec<u8>,
+    spots: Vec<Spot>,
+}
+
+impl Model for EntriesBuilder {
+    ghost use Rattle.std.specs.Prelude.{All, List, map};
+    ghost use Rattle.trace_format.specs.Submitted.{Submitted};
+
+    ghost Value = { List Submitted };
+
+    ghost use Rattle.trace_format.specs.Entries.{IsInside, entry_at};
+
+    ghost view = { λ e. map (entry_at e.text.items) e.spots.items };
+
+    ghost invariant = { λ e. All (IsInside e.text.items) e.spots.items };
+}
+
+/// The fields of an entry, and the bytes beside it with their length, at the end of a text.
+fn add_text(
+    text: &mut Vec<u8>,
+    fields: &[u8; 64],
+    side_len: u32,
+    side: &[u8],
+) -> Result<(), AllocError>
+    ensures added { OnOk result (text.new.items
+        ≡ ((text.old.items ++ fields.now) ++ to_le_bytes w32 side_len) ++ side.now) }
+    // What was there is there still, after an error too.
+    ensures kept { take (length text.old.items) text.new.items ≡ text.old.items }
+{
+    text.extend_from_slice(fields)?;
+    text.extend_from_slice(&side_len.to_le_bytes())?;
+    text.extend_from_slice(side)
+}
+
+impl EntriesBuilder {
+    /// No entries. It takes no memory.
+    pub fn new(alloc: Global) -> Self
+        ensures { result ≡ [] }
+    {
+        EntriesBuilder {
+            text: Vec::new(alloc),
+            spots: Vec::new(alloc),
+        }
+    }
+
+    /// Adds an entry of these fields, with these bytes beside it.
+    ///
+    /// # Errors
+    ///
+    /// `AllocError` where an allocation was refused, or the entries would take more than 2^32
+    /// bytes of text. There is no new entry then.
+    pub fn push(&mut self, sqe: &Sqe, side: &[u8]) -> Result<(), AllocError>
+        ensures added { OnOk result
+            (self.new ≡ self.old ++ record { sqe = sqe.now; side = side.now } ∷ []) }
+        ensures kept { OnErr result (self.new ≡ self.old) }
+    {
+        let at = self.text.len();
+        if at > u32::MAX as usize || side.len() > u32::MAX as usize {
+            return Err(AllocError);
+        }
+        let side_len = side.len() as u32;
+        add_text(&mut self.text, &pack(sqe), side_len, side)?;
+        self.spots.push(Spot {
+            at: at as u32,
+            side_len,
+        })?;
+        Ok(())
+    }
+
+    /// The list of them.
+    pub fn build(self, alloc: Global) -> Result<Entries, AllocError>
+        ensures { IfOk result (λ e. e ≡ self) }
+    {
+        Ok(Entries {
+            text: Arc::new(alloc, self.text)?,
+            spots: self.spots,
+        })
+    }
+}
