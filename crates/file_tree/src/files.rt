@@ -8,7 +8,7 @@ ghost use Rattle.finite_maps.specs.Table.{adjust_number, insert, number_keys};
 ghost use Rattle.file_tree.specs.Tree.{file, rewritten_node};
 ghost use Rattle.file_tree.specs.Tree as tree;
 
-use crate::node::{Kind, Node, within};
+use crate::node::{Content, Node, within};
 use crate::tree::Tree;
 use extent_bytes::{Extents, ReadBytes};
 use std::alloc::{AllocError, Global};
@@ -40,10 +40,10 @@ impl Tree {
             (self.new ≡ insert number_keys.total self.old number (file (resized [] size))) }
         ensures err { OnErr result (self.new ≡ self.old) }
     {
-        let mut node = Node::new(alloc, Kind::File);
-        node.set_size(size)?;
-        self.nodes.insert(number, node)?;
-        Ok(())
+        let mut bytes = Extents::new(alloc);
+        bytes.set_len(size)?;
+        let content = Content::File(bytes);
+        self.put(number, Node { content })
     }
 
     /// The bytes of a file from `lo` up to `hi`, as far as it has them; none where the node is no

@@ -54,9 +54,9 @@ impl Tree {
         ensures { IfOk result
             (λ tree. tree ≡ insert number_keys.total empty 0 (directory empty 0)) }
     {
-        let mut nodes = IndexMap::new(alloc);
-        nodes.insert(0, Node::new(alloc, Kind::Directory))?;
-        Ok(Tree { nodes })
+        let mut tree = Tree::empty(alloc);
+        tree.put(0, Node::new(alloc, Kind::Directory))?;
+        Ok(tree)
     }
 
     /// A node by its number.
@@ -128,6 +128,16 @@ impl Tree {
         }
     }
 
+    /// Puts a node at a number. One that had the number goes.
+    #[inline(always)]
+    pub(crate) fn put(&mut self, number: u32, node: Node) -> Result<(), AllocError>
+        ensures ok { OnOk result (self.new ≡ insert number_keys.total self.old number node) }
+        ensures err { OnErr result (self.new ≡ self.old) }
+    {
+        self.nodes.insert(number, node)?;
+        Ok(())
+    }
+
     /// Makes a node: a directory without names, or an empty file. One that had the number goes.
     ///
     /// # Errors
@@ -138,8 +148,7 @@ impl Tree {
             (self.new ≡ insert number_keys.total self.old number (new_node (kind_meant kind))) }
         ensures err { OnErr result (self.new ≡ self.old) }
     {
-        self.nodes.insert(number, Node::new(alloc, kind))?;
-        Ok(())
+        self.put(number, Node::new(alloc, kind))
     }
 
     /// Makes a directory that shows none of its names, `others` in number. A node that had the
@@ -158,8 +167,7 @@ impl Tree {
             (self.new ≡ insert number_keys.total self.old number (directory empty others)) }
         ensures err { OnErr result (self.new ≡ self.old) }
     {
-        self.nodes.insert(number, Node::listing(alloc, others))?;
-        Ok(())
+        self.put(number, Node::listing(alloc, others))
     }
 
     /// Takes a node out, if it is there. Names that lead to it stay.

@@ -20,7 +20,7 @@ use Rattle.world_parts.specs.World.{World}
 use Rattle.world_parts.specs.Image.{paths_below, by_path}
 use Rattle.world_parts.specs.Paths.{path_of, is_file_name, HasFileNames}
 use Rattle.world_parts.proofs.Collision.{left, right, true_of}
-use Rattle.world_parts.proofs.Listing.{paths_at}
+use Rattle.world_parts.specs.Pending.{paths_at}
 use Rattle.world_parts.proofs.Members.{In, in_flat_map, in_flat_map-at, entry_of, get_entry, put_either, put_here, put_over}
 use Rattle.world_parts.proofs.Ways.{Leads, AllFit}
 use Rattle.world_parts.proofs.Trees.{some_apart}

@@ -7,11 +7,7 @@ use Rattle.sqe_codec.specs.Answers.{each}
 use Rattle.file_tree.specs.Tree.{Tree, Names, names}
 use Rattle.world_parts.specs.Image.{paths_below}
 use Rattle.world_parts.specs.declared.imaging.Pending.{Pending}
-use Rattle.world_parts.specs.Pending.{paths_of, paths_pending}
-
--- the paths that a name of a directory stands for
-abbrev pub paths_at : ℕ → Tree → List ℕ → List ℕ × ℕ → List (List ℕ × ℕ)
-paths_at levels tree path e = (path ++ 47 ∷ e.0, e.1) ∷ paths_below levels tree (path ++ 47 ∷ e.0) e.1
+use Rattle.world_parts.specs.Pending.{AddsPaths, paths_at, paths_of, paths_pending}
 
 pub paths_below-names : (levels below : ℕ) (tree : Tree) (path : List ℕ) (d : ℕ) (ns : Names) → levels ≡ suc below → names tree d ≡ Some ns
     → paths_below levels tree path d ≡ flat_map (paths_at below tree path) ns.entries
@@ -19,17 +15,16 @@ paths_below-names levels below tree path d ns e f =
     ap (λ n. paths_below n tree path d) e ∙ ap (λ x. flat_map (paths_at below tree path) (each (λ (ns : Names). ns.entries) x)) f
 
 module _ (tree : Tree) where
-  paths_pending-push : (ps : List Pending) (p : Pending) → paths_pending tree (ps ++ p ∷ []) ≡ paths_of tree p ++ paths_pending tree ps
+  pub paths_pending-push : (ps : List Pending) (p : Pending) → paths_pending tree (ps ++ p ∷ []) ≡ paths_of tree p ++ paths_pending tree ps
   paths_pending-push [] p = sym (append-nil (paths_of tree p))
   paths_pending-push (q ∷ ps) p = ap (λ xs. xs ++ paths_of tree q) (paths_pending-push ps p) ∙ append_assoc (paths_of tree p) (paths_pending tree ps) (paths_of tree q)
 
   -- the last name of a directory that is left becomes the next one that is pending
-  pub one_pushed : {A : Type 0} (f : A → List (List ℕ × ℕ)) (left rest : List A) (x : A) (before after : List Pending) (p : Pending) (whole : List (List ℕ × ℕ))
-      → left ≡ rest ++ x ∷ [] → after ≡ before ++ p ∷ [] → paths_of tree p ≡ f x → flat_map f left ++ paths_pending tree before ≡ whole → flat_map f rest ++ paths_pending tree after ≡ whole
-  one_pushed f left rest x before after p whole e g h inv =
+  pub one_pushed : {A : Type 0} (f : A → List (List ℕ × ℕ)) (left rest : List A) (x : A) (before after : List Pending) (whole : List (List ℕ × ℕ))
+      → left ≡ rest ++ x ∷ [] → AddsPaths tree before after (f x) → flat_map f left ++ paths_pending tree before ≡ whole → flat_map f rest ++ paths_pending tree after ≡ whole
+  one_pushed f left rest x before after whole e h inv =
       let last : flat_map f (rest ++ x ∷ []) ≡ flat_map f rest ++ f x = flat_map-append f rest (x ∷ []) ∙ ap (λ y. flat_map f rest ++ y) (append-nil (f x)) in
-      ap (λ ps. flat_map f rest ++ paths_pending tree ps) g
-      ∙ ap (λ y. flat_map f rest ++ y) (paths_pending-push before p ∙ ap (λ y. y ++ paths_pending tree before) h)
+      ap (λ y. flat_map f rest ++ y) h
       ∙ sym (append_assoc (flat_map f rest) (f x) (paths_pending tree before))
       ∙ ap (λ y. y ++ paths_pending tree before) (sym last ∙ ap (flat_map f) (sym e))
       ∙ inv
@@ -41,3 +36,22 @@ module _ (tree : Tree) where
 
 pub fewer : {A : Type 0} (xs ys : List A) (x : A) → xs ≡ x ∷ ys → length ys < length xs
 fewer xs ys x e = omega (arith, ap length e)
+
+module _ {X E : Type 0} (f : X → List E) where
+  -- a list gets what one element more stands for
+  pub listed_one : (left rest : List X) (x : X) (before after part whole : List E) → left ≡ x ∷ rest → f x ≡ part → after ≡ before ++ part
+      → before ++ flat_map f left ≡ whole → after ++ flat_map f rest ≡ whole
+  listed_one left rest x before after part whole e h a inv =
+      ap (λ y. y ++ flat_map f rest) (a ∙ ap (λ p. before ++ p) (sym h))
+      ∙ append_assoc before (f x) (flat_map f rest)
+      ∙ ap (λ xs. before ++ flat_map f xs) (sym e)
+      ∙ inv
+
+  -- an element that stands for nothing
+  pub listed_none : (left rest : List X) (x : X) (before whole : List E) → left ≡ x ∷ rest → f x ≡ [] → before ++ flat_map f left ≡ whole → before ++ flat_map f rest ≡ whole
+  listed_none left rest x before whole e h inv =
+      ap (λ p. before ++ (p ++ flat_map f rest)) (sym h) ∙ ap (λ xs. before ++ flat_map f xs) (sym e) ∙ inv
+
+  -- no element is left
+  pub all_listed : (left : List X) (before whole : List E) → left ≡ [] → before ++ flat_map f left ≡ whole → before ≡ whole
+  all_listed left before whole e inv = sym (append-nil before) ∙ ap (λ xs. before ++ flat_map f xs) (sym e) ∙ inv

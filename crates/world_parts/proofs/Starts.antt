@@ -1,15 +1,21 @@
 -- The world that a trace starts with, a part at a time.
 use Rattle.std.proofs.Common.{◌≡◌, ℕ, zero, suc, ◌+◌, ◌-◌, ◌<◌, ◌≤◌, List, [], ◌∷◌, ◌++◌, length, take, get_or, Some, None, ◌∙◌, ap, refl, arith, eqb}
-use Rattle.std.specs.Prelude.{Option, Bool, cond, replicate}
+use Rattle.std.specs.Prelude.{Option, Bool, cond, replicate, Result, Ok, Err}
 use Rattle.std.proofs.lemmas.List.{take_more, length-take-le}
 use Rattle.std.proofs.lemmas.Bool.{eq-eqb, ne_eqb}
 use Rattle.std.specs.Ordering.{nat_cmp}
+use Rattle.sqe_codec.specs.declared.errno.Errno.{Errno}
+use Rattle.trace_format.specs.Paths.{components}
+use Rattle.trace_format.specs.declared.trace.Node as initial_node
+use Rattle.trace_format.specs.declared.trace.Node.TheVariants.{Directory, File, OtherName}
+use Rattle.file_tree.specs.Tree.{a_directory, a_file}
+use Rattle.file_tree.specs.Walk.{Place, walk_from}
 use Rattle.trace_format.specs.declared.trace.Item.{Item}
 use Rattle.trace_format.specs.declared.trace.Ring.{Ring}
 use Rattle.trace_format.specs.declared.trace.Buffer.{Buffer}
 use Rattle.finite_maps.specs.Table.{Table, empty, insert, number_keys, pair_keys, pair_cmp}
-use Rattle.world_parts.specs.World.{World, Description}
-use Rattle.world_parts.specs.Start.{descriptions_from, descriptors_from, slots_from, buffers_from, ring_slots, ring_buffers, with_node, with_items}
+use Rattle.world_parts.specs.World.{World, Description, apply, apply_all, make_node, set_size, write_bytes}
+use Rattle.world_parts.specs.Start.{descriptions_from, descriptors_from, slots_from, buffers_from, ring_slots, ring_buffers, with_node, with_items, name_at, bare}
 use Rattle.world_parts.proofs.Fills.{keep, filled, rows_filled, rows_next, filled_next}
 
 -- what a slot or a descriptor holds
@@ -96,3 +102,33 @@ with_items-more s xs i x lt =
     let y = get_or xs i x in
     let e : 1 + length (take i xs) ≡ i + 1 = omega (arith, length-take-le i xs) in
     ap (with_items s 1) (take_more xs i x lt) ∙ with_items-push s 1 (take i xs) y ∙ ap (λ (k : ℕ). with_node (with_items s 1 (take i xs)) k y.path y.node) e
+
+-- a world in which nothing is open or registered
+pub record IsClosed (s : World) : Type 0 where
+  pub descriptions : s.descriptions ≡ empty
+  pub slots : s.slots ≡ empty
+  pub descriptors : s.descriptors ≡ empty
+  pub buffers : s.buffers ≡ empty
+
+closed_at : (s : World) (path : List ℕ) (i : ℕ) → IsClosed s → IsClosed (name_at s path i)
+closed_at s path i h = by (walk_from s.nodes 0 (components path)) refl
+  where
+    by : (r : Result Place Errno) → walk_from s.nodes 0 (components path) ≡ r → IsClosed (name_at s path i)
+    by (Ok p) e = rw e (record { descriptions = h.descriptions; slots = h.slots; descriptors = h.descriptors; buffers = h.buffers })
+    by (Err x) e = rw e h
+
+closed_node : (s : World) (i : ℕ) (path : List ℕ) (x : initial_node.Node) → IsClosed s → IsClosed (with_node s i path x)
+closed_node s i path Directory h =
+    closed_at (apply (make_node i a_directory) s) path i (record { descriptions = h.descriptions; slots = h.slots; descriptors = h.descriptors; buffers = h.buffers })
+closed_node s i path (File size stored) h =
+    closed_at (apply_all (make_node i a_file ∷ write_bytes i 0 stored ∷ set_size i size ∷ []) s) path i
+    (record { descriptions = h.descriptions; slots = h.slots; descriptors = h.descriptors; buffers = h.buffers })
+closed_node s i path (OtherName j) h = closed_at s path j h
+
+-- the items of a trace open and register nothing
+pub closed_items : (s : World) (i : ℕ) (xs : List Item) → IsClosed s → IsClosed (with_items s i xs)
+closed_items s i [] h = h
+closed_items s i (x ∷ xs) h = closed_items (with_node s i x.path x.node) (suc i) xs (closed_node s i x.path x.node h)
+
+pub closed_start : (xs : List Item) → IsClosed (with_items bare 1 xs)
+closed_start xs = closed_items bare 1 xs (record { descriptions = refl; slots = refl; descriptors = refl; buffers = refl })

@@ -16,3 +16,7 @@ paths_pending tree (p ∷ ps) = paths_pending tree ps ++ paths_of tree p
 -- the new pending names stand for these paths, and then for those of the old ones
 abbrev pub AddsPaths : Tree → List Pending → List Pending → List (List ℕ × ℕ) → Type 0
 AddsPaths tree old new paths = paths_pending tree new ≡ paths ++ paths_pending tree old
+
+-- the paths that a name of a directory stands for
+abbrev pub paths_at : ℕ → Tree → List ℕ → List ℕ × ℕ → List (List ℕ × ℕ)
+paths_at levels tree path e = (path ++ 47 ∷ e.0, e.1) ∷ paths_below levels tree (path ++ 47 ∷ e.0) e.1

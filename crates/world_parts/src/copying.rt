@@ -5,7 +5,7 @@ ghost use Rattle.world_parts.specs.Copying.{IsCopied, IsNearer, IsShadow};
 ghost use Rattle.world_parts.specs.Copying.{looked_up, nothing, outline};
 ghost use Rattle.world_parts.specs.Items.{Agree, all_descriptors, buffer_bytes, chain_flag};
 ghost use Rattle.world_parts.specs.Items.{description_at, descriptor_at, file_bytes, name_at};
-ghost use Rattle.world_parts.specs.Items.{names_in, one, position_of, size_of, slot_at};
+ghost use Rattle.world_parts.specs.Items.{one, position_of, slot_at};
 ghost use Rattle.world_parts.specs.Cutting.{is_narrow, is_narrow_use};
 ghost use Rattle.world_parts.specs.Uses.{item_meant, use_meant};
 ghost use Rattle.world_parts.specs.World as world;
@@ -86,27 +86,6 @@ impl State {
             return Ok(());
         };
         self.add_listing(alloc, node, count)
-    }
-
-    /// Copies the size of a file.
-    fn copy_size(&mut self, alloc: Global, from: &State, node: u32) -> Result<(), AllocError>
-        requires { IsShadow from.now self.old }
-        ensures { OnOk result (IsCopied from.now self.old self.new (one (size_of node))) }
-    {
-        self.copy_node(alloc, from, node)
-    }
-
-    /// Copies how many names a directory has.
-    fn copy_name_count(
-        &mut self,
-        alloc: Global,
-        from: &State,
-        directory: u32,
-    ) -> Result<(), AllocError>
-        requires { IsShadow from.now self.old }
-        ensures { OnOk result (IsCopied from.now self.old self.new (one (names_in directory))) }
-    {
-        self.copy_node(alloc, from, directory)
     }
 
     /// Copies an open file description with its position, and what its node looks like.
@@ -243,10 +222,10 @@ impl State {
             Item::Descriptor(number) => self.copy_descriptor(from, *number),
             Item::Description(number) => self.copy_description(alloc, from, *number),
             Item::Position(number) => self.copy_description(alloc, from, *number),
-            Item::Size(node) => self.copy_size(alloc, from, *node),
+            Item::Size(node) => self.copy_node(alloc, from, *node),
             Item::Bytes(node, low, high) => self.copy_bytes(alloc, from, *node, *low, *high),
             Item::Name(directory, name) => self.copy_name(alloc, from, *directory, name),
-            Item::Names(directory) => self.copy_name_count(alloc, from, *directory),
+            Item::Names(directory) => self.copy_node(alloc, from, *directory),
             Item::Buffer(ring, index, low, high) => {
                 self.copy_buffer(from, *ring, *index, *low, *high)
             }

@@ -51,16 +51,6 @@ impl State {
         }
         Ok(())
     }
-
-    /// What a footprint names of another state.
-    fn copied(alloc: Global, from: &State, footprint: &Footprint) -> Result<Box<State>, AllocError>
-        requires narrow { T (is_narrow footprint.now) }
-        ensures { IfOk result (λ part. IsPartOf from.now footprint.now part.value) }
-    {
-        let mut state = Box::new(alloc, State::nothing(alloc))?;
-        state.copy_uses(alloc, from, &footprint.uses)?;
-        Ok(state)
-    }
 }
 
 impl World {
@@ -93,8 +83,9 @@ impl World {
         ensures part { IfOk result (λ part. IsPartOf self.old.world footprint part.values) }
         ensures rest { OnOk result (self.new ≡ cut_from self.old place footprint) }
     {
-        let state = State::copied(alloc, &self.state, &footprint)?;
+        let mut part = Part::nothing(alloc, place)?;
+        part.state.copy_uses(alloc, &self.state, &footprint.uses)?;
         self.take_out(place, footprint)?;
-        Ok(Part { place, state })
+        Ok(part)
     }
 }

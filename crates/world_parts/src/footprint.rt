@@ -317,29 +317,29 @@ fn is_same(one: &Item, other: &Item) -> bool
     ensures { result ≡ true → item_meant one.now ≡ item_meant other.now }
 {
     match (one, other) {
-        (Item::Chain(one), Item::Chain(other)) => one == other,
+        (Item::Chain(one), Item::Chain(other))
+        | (Item::Descriptor(one), Item::Descriptor(other))
+        | (Item::Description(one), Item::Description(other))
+        | (Item::Position(one), Item::Position(other))
+        | (Item::Size(one), Item::Size(other))
+        | (Item::Names(one), Item::Names(other))
+        | (Item::AllNames(one), Item::AllNames(other))
+        | (Item::AllBytesAndSizes(one), Item::AllBytesAndSizes(other))
+        | (Item::AllPositions(one), Item::AllPositions(other))
+        | (Item::AllDescriptions(one), Item::AllDescriptions(other)) => one == other,
         (Item::Ring(one), Item::Ring(other)) => one == other,
         (Item::Slot(ring, one), Item::Slot(other_ring, other)) => {
             ring == other_ring && one == other
         }
-        (Item::Descriptor(one), Item::Descriptor(other)) => one == other,
-        (Item::Description(one), Item::Description(other)) => one == other,
-        (Item::Position(one), Item::Position(other)) => one == other,
-        (Item::Size(one), Item::Size(other)) => one == other,
         (Item::Bytes(one, low, high), Item::Bytes(other, from, to)) => {
             one == other && low == from && high == to
         }
         (Item::Name(directory, one), Item::Name(other_directory, other)) => {
             directory == other_directory && one.as_slice() == other.as_slice()
         }
-        (Item::Names(one), Item::Names(other)) => one == other,
         (Item::Buffer(ring, one, low, high), Item::Buffer(other_ring, other, from, to)) => {
             ring == other_ring && one == other && low == from && high == to
         }
-        (Item::AllNames(one), Item::AllNames(other)) => one == other,
-        (Item::AllBytesAndSizes(one), Item::AllBytesAndSizes(other)) => one == other,
-        (Item::AllPositions(one), Item::AllPositions(other)) => one == other,
-        (Item::AllDescriptions(one), Item::AllDescriptions(other)) => one == other,
         (Item::AllDescriptors, Item::AllDescriptors) => true,
         _ => false,
     }
@@ -350,26 +350,30 @@ pub fn share(one: &Item, other: &Item) -> bool
     ensures { result ≡ items.share (item_meant one.now) (item_meant other.now) }
 {
     match (one, other) {
-        (Item::Chain(chain), Item::Chain(other)) => chain == other,
+        (Item::Chain(number), Item::Chain(other))
+        | (Item::Descriptor(number), Item::Descriptor(other))
+        | (Item::Description(number), Item::Description(other))
+        | (Item::Position(number), Item::Position(other))
+        | (Item::Size(number), Item::Size(other))
+        | (Item::Names(number), Item::Names(other)) => number == other,
         (Item::Ring(ring), Item::Ring(other)) => ring == other,
         (Item::Slot(ring, slot), Item::Slot(other_ring, other)) => {
             ring == other_ring && slot == other
         }
-        (Item::Descriptor(number), Item::Descriptor(other)) => number == other,
         (Item::Descriptor(_), Item::AllDescriptors)
         | (Item::AllDescriptors, Item::Descriptor(_) | Item::AllDescriptors) => true,
-        (Item::Description(number), Item::Description(other)) => number == other,
         (Item::Description(number), Item::AllDescriptions(below))
-        | (Item::AllDescriptions(below), Item::Description(number)) => number < below,
-        (Item::AllDescriptions(below), Item::AllDescriptions(other)) => *below > 0 && *other > 0,
-        (Item::Position(description), Item::Position(other)) => description == other,
-        (Item::Position(description), Item::AllPositions(below))
-        | (Item::AllPositions(below), Item::Position(description)) => description < below,
-        (Item::AllPositions(below), Item::AllPositions(other)) => *below > 0 && *other > 0,
-        (Item::Size(node), Item::Size(other)) => node == other,
-        (Item::Size(node), Item::AllBytesAndSizes(below))
-        | (Item::AllBytesAndSizes(below), Item::Size(node)) => node < below,
-        (Item::AllBytesAndSizes(below), Item::AllBytesAndSizes(other)) => *below > 0 && *other > 0,
+        | (Item::AllDescriptions(below), Item::Description(number))
+        | (Item::Position(number), Item::AllPositions(below))
+        | (Item::AllPositions(below), Item::Position(number))
+        | (Item::Size(number), Item::AllBytesAndSizes(below))
+        | (Item::AllBytesAndSizes(below), Item::Size(number))
+        | (Item::Name(number, _) | Item::Names(number), Item::AllNames(below))
+        | (Item::AllNames(below), Item::Name(number, _) | Item::Names(number)) => number < below,
+        (Item::AllDescriptions(below), Item::AllDescriptions(other))
+        | (Item::AllPositions(below), Item::AllPositions(other))
+        | (Item::AllBytesAndSizes(below), Item::AllBytesAndSizes(other))
+        | (Item::AllNames(below), Item::AllNames(other)) => *below > 0 && *other > 0,
         (Item::Bytes(node, low, high), Item::Bytes(other, from, to)) => {
             node == other && ranges_meet(*low, *high, *from, *to)
         }
@@ -380,12 +384,6 @@ pub fn share(one: &Item, other: &Item) -> bool
         (Item::Name(directory, name), Item::Name(other_directory, other)) => {
             directory == other_directory && name.as_slice() == other.as_slice()
         }
-        (Item::Names(directory), Item::Names(other)) => directory == other,
-        (Item::Name(directory, _) | Item::Names(directory), Item::AllNames(below))
-        | (Item::AllNames(below), Item::Name(directory, _) | Item::Names(directory)) => {
-            directory < below
-        }
-        (Item::AllNames(below), Item::AllNames(other)) => *below > 0 && *other > 0,
         (Item::Buffer(ring, index, low, high), Item::Buffer(other_ring, other, from, to)) => {
             ring == other_ring && index == other && ranges_meet(*low, *high, *from, *to)
         }

@@ -4,7 +4,8 @@ ghost use Rattle.extent_bytes.specs.Bytes.{range_of};
 ghost use Rattle.finite_maps.specs.Table.{number_keys, text_keys};
 ghost use Rattle.finite_maps.specs.Maps.{seen_table, table_of};
 ghost use Rattle.world_parts.specs.Image.{all_paths, image_of, paths_below};
-ghost use Rattle.world_parts.specs.Pending.{AddsPaths};
+ghost use Rattle.world_parts.specs.Pending.{AddsPaths, paths_at};
+ghost use Rattle.file_tree.specs.Tree.{Tree};
 ghost use Rattle.world_parts.specs.World.{buffer, bytes};
 
 use crate::broken::Flag;
@@ -24,6 +25,15 @@ struct Pending {
     levels: usize,
 }
 
+/// The lists of an image while they are filled.
+#[derive(Drop)]
+struct Lists {
+    names: Vec<NameEntry>,
+    slots: Vec<SlotEntry>,
+    descriptors: Vec<DescriptorEntry>,
+    buffers: Vec<BufferEntry>,
+}
+
 /// The full path of a name of a directory.
 fn joined(alloc: Global, directory: &[u8], name: &[u8]) -> Result<Vec<u8>, AllocError>
     ensures { IfOk result (λ path. path.items ≡ directory.now ++ 47 ∷ name.now) }
@@ -33,6 +43,23 @@ fn joined(alloc: Global, directory: &[u8], name: &[u8]) -> Result<Vec<u8>, Alloc
     path.push(b'/')?;
     path.extend_from_slice(name)?;
     Ok(path)
+}
+
+/// Puts a name of a directory on top of those that are pending.
+fn push_name(
+    alloc: Global,
+    pending: &mut Vec<Pending>,
+    directory: &[u8],
+    name: &[u8],
+    node: u32,
+    levels: usize,
+) -> Result<(), AllocError>
+    ensures { OnOk result ((tree : Tree) → AddsPaths tree pending.old.items pending.new.items
+        (paths_at levels tree directory.now (name.now, node))) }
+{
+    let path = joined(alloc, directory, name)?;
+    pending.push(Pending { path, node, levels })?;
+    Ok(())
 }
 
 /// Whether the same chains broke, and in the same way.
@@ -52,12 +79,42 @@ impl State {
     pub fn image(&self, alloc: Global) -> Result<Image, AllocError>
         ensures { IfOk result (λ image. image ≡ image_of self.now) }
     {
-        Ok(Image {
-            names: Series::from_vec(self.name_entries(alloc)?),
-            slots: Series::from_vec(self.slot_entries(alloc)?),
-            descriptors: Series::from_vec(self.descriptor_entries(alloc)?),
-            buffers: Series::from_vec(self.buffer_entries(alloc)?),
-        })
+        let mut lists = Lists {
+            names: Vec::new(alloc),
+            slots: Vec::new(alloc),
+            descriptors: Vec::new(alloc),
+            buffers: Vec::new(alloc),
+        };
+        match self.list(alloc, &mut lists) {
+            Ok(()) => Ok(Image {
+                names: Series::from_vec(lists.names),
+                slots: Series::from_vec(lists.slots),
+                descriptors: Series::from_vec(lists.descriptors),
+                buffers: Series::from_vec(lists.buffers),
+            }),
+            Err(refused) => {
+                drop(lists);
+                Err(refused)
+            }
+        }
+    }
+
+    /// Fills the lists of an image, which are empty.
+    fn list(&self, alloc: Global, lists: &mut Lists) -> Result<(), AllocError>
+        requires names { lists.old.names.items ≡ [] }
+        requires slots { lists.old.slots.items ≡ [] }
+        requires descriptors { lists.old.descriptors.items ≡ [] }
+        requires buffers { lists.old.buffers.items ≡ [] }
+        ensures names { OnOk result (lists.new.names.items ≡ (image_of self.now).names) }
+        ensures slots { OnOk result (lists.new.slots.items ≡ (image_of self.now).slots) }
+        ensures descriptors { OnOk result
+            (lists.new.descriptors.items ≡ (image_of self.now).descriptors) }
+        ensures buffers { OnOk result (lists.new.buffers.items ≡ (image_of self.now).buffers) }
+    {
+        self.list_names(alloc, &mut lists.names)?;
+        self.list_slots(&mut lists.slots)?;
+        self.list_descriptors(&mut lists.descriptors)?;
+        self.list_buffers(&mut lists.buffers)
     }
 
     /// The bytes of a file from one offset up to another, as far as it has them; none where the
@@ -130,11 +187,7 @@ impl State {
             return Ok(());
         };
         for (name, node) in names.descending() {
-            pending.push(Pending {
-                path: joined(alloc, path, name)?,
-                node,
-                levels: below,
-            })?;
+            push_name(alloc, pending, path, name, node, below)?;
         }
         Ok(())
     }
@@ -155,10 +208,11 @@ impl State {
         Ok(paths)
     }
 
-    fn name_entries(&self, alloc: Global) -> Result<Vec<NameEntry>, AllocError>
-        ensures { IfOk result (λ entries. entries.items ≡ (image_of self.now).names) }
+    /// Lists the names.
+    fn list_names(&self, alloc: Global, entries: &mut Vec<NameEntry>) -> Result<(), AllocError>
+        requires { entries.old.items ≡ [] }
+        ensures { OnOk result (entries.new.items ≡ (image_of self.now).names) }
     {
-        let mut entries = Vec::new(alloc);
         for (path, node) in self.paths(alloc)? {
             entries.push(NameEntry {
                 path: Series::from_vec(path),
@@ -166,13 +220,14 @@ impl State {
                 size: self.size(node),
             })?;
         }
-        Ok(entries)
+        Ok(())
     }
 
-    fn slot_entries(&self, alloc: Global) -> Result<Vec<SlotEntry>, AllocError>
-        ensures { IfOk result (λ entries. entries.items ≡ (image_of self.now).slots) }
+    /// Lists the full slots.
+    fn list_slots(&self, entries: &mut Vec<SlotEntry>) -> Result<(), AllocError>
+        requires { entries.old.items ≡ [] }
+        ensures { OnOk result (entries.new.items ≡ (image_of self.now).slots) }
     {
-        let mut entries = Vec::new(alloc);
         for (&(ring, slot), &description) in self.slots.iter() {
             if let Some(opened) = self.description(description) {
                 entries.push(SlotEntry {
@@ -184,13 +239,14 @@ impl State {
                 })?;
             }
         }
-        Ok(entries)
+        Ok(())
     }
 
-    fn descriptor_entries(&self, alloc: Global) -> Result<Vec<DescriptorEntry>, AllocError>
-        ensures { IfOk result (λ entries. entries.items ≡ (image_of self.now).descriptors) }
+    /// Lists the full descriptors.
+    fn list_descriptors(&self, entries: &mut Vec<DescriptorEntry>) -> Result<(), AllocError>
+        requires { entries.old.items ≡ [] }
+        ensures { OnOk result (entries.new.items ≡ (image_of self.now).descriptors) }
     {
-        let mut entries = Vec::new(alloc);
         for (&number, &description) in self.descriptors.iter() {
             if let Some(opened) = self.description(description) {
                 entries.push(DescriptorEntry {
@@ -201,13 +257,14 @@ impl State {
                 })?;
             }
         }
-        Ok(entries)
+        Ok(())
     }
 
-    fn buffer_entries(&self, alloc: Global) -> Result<Vec<BufferEntry>, AllocError>
-        ensures { IfOk result (λ entries. entries.items ≡ (image_of self.now).buffers) }
+    /// Lists the buffers.
+    fn list_buffers(&self, entries: &mut Vec<BufferEntry>) -> Result<(), AllocError>
+        requires { entries.old.items ≡ [] }
+        ensures { OnOk result (entries.new.items ≡ (image_of self.now).buffers) }
     {
-        let mut entries = Vec::new(alloc);
         for (&(ring, index), buffer) in self.buffers.iter() {
             entries.push(BufferEntry {
                 ring,
@@ -215,6 +272,6 @@ impl State {
                 len: buffer.len(),
             })?;
         }
-        Ok(entries)
+        Ok(())
     }
 }

@@ -2,6 +2,7 @@
 ghost use Rattle.std.specs.Prelude.{◌≡◌, ◌≤◌, ◌∷◌, [], All, IfOk, OnOk, length};
 ghost use Rattle.entry_checks.specs.Operation.{file_limit};
 ghost use Rattle.file_tree.specs.Tree.{a_file};
+ghost use Rattle.finite_maps.specs.Table.{empty};
 ghost use Rattle.trace_format.specs.Text.{IsSpelled};
 ghost use Rattle.trace_format.specs.declared.trace.Item.{Item};
 ghost use Rattle.trace_format.specs.declared.trace.Ring.{Ring};
@@ -19,28 +20,33 @@ use ring_tables::{Buffers, Descriptions, Descriptors, Slots};
 use std::alloc::{AllocError, Global};
 use trace_format::{Buffer, Description, Item, Node, Ring, Trace};
 
-fn descriptions_of(alloc: Global, descriptions: &[Description]) -> Result<Descriptions, AllocError>
-    requires { length descriptions.now ≤ 65535 }
-    ensures { IfOk result (λ table. table ≡ initial.descriptions_from 0 descriptions.now) }
+/// Adds the open file descriptions.
+fn add_descriptions(
+    table: &mut Descriptions,
+    descriptions: &[Description],
+) -> Result<(), AllocError>
+    requires bare { table.old ≡ empty }
+    requires count { length descriptions.now ≤ 65535 }
+    ensures { OnOk result (table.new ≡ initial.descriptions_from 0 descriptions.now) }
 {
-    let mut table = Descriptions::new(alloc);
     for (number, description) in descriptions.iter().enumerate() {
         table.set(number as u32, *description)?;
     }
-    Ok(table)
+    Ok(())
 }
 
-fn descriptors_of(alloc: Global, descriptors: &[u32]) -> Result<Descriptors, AllocError>
-    requires { length descriptors.now ≤ 1024 }
-    ensures { IfOk result (λ table. table ≡ initial.descriptors_from 0 descriptors.now) }
+/// Adds the full descriptors.
+fn add_descriptors(table: &mut Descriptors, descriptors: &[u32]) -> Result<(), AllocError>
+    requires bare { table.old ≡ empty }
+    requires count { length descriptors.now ≤ 1024 }
+    ensures { OnOk result (table.new ≡ initial.descriptors_from 0 descriptors.now) }
 {
-    let mut table = Descriptors::new(alloc);
     for (number, descriptor) in descriptors.iter().enumerate() {
         if let Some(description) = descriptor.checked_sub(1) {
             table.set(number as u32, Some(description))?;
         }
     }
-    Ok(table)
+    Ok(())
 }
 
 /// Adds the full slots of a ring.
@@ -56,16 +62,17 @@ fn add_slots(table: &mut Slots, ring: u8, slots: &[u32]) -> Result<(), AllocErro
     Ok(())
 }
 
-fn slots_of(alloc: Global, rings: &[Ring]) -> Result<Slots, AllocError>
+/// Adds the full slots of the rings.
+fn add_all_slots(table: &mut Slots, rings: &[Ring]) -> Result<(), AllocError>
+    requires bare { table.old ≡ empty }
     requires rings { length rings.now ≤ 64 }
     requires slots { All (λ (r : Ring). length r.slots ≤ 1024) rings.now }
-    ensures { IfOk result (λ table. table ≡ initial.ring_slots 0 rings.now) }
+    ensures { OnOk result (table.new ≡ initial.ring_slots 0 rings.now) }
 {
-    let mut table = Slots::new(alloc);
     for (number, ring) in rings.iter().enumerate() {
-        add_slots(&mut table, number as u8, ring.slots.as_slice())?;
+        add_slots(table, number as u8, ring.slots.as_slice())?;
     }
-    Ok(table)
+    Ok(())
 }
 
 /// Adds the buffers of a ring, but for empty entries.
@@ -81,16 +88,17 @@ fn add_buffers(table: &mut Buffers, ring: u8, buffers: &[Buffer]) -> Result<(), 
     Ok(())
 }
 
-fn buffers_of(alloc: Global, rings: &[Ring]) -> Result<Buffers, AllocError>
+/// Adds the buffers of the rings.
+fn add_all_buffers(table: &mut Buffers, rings: &[Ring]) -> Result<(), AllocError>
+    requires bare { table.old ≡ empty }
     requires rings { length rings.now ≤ 64 }
     requires buffers { All (λ (r : Ring). length r.buffers ≤ 1024) rings.now }
-    ensures { IfOk result (λ table. table ≡ initial.ring_buffers 0 rings.now) }
+    ensures { OnOk result (table.new ≡ initial.ring_buffers 0 rings.now) }
 {
-    let mut table = Buffers::new(alloc);
     for (number, ring) in rings.iter().enumerate() {
-        add_buffers(&mut table, number as u8, ring.buffers.as_slice())?;
+        add_buffers(table, number as u8, ring.buffers.as_slice())?;
     }
-    Ok(table)
+    Ok(())
 }
 
 impl State {
@@ -120,32 +128,33 @@ impl State {
         ensures { OnOk result (self.new ≡ initial.start trace.now) }
     {
         self.add_items(alloc, trace.items.as_slice())?;
-        self.open(alloc, trace)?;
-        self.register(alloc, trace)
+        self.open(trace)?;
+        self.register(trace)
     }
 
     /// Adds the open file descriptions, and the descriptors that hold some.
-    fn open(&mut self, alloc: Global, trace: &Trace) -> Result<(), AllocError>
-        requires { IsSpelled trace.now }
+    fn open(&mut self, trace: &Trace) -> Result<(), AllocError>
+        requires trace { IsSpelled trace.now }
+        requires descriptions { self.old.descriptions ≡ empty }
+        requires descriptors { self.old.descriptors ≡ empty }
         ensures { OnOk result (self.new ≡ initial.opened trace.now self.old) }
     {
-        self.descriptions = descriptions_of(alloc, trace.descriptions.as_slice())?;
-        self.descriptors = descriptors_of(alloc, trace.descriptors.as_slice())?;
-        Ok(())
+        add_descriptions(&mut self.descriptions, trace.descriptions.as_slice())?;
+        add_descriptors(&mut self.descriptors, trace.descriptors.as_slice())
     }
 
     /// Adds the registered files and buffers of the rings.
-    fn register(&mut self, alloc: Global, trace: &Trace) -> Result<(), AllocError>
-        requires { IsSpelled trace.now }
+    fn register(&mut self, trace: &Trace) -> Result<(), AllocError>
+        requires trace { IsSpelled trace.now }
+        requires slots { self.old.slots ≡ empty }
+        requires buffers { self.old.buffers ≡ empty }
         ensures { OnOk result (self.new ≡ record self.old {
           slots = initial.ring_slots 0 trace.now.rings;
           buffers = initial.ring_buffers 0 trace.now.rings;
         }) }
     {
-        let rings = trace.rings.as_slice();
-        self.slots = slots_of(alloc, rings)?;
-        self.buffers = buffers_of(alloc, rings)?;
-        Ok(())
+        add_all_slots(&mut self.slots, trace.rings.as_slice())?;
+        add_all_buffers(&mut self.buffers, trace.rings.as_slice())
     }
 
     /// A state with a tree alone.

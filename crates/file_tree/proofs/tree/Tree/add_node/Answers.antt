@@ -1,9 +1,8 @@
 use Rattle.std.proofs.Common.{ap, ◌∙◌}
+use Rattle.std.proofs.lemmas.Result.{on_ok_weaker}
 use Rattle.finite_maps.specs.Table.{insert, number_keys}
-use Rattle.finite_maps.proofs.Indexed.{seen-assign}
 use Rattle.file_tree.proofs.tree.Tree.add_node.Goals as goal
 
 pub returns-clause-ok : goal.returns-clause-ok
 returns-clause-ok c =
-    seen-assign c.self.inside.nodes c.insert.new.self c.args.self.now c.args.number _ c.self.view_is c.in_ok-insert.ensures.updates
-    ∙ ap (insert number_keys.total c.args.self.now c.args.number) c.new.ensures
+    on_ok_weaker c.put.result (λ e. e ∙ ap (insert number_keys.total c.args.self.now c.args.number) c.new.ensures) c.put.ensures.ok

@@ -1,3 +1,5 @@
+use Rattle.world_parts.proofs.Copies.{on_ok_two}
+use Rattle.world_parts.proofs.CopiesOfNodes.{count_copied, size_copied}
 use Rattle.world_parts.proofs.Cuts.{IsOther, other_copied}
 use Rattle.world_parts.proofs.state.State.copy_use.Goals as goal
 
@@ -17,3 +19,12 @@ returns-in_default c =
       no_descriptors = c.in_default.not-AllDescriptors;
     } in
     other_copied c.args.from.now c.args.self.now c.args.used.now.item c.args.used.now.written c.requires.shadow other c.requires.narrow
+
+pub returns-in-Size : goal.returns-in-Size
+returns-in-Size c =
+    rw c.in-Size.is (on_ok_two c.copy_node.result (size_copied c.args.from.now c.args.self.now c.copy_node.new.self c.in-Size.node) c.copy_node.ensures.nearer c.copy_node.ensures.node)
+
+pub returns-in-Names : goal.returns-in-Names
+returns-in-Names c =
+    rw c.in-Names.is
+    (on_ok_two c.copy_node-in-Names.result (count_copied c.args.from.now c.args.self.now c.copy_node-in-Names.new.self c.in-Names.directory) c.copy_node-in-Names.ensures.nearer c.copy_node-in-Names.ensures.node)

@@ -1,9 +1,9 @@
-use Rattle.std.proofs.Common.{◌≡◌, suc, ◌∷◌, ◌++◌, ap, sym, ◌∙◌, arith}
+use Rattle.std.proofs.Common.{◌≡◌, suc, ◌++◌, ap, sym, ◌∙◌, arith}
 use Rattle.std.specs.List.{flat_map}
 use Rattle.file_tree.specs.Tree.{Names, names}
 use Rattle.world_parts.specs.Image.{paths_below}
-use Rattle.world_parts.specs.Pending.{paths_pending}
-use Rattle.world_parts.proofs.Listing.{paths_at, paths_below-names, one_pushed}
+use Rattle.world_parts.specs.Pending.{paths_at, paths_pending}
+use Rattle.world_parts.proofs.Listing.{paths_below-names, one_pushed}
 use Rattle.world_parts.proofs.state.State.push_names.Goals as goal
 
 pub loop-name-init : goal.loop-name-init
@@ -24,8 +24,6 @@ loop-name-preserved c =
     let name = c.in-Some-2.name.now in
     let node = c.in-Some-2.node in
     one_pushed tree (paths_at below tree path) c.loop-name.name-iterator.entries c.next.new.self.entries (name, node)
-    c.loop-name.pending.items c.push.new.self.items (record { path = c.in_ok-joined.field-0; node = node; levels = below })
+    c.loop-name.pending.items c.push_name.new.pending.items
     (paths_below c.args.levels tree path c.args.directory ++ paths_pending tree c.args.pending.now.items)
-    c.in-Some-2.ensures.steps c.in_ok-push.ensures.items
-    (ap (λ q. (q, node) ∷ paths_below below tree q node) c.in_ok-joined.ensures)
-    c.loop-name.invariant
+    c.in-Some-2.ensures.steps (c.in_ok-push_name.ensures tree) c.loop-name.invariant

@@ -1,8 +1,7 @@
 use Rattle.std.proofs.Common.{◌≡◌, ◌++◌}
 use Rattle.std.specs.List.{flat_map}
 use Rattle.world_parts.specs.Image.{paths_below}
-use Rattle.world_parts.specs.Pending.{paths_pending}
-use Rattle.world_parts.proofs.Listing.{paths_at}
+use Rattle.world_parts.specs.Pending.{paths_at, paths_pending}
 use Rattle.world_parts.proofs.state.State.push_names.Given as goal
 
 -- the names that are left, and those that are pending, stand for what they stood for at first

@@ -1,14 +1,14 @@
 use Rattle.trace_format.proofs.Sizes.{sizes}
 use Rattle.world_parts.proofs.state.State.register.Goals as goal
 
-pub slots_of-requires-clause-rings : goal.slots_of-requires-clause-rings
-slots_of-requires-clause-rings c = rw c.as_slice-rings.ensures (sizes c.args.trace.now c.requires).rings
+pub add_all_slots-requires-clause-rings : goal.add_all_slots-requires-clause-rings
+add_all_slots-requires-clause-rings c = rw c.as_slice.ensures (sizes c.args.trace.now c.requires.trace).rings
 
-pub slots_of-requires-clause-slots : goal.slots_of-requires-clause-slots
-slots_of-requires-clause-slots c = rw c.as_slice-rings.ensures (sizes c.args.trace.now c.requires).slots
+pub add_all_slots-requires-clause-slots : goal.add_all_slots-requires-clause-slots
+add_all_slots-requires-clause-slots c = rw c.as_slice.ensures (sizes c.args.trace.now c.requires.trace).slots
 
-pub buffers_of-requires-clause-rings : goal.buffers_of-requires-clause-rings
-buffers_of-requires-clause-rings c = rw c.as_slice-rings.ensures (sizes c.args.trace.now c.requires).rings
+pub add_all_buffers-requires-clause-rings : goal.add_all_buffers-requires-clause-rings
+add_all_buffers-requires-clause-rings c = rw c.as_slice-2.ensures (sizes c.args.trace.now c.requires.trace).rings
 
-pub buffers_of-requires-clause-buffers : goal.buffers_of-requires-clause-buffers
-buffers_of-requires-clause-buffers c = rw c.as_slice-rings.ensures (sizes c.args.trace.now c.requires).buffers
+pub add_all_buffers-requires-clause-buffers : goal.add_all_buffers-requires-clause-buffers
+add_all_buffers-requires-clause-buffers c = rw c.as_slice-2.ensures (sizes c.args.trace.now c.requires.trace).buffers

@@ -1,6 +1,6 @@
 use Rattle.std.proofs.Common.{arith}
 use Rattle.world_parts.proofs.Starts.{held-full, held-empty, descriptors-more}
-use Rattle.world_parts.proofs.start.descriptors_of.Goals as goal
+use Rattle.world_parts.proofs.start.add_descriptors.Goals as goal
 
 pub loop-number-preserved : goal.loop-number-preserved
 loop-number-preserved c =

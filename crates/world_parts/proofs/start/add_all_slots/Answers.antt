@@ -1,6 +1,6 @@
 use Rattle.std.proofs.Common.{arith}
 use Rattle.world_parts.proofs.Starts.{ring_slots-more}
-use Rattle.world_parts.proofs.start.slots_of.Goals as goal
+use Rattle.world_parts.proofs.start.add_all_slots.Goals as goal
 
 pub loop-number-preserved : goal.loop-number-preserved
 loop-number-preserved c =

@@ -1,6 +1,6 @@
 use Rattle.std.proofs.Common.{arith}
 use Rattle.world_parts.proofs.Starts.{ring_buffers-more}
-use Rattle.world_parts.proofs.start.buffers_of.Goals as goal
+use Rattle.world_parts.proofs.start.add_all_buffers.Goals as goal
 
 pub loop-number-preserved : goal.loop-number-preserved
 loop-number-preserved c =

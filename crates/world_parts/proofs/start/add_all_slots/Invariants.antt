@@ -1,6 +1,6 @@
 use Rattle.std.proofs.Common.{◌≡◌, take}
 use Rattle.world_parts.specs.Start.{ring_slots}
-use Rattle.world_parts.proofs.start.slots_of.Given as goal
+use Rattle.world_parts.proofs.start.add_all_slots.Given as goal
 
 -- the map has the slots of the rings so far
 abbrev pub invariant-loop-number : goal.invariant-loop-number

@@ -1,6 +1,6 @@
 use Rattle.std.proofs.Common.{◌≡◌, take}
 use Rattle.world_parts.specs.Start.{descriptions_from}
-use Rattle.world_parts.proofs.start.descriptions_of.Given as goal
+use Rattle.world_parts.proofs.start.add_descriptions.Given as goal
 
 -- the map has the descriptions so far
 abbrev pub invariant-loop-number : goal.invariant-loop-number

@@ -2,7 +2,7 @@ use Rattle.std.proofs.Common.{arith, false}
 use Rattle.trace_format.specs.declared.trace.Access.TheVariants.{Read}
 use Rattle.world_parts.specs.World.{Description}
 use Rattle.world_parts.proofs.Starts.{descriptions-more}
-use Rattle.world_parts.proofs.start.descriptions_of.Goals as goal
+use Rattle.world_parts.proofs.start.add_descriptions.Goals as goal
 
 pub loop-number-preserved : goal.loop-number-preserved
 loop-number-preserved c =

@@ -1,6 +1,6 @@
 use Rattle.std.proofs.Common.{◌≡◌, take}
 use Rattle.world_parts.specs.Start.{descriptors_from}
-use Rattle.world_parts.proofs.start.descriptors_of.Given as goal
+use Rattle.world_parts.proofs.start.add_descriptors.Given as goal
 
 -- the map has the full descriptors so far
 abbrev pub invariant-loop-number : goal.invariant-loop-number

@@ -3,7 +3,7 @@ use Rattle.std.specs.List.{flat_map}
 use Rattle.sqe_codec.specs.Answers.{each}
 use Rattle.finite_maps.specs.Table.{get}
 use Rattle.world_parts.specs.Image.{image_of, descriptor_entry}
-use Rattle.world_parts.proofs.state.State.descriptor_entries.Given as goal
+use Rattle.world_parts.proofs.state.State.list_descriptors.Given as goal
 
 -- the lines so far, and those of the descriptors that are left
 abbrev pub invariant-loop-number : goal.invariant-loop-number

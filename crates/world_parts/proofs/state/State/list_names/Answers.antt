@@ -9,7 +9,7 @@ use Rattle.file_tree.specs.Tree.{Tree}
 use Rattle.world_parts.specs.declared.image.NameEntry.{NameEntry}
 use Rattle.world_parts.specs.Image.{all_paths, name_entry}
 use Rattle.finite_maps.proofs.Ordered.{seen_entries_of}
-use Rattle.world_parts.proofs.state.State.name_entries.Goals as goal
+use Rattle.world_parts.proofs.state.State.list_names.Goals as goal
 
 abbrev seen : Vec ℕ Global × ℕ → List ℕ × ℕ
 seen e = (e.0.items, e.1)
@@ -21,7 +21,7 @@ pub loop-path-init : goal.loop-path-init
 loop-path-init c =
     let tree = c.args.self.now.nodes in
     let given = c.into_iter-path-iterator.ensures.into_iter_gives in
-    ap (λ es. es ++ flat_map (λ e. line tree (seen e)) c.into_iter-path-iterator.result) c.new-entries.ensures.items
+    ap (λ es. es ++ flat_map (λ e. line tree (seen e)) c.into_iter-path-iterator.result) c.requires
     ∙ (sym (flat_map-map (line tree) seen c.into_iter-path-iterator.result)
     ∙ ap (λ es. flat_map (line tree) (map seen es)) given.0
     ∙ ap (flat_map (line tree)) (seen_entries_of text_keys (λ k. k.items) c.in_ok-items.items.entries (all_paths tree) given.5 c.in_ok-items.ensures)
