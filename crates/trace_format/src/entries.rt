@@ -10,6 +10,7 @@ use crate::entry::{Entry, HEAD};
 use sqe_codec::{Sqe, pack};
 use std::alloc::{AllocError, Global};
 use std::marker::Model;
+use std::mem;
 use std::sync::Arc;
 
 /// Where a text has an entry, and how many bytes are beside it.
@@ -122,8 +123,8 @@ impl EntriesBuilder {
     ///
     /// # Errors
     ///
-    /// `AllocError` where an allocation was refused, or the entries would take more than 2^32
-    /// bytes of text. There is no new entry then.
+    /// `AllocError` where an allocation was refused, or where a length is beyond a `u32`: that of
+    /// the bytes beside it, or of the text of all entries before it. There is no new entry then.
     pub fn push(&mut self, sqe: &Sqe, side: &[u8]) -> Result<(), AllocError>
         ensures added { OnOk result
             (self.new ≡ self.old ++ record { sqe = sqe.now; side = side.now } ∷ []) }
@@ -142,13 +143,26 @@ impl EntriesBuilder {
         Ok(())
     }
 
-    /// The list of them.
-    pub fn build(self, alloc: Global) -> Result<Entries, AllocError>
-        ensures { IfOk result (λ e. e ≡ self) }
+    /// The list of them, which are taken out: there are none here then.
+    ///
+    /// # Errors
+    ///
+    /// `AllocError` where an allocation was refused, and then they are here still.
+    pub fn build(&mut self, alloc: Global) -> Result<Entries, AllocError>
+        ensures list { IfOk result (λ e. e ≡ self.old) }
+        ensures taken { OnOk result (self.new ≡ []) }
+        ensures kept { OnErr result (self.new ≡ self.old) }
     {
-        Ok(Entries {
-            text: Arc::new(alloc, self.text)?,
-            spots: self.spots,
-        })
+        let text = mem::replace(&mut self.text, Vec::new(alloc));
+        match Arc::new(alloc, text) {
+            Ok(text) => Ok(Entries {
+                text,
+                spots: mem::replace(&mut self.spots, Vec::new(alloc)),
+            }),
+            Err(refused) => {
+                self.text = refused.value;
+                Err(AllocError)
+            }
+        }
     }
 }
