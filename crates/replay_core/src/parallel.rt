@@ -17,6 +17,22 @@ const MOST_WORKERS: u32 = 64;
 
 pub(crate) const WIDEST_WINDOW: u32 = 4096;
 
+/// Tests the numbers of workers and of places that a round looks at.
+pub(crate) fn checked(workers: u32, window: u32) -> Result<(), ReplayFault>
+    ensures workers { (result ≡ Err ReplayFault.Workers) ↔ ((workers ≡ 0) ⊎ (64 < workers)) }
+    ensures window { (result ≡ Err ReplayFault.Window) ↔ ((1 ≤ workers) × (workers ≤ 64)
+        × ((window ≡ 0) ⊎ (4096 < window))) }
+    ensures others { (result ≢ Err ReplayFault.Memory) × (result ≢ Err ReplayFault.NoThread) }
+{
+    if !(1..=MOST_WORKERS).contains(&workers) {
+        return Err(ReplayFault::Workers);
+    }
+    if !(1..=WIDEST_WINDOW).contains(&window) {
+        return Err(ReplayFault::Window);
+    }
+    Ok(())
+}
+
 /// Runs the places of a trace in rounds. Each round looks at the first `window` places that aren't
 /// done, runs those that may run now, on as many workers as they are worth by the gate's weights
 /// but no more than `workers`, and puts what they made together again in recorded order.
@@ -45,12 +61,7 @@ pub fn replay<R: Threads + Wait + Sync, G: Gate + Sync>(
         × ((window ≡ 0) ⊎ (4096 < window))) }
     ensures alone { workers ≡ 1 → result ≢ Err ReplayFault.NoThread }
 {
-    if !(1..=MOST_WORKERS).contains(&workers) {
-        return Err(ReplayFault::Workers);
-    }
-    if !(1..=WIDEST_WINDOW).contains(&window) {
-        return Err(ReplayFault::Window);
-    }
+    checked(workers, window)?;
     match in_rounds(rt, alloc, trace, workers, window, gate) {
         Ok(replay) => Ok(replay),
         Err(RoundFault::Memory) => Err(ReplayFault::Memory),

@@ -23,6 +23,7 @@ use crate::transfer::{Sink, Source, TextFault, read_text, write_text};
 use crate::words::{Mode, Options};
 use replay_core::comparing::verdict;
 use replay_core::parallel::replay;
+use replay_core::quick::replay_quick;
 use replay_core::round_log::log_rounds;
 use replay_core::{NoGate, Replay, ReplayFault, Verdict, replay_serial};
 use replay_report::{check_text, report_text};
@@ -148,7 +149,7 @@ fn rounds_output<T: Threads + Wait + Sync>(
     }
 }
 
-/// The report of the run in rounds.
+/// The report of the run in rounds, or of that in recorded order where rounds can't pay.
 fn parallel_report<T: Threads + Wait + Sync>(
     rt: &T,
     alloc: Global,
@@ -163,7 +164,7 @@ fn parallel_report<T: Threads + Wait + Sync>(
     ensures ok { IfOk result (λ text. text.items ≡ sequential_report trace.now sums) }
     ensures err { IfErr result WantsMemoryOrThread }
 {
-    let replay = replay(rt, alloc, trace, workers, window, &NoGate)?;
+    let replay = replay_quick(rt, alloc, trace, workers, window)?;
     report(alloc, trace, &replay, sums)
 }
 

@@ -7,6 +7,7 @@ use chain_plan::Role;
 use op_meaning::{Reply, run_entry};
 use replay_core::comparing::verdict;
 use replay_core::parallel::replay;
+use replay_core::quick::replay_quick;
 use replay_core::{Gate, NoGate, Replay, ReplayFault, Verdict, WORTH_A_THREAD, replay_serial};
 use std::alloc::{AllocError, Global};
 use std::sync::Wait;
@@ -126,6 +127,19 @@ fn rounds_by<R: Threads + Wait + Sync, G: Gate + Sync>(
     Ok(replay.rounds)
 }
 
+/// The rounds in which places run in the way that seems quicker, on some workers.
+fn quick_rounds<R: Threads + Wait + Sync>(
+    rt: &R,
+    alloc: Global,
+    trace: &Trace,
+    workers: u32,
+) -> Result<Series<u32>, ReplayFault>
+    requires { IsSpelled trace.now }
+{
+    let replay = replay_quick(rt, alloc, trace, workers, 64)?;
+    Ok(replay.rounds)
+}
+
 /// Why there is no replay by a gate; none where there is one.
 fn fault_by<R: Threads + Wait + Sync, G: Gate + Sync>(
     rt: &R,
@@ -191,6 +205,18 @@ fn two_at_once(rt: HostRuntime) -> Result<(), Fail> {
     };
     assert_eq!(rt; counts(&gate), [1, 1, 1]);
     assert_eq!(rt; rounds.as_slice(), [0, 0].as_slice());
+    Ok(())
+}
+
+#[test]
+fn places_that_carry_nothing_run_in_order(rt: HostRuntime) -> Result<(), Fail> {
+    let trace = two_nops(rt.alloc())?;
+    let Ok(rounds) = quick_rounds(&rt, rt.alloc(), &trace, 4) else {
+        panic!(rt; "no replay")
+    };
+    assert_eq!(rt; rounds.as_slice(), [0, 1].as_slice());
+    let refused = quick_rounds(&rt, rt.alloc(), &trace, 65);
+    assert!(rt; matches!(refused, Err(ReplayFault::Workers)));
     Ok(())
 }
 
