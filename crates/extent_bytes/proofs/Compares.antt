@@ -1,5 +1,5 @@
 -- Bytes compared.
-use Rattle.std.proofs.Common.{IsSome, ◌≡◌, ℕ, ◌+◌, ◌-◌, ◌*◌, ◌/◌, ◌<◌, ◌≤◌, ◌↔◌, List, Bool, length, take, drop, get_or, replicate, arith, sym, ◌∙◌, ap, min, max, Some}
+use Rattle.std.proofs.Common.{IsSome, ◌≡◌, ℕ, ◌+◌, ◌-◌, ◌*◌, ◌/◌, ◌<◌, ◌≤◌, ◌↔◌, List, Bool, length, take, drop, get_or, replicate, arith, sym, ◌∙◌, ap, min, max, Some, refl}
 use Rattle.std.specs.Prelude.{IsTrue, All, nat_eq}
 use Rattle.std.specs.Cmp.Lexicographic.{pointwise}
 use Rattle.std.proofs.lemmas.Bool.Decides.{Decides-eqb}
@@ -31,6 +31,12 @@ blank_holds f at n bs r e blank tested =
 pub holds_more : (f : ℕ → ℕ) (at done count a : ℕ) (bs : List ℕ) → a ≡ at + done → done + count ≤ length bs → HoldsAt f a (take (done + count - done) (drop done bs))
     → ((i : ℕ) → i < done → f (at + i) ≡ get_or bs i 0) → (i : ℕ) → i < done + count → f (at + i) ≡ get_or bs i 0
 holds_more f at done count a bs e bound part before i h = grind (arith, length-part, part (i - done), before i, get_or-part)
+
+-- and each part of them is, where they all are
+pub part_held : (f : ℕ → ℕ) (at done count a : ℕ) (bs : List ℕ) → a ≡ at + done → done + count ≤ length bs → HoldsAt f at bs → HoldsAt f a (take (done + count - done) (drop done bs))
+part_held f at done count a bs e bound held = λ i h.
+    let n = length-part bs done (done + count) (omega arith) bound in
+    ap f (omega arith) ∙ held (done + i) (omega arith) ∙ sym (get_or-part bs done (done + count) i (done + i) (omega arith) refl)
 
 -- a part of a page against a map
 pub part_agrees : (other : ℕ → ℕ) (k start end target from to : ℕ) (page : List ℕ) → length page ≡ 4096 → start / 4096 ≤ k → k * 4096 < end

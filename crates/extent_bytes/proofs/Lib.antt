@@ -7,6 +7,7 @@ pub mod PageFacts
 pub mod Puts
 pub mod NextPage
 pub mod Passes
+pub mod Fronts
 pub mod Overlays
 pub mod Moves
 pub mod ExtentFacts

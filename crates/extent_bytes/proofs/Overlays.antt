@@ -1,5 +1,6 @@
 -- Bytes put over a range of a map.
-use Rattle.std.proofs.Common.{◌≡◌, ℕ, ◌+◌, ◌-◌, ◌*◌, ◌/◌, ◌%◌, ◌<◌, ◌≤◌, ◌≢◌, List, length, get_or, replicate, arith, ◌∙◌, ap, refl, Some, None}
+use Rattle.std.proofs.Common.{◌≡◌, ℕ, ◌+◌, ◌-◌, ◌*◌, ◌/◌, ◌%◌, ◌<◌, ◌≤◌, ◌≢◌, List, length, get_or, replicate, arith, ◌∙◌, ap, refl, Some, None, ⊎_elim}
+use Rattle.std.proofs.lemmas.Bool.{cases_lt}
 use Rattle.std.proofs.lemmas.List.{length-replicate, get_or-replicate}
 use Rattle.extent_bytes.specs.Bytes.{overwritten}
 use Rattle.extent_bytes.specs.Pages.{PageMap, page_of, page_byte, byte_at, SameBytes, Overlaid, Completed}
@@ -57,6 +58,22 @@ overlaid_to m n a b lo hi f g d e h o = record {
   inside = λ p k l. o.inside p (omega arith) (omega arith) ∙ h p k l;
   above = λ p k. o.above p (omega arith);
 }
+
+-- bytes put behind others that were put there
+pub overlaid_more : (m a b : PageMap) (lo mid hi x y : ℕ) (f g : ℕ → ℕ) → Overlaid m a lo mid f → Overlaid a b x y g → x ≡ mid → y ≡ hi → lo ≤ mid → mid ≤ hi
+    → ((p : ℕ) → mid ≤ p → p < hi → g p ≡ f p) → Overlaid m b lo hi f
+overlaid_more m a b lo mid hi x y f g o q d e h k same = record {
+  below = λ p l. q.below p (omega arith) ∙ o.below p l;
+  inside = λ p k l. ⊎_elim
+      (λ (z : p < mid). q.below p (omega arith) ∙ o.inside p k z)
+      (λ (z : mid ≤ p). q.inside p (omega arith) (omega arith) ∙ same p z l)
+      (cases_lt p mid);
+  above = λ p l. q.above p (omega arith) ∙ o.above p (omega arith);
+}
+
+-- no bytes put there
+pub overlaid_nothing : (m : PageMap) (lo hi : ℕ) (f : ℕ → ℕ) → hi ≤ lo → Overlaid m m lo hi f
+overlaid_nothing m lo hi f h = record { below = λ p l. refl; inside = λ p k l. absurd (omega arith); above = λ p l. refl }
 
 -- pages taken from another map, numbered from `first`
 byte_at-taken : (n patch : PageMap) (first end : ℕ) → ((j : ℕ) → first + j < end → page_of n (first + j) ≡ page_of patch j)

@@ -10,7 +10,7 @@ use Rattle.std.proofs.lemmas.Map.Entries.{lookup_tail}
 abbrev pub page_among : List (ℕ × List ℕ) → ℕ → Option (List ℕ)
 page_among es k = lookup (is_at (nat_cmp k)) es
 
-at_other : (a b : ℕ) → a ≢ b → is_eq (nat_cmp a b) ≡ false
+pub at_other : (a b : ℕ) → a ≢ b → is_eq (nat_cmp a b) ≡ false
 at_other a b h = grind (arith, common_steps)
 
 -- another number's page is among the others, if at all

@@ -1,7 +1,9 @@
 -- Bytes of pages that lie one behind another, against those of a map.
-use Rattle.std.proofs.Common.{◌≡◌, ℕ, ◌+◌, ◌/◌, ◌%◌, ◌<◌, ◌↔◌, List, Some, length, get_or, arith, ap, refl, sym, ◌∙◌}
+use Rattle.std.proofs.Common.{◌≡◌, ℕ, ◌+◌, ◌/◌, ◌%◌, ◌<◌, ◌≢◌, ◌↔◌, ◌++◌, ◌∷◌, [], ⊎_elim, List, Some, length, get_or, arith, ap, refl, sym, ◌∙◌}
 use Rattle.std.specs.Prelude.{slice_get}
 use Rattle.extent_bytes.specs.Pages.{PageMap, page_of, byte_at, byte_in, bytes_from}
+use Rattle.std.proofs.lemmas.Bool.{cases_eq}
+use Rattle.extent_bytes.proofs.Fronts.{added_last, added_others}
 use Rattle.extent_bytes.proofs.ExtentFacts.{bytes_from-is, get_or-bytes_from, length-bytes_from}
 
 -- a byte of a page
@@ -28,3 +30,16 @@ bytes_from-agree f g s t n xs e =
       (λ same. sym e ∙ bytes_from-same f g s t n (λ i h. sym (same i (omega arith))) ∙ ap (bytes_from g t) (sym l)),
       (λ d i h. sym (get_or-bytes_from g t (length xs) i (omega (arith, l))) ∙ ap (λ ys. get_or ys i 0) (sym d ∙ sym e) ∙ get_or-bytes_from f s n i (omega arith)),
     )
+
+-- one more page of a map is taken, behind the others
+pub taken_more : (m : PageMap) (from k : ℕ) (xs ys : List (List ℕ)) (page copy : List ℕ) → from + length xs ≡ k → ys ≡ xs ++ copy ∷ [] → copy ≡ page → page_of m k ≡ Some page
+    → ((j : ℕ) → from + j < k → slice_get xs j ≡ page_of m (from + j)) → (j : ℕ) → from + j < k + 1 → slice_get ys j ≡ page_of m (from + j)
+taken_more m from k xs ys page copy n f same e taken = λ j h.
+    ⊎_elim
+    (λ (q : j ≡ length xs).
+    let z : from + j ≡ k = omega arith in
+    (λ i. slice_get (f i) (q i)) ∙ added_last xs copy ∙ ap (λ p. Some p) same ∙ sym e ∙ ap (page_of m) (sym z))
+    (λ (ne : j ≢ length xs).
+    let l : from + j < k = grind arith in
+    ap (λ zs. slice_get zs j) f ∙ added_others xs copy j ne ∙ taken j l)
+    (cases_eq j (length xs))

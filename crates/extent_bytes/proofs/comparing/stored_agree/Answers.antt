@@ -1,7 +1,8 @@
 -- A page that is not stored has no byte to compare.
-use Rattle.std.proofs.Common.{arith, sym, ◌∙◌}
+use Rattle.std.proofs.Common.{arith, sym, ◌∙◌, refl, false}
 use Rattle.extent_bytes.specs.Kept.{byte_held}
 use Rattle.extent_bytes.proofs.Compares.{agree_at, agree_more}
+use Rattle.extent_bytes.proofs.Outcomes.{not_both}
 use Rattle.extent_bytes.proofs.comparing.stored_agree.Goals as goal
 
 pub loop-number-preserved : goal.loop-number-preserved
@@ -16,7 +17,7 @@ loop-number-preserved c =
 
 pub returns-then-not-page_agrees : goal.returns-then-not-page_agrees
 returns-then-not-page_agrees c = (
-  (λ e. absurd (cc)),
+  (λ e. not_both false e refl),
   (λ all. sym c.if-not-page_agrees.true
       ∙ c.page_agrees.ensures.1 (agree_at c.args.pages.now (byte_held c.args.other.now) c.args.start c.args.end c.args.other_start c.in-Some.number c.in-Some.page.now c.in-Some.ensures.page all)),
 )

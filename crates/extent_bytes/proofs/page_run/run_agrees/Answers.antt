@@ -1,9 +1,10 @@
 -- A page that was compared has the others' bytes.
-use Rattle.std.proofs.Common.{◌≡◌, ◌+◌, ◌/◌, Some, arith, sym, ◌∙◌, refl, ⊎_elim}
+use Rattle.std.proofs.Common.{◌≡◌, ◌+◌, ◌/◌, Some, arith, sym, ◌∙◌, refl, ⊎_elim, false}
 use Rattle.std.specs.Prelude.{slice_get}
 use Rattle.std.proofs.lemmas.Bool.{cases_eq}
 use Rattle.std.proofs.lemmas.Option.{slice_get_read}
 use Rattle.extent_bytes.proofs.Runs.{byte_in-stored}
+use Rattle.extent_bytes.proofs.Outcomes.{not_both}
 use Rattle.extent_bytes.proofs.page_run.run_agrees.Goals as goal
 
 pub loop-number-init : goal.loop-number-init
@@ -15,7 +16,7 @@ returns-then-not-page_agrees c =
     let k = c.loop-number.number in
     let page = c.index-pages-number.result in
     let stored : slice_get pages k ≡ Some page = slice_get_read pages _ k page refl (omega (arith, c.div_ceil-number-end.ensures)) c.index-pages-number.is in (
-      (λ e. absurd (cc)),
+      (λ e. not_both false e refl),
       (λ all. sym c.if-not-page_agrees.true ∙ c.page_agrees.ensures.1 (λ i l d. all i l ∙ byte_in-stored pages (c.args.start + i) k page stored d)),
     )
 

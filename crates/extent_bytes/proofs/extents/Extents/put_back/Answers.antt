@@ -1,10 +1,10 @@
 -- The part's bytes lie over those of the range.
-use Rattle.std.proofs.Common.{◌+◌, ◌-◌, ◌%◌, arith, ap, sym, ◌∙◌}
+use Rattle.std.proofs.Common.{◌+◌, ◌-◌, ◌%◌, arith, ap, sym, ◌∙◌, refl}
 use Rattle.extent_bytes.specs.Kept.{pages_in}
 use Rattle.extent_bytes.specs.Bytes.{overwritten}
 use Rattle.extent_bytes.specs.Pages.{bytes_of}
-use Rattle.std.proofs.lemmas.Result.{on_err_weaker, on_ok_weaker}
-use Rattle.extent_bytes.proofs.Outcomes.{ok_of}
+use Rattle.std.proofs.lemmas.Result.{on_err_weaker, on_ok_weaker, IfOk-from_err}
+use Rattle.extent_bytes.proofs.Outcomes.{ok_of, err_of}
 use Rattle.extent_bytes.proofs.Kept.{same_range}
 use Rattle.extent_bytes.proofs.Lists.{overwritten_all, overwritten_none}
 use Rattle.extent_bytes.proofs.ExtentFacts.{bytes_of-put_back, bytes_of-same, length-bytes_of, length_seen}
@@ -66,3 +66,17 @@ pub returns-then-len-self-clause-len : goal.returns-then-len-self-clause-len
 returns-then-len-self-clause-len c =
     let e = length_seen (pages_in c.self.inside.stored) c.self.inside.start c.self.inside.len c.args.self.now c.self.view_is in
     length-bytes_of (pages_in c.part.inside.stored) c.part.inside.start c.self.inside.len ∙ sym e
+
+pub returns-in_err-into_pages : goal.returns-in_err-into_pages
+returns-in_err-into_pages c =
+    let out = c.from_residual in record { ok = IfOk-from_err out.result _ out.ensures.0; len = IfOk-from_err out.result _ out.ensures.0; err = err_of out.result refl }
+
+pub returns-in_err-patch : goal.returns-in_err-patch
+returns-in_err-patch c =
+    let out = c.from_residual-in_err-patch in record { ok = IfOk-from_err out.result _ out.ensures.0; len = IfOk-from_err out.result _ out.ensures.0; err = err_of out.result refl }
+
+pub invariant_of-self : goal.invariant_of-self
+invariant_of-self c = (c.part.invariant.0, c.self.invariant.1)
+
+pub invariant_of-self-2 : goal.invariant_of-self-2
+invariant_of-self-2 c = c.self.invariant

@@ -1,15 +1,16 @@
 -- Equal lists agree on their stored bytes, and others do not.
-use Rattle.std.proofs.Common.{length, ap, sym, ◌∙◌}
+use Rattle.std.proofs.Common.{length, ap, sym, ◌∙◌, refl, false}
 use Rattle.extent_bytes.specs.Kept.{pages_in}
 use Rattle.extent_bytes.specs.Pages.{bytes_of}
 use Rattle.extent_bytes.proofs.ExtentFacts.{bytes_of-agree, length_seen, stored_of_equal}
+use Rattle.extent_bytes.proofs.Outcomes.{not_both}
 use Rattle.extent_bytes.proofs.extents.Extents.same.Goals as goal
 
 pub returns-then-self-other : goal.returns-then-self-other
 returns-then-self-other c =
     let a = length_seen (pages_in c.self.inside.stored) c.self.inside.start c.self.inside.len c.args.self.now c.self.view_is in
     let b = length_seen (pages_in c.other.inside.stored) c.other.inside.start c.other.inside.len c.args.other.now c.other.view_is in
-    ((λ e. absurd (cc)), (λ e. absurd (c.if-self-other.true (sym a ∙ ap length e ∙ b))))
+    ((λ e. not_both false e refl), (λ e. absurd (c.if-self-other.true (sym a ∙ ap length e ∙ b))))
 
 pub returns-then-not-stored_agree : goal.returns-then-not-stored_agree
 returns-then-not-stored_agree c =
@@ -22,7 +23,7 @@ returns-then-not-stored_agree c =
     let mine = ap (λ q. bytes_of q s len) c.pages-pages.ensures ∙ c.self.view_is in
     let theirs = ap (λ q. bytes_of q t k) c.pages-others.ensures ∙ c.other.view_is in
     let no = c.if-not-stored_agree.true in (
-      (λ e. absurd (cc)),
+      (λ e. not_both false e refl),
       (λ e. sym no ∙ c.stored_agree.ensures.1 (stored_of_equal m n s t len k c.if-self-other.false (mine ∙ e ∙ sym theirs))),
     )
 

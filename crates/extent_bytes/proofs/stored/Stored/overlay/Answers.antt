@@ -1,7 +1,7 @@
 -- A map that others have too is copied first.
 use Rattle.std.proofs.Common.{◌≡◌, ◌-◌, ◌*◌, ◌/◌, rules, sym, subst, ap, ◌∙◌}
 use Rattle.std.specs.Arc.{arc_value}
-use Rattle.std.proofs.lemmas.Result.{IfErr-at_err, on_err_weaker, on_ok_weaker}
+use Rattle.std.proofs.lemmas.Result.{IfErr-at_err, on_err_weaker, on_ok_weaker, IfOk-from_err}
 use Rattle.extent_bytes.specs.Kept.{pages_in}
 use Rattle.extent_bytes.specs.Pages.{PageMap, page_of, SamePages, byte_at, SameBytes, Overlaid}
 use Rattle.extent_bytes.proofs.Outcomes.{err_of}
@@ -34,3 +34,10 @@ returns-in_ok-make_mut-in-Shared-clause-err c =
     let d : arc_value (c.make_mut.follows.lender w) ≡ w = search rules in
     let P : PageMap → Type 0 = λ q. SameBytes m q in
     on_err_weaker c.overlay-in-Shared.result (λ h. subst P (sym d) (λ p. h p ∙ same_bytes m x e p)) c.overlay-in-Shared.ensures.err
+
+pub returns-in_err-overlay-in-Own : goal.returns-in_err-overlay-in-Own
+returns-in_err-overlay-in-Own c =
+    let out = c.from_residual in record { ok = IfOk-from_err out.result _ out.ensures.0; err = err_of out.result (λ p. c.in_err-overlay-in-Own.ensures.err p ∙ ap (λ s. byte_at (pages_in s) p) (sym c.in-Own.is)) }
+
+pub returns-in_err-make_mut-in-Shared-clause-ok : goal.returns-in_err-make_mut-in-Shared-clause-ok
+returns-in_err-make_mut-in-Shared-clause-ok c = IfOk-from_err c.from_residual-in_err-make_mut-in-Shared.result _ c.from_residual-in_err-make_mut-in-Shared.ensures.0
