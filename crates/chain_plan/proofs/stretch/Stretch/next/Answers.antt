@@ -4,6 +4,7 @@ use Rattle.trace_format.specs.Steps.{step_meant}
 use Rattle.chain_plan.specs.Stretch.{chains_ahead}
 use Rattle.chain_plan.specs.Walk.{marks_of}
 use Rattle.chain_plan.proofs.Walk.{walks_on, chains_long, member_short, member_above, chain_short, walked_held, walked_stretch, walked_long, stops_apart, goes_on, end_apart, next_number}
+use Rattle.chain_plan.proofs.stretch.Stretch.next.Goals.{After-len}
 use Rattle.chain_plan.proofs.stretch.Stretch.next.Goals as goal
 
 pub marks_of-marks-requires : goal.marks_of-marks-requires
@@ -13,11 +14,13 @@ pub overflow_cast-next : goal.overflow_cast-next
 overflow_cast-next c =
     omega (arith, c.len-in-loop-place.ensures, c.loop-place.chains.ok.0, chains_long c.loop-place.invariant.walked, c.places-place-end.ensures.limit)
 
+-- the chains so far are as many as there are ahead of the first place
+number : (c : After-len) → c.self.inside.chains_before + c.len.result ≡ chains_ahead c.args.trace.now c.end-first.result
+number c = next_number c.args.trace.now c.args.self c.end-first.result _ c.requires.stretch c.end-first.ensures (omega (arith, c.len.ensures, ap (λ s. s.chains) c.self.view_is))
+
 pub overflow_add-next : goal.overflow_add-next
 overflow_add-next c =
-    let number : c.self.inside.chains_before + c.len.result ≡ chains_ahead c.args.trace.now c.end-first.result =
-    next_number c.args.trace.now c.args.self c.end-first.result _ c.requires.stretch c.end-first.ensures (omega (arith, c.len.ensures, ap (λ s. s.chains) c.self.view_is)) in
-    omega (arith, number, c.len-in-loop-place.ensures, c.loop-place.chains.ok.0, chains_long c.loop-place.invariant.walked, c.places-place-end.ensures.limit)
+    omega (arith, number (goal.at.overflow_add-next c).After-len, c.len-in-loop-place.ensures, c.loop-place.chains.ok.0, chains_long c.loop-place.invariant.walked, c.places-place-end.ensures.limit)
 
 pub member_after-member-requires : goal.member_after-member-requires
 member_after-member-requires c =
@@ -25,10 +28,8 @@ member_after-member-requires c =
 
 pub overflow_sub-member : goal.overflow_sub-member
 overflow_sub-member c =
-    let number : c.self.inside.chains_before + c.len.result ≡ chains_ahead c.args.trace.now c.end-first.result =
-    next_number c.args.trace.now c.args.self c.end-first.result _ c.requires.stretch c.end-first.ensures (omega (arith, c.len.ensures, ap (λ s. s.chains) c.self.view_is)) in
-    rw (number, c.member_after-member.ensures) (member_above c.loop-place.invariant.walked _ _ _ _ c.step-step.ensures c.followed-ahead.ensures
-    (omega (arith, c.len-in-loop-place.ensures, c.loop-place.chains.ok.0)))
+    rw (number (goal.at.overflow_sub-member c).After-len, c.member_after-member.ensures) (member_above c.loop-place.invariant.walked _ _ _ _ c.step-step.ensures c.followed-ahead.ensures
+    (omega (arith, number (goal.at.overflow_sub-member c).After-len, c.len-in-loop-place.ensures, c.loop-place.chains.ok.0)))
 
 pub count_member-requires : goal.count_member-requires
 count_member-requires c =
@@ -36,12 +37,10 @@ count_member-requires c =
 
 pub loop-place-preserved : goal.loop-place-preserved
 loop-place-preserved c =
-    let number : c.self.inside.chains_before + c.len.result ≡ chains_ahead c.args.trace.now c.end-first.result =
-    next_number c.args.trace.now c.args.self c.end-first.result _ c.requires.stretch c.end-first.ensures (omega (arith, c.len.ensures, ap (λ s. s.chains) c.self.view_is)) in
     let marks = c.marks_of-marks.ensures ∙ ap (λ b. marks_of c.args.trace.now.version b (step_meant c.step-step.result)) c.is_some.ensures in record {
       walked = walks_on c.loop-place.invariant.walked _ _ _ _ _ _ _ _ c.step-step.ensures marks c.followed-ahead.ensures
-          (omega (arith, number, c.len-in-loop-place.ensures, c.loop-place.chains.ok.0))
-          c.member_after-member.ensures (rw number at c.in_ok-count_member.ensures) c.link_from-linked.ensures c.in_ok-push.ensures.items;
+          (omega (arith, number (goal.at.loop-place-preserved c).After-len, c.len-in-loop-place.ensures, c.loop-place.chains.ok.0))
+          c.member_after-member.ensures (rw (number (goal.at.loop-place-preserved c).After-len) at c.in_ok-count_member.ensures) c.link_from-linked.ensures c.in_ok-push.ensures.items;
       most = goes_on c.loop-place.invariant.walked (c.end-first.result + c.args.least) _ _ c.step-step.ensures c.followed-ahead.ensures
           (λ reached. elim c.else-is_none.branch [
             | goal.else-is_none-via-then-is_none+else-place-first w ↦ absurd (omega (arith, reached, w.if-place-first.false, c.loop-place.invariant.walked.forward))
@@ -52,15 +51,11 @@ loop-place-preserved c =
 
 pub invariant_of-result : goal.invariant_of-result
 invariant_of-result c =
-    let number : c.self.inside.chains_before + c.len.result ≡ chains_ahead c.args.trace.now c.end-first.result =
-    next_number c.args.trace.now c.args.self c.end-first.result _ c.requires.stretch c.end-first.ensures (omega (arith, c.len.ensures, ap (λ s. s.chains) c.self.view_is)) in
-    rw number (walked_held c.loop-place.invariant.walked (omega (arith, c.places-place-end.ensures.limit)))
+    rw (number (goal.at.invariant_of-result c).After-len) (walked_held c.loop-place.invariant.walked (omega (arith, c.places-place-end.ensures.limit)))
 
 pub returns-clause-stretch : goal.returns-clause-stretch
 returns-clause-stretch c =
-    let number : c.self.inside.chains_before + c.len.result ≡ chains_ahead c.args.trace.now c.end-first.result =
-    next_number c.args.trace.now c.args.self c.end-first.result _ c.requires.stretch c.end-first.ensures (omega (arith, c.len.ensures, ap (λ s. s.chains) c.self.view_is)) in
-    rw number (walked_stretch c.loop-place.invariant.walked (elim c.loop-place-test.branch [
+    rw (number (goal.at.returns-clause-stretch c).After-len) (walked_stretch c.loop-place.invariant.walked (elim c.loop-place-test.branch [
       | goal.else-loop-place-test w ↦ end_apart c.args.trace.now c.loop-place.place (omega (arith, w.loop-place-test.false, c.places-place-end.ensures.places))
       | goal.then-loop-place-test+then-is_none+then-place-first w ↦
           stops_apart c.loop-place.invariant.walked _ _ w.step-step.ensures w.followed-ahead.ensures w.if-is_none.ensures
@@ -68,9 +63,7 @@ returns-clause-stretch c =
 
 pub returns-clause-least : goal.returns-clause-least
 returns-clause-least c =
-    let number : c.self.inside.chains_before + c.len.result ≡ chains_ahead c.args.trace.now c.end-first.result =
-    next_number c.args.trace.now c.args.self c.end-first.result _ c.requires.stretch c.end-first.ensures (omega (arith, c.len.ensures, ap (λ s. s.chains) c.self.view_is)) in
-    rw number (elim c.loop-place-test.branch [
+    rw (number (goal.at.returns-clause-least c).After-len) (elim c.loop-place-test.branch [
       | goal.else-loop-place-test w ↦ omega (arith, walked_long c.loop-place.invariant.walked, w.loop-place-test.false, c.places-place-end.ensures.places)
       | goal.then-loop-place-test+then-is_none+then-place-first w ↦
           omega (arith, walked_long c.loop-place.invariant.walked, w.loop-place-test.true, w.if-place-first.true, c.places-place-end.ensures.places)
@@ -78,6 +71,4 @@ returns-clause-least c =
 
 pub returns-clause-most : goal.returns-clause-most
 returns-clause-most c =
-    let number : c.self.inside.chains_before + c.len.result ≡ chains_ahead c.args.trace.now c.end-first.result =
-    next_number c.args.trace.now c.args.self c.end-first.result _ c.requires.stretch c.end-first.ensures (omega (arith, c.len.ensures, ap (λ s. s.chains) c.self.view_is)) in
-    rw number (λ k least below. c.loop-place.invariant.most k least (omega (arith, below, walked_long c.loop-place.invariant.walked)))
+    rw (number (goal.at.returns-clause-most c).After-len) (λ k least below. c.loop-place.invariant.most k least (omega (arith, below, walked_long c.loop-place.invariant.walked)))
