@@ -15,6 +15,24 @@ use std::marker::Model;
 /// The greatest length of a byte list, 2^40.
 pub const MAX_LEN: u64 = 1_099_511_627_776;
 
+// A write of so many bytes or more asks for the room of its pages at once.
+const LONG_WRITE: usize = 65_536;
+
+// It asks for no more than so many bytes.
+const MOST_ROOM: usize = 16_777_216;
+
+// Lets the heap grow in one step by about what the pages of a long write take: asks for as much and
+// gives it back. With each page by itself it would grow by steps of a page or a few, and those of
+// several threads wait for one another.
+fn grow_heap(alloc: Global, bytes: usize) -> Result<(), AllocError> {
+    if bytes >= LONG_WRITE {
+        let bytes = bytes.min(MOST_ROOM);
+        let room: Vec<u8> = Vec::with_capacity(alloc, bytes + bytes / 64)?;
+        drop(room);
+    }
+    Ok(())
+}
+
 /// A list of at most [`MAX_LEN`] bytes. Only pages with bytes that were written take memory.
 ///
 /// A call that answers [`AllocError`] leaves the list as it was.
@@ -87,6 +105,7 @@ impl Extents {
             length self.new ≡ max (length self.old) (at + length bytes.now)) }
         ensures err { OnErr result (self.new ≡ self.old) }
     {
+        grow_heap(self.alloc, bytes.len())?;
         let end = self.start + self.len;
         self.stored
             .write_range(self.alloc, end, self.start + at, bytes)?;
