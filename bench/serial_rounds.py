@@ -1,5 +1,5 @@
 #!/usr/bin/env python3
-"""Measures `run` where places wait for each other, against places that all may run side by side: bench/serial_rounds.py
+"""Measures rounds where places wait for each other, against places that all may run side by side: bench/serial_rounds.py
 
     bench/serial_rounds.py                       the kinds below at windows 64 and 4096, best of three
     bench/serial_rounds.py --kinds appends chain some of them
@@ -18,8 +18,9 @@ The kinds, one ring each:
     drains    the WRITEs of `disjoint`, each of which drains the ring
     opens     four and four an OPENAT as the lowest free descriptor, two READs by it and its CLOSE
 
-A line for each kind and window has the time of a place, of the whole program with input and report, and its ratio to the
-time of a place of `disjoint` at that window. The kinds are run in turn, so that the ratios of one run can be compared.
+A line for each kind and window has the time that a place takes in rounds, and its ratio to that of a place of `disjoint` at
+that window. It is what `compare`, which runs both ways, takes beyond `serial`. The kinds are run in turn, so that the ratios
+of one run can be compared.
 """
 import argparse
 import os
@@ -102,18 +103,20 @@ def seconds(words: List[str], given: str) -> float:
 
 
 def measured(kinds: List[str], windows: List[int], program: str, entries: int, best: int) -> Dict[Tuple[int, str], float]:
-    """The least time of a place of each kind at each window, in microseconds."""
-    times = {(window, kind): float("inf") for window in windows for kind in kinds}
+    """The least time that a place of each kind takes in rounds at each window, in microseconds."""
+    alone = {kind: float("inf") for kind in kinds}
+    both = {(window, kind): float("inf") for window in windows for kind in kinds}
     with tempfile.TemporaryDirectory() as folder:
         for kind in kinds:
             with open(os.path.join(folder, kind), "wb") as out:
                 out.write(trace(kind, entries))
         for _ in range(best):
-            for window, kind in times:
-                words = [program, "run", "--workers", "1", "--window", str(window)]
-                took = seconds(words, os.path.join(folder, kind)) / entries * 1e6
-                times[window, kind] = min(times[window, kind], took)
-    return times
+            for kind in kinds:
+                alone[kind] = min(alone[kind], seconds([program, "serial"], os.path.join(folder, kind)))
+            for window, kind in both:
+                words = [program, "compare", "--window", str(window)]
+                both[window, kind] = min(both[window, kind], seconds(words, os.path.join(folder, kind)))
+    return {(window, kind): (took - alone[kind]) / entries * 1e6 for (window, kind), took in both.items()}
 
 
 def main() -> None:

@@ -8,7 +8,7 @@ from harness import EXAMPLES, Answer, Job, Outcome, Program, difference, read, s
 
 WORKERS = (1, 2, 4, 64)
 WINDOWS = (1, 2, 64, 4096)
-# What the second program is run with, beside serial, check and compare.
+# What the second program compares with, and what `run`, which has no rounds where little is carried, is run with.
 FEW_PAIRS = ((2, 2), (4, 64))
 ENDINGS = (".trace", ".report", ".sums", ".check", ".rounds", ".waits", ".dot", ".refused")
 
@@ -29,6 +29,8 @@ def commands(is_first: bool) -> Iterable[Tuple[List[str], str]]:
     yield ["check"], ".check"
     pairs = [(workers, window) for workers in WORKERS for window in WINDOWS] if is_first else FEW_PAIRS
     for workers, window in pairs:
+        yield ["compare", "--workers", str(workers), "--window", str(window)], ""
+    for workers, window in FEW_PAIRS:
         yield ["run", "--workers", str(workers), "--window", str(window)], ".report"
     yield ["run", "--sums"], ".sums"
     yield ["run"], ".report"

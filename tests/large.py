@@ -24,6 +24,9 @@ MOST_DEEP = 4.0
 # of which each looks at so many, which is 2 to 3.5 and 8 to 11 times. Were each looked at in each round, it would be 50 and
 # over 1,000.
 WAITING, MOST_WAITING = 60_000, {64: 12.0, 4096: 30.0}
+# How many entries carry little, and how many times the processor time of `serial` they may take `run`, which is 1 to 1.8 times
+# on a busy machine. In rounds it was 3 to 13.
+LITTLE, MOST_LITTLE = 200_000, 2.5
 # How many bytes of memory the entries of the longest trace may take `check` for each byte of their text, which is 2.3, room
 # to grow included.
 MOST_MEMORY = 2.9
@@ -114,11 +117,23 @@ def waiting(program: Program) -> List[Outcome]:
     for kind in ("disjoint", "appends", "range", "chain", "drains", "opens"):
         trace = subprocess.run([sys.executable, bench, "--write", kind, "--entries", str(WAITING)], check=True, stdout=subprocess.PIPE).stdout
         for window, most in MOST_WAITING.items():
-            words = ["run", "--workers", "1", "--window", str(window)]
+            words = ["compare", "--window", str(window)]
             took = min(program.seconds(words, trace) for _ in range(3))
             apart = disjoint.setdefault(window, took)
             told = None if took < most * apart < math.inf else "{:.3f} seconds, and {:.3f} disjoint".format(took, apart)
             outcomes.append(Outcome("entries that wait, {}, window {}, by {}".format(kind, window, program.compiler), told))
+    return outcomes
+
+
+def carrying_little(program: Program) -> List[Outcome]:
+    """Where entries carry so little that rounds would only cost, `run` takes what `serial` does."""
+    bench = os.path.join(TOP, "bench", "serial_rounds.py")
+    outcomes = []
+    for kind in ("disjoint", "chain"):
+        trace = subprocess.run([sys.executable, bench, "--write", kind, "--entries", str(LITTLE)], check=True, stdout=subprocess.PIPE).stdout
+        alone, took = (min(program.seconds(words, trace) for _ in range(5)) for words in (["serial"], ["run"]))
+        told = None if took < MOST_LITTLE * alone < math.inf else "{:.3f} seconds, and {:.3f} by serial".format(took, alone)
+        outcomes.append(Outcome("entries that carry little, {}, by {}".format(kind, program.compiler), told))
     return outcomes
 
 
@@ -138,9 +153,9 @@ def long_transfers(program: Program) -> List[Outcome]:
     trace = world + enter(0, each * 340)
     line = " res={} posted".format(GREATEST_BUFFER).encode()
     outcomes = []
-    for words in (["serial"], ["run", "--workers", "1"], ["run", "--workers", "4"]):
+    for words, told_of, count in ((["serial"], line, len(each) * 340), (["compare"], b"equal\n", 1)):
         got = program.run(words, trace, shell='ulimit -v {}; exec "$@"'.format(ZEROS_MEMORY))
-        told = None if got.status == 0 and got.output.count(line) == len(each) * 340 else shown(got)
+        told = None if got.status == 0 and got.output.count(told_of) == count else shown(got)
         outcomes.append(Outcome("{} of long transfers by {}".format(spoken(words), program.compiler), told))
     return outcomes
 
@@ -151,7 +166,7 @@ def at_the_position(program: Program) -> List[Outcome]:
     traces = [world + enter(0, [entry(READ, FIXED_FILE, offset=at or (it << 10), length=1 << 10) for it in range(1 << 14)])
               for at in (0, POSITION)]
     outcomes = []
-    for words in (["serial"], ["run", "--workers", "1"], ["run", "--workers", "1", "--window", "1"]):
+    for words in (["serial"], ["compare"], ["compare", "--window", "1"]):
         apart, took = (min(program.seconds(words, trace) for _ in range(3)) for trace in traces)
         told = None if took < MOST_AT_POSITION * apart < math.inf else "{:.3f} seconds, by offsets {:.3f}".format(took, apart)
         outcomes.append(Outcome("{} at the position by {}".format(spoken(words), program.compiler), told))
@@ -169,5 +184,5 @@ def holes(program: Program) -> List[Outcome]:
 
 
 def jobs(programs: List[Program]) -> List[Job]:
-    alone = [partial(it, programs[0]) for it in (tried, long_reports, many_rings, deep_tree, many_entries, long_transfers, at_the_position, holes, waiting)]
+    alone = [partial(it, programs[0]) for it in (tried, long_reports, many_rings, deep_tree, many_entries, long_transfers, at_the_position, holes, waiting, carrying_little)]
     return [*alone, *(partial(on_threads, it) for it in programs)]

@@ -16,8 +16,8 @@ use std::sync::Wait;
 use std::thread::Threads;
 use trace_format::Trace;
 
-/// How many microseconds a place has to weigh on the mean, so that rounds may pay: in them a place
-/// takes some three more, whether it waits for others or not.
+/// How many microseconds a place has to weigh in the mean, so that rounds may pay: in them a place
+/// takes 1 to 8 more, by the window and by how many it waits for, even where none run side by side.
 const WORTH_ROUNDS: u64 = 16;
 
 /// What the places of a trace weigh together.

@@ -24,7 +24,7 @@ use std::alloc::{AllocError, Global};
 pub enum Mode {
     /// A run of the places in recorded order, and its report.
     Serial,
-    /// A run in rounds, each on worker threads, and its report.
+    /// A run on worker threads, in rounds where these may pay, and its report.
     Run { workers: u32, window: u32 },
     /// Both runs, and whether they gave the same, in one line.
     Compare { workers: u32, window: u32 },
@@ -238,7 +238,7 @@ fn run_command<'a>(alloc: Global) -> Result<Command<'a>, AllocError>
     ensures { IfOk result (λ command. HasApp run_command command) }
 {
     Command::new(alloc, "run")
-        .about("Runs the places in rounds on worker threads and prints the report")
+        .about("Runs the places on worker threads, where that pays, and prints the report")
         .arg(workers_option(alloc))?
         .arg(window_option(alloc))?
         .arg(sums_flag(alloc))
