@@ -10,3 +10,6 @@ pub mod Ending
 pub mod Places
 pub mod Noting
 pub mod Crossing
+pub mod Faults
+pub mod Onward
+pub mod Seating

@@ -1,12 +1,12 @@
 -- What is noted of each place from round to round.
-use Rattle.std.proofs.Common.{◌≡◌, ◌≢◌, ℕ, zero, suc, ◌+◌, ◌<◌, Bool, true, false, List, [], ◌∷◌, map, take, drop, filter, length, get_or, ◌⊎◌, inl, inr, refl, sym, ap, subst, ◌∙◌, Some, arith}
+use Rattle.std.proofs.Common.{◌≡◌, ◌≢◌, ℕ, zero, suc, ◌+◌, ◌<◌, Bool, true, false, List, [], ◌∷◌, map, take, drop, filter, length, get_or, replicate, ◌⊎◌, inl, inr, refl, sym, ap, subst, ◌∙◌, Some, arith}
 use Rattle.std.specs.Prelude.{Option, None, not, slice_get, if◌then◌else◌}
 use Rattle.std.specs.List.{range_with_len, cons_option}
 use Rattle.std.specs.Option.{option_map, option_or}
 use Rattle.std.proofs.Math.ListN.{set}
 use Rattle.std.proofs.lemmas.Bool.{cases_Bool, cases_eq, false_from_ne_true}
-use Rattle.std.proofs.lemmas.List.{length-map}
-use Rattle.std.proofs.lemmas.Option.{slice_get_within}
+use Rattle.std.proofs.lemmas.List.{length-map, length-replicate, get_or-replicate}
+use Rattle.std.proofs.lemmas.Option.{slice_get_within, slice_get-get_or}
 use Rattle.interleaving.specs.Machine.{State, has, opening, is_free}
 use Rattle.interleaving.specs.Rounds.{pending, in_turn, round}
 use Rattle.interleaving.proofs.Members.{has-here, has-other, has-later, has-cases}
@@ -108,6 +108,16 @@ take-filter p (suc w) (x ∷ xs) k e h = go (p x) refl (has-cases k x (take w xs
     go false f (inr m) later = take-wider w (filter p xs) k (later m)
 
 module _ (t : Trace) (window : ℕ) where
+  -- Before the first round no place has waited.
+  pub none_noted : (waits : List (Option WaitedFor)) → map (option_map waited_meant) waits ≡ replicate (places t) None → AreNoted t window 0 waits
+  none_noted waits nothing =
+      let blank : Option Holder = None in record {
+        many = sym (length-map waits (option_map waited_meant)) ∙ ap length nothing ∙ length-replicate (places t) blank;
+        noted = λ k within. ap (λ ws. slice_get ws k) nothing
+            ∙ slice_get-get_or (replicate (places t) blank) k blank (rw (length-replicate (places t) blank) within)
+            ∙ ap Some (get_or-replicate (places t) k blank blank within);
+      }
+
   next_is : (r : ℕ) → state_after t window (suc r) ≡ round (replayed t) (places t) window (state_after t window r)
   next_is r = rounds-more (replayed t) (places t) window r (opening (replayed t))
 
