@@ -1,7 +1,6 @@
 -- Which fault goes out at an end by an error.
-use Rattle.std.proofs.Common.{◌≡◌, Bool, true, false, Result, Ok, Err, IsErrAnd, ap}
-use Rattle.std.specs.Prelude.{◌≢◌, ◌↔◌, IfErr, IsOkUnless}
-use Rattle.std.proofs.lemmas.Result.{IfErr-weaker}
+use Rattle.std.proofs.Common.{◌≡◌, Bool, true, false, Result, Ok, Err, IsErrAnd}
+use Rattle.std.specs.Prelude.{◌≢◌, ◌↔◌, IfErr}
 use Rattle.replay_core.specs.declared.round.RoundFault.{RoundFault}
 use Rattle.replay_core.specs.declared.round.RoundFault.TheVariants as faults
 use Rattle.replay_core.specs.declared.serial.ReplayFault.{ReplayFault}
@@ -33,10 +32,6 @@ of_numbers refused.NoThread = false
 pub not_told : {X Y P : Type 0} (out : Result X ReplayFault) (fault : ReplayFault) (y : Y) → IfErr out (λ e. of_numbers e ≡ false) → of_numbers fault ≡ true → ◌≡◌ {A = Result Y ReplayFault} (Ok y) (Err fault) ↔ P → out ≡ Err fault ↔ P
 not_told (Ok x) fault y other number told = (λ same. cc same, λ p. cc (told.1 p))
 not_told (Err e) fault y other number told = (λ same. cc (same, other, number), λ p. cc (told.1 p))
-
--- a run in recorded order ends by no fault but the one of memory
-pub memory_alone : {X : Type 0} (out : Result X ReplayFault) → IsOkUnless out refused.Memory → IfErr out (λ e. of_numbers e ≡ false)
-memory_alone out memory = IfErr-weaker out (λ e. e ≡ refused.Memory) (λ e. of_numbers e ≡ false) (λ e is. ap of_numbers is) memory
 
 -- what has gone well gives no fault
 pub went_well : {X E : Type 0} (x : X) (fault : E) → Ok x ≢ Err fault

@@ -12,4 +12,3 @@ pub mod Noting
 pub mod Crossing
 pub mod Faults
 pub mod Onward
-pub mod Seating

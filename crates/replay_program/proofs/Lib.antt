@@ -1,8 +1,12 @@
 mod CommandLemmas
+mod Faults
 mod TransferLemmas
 mod SessionLemmas
 mod Comparison
+mod Differences
 mod NumberWords
 mod OptionWalk
+mod Outputs
 mod RoundWords
+mod Verdicts
 mod WordsLemmas

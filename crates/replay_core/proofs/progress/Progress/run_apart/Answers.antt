@@ -1,6 +1,5 @@
 use Rattle.std.proofs.Common.{length, ap, sym, subst, arith}
 use Rattle.std.proofs.lemmas.List.{length-map}
-use Rattle.std.proofs.lemmas.Result.{IfOk-from_err}
 use Rattle.world_parts.specs.Part.{Part}
 use Rattle.trace_format.proofs.Facts.{spelled_places}
 use Rattle.replay_core.specs.declared.progress.Progress.{Progress}
@@ -21,12 +20,3 @@ run_round-requires-clause-few g c κs within =
 
 pub gather-requires-clause-keeps : goal.gather-requires-clause-keeps
 gather-requires-clause-keeps g c = subst (λ (p : Progress). KeptAfter c.args.trace.now p.round p) (sym c.in_ok-jobs.ensures.rest) c.requires.begins.keeps
-
-pub returns-in_err-jobs : goal.returns-in_err-jobs
-returns-in_err-jobs g c = record { ran = IfOk-from_err _ _ c.from_residual.ensures.0 }
-
-pub returns-in_err-outcomes : goal.returns-in_err-outcomes
-returns-in_err-outcomes g c = record { ran = IfOk-from_err _ _ c.from_residual-in_err-outcomes.ensures.0 }
-
-pub returns-in_err-gather : goal.returns-in_err-gather
-returns-in_err-gather g c = record { ran = IfOk-from_err _ _ c.from_residual-in_err-gather.ensures.0 }
