@@ -33,6 +33,9 @@ SPARE = 6
 # The lists of the command line's words are made as large as they will be ahead of time; where that alone is refused, they
 # grow on their own. So are the lists of the lines of two reports, and of the words of each line.
 TRIED_AGAIN = 4
+# A list of many pages that is refused what it takes to share its map of them keeps it for itself, and shares page by page.
+# Heavy writes make such lists.
+KEPT_ALONE = 2
 
 
 def growths(count: int, spare: int) -> List[int]:
@@ -49,7 +52,7 @@ def swept(shim: Shim, program: Program, words: Words, trace: str, is_from: bool)
     wanted = program.run(words, given)
     ample, (count, _, _, before_read) = shim.run(program, words, given)
     lacking = [fault("memory"), *([fault("thread")] if has_workers else [])]
-    faults, refusals, tried_again = [], 0, 0
+    faults, refusals, tried_again, kept_alone = [], 0, 0, 0
     if ample != wanted:
         faults.append("with ample memory: {}".format(shown(ample)))
     for at in growths(count, SPARE if has_workers else 1):
@@ -60,6 +63,8 @@ def swept(shim: Shim, program: Program, words: Words, trace: str, is_from: bool)
             continue
         if is_early and got == wanted and tried_again < TRIED_AGAIN:
             tried_again += 1
+        elif trace == HEAVY_WRITES and refused and not is_from and got == wanted and kept_alone < KEPT_ALONE:
+            kept_alone += 1
         elif got not in (lacking if refused else [wanted]):
             faults.append("growth {}: {}".format(at, shown(got)))
     if not refusals:

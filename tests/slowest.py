@@ -2,7 +2,8 @@
 """Tells which modules took longest in the first check of a crate by one job: tests/slowest.py NAME [COUNT]
 
 A check writes each module that it has proved below out/, so the time between two of these files is what the later one took.
-Run it after `rm -r out; rt check --jobs 1` in the crate's folder."""
+Run it after `find out -name '*.oantt' -delete; rt check --jobs 1` in the crate's folder: a folder out/ that is gone is filled
+again from what was kept on the machine, with old times."""
 import os
 import sys
 from typing import Iterator, List, Tuple
