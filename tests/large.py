@@ -25,7 +25,7 @@ MOST_DEEP = 4.0
 # over 1,000.
 WAITING, MOST_WAITING = 60_000, {64: 12.0, 4096: 30.0}
 # How many entries carry little, and how many times the processor time of `serial` they may take `run`, which is 1 to 1.8 times
-# on a busy machine. In rounds it was 3 to 13.
+# on a busy machine. In rounds it was 3 to 19.
 LITTLE, MOST_LITTLE = 200_000, 2.5
 # How many bytes of memory the entries of the longest trace may take `check` for each byte of their text, which is 2.3, room
 # to grow included.
