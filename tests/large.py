@@ -1,5 +1,6 @@
 """Traces too large for examples/, which examples/make writes when asked: the most places, the longest record, the longest
 input, and writes that are worth threads."""
+import hashlib
 import math
 import os
 import subprocess
@@ -32,6 +33,9 @@ LITTLE, MOST_LITTLE = 200_000, 2.5
 MOST_MEMORY = 2.9
 # How much memory, in kilobytes, transfers of zeros may take, however long they are; 40,000 are enough.
 ZEROS_MEMORY = 100_000
+# How many bytes of memory bytes that a file begins with, that are written and that fill a buffer may take for each byte of the
+# text that has them, which is 1.4, room to grow included: they share it. With a copy of each it was 2.4, and 3.5 for `compare`.
+MOST_BESIDE = 1.8
 # How many times the processor time of transfers by offsets those at the position may take, which is 1 to 2 times.
 MOST_AT_POSITION = 5.0
 POSITION = (1 << 64) - 1
@@ -160,6 +164,34 @@ def long_transfers(program: Program) -> List[Outcome]:
     return outcomes
 
 
+def of_long_bytes(size: int) -> Tuple[bytes, bytes, bytes]:
+    """A trace of a file that begins with so many bytes, of a fill of as many and of a write of as many across the file's end, which
+    begins within a page, and then of one byte within what was written; the bytes of the file at the end, and those of the buffer."""
+    stored, filled, written = (os.urandom(size) for _ in range(3))
+    at, changed = size - 1001, size + 5
+    world = head(1, 1, 1, 2) + file(b"/a", size, stored) + description(1) + ring([1], [(4096, size)])
+    entries = [entry(WRITE, FIXED_FILE, offset=at, length=size, side=written), entry(WRITE, FIXED_FILE, offset=changed, length=1, side=b"!"),
+               entry(READ, FIXED_FILE, offset=at - 2, length=4)]
+    whole = bytearray(stored[:at] + written)
+    whole[changed] = ord("!")
+    return world + fill(0, 0, 0, filled) + enter(0, entries), bytes(whole), filled
+
+
+def long_bytes(program: Program) -> List[Outcome]:
+    """Bytes of the trace that files and buffers take over are what they should be, also behind a change, and take no memory
+    beside its text."""
+    outcomes = []
+    for size, words in ((1 << 23, ["serial", "--sums"]), (1 << 26, ["serial"]), (1 << 26, ["compare"])):
+        trace, whole, filled = of_long_bytes(size)
+        lines = [b"data=" + whole[size - 1003:size - 999].hex().encode()]
+        lines += [b"sum=" + hashlib.sha256(it).hexdigest().encode() for it in (whole, filled)] if "--sums" in words else []
+        got = program.run(words, trace, shell='ulimit -v {}; exec "$@"'.format(int(max(MOST_BESIDE * len(trace), 1 << 26)) >> 10))
+        told = got.output == b"equal\n" if words == ["compare"] else all(line in got.output for line in lines)
+        label = "{} of bytes that share a text of {} by {}".format(spoken(words), len(trace), program.compiler)
+        outcomes.append(Outcome(label, None if got.status == 0 and told else shown(got)))
+    return outcomes
+
+
 def at_the_position(program: Program) -> List[Outcome]:
     """Transfers at the position cost as those by offsets do, though each uses the whole file."""
     world = head(1, 1, 1, 1) + file(b"/a", 1 << 24, os.urandom(1 << 24)) + description(1) + ring([1])
@@ -184,5 +216,5 @@ def holes(program: Program) -> List[Outcome]:
 
 
 def jobs(programs: List[Program]) -> List[Job]:
-    alone = [partial(it, programs[0]) for it in (tried, long_reports, many_rings, deep_tree, many_entries, long_transfers, at_the_position, holes, waiting, carrying_little)]
+    alone = [partial(it, programs[0]) for it in (tried, long_reports, many_rings, deep_tree, many_entries, long_transfers, long_bytes, at_the_position, holes, waiting, carrying_little)]
     return [*alone, *(partial(on_threads, it) for it in programs)]

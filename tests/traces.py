@@ -237,7 +237,7 @@ def much_work():
     yield "reads_at_one_position", base([enter(0, [entry(READ, FIXED_FILE, offset=position, length=1)] * 4096)])
 
 
-def heavy_writes(count: int, size: int = 1 << 21) -> bytes:
+def heavy_writes(count: int, size: int = 1 << 23) -> bytes:
     """Files that are written whole side by side, each by so many bytes that it is worth a thread."""
     world = b"".join(file(b"/%d" % it) for it in range(count)) + b"".join(description(it + 1) for it in range(count))
     written = enter(0, [entry(WRITE, FIXED_FILE, it, 0, size, bytes([it]) * size) for it in range(count)])

@@ -3,6 +3,7 @@ ghost use Rattle.std.specs.Prelude.{◌≡◌, ◌≤◌, ◌*◌, ◌==◌, ◌
 ghost use Rattle.std.specs.Int.{cast_signed, w32};
 ghost use Rattle.sqe_codec.specs.Answers.{require};
 ghost use Rattle.sqe_codec.specs.declared.errno.Errno.TheVariants.{EINVAL};
+ghost use Rattle.trace_format.specs.Blobs.{sliced};
 ghost use Rattle.trace_format.specs.Sides.{vector_len};
 ghost use Rattle.entry_checks.specs.Check.{check_transfer_flags, check_no_registered_file};
 ghost use Rattle.entry_checks.specs.Check.{are_open_flags, open_flags_of, is_zero};
@@ -12,7 +13,7 @@ ghost use Rattle.entry_checks.specs.Answer.{check_submission, check_vector};
 
 use crate::operation::{BufferSpan, FileNumber, OpenAtFlags};
 use sqe_codec::{BUFFER_SELECT, Errno, FIXED_FILE, Sqe, has_flag};
-use trace_format::vector_total;
+use trace_format::{TextSlice, vector_total};
 
 // The flags of open(2), as asm-generic/fcntl.h has them.
 const ACCESS: u32 = 0o3;
@@ -66,12 +67,12 @@ pub(crate) fn vector(sqe: &Sqe, side: &[u8]) -> Result<u64, Errno>
 }
 
 /// The bytes that a vectored write moves: they stand behind its lengths.
-pub(crate) fn written<'a>(sqe: &Sqe, side: &'a [u8]) -> &'a [u8]
+pub(crate) fn written<'a>(sqe: &Sqe, side: TextSlice<'a>) -> TextSlice<'a>
     requires few { sqe.now.len ≤ 1024 }
-    requires there { 8 * sqe.now.len ≤ length side.now }
-    ensures { result.now ≡ drop (8 * sqe.now.len) side.now }
+    requires there { 8 * sqe.now.len ≤ length (sliced side) }
+    ensures { sliced result ≡ drop (8 * sqe.now.len) (sliced side.entry) }
 {
-    &side[8 * sqe.len as usize..]
+    side.behind(8 * sqe.len as usize)
 }
 
 /// An operation on paths or slots takes no registered file.

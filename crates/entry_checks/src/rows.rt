@@ -1,6 +1,7 @@
 //! The rows of the table: the tests of each opcode in order, behind those of every entry, and the
 //! operation that is left.
 ghost use Rattle.std.specs.Prelude.{◌≡◌, ◌≤◌, length, true};
+ghost use Rattle.trace_format.specs.Blobs.{sliced};
 ghost use Rattle.trace_format.specs.Sides.{are_two_paths, vector_len};
 ghost use Rattle.trace_format.specs.declared.version.Version.TheVariants as version;
 ghost use Rattle.entry_checks.specs.Check as opcode;
@@ -14,7 +15,7 @@ use crate::row_tests::{
     transfer, vector, written,
 };
 use sqe_codec::{Errno, Sqe};
-use trace_format::Version;
+use trace_format::{TextSlice, Version};
 
 // The flags of unlinkat(2) and linkat(2), as linux/fcntl.h has them.
 const REMOVE_DIRECTORY: u32 = 0x200;
@@ -42,13 +43,13 @@ pub(crate) fn readv<'a>(sqe: &Sqe, side: &'a [u8]) -> Result<Op<'a>, Errno>
     })
 }
 
-pub(crate) fn writev<'a>(sqe: &Sqe, side: &'a [u8]) -> Result<Op<'a>, Errno>
-    requires { vector_len sqe.now ≤ length side.now }
-    ensures { answer result ≡ checked_row version.One opcode.Writev sqe.now side.now }
+pub(crate) fn writev<'a>(sqe: &Sqe, side: TextSlice<'a>) -> Result<Op<'a>, Errno>
+    requires { vector_len sqe.now ≤ length (sliced side) }
+    ensures { answer result ≡ checked_row version.One opcode.Writev sqe.now (sliced side.entry) }
 {
     submission(sqe)?;
     transfer(sqe)?;
-    vector(sqe, side)?;
+    vector(sqe, side.as_slice())?;
     Ok(Op::Writev {
         file: file_of(sqe),
         offset: sqe.off,
@@ -141,8 +142,8 @@ pub(crate) fn read<'a>(sqe: &Sqe, side: &'a [u8]) -> Result<Op<'a>, Errno>
     })
 }
 
-pub(crate) fn write<'a>(sqe: &Sqe, side: &'a [u8]) -> Result<Op<'a>, Errno>
-    ensures { answer result ≡ checked_row version.One opcode.Write sqe.now side.now }
+pub(crate) fn write<'a>(sqe: &Sqe, side: TextSlice<'a>) -> Result<Op<'a>, Errno>
+    ensures { answer result ≡ checked_row version.One opcode.Write sqe.now (sliced side.entry) }
 {
     submission(sqe)?;
     transfer(sqe)?;

@@ -27,7 +27,7 @@ pub fn check<'a>(entry: &Entry<'a>, version: Version) -> Result<Op<'a>, Errno>
     match sqe.opcode {
         0 => rows::nop(sqe, side),
         1 => rows::readv(sqe, side),
-        2 => rows::writev(sqe, side),
+        2 => rows::writev(sqe, entry.side_slice()),
         3 => rows::fsync(sqe, side),
         4 => rows::read_fixed(sqe, side),
         5 => rows::write_fixed(sqe, side),
@@ -35,7 +35,7 @@ pub fn check<'a>(entry: &Entry<'a>, version: Version) -> Result<Op<'a>, Errno>
         18 => rows::openat(sqe, side),
         19 => rows::close(sqe, side),
         22 => rows::read(sqe, side),
-        23 => rows::write(sqe, side),
+        23 => rows::write(sqe, entry.side_slice()),
         35 => rows::renameat(sqe, side, version),
         36 => rows::unlinkat(sqe, side),
         37 => rows::mkdirat(sqe, side),

@@ -1,5 +1,5 @@
 // Lists of bytes whose stored pages alone take memory.
-ghost use Rattle.std.specs.Prelude.{◌≡◌, ℕ, ◌+◌, ◌-◌, ◌≤◌, ◌↔◌, List, [], length};
+ghost use Rattle.std.specs.Prelude.{◌≡◌, ℕ, ◌+◌, ◌-◌, ◌≤◌, ◌↔◌, List, [], length, take, drop};
 ghost use Rattle.std.specs.Prelude.{vec_len, max, IsTrue, IfOk, IfSome, OnOk, OnErr};
 ghost use Rattle.extent_bytes.specs.Bytes.{overwritten, zeroed, resized, range_of};
 
@@ -9,29 +9,13 @@ use crate::page_bytes::{PAGE, copy_of_part, part_of_page};
 use crate::page_run::PageRun;
 use crate::paged::Paged;
 use crate::stored::Stored;
+use crate::texts::text_pages;
 use std::alloc::{AllocError, Global};
 use std::marker::Model;
+use std::sync::Arc;
 
 /// The greatest length of a byte list, 2^40.
 pub const MAX_LEN: u64 = 1_099_511_627_776;
-
-// A write of so many bytes or more asks for the room of its pages at once.
-const LONG_WRITE: usize = 65_536;
-
-// It asks for no more than so many bytes.
-const MOST_ROOM: usize = 16_777_216;
-
-// Lets the heap grow in one step by about what the pages of a long write take: asks for as much and
-// gives it back. With each page by itself it would grow by steps of a page or a few, and those of
-// several threads wait for one another.
-fn grow_heap(alloc: Global, bytes: usize) -> Result<(), AllocError> {
-    if bytes >= LONG_WRITE {
-        let bytes = bytes.min(MOST_ROOM);
-        let room: Vec<u8> = Vec::with_capacity(alloc, bytes + bytes / 64)?;
-        drop(room);
-    }
-    Ok(())
-}
 
 /// A list of at most [`MAX_LEN`] bytes. Only pages with bytes that were written take memory.
 ///
@@ -70,6 +54,30 @@ impl Extents {
         }
     }
 
+    /// So many bytes of a text, from a place on. Whole pages among them share the text, and are
+    /// not copied; nor are they when the list is put back at `at` of one that begins with a page.
+    pub fn of_text(
+        alloc: Global,
+        text: &Arc<Vec<u8>>,
+        from: usize,
+        count: usize,
+        at: u64,
+    ) -> Result<Extents, AllocError>
+        requires inside { from + count ≤ length text.now.value.items }
+        requires few { count ≤ MAX_LEN }
+        ensures value { IfOk result (λ list. list ≡ take count (drop from text.now.value.items)) }
+        ensures len { IfOk result (λ list. length list ≡ count) }
+    {
+        let start = at % PAGE;
+        let pages = text_pages(alloc, start, text, from, from + count)?;
+        Ok(Extents {
+            start,
+            len: count as u64,
+            stored: Stored::Own(pages),
+            alloc,
+        })
+    }
+
     /// How many bytes the list has.
     pub fn len(&self) -> u64
         ensures value { result ≡ length self.now }
@@ -105,7 +113,6 @@ impl Extents {
             length self.new ≡ max (length self.old) (at + length bytes.now)) }
         ensures err { OnErr result (self.new ≡ self.old) }
     {
-        grow_heap(self.alloc, bytes.len())?;
         let end = self.start + self.len;
         self.stored
             .write_range(self.alloc, end, self.start + at, bytes)?;

@@ -1,5 +1,5 @@
 // A page of bytes. Several owners may share one, and each sees its own bytes.
-ghost use Rattle.std.specs.Prelude.{◌≡◌, ◌+◌, ◌-◌, ◌≤◌, ◌↔◌, length};
+ghost use Rattle.std.specs.Prelude.{◌≡◌, ◌+◌, ◌-◌, ◌≤◌, ◌↔◌, length, take, drop};
 ghost use Rattle.std.specs.Prelude.{replicate, IsTrue, All, IfOk, OnOk, OnErr};
 ghost use Rattle.extent_bytes.specs.Bytes.{overwritten};
 ghost use Rattle.extent_bytes.specs.Pages.{blank_page};
@@ -34,17 +34,32 @@ fn wipe(page: &mut [u8; PAGE_SIZE], from: usize, to: usize)
     page[from..to].fill(0);
 }
 
+// A text, whose bytes pages may share.
+pub(crate) type Text = Arc<Vec<u8>>;
+
+// Where a page has its bytes.
+#[derive(Drop)]
+pub(crate) enum Home {
+    // Apart, for pages alone.
+    Apart(Arc<[u8; PAGE_SIZE]>),
+    // In a text, from a place on.
+    Within(Text, usize),
+}
+
 #[derive(Drop)]
 pub(crate) struct Page {
-    bytes: Arc<[u8; PAGE_SIZE]>,
+    home: Home,
 }
 
 impl Model for Page {
     ghost use Rattle.std.specs.Prelude.{ℕ, List};
+    ghost use Rattle.extent_bytes.specs.Homes.{IsHome, page_in};
 
     ghost Value = { List ℕ };
 
-    ghost view = { λ p. p.bytes.value };
+    ghost view = { λ p. page_in p.home };
+
+    ghost invariant = { λ p. IsHome p.home };
 }
 
 impl Clone for Page {
@@ -52,9 +67,11 @@ impl Clone for Page {
 
     // The same bytes, with one more owner.
     fn clone(&self) -> Result<Page, AllocError> {
-        Ok(Page {
-            bytes: Arc::try_clone(&self.bytes)?,
-        })
+        let home = match &self.home {
+            Home::Apart(bytes) => Home::Apart(Arc::try_clone(bytes)?),
+            Home::Within(text, from) => Home::Within(Arc::try_clone(text)?, *from),
+        };
+        Ok(Page { home })
     }
 }
 
@@ -64,7 +81,17 @@ impl Page {
         ensures { IfOk result (λ page. page ≡ blank_page) }
     {
         Ok(Page {
-            bytes: Arc::new(alloc, [0; PAGE_SIZE])?,
+            home: Home::Apart(Arc::new(alloc, [0; PAGE_SIZE])?),
+        })
+    }
+
+    // The bytes of a text from a place on, as many as a page has. They are not copied.
+    pub(crate) fn within(text: &Text, from: usize) -> Result<Page, AllocError>
+        requires { from + PAGE_SIZE ≤ length text.now.value.items }
+        ensures { IfOk result (λ page. page ≡ take PAGE_SIZE (drop from text.now.value.items)) }
+    {
+        Ok(Page {
+            home: Home::Within(Arc::try_clone(text)?, from),
         })
     }
 
@@ -82,7 +109,21 @@ impl Page {
         ensures bytes { result.now ≡ self.now }
         ensures len { length self.now ≡ PAGE_SIZE }
     {
-        let bytes: &[u8; PAGE_SIZE] = &self.bytes;
+        match &self.home {
+            Home::Apart(bytes) => {
+                let bytes: &[u8; PAGE_SIZE] = bytes;
+                bytes
+            }
+            Home::Within(text, from) => &text[*from..*from + PAGE_SIZE],
+        }
+    }
+
+    // A copy of the bytes.
+    fn copied(&self) -> [u8; PAGE_SIZE]
+        ensures { result ≡ self.now }
+    {
+        let mut bytes = [0; PAGE_SIZE];
+        bytes.copy_from_slice(self.as_slice());
         bytes
     }
 
@@ -92,13 +133,13 @@ impl Page {
         ensures ok { OnOk result (self.new ≡ overwritten self.old at bytes.now) }
         ensures err { OnErr result (self.new ≡ self.old) }
     {
-        match Arc::get_mut(&mut self.bytes) {
-            Some(page) => {
-                put(page, at, bytes);
-                Ok(())
-            }
-            None => self.write_copy(alloc, at, bytes),
+        if let Home::Apart(page) = &mut self.home
+            && let Some(page) = Arc::get_mut(page)
+        {
+            put(page, at, bytes);
+            return Ok(());
         }
+        self.write_copy(alloc, at, bytes)
     }
 
     // Writes the bytes into a copy. It is a function of its own, so that a write in place has no
@@ -108,9 +149,9 @@ impl Page {
         ensures ok { OnOk result (self.new ≡ overwritten self.old at bytes.now) }
         ensures err { OnErr result (self.new ≡ self.old) }
     {
-        let mut page = *self.bytes;
+        let mut page = self.copied();
         put(&mut page, at, bytes);
-        self.bytes = Arc::new(alloc, page)?;
+        self.home = Home::Apart(Arc::new(alloc, page)?);
         Ok(())
     }
 
@@ -121,13 +162,13 @@ impl Page {
         ensures ok { OnOk result (self.new ≡ overwritten self.old from (replicate (to - from) 0)) }
         ensures err { OnErr result (self.new ≡ self.old) }
     {
-        match Arc::get_mut(&mut self.bytes) {
-            Some(page) => {
-                wipe(page, from, to);
-                Ok(())
-            }
-            None => self.clear_copy(alloc, from, to),
+        if let Home::Apart(page) = &mut self.home
+            && let Some(page) = Arc::get_mut(page)
+        {
+            wipe(page, from, to);
+            return Ok(());
         }
+        self.clear_copy(alloc, from, to)
     }
 
     // Makes a part of the page zeros, in a copy.
@@ -137,9 +178,9 @@ impl Page {
         ensures ok { OnOk result (self.new ≡ overwritten self.old from (replicate (to - from) 0)) }
         ensures err { OnErr result (self.new ≡ self.old) }
     {
-        let mut page = *self.bytes;
+        let mut page = self.copied();
         wipe(&mut page, from, to);
-        self.bytes = Arc::new(alloc, page)?;
+        self.home = Home::Apart(Arc::new(alloc, page)?);
         Ok(())
     }
 }

@@ -13,8 +13,8 @@ use crate::pages::Pages;
 use std::alloc::{AllocError, Global};
 use std::marker::Model;
 
-// Bytes that lie in pages one behind another, all of them stored. Each page takes 8 bytes, where a
-// map takes some 20.
+// Bytes that lie in pages one behind another, all of them stored. Each page takes 24 bytes, where a
+// map takes some 40.
 #[derive(Drop)]
 pub(crate) struct PageRun {
     // Where the first byte lies in the first page.

@@ -146,7 +146,7 @@ impl Pages {
         if number == self.front.len() as u64 {
             self.front.push(page)?;
         } else {
-            self.rest.insert(number, page)?;
+            drop(self.rest.insert(number, page)?);
         }
         self.extend_front();
         Ok(())
@@ -165,6 +165,19 @@ impl Pages {
         if let Some(place) = self.rest.get_mut(&number) {
             *place = page;
         }
+    }
+
+    // Stores a page, in place of the one of its number where there is one.
+    pub(crate) fn put(&mut self, number: u64, page: Page) -> Result<(), AllocError>
+        ensures put { OnOk result (page_of self.new number ≡ Some page) }
+        ensures others { OnOk result ((j : ℕ) → j ≢ number → page_of self.new j ≡ page_of self.old j) }
+        ensures err { OnErr result (SamePages self.old self.new) }
+    {
+        if self.get(number).is_some() {
+            self.replace(number, page);
+            return Ok(());
+        }
+        self.add(number, page)
     }
 
     // Puts a page in place of the one that lies so many behind `first`, if that is below `end`.

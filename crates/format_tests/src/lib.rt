@@ -8,6 +8,8 @@ mod entries;
 #[cfg(test)]
 mod reports;
 #[cfg(test)]
+mod slices;
+#[cfg(test)]
 mod so_far;
 #[cfg(test)]
 mod traces;

@@ -5,6 +5,7 @@ use Rattle.entry_checks.specs.declared.operation.FileNumber.{FileNumber}
 use Rattle.entry_checks.specs.declared.operation.FileNumber.TheVariants.{Slot, Descriptor}
 use Rattle.extent_bytes.specs.Bytes.{range_of}
 use Rattle.trace_format.specs.declared.trace.Trace.{Trace}
+use Rattle.trace_format.specs.Blobs.{sliced}
 use Rattle.trace_format.specs.Sides.{most_moved}
 use Rattle.world_parts.specs.World.{World, buffer, set_descriptor, set_size, set_slot}
 use Rattle.op_meaning.specs.declared.allocating.RangeAllocation.{RangeAllocation}
@@ -28,7 +29,7 @@ buffer_filled s r x = read_effect s r (handle_meant s x.file) x.offset x.count (
 
 -- a write of bytes, and one of a range of a buffer of a ring
 abbrev pub bytes_written : World → FileWrite → Effect
-bytes_written s x = write_effect (handle_meant s x.file) x.offset x.start x.bytes.now
+bytes_written s x = write_effect (handle_meant s x.file) x.offset x.start (sliced x.bytes)
 
 abbrev pub buffer_written : World → ℕ → BufferWrite → Effect
 buffer_written s r x = write_effect (handle_meant s x.file) x.offset x.start (range_of (unwrap_or (buffer s r x.index) []) x.at (x.at + x.count))
@@ -58,7 +59,7 @@ effect_of t k r s (ChangeNames x) = changes_meant s.nodes x
 
 -- whether what was decided on keeps to the limits: it writes no more than one call moves, from within the buffer, and makes no file longer than the largest
 abbrev pub IsWithinLimits : World → ℕ → Decision → Type 0
-IsWithinLimits s r (Write x) = (x.start + length x.bytes.now ≤ file_limit) × (length x.bytes.now ≤ most_moved)
+IsWithinLimits s r (Write x) = (x.start + length (sliced x.bytes) ≤ file_limit) × (length (sliced x.bytes) ≤ most_moved)
 IsWithinLimits s r (WriteFixed x) = (x.at < 2 ^ 32) × (x.at + x.count ≤ length (unwrap_or (buffer s r x.index) [])) × (x.start + x.count ≤ file_limit) × (x.count ≤ most_moved)
 IsWithinLimits s r (Allocate x) = x.end ≤ file_limit
 IsWithinLimits s r (Resize i n) = n ≤ file_limit

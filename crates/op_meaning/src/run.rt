@@ -77,7 +77,7 @@ pub fn run_on_state(
             bytes,
         } => {
             let buffer = u32::from(*buffer);
-            state.write_buffer(ring, buffer, u64::from(*offset), bytes.as_slice())?;
+            state.fill_from_blob(ring, buffer, u64::from(*offset), bytes)?;
             Ok(silent(alloc))
         }
         TurnKind::Refused { error, posted } => Ok(refused(alloc, *error, *posted)),

@@ -8,6 +8,7 @@ ghost use Rattle.op_meaning.specs.Decision.{bytes_read, bytes_written};
 ghost use Rattle.op_meaning.specs.Handles.{handle_meant};
 ghost use Rattle.op_meaning.specs.Meaning.{advance, bytes_in};
 ghost use Rattle.op_meaning.specs.Outcomes.{Gives};
+ghost use Rattle.trace_format.specs.Blobs.{sliced};
 ghost use Rattle.trace_format.specs.Sides.{most_moved};
 ghost use Rattle.world_parts.specs.World.{apply_all};
 ghost use Rattle.world_parts.specs.World as world;
@@ -121,8 +122,8 @@ pub(crate) fn write(
     write: FileWrite<'_>,
     state: &mut State,
 ) -> Result<Done, AllocError>
-    requires end { write.start + length write.bytes.now ≤ file_limit }
-    requires short { length write.bytes.now ≤ most_moved }
+    requires end { write.start + length (sliced write.bytes) ≤ file_limit }
+    requires short { length (sliced write.bytes) ≤ most_moved }
     ensures answer { IfOk result (Gives (bytes_written state.old write.entry)) }
     ensures state { OnOk result
         (state.new ≡ apply_all (bytes_written state.old write.entry).changes state.old) }
@@ -133,7 +134,7 @@ pub(crate) fn write(
         start,
         bytes,
     } = write;
-    state.write(file.description.node, start, bytes)?;
+    state.write_from_text(alloc, file.description.node, start, bytes)?;
     advance(&file, offset, start + bytes.len() as u64, state);
     Ok(counted(alloc, bytes.len() as u32))
 }

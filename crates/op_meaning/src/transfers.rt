@@ -10,6 +10,7 @@ ghost use Rattle.op_meaning.specs.Handles.{handle_meant, opened_meant};
 ghost use Rattle.op_meaning.specs.Lookups.{FindsFile, Tells};
 ghost use Rattle.op_meaning.specs.Meaning.{handle, read_fixed_meaning, readv_meaning};
 ghost use Rattle.op_meaning.specs.Meaning.{write_fixed_meaning, write_meaning, write_start};
+ghost use Rattle.trace_format.specs.Blobs.{sliced};
 ghost use Rattle.trace_format.specs.Sides.{most_moved};
 ghost use Rattle.world_parts.specs.World as world;
 
@@ -22,7 +23,7 @@ use crate::lookup::Lookup;
 use crate::site::Site;
 use entry_checks::{BufferSpan, FileNumber};
 use sqe_codec::Errno;
-use trace_format::Trace;
+use trace_format::{TextSlice, Trace};
 use world_parts::State;
 
 /// The open file that a read at an offset is from, or why it is refused.
@@ -188,7 +189,7 @@ pub(crate) struct FileWrite<'a> {
     pub file: OpenFile,
     pub offset: u64,
     pub start: u64,
-    pub bytes: &'a [u8],
+    pub bytes: TextSlice<'a>,
 }
 
 /// What WRITE and WRITEV do: nothing where there are no bytes.
@@ -201,7 +202,7 @@ pub(crate) fn writing<'a>(
     file: FileNumber,
     lookup: &Lookup<'a>,
     offset: u64,
-    bytes: &'a [u8],
+    bytes: TextSlice<'a>,
     state: &State,
 ) -> Result<Decision<'a>, Errno>
     requires { Tells lookup.now
@@ -209,9 +210,9 @@ pub(crate) fn writing<'a>(
     ensures meaning { Decides
         (write_meaning state.now
         (handle site.entry.trace.now state.now site.entry.ring (file_meant file)) offset
-        (Ok bytes.now))
+        (Ok (sliced bytes.entry)))
         (effect_of site.entry.trace.now site.entry.place site.entry.ring state.now) result }
-    ensures limits { length bytes.now ≤ most_moved
+    ensures limits { length (sliced bytes.entry) ≤ most_moved
         → IfOk result (IsWithinLimits state.now site.entry.ring) }
 {
     let opened = lookup.file_at(site, file, state);
@@ -224,7 +225,7 @@ pub(crate) fn writing<'a>(
         file,
         offset,
         start,
-        bytes: &bytes[..count],
+        bytes: bytes.first(count),
     }))
 }
 

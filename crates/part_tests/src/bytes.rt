@@ -3,6 +3,7 @@ ghost use Rattle.std.specs.Prelude.{◌≡◌, length, IfOk};
 
 use extent_bytes::{Extents, MAX_LEN, ReadBytes};
 use std::alloc::{AllocError, Global};
+use std::sync::Arc;
 use std::test::Fail;
 
 /// The ten digits, in a box: a test that owns one is proved in less time.
@@ -176,5 +177,33 @@ fn reads_stay(alloc: Global, list: &mut Extents) -> Result<bool, AllocError>
 fn keeps_bytes_that_were_read(rt: HostRuntime) -> Result<(), Fail> {
     let mut list = digits(rt.alloc())?;
     assert!(rt; reads_stay(rt.alloc(), &mut list)?);
+    Ok(())
+}
+
+/// A text of many x, one y at 9,999, and then many z.
+fn marked_text(alloc: Global) -> Result<Arc<Vec<u8>>, AllocError> {
+    let mut bytes = Vec::new(alloc);
+    bytes.resize(9_999, b'x')?;
+    bytes.push(b'y')?;
+    bytes.resize(20_000, b'z')?;
+    Ok(Arc::new(alloc, bytes)?)
+}
+
+/// Whether a list has the bytes of a text from 100 on, of which it shares pages, and leaves the text
+/// as it is where it is written to.
+fn shares_a_text(alloc: Global, text: &Arc<Vec<u8>>) -> Result<bool, AllocError> {
+    if text.len() != 20_000 {
+        return Ok(false);
+    }
+    let mut list = Extents::of_text(alloc, text, 100, 19_000, 4_095)?;
+    let shared = shows(&list, 9_898, b"xyz")? && shows(&list, 18_999, b"z")?;
+    list.write(9_899, b"!")?;
+    Ok(shared && shows(&list, 9_898, b"x!z")? && text[9_999] == b'y')
+}
+
+#[test]
+fn a_list_shares_a_text(rt: HostRuntime) -> Result<(), Fail> {
+    let text = marked_text(rt.alloc())?;
+    assert!(rt; shares_a_text(rt.alloc(), &text)?);
     Ok(())
 }

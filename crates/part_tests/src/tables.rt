@@ -4,7 +4,7 @@ use extent_bytes::MAX_LEN;
 use ring_tables::{Buffers, Descriptions, Slots};
 use std::alloc::{AllocError, Global};
 use std::test::Fail;
-use trace_format::{Access, Description};
+use trace_format::{Access, Blob, Description};
 
 /// Whether a slot is filled and emptied in its own ring alone, and slots are equal just where their
 /// entries are, whatever was there before.
@@ -149,5 +149,25 @@ fn a_buffer_takes_no_memory_by_its_length(rt: HostRuntime) -> Result<(), Fail> {
     let mut buffers = Buffers::new(rt.alloc());
     let mut others = Buffers::new(rt.alloc());
     assert!(rt; ends_tell(&mut buffers, &mut others)?);
+    Ok(())
+}
+
+/// Whether bytes of a text lie over those of a buffer of eight bytes from the fifth one on, as far as
+/// it has room.
+fn takes_a_text(buffers: &mut Buffers, text: &Blob) -> Result<bool, AllocError> {
+    buffers.add_zeros(2, 9, 8)?;
+    let Some(bytes) = text.slice() else {
+        return Ok(false);
+    };
+    buffers.write_text(2, 9, 5, bytes)?;
+    buffers.write_text(2, 9, 8, bytes)?;
+    holds(buffers, 3, b"\0\0abc")
+}
+
+#[test]
+fn a_buffer_takes_a_text(rt: HostRuntime) -> Result<(), Fail> {
+    let mut buffers = Buffers::new(rt.alloc());
+    let text = Blob::from_vec(rt.alloc(), Vec::from_slice(rt.alloc(), b"abcdef")?)?;
+    assert!(rt; takes_a_text(&mut buffers, &text)?);
     Ok(())
 }

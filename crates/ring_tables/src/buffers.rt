@@ -5,12 +5,14 @@ ghost use Rattle.std.specs.Option.{option_map};
 ghost use Rattle.extent_bytes.specs.Bytes.{overlaid, overwritten, range_of, zeroed};
 ghost use Rattle.finite_maps.specs.Table.{empty, get, insert, pair_keys};
 ghost use Rattle.ring_tables.specs.Contents.{bytes_at, rewritten_at};
+ghost use Rattle.trace_format.specs.Blobs.{sliced};
 
 use extent_bytes::{Extents, MAX_LEN};
 use std::alloc::{AllocError, Global};
 use std::collections::BTreeMap;
 use std::collections::btree_map::Iter;
 use std::marker::Model;
+use trace_format::TextSlice;
 
 /// The bytes of the registered buffers of rings, by ring and index, as io_uring_register(2) numbers
 /// them. Bytes that were never written are zeros and take no memory.
@@ -107,6 +109,31 @@ impl Buffers {
         }
         let count = bytes.len().min(room as usize);
         buffer.write(at, &bytes[..count])
+    }
+
+    /// Writes bytes of a text over those of a buffer from `at` on, as [`Buffers::write`] does. Whole
+    /// pages share the text.
+    pub fn write_text(
+        &mut self,
+        ring: u8,
+        index: u32,
+        at: u64,
+        bytes: TextSlice<'_>,
+    ) -> Result<(), AllocError>
+        ensures ok { OnOk result (self.new
+            ≡ rewritten_at (λ old. overlaid old at (sliced bytes.entry)) self.old ring index) }
+        ensures err { OnErr result (self.new ≡ self.old) }
+    {
+        let Some(buffer) = self.entries.get_mut(&(ring, index)) else {
+            return Ok(());
+        };
+        let room = buffer.len().saturating_sub(at);
+        if room == 0 {
+            return Ok(());
+        }
+        let count = bytes.len().min(room as usize);
+        let part = Extents::of_text(self.alloc, bytes.text, bytes.from, count, at)?;
+        buffer.put_back(at, part)
     }
 
     /// The bytes of a buffer from `lo` up to `hi` as a list of its own, which shares their memory.

@@ -11,6 +11,7 @@ pub mod KnownNames
 pub mod KnownSpans
 pub mod Apart
 pub mod Spotted
+pub mod Slices
 mod Exits
 pub mod Facts
 pub mod Sizes

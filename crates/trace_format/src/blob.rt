@@ -1,12 +1,72 @@
 //! Bytes of a text that several owners share.
-ghost use Rattle.std.specs.Prelude.{◌≡◌, ◌≤◌, [], length, take, drop, IfOk};
+ghost use Rattle.std.specs.Prelude.{◌≡◌, ◌+◌, ◌≤◌, ◌==◌, [], length, take, drop, IfOk, IfNone, IfSome};
 
 use std::alloc::{AllocError, Global};
 use std::marker::Model;
 use std::sync::Arc;
 
 /// The text of a trace, which what was read of it shares.
-pub(crate) type Text = Arc<Vec<u8>>;
+pub type Text = Arc<Vec<u8>>;
+
+/// Bytes of a text, with the text, so that who keeps them may share it.
+#[derive(Clone, Copy)]
+pub struct TextSlice<'a> {
+    /// The text that they lie in.
+    pub text: &'a Text,
+    /// Where in the text they begin.
+    pub from: usize,
+    len: usize,
+    pub ghost inside: { from + len ≤ length text.now.value.items },
+}
+
+impl<'a> TextSlice<'a> {
+    ghost use Rattle.trace_format.specs.Blobs.{sliced};
+
+    /// So many bytes of a text, from a place on.
+    pub(crate) fn of(text: &'a Text, from: usize, len: usize) -> Self
+        requires { from + len ≤ length text.now.value.items }
+        ensures { sliced result ≡ take len (drop from text.entry.now.value.items) }
+    {
+        TextSlice { text, from, len }
+    }
+
+    /// How many there are.
+    pub fn len(self) -> usize
+        ensures { result ≡ length (sliced self.entry) }
+    {
+        self.len
+    }
+
+    /// Whether there are none.
+    pub fn is_empty(self) -> bool
+        ensures { result ≡ (length (sliced self.entry) == 0) }
+    {
+        self.len == 0
+    }
+
+    /// The bytes as a slice.
+    pub fn as_slice(self) -> &'a [u8]
+        ensures { result.now ≡ sliced self.entry }
+    {
+        &self.text[self.from..self.from + self.len]
+    }
+
+    /// Those behind the first so many.
+    pub fn behind(self, count: usize) -> TextSlice<'a>
+        requires { count ≤ length (sliced self) }
+        ensures { sliced result ≡ drop count (sliced self.entry) }
+    {
+        TextSlice::of(self.text, self.from + count, self.len - count)
+    }
+
+    /// The first so many.
+    pub fn first(self, count: usize) -> TextSlice<'a>
+        requires { count ≤ length (sliced self) }
+        ensures { sliced result ≡ take count (sliced self.entry) }
+    {
+        TextSlice::of(self.text, self.from, count)
+    }
+}
 
 /// Bytes, which contracts see as a list: a range of a text that several of these share, so that
 /// what is read is not copied.
@@ -30,6 +90,8 @@ impl Model for Blob {
 }
 
 impl Blob {
+    ghost use Rattle.trace_format.specs.Blobs.{sliced};
+
     /// No bytes. It takes no memory.
     pub fn empty() -> Self
         ensures { result ≡ [] }
@@ -75,6 +137,17 @@ impl Blob {
         match &self.text {
             None => &[],
             Some(text) => &text[self.from..self.from + self.len],
+        }
+    }
+
+    /// The bytes with the text that they lie in, if they lie in one.
+    pub fn slice(&self) -> Option<TextSlice<'_>>
+        ensures some { IfSome result (λ bytes. sliced bytes ≡ self.now) }
+        ensures none { IfNone result (self.now ≡ []) }
+    {
+        match &self.text {
+            None => None,
+            Some(text) => Some(TextSlice::of(text, self.from, self.len)),
         }
     }
 }

@@ -6,7 +6,7 @@ ghost use Rattle.std.specs.Prelude.{OnOk, OnErr};
 ghost use Rattle.trace_format.specs.Entries.{IsInside, entry_at};
 
 use crate::blob::Text;
-use crate::entry::{Entry, HEAD};
+use crate::entry::Entry;
 use sqe_codec::{Sqe, pack};
 use std::alloc::{AllocError, Global};
 use std::marker::Model;
@@ -65,9 +65,7 @@ impl Entries {
         requires { number < length self.now }
         ensures { slice_get self.now number ≡ Some result }
     {
-        let spot = self.spots[number];
-        let from = spot.at as usize;
-        Entry::of(&self.text[from..from + HEAD + spot.side_len as usize])
+        Entry::of(&self.text, self.spots[number])
     }
 }
 

@@ -1,7 +1,10 @@
 //! Entries, as they lie in a text.
-ghost use Rattle.std.specs.Prelude.{◌≡◌, ◌≤◌, length};
-ghost use Rattle.trace_format.specs.Entries.{entry_spelled};
+ghost use Rattle.std.specs.Prelude.{◌≡◌};
+ghost use Rattle.trace_format.specs.Blobs.{sliced};
+ghost use Rattle.trace_format.specs.Entries.{IsInside, entry_at};
 
+use crate::blob::{Text, TextSlice};
+use crate::entries::Spot;
 use sqe_codec::{Sqe, unpack};
 use std::marker::Model;
 
@@ -13,44 +16,48 @@ pub(crate) const HEAD: usize = 68;
 /// its fields nor the bytes are copied.
 #[derive(Drop)]
 pub struct Entry<'a> {
-    text: &'a [u8],
+    text: &'a Text,
+    spot: Spot,
 }
 
 impl<'a> Model for Entry<'a> {
-    ghost use Rattle.std.specs.Prelude.{◌≤◌, length};
     ghost use Rattle.trace_format.specs.Submitted.{Submitted};
 
     ghost Value = { Submitted };
 
-    ghost use Rattle.trace_format.specs.Entries.{entry_spelled};
+    ghost use Rattle.trace_format.specs.Entries.{IsInside, entry_at};
 
-    ghost view = { λ e. entry_spelled e.text.now };
+    ghost view = { λ e. entry_at e.text.now.value.items e.spot };
 
-    ghost invariant = { λ e. 68 ≤ length e.text.now };
+    ghost invariant = { λ e. IsInside e.text.now.value.items e.spot };
 }
 
 impl<'a> Entry<'a> {
-    /// The entry that a text has, as long as it is.
-    pub(crate) fn of(text: &'a [u8]) -> Self
-        requires { 68 ≤ length text.now }
-        ensures { result ≡ entry_spelled text.entry.now }
+    /// The entry at a spot of a text.
+    pub(crate) fn of(text: &'a Text, spot: Spot) -> Self
+        requires { IsInside text.now.value.items spot }
+        ensures { result ≡ entry_at text.entry.now.value.items spot }
     {
-        Entry { text }
+        Entry { text, spot }
     }
 
     /// The same entry. It takes no memory.
     pub fn again(&self) -> Self
         ensures { result ≡ self.now }
     {
-        Entry { text: self.text }
+        Entry {
+            text: self.text,
+            spot: self.spot,
+        }
     }
 
     /// The entry's fields.
     pub fn sqe(&self) -> Sqe
         ensures { result ≡ self.now.sqe }
     {
+        let from = self.spot.at as usize;
         let mut bytes = [0; 64];
-        bytes.copy_from_slice(self.text.split_at(64).0);
+        bytes.copy_from_slice(&self.text[from..from + 64]);
         unpack(&bytes)
     }
 
@@ -58,6 +65,14 @@ impl<'a> Entry<'a> {
     pub fn side(&self) -> &'a [u8]
         ensures { result.now ≡ self.now.side }
     {
-        &self.text[HEAD..]
+        self.side_slice().as_slice()
+    }
+
+    /// The same bytes, with the text that they lie in.
+    pub fn side_slice(&self) -> TextSlice<'a>
+        ensures { sliced result ≡ self.now.side }
+    {
+        let from = self.spot.at as usize + HEAD;
+        TextSlice::of(self.text, from, self.spot.side_len as usize)
     }
 }

@@ -34,7 +34,7 @@ mod trace;
 mod version;
 mod writing;
 
-pub use blob::Blob;
+pub use blob::{Blob, Text, TextSlice};
 pub use entries::{Entries, EntriesBuilder};
 pub use entry::Entry;
 pub use fault::{Kind, TraceFault};

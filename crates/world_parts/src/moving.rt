@@ -1,13 +1,15 @@
-//! Bytes that go between files and registered buffers.
+//! Bytes that go between files and registered buffers, and those that a trace's text has for them.
 ghost use Rattle.std.specs.Prelude.{◌≡◌, ◌+◌, ◌-◌, ◌≤◌, [], length, unwrap_or, OnOk};
 ghost use Rattle.entry_checks.specs.Operation.{file_limit};
 ghost use Rattle.extent_bytes.specs.Bytes.{range_of};
+ghost use Rattle.trace_format.specs.Blobs.{sliced};
 ghost use Rattle.world_parts.specs.World.{apply};
 ghost use Rattle.world_parts.specs.World as world;
 
 use crate::state::State;
 use extent_bytes::Extents;
 use std::alloc::{AllocError, Global};
+use trace_format::{Blob, TextSlice};
 
 /// The most bytes that are copied. More are shared.
 const MOST_COPIED: u64 = 4_096;
@@ -71,6 +73,71 @@ impl State {
         }
         let part = self.buffers.share(ring, index, low, high)?;
         self.write_part(node, at, part)
+    }
+
+    /// Writes bytes of a text into a file from `at` on, as [`State::write`] does. Many share the
+    /// text.
+    ///
+    /// # Errors
+    ///
+    /// Want of memory.
+    pub fn write_from_text(
+        &mut self,
+        alloc: Global,
+        node: u32,
+        at: u64,
+        bytes: TextSlice<'_>,
+    ) -> Result<(), AllocError>
+        requires { at + length (sliced bytes) ≤ file_limit }
+        ensures { OnOk result
+            (self.new ≡ apply (world.write_bytes node at (sliced bytes.entry)) self.old) }
+    {
+        if bytes.len() as u64 <= MOST_COPIED {
+            return self.write(node, at, bytes.as_slice());
+        }
+        let part = Extents::of_text(alloc, bytes.text, bytes.from, bytes.len(), at)?;
+        self.write_part(node, at, part)
+    }
+
+    /// Writes bytes of a trace into a file from `at` on, as [`State::write_from_text`] does.
+    pub(crate) fn write_from_blob(
+        &mut self,
+        alloc: Global,
+        node: u32,
+        at: u64,
+        bytes: &Blob,
+    ) -> Result<(), AllocError>
+        requires { at + length bytes.now ≤ file_limit }
+        ensures { OnOk result (self.new ≡ apply (world.write_bytes node at bytes.now) self.old) }
+    {
+        match bytes.slice() {
+            Some(bytes) => self.write_from_text(alloc, node, at, bytes),
+            None => self.write(node, at, &[]),
+        }
+    }
+
+    /// Writes bytes of a trace over those of a registered buffer of a ring from `at` on, as
+    /// [`State::write_buffer`] does. Many share the trace's text.
+    ///
+    /// # Errors
+    ///
+    /// Want of memory.
+    pub fn fill_from_blob(
+        &mut self,
+        ring: u8,
+        index: u32,
+        at: u64,
+        bytes: &Blob,
+    ) -> Result<(), AllocError>
+        ensures { OnOk result
+            (self.new ≡ apply (world.write_buffer ring index at bytes.now) self.old) }
+    {
+        match bytes.slice() {
+            Some(bytes) if bytes.len() as u64 > MOST_COPIED => {
+                self.buffers.write_text(ring, index, at, bytes)
+            }
+            _ => self.write_buffer(ring, index, at, bytes.as_slice()),
+        }
     }
 
     /// Writes a list of bytes into a file from `at` on, as [`State::write`] does.

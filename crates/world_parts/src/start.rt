@@ -18,7 +18,7 @@ use file_tree::{Kind, Tree};
 use indexmap::IndexMap;
 use ring_tables::{Buffers, Descriptions, Descriptors, Slots};
 use std::alloc::{AllocError, Global};
-use trace_format::{Buffer, Description, Item, Node, Ring, Trace};
+use trace_format::{Blob, Buffer, Description, Item, Node, Ring, Trace};
 
 /// Adds the open file descriptions.
 fn add_descriptions(
@@ -204,7 +204,7 @@ impl State {
                 self.name_item(alloc, known, path, number)
             }
             Node::File { size, stored } => {
-                self.add_file(alloc, known, number, *size, stored.as_slice())?;
+                self.add_file(alloc, known, number, *size, stored)?;
                 self.name_item(alloc, known, path, number)
             }
             Node::OtherName { number } => self.name_item(alloc, known, path, *number),
@@ -218,7 +218,7 @@ impl State {
         known: &mut Known<'_>,
         number: u32,
         size: u64,
-        stored: &[u8],
+        stored: &Blob,
     ) -> Result<(), AllocError>
         requires bound { size ≤ file_limit }
         requires stored { length stored.now ≤ size }
@@ -228,7 +228,7 @@ impl State {
         ensures known { OnOk result (Knows self.new.nodes known.new) }
     {
         self.make_node(alloc, known, number, Kind::File)?;
-        self.write(number, 0, stored)?;
+        self.write_from_blob(alloc, number, 0, stored)?;
         self.set_size(number, size)
     }
 }

@@ -10,7 +10,7 @@ pub returns-in-1 : goal.returns-in-1
 returns-in-1 c = from_row _ _ _ _ _ c.sqe.ensures c.side-side.ensures (ap opcode_of c.in-1.is) c.readv.ensures
 
 pub returns-in-2 : goal.returns-in-2
-returns-in-2 c = from_row _ _ _ _ _ c.sqe.ensures c.side-side.ensures (ap opcode_of c.in-2.is) c.writev.ensures
+returns-in-2 c = from_row _ _ _ _ _ c.sqe.ensures c.side_slice.ensures (ap opcode_of c.in-2.is) c.writev.ensures
 
 pub returns-in-3 : goal.returns-in-3
 returns-in-3 c = from_row _ _ _ _ _ c.sqe.ensures c.side-side.ensures (ap opcode_of c.in-3.is) c.fsync.ensures
@@ -34,7 +34,7 @@ pub returns-in-22 : goal.returns-in-22
 returns-in-22 c = from_row _ _ _ _ _ c.sqe.ensures c.side-side.ensures (ap opcode_of c.in-22.is) c.read.ensures
 
 pub returns-in-23 : goal.returns-in-23
-returns-in-23 c = from_row _ _ _ _ _ c.sqe.ensures c.side-side.ensures (ap opcode_of c.in-23.is) c.write.ensures
+returns-in-23 c = from_row _ _ _ _ _ c.sqe.ensures c.side_slice-in-23.ensures (ap opcode_of c.in-23.is) c.write.ensures
 
 pub returns-in-35 : goal.returns-in-35
 returns-in-35 c = from_row _ _ _ _ _ c.sqe.ensures c.side-side.ensures (ap opcode_of c.in-35.is) c.renameat.ensures

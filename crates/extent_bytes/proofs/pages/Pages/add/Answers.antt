@@ -4,7 +4,7 @@ use Rattle.extent_bytes.specs.Pages.{PageMap}
 use Rattle.extent_bytes.proofs.Outcomes.{err_of}
 use Rattle.extent_bytes.proofs.Fronts.{put_last, put_new, same_entries}
 use Rattle.extent_bytes.proofs.Puts.{IsPut}
-use Rattle.extent_bytes.proofs.pages.Pages.add.Goals.{then-number-len+in_ok-push, else-number-len+in_ok-insert+in-Some-1, else-number-len+in_ok-insert+in-None-1, After-extend_front}
+use Rattle.extent_bytes.proofs.pages.Pages.add.Goals.{then-number-len+in_ok-push, else-number-len+in_ok-insert, After-extend_front}
 use Rattle.extent_bytes.proofs.pages.Pages.add.Goals as goal
 
 pub returns-in_err-push : goal.returns-in_err-push
@@ -35,10 +35,7 @@ put c =
           let last : c.args.number ≡ length s.front.items = omega (arith, w.if-number-len.true) in
           subst (λ k. IsPut s c.if-number-len.self k c.args.page) (sym last)
           (put_last s c.if-number-len.self c.args.page (ap (λ (m : PageMap). m.front.items) w.self-is ∙ w.in_ok-push.ensures.items) (ap (λ (m : PageMap). m.rest) w.self-is))
-      | else-number-len+in_ok-insert+in-Some-1 w ↦
-          subst (λ m. IsPut s m c.args.number c.args.page) (sym w.self-is)
-          (put_new s (record { front = s.front; rest = w.insert.new.self }) c.args.number c.args.page c.requires refl w.in_ok-insert.ensures.updates)
-      | else-number-len+in_ok-insert+in-None-1 w ↦
+      | else-number-len+in_ok-insert w ↦
           subst (λ m. IsPut s m c.args.number c.args.page) (sym w.self-is)
           (put_new s (record { front = s.front; rest = w.insert.new.self }) c.args.number c.args.page c.requires refl w.in_ok-insert.ensures.updates)
     ]

@@ -1,19 +1,16 @@
-use Rattle.std.proofs.Common.{◌≡◌, ◌∙◌, ◌+◌, ◌-◌, ◌<◌, Some, arith, ap, refl, drop, length, take}
+use Rattle.std.proofs.Common.{◌≡◌, ◌<◌, Some, arith, ap, refl, length}
 use Rattle.std.specs.List.{slice_get}
 use Rattle.std.proofs.lemmas.List.{length-map}
 use Rattle.std.proofs.lemmas.Option.{slice_get-map, slice_get_read}
-use Rattle.trace_format.specs.Entries.{entry_spelled, entry_at}
+use Rattle.trace_format.specs.Entries.{entry_at}
 use Rattle.trace_format.proofs.entries.Entries.at.Goals as goal
 
 pub returns : goal.returns
 returns c =
     let text = c.self.inside.text.value.items in
     let spots = c.self.inside.spots.items in
-    let spot = c.index-spot.result.now in
+    let spot = c.index.result.now in
     let number = c.args.number in
     let lt : number < length spots = omega (arith, c.requires, ap length c.self.view_is, length-map spots (entry_at text)) in
-    let there : slice_get spots number ≡ Some spot = slice_get_read spots (length spots) number spot refl lt c.index-spot.ensures in
-    let count : spot.at + 68 + spot.side_len - spot.at ≡ 68 + spot.side_len = omega arith in
-    let same : c.of.result ≡ entry_at text spot =
-    c.of.ensures ∙ rw (c.deref-2.ensures.value, c.deref.ensures) (ap (λ n. entry_spelled (take n (drop spot.at text))) count) in
-    rw (← c.self.view_is, slice_get-map (entry_at text) spots number, there, same) refl
+    let there : slice_get spots number ≡ Some spot = slice_get_read spots (length spots) number spot refl lt c.index.ensures in
+    rw (← c.self.view_is, slice_get-map (entry_at text) spots number, there, c.of.ensures) refl

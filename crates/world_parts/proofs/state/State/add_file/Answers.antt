@@ -9,6 +9,6 @@ pub returns-clause-known : goal.returns-clause-known
 returns-clause-known c =
     let i = c.args.number in
     on_ok_weaker c.set_size.result
-    (λ e. subst (λ (w : World). Knows w.nodes c.make_node.new.known) (sym (e ∙ ap (apply (set_size i c.args.size)) c.in_ok-write.ensures))
+    (λ e. subst (λ (w : World). Knows w.nodes c.make_node.new.known) (sym (e ∙ ap (apply (set_size i c.args.size)) c.in_ok-write_from_blob.ensures))
     (file_known c.make_node.new.self.nodes c.make_node.new.known i c.args.size c.args.stored.now c.in_ok-make_node.ensures.known))
     c.set_size.ensures
