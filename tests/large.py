@@ -22,7 +22,7 @@ MOST_RATIO = 2.7
 DEPTH, BESIDE = 2_000, 10_000
 MOST_DEEP = 4.0
 # How many entries wait for one another, and how many times the processor time of as many disjoint ones they may take in rounds
-# of which each looks at so many, which is 2 to 3.5 and 8 to 11 times. Were each looked at in each round, it would be 50 and
+# of which each looks at so many, which is 2 to 4.5 and 8 to 13 times. Were each looked at in each round, it would be 50 and
 # over 1,000.
 WAITING, MOST_WAITING = 60_000, {64: 12.0, 4096: 30.0}
 # How many entries carry little, and how many times the processor time of `serial` they may take `run`, which is 1 to 1.8 times
@@ -114,18 +114,19 @@ def deep_tree(program: Program) -> List[Outcome]:
 
 
 def waiting(program: Program) -> List[Outcome]:
-    """Where one entry runs a round, those that wait aren't looked at again in each, however many a round looks at."""
+    """Where one entry runs a round, those that wait aren't looked at again in each, however many a round looks at: neither to
+    run them nor to tell for whom they wait."""
     bench = os.path.join(TOP, "bench", "serial_rounds.py")
     outcomes = []
-    disjoint: Dict[int, float] = {}
+    disjoint: Dict[Tuple[str, int], float] = {}
     for kind in ("disjoint", "appends", "range", "chain", "drains", "opens"):
         trace = subprocess.run([sys.executable, bench, "--write", kind, "--entries", str(WAITING)], check=True, stdout=subprocess.PIPE).stdout
         for window, most in MOST_WAITING.items():
-            words = ["compare", "--window", str(window)]
-            took = min(program.seconds(words, trace) for _ in range(3))
-            apart = disjoint.setdefault(window, took)
-            told = None if took < most * apart < math.inf else "{:.3f} seconds, and {:.3f} disjoint".format(took, apart)
-            outcomes.append(Outcome("entries that wait, {}, window {}, by {}".format(kind, window, program.compiler), told))
+            for mode in ("compare", "rounds"):
+                took = min(program.seconds([mode, "--window", str(window)], trace) for _ in range(3))
+                apart = disjoint.setdefault((mode, window), took)
+                told = None if took < most * apart < math.inf else "{:.3f} seconds, and {:.3f} disjoint".format(took, apart)
+                outcomes.append(Outcome("{} of entries that wait, {}, window {}, by {}".format(mode, kind, window, program.compiler), told))
     return outcomes
 
 

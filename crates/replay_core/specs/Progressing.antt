@@ -1,5 +1,5 @@
 -- A helper: what a replay has after so many rounds, and while a round runs.
-use Rattle.std.specs.Prelude.{◌≡◌, ℕ, ◌+◌, ◌-◌, ◌<◌, ◌≤◌, ◌⊎◌, Bool, true, List, ◌++◌, map, length, Option, Some, None, slice_get, if◌then◌else◌, ◌==◌, [], ◌∷◌}
+use Rattle.std.specs.Prelude.{◌≡◌, ℕ, ◌+◌, ◌-◌, ◌<◌, ◌≤◌, ◌⊎◌, Bool, true, List, ◌++◌, map, filter, length, Option, Some, None, slice_get, if◌then◌else◌, ◌==◌, [], ◌∷◌}
 use Rattle.std.specs.List.{range_with_len}
 use Rattle.finite_maps.specs.Table.{get}
 use Rattle.interleaving.specs.Machine.{State, has, reply_of}
@@ -14,10 +14,13 @@ use Rattle.op_meaning.specs.declared.reply.Reply.{Reply}
 use Rattle.op_meaning.specs.Footprint.{footprint}
 use Rattle.foot_print.specs.Replayed.{replayed}
 use Rattle.foot_print.specs.Parts.{AreReady, footprints}
+use Rattle.wave_pick.specs.declared.holding.Held.{Held}
 use Rattle.wave_pick.specs.declared.wave.Wave.{Wave}
+use Rattle.wave_pick.specs.HeldBack.{held_among, held_meant}
 use Rattle.wave_pick.specs.Picking.{chosen_at}
 use Rattle.wave_pick.specs.Rounds.{state_after, wave_after, round_of, waves}
 use Rattle.wave_pick.specs.Scheduling.{Remembers}
+use Rattle.wave_pick.specs.Telling.{has_number}
 use Rattle.replay_core.specs.declared.run.Run.{Run}
 use Rattle.replay_core.specs.declared.progress.Progress.{Progress}
 use Rattle.replay_core.specs.Jobs.{AreOf}
@@ -57,6 +60,18 @@ pub record Stands (t : Trace) (p : Progress) : Type 0 where
   pub keeps : KeptAfter t p.round p
   pub front : IsFront t p.window (state_after t p.window p.round) p.front.items p.next
   pub picked : HasPicked t p.round p
+
+-- It stands, and its next round has been picked.
+pub record IsReady (t : Trace) (p : Progress) : Type 0 where
+  pub window : 1 ≤ p.window
+  pub world : p.world ≡ whole (state_after t p.window p.round).world
+  pub keeps : KeptAfter t p.round p
+  pub front : IsFront t p.window (state_after t p.window p.round) p.front.items p.next
+  pub picked : HasPicked t (p.round + 1) p
+
+-- Of the places that the round looks at, those whose number in a list is that of the round after it and that something holds back, each with its holder.
+abbrev pub HasTold : Trace → List ℕ → Progress → List Held → Type 0
+HasTold t numbers p held = map held_meant held ≡ held_among t (state_after t p.window p.round) (filter (has_number numbers (p.round + 1)) p.front.items)
 
 -- A round begins: no part of the world is out, and what is kept is as the rounds before it left it.
 pub record Begins (t : Trace) (p : Progress) : Type 0 where

@@ -70,7 +70,7 @@ pub fn replay<R: Threads + Wait + Sync, G: Gate + Sync>(
 }
 
 /// Runs the places in rounds until all are done.
-fn in_rounds<R: Threads + Wait + Sync, G: Gate + Sync>(
+pub(crate) fn in_rounds<R: Threads + Wait + Sync, G: Gate + Sync>(
     rt: &R,
     alloc: Global,
     trace: &Trace,

@@ -5,11 +5,11 @@ ghost use Rattle.chain_plan.specs.Plan.{roles};
 ghost use Rattle.deal_desk.specs.Desks.{AreValues};
 ghost use Rattle.replay_core.specs.Jobs.{IsOutcome};
 ghost use Rattle.replay_core.specs.Progressing.{AreDealt, Begins, HasChosen, HasPicked, HasRun};
-ghost use Rattle.replay_core.specs.Progressing.{IsFront, IsSameRound, KeptAfter, Stands};
+ghost use Rattle.replay_core.specs.Progressing.{HasTold, IsFront, IsReady, IsSameRound, KeptAfter};
+ghost use Rattle.replay_core.specs.Progressing.{Stands};
 ghost use Rattle.replay_core.specs.Rounds.{IsReplay};
 ghost use Rattle.trace_format.specs.Steps.{places};
 ghost use Rattle.trace_format.specs.Text.{IsSpelled};
-ghost use Rattle.wave_pick.specs.HeldBack.{held_among, held_meant};
 ghost use Rattle.wave_pick.specs.Rounds.{state_after, wave_after};
 ghost use Rattle.world_parts.specs.Part.{whole};
 
@@ -26,7 +26,7 @@ use std::snapshot::Snapshot;
 use std::sync::Wait;
 use std::thread::Threads;
 use trace_format::{Series, Trace};
-use wave_pick::{Held, Scheduler, Wave, held_back};
+use wave_pick::{Held, Scheduler, Wave};
 use world_parts::{Part, World};
 
 /// What a replay has after its rounds so far.
@@ -137,30 +137,6 @@ impl Progress {
         self.front.is_empty()
     }
 
-    /// Of the places that the next round looks at, those that it doesn't run: each with the one
-    /// that holds it back.
-    pub(crate) fn held_back(
-        &self,
-        alloc: Global,
-        trace: &Trace,
-        plan: &Plan,
-    ) -> Result<Series<Held>, AllocError>
-        requires trace { IsSpelled trace.now }
-        requires plan { plan.now ≡ roles trace.now }
-        requires stands { Stands trace.now self.now }
-        ensures { IfOk result (λ held. map held_meant held ≡ held_among trace.now
-            (state_after trace.now self.now.window self.now.round) self.now.front.items) }
-    {
-        held_back(
-            alloc,
-            trace,
-            plan,
-            &self.world,
-            self.front.as_slice(),
-            self.window,
-        )
-    }
-
     /// The places of the next round, each with its footprint.
     fn pick(&mut self, alloc: Global, trace: &Trace, plan: &Plan) -> Result<Wave, AllocError>
         requires trace { IsSpelled trace.now }
@@ -178,6 +154,39 @@ impl Progress {
             &self.world,
             self.front.as_slice(),
             self.window,
+        )
+    }
+
+    /// The places of the next round, each with its footprint; and, of those places that it looks at
+    /// and that run in the round after it, by the numbers of their rounds, those that an earlier
+    /// one holds back.
+    fn pick_telling(
+        &mut self,
+        alloc: Global,
+        trace: &Trace,
+        plan: &Plan,
+        rounds: &[u32],
+    ) -> Result<(Wave, Series<Held>), AllocError>
+        requires trace { IsSpelled trace.now }
+        requires plan { plan.now ≡ roles trace.now }
+        requires round { self.old.round < places trace.now }
+        requires stands { Stands trace.now self.old }
+        ensures wave { IfOk result (λ told. HasChosen trace.now self.old told.0) }
+        ensures held { IfOk result (λ told. HasTold trace.now rounds.now self.old told.1) }
+        ensures picked { OnOk result (HasPicked trace.now (self.old.round + 1) self.new) }
+        ensures rest { OnOk result (self.new ≡ record self.old { scheduler = self.new.scheduler }) }
+    {
+        // There are no more rounds than places.
+        let next = trace.places().min(self.round + 1);
+        self.scheduler.pick_telling(
+            alloc,
+            trace,
+            plan,
+            &self.world,
+            self.front.as_slice(),
+            self.window,
+            rounds,
+            next,
         )
     }
 
@@ -377,6 +386,59 @@ impl Progress {
         ensures alone { workers ≤ 1 → result ≢ Err RoundFault.NoThread }
     {
         let wave = self.pick(alloc, trace, plan)?;
+        self.run_picked(rt, alloc, trace, plan, workers, gate, wave)
+    }
+
+    /// Runs one round, and gives, of the places that it looks at and that run in the round after it,
+    /// by the numbers of their rounds, those that an earlier one holds back.
+    pub(crate) fn run_telling<R: Threads + Wait + Sync, G: Gate + Sync>(
+        &mut self,
+        rt: &R,
+        alloc: Global,
+        trace: &Trace,
+        plan: &Plan,
+        workers: u32,
+        gate: &G,
+        rounds: &[u32],
+    ) -> Result<Series<Held>, RoundFault>
+        requires trace { IsSpelled trace.now }
+        requires plan { plan.now ≡ roles trace.now }
+        requires workers { workers ≤ 64 }
+        requires round { self.old.round < places trace.now }
+        requires stands { Stands trace.now self.old }
+        ensures held { IfOk result (HasTold trace.now rounds.now self.old) }
+        ensures stands { OnOk result (Stands trace.now self.new) }
+        ensures next { OnOk result ((self.new.window ≡ self.old.window)
+            × (self.new.round ≡ self.old.round + 1)) }
+        ensures alone { workers ≤ 1 → result ≢ Err RoundFault.NoThread }
+    {
+        let (wave, held) = self.pick_telling(alloc, trace, plan, rounds)?;
+        self.run_picked(rt, alloc, trace, plan, workers, gate, wave)?;
+        Ok(held)
+    }
+
+    /// Runs the places of a round that has been picked.
+    fn run_picked<R: Threads + Wait + Sync, G: Gate + Sync>(
+        &mut self,
+        rt: &R,
+        alloc: Global,
+        trace: &Trace,
+        plan: &Plan,
+        workers: u32,
+        gate: &G,
+        wave: Wave,
+    ) -> Result<(), RoundFault>
+        requires trace { IsSpelled trace.now }
+        requires plan { plan.now ≡ roles trace.now }
+        requires workers { workers ≤ 64 }
+        requires round { self.old.round < places trace.now }
+        requires ready { IsReady trace.now self.old }
+        requires wave { HasChosen trace.now self.old wave }
+        ensures stands { OnOk result (Stands trace.now self.new) }
+        ensures next { OnOk result ((self.new.window ≡ self.old.window)
+            × (self.new.round ≡ self.old.round + 1)) }
+        ensures alone { workers ≤ 1 → result ≢ Err RoundFault.NoThread }
+    {
         let ran = places_of(alloc, &wave)?;
         self.run_wave(rt, alloc, trace, plan, workers, gate, wave, ran.as_slice())?;
         self.advance(trace, ran.as_slice())?;

@@ -1,17 +1,17 @@
 //! A log of rounds: in which round each place runs, and for which place it waited last.
-ghost use Rattle.std.specs.Prelude.{◌≡◌, ◌≢◌, ◌+◌, ◌≤◌, ◌<◌, ◌⊎◌, ◌↔◌, [], All, Err, IfOk, OnOk, None};
+ghost use Rattle.std.specs.Prelude.{◌≡◌, ◌≢◌, ◌+◌, ◌≤◌, ◌<◌, ◌⊎◌, ◌↔◌, All, Err, IfOk, OnOk, None};
 ghost use Rattle.std.specs.Prelude.{length, map, replicate};
 ghost use Rattle.std.specs.Option.{option_map};
-ghost use Rattle.chain_plan.specs.Plan.{roles};
 ghost use Rattle.replay_core.specs.Progressing.{Stands};
 ghost use Rattle.replay_core.specs.Waits.{IsRoundLog, waited_meant};
-ghost use Rattle.replay_core.specs.Noted.{AreNoted, noted};
+ghost use Rattle.replay_core.specs.Noted.{AreAllNoted, AreNoted, noted};
 ghost use Rattle.trace_format.specs.Steps.{places};
 ghost use Rattle.trace_format.specs.Text.{IsSpelled};
 ghost use Rattle.wave_pick.specs.HeldBack.{held_meant};
+ghost use Rattle.wave_pick.specs.Rounds as wave_rounds;
 
 use crate::gate::NoGate;
-use crate::parallel::WIDEST_WINDOW;
+use crate::parallel::{WIDEST_WINDOW, in_rounds};
 use crate::progress::Progress;
 use crate::round::RoundFault;
 use crate::serial::ReplayFault;
@@ -66,7 +66,7 @@ pub fn log_rounds<R: Threads + Wait + Sync>(
     }
 }
 
-/// Runs the places in rounds until all are done, and gives their log.
+/// Runs the places in rounds until all are done, and then once more, and gives their log.
 fn logged<R: Threads + Wait + Sync>(
     rt: &R,
     alloc: Global,
@@ -78,30 +78,65 @@ fn logged<R: Threads + Wait + Sync>(
     ensures log { IfOk result (λ log. IsRoundLog trace.now window log) }
     ensures alone { result ≢ Err RoundFault.NoThread }
 {
-    let mut waits = no_waits(alloc, trace)?;
-    let mut progress = Progress::new(alloc, trace, window)?;
-    run_noting(rt, alloc, trace, &mut progress, &mut waits)?;
-    Ok(finished(progress, waits, trace))
+    let rounds = numbered(rt, alloc, trace, window)?;
+    let waits = waits_by(rt, alloc, trace, window, rounds.as_slice())?;
+    Ok(RoundLog { rounds, waits })
 }
 
-/// Runs rounds until all places are done, and notes before each round for whom places wait.
+/// The number of each place's round.
+fn numbered<R: Threads + Wait + Sync>(
+    rt: &R,
+    alloc: Global,
+    trace: &Trace,
+    window: u32,
+) -> Result<Series<u32>, RoundFault>
+    requires trace { IsSpelled trace.now }
+    requires window { 1 ≤ window }
+    ensures rounds { IfOk result (λ rounds. rounds ≡ wave_rounds.rounds trace.now window) }
+    ensures alone { result ≢ Err RoundFault.NoThread }
+{
+    match in_rounds(rt, alloc, trace, 1, window, &NoGate) {
+        Ok(replay) => Ok(replay.rounds),
+        Err(fault) => Err(fault),
+    }
+}
+
+/// What each place waited for in the round before its own, by the numbers of the rounds.
+fn waits_by<R: Threads + Wait + Sync>(
+    rt: &R,
+    alloc: Global,
+    trace: &Trace,
+    window: u32,
+    rounds: &[u32],
+) -> Result<Series<Option<WaitedFor>>, RoundFault>
+    requires trace { IsSpelled trace.now }
+    requires window { 1 ≤ window }
+    requires rounds { rounds.now ≡ wave_rounds.rounds trace.now window }
+    ensures waits { IfOk result (AreAllNoted trace.now window) }
+    ensures alone { result ≢ Err RoundFault.NoThread }
+{
+    let mut waits = no_waits(alloc, trace)?;
+    let mut progress = Progress::new(alloc, trace, window)?;
+    run_noting(rt, alloc, trace, rounds, &mut progress, &mut waits)?;
+    Ok(Series::from_vec(waits))
+}
+
+/// Runs rounds until all places are done, and notes in each for whom the places wait that run in
+/// the round after it, by the numbers of their rounds.
 fn run_noting<R: Threads + Wait + Sync>(
     rt: &R,
     alloc: Global,
     trace: &Trace,
+    rounds: &[u32],
     progress: &mut Progress,
     waits: &mut Vec<Option<WaitedFor>>,
 ) -> Result<(), RoundFault>
     requires trace { IsSpelled trace.now }
     requires stands { Stands trace.now progress.old }
+    requires rounds { rounds.now ≡ wave_rounds.rounds trace.now progress.old.window }
     requires first { progress.old.round ≡ 0 }
     requires noted { AreNoted trace.now progress.old.window 0 waits.old.items }
-    ensures stands { OnOk result (Stands trace.now progress.new) }
-    ensures window { OnOk result (progress.new.window ≡ progress.old.window) }
-    ensures over { OnOk result
-        ((progress.new.front.items ≡ []) ⊎ (progress.new.round ≡ places trace.now)) }
-    ensures noted { OnOk result
-        (AreNoted trace.now progress.new.window progress.new.round waits.new.items) }
+    ensures noted { OnOk result (AreAllNoted trace.now progress.old.window waits.new.items) }
     ensures alone { result ≢ Err RoundFault.NoThread }
 {
     let plan = Plan::of(alloc, trace)?;
@@ -109,8 +144,8 @@ fn run_noting<R: Threads + Wait + Sync>(
         if progress.is_over() {
             return Ok(());
         }
-        note(alloc, trace, &plan, progress, waits)?;
-        progress.run(rt, alloc, trace, &plan, 1, &NoGate)?;
+        let held = progress.run_telling(rt, alloc, trace, &plan, 1, &NoGate, rounds)?;
+        write_held(held, waits);
     }
     Ok(())
 }
@@ -128,27 +163,6 @@ fn no_waits(alloc: Global, trace: &Trace) -> Result<Vec<Option<WaitedFor>>, Allo
     Ok(waits)
 }
 
-/// Notes for whom the places wait that the next round looks at and doesn't run.
-fn note(
-    alloc: Global,
-    trace: &Trace,
-    plan: &Plan,
-    progress: &Progress,
-    waits: &mut Vec<Option<WaitedFor>>,
-) -> Result<(), AllocError>
-    requires trace { IsSpelled trace.now }
-    requires plan { plan.now ≡ roles trace.now }
-    requires round { progress.now.round < places trace.now }
-    requires stands { Stands trace.now progress.now }
-    requires noted { AreNoted trace.now progress.now.window progress.now.round waits.old.items }
-    ensures { OnOk result
-        (AreNoted trace.now progress.now.window (progress.now.round + 1) waits.new.items) }
-{
-    let held = progress.held_back(alloc, trace, plan)?;
-    write_held(held, waits);
-    Ok(())
-}
-
 /// Writes what these places wait for over what is noted of them.
 fn write_held(held: Series<Held>, waits: &mut Vec<Option<WaitedFor>>)
     requires { All (λ h. h.place < length waits.old.items) held }
@@ -161,20 +175,5 @@ fn write_held(held: Series<Held>, waits: &mut Vec<Option<WaitedFor>>)
             place: found.holder,
             item: found.item,
         });
-    }
-}
-
-/// What the log says once all places are done.
-fn finished(progress: Progress, waits: Vec<Option<WaitedFor>>, trace: &Trace) -> RoundLog
-    requires trace { IsSpelled trace.now }
-    requires stands { Stands trace.now progress }
-    requires over { (progress.front.items ≡ []) ⊎ (progress.round ≡ places trace.now) }
-    requires noted { AreNoted trace.now progress.window progress.round waits.items }
-    ensures { IsRoundLog trace.now progress.window result }
-{
-    let replay = progress.finish(trace);
-    RoundLog {
-        rounds: replay.rounds,
-        waits: Series::from_vec(waits),
     }
 }

@@ -84,7 +84,7 @@ module _ (t : Trace) (s : World) where
     | inr apart ↦ rw apart (sym (clear_of_waiting ks k (sym h.free ∙ ap not apart)))
   ]
 
-  meant-found : (hs : List Held) (o : Option Held) → map held_meant (hs ++ option_to_list o) ≡ map held_meant hs ++ option_to_list (option_map held_meant o)
+  pub meant-found : (hs : List Held) (o : Option Held) → map held_meant (hs ++ option_to_list o) ≡ map held_meant hs ++ option_to_list (option_map held_meant o)
   meant-found hs None = map-append held_meant hs []
   meant-found hs (Some h) = map-append held_meant hs (h ∷ [])
 
@@ -113,7 +113,7 @@ and-then-map : {A B C : Type 0} (g : A → B) (h : B → Option C) (o : Option A
 and-then-map g h None = refl
 and-then-map g h (Some x) = refl
 
-filter_map-one : {A B : Type 0} (h : A → Option B) (x : A) → filter_map h (x ∷ []) ≡ option_to_list (h x)
+pub filter_map-one : {A B : Type 0} (h : A → Option B) (x : A) → filter_map h (x ∷ []) ≡ option_to_list (h x)
 filter_map-one h x = elim (h x) as (λ o. cons_option o [] ≡ option_to_list o) [ None ↦ refl | Some y ↦ refl ]
 
 module _ (t : Trace) (s : State (replayed t)) where

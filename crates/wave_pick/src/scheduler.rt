@@ -1,6 +1,6 @@
 //! The next round, by what is kept of the places that wait.
 ghost use Rattle.std.specs.Prelude.{◌≡◌, ◌+◌, ◌<◌, [], ℕ, List, true, false, All, IfOk, IfSome, OnOk};
-ghost use Rattle.std.specs.Prelude.{Some, length, replicate, take};
+ghost use Rattle.std.specs.Prelude.{Some, filter, length, map, replicate, take};
 ghost use Rattle.std.specs.List.{list_any};
 ghost use Rattle.chain_plan.specs.Plan.{roles};
 ghost use Rattle.item_index.specs.Ahead.{written_before};
@@ -9,14 +9,19 @@ ghost use Rattle.trace_format.specs.Steps.{places};
 ghost use Rattle.trace_format.specs.Text.{IsSpelled};
 ghost use Rattle.wave_pick.specs.Grounds.{ground_holds, writes_chain, writes_for, IsGround};
 ghost use Rattle.wave_pick.specs.Grounds.{RestsOnGround};
+ghost use Rattle.wave_pick.specs.HeldBack.{held_among, held_meant};
 ghost use Rattle.wave_pick.specs.Picking.{IsNextWave};
+ghost use Rattle.wave_pick.specs.Rounds.{state_after};
 ghost use Rattle.wave_pick.specs.Scheduling.{AreFirst, Flags, HasReach, HasRoom};
 ghost use Rattle.wave_pick.specs.Scheduling.{HaveReaches, IsBehind, IsIndex, IsSameRound, Keeps, Lists};
 ghost use Rattle.wave_pick.specs.Scheduling.{LooksOver, Passes, Releases, Remembers};
 ghost use Rattle.wave_pick.specs.Scheduling.{Renews, Sees, Wakes};
+ghost use Rattle.wave_pick.specs.Telling.{Settles, Surveys, has_number};
 ghost use Rattle.world_parts.specs.Items as items;
 ghost use Rattle.world_parts.specs.Uses.{item_meant};
 
+use crate::holding::Held;
+use crate::telling::told_held;
 use crate::wave::{Chosen, Wave};
 use chain_plan::{Plan, Role};
 use foot_print::{Outlook, foot_in, outlook_in};
@@ -121,12 +126,92 @@ impl Scheduler {
         ensures remembers { OnOk result (Remembers trace.now window self.new) }
         ensures round { OnOk result (self.new.round ≡ self.old.round + 1) }
     {
-        let places = trace.places();
-        let count = pending.len().min(window as usize);
-        let first = &pending[..count];
+        let first = first_of(pending, window);
+        let free = self.survey(alloc, trace, plan, world, first)?;
+        self.settle(alloc, trace, first.len(), free.as_slice())
+    }
+
+    /// The places of the next round, as `pick` gives them; and, of those places among the first
+    /// ones whose number in a list is the one that is asked for, those that an earlier place that
+    /// waits holds back before the round, as [`crate::held_back`] gives them. No others are asked.
+    ///
+    /// # Errors
+    ///
+    /// Want of memory; the scheduler can then only be dropped.
+    pub fn pick_telling(
+        &mut self,
+        alloc: Global,
+        trace: &Trace,
+        plan: &Plan,
+        world: &World,
+        pending: &[u32],
+        window: u32,
+        numbers: &[u32],
+        number: u32,
+    ) -> Result<(Wave, Series<Held>), AllocError>
+        requires trace { IsSpelled trace.now }
+        requires plan { plan.now ≡ roles trace.now }
+        requires round { self.old.round < places trace.now }
+        requires pending { All (λ k. k < places trace.now) pending.now }
+        requires remembers { Remembers trace.now window self.old }
+        requires first { AreFirst trace.now window world.now.world self.old.round
+            (take window pending.now) }
+        ensures wave { IfOk result (λ told.
+            IsNextWave trace.now window world.now.world (take window pending.now) told.0) }
+        ensures held { IfOk result (λ told. map held_meant told.1
+            ≡ held_among trace.now (state_after trace.now window self.old.round)
+            (filter (has_number numbers.now number) (take window pending.now))) }
+        ensures remembers { OnOk result (Remembers trace.now window self.new) }
+        ensures round { OnOk result (self.new.round ≡ self.old.round + 1) }
+    {
+        let first = first_of(pending, window);
+        let free = self.survey(alloc, trace, plan, world, first)?;
+        let reaches = self.reaches.as_slice();
+        let held = told_held(alloc, trace, plan, world, first, reaches, numbers, number)?;
+        let wave = self.settle(alloc, trace, first.len(), free.as_slice())?;
+        Ok((wave, Series::from_vec(held)))
+    }
+
+    /// Looks over the first places that wait, before a round, and gives those that may run in it.
+    fn survey(
+        &mut self,
+        alloc: Global,
+        trace: &Trace,
+        plan: &Plan,
+        world: &World,
+        first: &[u32],
+    ) -> Result<Vec<u32>, AllocError>
+        requires trace { IsSpelled trace.now }
+        requires plan { plan.now ≡ roles trace.now }
+        requires room { HasRoom (places trace.now) self.old }
+        requires places { All (λ k. k < places trace.now) first.now }
+        ensures seen { IfOk result (λ free. Surveys trace.now world.now.world first.now self.old
+            self.new free.items) }
+        ensures places { IfOk result (λ free. All (λ k. k < places trace.now) free.items) }
+        ensures room { OnOk result (HasRoom (places trace.now) self.new) }
+        ensures round { OnOk result (self.new.round ≡ self.old.round) }
+    {
         self.begin(alloc)?;
-        let free = self.look_over(alloc, trace, plan, world, first)?;
-        let chosen = self.release(alloc, free.as_slice())?;
+        self.look_over(alloc, trace, plan, world, first)
+    }
+
+    /// The round of the places that may run, of so many first ones that have been looked over.
+    fn settle(
+        &mut self,
+        alloc: Global,
+        trace: &Trace,
+        count: usize,
+        free: &[u32],
+    ) -> Result<Wave, AllocError>
+        requires trace { IsSpelled trace.now }
+        requires round { self.old.round < places trace.now }
+        requires room { HasRoom (places trace.now) self.old }
+        requires places { All (λ k. k < places trace.now) free.now }
+        ensures settles { IfOk result (Settles trace.now free.now self.old self.new) }
+        ensures round { OnOk result (self.new.round ≡ self.old.round + 1) }
+    {
+        let places = trace.places();
+        let chosen = self.release(alloc, free)?;
         // There are no more rounds than places.
         self.round = places.min(self.round + 1);
         self.waiting = count - chosen.len().min(count);
@@ -340,6 +425,14 @@ impl Scheduler {
         }
         Ok(chosen)
     }
+}
+
+/// The first of some places, as many as a window has.
+fn first_of(pending: &[u32], window: u32) -> &[u32]
+    ensures { result.now ≡ take window pending.now }
+{
+    let count = pending.len().min(window as usize);
+    &pending[..count]
 }
 
 /// Some places are to be looked at.

@@ -1,0 +1,121 @@
+//! Which of the first places that wait, asked by number, are held back, by the reaches that a table
+//! has of them.
+ghost use Rattle.std.specs.Prelude.{◌≡◌, ◌<◌, All, IfOk, find, reverse, slice_get};
+ghost use Rattle.std.specs.Option.{option_copied, option_map};
+ghost use Rattle.chain_plan.specs.Plan.{roles};
+ghost use Rattle.trace_format.specs.Steps.{places};
+ghost use Rattle.trace_format.specs.Text.{IsSpelled};
+ghost use Rattle.wave_pick.specs.HeldBack.{held_meant};
+ghost use Rattle.wave_pick.specs.Telling.{AreTold, IsTold, has_number};
+ghost use Rattle.wave_pick.specs.Telling.{collides_with, kept_reach};
+
+use crate::holding::Held;
+use crate::sharing::shared_of;
+use chain_plan::Plan;
+use foot_print::foot_in;
+use std::alloc::{AllocError, Global};
+use trace_format::Trace;
+use world_parts::{Footprint, World, collide};
+
+/// Of the first places that wait, those with a number that an earlier one of them holds back.
+pub(crate) fn told_held(
+    alloc: Global,
+    trace: &Trace,
+    plan: &Plan,
+    world: &World,
+    first: &[u32],
+    reaches: &[Option<Footprint>],
+    numbers: &[u32],
+    number: u32,
+) -> Result<Vec<Held>, AllocError>
+    requires trace { IsSpelled trace.now }
+    requires plan { plan.now ≡ roles trace.now }
+    requires places { All (λ k. k < places trace.now) first.now }
+    ensures { IfOk result (λ held. AreTold trace.now world.now.world first.now reaches.now
+        (has_number numbers.now number) held.items) }
+{
+    let mut held = Vec::new(alloc);
+    for index in 0..first.len() {
+        let place = first[index];
+        if has_number(numbers, place, number) {
+            let footprint = foot_in(alloc, place, trace, &plan.role(place), world.state())?;
+            if let Some(found) = held_at(alloc, place, &footprint, &first[..index], reaches)? {
+                held.push(found)?;
+            }
+        }
+    }
+    Ok(held)
+}
+
+/// Whether a list has this number of a place.
+fn has_number(numbers: &[u32], place: u32, number: u32) -> bool
+    ensures { result ≡ has_number numbers.now number place }
+{
+    match numbers.get(place as usize) {
+        Some(found) => *found == number,
+        None => false,
+    }
+}
+
+/// A place as held back by the latest of some earlier ones whose reach collides with its footprint,
+/// where one does.
+fn held_at(
+    alloc: Global,
+    place: u32,
+    footprint: &Footprint,
+    earlier: &[u32],
+    reaches: &[Option<Footprint>],
+) -> Result<Option<Held>, AllocError>
+    ensures { IfOk result (λ held. IsTold place footprint.now earlier.now reaches.now
+        (option_map held_meant held)) }
+{
+    let Some(holder) = latest_at(footprint, earlier, reaches).copied() else {
+        return Ok(None);
+    };
+    let Some(reach) = reach_at(reaches, holder) else {
+        return Ok(None);
+    };
+    let Some(item) = shared_of(alloc, footprint, reach)? else {
+        return Ok(None);
+    };
+    Ok(Some(Held {
+        place,
+        holder,
+        item,
+    }))
+}
+
+/// The latest of some places whose reach collides with a footprint.
+fn latest_at<'a>(
+    footprint: &Footprint,
+    earlier: &'a [u32],
+    reaches: &[Option<Footprint>],
+) -> Option<&'a u32>
+    ensures { option_copied result
+        ≡ find (λ i. collides_with footprint.now (kept_reach (slice_get reaches.now i))) (reverse earlier.now) }
+{
+    earlier
+        .iter()
+        .rev()
+        .find(|place| collides_at(footprint, reaches, **place))
+}
+
+/// Whether a table has a reach of a place, and it collides with a footprint.
+fn collides_at(footprint: &Footprint, reaches: &[Option<Footprint>], place: u32) -> bool
+    ensures { result ≡ collides_with footprint.now (kept_reach (slice_get reaches.now place)) }
+{
+    match reach_at(reaches, place) {
+        Some(reach) => collide(footprint, reach),
+        None => false,
+    }
+}
+
+/// The reach that a table has of a place, if it has one.
+fn reach_at(reaches: &[Option<Footprint>], place: u32) -> Option<&Footprint>
+    ensures { option_copied result ≡ kept_reach (slice_get reaches.now place) }
+{
+    match reaches.get(place as usize) {
+        Some(Some(reach)) => Some(reach),
+        _ => None,
+    }
+}
