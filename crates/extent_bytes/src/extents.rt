@@ -70,10 +70,12 @@ impl Extents {
     {
         let start = at % PAGE;
         let pages = text_pages(alloc, start, text, from, from + count)?;
+        let mut stored = Stored::Own(pages);
+        stored.settle(alloc);
         Ok(Extents {
             start,
             len: count as u64,
-            stored: Stored::Own(pages),
+            stored,
             alloc,
         })
     }

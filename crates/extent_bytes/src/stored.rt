@@ -67,7 +67,7 @@ impl Stored {
 
     // Lets a map of more than a few pages be shared from now on. Where memory is wanting it stays
     // as it is, and is shared page by page.
-    fn settle(&mut self, alloc: Global)
+    pub(crate) fn settle(&mut self, alloc: Global)
         ensures { pages_in self.new ≡ pages_in self.old }
     {
         if let Stored::Own(pages) = self

@@ -1,5 +1,5 @@
 //! A log of rounds: in which round each place runs, and for which place it waited last.
-ghost use Rattle.std.specs.Prelude.{◌≡◌, ◌≢◌, ◌+◌, ◌≤◌, ◌<◌, ◌⊎◌, ◌↔◌, All, Err, IfOk, OnOk, None};
+ghost use Rattle.std.specs.Prelude.{◌≡◌, ◌≢◌, ◌≤◌, ◌<◌, ◌⊎◌, ◌↔◌, All, Err, IfOk, OnOk, None};
 ghost use Rattle.std.specs.Prelude.{length, map, replicate};
 ghost use Rattle.std.specs.Option.{option_map};
 ghost use Rattle.replay_core.specs.Progressing.{Stands};
