@@ -11,7 +11,7 @@ from typing import Dict, List, Tuple
 
 from harness import TOP, Answer, Job, Outcome, Program, difference, first, read, reports_refused, shown, spoken
 from traces import FIXED_FILE, GREATEST_BUFFER, GREATEST_SIZE, NOP, READ, READ_FIXED, WRITE, WRITE_FIXED
-from traces import description, directory, enter, entry, file, fill, fixed, head, hole, ring
+from traces import description, directory, enter, entry, file, fill, fixed, head, hole, opened_in_slot, removed, ring
 
 MOST_PLACES = 1_048_576
 MOST_RINGS = 64
@@ -21,6 +21,12 @@ MOST_RATIO = 2.7
 # to make a world of them and to tell it, which is 1.4 to 2 times.
 DEPTH, BESIDE = 2_000, 10_000
 MOST_DEEP = 4.0
+# How many names the longest path has that an entry may have, how many files so deep are opened or removed, and how many times the
+# processor time of `check` that may take, which is 3 to 9 times. With a walk of 1 microsecond a name it was 100.
+DEEPEST, SO_DEEP, MOST_SO_DEEP = 2_046, 2_048, 30.0
+# How many such entries wait for one another, and how many times the processor time of `serial` they may take in rounds, which is 10
+# to 40 times. With each looked at again in each round, or each name asked for in each reach before it, it was over 300.
+WAITING_SO_DEEP, MOST_WAITING_SO_DEEP = 256, 100.0
 # How many entries wait for one another, and how many times the processor time of as many disjoint ones they may take in rounds
 # of which each looks at so many, which is 2 to 4.5 and 8 to 13 times. Were each looked at in each round, it would be 50 and
 # over 1,000.
@@ -113,6 +119,34 @@ def deep_tree(program: Program) -> List[Outcome]:
     return [Outcome("a tree of depth {} by {}".format(DEPTH, program.compiler), told)]
 
 
+def of_deep_paths(count: int) -> List[Tuple[str, bytes, int]]:
+    """A file that is opened so many times in one slot, and ten that are removed in turn so often, all as deep as a path may lead;
+    and how many of these entries succeed."""
+    above = b"/a" * DEEPEST
+    directories = [directory(above[:2 * depth]) for depth in range(1, DEEPEST + 1)]
+    names = [above + b"/%d" % (at % 10) for at in range(count)]
+    made = []
+    for what, files, entries in (("opens", names[:1], [opened_in_slot(names[0], 0)] * count), ("removals", names[:10], [removed(it) for it in names])):
+        items = [*directories, *map(file, files)]
+        trace = head(len(items), rings=1, records=1) + b"".join(items) + ring([0]) + enter(0, entries)
+        made.append((what, trace, count if what == "opens" else len(files)))
+    return made
+
+
+def deep_paths(program: Program) -> List[Outcome]:
+    """A walk of a deep path takes a look-up for each of its names, and in rounds some more."""
+    outcomes = []
+    for count, most, kinds in ((SO_DEEP, MOST_SO_DEEP, (["check"], ["serial"])), (WAITING_SO_DEEP, MOST_WAITING_SO_DEEP, (["serial"], ["compare"], ["rounds"]))):
+        for what, trace, done in of_deep_paths(count):
+            succeeded = program.run(["serial"], trace).output.count(b" res=0 posted\n")
+            outcomes.append(Outcome("{} of {} {} at depth {} by {}".format(done, count, what, DEEPEST, program.compiler), None if succeeded == done else "{} succeed".format(succeeded)))
+            plain, *others = (min(program.seconds(words, trace) for _ in range(3)) for words in kinds)
+            for words, took in zip(kinds[1:], others):
+                told = None if took < most * plain < math.inf else "{:.3f} seconds, and {:.3f} by {}".format(took, plain, spoken(kinds[0]))
+                outcomes.append(Outcome("{} of {} {} at depth {} by {}".format(spoken(words), count, what, DEEPEST, program.compiler), told))
+    return outcomes
+
+
 def waiting(program: Program) -> List[Outcome]:
     """Where one entry runs a round, those that wait aren't looked at again in each, however many a round looks at: neither to
     run them nor to tell for whom they wait."""
@@ -196,13 +230,14 @@ def long_bytes(program: Program) -> List[Outcome]:
 def at_the_position(program: Program) -> List[Outcome]:
     """Transfers at the position cost as those by offsets do, though each uses the whole file."""
     world = head(1, 1, 1, 1) + file(b"/a", 1 << 24, os.urandom(1 << 24)) + description(1) + ring([1])
-    traces = [world + enter(0, [entry(READ, FIXED_FILE, offset=at or (it << 10), length=1 << 10) for it in range(1 << 14)])
-              for at in (0, POSITION)]
     outcomes = []
-    for words in (["serial"], ["compare"], ["compare", "--window", "1"]):
-        apart, took = (min(program.seconds(words, trace) for _ in range(3)) for trace in traces)
-        told = None if took < MOST_AT_POSITION * apart < math.inf else "{:.3f} seconds, by offsets {:.3f}".format(took, apart)
-        outcomes.append(Outcome("{} at the position by {}".format(spoken(words), program.compiler), told))
+    for what, opcode, side in (("reads", READ, b""), ("writes", WRITE, os.urandom(1 << 10))):
+        traces = [world + enter(0, [entry(opcode, FIXED_FILE, offset=at or (it << 10), length=1 << 10, side=side) for it in range(1 << 14)])
+                  for at in (0, POSITION)]
+        for words in (["serial"], ["compare"], ["compare", "--window", "1"]):
+            apart, took = (min(program.seconds(words, trace) for _ in range(3)) for trace in traces)
+            told = None if took < MOST_AT_POSITION * apart < math.inf else "{:.3f} seconds, by offsets {:.3f}".format(took, apart)
+            outcomes.append(Outcome("{} of {} at the position by {}".format(spoken(words), what, program.compiler), told))
     return outcomes
 
 
@@ -217,5 +252,5 @@ def holes(program: Program) -> List[Outcome]:
 
 
 def jobs(programs: List[Program]) -> List[Job]:
-    alone = [partial(it, programs[0]) for it in (tried, long_reports, many_rings, deep_tree, many_entries, long_transfers, long_bytes, at_the_position, holes, waiting, carrying_little)]
+    alone = [partial(it, programs[0]) for it in (tried, long_reports, many_rings, deep_tree, deep_paths, many_entries, long_transfers, long_bytes, at_the_position, holes, waiting, carrying_little)]
     return [*alone, *(partial(on_threads, it) for it in programs)]

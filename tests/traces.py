@@ -3,8 +3,9 @@ import struct
 from typing import Iterable, Sequence, Tuple
 
 NOP, READV, WRITEV, READ_FIXED, WRITE_FIXED = 0, 1, 2, 4, 5
-FALLOCATE, OPENAT, READ, WRITE, RENAMEAT, LINKAT = 17, 18, 22, 23, 35, 39
+FALLOCATE, OPENAT, READ, WRITE, RENAMEAT, UNLINKAT, LINKAT = 17, 18, 22, 23, 35, 36, 39
 FIXED_FILE, DRAIN, LINK, SKIP = 1, 2, 4, 64
+AT_FDCWD = -100
 GREATEST_SIZE = 1 << 40
 GREATEST_BUFFER = 1 << 30
 
@@ -59,6 +60,16 @@ def fixed(opcode: int, length: int) -> bytes:
 def hole(offset: int, length: int) -> bytes:
     """An entry that makes a range of the file in slot 0 zeros: FALLOCATE with FALLOC_FL_PUNCH_HOLE and FALLOC_FL_KEEP_SIZE."""
     return with_side(struct.pack("<BBHiQQIIQHHIQQ", FALLOCATE, FIXED_FILE, 0, 0, offset, length, 3, 0, 0, 0, 0, 0, 0, 0))
+
+
+def opened_in_slot(path: bytes, slot: int) -> bytes:
+    """An entry that opens a file to read and write it, in a slot."""
+    return with_side(struct.pack("<BBHiQQIIQHHIQQ", OPENAT, 0, 0, AT_FDCWD, 0, 0, 0, 2, 0, 0, 0, slot + 1, 0, 0), path)
+
+
+def removed(path: bytes) -> bytes:
+    """An entry that removes the name of a file."""
+    return with_side(struct.pack("<BBHiQQIIQHHIQQ", UNLINKAT, 0, 0, AT_FDCWD, 0, 0, 0, 0, 0, 0, 0, 0, 0, 0), path)
 
 
 def with_side(fields: bytes, side: bytes = b"") -> bytes:

@@ -1,5 +1,6 @@
 //! The reaches that come before a place, of those that an index has.
-ghost use Rattle.std.specs.Prelude.{◌≡◌, ◌<◌, ◌&&◌, IfSome, if◌then◌else◌, slice_get};
+ghost use Rattle.std.specs.Prelude.{◌≡◌, ◌<◌, ◌&&◌, IfSome, false, if◌then◌else◌, slice_get};
+ghost use Rattle.std.specs.Prelude.{true};
 ghost use Rattle.std.specs.List.{list_any, position_from};
 ghost use Rattle.item_index.specs.Ahead.{at_place, one_at, touched, touched_before, written};
 ghost use Rattle.item_index.specs.Ahead.{written_before};
@@ -8,7 +9,11 @@ ghost use Rattle.world_parts.specs.Items as items;
 ghost use Rattle.world_parts.specs.Uses.{item_meant};
 
 use crate::ahead::Ahead;
-use world_parts::{Footprint, Item, Use, touches_item, writes_item};
+use world_parts::{Footprint, Item, Use, any_writes_some, touches_item, writes_item};
+
+/// More uses are many: then the reaches are walked once to see whether they write the item of one of
+/// them, and not once for each that the index has.
+const MANY: usize = 64;
 
 /// The reaches that a place is behind.
 #[derive(Clone, Copy)]
@@ -87,7 +92,22 @@ impl<'a> Behind<'a> {
     fn meets_one(&self, uses: &[Use]) -> bool
         ensures { result ≡ list_any (λ u. written_before self.now (item_meant u.item)) uses.now }
     {
+        if self.are_clear(uses) {
+            return false;
+        }
         uses.iter().any(|used| self.writes(&used.item))
+    }
+
+    /// Whether there are many uses, and a walk over the reaches shows that none writes a part of the
+    /// item of one of them.
+    fn are_clear(&self, uses: &[Use]) -> bool
+        ensures { result ≡ true
+            → list_any (λ u. written_before self.now (item_meant u.item)) uses.now ≡ false }
+    {
+        match self.among {
+            Some(among) => uses.len() > MANY && !among.writes_some(uses),
+            None => false,
+        }
     }
 
     /// How many uses of a footprint come before the first whose item one of the reaches writes, if
@@ -105,6 +125,9 @@ impl<'a> Behind<'a> {
             ≡ position_from (λ u. written_before self.now (item_meant u.item)) 0 uses.now }
         ensures fits { IfSome result (λ n. n < usize.MAX) }
     {
+        if self.are_clear(uses) {
+            return None;
+        }
         uses.iter().position(|used| self.writes(&used.item))
     }
 
@@ -121,7 +144,19 @@ impl<'a> Behind<'a> {
             then touched_before self.now (item_meant u.item)
             else written_before self.now (item_meant u.item)) uses.now }
     {
+        if self.are_clear(uses) {
+            return self.any_written_meets(uses);
+        }
         uses.iter().any(|used| self.collides_at(used))
+    }
+
+    /// Whether one of the reaches has a part of the item of a written one of some uses.
+    fn any_written_meets(&self, uses: &[Use]) -> bool
+        ensures { result ≡ list_any (λ u. u.written
+            && touched_before self.now (item_meant u.item)) uses.now }
+    {
+        uses.iter()
+            .any(|used| used.written && self.touches(&used.item))
     }
 
     fn collides_at(&self, used: &Use) -> bool
@@ -138,6 +173,14 @@ impl<'a> Behind<'a> {
 }
 
 impl Among<'_> {
+    /// Whether one of the reaches writes a part of the item of one of some uses.
+    fn writes_some(&self, uses: &[Use]) -> bool
+        ensures { result ≡ one_at self.now.reaches.now self.now.places.now
+            (λ f. list_any (λ u. touching.writes_item f (item_meant u.item)) uses.now) }
+    {
+        one_writes_some(self.places, self.reaches, uses)
+    }
+
     /// Whether one of the reaches writes a part of an item: most often the latest does.
     fn writes(&self, item: &Item) -> bool
         ensures { result ≡ one_at self.now.reaches.now self.now.places.now
@@ -165,6 +208,16 @@ fn one_writes(places: &[u32], reaches: &[Option<Footprint>], item: &Item) -> boo
         .any(|place| writes_at(reaches, *place, item))
 }
 
+fn one_writes_some(places: &[u32], reaches: &[Option<Footprint>], uses: &[Use]) -> bool
+    ensures { result ≡ one_at reaches.now places.now
+        (λ f. list_any (λ u. touching.writes_item f (item_meant u.item)) uses.now) }
+{
+    places
+        .iter()
+        .rev()
+        .any(|place| writes_some_at(reaches, *place, uses))
+}
+
 fn one_touches(places: &[u32], reaches: &[Option<Footprint>], item: &Item) -> bool
     ensures { result ≡ one_at reaches.now places.now
         (λ f. touching.touches_item f (item_meant item.now)) }
@@ -184,6 +237,25 @@ fn writes_at(reaches: &[Option<Footprint>], place: u32, item: &Item) -> bool
         Some(Some(reach)) => writes_item(reach, item),
         _ => false,
     }
+}
+
+/// Whether the reach of a place writes a part of the item of one of some uses.
+fn writes_some_at(reaches: &[Option<Footprint>], place: u32, uses: &[Use]) -> bool
+    ensures { result ≡ at_place (λ f. list_any (λ u.
+        touching.writes_item f (item_meant u.item)) uses.now) (slice_get reaches.now place) }
+{
+    match reaches.get(place as usize) {
+        Some(Some(reach)) => writes_some(reach, uses),
+        _ => false,
+    }
+}
+
+/// Whether a footprint writes a part of the item of one of some uses. It takes no memory.
+pub fn writes_some(footprint: &Footprint, uses: &[Use]) -> bool
+    ensures { result ≡ list_any (λ u. touching.writes_item footprint.now (item_meant u.item))
+        uses.now }
+{
+    any_writes_some(footprint.uses(), uses)
 }
 
 /// Whether the reach of a place has a part of an item.

@@ -1,10 +1,8 @@
 //! The next round, by what is kept of the places that wait.
 ghost use Rattle.std.specs.Prelude.{◌≡◌, ◌+◌, ◌<◌, [], ℕ, List, true, false, All, IfOk, IfSome, OnOk};
 ghost use Rattle.std.specs.Prelude.{Some, filter, length, map, replicate, take};
-ghost use Rattle.std.specs.List.{list_any};
 ghost use Rattle.chain_plan.specs.Plan.{roles};
 ghost use Rattle.item_index.specs.Ahead.{written_before};
-ghost use Rattle.item_index.specs.Touching as touching;
 ghost use Rattle.trace_format.specs.Steps.{places};
 ghost use Rattle.trace_format.specs.Text.{IsSpelled};
 ghost use Rattle.wave_pick.specs.Grounds.{ground_holds, writes_chain, writes_for, IsGround};
@@ -18,21 +16,23 @@ ghost use Rattle.wave_pick.specs.Scheduling.{LooksOver, Passes, Releases, Rememb
 ghost use Rattle.wave_pick.specs.Scheduling.{Renews, Sees, Wakes};
 ghost use Rattle.wave_pick.specs.Telling.{Settles, Surveys, has_number};
 ghost use Rattle.world_parts.specs.Items as items;
-ghost use Rattle.world_parts.specs.Uses.{item_meant};
 
 use crate::holding::Held;
 use crate::telling::told_held;
 use crate::wave::{Chosen, Wave};
 use chain_plan::{Plan, Role};
 use foot_print::{Outlook, foot_in, outlook_in};
-use item_index::{Ahead, Behind};
+use item_index::{Ahead, Behind, writes_some};
 use std::alloc::{AllocError, Global};
 use std::mem;
 use trace_format::{Series, Trace};
-use world_parts::{Footprint, Item, Use, World, collide, same_uses, writes_item};
+use world_parts::{Footprint, Item, World, collide, same_uses, writes_item};
 
 /// About how many items are looked up in the reaches before a place to find one on which it rests.
 const ASKED: usize = 2048;
+
+/// So many places before it are asked however many items it has: to look at it again costs more.
+const NEAR: usize = 64;
 
 /// So many places that ran in a round are many, however many wait: then as many or more are looked
 /// at in the next one, and to ask an index that is exact costs less than to ask the reaches.
@@ -486,13 +486,6 @@ fn writes_all(reach: &Footprint, items: &Footprint, chain: Option<u32>, descript
     !descriptors || writes_item(reach, &Item::AllDescriptors)
 }
 
-/// Whether a footprint writes the item of one of some uses.
-fn writes_some(reach: &Footprint, uses: &[Use]) -> bool
-    ensures { result ≡ list_any (λ u. touching.writes_item reach.now (item_meant u.item)) uses.now }
-{
-    uses.iter().any(|used| writes_item(reach, &used.item))
-}
-
 /// Whether a footprint writes the flag of a chain, if there is one.
 fn writes_flag(reach: &Footprint, chain: Option<u32>) -> bool
     ensures { result ≡ writes_chain reach.now chain }
@@ -514,7 +507,7 @@ fn latest_on(
     ensures { IfSome result (λ i. IsGround ground.now earlier.now reaches.now i) }
 {
     let count = earlier.len();
-    for back in 0..count.min(ASKED / items.max(1)) {
+    for back in 0..count.min(NEAR.max(ASKED / items.max(1))) {
         let place = earlier[count - 1 - back];
         if let Some(Some(reach)) = reaches.get(place as usize)
             && ground.holds(reach)

@@ -1,5 +1,5 @@
 //! What two footprints share.
-ghost use Rattle.std.specs.Prelude.{◌≡◌, IfOk, false, map, true};
+ghost use Rattle.std.specs.Prelude.{◌≡◌, IfOk, false, filter, map, true};
 ghost use Rattle.std.specs.Option.{option_map};
 ghost use Rattle.wave_pick.specs.HeldBack.{is_single, shared_if};
 ghost use Rattle.wave_pick.specs.Holding as model;
@@ -24,22 +24,64 @@ pub(crate) fn shared_of(
     shared_among(alloc, one.uses(), other.uses())
 }
 
+/// What the first of some uses that collides with one of some others shares with that one.
 fn shared_among(alloc: Global, uses: &[Use], others: &[Use]) -> Result<Option<Item>, AllocError>
     ensures { IfOk result (λ found. option_map item_meant found
         ≡ model.shared_of (map use_meant uses.now) (map use_meant others.now)) }
 {
+    let written = written_of(alloc, others)?;
     for used in uses {
-        if let Some(item) = shared_with(alloc, used, others)? {
+        if let Some(item) = shared_in(alloc, used, others, written.as_slice())? {
             return Ok(Some(item));
         }
     }
     Ok(None)
 }
 
+/// Those of some uses that are written.
+fn written_of(alloc: Global, uses: &[Use]) -> Result<Vec<&Use>, AllocError>
+    ensures { IfOk result (λ written. map (λ u. u.now) written.items
+        ≡ filter (λ u. u.written) uses.now) }
+{
+    uses.iter().filter(|used| used.written).collect(alloc)
+}
+
+/// What a use shares with the first of some others that it collides with. One that only reads
+/// collides with none but the written ones of them.
+fn shared_in(
+    alloc: Global,
+    used: &Use,
+    others: &[Use],
+    written: &[&Use],
+) -> Result<Option<Item>, AllocError>
+    requires { map (λ u. u.now) written.now ≡ filter (λ u. u.written) others.now }
+    ensures { IfOk result (λ found. option_map item_meant found
+        ≡ model.shared_with (use_meant used.now) (map use_meant others.now)) }
+{
+    if used.written {
+        shared_with(alloc, used, others)
+    } else {
+        shared_with_those(alloc, used, written)
+    }
+}
+
 /// What a use shares with the first of some others that it collides with.
 fn shared_with(alloc: Global, used: &Use, others: &[Use]) -> Result<Option<Item>, AllocError>
     ensures { IfOk result (λ found. option_map item_meant found
         ≡ model.shared_with (use_meant used.now) (map use_meant others.now)) }
+{
+    for other in others {
+        if let Some(item) = shared_by(alloc, used, other)? {
+            return Ok(Some(item));
+        }
+    }
+    Ok(None)
+}
+
+/// What a use shares with the first that it collides with of some others picked from a list.
+fn shared_with_those(alloc: Global, used: &Use, others: &[&Use]) -> Result<Option<Item>, AllocError>
+    ensures { IfOk result (λ found. option_map item_meant found
+        ≡ model.shared_with (use_meant used.now) (map use_meant (map (λ u. u.now) others.now))) }
 {
     for other in others {
         if let Some(item) = shared_by(alloc, used, other)? {

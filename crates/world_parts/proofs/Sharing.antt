@@ -1,10 +1,10 @@
 -- Items that share have an atom in common; so fewer or narrower reaches write less, and footprints collide exactly by an atom that one of them writes.
-use Rattle.std.specs.Prelude.{◌≡◌, ℕ, Bool, true, ◌&&◌, ◌||◌, ltb, min, max, T, [], ◌∷◌, ◌⊎◌}
+use Rattle.std.specs.Prelude.{◌≡◌, ℕ, Bool, true, false, refl, ◌&&◌, ◌||◌, ltb, min, max, T, [], ◌∷◌, ◌⊎◌}
 use Rattle.std.specs.List.{list_any}
 use native.Mathlib.Omega.{arith}
 use Rattle.world_parts.specs.Items.{Atom, byte_at, size_of, names_in, position_of, description_at, descriptor_at, buffer_byte, Item, one, file_bytes, buffer_bytes, all_names, all_bytes_and_sizes, all_positions, all_descriptions, all_descriptors, member_of, share, Use, Footprint, has_atom, writes_atom, collide}
 use mathlib.Core.Logic.{inl, inr}
-use Rattle.world_parts.proofs.Collision.{left, right, either_left, either_right, same_atom_refl}
+use Rattle.world_parts.proofs.Collision.{member-share, left, right, either_left, either_right, same_atom_refl}
 
 abbrev pub Common : Item → Item → Type 0
 Common x y = (a : Atom) × T (member_of x a) × T (member_of y a)
@@ -31,6 +31,19 @@ common (all_descriptions n) (all_descriptions m) h = (description_at 0, grind ar
 common (all_descriptions n) _ h = absurd h
 common all_descriptors all_descriptors h = (descriptor_at 0, tt, tt)
 common all_descriptors _ h = absurd h
+
+-- Two tests of which each leads to the other give the same.
+alike : (a b : Bool) → (T a → T b) → (T b → T a) → a ≡ b
+alike true true f g = refl
+alike true false f g = absurd (f tt)
+alike false true f g = absurd (g tt)
+alike false false f g = refl
+
+turned : (x y : Item) → T (share x y) → T (share y x)
+turned x y h = let c = common x y h in member-share y x c.0 c.2 c.1
+
+pub share-sym : (x y : Item) → share x y ≡ share y x
+share-sym x y = alike _ _ (turned x y) (turned y x)
 
 pub holds_true : (b : Bool) → b ≡ true → T b
 holds_true b e = grind arith

@@ -234,23 +234,27 @@ fn make_reads(uses: &mut [Use])
 pub fn collide(one: &Footprint, other: &Footprint) -> bool
     ensures { result ≡ items.collide one.now other.now }
 {
-    any_meets(one.uses(), other.uses())
+    let uses = one.uses();
+    let others = other.uses();
+    any_writes_some(uses, others) || any_writes_some(others, uses)
 }
 
-/// Whether some use collides with one of some others.
-fn any_meets(uses: &[Use], others: &[Use]) -> bool
-    ensures { result ≡ list_any (λ u. list_any (λ v. (u.written || v.written)
-        && items.share (item_meant u.item) (item_meant v.item)) others.now) uses.now }
+/// Whether one of some uses writes a part of the item of one of some others. It takes no memory, and
+/// of the first it passes over those that only read, which are most.
+pub fn any_writes_some(uses: &[Use], others: &[Use]) -> bool
+    ensures { result ≡ list_any (λ u. u.written && list_any (λ v.
+        items.share (item_meant u.item) (item_meant v.item)) others.now) uses.now }
 {
-    uses.iter().any(|used| meets(used, others))
+    uses.iter()
+        .any(|used| used.written && shares_one(&used.item, others))
 }
 
-/// Whether a use collides with one of some others.
-fn meets(used: &Use, others: &[Use]) -> bool
-    ensures { result ≡ list_any (λ v. (used.now.written || v.written)
-        && items.share (item_meant used.now.item) (item_meant v.item)) others.now }
+/// Whether an item shares a part of a world with that of one of some uses.
+fn shares_one(item: &Item, uses: &[Use]) -> bool
+    ensures { result ≡ list_any (λ u. items.share (item_meant item.now) (item_meant u.item))
+        uses.now }
 {
-    others.iter().any(|other| (used.written || other.written) && share(&used.item, &other.item))
+    uses.iter().any(|used| share(item, &used.item))
 }
 
 /// Whether a footprint writes a part of an item. It takes no memory.

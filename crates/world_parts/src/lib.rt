@@ -20,7 +20,9 @@ mod state;
 mod whole;
 
 pub use broken::Broken;
-pub use footprint::{Footprint, Item, Use, collide, same_uses, share, touches_item, writes_item};
+pub use footprint::{
+    Footprint, Item, Use, any_writes_some, collide, same_uses, share, touches_item, writes_item,
+};
 pub use image::{BufferEntry, DescriptorEntry, Image, NameEntry, SlotEntry};
 pub use part::{Part, World};
 pub use state::State;
