@@ -3,6 +3,7 @@ input, and writes that are worth threads."""
 import hashlib
 import math
 import os
+import struct
 import subprocess
 import sys
 import tempfile
@@ -10,7 +11,7 @@ from functools import partial
 from typing import Dict, List, Tuple
 
 from harness import TOP, Answer, Job, Outcome, Program, difference, first, read, reports_refused, shown, spoken
-from traces import FIXED_FILE, GREATEST_BUFFER, GREATEST_SIZE, NOP, READ, READ_FIXED, WRITE, WRITE_FIXED
+from traces import AT_FDCWD, CLOSE, FIXED_FILE, GREATEST_BUFFER, GREATEST_SIZE, NOP, OPENAT, READ, READ_FIXED, WRITE, WRITE_FIXED
 from traces import description, directory, enter, entry, file, fill, fixed, head, hole, opened_in_slot, removed, ring
 
 MOST_PLACES = 1_048_576
@@ -24,9 +25,12 @@ MOST_DEEP = 4.0
 # How many names the longest path has that an entry may have, how many files so deep are opened or removed, and how many times the
 # processor time of `check` that may take, which is 3 to 9 times. With a walk of 1 microsecond a name it was 100.
 DEEPEST, SO_DEEP, MOST_SO_DEEP = 2_046, 2_048, 30.0
-# How many such entries wait for one another, and how many times the processor time of `serial` they may take in rounds, which is 10
-# to 40 times. With each looked at again in each round, or each name asked for in each reach before it, it was over 300.
-WAITING_SO_DEEP, MOST_WAITING_SO_DEEP = 256, 100.0
+# How many such entries wait for one another, and how many times the processor time of `serial` they may take in rounds, which is 4
+# to 22 times. With each looked at again in each round, or each name asked for in each reach before it, it was over 300.
+WAITING_SO_DEEP, MOST_WAITING_SO_DEEP = 256, 60.0
+# How many descriptors a table has at most, how many files are opened in it and closed, and how many times the processor time of a
+# table of one descriptor that may take, which is 1 to 8 times. With a look-up of each descriptor that is taken it was 28 to 68.
+TABLE, OPENED, MOST_IN_TABLE = 1_024, 10_000, 16.0
 # How many entries wait for one another, and how many times the processor time of as many disjoint ones they may take in rounds
 # of which each looks at so many, which is 2 to 4.5 and 8 to 13 times. Were each looked at in each round, it would be 50 and
 # over 1,000.
@@ -147,6 +151,25 @@ def deep_paths(program: Program) -> List[Outcome]:
     return outcomes
 
 
+def in_table(descriptors: int) -> bytes:
+    """A file that is opened at the last descriptor of a table, all others of which are taken, and closed again and again."""
+    taken = struct.pack("<{}I".format(descriptors), *[1] * (descriptors - 1), 0)
+    world = head(1, 1, 1, 1, descriptors, version=2) + file(b"/a") + description(1) + taken + ring()
+    return world + enter(0, [entry(OPENAT, fd=AT_FDCWD, side=b"/a"), entry(CLOSE, fd=descriptors - 1)] * OPENED)
+
+
+def full_table(program: Program) -> List[Outcome]:
+    """The lowest free descriptor is found by a walk over the taken ones, and not by a look-up of each."""
+    outcomes = []
+    for words in (["serial"], ["compare"]):
+        one, full = (min(program.seconds(words, in_table(it)) for _ in range(3)) for it in (1, TABLE))
+        told = None if full < MOST_IN_TABLE * one < math.inf else "{:.3f} seconds, and {:.3f} in a table of one".format(full, one)
+        outcomes.append(Outcome("{} of {} opens in a table of {} by {}".format(spoken(words), OPENED, TABLE, program.compiler), told))
+    opened = program.run(["serial"], in_table(TABLE)).output.count(" res={} posted\n".format(TABLE - 1).encode())
+    outcomes.append(Outcome("the descriptor of {} opens by {}".format(OPENED, program.compiler), None if opened == OPENED else "{} take it".format(opened)))
+    return outcomes
+
+
 def waiting(program: Program) -> List[Outcome]:
     """Where one entry runs a round, those that wait aren't looked at again in each, however many a round looks at: neither to
     run them nor to tell for whom they wait."""
@@ -252,5 +275,5 @@ def holes(program: Program) -> List[Outcome]:
 
 
 def jobs(programs: List[Program]) -> List[Job]:
-    alone = [partial(it, programs[0]) for it in (tried, long_reports, many_rings, deep_tree, deep_paths, many_entries, long_transfers, long_bytes, at_the_position, holes, waiting, carrying_little)]
+    alone = [partial(it, programs[0]) for it in (tried, long_reports, many_rings, deep_tree, deep_paths, full_table, many_entries, long_transfers, long_bytes, at_the_position, holes, waiting, carrying_little)]
     return [*alone, *(partial(on_threads, it) for it in programs)]

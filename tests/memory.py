@@ -36,9 +36,6 @@ TRIED_AGAIN = 4
 # A list of many pages that is refused what it takes to share its map of them keeps it for itself, and shares page by page.
 # Heavy writes make such lists.
 KEPT_ALONE = 2
-# What `rounds` tells of an entry that waited it looks for in a list of the written items of the one that it waited for, which is
-# made larger ahead of time, here at most twice; where that alone is refused, it grows on its own.
-WAITED = b" after="
 
 
 def growths(count: int, spare: int) -> List[int]:
@@ -55,7 +52,7 @@ def swept(shim: Shim, program: Program, words: Words, trace: str, is_from: bool)
     wanted = program.run(words, given)
     ample, (count, _, _, before_read) = shim.run(program, words, given)
     lacking = [fault("memory"), *([fault("thread")] if has_workers else [])]
-    faults, refusals, tried_again, kept_alone, grown = [], 0, 0, 0, 0
+    faults, refusals, tried_again, kept_alone = [], 0, 0, 0
     if ample != wanted:
         faults.append("with ample memory: {}".format(shown(ample)))
     for at in growths(count, SPARE if has_workers else 1):
@@ -68,8 +65,6 @@ def swept(shim: Shim, program: Program, words: Words, trace: str, is_from: bool)
             tried_again += 1
         elif trace == HEAVY_WRITES and refused and not is_from and got == wanted and kept_alone < KEPT_ALONE:
             kept_alone += 1
-        elif words[0] == "rounds" and refused and not is_from and got == wanted and grown < 2 * wanted.output.count(WAITED):
-            grown += 1
         elif got not in (lacking if refused else [wanted]):
             faults.append("growth {}: {}".format(at, shown(got)))
     if not refusals:

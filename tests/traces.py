@@ -2,9 +2,9 @@
 import struct
 from typing import Iterable, Sequence, Tuple
 
-NOP, READV, WRITEV, READ_FIXED, WRITE_FIXED = 0, 1, 2, 4, 5
-FALLOCATE, OPENAT, READ, WRITE, RENAMEAT, UNLINKAT, LINKAT = 17, 18, 22, 23, 35, 36, 39
-FIXED_FILE, DRAIN, LINK, SKIP = 1, 2, 4, 64
+NOP, READV, WRITEV, FSYNC, READ_FIXED, WRITE_FIXED, FALLOCATE, OPENAT, CLOSE = 0, 1, 2, 3, 4, 5, 17, 18, 19
+READ, WRITE, RENAMEAT, UNLINKAT, MKDIRAT, LINKAT, FTRUNCATE = 22, 23, 35, 36, 37, 39, 55
+FIXED_FILE, DRAIN, LINK, HARDLINK, BUFFER_SELECT, SKIP = 1, 2, 4, 8, 32, 64
 AT_FDCWD = -100
 GREATEST_SIZE = 1 << 40
 GREATEST_BUFFER = 1 << 30
@@ -46,30 +46,31 @@ def fill(number: int, buffer: int, offset: int, data: bytes) -> bytes:
     return struct.pack("<BBHII", 2, number, buffer, offset, len(data)) + data
 
 
-def entry(opcode: int, flags: int = 0, fd: int = 0, offset: int = 0, length: int = 0, side: bytes = b"") -> bytes:
+def entry(opcode: int, flags: int = 0, fd: int = 0, offset: int = 0, length: int = 0, side: bytes = b"", address: int = 0, own_flags: int = 0,
+          user_data: int = 0, buffer: int = 0, personality: int = 0, file_index: int = 0) -> bytes:
     """An entry with its side bytes."""
-    fields = struct.pack("<BBHiQQIIQHHIQQ", opcode, flags, 0, fd, offset, 0, length, 0, 0, 0, 0, 0, 0, 0)
-    return with_side(fields, side)
+    fields = (opcode, flags, 0, fd, offset, address, length, own_flags, user_data, buffer, personality, file_index, 0, 0)
+    return with_side(struct.pack("<BBHiQQIIQHHIQQ", *fields), side)
 
 
 def fixed(opcode: int, length: int) -> bytes:
     """An entry of a transfer between the file in slot 0 and the registered buffer at address 4096."""
-    return with_side(struct.pack("<BBHiQQIIQHHIQQ", opcode, FIXED_FILE, 0, 0, 0, 4096, length, 0, 0, 0, 0, 0, 0, 0))
+    return entry(opcode, FIXED_FILE, length=length, address=4096)
 
 
 def hole(offset: int, length: int) -> bytes:
     """An entry that makes a range of the file in slot 0 zeros: FALLOCATE with FALLOC_FL_PUNCH_HOLE and FALLOC_FL_KEEP_SIZE."""
-    return with_side(struct.pack("<BBHiQQIIQHHIQQ", FALLOCATE, FIXED_FILE, 0, 0, offset, length, 3, 0, 0, 0, 0, 0, 0, 0))
+    return entry(FALLOCATE, FIXED_FILE, offset=offset, address=length, length=3)
 
 
 def opened_in_slot(path: bytes, slot: int) -> bytes:
     """An entry that opens a file to read and write it, in a slot."""
-    return with_side(struct.pack("<BBHiQQIIQHHIQQ", OPENAT, 0, 0, AT_FDCWD, 0, 0, 0, 2, 0, 0, 0, slot + 1, 0, 0), path)
+    return entry(OPENAT, fd=AT_FDCWD, own_flags=2, file_index=slot + 1, side=path)
 
 
 def removed(path: bytes) -> bytes:
     """An entry that removes the name of a file."""
-    return with_side(struct.pack("<BBHiQQIIQHHIQQ", UNLINKAT, 0, 0, AT_FDCWD, 0, 0, 0, 0, 0, 0, 0, 0, 0, 0), path)
+    return entry(UNLINKAT, fd=AT_FDCWD, side=path)
 
 
 def with_side(fields: bytes, side: bytes = b"") -> bytes:

@@ -1,6 +1,6 @@
 //! The reaches that come before a place, of those that an index has.
 ghost use Rattle.std.specs.Prelude.{◌≡◌, ◌<◌, ◌&&◌, IfSome, false, if◌then◌else◌, slice_get};
-ghost use Rattle.std.specs.Prelude.{true};
+ghost use Rattle.std.specs.Prelude.{length, true};
 ghost use Rattle.std.specs.List.{list_any, position_from};
 ghost use Rattle.item_index.specs.Ahead.{at_place, one_at, touched, touched_before, written};
 ghost use Rattle.item_index.specs.Ahead.{written_before};
@@ -11,9 +11,11 @@ ghost use Rattle.world_parts.specs.Uses.{item_meant};
 use crate::ahead::Ahead;
 use world_parts::{Footprint, Item, Use, any_writes_some, touches_item, writes_item};
 
-/// More uses are many: then the reaches are walked once to see whether they write the item of one of
-/// them, and not once for each that the index has.
+/// Of no more uses each is asked for one by one.
 const MANY: usize = 64;
+
+/// To ask for so few one by one costs no more than to walk the reaches for all of them.
+const FEW: usize = 4;
 
 /// The reaches that a place is behind.
 #[derive(Clone, Copy)]
@@ -92,22 +94,7 @@ impl<'a> Behind<'a> {
     fn meets_one(&self, uses: &[Use]) -> bool
         ensures { result ≡ list_any (λ u. written_before self.now (item_meant u.item)) uses.now }
     {
-        if self.are_clear(uses) {
-            return false;
-        }
-        uses.iter().any(|used| self.writes(&used.item))
-    }
-
-    /// Whether there are many uses, and a walk over the reaches shows that none writes a part of the
-    /// item of one of them.
-    fn are_clear(&self, uses: &[Use]) -> bool
-        ensures { result ≡ true
-            → list_any (λ u. written_before self.now (item_meant u.item)) uses.now ≡ false }
-    {
-        match self.among {
-            Some(among) => uses.len() > MANY && !among.writes_some(uses),
-            None => false,
-        }
+        self.first_of(uses).is_some()
     }
 
     /// How many uses of a footprint come before the first whose item one of the reaches writes, if
@@ -125,9 +112,57 @@ impl<'a> Behind<'a> {
             ≡ position_from (λ u. written_before self.now (item_meant u.item)) 0 uses.now }
         ensures fits { IfSome result (λ n. n < usize.MAX) }
     {
+        if self.has_many(uses) {
+            self.first_by_halves(uses)
+        } else {
+            self.first_one_by_one(uses)
+        }
+    }
+
+    /// Whether there are many uses, and some reach in the index writes the items of more than a few.
+    /// Then it costs least to walk the reaches for all of these uses at once.
+    fn has_many(&self, uses: &[Use]) -> bool {
+        let written = uses.iter().filter(|used| self.ahead.writes(&used.item));
+        self.among.is_some() && uses.len() > MANY && written.count() > FEW
+    }
+
+    /// The same by walks over the reaches: where they write something of some uses, each half of
+    /// these is looked at by itself.
+    fn first_by_halves(&self, uses: &[Use]) -> Option<usize>
+        ensures first { result
+            ≡ position_from (λ u. written_before self.now (item_meant u.item)) 0 uses.now }
+        ensures fits { IfSome result (λ n. n < length uses.now) }
+    {
+        if uses.len() <= FEW {
+            return self.first_one_by_one(uses);
+        }
         if self.are_clear(uses) {
             return None;
         }
+        let (first, rest) = uses.split_at(uses.len() / 2);
+        if let Some(index) = self.first_by_halves(first) {
+            return Some(index);
+        }
+        let index = self.first_by_halves(rest)?;
+        Some(first.len() + index)
+    }
+
+    /// Whether a walk over the reaches shows that none writes a part of the item of one of some uses.
+    fn are_clear(&self, uses: &[Use]) -> bool
+        ensures { result ≡ true
+            → list_any (λ u. written_before self.now (item_meant u.item)) uses.now ≡ false }
+    {
+        match self.among {
+            Some(among) => !among.writes_some(uses),
+            None => false,
+        }
+    }
+
+    fn first_one_by_one(&self, uses: &[Use]) -> Option<usize>
+        ensures first { result
+            ≡ position_from (λ u. written_before self.now (item_meant u.item)) 0 uses.now }
+        ensures fits { IfSome result (λ n. n < length uses.now) }
+    {
         uses.iter().position(|used| self.writes(&used.item))
     }
 
@@ -144,10 +179,11 @@ impl<'a> Behind<'a> {
             then touched_before self.now (item_meant u.item)
             else written_before self.now (item_meant u.item)) uses.now }
     {
-        if self.are_clear(uses) {
-            return self.any_written_meets(uses);
+        if self.meets_one(uses) {
+            uses.iter().any(|used| self.collides_at(used))
+        } else {
+            self.any_written_meets(uses)
         }
-        uses.iter().any(|used| self.collides_at(used))
     }
 
     /// Whether one of the reaches has a part of the item of a written one of some uses.

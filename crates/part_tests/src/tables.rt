@@ -1,7 +1,7 @@
 //! Slots, descriptions and buffers.
 
 use extent_bytes::MAX_LEN;
-use ring_tables::{Buffers, Descriptions, Slots};
+use ring_tables::{Buffers, Descriptions, Descriptors, Slots};
 use std::alloc::{AllocError, Global};
 use std::test::Fail;
 use trace_format::{Access, Blob, Description};
@@ -24,6 +24,26 @@ fn slots_are_of_their_ring(rt: HostRuntime) -> Result<(), Fail> {
     let mut slots = Slots::new(rt.alloc());
     let mut others = Slots::new(rt.alloc());
     assert!(rt; entries_tell(&mut slots, &mut others)?);
+    Ok(())
+}
+
+/// Whether the lowest free one is found in front of the taken ones, in a gap between them, behind
+/// them, and not at all where there is room for no more.
+fn lowest_is_found(descriptors: &mut Descriptors) -> Result<bool, AllocError> {
+    descriptors.set(1, Some(0))?;
+    let in_front = descriptors.lowest_free(8) == Some(0);
+    descriptors.set(0, Some(0))?;
+    descriptors.set(3, Some(0))?;
+    let between = descriptors.lowest_free(8) == Some(2) && descriptors.lowest_free(2).is_none();
+    descriptors.set(2, Some(0))?;
+    let behind = descriptors.lowest_free(5) == Some(4) && descriptors.lowest_free(4).is_none();
+    Ok(in_front && between && behind)
+}
+
+#[test]
+fn lowest_free_descriptor_is_found(rt: HostRuntime) -> Result<(), Fail> {
+    let mut descriptors = Descriptors::new(rt.alloc());
+    assert!(rt; lowest_is_found(&mut descriptors)?);
     Ok(())
 }
 

@@ -1,3 +1,4 @@
 pub mod BufferBytes
 mod Looked
 mod Sameness
+mod Gap

@@ -63,11 +63,19 @@ impl Descriptors {
         Ok(())
     }
 
-    /// The lowest free descriptor of the first `count`, which open(2) takes.
+    /// The lowest free descriptor of the first `count`, which open(2) takes. It walks over those
+    /// that are taken below it.
     pub fn lowest_free(&self, count: u32) -> Option<u32>
         ensures { result ≡ find (λ n. is_none (get self.now n)) (range_with_len 0 count) }
     {
-        (0..count).find(|number| self.get(*number).is_none())
+        let mut lowest = 0;
+        for number in self.entries.keys() {
+            if lowest == count || *number != lowest {
+                break;
+            }
+            lowest += 1;
+        }
+        (lowest < count).then_some(lowest)
     }
 
     /// The descriptors that are taken, in order, each with its open file description.

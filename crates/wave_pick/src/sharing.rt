@@ -43,7 +43,13 @@ fn written_of(alloc: Global, uses: &[Use]) -> Result<Vec<&Use>, AllocError>
     ensures { IfOk result (λ written. map (λ u. u.now) written.items
         ≡ filter (λ u. u.written) uses.now) }
 {
-    uses.iter().filter(|used| used.written).collect(alloc)
+    let mut written = Vec::new(alloc);
+    for used in uses {
+        if used.written {
+            written.push(used)?;
+        }
+    }
+    Ok(written)
 }
 
 /// What a use shares with the first of some others that it collides with. One that only reads

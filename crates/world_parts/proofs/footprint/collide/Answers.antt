@@ -1,5 +1,5 @@
 -- The first list writes part of the second, or the second of the first.
-use Rattle.std.proofs.Common.{◌≡◌, Bool, true, false, ◌||◌, ap, sym, ◌∙◌, map}
+use Rattle.std.proofs.Common.{Bool, ◌||◌, ap, sym, ◌∙◌, map}
 use Rattle.world_parts.specs.Items as items
 use Rattle.world_parts.specs.Uses.{use_meant}
 use Rattle.world_parts.proofs.FootprintCode.{collide-meant, writes_some}

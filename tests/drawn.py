@@ -1,0 +1,82 @@
+"""Drawn traces, such traces with bytes changed, and drawn pairs of reports: the program gives what a second replayer (model.py) and a
+second comparison (model_diff.py) give, which give what the examples say."""
+import os
+from functools import partial
+from typing import Callable, List, Optional
+
+import model
+import model_diff
+from drawing import Draw, changed, two_reports
+from harness import EXAMPLES, Answer, Job, Outcome, Program, difference, first, read, refused, reports_refused
+
+# How many of each kind are drawn, in how many lots; and each of how many traces is also replayed in rounds.
+DRAWN, LOTS, IN_ROUNDS = 3_000, 6, 5
+# Examples of more bytes are left to the program.
+MOST_BYTES = 5_000_000
+
+
+def by_model(trace: bytes, has_sums: bool) -> Answer:
+    try:
+        return Answer(0, model.report(trace, has_sums), b"")
+    except model.Refused as fault:
+        return refused(str(fault))
+
+
+def of_drawn(program: Program, seed: int) -> Optional[str]:
+    """How the program differs from the model on a drawn trace, if it does."""
+    trace = Draw(seed).trace()
+    wanted = by_model(trace, True)
+    told = difference(program.run(["serial", "--sums"], trace), wanted)
+    if not told and seed % IN_ROUNDS == 0:
+        pair = ["--workers", str(1 + seed % 4), "--window", str(1 + seed % 7)]
+        told = difference(program.run(["run", "--sums", *pair], trace), wanted)
+        told = told or difference(program.run(["compare", *pair], trace), Answer(0, b"equal\n", b""))
+    return told
+
+
+def of_changed(program: Program, seed: int) -> Optional[str]:
+    """The same of a changed trace, without sums: its buffers may be of any length."""
+    trace = changed(seed)
+    return difference(program.run(["serial"], trace), by_model(trace, False))
+
+
+def of_reports(program: Program, seed: int) -> Optional[str]:
+    """How the program differs from the model on two reports, if it does."""
+    text = two_reports(seed)
+    try:
+        told, are_alike = model_diff.difference(text)
+        wanted = Answer(0 if are_alike else 4, told, b"")
+    except model_diff.Refused as fault:
+        wanted = reports_refused(str(fault))
+    return difference(program.run(["diff"], text), wanted)
+
+
+def lot(program: Program, what: str, unlike: Callable[[Program, int], Optional[str]], seeds: range) -> List[Outcome]:
+    faults = ["seed {}: {}".format(seed, told) for seed in seeds for told in [unlike(program, seed)] if told]
+    return [Outcome("{} {} to {} as the model says, by {}".format(what, seeds[0], seeds[-1], program.compiler), first(faults))]
+
+
+def model_of_examples() -> List[Outcome]:
+    """The model gives the reports and the refusals of the examples."""
+    outcomes = []
+    for at, _, names in os.walk(EXAMPLES):
+        for trace in sorted(it for it in names if it.endswith(".trace") and os.path.getsize(os.path.join(at, it)) <= MOST_BYTES):
+            told = [trace[: -len("trace")] + kind for kind in ("sums", "report", "refused")]
+            there = [it for it in told if it in names]
+            if there:
+                outcomes.append(Outcome("the model of {}".format(trace), of_example(at, trace, there[0])))
+    return outcomes
+
+
+def of_example(at: str, trace: str, told: str) -> Optional[str]:
+    text = read(at, told)
+    wanted = Answer(1, b"", text) if told.endswith(".refused") else Answer(0, text, b"")
+    return difference(by_model(read(at, trace), told.endswith(".sums")), wanted)
+
+
+def jobs(programs: List[Program]) -> List[Job]:
+    """The first program on all of them, the others on one lot of each kind."""
+    each = DRAWN // LOTS
+    kinds = (("drawn traces", of_drawn), ("changed traces", of_changed), ("reports", of_reports))
+    lots = [(program, range(at, at + each)) for program in programs for at in range(0, DRAWN if program is programs[0] else each, each)]
+    return [model_of_examples, *(partial(lot, program, what, unlike, seeds) for program, seeds in lots for what, unlike in kinds)]

@@ -1,0 +1,592 @@
+"""What a trace gives, by docs/PROFILE.md and docs/FORMAT.md alone: a second replayer, that runs one step after another."""
+import hashlib
+import struct
+from typing import Dict, Iterator, List, NamedTuple, Optional, Tuple, Union
+
+from traces import AT_FDCWD, CLOSE, FALLOCATE, FIXED_FILE, FSYNC, FTRUNCATE, GREATEST_SIZE, HARDLINK, LINK, LINKAT, MKDIRAT, NOP, OPENAT, READ
+from traces import BUFFER_SELECT, GREATEST_BUFFER, READ_FIXED, READV, RENAMEAT, SKIP, UNLINKAT, WRITE, WRITE_FIXED, WRITEV
+
+EPERM, ENOENT, EBADF, EFAULT, EEXIST, ENOTDIR, EISDIR = 1, 2, 9, 14, 17, 20, 21
+EINVAL, EMFILE, EFBIG, ENAMETOOLONG, ENOTEMPTY, EOPNOTSUPP, ECANCELED = 22, 24, 27, 36, 39, 95, 125
+CREAT, EXCL, TRUNC, APPEND, A_DIRECTORY, CLOEXEC, KNOWN = 0x40, 0x80, 0x200, 0x400, 0x10000, 0x80000, 0x1FDFC3
+READS, WRITES = (READV, READ_FIXED, READ), (WRITEV, WRITE_FIXED, WRITE)
+MOST_MOVED, AT_POSITION, HALF, LAST = 0x7FFFF000, (1 << 64) - 1, 1 << 63, (1 << 32) - 1
+PAGE, SHOWN, MOST_SUMMED = 4096, 32, 1 << 24
+MOST_ITEMS, MOST_RINGS, MOST_PLACES, MOST_OF_TABLE, MOST_OF_RECORD = 65_535, 64, 1_048_576, 1_024, 32_768
+
+
+class Failed(Exception):
+    """An operation that gives an error number."""
+
+    def __init__(self, errno: int) -> None:
+        super().__init__(errno)
+        self.errno = errno
+
+
+class Refused(Exception):
+    """A trace that is none: the kind of the fault, and the byte at which it is."""
+
+    def __init__(self, kind: str, at: int) -> None:
+        super().__init__("{} at {}".format(kind, at))
+
+
+def need(holds: bool, errno: int) -> None:
+    if not holds:
+        raise Failed(errno)
+
+
+def within(holds: bool, kind: str, at: int) -> None:
+    if not holds:
+        raise Refused(kind, at)
+
+
+class Bytes:
+    """A list of bytes, of which pages that were never written are zeros."""
+
+    def __init__(self, size: int, stored: bytes = b"") -> None:
+        self.size = size
+        self.pages: Dict[int, bytearray] = {}
+        self.put(0, stored)
+
+    def get(self, at: int, count: int) -> bytes:
+        out = bytearray(count)
+        for number in range(at // PAGE, -(-(at + count) // PAGE)):
+            if number in self.pages:
+                low, high = max(at, number * PAGE), min(at + count, number * PAGE + PAGE)
+                out[low - at : high - at] = self.pages[number][low - number * PAGE : high - number * PAGE]
+        return bytes(out)
+
+    def put(self, at: int, data: bytes) -> None:
+        self.size = max(self.size, at + len(data))
+        for number in range(at // PAGE, -(-(at + len(data)) // PAGE)):
+            low, high = max(at, number * PAGE), min(at + len(data), number * PAGE + PAGE)
+            self.pages.setdefault(number, bytearray(PAGE))[low - number * PAGE : high - number * PAGE] = data[low - at : high - at]
+
+    def zero(self, low: int, high: int) -> None:
+        for number in [it for it in self.pages if low < high and it * PAGE < high and low < it * PAGE + PAGE]:
+            first, end = max(low - number * PAGE, 0), min(high - number * PAGE, PAGE)
+            self.pages[number][first:end] = bytes(end - first)
+
+    def resize(self, size: int) -> None:
+        self.zero(size, self.size)
+        self.size = size
+
+    def copy(self, at: int, other: "Bytes", low: int, count: int) -> None:
+        """Puts bytes of another list, of which only the pages that it has are looked at."""
+        pieces = [(max(low, it * PAGE), min(low + count, it * PAGE + PAGE)) for it in other.pages if it * PAGE < low + count and low < it * PAGE + PAGE]
+        taken = [(first - low, other.get(first, end - first)) for first, end in pieces]
+        self.zero(at, min(at + count, self.size))
+        self.size = max(self.size, at + count)
+        for behind, data in taken:
+            self.put(at + behind, data)
+
+    def sum(self) -> str:
+        return hashlib.sha256(self.get(0, self.size)).hexdigest()
+
+
+Node = Union[Bytes, Dict[bytes, int]]
+
+
+class Description:
+    def __init__(self, node: int, access: int, append: int, position: int) -> None:
+        self.node, self.access, self.append, self.position = node, access, bool(append), position
+
+
+class Entry(NamedTuple):
+    opcode: int
+    flags: int
+    fd: int
+    offset: int
+    address: int
+    length: int
+    own_flags: int
+    user_data: int
+    buffer: int
+    personality: int
+    file_index: int
+    side: bytes
+
+    def vectors(self) -> List[int]:
+        return list(struct.unpack_from("<{}Q".format(self.length), self.side))
+
+    def paths(self) -> List[bytes]:
+        if self.opcode not in (RENAMEAT, LINKAT):
+            return [self.side]
+        end = 2 + struct.unpack_from("<H", self.side)[0]
+        return [self.side[2:end], self.side[end:]]
+
+    def has_side(self) -> bool:
+        """Whether its side bytes are such as it has."""
+        count = len(self.side)
+        if self.opcode in (READV, WRITEV):
+            vectors = 8 * self.length if self.length <= 1024 else 0
+            total = sum(self.vectors()) if vectors <= count and vectors else 0
+            return count == vectors + (min(total, MOST_MOVED) if self.opcode == WRITEV and total < HALF else 0)
+        if self.opcode in (RENAMEAT, LINKAT):
+            return count >= 2 and count >= 2 + struct.unpack_from("<H", self.side)[0] and 0 not in self.side[2:]
+        if self.opcode in (OPENAT, UNLINKAT, MKDIRAT):
+            return 0 not in self.side
+        return count == (min(self.length, MOST_MOVED) if self.opcode == WRITE else 0)
+
+    def asked(self) -> int:
+        """How many bytes a transfer asks for."""
+        return min(sum(self.vectors()) if self.opcode in (READV, WRITEV) else self.length, MOST_MOVED)
+
+    def written(self) -> bytes:
+        return self.side[8 * self.length :] if self.opcode == WRITEV else self.side
+
+
+class Fill(NamedTuple):
+    buffer: int
+    offset: int
+    data: bytes
+
+
+class Reply(NamedTuple):
+    result: int
+    posted: bool
+    data: Optional[bytes] = None
+    moved: int = 0
+
+
+Step = Tuple[int, Union[Entry, Fill]]
+
+
+class Reader:
+    """A trace's bytes, field by field. A field is at the byte `at` once it has been read."""
+
+    def __init__(self, text: bytes) -> None:
+        self.text, self.at, self.next = text, 0, 0
+
+    def take(self, count: int) -> bytes:
+        within(self.next + count <= len(self.text), "Short", len(self.text))
+        self.at, self.next = self.next, self.next + count
+        return self.text[self.at : self.next]
+
+    def field(self, form: str) -> int:
+        return struct.unpack("<" + form, self.take(struct.calcsize("<" + form)))[0]
+
+    def number(self, form: str, most: int, least: int = 0, kind: str = "Limit") -> int:
+        """A number that lies between two others."""
+        number = self.field(form)
+        within(least <= number <= most, kind, self.at)
+        return number
+
+
+class World:
+    def __init__(self, text: bytes) -> None:
+        source = Reader(text)
+        within(source.take(8) == b"URINGTRC", "Magic", 0)
+        self.version = source.number("I", 2, 1, "Version")
+        self.items, self.described = source.number("I", MOST_ITEMS), source.number("I", MOST_ITEMS)
+        rings, records = source.number("I", MOST_RINGS), source.number("I", MOST_PLACES)
+        table = source.number("I", MOST_OF_TABLE if self.version == 2 else 0)
+        self.nodes: Dict[int, Node] = {0: {}}
+        for item in range(1, self.items + 1):
+            self.add_item(source, item)
+        self.descriptions = {it: self.description(source) for it in range(self.described)}
+        self.table = self.handles(source, table)
+        self.slots: List[List[Optional[int]]] = []
+        self.buffers: List[List[Tuple[int, Bytes]]] = []
+        for _ in range(rings):
+            self.slots.append(self.handles(source, source.number("H", 1024)))
+            self.buffers.append([])
+            for _ in range(source.number("H", 1024)):
+                self.add_buffer(source)
+        self.places = 0
+        self.chains: List[List[Step]] = []
+        for _ in range(records):
+            self.add_record(source)
+        within(source.next == len(text), "Trailing", source.next)
+
+    def handles(self, source: Reader, count: int) -> List[Optional[int]]:
+        numbers = (source.number("I", self.described, 0, "Reference") for _ in range(count))
+        return [number - 1 if number else None for number in numbers]
+
+    def add_item(self, source: Reader, item: int) -> None:
+        kind = source.number("B", 3, 1)
+        path, at = source.take(source.field("H")), source.at
+        names = path.split(b"/")
+        is_spelled = names[0] == b"" and len(names) > 1 and len(path) <= 4095 and 0 not in path
+        within(is_spelled and all(0 < len(it) <= 255 and it not in (b".", b"..") for it in names[1:]), "Path", at)
+        try:
+            parent, name, found = self.walk(path)
+        except Failed:
+            raise Refused("NoParent", at) from None
+        within(found is None, "Exists", at)
+        number = item
+        if kind == 1:
+            self.nodes[item] = {}
+        elif kind == 2:
+            size = source.number("Q", GREATEST_SIZE)
+            self.nodes[item] = Bytes(size, source.take(source.number("I", size)))
+        else:
+            number = source.field("I")
+            within(isinstance(self.nodes.get(number), Bytes), "Reference", source.at)
+        parent[name] = number
+
+    def description(self, source: Reader) -> Description:
+        node = source.field("I")
+        within(node in self.nodes, "Reference", source.at)
+        access = source.number("B", 0 if self.is_directory(node) else 2)
+        append = source.number("B", 1)
+        return Description(node, access, append, source.number("Q", HALF - 1))
+
+    def add_buffer(self, source: Reader) -> None:
+        address = source.field("Q")
+        at = source.at
+        length = source.number("I", GREATEST_BUFFER)
+        within(address + length <= AT_POSITION, "Limit", source.at)
+        apart = (held.size == 0 or address + length <= other or other + held.size <= address for other, held in self.buffers[-1])
+        within(length == 0 or all(apart), "Overlap", at)
+        self.buffers[-1].append((address, Bytes(length)))
+
+    def add_record(self, source: Reader) -> None:
+        """The chains of a record; a fill is one of its own."""
+        kind = source.number("B", 2, 1)
+        within(kind == 1 or self.places < MOST_PLACES, "Limit", source.at)
+        ring = source.field("B")
+        within(ring < len(self.slots), "Reference", source.at)
+        if kind == 2:
+            self.chains.append([(ring, self.fill(source, ring))])
+            self.places += 1
+            return
+        count = source.number("H", MOST_OF_RECORD)
+        within(self.places + count <= MOST_PLACES, "Limit", source.at)
+        self.places += count
+        chain: List[Step] = []
+        for number in range(1, count + 1):
+            entry = self.entry(source)
+            chain.append((ring, entry))
+            if number == count or not entry.flags & (LINK | HARDLINK):
+                self.chains.append(chain)
+                chain = []
+
+    def fill(self, source: Reader, ring: int) -> Fill:
+        buffer = source.field("H")
+        within(buffer < len(self.buffers[ring]), "Reference", source.at)
+        offset = source.field("I")
+        at = source.at
+        count = source.field("I")
+        within(offset + count <= self.buffers[ring][buffer][1].size, "Reference", at)
+        return Fill(buffer, offset, source.take(count))
+
+    @staticmethod
+    def entry(source: Reader) -> Entry:
+        opcode, flags, _, fd, offset, address, length, own, user, buffer, personality, index, _, _ = struct.unpack("<BBHiQQIIQHHIQQ", source.take(64))
+        count = source.field("I")
+        at = source.at
+        entry = Entry(opcode, flags, fd, offset, address, length, own, user, buffer, personality, index, source.take(count))
+        within(entry.has_side(), "Side", at)
+        return entry
+
+    # Names.
+
+    def walk(self, path: bytes) -> Tuple[Dict[bytes, int], bytes, Optional[int]]:
+        """The directory of a path's last name, that name, and the node that it names."""
+        *above, last = [it for it in path.split(b"/") if it]
+        at = 0
+        for name in above:
+            need(len(name) <= 255, ENAMETOOLONG)
+            need(name in self.directory(at), ENOENT)
+            at = self.directory(at)[name]
+            need(isinstance(self.nodes[at], dict), ENOTDIR)
+        need(len(last) <= 255, ENAMETOOLONG)
+        return self.directory(at), last, self.directory(at).get(last)
+
+    def walk_from(self, fd: int, path: bytes) -> Tuple[Dict[bytes, int], bytes, Optional[int]]:
+        need(path.startswith(b"/") or fd == AT_FDCWD, EBADF)
+        return self.walk(path)
+
+    def directory(self, number: int) -> Dict[bytes, int]:
+        node = self.nodes[number]
+        assert isinstance(node, dict)
+        return node
+
+    def is_directory(self, number: int) -> bool:
+        return isinstance(self.nodes[number], dict)
+
+    def is_above(self, number: int, directory: Dict[bytes, int]) -> bool:
+        """Whether a node is this directory, or one above it."""
+        node = self.nodes[number]
+        return node is directory or isinstance(node, dict) and any(self.is_above(it, directory) for it in node.values())
+
+    # Open files.
+
+    def open_file(self, ring: int, entry: Entry) -> Description:
+        handles = self.slots[ring] if entry.flags & FIXED_FILE else self.table
+        number = entry.fd & LAST
+        need(number < len(handles) and handles[number] is not None, EBADF)
+        return self.descriptions[handles[number]]
+
+    def buffer_of(self, ring: int, entry: Entry) -> Tuple[Bytes, int]:
+        """The buffer of a fixed transfer, and where in it the transfer is."""
+        need(entry.buffer < len(self.buffers[ring]), EFAULT)
+        address, held = self.buffers[ring][entry.buffer]
+        need(held.size > 0 and address <= entry.address and entry.address + entry.length <= address + held.size, EFAULT)
+        return held, entry.address - address
+
+    # Operations: each gives its result, or is Failed.
+
+    def run(self, place: int, ring: int, entry: Entry) -> Tuple[int, Optional[bytes]]:
+        if entry.opcode in READS:
+            return self.read(ring, entry)
+        if entry.opcode in WRITES:
+            return self.write(ring, entry), None
+        operations = {NOP: self.nothing, FSYNC: self.sync, FALLOCATE: self.allocate, FTRUNCATE: self.truncate, OPENAT: self.open_at, CLOSE: self.close,
+                      UNLINKAT: self.unlink, MKDIRAT: self.make_directory, LINKAT: self.link, RENAMEAT: self.rename}
+        return operations[entry.opcode](place, ring, entry) or 0, None
+
+    def nothing(self, place: int, ring: int, entry: Entry) -> None:
+        pass
+
+    def sync(self, place: int, ring: int, entry: Entry) -> None:
+        self.open_file(ring, entry)
+
+    def read(self, ring: int, entry: Entry) -> Tuple[int, Optional[bytes]]:
+        description = self.open_file(ring, entry)
+        need(description.access != 1, EBADF)
+        node = self.nodes[description.node]
+        need(not isinstance(node, dict), EISDIR)
+        target = self.buffer_of(ring, entry) if entry.opcode == READ_FIXED else None
+        need(entry.offset < HALF or entry.offset == AT_POSITION, EINVAL)
+        start = description.position if entry.offset == AT_POSITION else entry.offset
+        moved = max(0, min(entry.asked(), node.size - start))
+        if entry.offset == AT_POSITION and moved:
+            description.position = start + moved
+        if target:
+            target[0].copy(target[1], node, start, moved)
+            return moved, None
+        return moved, node.get(start, min(moved, SHOWN))
+
+    def write(self, ring: int, entry: Entry) -> int:
+        description = self.open_file(ring, entry)
+        need(description.access != 0, EBADF)
+        node = self.nodes[description.node]
+        source = self.buffer_of(ring, entry) if entry.opcode == WRITE_FIXED else None
+        need(entry.offset < HALF or entry.offset == AT_POSITION, EINVAL)
+        if not entry.asked():
+            return 0
+        start = node.size if description.append else description.position if entry.offset == AT_POSITION else entry.offset
+        need(start < GREATEST_SIZE, EFBIG)
+        moved = min(entry.asked(), GREATEST_SIZE - start)
+        if source:
+            node.copy(start, source[0], source[1], moved)
+        else:
+            node.put(start, entry.written()[:moved])
+        if entry.offset == AT_POSITION:
+            description.position = start + moved
+        return moved
+
+    def allocate(self, place: int, ring: int, entry: Entry) -> None:
+        description = self.open_file(ring, entry)
+        offset, length, mode = entry.offset, entry.address, entry.length
+        need(offset < HALF and 0 < length < HALF, EINVAL)
+        need(mode in (0, 1, 3, 0x10, 0x11), EOPNOTSUPP)
+        need(description.access != 0, EBADF)
+        need(offset + length <= GREATEST_SIZE, EFBIG)
+        node = self.nodes[description.node]
+        if mode in (3, 0x10, 0x11):
+            node.zero(offset, min(offset + length, node.size))
+        if mode in (0, 0x10):
+            node.resize(max(node.size, offset + length))
+
+    def truncate(self, place: int, ring: int, entry: Entry) -> None:
+        description = self.open_file(ring, entry)
+        need(entry.offset < HALF, EINVAL)
+        need(description.access != 0, EINVAL)
+        need(entry.offset <= GREATEST_SIZE, EFBIG)
+        self.nodes[description.node].resize(entry.offset)
+
+    def open_at(self, place: int, ring: int, entry: Entry) -> int:
+        flags, access = entry.own_flags, entry.own_flags & 3
+        handles, number = self.room(ring, entry)
+        parent, name, found = self.walk_from(entry.fd, entry.side)
+        node = self.items + 1 + place if found is None else found
+        if found is None:
+            need(bool(flags & CREAT), ENOENT)
+            self.nodes[node] = Bytes(0)
+            parent[name] = node
+        else:
+            need(not (flags & CREAT and flags & EXCL), EEXIST)
+            if self.is_directory(node):
+                need(not flags & (CREAT | TRUNC) and access == 0, EISDIR)
+            else:
+                need(not flags & A_DIRECTORY, ENOTDIR)
+                if flags & TRUNC:
+                    self.nodes[node].resize(0)
+        self.descriptions[self.described + place] = Description(node, access, flags & APPEND, 0)
+        handles[number] = self.described + place
+        return 0 if entry.file_index else number
+
+    def room(self, ring: int, entry: Entry) -> Tuple[List[Optional[int]], int]:
+        """The slot that is asked for, or the lowest free descriptor."""
+        if entry.file_index:
+            need(entry.file_index <= len(self.slots[ring]), EINVAL)
+            return self.slots[ring], entry.file_index - 1
+        need(None in self.table, EMFILE)
+        return self.table, self.table.index(None)
+
+    def close(self, place: int, ring: int, entry: Entry) -> None:
+        handles, number = self.table, entry.fd & LAST
+        if entry.file_index:
+            need(entry.file_index <= len(self.slots[ring]), EINVAL)
+            handles, number = self.slots[ring], entry.file_index - 1
+        need(number < len(handles) and handles[number] is not None, EBADF)
+        handles[number] = None
+
+    def unlink(self, place: int, ring: int, entry: Entry) -> None:
+        parent, name, found = self.walk_from(entry.fd, entry.side)
+        need(found is not None, ENOENT)
+        if entry.own_flags:
+            need(self.is_directory(found), ENOTDIR)
+            need(not self.nodes[found], ENOTEMPTY)
+        else:
+            need(not self.is_directory(found), EISDIR)
+        del parent[name]
+
+    def make_directory(self, place: int, ring: int, entry: Entry) -> None:
+        parent, name, found = self.walk_from(entry.fd, entry.side)
+        need(found is None, EEXIST)
+        self.nodes[self.items + 1 + place] = {}
+        parent[name] = self.items + 1 + place
+
+    def link(self, place: int, ring: int, entry: Entry) -> None:
+        (_, _, old), (parent, name, new) = self.both_walks(entry)
+        need(old is not None, ENOENT)
+        need(new is None, EEXIST)
+        need(not self.is_directory(old), EPERM)
+        parent[name] = old
+
+    def both_walks(self, entry: Entry) -> List[Tuple[Dict[bytes, int], bytes, Optional[int]]]:
+        new_directory = entry.length - (1 << 32) if entry.length >> 31 else entry.length
+        return [self.walk_from(fd, path) for fd, path in zip((entry.fd, new_directory), entry.paths())]
+
+    def rename(self, place: int, ring: int, entry: Entry) -> None:
+        (from_parent, from_name, old), (parent, name, new) = self.both_walks(entry)
+        need(old is not None, ENOENT)
+        if entry.own_flags == 2:
+            need(new is not None, ENOENT)
+            need(not self.is_above(old, parent) and not self.is_above(new, from_parent), EINVAL)
+            from_parent[from_name], parent[name] = new, old
+            return
+        need(new is None or entry.own_flags != 1, EEXIST)
+        need(not self.is_above(old, parent), EINVAL)
+        if old == new:
+            return
+        if new is not None:
+            need(not self.is_directory(old) or self.is_directory(new), ENOTDIR)
+            need(self.is_directory(old) or not self.is_directory(new), EISDIR)
+            need(not self.is_directory(old) or not self.nodes[new], ENOTEMPTY)
+        del from_parent[from_name]
+        parent[name] = old
+
+    # The report.
+
+    def paths(self, number: int = 0, above: bytes = b"") -> Iterator[Tuple[bytes, int]]:
+        for name, node in self.directory(number).items():
+            yield above + b"/" + name, node
+            if self.is_directory(node):
+                yield from self.paths(node, above + b"/" + name)
+
+    def tree_line(self, path: bytes, number: int, has_sums: bool) -> str:
+        shown = "".join(chr(it) if 0x21 <= it <= 0x7E and it != 0x5C else "\\x{:02x}".format(it) for it in path)
+        node = self.nodes[number]
+        if isinstance(node, dict):
+            return "dir {}".format(shown)
+        line = "file {} node={} size={}".format(shown, number, node.size)
+        return "{} sum={}".format(line, node.sum() if node.size <= MOST_SUMMED else "large") if has_sums else line
+
+    def handle_lines(self, what: str, handles: List[Optional[int]]) -> Iterator[str]:
+        for number, description in enumerate(handles):
+            if description is not None:
+                held = self.descriptions[description]
+                yield "{} {} desc={} node={} pos={}".format(what, number, description, held.node, held.position)
+
+    def buffer_lines(self, has_sums: bool) -> Iterator[str]:
+        for ring, buffers in enumerate(self.buffers):
+            for index, (_, held) in enumerate(buffers):
+                if held.size:
+                    line = "buffer {} {} len={}".format(ring, index, held.size)
+                    yield "{} sum={}".format(line, held.sum()) if has_sums else line
+
+
+def fault(version: int, entry: Entry) -> int:
+    """The error of an entry's tests by itself, or 0."""
+    try:
+        test(version, entry)
+    except Failed as failed:
+        return failed.errno
+    return 0
+
+
+def test(version: int, entry: Entry) -> None:
+    opcode, own = entry.opcode, entry.own_flags
+    names, named = (OPENAT, RENAMEAT, UNLINKAT, MKDIRAT, LINKAT), (NOP, FSYNC, FALLOCATE, FTRUNCATE, CLOSE)
+    need(opcode in (*READS, *WRITES, *names, *named), EINVAL)
+    need(not entry.flags & 128 and entry.personality == 0, EINVAL)
+    need(not entry.flags & BUFFER_SELECT, EOPNOTSUPP)
+    if opcode in (*READS, *WRITES):
+        need(own == 0, EOPNOTSUPP)
+        if opcode in (READV, WRITEV):
+            need(entry.length <= 1024 and sum(entry.vectors()) < HALF, EINVAL)
+    need(opcode != FSYNC or own in (0, 1), EINVAL)
+    need(opcode not in (*names, CLOSE) or not entry.flags & FIXED_FILE, EBADF)
+    if opcode == OPENAT:
+        need(own & 3 != 3 and not own & ~KNOWN and not (own & CREAT and own & A_DIRECTORY), EINVAL)
+        need(not (own & CLOEXEC and entry.file_index) and entry.file_index != LAST, EINVAL)
+    if opcode == CLOSE:
+        need(not (entry.file_index and entry.fd) and entry.file_index != LAST, EINVAL)
+    allowed = {RENAMEAT: (0, 1, 2) if version == 2 else (0, 1), UNLINKAT: (0, 0x200), LINKAT: (0, 0x400)}
+    need(opcode not in allowed or own in allowed[opcode], EINVAL)
+    for path in entry.paths() if opcode in names else ():
+        need(path != b"", ENOENT)
+        need(len(path) <= 4095, ENAMETOOLONG)
+        need(not path.endswith(b"/") and not {b".", b".."} & set(path.split(b"/")), EINVAL)
+
+
+def run_chain(world: World, first: int, chain: List[Step]) -> Iterator[Reply]:
+    """The replies of a chain's members, of which the first has this place."""
+    entries = [entry for _, entry in chain]
+    faults = [fault(world.version, it) for it in entries]
+    if any(faults):
+        for at, errno in enumerate(faults):
+            yield Reply(-(errno or ECANCELED), at == 0 or not entries[0].flags & SKIP)
+        return
+    broken: Optional[Entry] = None
+    for at, (ring, entry) in enumerate(chain):
+        if broken:
+            yield Reply(-ECANCELED, not broken.flags & SKIP)
+            continue
+        try:
+            result, data = world.run(first + at, ring, entry)
+        except Failed as failed:
+            result, data = -failed.errno, None
+        has_failed = result != entry.asked() if entry.opcode in (*READS, *WRITES) else result < 0
+        if has_failed and not entry.flags & HARDLINK and at + 1 < len(chain):
+            broken = entry
+        yield Reply(result, has_failed or not entry.flags & SKIP, data, max(result, 0))
+
+
+def report(text: bytes, has_sums: bool = True) -> bytes:
+    """The report of a trace; or it is Refused."""
+    world = World(text)
+    lines: List[List[str]] = [[] for _ in world.slots]
+    place = 0
+    for chain in world.chains:
+        ring, step = chain[0]
+        if isinstance(step, Fill):
+            world.buffers[ring][step.buffer][1].put(step.offset, step.data)
+            place += 1
+            continue
+        for (_, entry), reply in zip(chain, list(run_chain(world, place, chain))):
+            shown = " data={}{}".format(reply.data.hex(), "+" if reply.moved > SHOWN else "") if reply.data else ""
+            lines[ring].append("{} user={} res={} {}{}".format(place, entry.user_data, reply.result, "posted" if reply.posted else "silent", shown))
+            place += 1
+    whole = ["uring-report 1"]
+    for ring, its in enumerate(lines):
+        whole += ["ring {}".format(ring), *its]
+    whole += ["tree", *(world.tree_line(path, node, has_sums) for path, node in sorted(world.paths()))]
+    whole += ["slots", *(line for ring, handles in enumerate(world.slots) for line in world.handle_lines("slot {}".format(ring), handles))]
+    whole += [*world.handle_lines("descriptor", world.table), "buffers", *world.buffer_lines(has_sums), "end", ""]
+    return "\n".join(whole).encode()
