@@ -1,5 +1,5 @@
 """Drawn traces, such traces with bytes changed, and drawn pairs of reports: the program gives what a second replayer (model.py) and a
-second comparison (model_diff.py) give, which give what the examples say."""
+second comparison (model_diff.py) give. These give what the examples say, and what kernels gave."""
 import os
 from functools import partial
 from typing import Callable, List, Optional
@@ -11,8 +11,6 @@ from harness import EXAMPLES, Answer, Job, Outcome, Program, difference, first, 
 
 # How many of each kind are drawn, in how many lots; and each of how many traces is also replayed in rounds.
 DRAWN, LOTS, IN_ROUNDS = 3_000, 6, 5
-# Examples of more bytes are left to the program.
-MOST_BYTES = 5_000_000
 
 
 def by_model(trace: bytes, has_sums: bool) -> Answer:
@@ -57,15 +55,21 @@ def lot(program: Program, what: str, unlike: Callable[[Program, int], Optional[s
 
 
 def model_of_examples() -> List[Outcome]:
-    """The model gives the reports and the refusals of the examples."""
+    """The model gives the reports and the refusals of the examples, and agrees with a kernel as far as is known."""
     outcomes = []
     for at, _, names in os.walk(EXAMPLES):
-        for trace in sorted(it for it in names if it.endswith(".trace") and os.path.getsize(os.path.join(at, it)) <= MOST_BYTES):
-            told = [trace[: -len("trace")] + kind for kind in ("sums", "report", "refused")]
-            there = [it for it in told if it in names]
-            if there:
-                outcomes.append(Outcome("the model of {}".format(trace), of_example(at, trace, there[0])))
+        for trace in sorted(it for it in names if it.endswith(".trace")):
+            front = trace[: -len("trace")]
+            there = [it for it in (front + kind for kind in ("sums", "report", "refused")) if it in names]
+            told = of_example(at, trace, there[0]) if there else of_recorded(at, front)
+            outcomes.append(Outcome("the model of {}".format(trace), told))
     return outcomes
+
+
+def of_recorded(at: str, front: str) -> Optional[str]:
+    """How the report of a recorded trace and the kernel's results differ otherwise than by the counts that are told, if they do."""
+    told, _ = model_diff.difference(model.report(read(at, front + "trace")) + read(at, front + "kernel"))
+    return difference(Answer(0, told[told.rindex(b"entries ") :], b""), Answer(0, read(at, front + "diff"), b""))
 
 
 def of_example(at: str, trace: str, told: str) -> Optional[str]:
