@@ -5,7 +5,7 @@ import struct
 from typing import Any, Dict, List, Sequence, Tuple
 
 import model
-from model import A_DIRECTORY, APPEND, CLOEXEC, CREAT, EXCL, TRUNC
+from model import A_DIRECTORY, APPEND, CLOEXEC, CREAT, EXCL, MOST_MOVED, TRUNC
 from traces import AT_FDCWD, BUFFER_SELECT, CLOSE, DRAIN, FALLOCATE, FIXED_FILE, FSYNC, FTRUNCATE, GREATEST_SIZE, HARDLINK, LINK, LINKAT, MKDIRAT
 from traces import NOP, OPENAT, READ, READ_FIXED, READV, RENAMEAT, SKIP, UNLINKAT, WRITE, WRITE_FIXED, WRITEV
 from traces import description, directory, enter, entry, file, fill, head, name, ring
@@ -32,6 +32,11 @@ LINES = (b"", b" ", b"tree", b"slots", b"buffers x", b"dir", b"slot 1", b"descri
 class Draw:
     """Draws a trace from a source of random numbers."""
 
+    names, weights, flags, records, most_slots, longest = NAMES, WEIGHTS, FLAGS, 9, 6, 6_000
+    tables, accesses, buffer_sizes, counts = range(5), (0, 1, 2, 2, 2), LENGTHS, (0, 1, 7, 33, 5_000, LAST)
+    offsets, great_offsets, each_great, each_at_position, each_fill = OFFSETS, GREAT_OFFSETS, 12, 3, 5
+    ranges, great_ranges = (1, 100, 5_000), (0, 1, 100, 5_000, GREATEST_SIZE, 1 << 63)
+
     def __init__(self, seed: int) -> None:
         self.source = random.Random(seed)
         self.version = 1 if self.rarely(3) else 2
@@ -52,16 +57,16 @@ class Draw:
         return sum(flag for flag, each in flags if self.rarely(each))
 
     def data(self) -> bytes:
-        count = self.source.randrange(6_000 if self.rarely(4) else 12)
+        count = self.source.randrange(self.longest if self.rarely(4) else 12)
         return bytes(count) if self.rarely(4) else self.source.randbytes(count)
 
     def trace(self) -> bytes:
         items, nodes = self.items()
         described = [self.described(nodes) for _ in range(self.source.randrange(1, 7))]
-        self.table = self.source.randrange(5) if self.version == 2 else 0
+        self.table = self.one(self.tables) if self.version == 2 else 0
         table = struct.pack("<{}I".format(self.table), *self.handles(len(described), self.table))
         rings = [self.ring(len(described)) for _ in range(self.source.randrange(1, 4))]
-        records = [self.record(self.source.randrange(len(rings))) for _ in range(self.source.randrange(1, 9))]
+        records = [self.record(self.source.randrange(len(rings))) for _ in range(self.source.randrange(1, self.records))]
         front = head(len(items), len(described), len(rings), len(records), self.table, self.version)
         return b"".join([front, *items, *described, table, *rings, *records])
 
@@ -69,7 +74,7 @@ class Draw:
         """Items, and the nodes that there are then, each with whether it is a file."""
         items, nodes, directories = [], [(0, False)], [b""]
         for number in range(1, self.source.randrange(1, 12)):
-            path = self.one(directories) + b"/" + self.one(NAMES)
+            path = self.one(directories) + b"/" + self.one(self.names)
             path = b"/z%d" % number if path in self.paths else path
             files = [it for it, is_file in nodes if is_file]
             self.paths.append(path)
@@ -88,29 +93,29 @@ class Draw:
     def described(self, nodes: List[Tuple[int, bool]]) -> bytes:
         files = [it for it in nodes if it[1]]
         node, is_file = self.one(nodes if self.rarely(5) or not files else files)
-        position = self.one((*OFFSETS, GREATEST_SIZE, (1 << 63) - 1)) if self.rarely(3) else 0
-        return description(node, self.one((0, 1, 2, 2, 2)) if is_file else 0, int(self.rarely(5)), position)
+        position = self.one((*self.offsets, GREATEST_SIZE, (1 << 63) - 1)) if self.rarely(3) else 0
+        return description(node, self.one(self.accesses) if is_file else 0, int(self.rarely(5)), position)
 
     def handles(self, described: int, count: int) -> List[int]:
         return [0 if self.rarely(4) else self.source.randrange(described) + 1 for _ in range(count)]
 
     def ring(self, described: int) -> bytes:
-        self.slots.append(self.source.randrange(6))
-        self.buffers.append([(address, self.one(LENGTHS)) for address in ADDRESSES[: self.source.randrange(4)]])
+        self.slots.append(self.source.randrange(self.most_slots))
+        self.buffers.append([(address, self.one(self.buffer_sizes)) for address in ADDRESSES[: self.source.randrange(4)]])
         return ring(self.handles(described, self.slots[-1]), self.buffers[-1])
 
     def record(self, number: int) -> bytes:
         buffers = self.buffers[number]
-        if not buffers or not self.rarely(5):
+        if not buffers or not self.rarely(self.each_fill):
             return enter(number, [self.entry(number) for _ in range(self.source.randrange(9))])
         index = self.source.randrange(len(buffers))
         offset = self.source.randrange(buffers[index][1] + 1)
         return fill(number, index, offset, self.data()[: buffers[index][1] - offset])
 
     def entry(self, number: int) -> bytes:
-        (opcode,) = self.source.choices(list(WEIGHTS), list(WEIGHTS.values()))
+        (opcode,) = self.source.choices(list(self.weights), list(self.weights.values()))
         fields = self.fields(opcode, number)
-        flags = self.some(FLAGS)
+        flags = self.some(self.flags)
         if opcode in OF_FILES:
             is_slot = not self.table or not self.rarely(4)
             flags |= FIXED_FILE * is_slot
@@ -125,7 +130,7 @@ class Draw:
     def fields(self, opcode: int, number: int) -> Dict[str, Any]:
         """What the row of an opcode looks at, and its side bytes."""
         if opcode in OF_FILES:
-            offset = POSITION if self.rarely(3) else self.one(GREAT_OFFSETS if self.rarely(12) else OFFSETS)
+            offset = POSITION if self.rarely(self.each_at_position) else self.one(self.great_offsets if self.rarely(self.each_great) else self.offsets)
             return {"offset": offset, **self.moved(opcode, number)}
         if opcode == OPENAT:
             return {"fd": self.start(), "own_flags": self.one((0, 1, 2, 2)) | self.some(OPEN_FLAGS), "file_index": self.index(number), "side": self.path()}
@@ -142,7 +147,7 @@ class Draw:
     def moved(self, opcode: int, number: int) -> Dict[str, Any]:
         """What a transfer, or another operation on a file, asks for."""
         if opcode == READ:
-            return {"length": self.one((0, 1, 7, 33, 5_000, LAST))}
+            return {"length": self.one(self.counts)}
         if opcode == WRITE:
             side = self.data()
             return {"length": len(side), "side": side}
@@ -154,8 +159,7 @@ class Draw:
             behind = self.source.randrange(size + 2)
             return {"address": max(address + behind - self.rarely(20), 0), "length": self.source.randrange(size + 2 - behind), "buffer": index}
         if opcode == FALLOCATE:
-            sizes = (0, 1, 100, 5_000, GREATEST_SIZE, 1 << 63) if self.rarely(4) else (1, 100, 5_000)
-            return {"address": self.one(sizes), "length": self.one((0, 1, 3, 0x10, 0x11, 2))}
+            return {"address": self.one(self.great_ranges if self.rarely(4) else self.ranges), "length": self.one((0, 1, 3, 0x10, 0x11, 2))}
         return {}
 
     def vectors(self, opcode: int) -> Dict[str, Any]:
@@ -181,13 +185,30 @@ class Draw:
 
     def path(self) -> bytes:
         """Most often that of an item, as long as this keeps its name, or of something in it."""
-        parts = [self.one(NAMES) for _ in range(self.one((1, 1, 1, 2, 2, 3)))]
+        parts = [self.one(self.names) for _ in range(self.one((1, 1, 1, 2, 2, 3)))]
         if self.paths and not self.rarely(3):
             parts = self.one(self.paths)[1:].split(b"/") + (parts[:1] if self.rarely(3) else [])
         if self.rarely(25):
             parts[self.source.randrange(len(parts))] = self.one(ODD_NAMES)
         front = self.one((b"", b"//")) if self.rarely(6) else b"/"
         return front + b"/".join(parts) + (b"/" if self.rarely(60) else b"")
+
+
+class Near(Draw):
+    """Draws a trace whose steps use the same things more often: two files, few bytes of each, and the greatest sizes."""
+
+    names, records, most_slots, longest = NAMES[:3], 7, 4, 12
+    weights = {**WEIGHTS, READ: 16, WRITE: 16, READ_FIXED: 9, FALLOCATE: 10, FTRUNCATE: 8, OPENAT: 18, RENAMEAT: 18}
+    flags = ((LINK, 12), (HARDLINK, 60), (DRAIN, 100), *FLAGS[3:])
+    tables, accesses, buffer_sizes, counts = (1, 2, 3, 4), (0, 1, 2), (0, 1, 16, 16), (0, 1, 4, 9, LAST)
+    offsets, great_offsets = (0, 1, 4, 5, 8), (MOST_MOVED, *(3 * [GREATEST_SIZE - 3]), GREATEST_SIZE + 1, 1 << 63)
+    each_great, each_at_position, each_fill = 2, 6, 3
+    ranges, great_ranges = (1, 3, 5), (0, GREATEST_SIZE - 4, GREATEST_SIZE, GREATEST_SIZE, 1 << 63)
+
+    def items(self) -> Tuple[List[bytes], List[Tuple[int, bool]]]:
+        sizes = [self.one((0, 20, 20, 20, GREATEST_SIZE - 3, GREATEST_SIZE, GREATEST_SIZE)) for _ in range(2)]
+        self.paths = [b"/a", b"/b", b"/a/c"]
+        return [directory(b"/a"), *(file(path, size) for path, size in zip(self.paths[1:], sizes))], [(0, False), (1, False), (2, True), (3, True)]
 
 
 def changed(seed: int) -> bytes:

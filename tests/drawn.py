@@ -1,12 +1,15 @@
 """Drawn traces, such traces with bytes changed, and drawn pairs of reports: the program gives what a second replayer (model.py) and a
-second comparison (model_diff.py) give. These give what the examples say, and what kernels gave."""
+second comparison (model_diff.py) give, and tells of its rounds what model_rounds.py tells. These give what the examples say, and what
+kernels gave."""
 import os
+import re
 from functools import partial
 from typing import Callable, List, Optional
 
 import model
 import model_diff
-from drawing import Draw, changed, two_reports
+import model_rounds
+from drawing import Draw, Near, changed, two_reports
 from harness import EXAMPLES, Answer, Job, Outcome, Program, difference, first, read, refused, reports_refused
 
 # How many of each kind are drawn, in how many lots; and each of how many traces is also replayed in rounds.
@@ -29,7 +32,16 @@ def of_drawn(program: Program, seed: int) -> Optional[str]:
         pair = ["--workers", str(1 + seed % 4), "--window", str(1 + seed % 7)]
         told = difference(program.run(["run", "--sums", *pair], trace), wanted)
         told = told or difference(program.run(["compare", *pair], trace), Answer(0, b"equal\n", b""))
-    return told
+    return told or of_rounds(program, seed, Near(seed).trace() if seed % 2 else trace)
+
+
+def of_rounds(program: Program, seed: int, trace: bytes) -> Optional[str]:
+    """How what the program tells of the rounds of a trace differs from the model, if it does: at a small window or a large one, or as a graph."""
+    window = 64 if seed % 3 == 0 else 1 + seed % 7
+    words = ["rounds", "--window", str(window)]
+    if seed % 5:
+        return difference(program.run(words, trace), Answer(0, model_rounds.rounds(trace, window), b""))
+    return difference(program.run([*words, "--dot"], trace), Answer(0, model_rounds.graph(trace, window), b""))
 
 
 def of_changed(program: Program, seed: int) -> Optional[str]:
@@ -63,7 +75,22 @@ def model_of_examples() -> List[Outcome]:
             there = [it for it in (front + kind for kind in ("sums", "report", "refused")) if it in names]
             told = of_example(at, trace, there[0]) if there else of_recorded(at, front)
             outcomes.append(Outcome("the model of {}".format(trace), told))
+            if {front + "rounds", front + "waits", front + "dot"} & set(names):
+                outcomes.append(Outcome("the model of the rounds of {}".format(trace), rounds_of_example(at, front, names)))
     return outcomes
+
+
+def rounds_of_example(at: str, front: str, names: List[str]) -> Optional[str]:
+    """How the model differs from what stands beside an example of its rounds, if it does."""
+    trace, told = read(at, front + "trace"), []
+    for ending, give in (("waits", model_rounds.rounds), ("dot", model_rounds.graph)):
+        if front + ending in names:
+            told.append(difference(Answer(0, give(trace, 64), b""), Answer(0, read(at, front + ending), b"")))
+    for line in read(at, front + "rounds").decode().splitlines() if front + "rounds" in names else ():
+        window, wanted = line.removeprefix("window ").split(":")
+        numbers = re.findall(r"^\d+ round=(\d+)", model_rounds.rounds(trace, int(window)).decode(), re.M)
+        told.append(None if numbers == wanted.split() else "the rounds at a window of {} are {}".format(window, " ".join(numbers)))
+    return first([it for it in told if it])
 
 
 def of_recorded(at: str, front: str) -> Optional[str]:

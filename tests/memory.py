@@ -5,7 +5,7 @@ from typing import List
 
 from harness import EXAMPLES, Job, Outcome, Program, Words, fault, first, input_of, shown, skipped, spoken
 from shims import Shim
-from traces import heavy_writes
+from traces import heavy_writes, stored_files
 
 TRACES = (
     "read_four_bytes",
@@ -25,6 +25,9 @@ WORDS_ALONE: List[Words] = [["serial", "extra"], ["run", "--workers", "65"], ["-
 # So many files are written side by side, each by so much that a worker is worth its thread.
 HEAVY = (2, 8)
 HEAVY_WRITES = "two heavy writes"
+# So many files have sums that are each worth a thread.
+STORED_FILES = "two stored files"
+MADE = {HEAVY_WRITES: heavy_writes(HEAVY[0]), STORED_FILES: stored_files(2)}
 # So many growths are each refused; of those behind them each STEP-th is.
 EACH = 300
 STEP = 7
@@ -33,9 +36,10 @@ SPARE = 6
 # The lists of the command line's words are made as large as they will be ahead of time; where that alone is refused, they
 # grow on their own. So are the lists of the lines of two reports, and of the words of each line.
 TRIED_AGAIN = 4
-# A list of many pages that is refused what it takes to share its map of them keeps it for itself, and shares page by page.
-# Heavy writes make such lists.
-KEPT_ALONE = 2
+# Some growths can be done without: a list of many pages that is refused what it takes to share its map of them keeps it for
+# itself, and shares page by page, two lists in each of these traces; and a thread that is refused memory isn't started, and
+# its sums are made where it was asked for.
+DONE_WITHOUT = {HEAVY_WRITES: 2, STORED_FILES: 4}
 
 
 def growths(count: int, spare: int) -> List[int]:
@@ -47,12 +51,12 @@ def growths(count: int, spare: int) -> List[int]:
 def swept(shim: Shim, program: Program, words: Words, trace: str, is_from: bool) -> List[Outcome]:
     """Each growth of one run refused, once or from then on: the fault is want of memory or of a thread, and nothing goes
     out. A run that met no refusal, and one with ample memory, gives the answer."""
-    given = heavy_writes(HEAVY[0]) if trace == HEAVY_WRITES else input_of(words, trace) if trace else None
+    given = MADE[trace] if trace in MADE else input_of(words, trace) if trace else None
     has_workers = bool(trace) and words[0] in ("run", "compare")
     wanted = program.run(words, given)
     ample, (count, _, _, before_read) = shim.run(program, words, given)
     lacking = [fault("memory"), *([fault("thread")] if has_workers else [])]
-    faults, refusals, tried_again, kept_alone = [], 0, 0, 0
+    faults, refusals, tried_again, done_without = [], 0, 0, 0
     if ample != wanted:
         faults.append("with ample memory: {}".format(shown(ample)))
     for at in growths(count, SPARE if has_workers else 1):
@@ -63,8 +67,8 @@ def swept(shim: Shim, program: Program, words: Words, trace: str, is_from: bool)
             continue
         if is_early and got == wanted and tried_again < TRIED_AGAIN:
             tried_again += 1
-        elif trace == HEAVY_WRITES and refused and not is_from and got == wanted and kept_alone < KEPT_ALONE:
-            kept_alone += 1
+        elif refused and not is_from and got == wanted and done_without < DONE_WITHOUT.get(trace, 0):
+            done_without += 1
         elif got not in (lacking if refused else [wanted]):
             faults.append("growth {}: {}".format(at, shown(got)))
     if not refusals:
@@ -86,6 +90,19 @@ def threads(shim: Shim, program: Program, words: Words, count: int) -> List[Outc
     return [Outcome(label, first(faults))]
 
 
+def threads_of_sums(shim: Shim, program: Program, workers: int, count: int) -> List[Outcome]:
+    """Each thread of a run that makes sums refused: the report is the same, since another thread makes them."""
+    given, words = stored_files(count), ["run", "--workers", str(workers), "--sums"]
+    wanted = program.run(words, given)
+    asked = shim.run(program, words, given)[1][2]
+    faults = [] if asked == min(workers, count) - 1 else ["{} threads were asked for".format(asked)]
+    for at in range(1, asked + 1):
+        got = shim.run(program, words, given, thread=at)[0]
+        if got != wanted:
+            faults.append("thread {}: {}".format(at, shown(got)))
+    return [Outcome("each of {} threads refused: {} {} stored files by {}".format(asked, spoken(words), count, program.compiler), first(faults))]
+
+
 def jobs(programs: List[Program]) -> List[Job]:
     shim = Shim("refuse", 4)
     lacking = shim.lacking()
@@ -97,7 +114,9 @@ def jobs(programs: List[Program]) -> List[Job]:
         made += [partial(swept, shim, whole, words, trace, is_from) for words in MODES for trace in TRACES]
         made += [partial(swept, shim, whole, words, "", is_from) for words in WORDS_ALONE]
         made.append(partial(swept, shim, whole, ["run", *ROUNDS], HEAVY_WRITES, is_from))
+        made.append(partial(swept, shim, whole, ["run", *ROUNDS, "--sums"], STORED_FILES, is_from))
     made += [partial(swept, shim, other, words, TRACES[3], False) for other in others for words in MODES]
     for words in (["run", *ROUNDS], ["compare", *ROUNDS], ["run", "--workers", "64"]):
         made += [partial(threads, shim, program, words, count) for program in programs for count in HEAVY]
+    made += [partial(threads_of_sums, shim, program, workers, 8) for program in programs for workers in (1, 2, 4, 64)]
     return made

@@ -1,10 +1,10 @@
 """What a trace gives, by docs/PROFILE.md and docs/FORMAT.md alone: a second replayer, that runs one step after another."""
 import hashlib
 import struct
-from typing import Dict, Iterator, List, NamedTuple, Optional, Tuple, Union
+from typing import Dict, Iterator, List, NamedTuple, Optional, Sequence, Tuple, Union
 
 from traces import AT_FDCWD, CLOSE, FALLOCATE, FIXED_FILE, FSYNC, FTRUNCATE, GREATEST_SIZE, HARDLINK, LINK, LINKAT, MKDIRAT, NOP, OPENAT, READ
-from traces import BUFFER_SELECT, GREATEST_BUFFER, READ_FIXED, READV, RENAMEAT, SKIP, UNLINKAT, WRITE, WRITE_FIXED, WRITEV
+from traces import BUFFER_SELECT, DRAIN, GREATEST_BUFFER, READ_FIXED, READV, RENAMEAT, SKIP, UNLINKAT, WRITE, WRITE_FIXED, WRITEV
 
 EPERM, ENOENT, EBADF, EFAULT, EEXIST, ENOTDIR, EISDIR = 1, 2, 9, 14, 17, 20, 21
 EINVAL, EMFILE, EFBIG, ENAMETOOLONG, ENOTEMPTY, EOPNOTSUPP, ECANCELED = 22, 24, 27, 36, 39, 95, 125
@@ -149,7 +149,19 @@ class Reply(NamedTuple):
     moved: int = 0
 
 
-Step = Tuple[int, Union[Entry, Fill]]
+Answer = Tuple[int, Optional[bytes]]
+Step = Union[Entry, Fill]
+
+
+class Chain:
+    """Steps of a ring that are linked, by its number; the place of the first of them, and the errors of their tests by themselves."""
+
+    def __init__(self, number: int, first: int, ring: int, steps: Sequence[Step], faults: Sequence[int] = ()) -> None:
+        self.number, self.first, self.ring, self.steps, self.faults = number, first, ring, steps, faults
+        self.is_doomed = any(faults)
+        self.is_drained = any(it.flags & DRAIN for it in steps if isinstance(it, Entry))
+        # The member that broke it.
+        self.broken: Optional[Entry] = None
 
 
 class Reader:
@@ -182,6 +194,7 @@ class World:
         rings, records = source.number("I", MOST_RINGS), source.number("I", MOST_PLACES)
         table = source.number("I", MOST_OF_TABLE if self.version == 2 else 0)
         self.nodes: Dict[int, Node] = {0: {}}
+        self.item_paths = {0: b"/"}
         for item in range(1, self.items + 1):
             self.add_item(source, item)
         self.descriptions = {it: self.description(source) for it in range(self.described)}
@@ -194,7 +207,7 @@ class World:
             for _ in range(source.number("H", 1024)):
                 self.add_buffer(source)
         self.places = 0
-        self.chains: List[List[Step]] = []
+        self.chains: List[Chain] = []
         for _ in range(records):
             self.add_record(source)
         within(source.next == len(text), "Trailing", source.next)
@@ -215,6 +228,7 @@ class World:
             raise Refused("NoParent", at) from None
         within(found is None, "Exists", at)
         number = item
+        self.item_paths[item] = path
         if kind == 1:
             self.nodes[item] = {}
         elif kind == 2:
@@ -248,19 +262,18 @@ class World:
         ring = source.field("B")
         within(ring < len(self.slots), "Reference", source.at)
         if kind == 2:
-            self.chains.append([(ring, self.fill(source, ring))])
+            self.chains.append(Chain(len(self.chains), self.places, ring, [self.fill(source, ring)]))
             self.places += 1
             return
         count = source.number("H", MOST_OF_RECORD)
         within(self.places + count <= MOST_PLACES, "Limit", source.at)
-        self.places += count
-        chain: List[Step] = []
+        members: List[Entry] = []
         for number in range(1, count + 1):
-            entry = self.entry(source)
-            chain.append((ring, entry))
-            if number == count or not entry.flags & (LINK | HARDLINK):
-                self.chains.append(chain)
-                chain = []
+            members.append(self.entry(source))
+            if number == count or not members[-1].flags & (LINK | HARDLINK):
+                self.chains.append(Chain(len(self.chains), self.places, ring, members, [fault(self.version, it) for it in members]))
+                self.places += len(members)
+                members = []
 
     def fill(self, source: Reader, ring: int) -> Fill:
         buffer = source.field("H")
@@ -313,11 +326,16 @@ class World:
 
     # Open files.
 
-    def open_file(self, ring: int, entry: Entry) -> Description:
+    def held(self, ring: int, entry: Entry) -> Optional[int]:
+        """The number of the description to which `fd` leads."""
         handles = self.slots[ring] if entry.flags & FIXED_FILE else self.table
         number = entry.fd & LAST
-        need(number < len(handles) and handles[number] is not None, EBADF)
-        return self.descriptions[handles[number]]
+        return handles[number] if number < len(handles) else None
+
+    def open_file(self, ring: int, entry: Entry) -> Description:
+        number = self.held(ring, entry)
+        need(number is not None, EBADF)
+        return self.descriptions[number]
 
     def buffer_of(self, ring: int, entry: Entry) -> Tuple[Bytes, int]:
         """The buffer of a fixed transfer, and where in it the transfer is."""
@@ -326,24 +344,36 @@ class World:
         need(held.size > 0 and address <= entry.address and entry.address + entry.length <= address + held.size, EFAULT)
         return held, entry.address - address
 
-    # Operations: each gives its result, or is Failed.
+    # Operations: each is Failed, or gives its result and its data, and changes the world only where it is asked to go on.
 
-    def run(self, place: int, ring: int, entry: Entry) -> Tuple[int, Optional[bytes]]:
-        if entry.opcode in READS:
-            return self.read(ring, entry)
-        if entry.opcode in WRITES:
-            return self.write(ring, entry), None
+    def run(self, place: int, ring: int, entry: Entry) -> Answer:
+        going = self.operation(place, ring, entry)
+        answer = next(going)
+        next(going, None)
+        return answer
+
+    def fails(self, place: int, ring: int, entry: Entry) -> bool:
+        """Whether an operation would give an error; the world stays as it is."""
+        try:
+            next(self.operation(place, ring, entry))
+        except Failed:
+            return True
+        return False
+
+    def operation(self, place: int, ring: int, entry: Entry) -> Iterator[Answer]:
         operations = {NOP: self.nothing, FSYNC: self.sync, FALLOCATE: self.allocate, FTRUNCATE: self.truncate, OPENAT: self.open_at, CLOSE: self.close,
-                      UNLINKAT: self.unlink, MKDIRAT: self.make_directory, LINKAT: self.link, RENAMEAT: self.rename}
-        return operations[entry.opcode](place, ring, entry) or 0, None
+                      UNLINKAT: self.unlink, MKDIRAT: self.make_directory, LINKAT: self.link, RENAMEAT: self.rename,
+                      **dict.fromkeys(READS, self.read), **dict.fromkeys(WRITES, self.write)}
+        return operations[entry.opcode](place, ring, entry)
 
-    def nothing(self, place: int, ring: int, entry: Entry) -> None:
-        pass
+    def nothing(self, place: int, ring: int, entry: Entry) -> Iterator[Answer]:
+        yield 0, None
 
-    def sync(self, place: int, ring: int, entry: Entry) -> None:
+    def sync(self, place: int, ring: int, entry: Entry) -> Iterator[Answer]:
         self.open_file(ring, entry)
+        yield 0, None
 
-    def read(self, ring: int, entry: Entry) -> Tuple[int, Optional[bytes]]:
+    def read(self, place: int, ring: int, entry: Entry) -> Iterator[Answer]:
         description = self.open_file(ring, entry)
         need(description.access != 1, EBADF)
         node = self.nodes[description.node]
@@ -352,33 +382,32 @@ class World:
         need(entry.offset < HALF or entry.offset == AT_POSITION, EINVAL)
         start = description.position if entry.offset == AT_POSITION else entry.offset
         moved = max(0, min(entry.asked(), node.size - start))
+        yield moved, None if target else node.get(start, min(moved, SHOWN))
         if entry.offset == AT_POSITION and moved:
             description.position = start + moved
         if target:
             target[0].copy(target[1], node, start, moved)
-            return moved, None
-        return moved, node.get(start, min(moved, SHOWN))
 
-    def write(self, ring: int, entry: Entry) -> int:
+    def write(self, place: int, ring: int, entry: Entry) -> Iterator[Answer]:
         description = self.open_file(ring, entry)
         need(description.access != 0, EBADF)
         node = self.nodes[description.node]
         source = self.buffer_of(ring, entry) if entry.opcode == WRITE_FIXED else None
         need(entry.offset < HALF or entry.offset == AT_POSITION, EINVAL)
-        if not entry.asked():
-            return 0
         start = node.size if description.append else description.position if entry.offset == AT_POSITION else entry.offset
-        need(start < GREATEST_SIZE, EFBIG)
-        moved = min(entry.asked(), GREATEST_SIZE - start)
+        need(start < GREATEST_SIZE or not entry.asked(), EFBIG)
+        moved = max(0, min(entry.asked(), GREATEST_SIZE - start))
+        yield moved, None
+        if not moved:
+            return
         if source:
             node.copy(start, source[0], source[1], moved)
         else:
             node.put(start, entry.written()[:moved])
         if entry.offset == AT_POSITION:
             description.position = start + moved
-        return moved
 
-    def allocate(self, place: int, ring: int, entry: Entry) -> None:
+    def allocate(self, place: int, ring: int, entry: Entry) -> Iterator[Answer]:
         description = self.open_file(ring, entry)
         offset, length, mode = entry.offset, entry.address, entry.length
         need(offset < HALF and 0 < length < HALF, EINVAL)
@@ -386,38 +415,38 @@ class World:
         need(description.access != 0, EBADF)
         need(offset + length <= GREATEST_SIZE, EFBIG)
         node = self.nodes[description.node]
+        yield 0, None
         if mode in (3, 0x10, 0x11):
             node.zero(offset, min(offset + length, node.size))
         if mode in (0, 0x10):
             node.resize(max(node.size, offset + length))
 
-    def truncate(self, place: int, ring: int, entry: Entry) -> None:
+    def truncate(self, place: int, ring: int, entry: Entry) -> Iterator[Answer]:
         description = self.open_file(ring, entry)
         need(entry.offset < HALF, EINVAL)
         need(description.access != 0, EINVAL)
         need(entry.offset <= GREATEST_SIZE, EFBIG)
+        yield 0, None
         self.nodes[description.node].resize(entry.offset)
 
-    def open_at(self, place: int, ring: int, entry: Entry) -> int:
+    def open_at(self, place: int, ring: int, entry: Entry) -> Iterator[Answer]:
         flags, access = entry.own_flags, entry.own_flags & 3
         handles, number = self.room(ring, entry)
         parent, name, found = self.walk_from(entry.fd, entry.side)
         node = self.items + 1 + place if found is None else found
+        is_directory = found is not None and self.is_directory(found)
+        need(found is not None or bool(flags & CREAT), ENOENT)
+        need(found is None or not (flags & CREAT and flags & EXCL), EEXIST)
+        need(not is_directory or not flags & (CREAT | TRUNC) and access == 0, EISDIR)
+        need(found is None or is_directory or not flags & A_DIRECTORY, ENOTDIR)
+        yield 0 if entry.file_index else number, None
         if found is None:
-            need(bool(flags & CREAT), ENOENT)
             self.nodes[node] = Bytes(0)
             parent[name] = node
-        else:
-            need(not (flags & CREAT and flags & EXCL), EEXIST)
-            if self.is_directory(node):
-                need(not flags & (CREAT | TRUNC) and access == 0, EISDIR)
-            else:
-                need(not flags & A_DIRECTORY, ENOTDIR)
-                if flags & TRUNC:
-                    self.nodes[node].resize(0)
+        elif flags & TRUNC:
+            self.nodes[node].resize(0)
         self.descriptions[self.described + place] = Description(node, access, flags & APPEND, 0)
         handles[number] = self.described + place
-        return 0 if entry.file_index else number
 
     def room(self, ring: int, entry: Entry) -> Tuple[List[Optional[int]], int]:
         """The slot that is asked for, or the lowest free descriptor."""
@@ -427,15 +456,16 @@ class World:
         need(None in self.table, EMFILE)
         return self.table, self.table.index(None)
 
-    def close(self, place: int, ring: int, entry: Entry) -> None:
+    def close(self, place: int, ring: int, entry: Entry) -> Iterator[Answer]:
         handles, number = self.table, entry.fd & LAST
         if entry.file_index:
             need(entry.file_index <= len(self.slots[ring]), EINVAL)
             handles, number = self.slots[ring], entry.file_index - 1
         need(number < len(handles) and handles[number] is not None, EBADF)
+        yield 0, None
         handles[number] = None
 
-    def unlink(self, place: int, ring: int, entry: Entry) -> None:
+    def unlink(self, place: int, ring: int, entry: Entry) -> Iterator[Answer]:
         parent, name, found = self.walk_from(entry.fd, entry.side)
         need(found is not None, ENOENT)
         if entry.own_flags:
@@ -443,43 +473,47 @@ class World:
             need(not self.nodes[found], ENOTEMPTY)
         else:
             need(not self.is_directory(found), EISDIR)
+        yield 0, None
         del parent[name]
 
-    def make_directory(self, place: int, ring: int, entry: Entry) -> None:
+    def make_directory(self, place: int, ring: int, entry: Entry) -> Iterator[Answer]:
         parent, name, found = self.walk_from(entry.fd, entry.side)
         need(found is None, EEXIST)
+        yield 0, None
         self.nodes[self.items + 1 + place] = {}
         parent[name] = self.items + 1 + place
 
-    def link(self, place: int, ring: int, entry: Entry) -> None:
+    def link(self, place: int, ring: int, entry: Entry) -> Iterator[Answer]:
         (_, _, old), (parent, name, new) = self.both_walks(entry)
         need(old is not None, ENOENT)
         need(new is None, EEXIST)
         need(not self.is_directory(old), EPERM)
+        yield 0, None
         parent[name] = old
 
     def both_walks(self, entry: Entry) -> List[Tuple[Dict[bytes, int], bytes, Optional[int]]]:
         new_directory = entry.length - (1 << 32) if entry.length >> 31 else entry.length
         return [self.walk_from(fd, path) for fd, path in zip((entry.fd, new_directory), entry.paths())]
 
-    def rename(self, place: int, ring: int, entry: Entry) -> None:
+    def rename(self, place: int, ring: int, entry: Entry) -> Iterator[Answer]:
         (from_parent, from_name, old), (parent, name, new) = self.both_walks(entry)
         need(old is not None, ENOENT)
         if entry.own_flags == 2:
             need(new is not None, ENOENT)
             need(not self.is_above(old, parent) and not self.is_above(new, from_parent), EINVAL)
+            yield 0, None
             from_parent[from_name], parent[name] = new, old
             return
         need(new is None or entry.own_flags != 1, EEXIST)
         need(not self.is_above(old, parent), EINVAL)
-        if old == new:
-            return
-        if new is not None:
+        if new is not None and new != old:
             need(not self.is_directory(old) or self.is_directory(new), ENOTDIR)
             need(self.is_directory(old) or not self.is_directory(new), EISDIR)
             need(not self.is_directory(old) or not self.nodes[new], ENOTEMPTY)
-        del from_parent[from_name]
-        parent[name] = old
+        yield 0, None
+        if old != new:
+            del from_parent[from_name]
+            parent[name] = old
 
     # The report.
 
@@ -490,8 +524,7 @@ class World:
                 yield from self.paths(node, above + b"/" + name)
 
     def tree_line(self, path: bytes, number: int, has_sums: bool) -> str:
-        shown = "".join(chr(it) if 0x21 <= it <= 0x7E and it != 0x5C else "\\x{:02x}".format(it) for it in path)
-        node = self.nodes[number]
+        shown, node = visible(path), self.nodes[number]
         if isinstance(node, dict):
             return "dir {}".format(shown)
         line = "file {} node={} size={}".format(shown, number, node.size)
@@ -545,44 +578,42 @@ def test(version: int, entry: Entry) -> None:
         need(not path.endswith(b"/") and not {b".", b".."} & set(path.split(b"/")), EINVAL)
 
 
-def run_chain(world: World, first: int, chain: List[Step]) -> Iterator[Reply]:
-    """The replies of a chain's members, of which the first has this place."""
-    entries = [entry for _, entry in chain]
-    faults = [fault(world.version, it) for it in entries]
-    if any(faults):
-        for at, errno in enumerate(faults):
-            yield Reply(-(errno or ECANCELED), at == 0 or not entries[0].flags & SKIP)
-        return
-    broken: Optional[Entry] = None
-    for at, (ring, entry) in enumerate(chain):
-        if broken:
-            yield Reply(-ECANCELED, not broken.flags & SKIP)
-            continue
-        try:
-            result, data = world.run(first + at, ring, entry)
-        except Failed as failed:
-            result, data = -failed.errno, None
-        has_failed = result != entry.asked() if entry.opcode in (*READS, *WRITES) else result < 0
-        if has_failed and not entry.flags & HARDLINK and at + 1 < len(chain):
-            broken = entry
-        yield Reply(result, has_failed or not entry.flags & SKIP, data, max(result, 0))
+def run_step(world: World, chain: Chain, at: int) -> Reply:
+    """Runs a step of a chain of which those before it have run."""
+    step = chain.steps[at]
+    if isinstance(step, Fill):
+        world.buffers[chain.ring][step.buffer][1].put(step.offset, step.data)
+        return Reply(0, False)
+    if chain.is_doomed:
+        return Reply(-(chain.faults[at] or ECANCELED), at == 0 or not chain.steps[0].flags & SKIP)
+    if chain.broken:
+        return Reply(-ECANCELED, not chain.broken.flags & SKIP)
+    try:
+        result, data = world.run(chain.first + at, chain.ring, step)
+    except Failed as failed:
+        result, data = -failed.errno, None
+    has_failed = result != step.asked() if step.opcode in (*READS, *WRITES) else result < 0
+    if has_failed and not step.flags & HARDLINK and at + 1 < len(chain.steps):
+        chain.broken = step
+    return Reply(result, has_failed or not step.flags & SKIP, data, max(result, 0))
+
+
+def visible(text: bytes) -> str:
+    """The bytes of a path or a name, with others than visible characters as numbers."""
+    return "".join(chr(it) if 0x21 <= it <= 0x7E and it != 0x5C else "\\x{:02x}".format(it) for it in text)
 
 
 def report(text: bytes, has_sums: bool = True) -> bytes:
     """The report of a trace; or it is Refused."""
     world = World(text)
     lines: List[List[str]] = [[] for _ in world.slots]
-    place = 0
     for chain in world.chains:
-        ring, step = chain[0]
-        if isinstance(step, Fill):
-            world.buffers[ring][step.buffer][1].put(step.offset, step.data)
-            place += 1
-            continue
-        for (_, entry), reply in zip(chain, list(run_chain(world, place, chain))):
-            shown = " data={}{}".format(reply.data.hex(), "+" if reply.moved > SHOWN else "") if reply.data else ""
-            lines[ring].append("{} user={} res={} {}{}".format(place, entry.user_data, reply.result, "posted" if reply.posted else "silent", shown))
-            place += 1
+        for at, step in enumerate(chain.steps):
+            reply = run_step(world, chain, at)
+            if isinstance(step, Entry):
+                shown = " data={}{}".format(reply.data.hex(), "+" if reply.moved > SHOWN else "") if reply.data else ""
+                posted = "posted" if reply.posted else "silent"
+                lines[chain.ring].append("{} user={} res={} {}{}".format(chain.first + at, step.user_data, reply.result, posted, shown))
     whole = ["uring-report 1"]
     for ring, its in enumerate(lines):
         whole += ["ring {}".format(ring), *its]

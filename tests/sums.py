@@ -1,5 +1,6 @@
 """Sums of much in few bytes: of a file with many names, and of files and buffers of zeros. Each is hashed once, which the
-processor time shows, beside that of one file or buffer alone. The sums that are wanted are those of hashlib."""
+processor time shows, beside that of one file or buffer alone. And sums of stored bytes, on several threads. The sums that are
+wanted are those of hashlib."""
 import hashlib
 import os
 import subprocess
@@ -109,5 +110,28 @@ def hashed_once(program: Program, work: Work) -> List[Outcome]:
     return outcomes
 
 
+def pattern(size: int, first: int) -> bytes:
+    """So many bytes that repeat each 251, from one of them on."""
+    return (bytes((first + at) % 251 for at in range(251)) * (size // 251 + 1))[:size]
+
+
+def on_threads(program: Program) -> List[Outcome]:
+    """Files and buffers of uneven lengths, some of them zeros: the sums are the same on any number of threads."""
+    sizes = [0, 1, 4_096, 100_000, 131_071, 131_072, 400_000, 1 << 20, 3 << 20, SIZE, SIZE + 1]
+    stored = [pattern(size, at) if at % 4 != 3 else b"" for at, size in enumerate(sizes)]
+    filled = [pattern(size, 100 + at) if at % 3 != 2 else bytes(size) for at, size in enumerate((5, 5_000, 300_000, 600_000, 2_000_000))]
+    items = b"".join(traces.file(b"/%02d" % at, size, stored[at]) for at, size in enumerate(sizes))
+    ring = traces.ring([], [(at << 32, len(data)) for at, data in enumerate(filled)])
+    fills = [traces.fill(0, at, 0, data) for at, data in enumerate(filled)]
+    sums = [hashlib.sha256(data.ljust(size, b"\0")).hexdigest().encode() if size <= SIZE else b"large" for size, data in zip(sizes, stored)]
+    files = [b"file /%02d node=%d size=%d sum=%s" % (at, at + 1, size, sums[at]) for at, size in enumerate(sizes)]
+    buffers = [b"buffer 0 %d len=%d sum=%s" % (at, len(data), hashlib.sha256(data).hexdigest().encode()) for at, data in enumerate(filled)]
+    trace = traces.head(len(sizes), 0, 1, len(fills)) + items + ring + b"".join(fills)
+    wanted = Answer(0, report(files, 1, buffers), b"")
+    words = [["serial", "--sums"], *(["run", "--workers", str(workers), "--sums"] for workers in (1, 2, 3, 4, 64))]
+    return [Outcome("sums of uneven lengths: {} by {}".format(" ".join(it), program.compiler), difference(program.run(it, trace), wanted)) for it in words]
+
+
 def jobs(programs: List[Program]) -> List[Job]:
-    return [partial(hashed_once, program, work) for work in works() for program in programs]
+    alone = [partial(hashed_once, program, work) for work in works() for program in programs]
+    return [*alone, *(partial(on_threads, program) for program in programs)]

@@ -254,3 +254,8 @@ def heavy_writes(count: int, size: int = 1 << 23) -> bytes:
     world = b"".join(file(b"/%d" % it) for it in range(count)) + b"".join(description(it + 1) for it in range(count))
     written = enter(0, [entry(WRITE, FIXED_FILE, it, 0, size, bytes([it]) * size) for it in range(count)])
     return head(count, count, 1, 1) + world + ring(range(1, count + 1)) + written
+
+
+def stored_files(count: int, size: int = 1 << 18) -> bytes:
+    """Files of so many bytes, none of them zeros, that the sum of each is worth a thread."""
+    return head(count) + b"".join(file(b"/%d" % it, size, bytes([it + 1]) * size) for it in range(count))

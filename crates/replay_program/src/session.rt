@@ -26,7 +26,7 @@ use replay_core::parallel::replay;
 use replay_core::quick::replay_quick;
 use replay_core::round_log::log_rounds;
 use replay_core::{NoGate, Replay, ReplayFault, Verdict, replay_serial};
-use replay_report::{check_text, report_text};
+use replay_report::{check_text, report_text, report_text_on};
 use round_report::{graph_text, rounds_text};
 use std::alloc::{AllocError, Global};
 use std::sync::Wait;
@@ -165,7 +165,29 @@ fn parallel_report<T: Threads + Wait + Sync>(
     ensures err { IfErr result WantsMemoryOrThread }
 {
     let replay = replay_quick(rt, alloc, trace, workers, window)?;
-    report(alloc, trace, &replay, sums)
+    report_on(rt, alloc, trace, &replay, sums, workers)
+}
+
+/// The report of what the run in recorded order gives, whose sums are made on up to so many threads.
+fn report_on<T: Threads + Sync>(
+    rt: &T,
+    alloc: Global,
+    trace: &Trace,
+    replay: &Replay,
+    sums: bool,
+    workers: u32,
+) -> Result<Vec<u8>, ReplayFault>
+    requires trace { IsSpelled trace.now }
+    requires world { replay.now.world ≡ whole (sequential_world trace.now) }
+    requires replies { replay.now.replies ≡ sequential_replies trace.now }
+    ensures ok { IfOk result (λ text. text.items ≡ sequential_report trace.now sums) }
+    ensures err { IfErr result (λ fault. fault ≡ ReplayFault.Memory) }
+{
+    let state = replay.world.state();
+    match report_text_on(rt, alloc, trace, state, &replay.replies, sums, workers) {
+        Ok(text) => Ok(text),
+        Err(AllocError) => Err(ReplayFault::Memory),
+    }
 }
 
 /// The verdict of a comparison of both runs.

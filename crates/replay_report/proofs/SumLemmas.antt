@@ -1,7 +1,7 @@
 -- Bytes that are summed a piece at a time, zeros, sums that are known, and the buffers that an image shows.
-use Rattle.std.proofs.Common.{◌≡◌, ℕ, zero, suc, ◌+◌, ◌-◌, ◌<◌, ◌≤◌, List, [], ◌∷◌, ◌++◌, All, length, take, get_or, refl, sym, ap, subst, ◌∙◌, arith, Option, Some, T, cond}
+use Rattle.std.proofs.Common.{◌≡◌, ℕ, zero, suc, ◌+◌, ◌-◌, ◌<◌, ◌≤◌, List, [], ◌∷◌, ◌++◌, All, length, map, take, get_or, refl, sym, ap, subst, ◌∙◌, arith, Option, Some, T, cond, ⊎_elim}
 use Rattle.std.proofs.lemmas.List.{append-nil, append_assoc, take_more, take-append-drop, drop-take, take-take, take_all}
-use Rattle.std.proofs.lemmas.List.Elements.{All-cons, All-contains, All-contains_itself, All-head, All-map, All-nil, All-push, All-tail, All-weaker, Contains-append_left, Contains-append_right, Contains-push, filter_map-append}
+use Rattle.std.proofs.lemmas.List.Elements.{All-append, All-cons, All-contains, All-contains_itself, All-head, All-map, All-nil, All-push, All-tail, All-weaker, Contains-append_cases, Contains-append_left, Contains-append_right, Contains-get_or, Contains-push, filter_map-append}
 use Rattle.std.proofs.lemmas.Map.Lookups.{CmpEqualImpliesEq, exact_pairs, exact_unsigned}
 use Rattle.std.proofs.lemmas.Map.Views.{All-insert_key}
 use Rattle.std.specs.BTreeMap.{insert_entry}
@@ -119,3 +119,34 @@ pub files_grown : {X K : Type 0} (old : List K) (h : X → Option K) (xs : List 
     → old ++ filter_map h (take (i + 1) xs) ≡ old ++ filter_map h (take i xs) ++ cons_option (h (get_or xs i d)) []
 files_grown old h xs i d lt = rw (take_more xs i d lt, filter_map-append h (take i xs) (get_or xs i d ∷ []))
     (sym (append_assoc old (filter_map h (take i xs)) (cons_option (h (get_or xs i d)) [])))
+
+module _ {X Y : Type 0} (f : X → Y) where
+  -- what an element gives is among what a list with it gives
+  given : (xs : List X) → All (λ x. Contains (map f xs) (f x)) xs
+  given [] = All-nil _
+  given (x ∷ xs) =
+      let P : X → Type 0 = λ y. Contains (f x ∷ map f xs) (f y) in
+      All-cons P x xs (Contains-get_or (f x ∷ map f xs) 0 (f x) (omega arith)) (All-weaker _ P (λ y c. Contains-append_right (f x ∷ []) (map f xs) (f y) c) xs (given xs))
+
+  -- what is among some gives what is among what these give
+  among_given : (xs ys : List X) → All (Contains ys) xs → All (Contains (map f ys)) (map f xs)
+  among_given xs ys all =
+      let P : X → Type 0 = λ x. Contains (map f ys) (f x) in
+      All-map (Contains (map f ys)) f xs (All-weaker (Contains ys) P (λ x c. All-contains P ys x (given ys) c) xs all)
+
+  -- lists with the same elements give the same
+  pub same_given : (xs ys : List X) → HaveSame xs ys → HaveSame (map f xs) (map f ys)
+  same_given xs ys h = (among_given xs ys h.0, among_given ys xs h.1)
+
+-- a list in front of others may be put in place of one with the same elements
+pub same_ahead : {K : Type 0} (ks old fs bs : List K) → HaveSame ks (old ++ bs) → HaveSame old fs → HaveSame ks (fs ++ bs)
+same_ahead {K} ks old fs bs h same =
+    let among : (x : K) → Contains (old ++ bs) x → Contains ks x = λ x c. All-contains (Contains ks) (old ++ bs) x h.1 c in (
+      All-weaker (Contains (old ++ bs)) (Contains (fs ++ bs)) (λ x c. ⊎_elim
+          (λ front. Contains-append_left fs bs x (All-contains (Contains fs) old x same.0 front))
+          (λ back. Contains-append_right fs bs x back)
+          (Contains-append_cases old bs x c)) ks h.0,
+      All-append (Contains ks) fs bs
+          (All-weaker (Contains old) (Contains ks) (λ x c. among x (Contains-append_left old bs x c)) fs same.1)
+          (All-weaker (Contains bs) (Contains ks) (λ x c. among x (Contains-append_right old bs x c)) bs (All-contains_itself bs)),
+    )

@@ -3,6 +3,7 @@
 //! `specs/Report.antt` has the text of a report; `specs/Sums.antt` what is summed.
 #![tactic(auto)]
 
+mod dealing;
 mod entries;
 mod entry_line;
 mod escaping;
@@ -13,4 +14,4 @@ mod world_lines;
 mod zeros;
 
 pub use escaping::escaped;
-pub use report::{check_text, report_text};
+pub use report::{check_text, report_text, report_text_on};

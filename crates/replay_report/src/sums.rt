@@ -1,18 +1,20 @@
 //! The SHA-256 sums of what a world holds.
-ghost use Rattle.std.specs.Prelude.{◌≡◌, ◌≤◌, [], IfOk, IfSome, IsSome, IsTrue, OnOk, Some, length};
-ghost use Rattle.std.specs.Prelude.{◌++◌, replicate, unwrap_or};
+ghost use Rattle.std.specs.Prelude.{◌≡◌, ◌≤◌, [], All, IfOk, IfSome, IsSome, IsTrue, OnOk, Some, length};
+ghost use Rattle.std.specs.Prelude.{◌++◌, map, replicate, unwrap_or};
 ghost use Rattle.std.specs.List.{filter_map, flat_map};
 ghost use Rattle.std.specs.Option.{option_map};
 ghost use Rattle.extent_bytes.specs.Bytes.{range_of};
 ghost use Rattle.sha2.specs.Sha256.{sha256};
-ghost use Rattle.replay_report.specs.Sums.{AreSumsOf, HaveSame, buffer_to_sum, file_to_sum, held};
+ghost use Rattle.replay_report.specs.Sums.{AreSumsOf, HaveSame, IsSum, buffer_to_sum, file_to_sum};
+ghost use Rattle.replay_report.specs.Sums.{held, shown};
+ghost use Rattle.world_parts.specs.World.{World};
 
 use crate::zeros::Zeros;
 use extent_bytes::{Extents, MAX_LEN, ReadBytes};
 use sha2::{Digest, Sha256};
 use std::alloc::{AllocError, Global};
 use std::collections::{BTreeMap, BTreeSet};
-use world_parts::{BufferEntry, NameEntry, State};
+use world_parts::{BufferEntry, Image, NameEntry, State};
 
 /// The most bytes of a file whose sum is told.
 pub const MOST_SUMMED: u64 = 16_777_216;
@@ -27,77 +29,83 @@ pub enum Holder {
     Buffer { ring: u8, index: u32 },
 }
 
-/// The sums that are made before the report is written: those of the files, each made once however
-/// many names the file has, and those of all zeros, made in one pass.
+/// A file or a buffer, and the sum of its bytes.
+#[derive(Clone, Copy, Drop)]
+pub struct Summed {
+    pub holder: Holder,
+    pub sum: [u8; 32],
+}
+
+/// The sums of these files and buffers, of all that are there. In the order of their lengths those of
+/// zeros take one pass, over the longest.
+///
+/// # Errors
+///
+/// Want of memory.
+pub fn sums_of(alloc: Global, world: &State, holders: &[Holder]) -> Result<Vec<Summed>, AllocError>
+    ensures { IfOk result (λ made. All (IsSum world.now) made.items) }
+{
+    let mut made = Vec::new(alloc);
+    let mut zeros = Zeros::new();
+    for holder in holders {
+        if let Some(len) = len_of(world, *holder) {
+            let sum = sum_with(alloc, world, *holder, len, &mut zeros)?;
+            made.push(Summed {
+                holder: *holder,
+                sum,
+            })?;
+        }
+    }
+    Ok(made)
+}
+
+/// The sum of the bytes of a file or a buffer, `len` of them, with the help of a hasher of zeros.
+fn sum_with(
+    alloc: Global,
+    world: &State,
+    holder: Holder,
+    len: u64,
+    zeros: &mut Zeros,
+) -> Result<[u8; 32], AllocError>
+    requires { option_map length (held world.now holder) ≡ Some len }
+    ensures { IfOk result (λ sum. sum ≡ sha256 (unwrap_or (held world.now holder) [])) }
+{
+    if is_blank(alloc, world, holder, len)? {
+        zeros.sum(len)
+    } else {
+        sum_of(alloc, world, holder, len)
+    }
+}
+
+/// Sums that are made before the report is written: each once, however many names a file has.
 #[derive(Drop)]
 pub struct Sums {
     known: BTreeMap<Holder, [u8; 32]>,
 }
 
 impl Sums {
-    /// The sums of files and buffers that a report shows.
+    /// No sums.
+    pub fn none(alloc: Global) -> Self
+        ensures { (world : World) → AreSumsOf world result }
+    {
+        Sums {
+            known: BTreeMap::new(alloc),
+        }
+    }
+
+    /// Adds sums.
     ///
     /// # Errors
     ///
     /// Want of memory.
-    pub fn of(
-        alloc: Global,
-        world: &State,
-        names: &[NameEntry],
-        buffers: &[BufferEntry],
-    ) -> Result<Self, AllocError>
-        ensures { IfOk result (AreSumsOf world.now) }
+    pub fn add(&mut self, made: &[Summed]) -> Result<(), AllocError>
+        ensures { OnOk result ((world : World) → AreSumsOf world self.old
+            → All (IsSum world) made.now → AreSumsOf world self.new) }
     {
-        let mut shown = Box::new(alloc, BTreeSet::new(alloc))?;
-        add_files(&mut shown, names)?;
-        add_buffers(&mut shown, buffers)?;
-        let mut sums = Sums {
-            known: BTreeMap::new(alloc),
-        };
-        sums.add_all(alloc, world, &shown)?;
-        Ok(sums)
-    }
-
-    /// Adds the sums of files and buffers, from the shortest on.
-    fn add_all(
-        &mut self,
-        alloc: Global,
-        world: &State,
-        shown: &BTreeSet<(u64, Holder)>,
-    ) -> Result<(), AllocError>
-        requires { AreSumsOf world.now self.old }
-        ensures { OnOk result (AreSumsOf world.now self.new) }
-    {
-        let mut zeros = Zeros::new();
-        for (_, holder) in shown {
-            self.add(alloc, world, *holder, &mut zeros)?;
+        for summed in made {
+            let Summed { holder, sum } = *summed;
+            self.known.insert(holder, sum)?;
         }
-        Ok(())
-    }
-
-    /// Adds the sum of a file, or of a buffer of zeros. Any other buffer is summed where it is
-    /// told, which is once.
-    fn add(
-        &mut self,
-        alloc: Global,
-        world: &State,
-        holder: Holder,
-        zeros: &mut Zeros,
-    ) -> Result<(), AllocError>
-        requires { AreSumsOf world.now self.old }
-        ensures { OnOk result (AreSumsOf world.now self.new) }
-    {
-        let Some(len) = len_of(world, holder) else {
-            return Ok(());
-        };
-        let sum = if is_blank(alloc, world, holder, len)? {
-            zeros.sum(len)?
-        } else if matches!(holder, Holder::File { .. }) {
-            sum_of(alloc, world, holder, len)?
-        } else {
-            return Ok(());
-        };
-        self.known.insert(holder, sum)?;
         Ok(())
     }
 
@@ -162,8 +170,41 @@ fn add_buffers(
     Ok(())
 }
 
+/// Adds the files and buffers that an image shows with a sum, each behind its length.
+fn add_shown(set: &mut BTreeSet<(u64, Holder)>, image: &Image) -> Result<(), AllocError>
+    requires { set.old.keys ≡ [] }
+    ensures { OnOk result (HaveSame set.new.keys (shown image.now)) }
+{
+    add_files(set, image.names.as_slice())?;
+    add_buffers(set, image.buffers.as_slice())
+}
+
+/// Files and buffers without their lengths, from the shortest on.
+fn by_length(alloc: Global, set: &BTreeSet<(u64, Holder)>) -> Result<Vec<Holder>, AllocError>
+    ensures { IfOk result (λ holders. holders.items ≡ map (λ it. it.1) set.now.keys) }
+{
+    let mut holders = Vec::new(alloc);
+    for (_, holder) in set.iter() {
+        holders.push(*holder)?;
+    }
+    Ok(holders)
+}
+
+/// The files and buffers that an image shows with a sum, from the shortest on.
+///
+/// # Errors
+///
+/// Want of memory.
+pub fn holders_of(alloc: Global, image: &Image) -> Result<Vec<Holder>, AllocError>
+    ensures { IfOk result (λ holders. HaveSame holders.items (map (λ it. it.1) (shown image.now))) }
+{
+    let mut set = BTreeSet::new(alloc);
+    add_shown(&mut set, image)?;
+    by_length(alloc, &set)
+}
+
 /// How many bytes a file or a buffer has.
-fn len_of(world: &State, holder: Holder) -> Option<u64>
+pub fn len_of(world: &State, holder: Holder) -> Option<u64>
     ensures { result ≡ option_map length (held world.now holder) }
 {
     match holder {
@@ -173,7 +214,7 @@ fn len_of(world: &State, holder: Holder) -> Option<u64>
 }
 
 /// Whether the bytes of a file or a buffer, `len` of them, are all zeros.
-fn is_blank(alloc: Global, world: &State, holder: Holder, len: u64) -> Result<bool, AllocError>
+pub fn is_blank(alloc: Global, world: &State, holder: Holder, len: u64) -> Result<bool, AllocError>
     requires { option_map length (held world.now holder) ≡ Some len }
     ensures { IfOk result (λ blank. IsTrue blank
         → unwrap_or (held world.now holder) [] ≡ replicate len 0) }
@@ -236,12 +277,7 @@ fn is_blank_buffer(
 /// # Errors
 ///
 /// Want of memory.
-pub fn sum_of(
-    alloc: Global,
-    world: &State,
-    holder: Holder,
-    len: u64,
-) -> Result<[u8; 32], AllocError>
+fn sum_of(alloc: Global, world: &State, holder: Holder, len: u64) -> Result<[u8; 32], AllocError>
     requires { option_map length (held world.now holder) ≡ Some len }
     ensures { IfOk result (λ sum. sum ≡ sha256 (unwrap_or (held world.now holder) [])) }
 {

@@ -1,6 +1,6 @@
 //! The lines of what the world shows at the end.
 ghost use Rattle.std.specs.Prelude.{◌≡◌, ◌++◌, All, IfSome, OnOk, Some, [], is_some, length};
-ghost use Rattle.std.specs.Prelude.{codes, string_bytes, true, unwrap_or};
+ghost use Rattle.std.specs.Prelude.{codes, string_bytes, unwrap_or};
 ghost use Rattle.std.specs.Fmt.{decimal};
 ghost use Rattle.std.specs.List.{flat_map};
 ghost use Rattle.std.specs.Option.{option_map};
@@ -18,53 +18,26 @@ use crate::sums::{Holder, MOST_SUMMED, Sums};
 use std::alloc::{AllocError, Global};
 use world_parts::{BufferEntry, DescriptorEntry, Image, NameEntry, SlotEntry, State};
 
-/// The lines of what the world shows, which are made apart.
+/// The lines of what the world shows, which are made apart, with the sums that were made ahead where
+/// they are asked for.
 pub(crate) fn push_world(
     alloc: Global,
     text: &mut Vec<u8>,
     world: &State,
-    sums: bool,
+    image: &Image,
+    sums: Option<&Sums>,
 ) -> Result<(), AllocError>
-    ensures { OnOk result (text.new.items ≡ text.old.items ++ world_lines world.now sums) }
+    requires image { image.now ≡ image_of world.now }
+    requires sums { IfSome sums (λ s. AreSumsOf world.now s.now) }
+    ensures { OnOk result (text.new.items
+        ≡ text.old.items ++ world_lines world.now (is_some sums.entry)) }
 {
     let mut lines = String::new(alloc);
-    push_lines(alloc, &mut lines, world, sums)?;
+    push_image(alloc, &mut lines, world, image, sums)?;
     text.extend_from_slice(lines.as_bytes())
 }
 
-fn push_lines(alloc: Global, text: &mut String, world: &State, sums: bool) -> Result<(), AllocError>
-    ensures { OnOk result (string_bytes text.new
-        ≡ string_bytes text.old ++ world_lines world.now sums) }
-{
-    let image = Box::new(alloc, world.image(alloc)?)?;
-    if sums {
-        push_summed(alloc, text, world, &image)
-    } else {
-        push_image(alloc, text, world, &image, None)
-    }
-}
-
-/// The lines of the image of a world, with sums.
-fn push_summed(
-    alloc: Global,
-    text: &mut String,
-    world: &State,
-    image: &Image,
-) -> Result<(), AllocError>
-    requires { image.now ≡ image_of world.now }
-    ensures { OnOk result (string_bytes text.new
-        ≡ string_bytes text.old ++ world_lines world.now true) }
-{
-    let made = Sums::of(
-        alloc,
-        world,
-        image.names.as_slice(),
-        image.buffers.as_slice(),
-    )?;
-    push_image(alloc, text, world, image, Some(&made))
-}
-
-/// The lines of the image of a world, with the sums that were made ahead where they are asked for.
+/// The lines of the image of a world.
 #[tactic(auto, using(crate::proofs::ReportLemmas::image_is_sized, crate::proofs::SumLemmas::image_is_long))]
 fn push_image(
     alloc: Global,
