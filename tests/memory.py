@@ -5,7 +5,7 @@ from typing import List
 
 from harness import EXAMPLES, Job, Outcome, Program, Words, fault, first, input_of, shown, skipped, spoken
 from shims import Shim
-from traces import heavy_writes, stored_files
+from traces import heavy_writes, long_reads, stored_files
 
 TRACES = (
     "read_four_bytes",
@@ -90,17 +90,16 @@ def threads(shim: Shim, program: Program, words: Words, count: int) -> List[Outc
     return [Outcome(label, first(faults))]
 
 
-def threads_of_sums(shim: Shim, program: Program, workers: int, count: int) -> List[Outcome]:
-    """Each thread of a run that makes sums refused: the report is the same, since another thread makes them."""
-    given, words = stored_files(count), ["run", "--workers", str(workers), "--sums"]
+def threads_done_without(shim: Shim, program: Program, words: Words, what: str, given: bytes, most: int) -> List[Outcome]:
+    """Each thread of a run refused whose work another thread does then: the answer is the same."""
     wanted = program.run(words, given)
     asked = shim.run(program, words, given)[1][2]
-    faults = [] if asked == min(workers, count) - 1 else ["{} threads were asked for".format(asked)]
+    faults = [] if asked == most else ["{} threads were asked for, and not {}".format(asked, most)]
     for at in range(1, asked + 1):
         got = shim.run(program, words, given, thread=at)[0]
         if got != wanted:
             faults.append("thread {}: {}".format(at, shown(got)))
-    return [Outcome("each of {} threads refused: {} {} stored files by {}".format(asked, spoken(words), count, program.compiler), first(faults))]
+    return [Outcome("each of {} threads refused: {} {} by {}".format(asked, spoken(words), what, program.compiler), first(faults))]
 
 
 def jobs(programs: List[Program]) -> List[Job]:
@@ -118,5 +117,9 @@ def jobs(programs: List[Program]) -> List[Job]:
     made += [partial(swept, shim, other, words, TRACES[3], False) for other in others for words in MODES]
     for words in (["run", *ROUNDS], ["compare", *ROUNDS], ["run", "--workers", "64"]):
         made += [partial(threads, shim, program, words, count) for program in programs for count in HEAVY]
-    made += [partial(threads_of_sums, shim, program, workers, 8) for program in programs for workers in (1, 2, 4, 64)]
+    files, reads = stored_files(8), long_reads(64)
+    for workers in (1, 2, 4, 64):
+        pair = ["--workers", str(workers)]
+        made += [partial(threads_done_without, shim, it, ["run", *pair, "--sums"], "8 stored files", files, min(workers, 8) - 1) for it in programs]
+        made += [partial(threads_done_without, shim, it, ["compare", *pair], "64 long reads", reads, min(workers, 16) - 1) for it in programs]
     return made

@@ -259,3 +259,9 @@ def heavy_writes(count: int, size: int = 1 << 23) -> bytes:
 def stored_files(count: int, size: int = 1 << 18) -> bytes:
     """Files of so many bytes, none of them zeros, that the sum of each is worth a thread."""
     return head(count) + b"".join(file(b"/%d" % it, size, bytes([it + 1]) * size) for it in range(count))
+
+
+def long_reads(count: int, size: int = 1 << 20) -> bytes:
+    """Reads of all of a file, of which each four are worth a thread when they are compared."""
+    world = file(b"/a", size, bytes(range(1, 252)) * (size // 251)) + description(1)
+    return head(1, 1, 1, 1) + world + ring([1]) + enter(0, [entry(READ, FIXED_FILE, length=size)] * count)

@@ -1,4 +1,5 @@
 pub mod Lists
+pub mod Differences
 pub mod Choosing
 pub mod Cutting
 pub mod Returning

@@ -21,7 +21,7 @@ ghost use Rattle.replay_program.specs.Limits.{IsServed, IsWindow};
 use crate::fault::RunFault;
 use crate::transfer::{Sink, Source, TextFault, read_text, write_text};
 use crate::words::{Mode, Options};
-use replay_core::comparing::verdict;
+use replay_core::comparing::verdict_on;
 use replay_core::parallel::replay;
 use replay_core::quick::replay_quick;
 use replay_core::round_log::log_rounds;
@@ -245,7 +245,10 @@ fn compared_with<T: Threads + Wait + Sync>(
     ensures err { IfErr result WantsMemoryOrThread }
 {
     let parallel = boxed_replay(rt, alloc, trace, workers, window)?;
-    Ok(verdict(serial, &parallel))
+    match verdict_on(rt, alloc, serial, &parallel, workers) {
+        Ok(verdict) => Ok(verdict),
+        Err(AllocError) => Err(ReplayFault::Memory),
+    }
 }
 
 /// The run in rounds, in a box, which is let go in one step.

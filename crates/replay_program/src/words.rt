@@ -300,7 +300,7 @@ fn workers_option<'a>(alloc: Global) -> Arg<'a>
         .value_name("N")
         .value_parser(value_parser!(u32).range(1..=64))
         .default_value("4")
-        .help("The most threads of a round, 1 to 64")
+        .help("The most threads at a time, 1 to 64")
 }
 
 fn window_option<'a>(alloc: Global) -> Arg<'a>
