@@ -1,5 +1,5 @@
 use Rattle.std.proofs.Common.{◌≡◌, take}
-use Rattle.replay_core.specs.Comparing.{start_of}
+use Rattle.replay_core.specs.Differences.{start_of}
 use Rattle.replay_core.proofs.comparing.first_of.Given as goal
 
 abbrev pub invariant-loop-number : goal.invariant-loop-number
