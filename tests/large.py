@@ -43,6 +43,9 @@ LITTLE, MOST_LITTLE = 200_000, 2.5
 MOST_MEMORY = 2.9
 # How much memory, in kilobytes, transfers of zeros may take, however long they are; 40,000 are enough.
 ZEROS_MEMORY = 100_000
+# How often all of a file is read and a byte of it written then, or all of it read but its start, how many pages the file has, and
+# how much memory, in kilobytes, that may take; 60,000 are enough. With a copy of the list of pages each time it was 210,000 to 620,000.
+TIMES, PAGES, LISTS_MEMORY = 4_096, 4_096, 110_000
 # How many bytes of memory bytes that a file begins with, that are written and that fill a buffer may take for each byte of the
 # text that has them, which is 1.4, room to grow included: they share it. With a copy of each it was 2.4, and 3.5 for `compare`.
 MOST_BESIDE = 1.8
@@ -222,6 +225,32 @@ def long_transfers(program: Program) -> List[Outcome]:
     return outcomes
 
 
+def of_shared_lists() -> List[Tuple[str, bytes, bytes, int]]:
+    """Traces of files of many pages, side by side or far apart, of which all is read and a byte written, or all but the start is read:
+    what each is, the end of the line of some entries, and how many have it."""
+    size, apart = PAGES << 12, 1 << 20
+    stored = head(1, 1, 1, 1) + file(b"/a", size, os.urandom(size)) + description(1) + ring([1])
+    sparse = head(1, 1, 1, 1) + file(b"/a", GREATEST_SIZE) + description(1) + ring([1])
+    far = [entry(WRITE, FIXED_FILE, offset=it * apart, length=1, side=b"x") for it in range(PAGES)]
+    traces = []
+    for what, world, length, step, before in (("side by side", stored, size, 4096, []), ("far apart", sparse, (1 << 32) - 1, apart, far)):
+        pairs = ((entry(READ, FIXED_FILE, length=length), entry(WRITE, FIXED_FILE, offset=it * 37 % PAGES * step, length=1, side=b"y")) for it in range(TIMES))
+        entries = before + [it for pair in pairs for it in pair]
+        traces.append(("changes of pages {} that were read".format(what), world + enter(0, entries), b" res=1 posted", len(before) + TIMES))
+    parts = enter(0, [entry(READ, FIXED_FILE, offset=5000, length=size - 5000)] * TIMES)
+    return [*traces, ("reads of all but the start of a file", stored + parts, " res={} posted".format(size - 5000).encode(), TIMES)]
+
+
+def shared_lists(program: Program) -> List[Outcome]:
+    """Bytes that were read share the list of their pages, of which a change copies a small part."""
+    outcomes = []
+    for what, trace, told, count in of_shared_lists():
+        got = program.run(["serial"], trace, shell='ulimit -v {}; exec "$@"'.format(LISTS_MEMORY))
+        found = None if got.status == 0 and got.output.count(told) == count else shown(got)
+        outcomes.append(Outcome("{} by {}".format(what, program.compiler), found))
+    return outcomes
+
+
 def of_long_bytes(size: int) -> Tuple[bytes, bytes, bytes]:
     """A trace of a file that begins with so many bytes, of a fill of as many and of a write of as many across the file's end, which
     begins within a page, and then of one byte within what was written; the bytes of the file at the end, and those of the buffer."""
@@ -275,5 +304,5 @@ def holes(program: Program) -> List[Outcome]:
 
 
 def jobs(programs: List[Program]) -> List[Job]:
-    alone = [partial(it, programs[0]) for it in (tried, long_reports, many_rings, deep_tree, deep_paths, full_table, many_entries, long_transfers, long_bytes, at_the_position, holes, waiting, carrying_little)]
+    alone = [partial(it, programs[0]) for it in (tried, long_reports, many_rings, deep_tree, deep_paths, full_table, many_entries, long_transfers, shared_lists, long_bytes, at_the_position, holes, waiting, carrying_little)]
     return [*alone, *(partial(on_threads, it) for it in programs)]

@@ -1,11 +1,15 @@
 -- Maps of the same pages, where one was copied from the other.
 use Rattle.std.proofs.Common.{◌≡◌, ℕ, ◌+◌, ◌/◌, ◌<◌, ◌≤◌, List, ap, arith, ◌∙◌, None, ◌⊎◌, ⊎_elim, refl}
-use Rattle.extent_bytes.specs.Pages.{PageMap, page_of, SamePages, SameRange, Overlaid, WrittenAt}
+use Rattle.extent_bytes.specs.Pages.{PageMap, page_of, levels, SamePages, SameRange, Overlaid, WrittenAt}
 use Rattle.extent_bytes.proofs.PageFacts.{byte_at-none, same_bytes}
 
+-- a copy of a map, as `clone` makes it
+abbrev pub IsCopy : PageMap → PageMap → Type 0
+IsCopy m n = SamePages m n × (levels n ≡ levels m)
+
 -- what `make_mut` lends: the map itself, or a copy
-pub copied : (m n : PageMap) → (n ≡ m) ⊎ SamePages m n → SamePages m n
-copied m n h = ⊎_elim (λ e j. ap (λ q. page_of q j) e) (λ z. z) h
+pub copied : (m n : PageMap) → (n ≡ m) ⊎ IsCopy m n → SamePages m n
+copied m n h = ⊎_elim (λ e j. ap (λ q. page_of q j) e) (λ z. z.0) h
 
 pub same_range : (m n q : PageMap) (from to len : ℕ) → SamePages m n → SameRange n from q to len → SameRange m from q to len
 same_range m n q from to len e h = λ i l. h i l ∙ same_bytes m n e (from + i)

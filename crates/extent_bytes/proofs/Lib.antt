@@ -4,12 +4,11 @@ pub mod Kept
 pub mod Lists
 pub mod Whole
 pub mod PageFacts
-pub mod Puts
-pub mod NextPage
-pub mod Passes
 pub mod Fronts
 pub mod Overlays
 pub mod Moves
 pub mod ExtentFacts
 pub mod Compares
 pub mod Runs
+pub mod Joins
+pub mod Crossing

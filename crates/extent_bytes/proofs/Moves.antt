@@ -1,8 +1,6 @@
 -- Ranges of pages as maps of their own.
-use Rattle.std.proofs.Common.{◌≢◌, refl, get_or, Some, List, ◌≡◌, ℕ, ◌+◌, ◌-◌, ◌*◌, ◌/◌, ◌%◌, ◌<◌, ◌≤◌, arith, sym, ◌∙◌, ap, min, max, None, ⊎_elim}
-use Rattle.std.proofs.lemmas.Bool.{cases_eq, cases_lt}
-use Rattle.std.specs.Prelude.{IsSome}
-use Rattle.extent_bytes.proofs.Outcomes.{none_is}
+use Rattle.std.proofs.Common.{refl, get_or, Some, List, ◌≡◌, ℕ, ◌+◌, ◌-◌, ◌*◌, ◌/◌, ◌%◌, ◌<◌, ◌≤◌, arith, sym, ◌∙◌, ap, min, max, None, ⊎_elim}
+use Rattle.std.proofs.lemmas.Bool.{cases_lt}
 use Rattle.extent_bytes.specs.Pages.{PageMap, page_of, byte_at, SameRange, Overlaid}
 use Rattle.extent_bytes.proofs.PageFacts.{byte_at-none, byte_at-stored}
 use Rattle.extent_bytes.proofs.Overlays.{overlaid_to}
@@ -44,25 +42,3 @@ shared_range m part a len first end e h taken = λ i l.
     let k : first + (a % 4096 + i) / 4096 ≡ (a + i) / 4096 = omega arith in
     let r : (a % 4096 + i) % 4096 ≡ (a + i) % 4096 = omega arith in
     grind (arith, k, r, taken ((a % 4096 + i) / 4096))
-
--- one more page is shared, the first from `at` on
-pub shared_step : (m a b : PageMap) (from at k to : ℕ) (page : List ℕ) → from ≤ at → at ≤ k → k < to → page_of m k ≡ Some page
-    → ((j : ℕ) → at ≤ j → j < to → IsSome (page_of m j) → k ≤ j)
-    → page_of b (k - from) ≡ Some page → ((j : ℕ) → j ≢ k - from → page_of b j ≡ page_of a j)
-    → ((j : ℕ) → from + j < at → page_of a j ≡ page_of m (from + j)) → ((j : ℕ) → at ≤ from + j → page_of a j ≡ None)
-    → ((j : ℕ) → from + j < k + 1 → page_of b j ≡ page_of m (from + j)) × ((j : ℕ) → k + 1 ≤ from + j → page_of b j ≡ None)
-shared_step m a b from at k to page f l h e least added others taken left = (
-  (λ j g.
-      ⊎_elim
-      (λ (q : j ≡ k - from).
-      let z : from + j ≡ k = omega arith in
-      ap (page_of b) q ∙ added ∙ sym e ∙ ap (page_of m) (sym z))
-      (λ (ne : j ≢ k - from).
-      others j ne
-      ∙ ⊎_elim
-      (λ (q : from + j < at). taken j q)
-      (λ (q : at ≤ from + j). left j q ∙ sym (none_is (page_of m (from + j)) (λ s. let z = least (from + j) q (omega arith) s in ne (omega arith))))
-      (cases_lt (from + j) at))
-      (cases_eq j (k - from))),
-  (λ j g. others j (λ (q : j ≡ k - from). absurd (omega arith)) ∙ left j (omega arith)),
-)

@@ -1,9 +1,8 @@
 -- Bytes put over a range of a map.
-use Rattle.std.proofs.Common.{◌≡◌, ℕ, ◌+◌, ◌-◌, ◌*◌, ◌/◌, ◌%◌, ◌<◌, ◌≤◌, ◌≢◌, List, length, get_or, replicate, arith, ◌∙◌, ap, refl, Some, None, ⊎_elim}
-use Rattle.std.proofs.lemmas.Bool.{cases_lt}
-use Rattle.std.proofs.lemmas.List.{length-replicate, get_or-replicate}
+use Rattle.std.proofs.Common.{◌≡◌, ℕ, ◌+◌, ◌-◌, ◌*◌, ◌/◌, ◌%◌, ◌<◌, ◌≤◌, ◌≢◌, Bool, true, false, List, length, get_or, arith, sym, ◌∙◌, ap, refl, Option, Some, None, ⊎_elim}
+use Rattle.std.proofs.lemmas.Bool.{cases_eq, cases_lt}
 use Rattle.extent_bytes.specs.Bytes.{overwritten}
-use Rattle.extent_bytes.specs.Pages.{PageMap, page_of, page_byte, byte_at, SameBytes, Overlaid, Completed}
+use Rattle.extent_bytes.specs.Pages.{PageMap, page_of, page_byte, byte_at, IsRewritten, SameBytes, SamePages, Overlaid, Completed}
 use Rattle.extent_bytes.proofs.Lists.{get_or-overwritten_above, get_or-overwritten_below, get_or-overwritten_inside}
 use Rattle.extent_bytes.proofs.PageFacts.{byte_at-kept}
 
@@ -33,23 +32,6 @@ one_page-overwritten m n k at bs page bound others now was =
     (λ i h. grind (arith, now, was i, get_or-overwritten_below))
     (λ i h l. grind (arith, now, get_or-overwritten_inside))
     (λ i h l. grind (arith, now, was i, get_or-overwritten_above))
-
--- zeros written into one page
-pub one_page-zeroed : (m n : PageMap) (k lo hi : ℕ) (page : List ℕ) → lo ≤ hi → hi ≤ 4096 → ((q : ℕ) → q ≢ k → page_of n q ≡ page_of m q)
-    → page_of n k ≡ Some (overwritten page lo (replicate (hi - lo) 0))
-    → page_of m k ≡ Some page
-    → Overlaid m n (k * 4096 + lo) (k * 4096 + hi) (λ _. 0)
-one_page-zeroed m n k lo hi page forward bound others now was =
-    let e = length-replicate {A = ℕ} (hi - lo) 0 in
-    one_page m n k lo hi _ forward bound others
-    (λ i h. grind (arith, now, was, get_or-overwritten_below))
-    (λ i h l. grind (arith, e, now, get_or-overwritten_inside, get_or-replicate))
-    (λ i h l. grind (arith, e, now, was, get_or-overwritten_above))
-
--- a page that is not there is zeros
-pub one_page-none : (m : PageMap) (k lo hi : ℕ) → lo ≤ hi → hi ≤ 4096 → page_of m k ≡ None → Overlaid m m (k * 4096 + lo) (k * 4096 + hi) (λ _. 0)
-one_page-none m k lo hi forward bound was =
-    one_page m m k lo hi _ forward bound (λ q ne. refl) (λ i h. refl) (λ i h l. ap (λ o. page_byte o i) was) (λ i h l. refl)
 
 -- other bounds and another function with the same values
 pub overlaid_to : (m n : PageMap) (a b lo hi : ℕ) (f g : ℕ → ℕ) → a ≡ lo → b ≡ hi → ((p : ℕ) → lo ≤ p → p < hi → f p ≡ g p) → Overlaid m n a b f → Overlaid m n lo hi g
@@ -96,3 +78,19 @@ overlaid_from m r n old new lo hi first end forward f e same done taken below ab
   inside = λ p h l. byte_at-taken n new first end taken p (omega arith) (omega arith) ∙ done.inside p h l;
   above = λ p h. grind (arith, byte_at-kept r n p, above (p / 4096), same p, byte_at-taken n new first end taken p, done.above p);
 }
+
+-- bytes written into a page that is there
+pub rewritten : (m n : PageMap) (k at : ℕ) (bs : List ℕ) (b : Bool) (o : Option (List ℕ)) → b ≡ true → page_of m k ≡ o → IsRewritten b o (page_of n k) at bs
+    → ((j : ℕ) → j ≢ k → page_of n j ≡ page_of m j) → at + length bs ≤ 4096 → Overlaid m n (k * 4096 + at) (k * 4096 + (at + length bs)) (λ p. get_or bs (p - (k * 4096 + at)) 0)
+rewritten m n k at bs true None t e w others bound = absurd w
+rewritten m n k at bs true (Some page) t e w others bound = one_page-overwritten m n k at bs page bound others w (λ i h. ap (λ o. page_byte o i) e)
+rewritten m n k at bs false o t e w others bound = absurd (cc t)
+
+-- and where none is
+pub unwritten : (m n : PageMap) (k at : ℕ) (bs : List ℕ) (b : Bool) → b ≡ false → IsRewritten b (page_of m k) (page_of n k) at bs → ((j : ℕ) → j ≢ k → page_of n j ≡ page_of m j)
+    → (page_of m k ≡ None) × SamePages m n
+unwritten m n k at bs true f w others = absurd (cc f)
+unwritten m n k at bs false f w others = (
+  w.0,
+  λ j. ⊎_elim (λ (e : j ≡ k). ap (page_of n) e ∙ w.1 ∙ sym (ap (page_of m) e ∙ w.0)) (λ (ne : j ≢ k). others j ne) (cases_eq j k),
+)

@@ -1,5 +1,5 @@
 -- What a change of one page does to the bytes of a map.
-use Rattle.std.proofs.Common.{◌≡◌, ℕ, ◌+◌, ◌-◌, ◌*◌, ◌/◌, ◌%◌, ◌<◌, ◌≤◌, ◌≢◌, List, length, get_or, arith, refl, ◌∙◌, ap, Some, None}
+use Rattle.std.proofs.Common.{◌≡◌, ℕ, ◌+◌, ◌-◌, ◌*◌, ◌/◌, ◌%◌, ◌<◌, ◌≤◌, List, length, get_or, arith, refl, ◌∙◌, ap, Some, None}
 use Rattle.std.specs.Prelude.{All, slice_get}
 use Rattle.std.proofs.lemmas.List.{get_or-replicate}
 use Rattle.std.proofs.lemmas.List.Elements.{All-get_or}
@@ -13,11 +13,6 @@ same_bytes m n h = λ p. ap (λ o. page_byte o (p % 4096)) (h (p / 4096))
 pub blank_byte : (i : ℕ) → i < 4096 → get_or blank_page i 0 ≡ 0
 unfolding blank_page
 blank_byte i h = get_or-replicate 4096 i 0 0 h
-
--- a page of zeros, where there was none
-pub blank_same : (m n : PageMap) (k : ℕ) (page : List ℕ) → page ≡ blank_page → page_of n k ≡ Some page → ((j : ℕ) → j ≢ k → page_of n j ≡ page_of m j) → page_of m k ≡ None → SameBytes m n
-unfolding byte_at
-blank_same m n k page b u others e = λ p. grind (arith, b, e, u, others (p / 4096), blank_byte (p % 4096))
 
 -- the bytes of one page
 pub byte_at-page : (m : PageMap) (k i : ℕ) → i < 4096 → byte_at m (k * 4096 + i) ≡ page_byte (page_of m k) i

@@ -1,10 +1,10 @@
 -- A view of code: the bytes that stored pages of 4,096 bytes stand for.
 use Rattle.std.specs.Prelude.{◌≡◌, ℕ, ◌+◌, ◌-◌, ◌*◌, ◌/◌, ◌%◌, ◌<◌, ◌≤◌, max, min, List, Option, None, Some, IsSome, map, length, replicate, slice_get, slice_index}
-use Rattle.std.specs.BTreeMap.{get}
 use Rattle.std.specs.List.{range_with_len}
-use Rattle.std.specs.Option.{option_or}
-use Rattle.std.specs.Ordering.{nat_cmp}
+use Rattle.std.specs.Prelude.{Bool, true, false, nat_lt, if◌then◌else◌}
+use Rattle.extent_bytes.specs.Bytes.{overwritten}
 use Rattle.extent_bytes.specs.declared.pages.Pages.{Pages}
+use Rattle.extent_bytes.specs.declared.pages.Pages.TheVariants.{Leaf, Fork'}
 
 -- A page of zeros.
 unfoldable pub blank_page : List ℕ
@@ -19,9 +19,28 @@ abbrev pub page_byte : Option (List ℕ) → ℕ → ℕ
 page_byte None i = 0
 page_byte (Some page) i = slice_index page i
 
--- The page of a number: the one in front, and else the map's.
+-- What is stored at a place of a leaf, which may lie behind its last.
+abbrev pub stored_at : Option (Option (List ℕ)) → Option (List ℕ)
+stored_at None = None
+stored_at (Some page) = page
+
+-- The page of a number: a leaf's at that place; a fork's on its left side below the width, and else on its right.
 abbrev pub page_of : PageMap → ℕ → Option (List ℕ)
-page_of pages number = option_or (slice_get pages.front.items number) (get nat_cmp pages.rest number)
+page_of (Leaf places) number = stored_at (slice_get places.items number)
+page_of (Fork' p left width q right height) number = if nat_lt number width then page_of left number else page_of right (number - width)
+
+-- How many forks lie one above another.
+abbrev pub levels : PageMap → ℕ
+levels (Leaf places) = 0
+levels (Fork' p left width q right height) = max (levels left) (levels right) + 1
+
+-- The pages of the one below a width, and from there on those of the other.
+abbrev pub IsJoined : PageMap → ℕ → PageMap → PageMap → Type 0
+IsJoined left width right whole = (j : ℕ) → page_of whole j ≡ (if nat_lt j width then page_of left j else page_of right (j - width))
+
+-- What is stored at a place where the first places, up to a width, have others behind them.
+abbrev pub place_joined : List (Option (List ℕ)) → ℕ → List (Option (List ℕ)) → ℕ → Option (List ℕ)
+place_joined first width second j = if nat_lt j width then stored_at (slice_get first j) else stored_at (slice_get second (j - width))
 
 -- Both have the same page of each number.
 abbrev pub SamePages : PageMap → PageMap → Type 0
@@ -51,15 +70,16 @@ SameBytes old new = (p : ℕ) → byte_at new p ≡ byte_at old p
 abbrev pub SameBelow : PageMap → PageMap → ℕ → Type 0
 SameBelow old new bound = (p : ℕ) → p < bound → byte_at new p ≡ byte_at old p
 
--- Each page of a patch has a place, so many behind the first as its number says, if that is below the end.
-abbrev pub HasRoom : (ℕ → Option (List ℕ)) → PageMap → ℕ → ℕ → Type 0
-HasRoom patch pages first end = (j : ℕ) → first + j < end → IsSome (patch j) → IsSome (page_of pages (first + j))
-
--- Each page of a patch has taken that place, and the others are as they were.
-pub record Adopted (patch : ℕ → Option (List ℕ)) (old new : PageMap) (first end : ℕ) : Type 0 where
-  pub taken : (j : ℕ) → first + j < end → page_of new (first + j) ≡ option_or (patch j) (page_of old (first + j))
+-- The patch has taken the place of the pages from first up to end, which have none where it has none.
+pub record Replaced (old new : PageMap) (first end : ℕ) (patch : PageMap) : Type 0 where
+  pub taken : (j : ℕ) → first + j < end → page_of new (first + j) ≡ page_of patch j
   pub below : (j : ℕ) → j < first → page_of new j ≡ page_of old j
   pub above : (j : ℕ) → end ≤ j → page_of new j ≡ page_of old j
+
+-- It has, or it is left and all is as it was.
+abbrev pub IsSpliced : Option PageMap → PageMap → PageMap → ℕ → ℕ → PageMap → Type 0
+IsSpliced None old new first end patch = Replaced old new first end patch
+IsSpliced (Some left) old new first end patch = (left ≡ patch) × SamePages old new
 
 -- The bytes from one position on are those of another map from another position on.
 abbrev pub SameRange : PageMap → ℕ → PageMap → ℕ → ℕ → Type 0
@@ -75,6 +95,12 @@ pub record Overlaid (old new : PageMap) (lo hi : ℕ) (f : ℕ → ℕ) : Type 0
 abbrev pub PageWritten : PageMap → PageMap → ℕ → ℕ → List ℕ → Type 0
 PageWritten old new number at bs =
     Overlaid old new (number * 4096 + at) (number * 4096 + (at + length bs)) (λ p. slice_index bs (p - (number * 4096 + at)))
+
+-- The bytes bs are written into a page from an offset on, where it is there; where not, there is none still.
+abbrev pub IsRewritten : Bool → Option (List ℕ) → Option (List ℕ) → ℕ → List ℕ → Type 0
+IsRewritten true None new at bs = ⊥
+IsRewritten true (Some page) new at bs = new ≡ Some (overwritten page at bs)
+IsRewritten false old new at bs = (old ≡ None) × (new ≡ None)
 
 -- A part of that page is the same part of a page of another map.
 abbrev pub PageCopied : PageMap → PageMap → ℕ → ℕ → ℕ → PageMap → ℕ → Type 0

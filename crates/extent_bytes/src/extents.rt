@@ -151,13 +151,14 @@ impl Extents {
             self.len = len;
             return Ok(());
         }
-        self.stored.truncate((self.start + len).div_ceil(PAGE))?;
+        let end = (self.start + len).div_ceil(PAGE);
+        self.stored.truncate(self.alloc, end)?;
         self.len = len;
         Ok(())
     }
 
-    /// The bytes from `lo` up to `hi` as a list of its own, which shares their pages, and the map
-    /// of them where they are all.
+    /// The bytes from `lo` up to `hi` as a list of its own, which shares their pages, and of the
+    /// tree of them what lies whole among them.
     pub fn share(&self, lo: u64, hi: u64) -> Result<Extents, AllocError>
         requires forward { lo ≤ hi }
         requires inside { hi ≤ length self.now }
@@ -267,7 +268,7 @@ impl Extents {
     }
 
     /// The bytes from `lo` up to `hi` as a run of pages, which are shared; none where one of them
-    /// isn't stored.
+    /// isn't stored, or there are many.
     pub(crate) fn run(&self, lo: u64, hi: u64) -> Result<Option<PageRun>, AllocError>
         requires forward { lo ≤ hi }
         requires inside { hi ≤ length self.now }

@@ -1,26 +1,11 @@
 // Ranges of a map of pages as maps of their own.
-ghost use Rattle.std.specs.Prelude.{◌≡◌, ℕ, ◌+◌, ◌-◌, ◌*◌, ◌/◌, ◌<◌, ◌≤◌, ◌^◌, IfOk, OnOk};
-ghost use Rattle.extent_bytes.specs.Pages.{page_of, SameRange, PageMoved};
+ghost use Rattle.std.specs.Prelude.{◌+◌, ◌-◌, ◌*◌, ◌/◌, ◌<◌, ◌≤◌, ◌^◌, IfOk, OnOk};
+ghost use Rattle.extent_bytes.specs.Pages.{SameRange, PageMoved};
 
 use crate::page::Page;
 use crate::page_bytes::{PAGE, put_range};
 use crate::pages::Pages;
 use std::alloc::{AllocError, Global};
-
-// The pages from `from` up to `to`, numbered from 0. They are shared and not copied.
-pub(crate) fn shared(pages: &Pages, alloc: Global, from: u64, to: u64) -> Result<Pages, AllocError>
-    requires { from ≤ to }
-    ensures { IfOk result (λ part.
-        (j : ℕ) → from + j < to → page_of part j ≡ page_of pages.now (from + j)) }
-{
-    let mut part = Pages::new(alloc);
-    let mut at = from;
-    while let Some((number, page)) = pages.next(at, to) {
-        part.add(number - from, page.clone()?)?;
-        at = number + 1;
-    }
-    Ok(part)
-}
 
 // The bytes of the page of a number that lie from `start` up to `end`, written from `target` on.
 fn move_page(

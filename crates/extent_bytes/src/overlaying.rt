@@ -1,11 +1,11 @@
 // Bytes put over a range of a map of pages. After a refusal of memory the bytes are as they were.
-ghost use Rattle.std.specs.Prelude.{◌≡◌, ℕ, ◌+◌, ◌-◌, ◌*◌, ◌/◌, ◌<◌, ◌≤◌, ◌^◌, min};
-ghost use Rattle.std.specs.Prelude.{length, slice_index, None, IsSome, IsTrue};
+ghost use Rattle.std.specs.Prelude.{◌+◌, ◌-◌, ◌*◌, ◌/◌, ◌<◌, ◌≤◌, ◌^◌, min};
+ghost use Rattle.std.specs.Prelude.{length, slice_index};
 ghost use Rattle.std.specs.Prelude.{OnOk, OnErr};
-ghost use Rattle.extent_bytes.specs.Pages.{page_of, byte_at, blank_page, SameBytes, SamePages};
+ghost use Rattle.extent_bytes.specs.Pages.{byte_at, SameBytes};
 ghost use Rattle.extent_bytes.specs.Pages.{SameBelow, Overlaid, WrittenAt, Completed};
 
-use crate::page::{PAGE_SIZE, Page};
+use crate::page::PAGE_SIZE;
 use crate::page_bytes::{PAGE, copy_bytes, put_range};
 use crate::pages::Pages;
 use std::alloc::{AllocError, Global};
@@ -39,96 +39,6 @@ fn complete(
     )
 }
 
-// Has the page of a number stored, as a share of a page of zeros where there is none.
-fn reserve(pages: &mut Pages, number: u64, blank: &Page) -> Result<(), AllocError>
-    requires { blank.now ≡ blank_page }
-    ensures same { SameBytes pages.old pages.new }
-    ensures keeps { (j : ℕ) → IsSome (page_of pages.old j) → IsSome (page_of pages.new j) }
-    ensures ok { OnOk result (IsSome (page_of pages.new number)) }
-{
-    if pages.get(number).is_none() {
-        pages.add(number, blank.clone()?)?;
-    }
-    Ok(())
-}
-
-// Whether each page from `first` up to `end` is stored.
-fn is_full(pages: &Pages, first: u64, end: u64) -> bool
-    requires { first ≤ end }
-    ensures { IsTrue result → (j : ℕ) → first ≤ j → j < end → IsSome (page_of pages.now j) }
-{
-    for number in first..end {
-        if pages.get(number).is_none() {
-            return false;
-        }
-    }
-    true
-}
-
-// Has a page stored wherever the patch has one.
-fn make_room(
-    pages: &mut Pages,
-    alloc: Global,
-    patch: &Pages,
-    first: u64,
-    end: u64,
-) -> Result<(), AllocError>
-    requires { first ≤ end }
-    ensures same { SameBytes pages.old pages.new }
-    ensures ok { OnOk result ((j : ℕ) → first + j < end →
-        IsSome (page_of patch.now j) → IsSome (page_of pages.new (first + j))) }
-{
-    if patch.next(0, end - first).is_none() || is_full(pages, first, end) {
-        return Ok(());
-    }
-    let blank = Page::blank(alloc)?;
-    let mut at = 0;
-    while let Some((number, _)) = patch.next(at, end - first) {
-        reserve(pages, first + number, &blank)?;
-        at = number + 1;
-    }
-    Ok(())
-}
-
-// Takes those pages from `first` up to `end` away that the patch lacks.
-fn remove_others(pages: &mut Pages, patch: &Pages, first: u64, end: u64)
-    requires forward { first ≤ end }
-    requires short { length pages.old.front.items ≤ first }
-    ensures gone { (j : ℕ) → first + j < end →
-        page_of patch.now j ≡ None → page_of pages.new (first + j) ≡ None }
-    ensures kept { (j : ℕ) → IsSome (page_of patch.now j) →
-        page_of pages.new (first + j) ≡ page_of pages.old (first + j) }
-    ensures below { (j : ℕ) → j < first → page_of pages.new j ≡ page_of pages.old j }
-    ensures above { (j : ℕ) → end ≤ j → page_of pages.new j ≡ page_of pages.old j }
-{
-    let mut at = first;
-    while let Some((number, _)) = pages.next(at, end) {
-        if patch.get(number - first).is_none() {
-            pages.remove(number);
-        }
-        at = number + 1;
-    }
-}
-
-// Takes those pages from `first` up to `end` away that the patch lacks, where it lacks any.
-fn clear_others(pages: &mut Pages, patch: &Pages, first: u64, end: u64) -> Result<(), AllocError>
-    requires { first ≤ end }
-    ensures gone { OnOk result ((j : ℕ) → first + j < end →
-        page_of patch.now j ≡ None → page_of pages.new (first + j) ≡ None) }
-    ensures kept { OnOk result ((j : ℕ) → IsSome (page_of patch.now j) →
-        page_of pages.new (first + j) ≡ page_of pages.old (first + j)) }
-    ensures below { OnOk result ((j : ℕ) → j < first → page_of pages.new j ≡ page_of pages.old j) }
-    ensures above { OnOk result ((j : ℕ) → end ≤ j → page_of pages.new j ≡ page_of pages.old j) }
-    ensures err { OnErr result (SamePages pages.old pages.new) }
-{
-    if is_full(patch, 0, end - first) {
-        return Ok(());
-    }
-    pages.shorten_front(first)?;
-    remove_others(pages, patch, first, end);
-    Ok(())
-}
-
 // Puts the bytes of the patch, whose page 0 is the page of `lo`, over the range from `lo` up to
 // `hi`.
 pub(crate) fn overlay(
@@ -158,11 +68,7 @@ pub(crate) fn overlay(
         );
     }
     complete(pages, alloc, &mut patch, lo, hi)?;
-    let end = hi.div_ceil(PAGE);
-    make_room(pages, alloc, &patch, first, end)?;
-    clear_others(pages, &patch, first, end)?;
-    pages.adopt(patch, first, end);
-    Ok(())
+    pages.splice(alloc, first, hi.div_ceil(PAGE), patch)
 }
 
 // Makes the bytes from `lo` up to `hi` zeros.

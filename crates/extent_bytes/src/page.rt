@@ -1,6 +1,6 @@
 // A page of bytes. Several owners may share one, and each sees its own bytes.
 ghost use Rattle.std.specs.Prelude.{◌≡◌, ◌+◌, ◌-◌, ◌≤◌, ◌↔◌, length, take, drop};
-ghost use Rattle.std.specs.Prelude.{replicate, IsTrue, All, IfOk, OnOk, OnErr};
+ghost use Rattle.std.specs.Prelude.{IsTrue, All, IfOk, OnOk, OnErr};
 ghost use Rattle.extent_bytes.specs.Bytes.{overwritten};
 ghost use Rattle.extent_bytes.specs.Pages.{blank_page};
 
@@ -23,15 +23,6 @@ fn put(page: &mut [u8; PAGE_SIZE], at: usize, bytes: &[u8])
     ensures { page.new ≡ overwritten page.old at bytes.now }
 {
     page[at..at + bytes.len()].copy_from_slice(bytes);
-}
-
-// Makes a part of a page zeros.
-fn wipe(page: &mut [u8; PAGE_SIZE], from: usize, to: usize)
-    requires forward { from ≤ to }
-    requires inside { to ≤ PAGE_SIZE }
-    ensures { page.new ≡ overwritten page.old from (replicate (to - from) 0) }
-{
-    page[from..to].fill(0);
 }
 
 // A text, whose bytes pages may share.
@@ -151,35 +142,6 @@ impl Page {
     {
         let mut page = self.copied();
         put(&mut page, at, bytes);
-        self.home = Home::Apart(Arc::new(alloc, page)?);
-        Ok(())
-    }
-
-    // Makes a part of the page zeros.
-    pub(crate) fn clear(&mut self, alloc: Global, from: usize, to: usize) -> Result<(), AllocError>
-        requires forward { from ≤ to }
-        requires inside { to ≤ PAGE_SIZE }
-        ensures ok { OnOk result (self.new ≡ overwritten self.old from (replicate (to - from) 0)) }
-        ensures err { OnErr result (self.new ≡ self.old) }
-    {
-        if let Home::Apart(page) = &mut self.home
-            && let Some(page) = Arc::get_mut(page)
-        {
-            wipe(page, from, to);
-            return Ok(());
-        }
-        self.clear_copy(alloc, from, to)
-    }
-
-    // Makes a part of the page zeros, in a copy.
-    fn clear_copy(&mut self, alloc: Global, from: usize, to: usize) -> Result<(), AllocError>
-        requires forward { from ≤ to }
-        requires inside { to ≤ PAGE_SIZE }
-        ensures ok { OnOk result (self.new ≡ overwritten self.old from (replicate (to - from) 0)) }
-        ensures err { OnErr result (self.new ≡ self.old) }
-    {
-        let mut page = self.copied();
-        wipe(&mut page, from, to);
         self.home = Home::Apart(Arc::new(alloc, page)?);
         Ok(())
     }

@@ -13,8 +13,11 @@ use crate::pages::Pages;
 use std::alloc::{AllocError, Global};
 use std::marker::Model;
 
+// So many pages a run has at most. More share a tree.
+const MOST_IN_RUN: u64 = 64;
+
 // Bytes that lie in pages one behind another, all of them stored. Each page takes 24 bytes, where a
-// map takes some 40.
+// leaf takes 32.
 #[derive(Drop)]
 pub(crate) struct PageRun {
     // Where the first byte lies in the first page.
@@ -35,8 +38,8 @@ impl Model for PageRun {
         × (r.start + r.len ≤ length r.pages.items * 4096) };
 }
 
-// The pages from one number up to another, where all of them are stored. They are shared and not
-// copied.
+// The pages from one number up to another, where there are few, all of them stored. They are shared
+// and not copied.
 fn stored_run(
     pages: &Pages,
     alloc: Global,
@@ -48,7 +51,7 @@ fn stored_run(
     ensures pages { IfOk result (λ found. IfSome found (λ run. (j : ℕ) → from + j < to
         → slice_get run.items j ≡ page_of pages.now (from + j))) }
 {
-    if (pages.len() as u64) < to - from {
+    if MOST_IN_RUN < to - from {
         return Ok(None);
     }
     let mut run = Vec::with_capacity(alloc, (to - from) as usize)?;
@@ -81,8 +84,8 @@ fn run_agrees(pages: &[Page], start: u64, end: u64, other: &Paged<'_>, other_sta
 }
 
 impl PageRun {
-    // The bytes of a map's pages from one position up to another; none where a page that they lie
-    // in isn't stored.
+    // The bytes of pages from one position up to another; none where a page that they lie in isn't
+    // stored, or there are too many.
     pub(crate) fn of(
         pages: &Pages,
         alloc: Global,

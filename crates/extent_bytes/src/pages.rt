@@ -1,66 +1,62 @@
 // Stored pages by their numbers. Page k holds the bytes from 4,096 * k on, and one that is not
 // stored is zeros.
-ghost use Rattle.std.specs.Prelude.{◌≡◌, ℕ, ◌+◌, ◌-◌, ◌*◌, ◌^◌, ◌<◌, ◌≤◌, ◌≢◌, length, slice_get};
-ghost use Rattle.std.specs.Prelude.{None, Some, IsSome, IfSome, IfNone, OnOk, OnErr};
-ghost use Rattle.std.specs.BTreeMap.{get};
-ghost use Rattle.std.specs.Ordering.{nat_cmp};
-ghost use Rattle.extent_bytes.specs.Pages.{page_of, PageWritten, SameBytes, SamePages, Overlaid};
-ghost use Rattle.extent_bytes.specs.Pages.{Adopted, HasRoom};
+ghost use Rattle.std.specs.Prelude.{◌≡◌, ℕ, ◌+◌, ◌*◌, ◌<◌, ◌≤◌, ◌≢◌, length, replicate};
+ghost use Rattle.std.specs.Prelude.{None, Some, IsSome, IfSome, IfNone, IfOk, OnOk, OnErr};
+ghost use Rattle.extent_bytes.specs.Pages.{page_of, IsRewritten, IsSpliced, PageWritten};
+ghost use Rattle.extent_bytes.specs.Pages.{Replaced, SameBytes, SamePages, Overlaid};
 
+use crate::joining::joined;
 use crate::page::{PAGE_SIZE, Page, is_blank};
+use crate::parting::{behind, front};
+use crate::places::{next_in, put_all_in, put_in, rewrite_in};
 use std::alloc::{AllocError, Global};
-use std::collections::BTreeMap;
+use std::sync::Arc;
 
-// At most so many pages move from the map to the front when one is added, so that what an addition
-// costs doesn't grow with the pages that are there.
-const MOST_MOVED: u32 = 8;
+// So many places a leaf has at most. One that changes a page of a leaf that others have too copies
+// so many.
+pub(crate) const LEAF: u64 = 256;
 
-// Pages by their numbers. Those in front, from number 0 on, lie one behind another, so that a page
-// among them is found without a search, and the map has the others. What the map has of the numbers
-// in front is not seen.
+// So many places a leaf may have for one page.
+const WINDOW: u64 = 64;
+
+// A page of zeros, as bytes.
+static ZEROS: [u8; PAGE_SIZE] = [0; PAGE_SIZE];
+
+// So many zeros, of a page at most.
+fn zeros(count: usize) -> &'static [u8]
+    requires { count ≤ PAGE_SIZE }
+    ensures { result.now ≡ replicate count 0 }
+{
+    &ZEROS[..count]
+}
+
+// Pages by their numbers: a tree, of which lists share what they have in common. One that changes a
+// page copies the leaf that has it and the forks above, unless they are its own.
 #[derive(Drop)]
-pub(crate) struct Pages {
-    front: Vec<Page>,
-    rest: BTreeMap<u64, Page>,
-}
-
-// A map's first page from the number `from` on and below `to`, with its number.
-fn next_in(rest: &BTreeMap<u64, Page>, from: u64, to: u64) -> Option<(u64, &Page)>
-    requires { from ≤ to }
-    ensures page { IfSome result (λ e. get nat_cmp rest.now e.0 ≡ Some e.1.now) }
-    ensures within { IfSome result (λ e. (from ≤ e.0) × (e.0 < to)) }
-    ensures least { IfSome result (λ e.
-        (j : ℕ) → from ≤ j → j < to → IsSome (get nat_cmp rest.now j) → e.0 ≤ j) }
-    ensures none { IfNone result ((j : ℕ) → from ≤ j → j < to → get nat_cmp rest.now j ≡ None) }
-{
-    if from == to {
-        return None;
-    }
-    match rest.range(from..to).next() {
-        Some((number, page)) => Some((*number, page)),
-        None => None,
-    }
-}
-
-// Takes a map's pages from `from` up to `to` away.
-fn discard(rest: &mut BTreeMap<u64, Page>, from: u64, to: u64)
-    requires { from ≤ to }
-    ensures gone { (j : ℕ) → from ≤ j → j < to → get nat_cmp rest.new j ≡ None }
-    ensures below { (j : ℕ) → j < from → get nat_cmp rest.new j ≡ get nat_cmp rest.old j }
-{
-    while let Some((number, _)) = next_in(rest, from, to) {
-        rest.remove(&number);
-    }
+pub(crate) enum Pages {
+    // The first places, each with a page or none. Behind them there is none.
+    Leaf(Vec<Option<Page>>),
+    // The pages of numbers below a width, then those from there on, and how high the tree is.
+    Fork(Arc<Pages>, u64, Arc<Pages>, u64),
 }
 
 impl Clone for Pages {
-    ghost is_clone = { λ pages copy. SamePages pages copy };
+    ghost use Rattle.std.specs.Prelude.{◌≡◌};
+    ghost use Rattle.extent_bytes.specs.Pages.{SamePages, levels};
 
-    // The same pages, each with one more owner.
+    ghost is_clone = { λ pages copy. SamePages pages copy × (levels copy ≡ levels pages) };
+
+    // The same pages, of which a leaf's have one more owner, and otherwise both sides.
     fn clone(&self) -> Result<Pages, AllocError> {
-        let front = self.front.clone()?;
-        let rest = self.rest.clone()?;
-        Ok(Pages { front, rest })
+        match self {
+            Pages::Leaf(places) => Ok(Pages::Leaf(places.clone()?)),
+            Pages::Fork(left, width, right, height) => Ok(Pages::Fork(
+                Arc::try_clone(left)?,
+                *width,
+                Arc::try_clone(right)?,
+                *height,
+            )),
+        }
     }
 }
 
@@ -69,15 +65,15 @@ impl Pages {
     pub(crate) fn new(alloc: Global) -> Pages
         ensures { (j : ℕ) → page_of result j ≡ None }
     {
-        Pages {
-            front: Vec::new(alloc),
-            rest: BTreeMap::new(alloc),
-        }
+        Pages::Leaf(Vec::new(alloc))
     }
 
-    // No fewer than there are.
-    pub(crate) fn len(&self) -> usize {
-        self.front.len().saturating_add(self.rest.len())
+    // Whether there are so many at most, as far as it can be told without a look at each.
+    pub(crate) fn is_few(&self, most: usize) -> bool {
+        match self {
+            Pages::Leaf(places) => places.len() <= most,
+            Pages::Fork(..) => false,
+        }
     }
 
     // The page of a number.
@@ -86,9 +82,25 @@ impl Pages {
         ensures stored { IfSome result (λ page. page_of self.now number ≡ Some page.now) }
         ensures none { IfNone result (page_of self.now number ≡ None) }
     {
-        match self.front.get(number as usize) {
-            Some(page) => Some(page),
-            None => self.rest.get(&number),
+        let mut pages = self;
+        let mut place = number;
+        loop {
+            match pages {
+                Pages::Leaf(places) => {
+                    return match places.get(place as usize) {
+                        Some(Some(page)) => Some(page),
+                        _ => None,
+                    };
+                }
+                Pages::Fork(left, width, right, _) => {
+                    if place < *width {
+                        pages = left;
+                    } else {
+                        pages = right;
+                        place -= *width;
+                    }
+                }
+            }
         }
     }
 
@@ -101,171 +113,170 @@ impl Pages {
             (j : ℕ) → from ≤ j → j < to → IsSome (page_of self.now j) → e.0 ≤ j) }
         ensures none { IfNone result ((j : ℕ) → from ≤ j → j < to → page_of self.now j ≡ None) }
     {
-        if from < to && from < self.front.len() as u64 {
-            return Some((from, &self.front[from as usize]));
-        }
-        next_in(&self.rest, from, to)
-    }
-
-    // Moves the map's page behind the front to the front, if there is one and memory for it.
-    fn move_next(&mut self) -> bool
-        ensures { SamePages self.old self.new }
-    {
-        let number = self.front.len() as u64;
-        let Some(page) = self.rest.get(&number) else {
-            return false;
-        };
-        let Ok(page) = page.clone() else {
-            return false;
-        };
-        if self.front.push(page).is_err() {
-            return false;
-        }
-        self.rest.remove(&number);
-        true
-    }
-
-    // Moves some of the map's pages behind the front to the front.
-    fn extend_front(&mut self)
-        ensures { SamePages self.old self.new }
-    {
-        for _ in 0..MOST_MOVED {
-            if !self.move_next() {
-                return;
+        match self {
+            Pages::Leaf(places) => next_in(places, from, to),
+            Pages::Fork(left, width, right, _) => {
+                let width = *width;
+                if from < width
+                    && let Some(found) = left.next(from, to.min(width))
+                {
+                    return Some(found);
+                }
+                if to <= width {
+                    return None;
+                }
+                match right.next(from.saturating_sub(width), to - width) {
+                    Some((number, page)) => Some((width + number, page)),
+                    None => None,
+                }
             }
         }
     }
 
-    // Stores a page of a number that has none.
-    pub(crate) fn add(&mut self, number: u64, page: Page) -> Result<(), AllocError>
-        requires { page_of self.old number ≡ None }
-        ensures added { OnOk result (page_of self.new number ≡ Some page) }
-        ensures others { OnOk result ((j : ℕ) → j ≢ number → page_of self.new j ≡ page_of self.old j) }
-        ensures err { OnErr result (SamePages self.old self.new) }
-    {
-        if number == self.front.len() as u64 {
-            self.front.push(page)?;
-        } else {
-            drop(self.rest.insert(number, page)?);
-        }
-        self.extend_front();
-        Ok(())
-    }
-
-    // Puts a page in place of the one of its number.
-    pub(crate) fn replace(&mut self, number: u64, page: Page)
-        requires { IsSome (page_of self.old number) }
-        ensures put { page_of self.new number ≡ Some page }
-        ensures others { (j : ℕ) → j ≢ number → page_of self.new j ≡ page_of self.old j }
-    {
-        if number < self.front.len() as u64 {
-            self.front[number as usize] = page;
-            return;
-        }
-        if let Some(place) = self.rest.get_mut(&number) {
-            *place = page;
+    // Whether the leaf of a number has a place for it, or may get one.
+    fn has_place(&self, number: u64) -> bool {
+        match self {
+            Pages::Leaf(places) => {
+                let len = places.len() as u64;
+                number < WINDOW.max(len) || number == len && len < LEAF
+            }
+            Pages::Fork(left, width, right, _) => {
+                if number < *width {
+                    left.has_place(number)
+                } else {
+                    right.has_place(number - *width)
+                }
+            }
         }
     }
 
-    // Stores a page, in place of the one of its number where there is one.
-    pub(crate) fn put(&mut self, number: u64, page: Page) -> Result<(), AllocError>
+    // Puts a page into the leaf of its number.
+    fn put_in_leaf(&mut self, number: u64, page: Page) -> Result<(), AllocError>
         ensures put { OnOk result (page_of self.new number ≡ Some page) }
         ensures others { OnOk result ((j : ℕ) → j ≢ number → page_of self.new j ≡ page_of self.old j) }
         ensures err { OnErr result (SamePages self.old self.new) }
     {
-        if self.get(number).is_some() {
-            self.replace(number, page);
-            return Ok(());
-        }
-        self.add(number, page)
-    }
-
-    // Puts a page in place of the one that lies so many behind `first`, if that is below `end`.
-    fn adopt_page(&mut self, first: u64, end: u64, number: u64, page: Page)
-        requires forward { first ≤ end }
-        requires room { first + number < end → IsSome (page_of self.old (first + number)) }
-        ensures taken { first + number < end → page_of self.new (first + number) ≡ Some page }
-        ensures others { (j : ℕ) → j ≢ first + number → page_of self.new j ≡ page_of self.old j }
-        ensures above { (j : ℕ) → end ≤ j → page_of self.new j ≡ page_of self.old j }
-    {
-        if number < end - first {
-            self.replace(first + number, page);
+        match self {
+            Pages::Leaf(places) => put_in(places, number as usize, page),
+            Pages::Fork(left, width, right, _) => {
+                if number < *width {
+                    Arc::make_mut(left)?.put_in_leaf(number, page)
+                } else {
+                    Arc::make_mut(right)?.put_in_leaf(number - *width, page)
+                }
+            }
         }
     }
 
-    // Puts pages one behind another in place of those from `first` up to `end`.
-    fn adopt_front(&mut self, mut front: Vec<Page>, first: u64, end: u64)
-        requires forward { first ≤ end }
-        requires room { HasRoom (slice_get front.items) self.old first end }
-        ensures { Adopted (slice_get front.items) self.old self.new first end }
+    // Stores a page, in place of the one of its number where there is one.
+    pub(crate) fn put(&mut self, alloc: Global, number: u64, page: Page) -> Result<(), AllocError>
+        ensures put { OnOk result (page_of self.new number ≡ Some page) }
+        ensures others { OnOk result ((j : ℕ) → j ≢ number → page_of self.new j ≡ page_of self.old j) }
+        ensures err { OnErr result (SamePages self.old self.new) }
     {
-        while let Some(page) = front.pop() {
-            self.adopt_page(first, end, front.len() as u64, page);
+        if self.has_place(number) {
+            return self.put_in_leaf(number, page);
         }
-    }
-
-    // Puts the pages of a map in place of those from `first` up to `end`.
-    fn adopt_rest(&mut self, rest: BTreeMap<u64, Page>, first: u64, end: u64)
-        requires forward { first ≤ end }
-        requires room { HasRoom (get nat_cmp rest) self.old first end }
-        ensures { Adopted (get nat_cmp rest) self.old self.new first end }
-    {
-        for (number, page) in rest {
-            self.adopt_page(first, end, number, page);
-        }
-    }
-
-    // Puts the patch's pages in place of those from `first` up to `end`, of which each has its
-    // place already, and there are no others. So it takes no memory.
-    pub(crate) fn adopt(&mut self, patch: Pages, first: u64, end: u64)
-        requires forward { first ≤ end }
-        requires room { HasRoom (page_of patch) self.old first end }
-        requires others { (j : ℕ) → first + j < end →
-            page_of patch j ≡ None → page_of self.old (first + j) ≡ None }
-        ensures taken { (j : ℕ) → first + j < end → page_of self.new (first + j) ≡ page_of patch j }
-        ensures below { (j : ℕ) → j < first → page_of self.new j ≡ page_of self.old j }
-        ensures above { (j : ℕ) → end ≤ j → page_of self.new j ≡ page_of self.old j }
-    {
-        let Pages { front, rest } = patch;
-        self.adopt_rest(rest, first, end);
-        self.adopt_front(front, first, end);
-    }
-
-    // Moves the pages from `from` on out of the front, so that each of them can be taken away.
-    pub(crate) fn shorten_front(&mut self, from: u64) -> Result<(), AllocError>
-        ensures same { SamePages self.old self.new }
-        ensures short { OnOk result (length self.new.front.items ≤ from) }
-    {
-        while from < self.front.len() as u64 {
-            let last = self.front.len() - 1;
-            let page = self.front[last].clone()?;
-            self.rest.insert(last as u64, page)?;
-            self.front.truncate(last);
-        }
+        let width = number - number % WINDOW;
+        let mut last = Arc::unwrap_or_clone(behind(self, alloc, width)?)?;
+        last.put_in_leaf(number - width, page)?;
+        let first = front(self, alloc, width)?;
+        let last = Arc::new(alloc, last)?;
+        *self = Arc::unwrap_or_clone(joined(alloc, first, width, last)?)?;
         Ok(())
     }
 
-    // Takes the page of a number behind the front away.
-    pub(crate) fn remove(&mut self, number: u64)
-        requires { length self.old.front.items ≤ number }
-        ensures gone { page_of self.new number ≡ None }
-        ensures others { (j : ℕ) → j ≢ number → page_of self.new j ≡ page_of self.old j }
-        ensures front { length self.new.front.items ≡ length self.old.front.items }
+    // `splice` where one leaf has all the places, or may get them, and so has the patch. Else the
+    // patch comes back.
+    fn splice_in_leaf(
+        &mut self,
+        first: u64,
+        end: u64,
+        patch: Pages,
+    ) -> Result<Option<Pages>, AllocError>
+        requires { first ≤ end }
+        ensures ok { IfOk result (λ left. IsSpliced left self.old self.new first end patch) }
+        ensures err { OnErr result (SamePages self.old self.new) }
     {
-        self.rest.remove(&number);
+        match self {
+            Pages::Leaf(places) => match patch {
+                Pages::Leaf(others) if end <= LEAF || end <= places.len() as u64 => {
+                    put_all_in(places, first as usize, end as usize, others)?;
+                    Ok(None)
+                }
+                _ => Ok(Some(patch)),
+            },
+            Pages::Fork(left, width, right, _) => {
+                if end <= *width {
+                    return Arc::make_mut(left)?.splice_in_leaf(first, end, patch);
+                }
+                if *width <= first {
+                    return Arc::make_mut(right)?.splice_in_leaf(
+                        first - *width,
+                        end - *width,
+                        patch,
+                    );
+                }
+                Ok(Some(patch))
+            }
+        }
     }
 
-    // Takes the pages from `from` on away.
-    pub(crate) fn truncate(&mut self, from: u64)
-        ensures gone { (j : ℕ) → from ≤ j → j < 2 ^ 64 - 1 → page_of self.new j ≡ None }
-        ensures below { (j : ℕ) → j < from → page_of self.new j ≡ page_of self.old j }
+    // Puts the patch's pages in place of those from `first` up to `end`, and none where it has none.
+    pub(crate) fn splice(
+        &mut self,
+        alloc: Global,
+        first: u64,
+        end: u64,
+        patch: Pages,
+    ) -> Result<(), AllocError>
+        requires { first ≤ end }
+        ensures ok { OnOk result (Replaced self.old self.new first end patch) }
+        ensures err { OnErr result (SamePages self.old self.new) }
     {
-        self.front.truncate(from as usize);
-        discard(&mut self.rest, from, u64::MAX);
+        let Some(patch) = self.splice_in_leaf(first, end, patch)? else {
+            return Ok(());
+        };
+        let patch = Arc::new(alloc, patch)?;
+        let changed = joined(alloc, front(self, alloc, first)?, first, patch)?;
+        let changed = joined(alloc, changed, end, behind(self, alloc, end)?)?;
+        *self = Arc::unwrap_or_clone(changed)?;
+        Ok(())
+    }
+
+    // Writes the bytes into the page of a number, if there is one.
+    fn rewrite(
+        &mut self,
+        alloc: Global,
+        number: u64,
+        at: usize,
+        bytes: &[u8],
+    ) -> Result<bool, AllocError>
+        requires { at + length bytes.now ≤ PAGE_SIZE }
+        ensures ok { IfOk result (λ is_there.
+            IsRewritten is_there (page_of self.old number) (page_of self.new number) at bytes.now) }
+        ensures others { OnOk result ((j : ℕ) → j ≢ number → page_of self.new j ≡ page_of self.old j) }
+        ensures err { OnErr result (SamePages self.old self.new) }
+    {
+        match self {
+            Pages::Leaf(places) => rewrite_in(places, alloc, number as usize, at, bytes),
+            Pages::Fork(left, width, right, _) => {
+                if number < *width {
+                    if let Some(own) = Arc::get_mut(left) {
+                        return own.rewrite(alloc, number, at, bytes);
+                    }
+                    Arc::make_mut(left)?.rewrite(alloc, number, at, bytes)
+                } else {
+                    if let Some(own) = Arc::get_mut(right) {
+                        return own.rewrite(alloc, number - *width, at, bytes);
+                    }
+                    Arc::make_mut(right)?.rewrite(alloc, number - *width, at, bytes)
+                }
+            }
+        }
     }
 
     // Writes the bytes into one page. Zeros are not stored where there is no page.
-    #[inline(always)]
     pub(crate) fn write(
         &mut self,
         alloc: Global,
@@ -278,18 +289,13 @@ impl Pages {
             (PageWritten self.old self.new number at bytes.now) }
         ensures err { OnErr result (SameBytes self.old self.new) }
     {
-        if number < self.front.len() as u64 {
-            return self.front[number as usize].write(alloc, at, bytes);
+        if self.rewrite(alloc, number, at, bytes)? {
+            return Ok(());
         }
-        match self.rest.get_mut(&number) {
-            Some(page) => page.write(alloc, at, bytes),
-            None => {
-                if is_blank(bytes) {
-                    return Ok(());
-                }
-                self.add(number, Page::new(alloc, at, bytes)?)
-            }
+        if is_blank(bytes) {
+            return Ok(());
         }
+        self.put(alloc, number, Page::new(alloc, at, bytes)?)
     }
 
     // Makes a part of one page zeros.
@@ -306,12 +312,6 @@ impl Pages {
             (number * 4096 + from) (number * 4096 + to) (λ _. 0)) }
         ensures err { OnErr result (SameBytes self.old self.new) }
     {
-        if number < self.front.len() as u64 {
-            return self.front[number as usize].clear(alloc, from, to);
-        }
-        match self.rest.get_mut(&number) {
-            Some(page) => page.clear(alloc, from, to),
-            None => Ok(()),
-        }
+        self.write(alloc, number, from, zeros(to - from))
     }
 }

@@ -12,8 +12,8 @@ use std::marker::Model;
 pub(crate) enum Sharing {
     // Each page that the bytes lie in is stored.
     Run(PageRun),
-    // Some are not, or the bytes are a whole list, which shares its map. A list takes more than a
-    // run, and lies apart.
+    // Some are not, or there are many, or the bytes are a whole list, which share a tree. A list
+    // takes more than a run of a few, and lies apart.
     List(Box<Extents>),
 }
 

@@ -1,27 +1,28 @@
-// The stored pages of a list. Lists that have the same pages share the map of them.
+// The stored pages of a list. Lists that have the same pages share the tree of them.
 ghost use Rattle.std.specs.Prelude.{◌≡◌, ℕ, ◌+◌, ◌-◌, ◌*◌, ◌/◌, ◌<◌, ◌≤◌, ◌^◌};
 ghost use Rattle.std.specs.Prelude.{None, min, length, IfOk, OnOk, OnErr};
 ghost use Rattle.extent_bytes.specs.Kept.{pages_in};
 ghost use Rattle.extent_bytes.specs.Pages.{page_of, byte_at, SameBytes, SamePages};
 ghost use Rattle.extent_bytes.specs.Pages.{SameBelow, Overlaid, WrittenAt};
 
-use crate::moving::shared;
 use crate::overlaying::{overlay, write_range, zero_range};
 use crate::page_bytes::PAGE;
 use crate::pages::Pages;
+use crate::parting::{between, front};
 use std::alloc::{AllocError, Global};
 use std::mem;
 use std::sync::Arc;
 
-// So many pages are shared one by one, since a list of few does without a map on the heap.
+// So many pages are shared one by one, since a list of few does without a tree on the heap.
 const FEW: usize = 2;
 
 // Pages by their numbers.
 #[derive(Drop)]
 pub(crate) enum Stored {
-    // A map of one list alone.
+    // A tree whose root one list alone has.
     Own(Pages),
-    // A map that several lists may have. One that changes it copies it first, unless it is alone.
+    // A tree that several lists may have. One that changes it copies its root first, unless it is
+    // alone.
     Shared(Arc<Pages>),
 }
 
@@ -61,17 +62,17 @@ impl Stored {
             Stored::Shared(pages) if from == 0 && pages.next(to, u64::MAX).is_none() => {
                 Ok(Stored::Shared(Arc::try_clone(pages)?))
             }
-            _ => Ok(Stored::Own(shared(self.pages(), alloc, from, to)?)),
+            _ => Ok(Stored::Shared(between(self.pages(), alloc, from, to)?)),
         }
     }
 
-    // Lets a map of more than a few pages be shared from now on. Where memory is wanting it stays
+    // Lets a tree of more than a few pages be shared from now on. Where memory is wanting it stays
     // as it is, and is shared page by page.
     pub(crate) fn settle(&mut self, alloc: Global)
         ensures { pages_in self.new ≡ pages_in self.old }
     {
         if let Stored::Own(pages) = self
-            && pages.len() > FEW
+            && !pages.is_few(FEW)
         {
             let pages = mem::replace(pages, Pages::new(alloc));
             *self = match Arc::new(alloc, pages) {
@@ -148,7 +149,7 @@ impl Stored {
     }
 
     // Takes the pages from `from` on away.
-    pub(crate) fn truncate(&mut self, from: u64) -> Result<(), AllocError>
+    pub(crate) fn truncate(&mut self, alloc: Global, from: u64) -> Result<(), AllocError>
         ensures below { OnOk result ((j : ℕ) → j < from →
             page_of (pages_in self.new) j ≡ page_of (pages_in self.old) j) }
         ensures err { OnErr result (SameBytes (pages_in self.old) (pages_in self.new)) }
@@ -156,10 +157,7 @@ impl Stored {
         if self.pages().next(from, u64::MAX).is_none() {
             return Ok(());
         }
-        match self {
-            Stored::Own(pages) => pages.truncate(from),
-            Stored::Shared(pages) => Arc::make_mut(pages)?.truncate(from),
-        }
+        *self = Stored::Shared(front(self.pages(), alloc, from)?);
         Ok(())
     }
 }

@@ -30,7 +30,7 @@ fn put_piece(
     if bytes.len() < PAGE_SIZE || is_blank(bytes) {
         return pages.write(alloc, number, at, bytes);
     }
-    pages.put(number, Page::within(text, from)?)
+    pages.put(alloc, number, Page::within(text, from)?)
 }
 
 // Writes the bytes of a text from one place up to another from a position on.

@@ -5,3 +5,4 @@ pub mod Sameness
 pub mod Short
 pub mod Split
 pub mod Walks
+pub mod Crossing

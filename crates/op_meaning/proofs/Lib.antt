@@ -7,3 +7,4 @@ pub mod Turns
 mod SpanWrites
 pub mod FileNames
 pub mod LinesStay
+pub mod Crossing

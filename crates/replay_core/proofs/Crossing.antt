@@ -15,9 +15,9 @@ use Rattle.std.specs.contracts.result.Result as Result
 use Rattle.trace_format.specs.contracts.trace.Trace as Trace
 use Rattle.trace_format.proofs.trace.Trace.TheSendSync as trace
 use Rattle.world_parts.specs.contracts.part.Part as Part
-use Rattle.world_parts.proofs.part.Part.TheSendSync as part
+use Rattle.world_parts.proofs.Crossing.{part_send}
 use Rattle.op_meaning.specs.contracts.reply.Reply as Reply
-use Rattle.op_meaning.proofs.reply.Reply.TheSendSync as reply
+use Rattle.op_meaning.proofs.Crossing.{reply_send}
 use Rattle.deal_desk.specs.contracts.desk.Desk as Desk
 use Rattle.deal_desk.specs.contracts.desk.DeskSeat as DeskSeat
 use Rattle.deal_desk.proofs.desk.Desk.TheSendSync as desk
@@ -27,7 +27,7 @@ use Rattle.replay_core.specs.contracts.run.RunJob.TheImpl.{ghosts}
 
 -- a part crosses as it is proved of its type, and the role and the trace's snapshot have no memory of their own
 run_send : IsSend Run.the_row
-run_send = recorded_send Run.the_field.row _ _ Run.the_type.to_one (struct_send (shape Run.the_type) (part.the_send, (search (crosses, sendable) depth 20, (search (crosses, sendable) depth 20, tt))))
+run_send = recorded_send Run.the_field.row _ _ Run.the_type.to_one (struct_send (shape Run.the_type) (part_send, (search (crosses, sendable) depth 20, (search (crosses, sendable) depth 20, tt))))
 
 abbrev outcome : List RattleType
 outcome = Reply.the_row ∷ Part.the_row ∷ []
@@ -36,7 +36,7 @@ abbrev done : RattleType
 done = Result.the_row (Tuple outcome) AllocError.the_row
 
 outcome_send : IsSend (Tuple outcome)
-outcome_send = recorded_send (tuple_field outcome).row _ _ (tuple_type outcome).to_one (struct_send (shape (tuple_type outcome)) (reply.the_send, (part.the_send, tt)))
+outcome_send = recorded_send (tuple_field outcome).row _ _ (tuple_type outcome).to_one (struct_send (shape (tuple_type outcome)) (reply_send, (part_send, tt)))
 
 done_send : IsSend done
 done_send = search (outcome_send, crosses, sendable) depth 20

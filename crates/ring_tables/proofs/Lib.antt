@@ -2,3 +2,4 @@ pub mod BufferBytes
 mod Looked
 mod Sameness
 mod Gap
+pub mod Crossing

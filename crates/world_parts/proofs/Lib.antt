@@ -31,3 +31,4 @@ pub mod Members
 pub mod Ways
 pub mod Listed
 pub mod FileNames
+pub mod Crossing

@@ -20,7 +20,7 @@ pub returns-clause-ok : goal.returns-clause-ok
 returns-clause-ok c =
     let s = c.self.inside.start in
     bytes_of-shortened (pages_in c.self.inside.stored) (pages_in c.truncate.new.self) s c.self.inside.len c.args.len c.if-self-len.false
-    (λ i h. byte_at-kept (pages_in c.self.inside.stored) (pages_in c.truncate.new.self) (s + i) (c.in_ok-truncate.ensures.below ((s + i) / 4096) (omega (arith, c.div_ceil.ensures))))
+    (λ i h. byte_at-kept (pages_in c.self.inside.stored) (pages_in c.truncate.new.self) (s + i) (c.in_ok-truncate.ensures.below ((s + i) / 4096) (omega (arith, c.div_ceil-end.ensures))))
     ∙ ap (λ xs. resized xs c.args.len) c.self.view_is
 
 pub returns-then-self-len-clause-len : goal.returns-then-self-len-clause-len

@@ -1,0 +1,20 @@
+-- The double rotation.
+use Rattle.std.proofs.Common.{◌≡◌, ◌+◌, ◌-◌, rules, arith, ap, ◌∙◌}
+use Rattle.std.specs.Arc.{arc_value}
+use Rattle.extent_bytes.specs.Pages.{PageMap, page_of, IsJoined}
+use Rattle.extent_bytes.proofs.Joins.{turned_right}
+use Rattle.extent_bytes.proofs.joining.lean_left.Goals as goal
+
+pub returns : goal.returns
+returns c =
+    let a = c.in-Fork in
+    let b = c.in-Fork-deref in
+    let r : PageMap = arc_value c.args.right in
+    let d : arc_value c.args.left ≡ c.deref-3.result.now = search rules in
+    let e : arc_value a.middle ≡ c.deref-6.result.now = search rules in
+    let l : IsJoined (arc_value a.first) a.near (arc_value a.middle) (arc_value c.args.left) = λ j. ap (λ s. page_of s j) (d ∙ a.is) in
+    let m : IsJoined (arc_value b.second) b.half (arc_value b.last) (arc_value a.middle) = λ j. ap (λ s. page_of s j) (e ∙ b.is) in
+    let x : IsJoined (arc_value a.first) a.near (arc_value b.second) (arc_value c.in_ok-lower.lower) = search rules in
+    let y : IsJoined (arc_value b.last) (c.args.width - a.near - b.half) r (arc_value c.in_ok-upper.upper) = search rules in
+    let z : IsJoined (arc_value c.in_ok-lower.lower) (a.near + b.half) (arc_value c.in_ok-upper.upper) (arc_value c.in_ok-new.field-0) = search rules in
+    turned_right _ _ _ r _ _ _ _ _ c.args.width b.half a.near (omega arith) (omega arith) l m x y z
