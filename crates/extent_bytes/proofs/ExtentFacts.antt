@@ -1,5 +1,5 @@
 -- The list of bytes that stored pages stand for, after each kind of change.
-use Rattle.std.proofs.Common.{None, ◌≡◌, ℕ, ◌+◌, ◌-◌, ◌*◌, ◌/◌, ◌%◌, ◌<◌, ◌≤◌, List, ◌++◌, [], length, take, drop, get_or, replicate, min, max, arith, sym, ◌∙◌, ap, refl}
+use Rattle.std.proofs.Common.{None, ◌≡◌, ℕ, ◌+◌, ◌-◌, ◌*◌, ◌/◌, ◌%◌, ◌<◌, ◌≤◌, List, ◌++◌, [], length, take, drop, get_or, replicate, min, max, arith, sym, ◌∙◌, ap, refl, ◌↔◌}
 use Rattle.std.proofs.lemmas.List.{length-append, length-take, length-replicate, get_or-replicate, get_or_append_left, get_or-append_right, get_or-take, get_or_past}
 use Rattle.std.proofs.lemmas.List.FromFn.{length-map-range_with_len, get_or-map-range_with_len}
 use Rattle.std.proofs.lemmas.Grind.{same_number_lists}
@@ -145,3 +145,11 @@ bytes_of-agree m n s t len k e there back =
 pub stored_of_equal : (m n : PageMap) (s t len k : ℕ) → len ≡ k → bytes_of m s len ≡ bytes_of n t k → StoredAgree m s (s + len) (byte_at n) t
 stored_of_equal m n s t len k d e = λ i h stored.
     sym (get_or-bytes_of n t k i (omega arith)) ∙ ap (λ xs. get_or xs i 0) (sym e) ∙ get_or-bytes_of m s len i (omega arith)
+
+-- where the stored bytes of one agree, those of the other do so just where both lists are equal
+pub agree_if_equal : (m n : PageMap) (s t len k : ℕ) (xs ys : List ℕ) → len ≡ k → bytes_of m s len ≡ xs → bytes_of n t k ≡ ys → StoredAgree m s (s + len) (byte_at n) t
+    → StoredAgree n t (t + k) (byte_at m) s ↔ (xs ≡ ys)
+agree_if_equal m n s t len k xs ys e mine theirs there = (
+  (λ back. sym mine ∙ bytes_of-agree m n s t len k e there back ∙ theirs),
+  (λ same. stored_of_equal n m t s k len (sym e) (theirs ∙ sym same ∙ sym mine)),
+)

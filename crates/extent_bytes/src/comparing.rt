@@ -1,7 +1,7 @@
 // Bytes of two maps of pages compared. Only stored pages are looked at.
 ghost use Rattle.std.specs.Prelude.{◌+◌, ◌*◌, ◌/◌, ◌<◌, ◌≤◌, ◌^◌, ◌↔◌, length, IsTrue};
 ghost use Rattle.extent_bytes.specs.Kept.{byte_held};
-ghost use Rattle.extent_bytes.specs.Pages.{HoldsAt, PageAgrees, StoredAgree};
+ghost use Rattle.extent_bytes.specs.Pages.{byte_at, HoldsAt, PageAgrees, StoredAgree};
 
 use crate::page::{PAGE_SIZE, Page, is_blank};
 use crate::page_bytes::PAGE;
@@ -84,6 +84,29 @@ pub(crate) fn stored_agree(
             return false;
         }
         at = number + 1;
+    }
+    true
+}
+
+// The same of the other map, where all bytes of this one's stored pages are its own already: those
+// of pages that both have were compared, and what this one lacks is zeros.
+pub(crate) fn rest_agrees(other: &Pages, start: u64, end: u64, pages: &Pages) -> bool
+    requires forward { start ≤ end }
+    requires small { end < 2 ^ 62 }
+    requires near { start < 4096 }
+    requires compared { StoredAgree pages.now start end (byte_at other.now) start }
+    ensures { IsTrue result ↔ StoredAgree other.now start end (byte_at pages.now) start }
+{
+    let last = end.div_ceil(PAGE);
+    let mut at = start / PAGE;
+    while let Some((number, page)) = other.next(at, last) {
+        at = number + 1;
+        if let Some(_) = pages.get(number) {
+            continue;
+        }
+        if !page_agrees(page, number, start, end, &Paged::Map(pages), start) {
+            return false;
+        }
     }
     true
 }

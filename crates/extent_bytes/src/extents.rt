@@ -3,7 +3,7 @@ ghost use Rattle.std.specs.Prelude.{◌≡◌, ℕ, ◌+◌, ◌-◌, ◌≤◌,
 ghost use Rattle.std.specs.Prelude.{vec_len, max, IsTrue, IfOk, IfSome, OnOk, OnErr};
 ghost use Rattle.extent_bytes.specs.Bytes.{overwritten, zeroed, resized, range_of};
 
-use crate::comparing::stored_agree;
+use crate::comparing::{rest_agrees, stored_agree};
 use crate::moving::aligned;
 use crate::page_bytes::{PAGE, copy_of_part, part_of_page};
 use crate::page_run::PageRun;
@@ -257,6 +257,9 @@ impl Extents {
         let others = other.stored.pages();
         if !stored_agree(pages, self.start, end, &Paged::Map(others), other.start) {
             return false;
+        }
+        if self.start == other.start {
+            return rest_agrees(others, other.start, other_end, pages);
         }
         stored_agree(
             others,
