@@ -9,6 +9,15 @@ use crate::places::copied;
 use std::alloc::{AllocError, Global};
 use std::sync::Arc;
 
+// Whether it is a leaf that has no place at `to` or beyond. A part up to there may as well be all of
+// it, and shares it.
+fn ends_by(pages: &Pages, to: u64) -> bool {
+    match pages {
+        Pages::Leaf(places) => places.len() as u64 <= to,
+        Pages::Fork(..) => false,
+    }
+}
+
 // The pages of numbers below `to`.
 pub(crate) fn front(pages: &Pages, alloc: Global, to: u64) -> Result<Arc<Pages>, AllocError>
     ensures { IfOk result (λ part. (j : ℕ) → j < to → page_of (arc_value part) j ≡ page_of pages.now j) }
@@ -19,10 +28,17 @@ pub(crate) fn front(pages: &Pages, alloc: Global, to: u64) -> Result<Arc<Pages>,
             Ok(Arc::new(alloc, Pages::Leaf(copied(alloc, &places[..end])?))?)
         }
         Pages::Fork(left, width, right, _) => {
-            if to < *width {
+            if to <= *width {
+                if ends_by(left, to) {
+                    return Arc::try_clone(left);
+                }
                 return front(left, alloc, to);
             }
-            let last = front(right, alloc, to - *width)?;
+            let last = if ends_by(right, to - *width) {
+                Arc::try_clone(right)?
+            } else {
+                front(right, alloc, to - *width)?
+            };
             joined(alloc, Arc::try_clone(left)?, *width, last)
         }
     }
@@ -38,7 +54,10 @@ pub(crate) fn behind(pages: &Pages, alloc: Global, from: u64) -> Result<Arc<Page
             Ok(Arc::new(alloc, Pages::Leaf(copied(alloc, &places[start..])?))?)
         }
         Pages::Fork(left, width, right, _) => {
-            if *width <= from {
+            if from == *width {
+                return Arc::try_clone(right);
+            }
+            if *width < from {
                 return behind(right, alloc, from - *width);
             }
             let first = behind(left, alloc, from)?;
@@ -58,6 +77,9 @@ pub(crate) fn between(
     ensures { IfOk result (λ part. (j : ℕ) → from + j < to →
         page_of (arc_value part) j ≡ page_of pages.now (from + j)) }
 {
+    if from == 0 {
+        return front(pages, alloc, to);
+    }
     match pages {
         Pages::Leaf(places) => {
             let end = places.len().min(to as usize);
@@ -68,16 +90,19 @@ pub(crate) fn between(
             if to <= *width {
                 return between(left, alloc, from, to);
             }
+            if from == *width && ends_by(right, to - from) {
+                return Arc::try_clone(right);
+            }
             if *width <= from {
                 return between(right, alloc, from - *width, to - *width);
             }
             let first = behind(left, alloc, from)?;
-            joined(
-                alloc,
-                first,
-                *width - from,
-                front(right, alloc, to - *width)?,
-            )
+            let last = if ends_by(right, to - *width) {
+                Arc::try_clone(right)?
+            } else {
+                front(right, alloc, to - *width)?
+            };
+            joined(alloc, first, *width - from, last)
         }
     }
 }
