@@ -1,7 +1,7 @@
 // Stored pages by their numbers. Page k holds the bytes from 4,096 * k on, and one that is not
 // stored is zeros.
 ghost use Rattle.std.specs.Prelude.{◌≡◌, ℕ, ◌+◌, ◌*◌, ◌<◌, ◌≤◌, ◌≢◌, length, replicate};
-ghost use Rattle.std.specs.Prelude.{None, Some, IsSome, IfSome, IfNone, IfOk, OnOk, OnErr};
+ghost use Rattle.std.specs.Prelude.{None, Some, IsSome, IsTrue, IfSome, IfNone, IfOk, OnOk, OnErr};
 ghost use Rattle.extent_bytes.specs.Pages.{page_of, IsRewritten, IsSpliced, PageWritten};
 ghost use Rattle.extent_bytes.specs.Pages.{Replaced, SameBytes, SamePages, Overlaid};
 
@@ -130,6 +130,32 @@ impl Pages {
                     None => None,
                 }
             }
+        }
+    }
+
+    // Whether there is no page from the number `from` on and below `to`. Where more than one leaf has
+    // places there it isn't found out.
+    pub(crate) fn is_hole(&self, from: u64, to: u64) -> bool
+        requires { from ≤ to }
+        ensures { IsTrue result → (j : ℕ) → from ≤ j → j < to → page_of self.now j ≡ None }
+    {
+        match self {
+            Pages::Leaf(places) => next_in(places, from, to).is_none(),
+            Pages::Fork(left, width, right, _) => {
+                if to <= *width {
+                    return left.is_hole(from, to);
+                }
+                *width <= from && right.is_hole(from - *width, to - *width)
+            }
+        }
+    }
+
+    // Whether the last leaf has no place for the number `to`, nor for any beyond. A part up to there
+    // may as well be all of it, and share it.
+    pub(crate) fn ends_by(&self, to: u64) -> bool {
+        match self {
+            Pages::Leaf(places) => places.len() as u64 <= to,
+            Pages::Fork(_, width, right, _) => *width <= to && right.ends_by(to - *width),
         }
     }
 

@@ -9,15 +9,6 @@ use crate::places::copied;
 use std::alloc::{AllocError, Global};
 use std::sync::Arc;
 
-// Whether it is a leaf that has no place at `to` or beyond. A part up to there may as well be all of
-// it, and shares it.
-fn ends_by(pages: &Pages, to: u64) -> bool {
-    match pages {
-        Pages::Leaf(places) => places.len() as u64 <= to,
-        Pages::Fork(..) => false,
-    }
-}
-
 // The pages of numbers below `to`.
 pub(crate) fn front(pages: &Pages, alloc: Global, to: u64) -> Result<Arc<Pages>, AllocError>
     ensures { IfOk result (λ part. (j : ℕ) → j < to → page_of (arc_value part) j ≡ page_of pages.now j) }
@@ -29,12 +20,12 @@ pub(crate) fn front(pages: &Pages, alloc: Global, to: u64) -> Result<Arc<Pages>,
         }
         Pages::Fork(left, width, right, _) => {
             if to <= *width {
-                if ends_by(left, to) {
+                if left.ends_by(to) {
                     return Arc::try_clone(left);
                 }
                 return front(left, alloc, to);
             }
-            let last = if ends_by(right, to - *width) {
+            let last = if right.ends_by(to - *width) {
                 Arc::try_clone(right)?
             } else {
                 front(right, alloc, to - *width)?
@@ -90,14 +81,14 @@ pub(crate) fn between(
             if to <= *width {
                 return between(left, alloc, from, to);
             }
-            if from == *width && ends_by(right, to - from) {
+            if from == *width && right.ends_by(to - from) {
                 return Arc::try_clone(right);
             }
             if *width <= from {
                 return between(right, alloc, from - *width, to - *width);
             }
             let first = behind(left, alloc, from)?;
-            let last = if ends_by(right, to - *width) {
+            let last = if right.ends_by(to - *width) {
                 Arc::try_clone(right)?
             } else {
                 front(right, alloc, to - *width)?

@@ -59,7 +59,7 @@ impl Stored {
             page_of (pages_in part) j ≡ page_of (pages_in self.now) (from + j)) }
     {
         match self {
-            Stored::Shared(pages) if from == 0 && pages.next(to, u64::MAX).is_none() => {
+            Stored::Shared(pages) if from == 0 && pages.ends_by(to) => {
                 Ok(Stored::Shared(Arc::try_clone(pages)?))
             }
             _ => Ok(Stored::Shared(between(self.pages(), alloc, from, to)?)),
@@ -106,7 +106,7 @@ impl Stored {
         }
     }
 
-    // `zero_range` of the pages. Where none is stored there are zeros already.
+    // `zero_range` of the pages. Where it is found that none is stored there are zeros already.
     pub(crate) fn zero_range(&mut self, alloc: Global, lo: u64, hi: u64) -> Result<(), AllocError>
         requires forward { lo ≤ hi }
         requires small { hi < 2 ^ 63 }
@@ -116,9 +116,9 @@ impl Stored {
         if lo == hi {
             return Ok(());
         }
-        let Some(_) = self.pages().next(lo / PAGE, hi.div_ceil(PAGE)) else {
+        if self.pages().is_hole(lo / PAGE, hi.div_ceil(PAGE)) {
             return Ok(());
-        };
+        }
         match self {
             Stored::Own(pages) => zero_range(pages, alloc, lo, hi),
             Stored::Shared(pages) => zero_range(Arc::make_mut(pages)?, alloc, lo, hi),
@@ -154,7 +154,7 @@ impl Stored {
             page_of (pages_in self.new) j ≡ page_of (pages_in self.old) j) }
         ensures err { OnErr result (SameBytes (pages_in self.old) (pages_in self.new)) }
     {
-        if self.pages().next(from, u64::MAX).is_none() {
+        if self.pages().ends_by(from) {
             return Ok(());
         }
         *self = Stored::Shared(front(self.pages(), alloc, from)?);

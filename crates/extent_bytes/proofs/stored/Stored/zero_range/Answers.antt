@@ -10,10 +10,13 @@ use Rattle.extent_bytes.proofs.Kept.{copied, overlaid_copy, overlaid_none}
 use Rattle.extent_bytes.proofs.Overlays.{overlaid_nothing}
 use Rattle.extent_bytes.proofs.stored.Stored.zero_range.Goals as goal
 
-pub returns-in_default-clause-ok : goal.returns-in_default-clause-ok
-returns-in_default-clause-ok c =
+pub returns-then-is_hole : goal.returns-then-is_hole
+returns-then-is_hole c =
     let P : PageMap → Type 0 = λ q. Overlaid q q c.args.lo c.args.hi (λ _. 0) in
-    subst P c.pages.ensures (overlaid_none c.pages.result.now c.args.lo c.args.hi (c.args.lo / 4096) c.div_ceil.result refl (omega (arith, c.div_ceil.ensures)) c.in_default.ensures.none)
+    let hole = c.is_hole.ensures c.if-is_hole.true in record {
+      ok = subst P c.pages.ensures (overlaid_none c.pages.result.now c.args.lo c.args.hi (c.args.lo / 4096) c.div_ceil.result refl (omega (arith, c.div_ceil.ensures)) hole);
+      err = tt;
+    }
 
 pub returns-in_err-make_mut-in-Shared-clause-err : goal.returns-in_err-make_mut-in-Shared-clause-err
 returns-in_err-make_mut-in-Shared-clause-err c =
