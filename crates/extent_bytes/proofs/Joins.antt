@@ -1,5 +1,5 @@
 -- Trees of pages turned, cut and put side by side.
-use Rattle.std.proofs.Common.{◌≡◌, ℕ, ◌+◌, ◌-◌, ◌<◌, ◌≤◌, ◌≢◌, arith}
+use Rattle.std.proofs.Common.{◌≡◌, ℕ, ◌+◌, ◌-◌, ◌<◌, ◌≤◌, arith}
 use Rattle.std.proofs.lemmas.Bool.Decides.{nat_tests}
 use Rattle.extent_bytes.specs.Pages.{PageMap, page_of, IsJoined, Replaced, SamePages}
 
@@ -18,14 +18,6 @@ pub turned_right : (first second last right middle left lower upper whole : Page
     → IsJoined left width right whole
 turned_right first second last right middle left lower upper whole width half near g h l m a b w = λ j.
     grind (arith, nat_tests, l j, m (j - near), a j, b (j - (near + half)), w j)
-
--- a page is put into what lies from a width on
-pub put_behind : (m first tail last put whole new : PageMap) (number width : ℕ) → width ≤ number
-    → ((j : ℕ) → j < width → page_of first j ≡ page_of m j) → ((j : ℕ) → page_of tail j ≡ page_of m (width + j)) → SamePages tail last
-    → ((j : ℕ) → j ≢ number - width → page_of put j ≡ page_of last j) → IsJoined first width put whole → SamePages whole new
-    → (j : ℕ) → j ≢ number → page_of new j ≡ page_of m j
-put_behind m first tail last put whole new number width h f t l others w n j ne =
-    grind (arith, nat_tests, f j, t (j - width), l (j - width), others (j - width), w j, n j)
 
 -- a patch is put between what lies before and behind it
 pub spliced : (m s front back patch part whole new : PageMap) (first end : ℕ) → first ≤ end → SamePages m s

@@ -9,8 +9,11 @@ use crate::places::one_leaf;
 use std::alloc::{AllocError, Global};
 use std::sync::Arc;
 
+// Two leaves become one where it has so many places at most, since that copies them.
+const MERGED: u64 = LEAF / 2;
+
 // How many forks lie above one another.
-fn height(pages: &Pages) -> u64 {
+pub(crate) fn height(pages: &Pages) -> u64 {
     match pages {
         Pages::Leaf(_) => 0,
         Pages::Fork(_, _, _, height) => *height,
@@ -18,7 +21,7 @@ fn height(pages: &Pages) -> u64 {
 }
 
 // Both sides under a fork.
-fn fork(left: Arc<Pages>, width: u64, right: Arc<Pages>) -> Pages
+pub(crate) fn fork(left: Arc<Pages>, width: u64, right: Arc<Pages>) -> Pages
     ensures { IsJoined (arc_value left) width (arc_value right) result }
 {
     let height = height(&left).max(height(&right)).saturating_add(1);
@@ -82,6 +85,21 @@ fn lean_left(
     Ok(Arc::new(alloc, fork(left, width, right))?)
 }
 
+// Both sides, of which either may be two higher.
+pub(crate) fn leaned(
+    alloc: Global,
+    left: Arc<Pages>,
+    width: u64,
+    right: Arc<Pages>,
+) -> Result<Arc<Pages>, AllocError>
+    ensures { IfOk result (λ whole. IsJoined (arc_value left) width (arc_value right) (arc_value whole)) }
+{
+    if height(&left) < height(&right) {
+        return lean_right(alloc, left, width, right);
+    }
+    lean_left(alloc, left, width, right)
+}
+
 // The pages of the first tree below a width, and from there on those of the second.
 pub(crate) fn joined(
     alloc: Global,
@@ -93,7 +111,7 @@ pub(crate) fn joined(
 {
     match (&*left, &*right) {
         (Pages::Leaf(first), Pages::Leaf(second))
-            if width <= LEAF && second.len() as u64 <= LEAF - width => {
+            if width <= MERGED && second.len() as u64 <= MERGED - width => {
             Ok(Arc::new(
                 alloc,
                 Pages::Leaf(one_leaf(alloc, first, width as usize, second)?),

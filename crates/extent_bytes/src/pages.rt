@@ -5,11 +5,12 @@ ghost use Rattle.std.specs.Prelude.{None, Some, IsSome, IsTrue, IfSome, IfNone, 
 ghost use Rattle.extent_bytes.specs.Pages.{page_of, IsRewritten, IsSpliced, PageWritten};
 ghost use Rattle.extent_bytes.specs.Pages.{Replaced, SameBytes, SamePages, Overlaid};
 
-use crate::joining::joined;
+use crate::joining::{fork, height, joined, leaned};
 use crate::page::{PAGE_SIZE, Page, is_blank};
 use crate::parting::{behind, front};
 use crate::places::{next_in, put_all_in, put_in, rewrite_in};
 use std::alloc::{AllocError, Global};
+use std::mem;
 use std::sync::Arc;
 
 // So many places a leaf has at most. One that changes a page of a leaf that others have too copies
@@ -159,37 +160,56 @@ impl Pages {
         }
     }
 
-    // Whether the leaf of a number has a place for it, or may get one.
-    fn has_place(&self, number: u64) -> bool {
-        match self {
-            Pages::Leaf(places) => {
-                let len = places.len() as u64;
-                number < WINDOW.max(len) || number == len && len < LEAF
-            }
-            Pages::Fork(left, width, right, _) => {
-                if number < *width {
-                    left.has_place(number)
-                } else {
-                    right.has_place(number - *width)
-                }
-            }
+    // Turns a fork of which one side has become two higher than the other. Where memory is wanting it
+    // stays as it is.
+    fn rebalance(&mut self, alloc: Global)
+        ensures { SamePages self.old self.new }
+    {
+        let Pages::Fork(left, width, right, above) = self else {
+            return;
+        };
+        let (first, second) = (height(left), height(right));
+        if first.abs_diff(second) < 2 {
+            *above = first.max(second).saturating_add(1);
+            return;
+        }
+        let (Ok(left), Ok(right)) = (Arc::try_clone(left), Arc::try_clone(right)) else {
+            return;
+        };
+        let Ok(turned) = leaned(alloc, left, *width, right) else {
+            return;
+        };
+        if let Ok(turned) = Arc::unwrap_or_clone(turned) {
+            *self = turned;
         }
     }
 
-    // Puts a page into the leaf of its number.
-    fn put_in_leaf(&mut self, number: u64, page: Page) -> Result<(), AllocError>
+    // Stores a page of a number from a width on, where there is none.
+    fn put_behind(
+        &mut self,
+        alloc: Global,
+        width: u64,
+        number: u64,
+        page: Page,
+    ) -> Result<(), AllocError>
+        requires behind { width ≤ number }
+        requires free { (j : ℕ) → width ≤ j → page_of self.old j ≡ None }
         ensures put { OnOk result (page_of self.new number ≡ Some page) }
         ensures others { OnOk result ((j : ℕ) → j ≢ number → page_of self.new j ≡ page_of self.old j) }
         ensures err { OnErr result (SamePages self.old self.new) }
     {
-        match self {
-            Pages::Leaf(places) => put_in(places, number as usize, page),
-            Pages::Fork(left, width, right, _) => {
-                if number < *width {
-                    Arc::make_mut(left)?.put_in_leaf(number, page)
-                } else {
-                    Arc::make_mut(right)?.put_in_leaf(number - *width, page)
-                }
+        let mut places = Vec::new(alloc);
+        put_in(&mut places, (number - width) as usize, page)?;
+        let last = Arc::new(alloc, Pages::Leaf(places))?;
+        let first = mem::replace(self, Pages::new(alloc));
+        match Arc::new(alloc, first) {
+            Ok(first) => {
+                *self = fork(first, width, last);
+                Ok(())
+            }
+            Err(refused) => {
+                *self = refused.value;
+                Err(AllocError)
             }
         }
     }
@@ -200,16 +220,24 @@ impl Pages {
         ensures others { OnOk result ((j : ℕ) → j ≢ number → page_of self.new j ≡ page_of self.old j) }
         ensures err { OnErr result (SamePages self.old self.new) }
     {
-        if self.has_place(number) {
-            return self.put_in_leaf(number, page);
+        match self {
+            Pages::Leaf(places) => {
+                let len = places.len() as u64;
+                if number < WINDOW.max(len) || number == len && len < LEAF {
+                    return put_in(places, number as usize, page);
+                }
+                self.put_behind(alloc, len.max(number - number % WINDOW), number, page)
+            }
+            Pages::Fork(left, width, right, _) => {
+                if number < *width {
+                    Arc::make_mut(left)?.put(alloc, number, page)?;
+                } else {
+                    Arc::make_mut(right)?.put(alloc, number - *width, page)?;
+                }
+                self.rebalance(alloc);
+                Ok(())
+            }
         }
-        let width = number - number % WINDOW;
-        let mut last = Arc::unwrap_or_clone(behind(self, alloc, width)?)?;
-        last.put_in_leaf(number - width, page)?;
-        let first = front(self, alloc, width)?;
-        let last = Arc::new(alloc, last)?;
-        *self = Arc::unwrap_or_clone(joined(alloc, first, width, last)?)?;
-        Ok(())
     }
 
     // `splice` where one leaf has all the places, or may get them, and so has the patch. Else the
