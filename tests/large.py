@@ -55,6 +55,9 @@ POSITION = (1 << 64) - 1
 # How many times the processor time of holes at the end of a file those at its start may take, which is 1 to 2 times. With all
 # pages behind a hole moved each time it was 170.
 MOST_AT_START = 5.0
+# How many pages lie a mebibyte apart and are made holes one by one, and how many times the processor time that large holes over them
+# may take of what they take where no page was taken away before, which is 1 to 2 times. With a look at each such page it was 170.
+APART, MOST_EMPTIED = 16_384, 5.0
 MODES: Tuple[Tuple[List[str], str], ...] = ((["serial"], ".report"), (["serial", "--sums"], ".sums"), (["check"], ".check"))
 # How often each pair of workers and window is tried on writes that are worth threads.
 OFTEN = 4
@@ -303,6 +306,17 @@ def holes(program: Program) -> List[Outcome]:
     return [Outcome("holes at the start of a file by {}".format(program.compiler), told)]
 
 
+def emptied(program: Program) -> List[Outcome]:
+    """Pages that were taken away one by one cost later holes over all of them nothing."""
+    world = head(1, 1, 1, 3) + file(b"/a", GREATEST_SIZE) + description(1) + ring([1])
+    written = enter(0, [entry(WRITE, FIXED_FILE, offset=it << 20, length=1, side=b"x") for it in range(APART)])
+    small = [enter(0, [hole((it << 20) + beside, 4096) for it in range(APART)]) for beside in (0, 8192)]
+    large = enter(0, [hole(0, APART << 20)] * APART)
+    taken, left = (min(program.seconds(["serial"], world + written + it + large) for _ in range(3)) for it in small)
+    told = None if taken < MOST_EMPTIED * left < math.inf else "{:.3f} seconds, and {:.3f} where none was taken away".format(taken, left)
+    return [Outcome("holes over pages that were taken away by {}".format(program.compiler), told)]
+
+
 def jobs(programs: List[Program]) -> List[Job]:
-    alone = [partial(it, programs[0]) for it in (tried, long_reports, many_rings, deep_tree, deep_paths, full_table, many_entries, long_transfers, shared_lists, long_bytes, at_the_position, holes, waiting, carrying_little)]
+    alone = [partial(it, programs[0]) for it in (tried, long_reports, many_rings, deep_tree, deep_paths, full_table, many_entries, long_transfers, shared_lists, long_bytes, at_the_position, holes, emptied, waiting, carrying_little)]
     return [*alone, *(partial(on_threads, it) for it in programs)]
