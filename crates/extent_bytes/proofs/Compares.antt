@@ -60,3 +60,10 @@ agree_more m other start end target at last number page stored below least agree
 -- one stored page agrees if all do
 pub agree_at : (m : PageMap) (other : ℕ → ℕ) (start end target k : ℕ) (page : List ℕ) → page_of m k ≡ Some page → StoredAgree m start end other target → PageAgrees page k start end other target
 agree_at m other start end target k page e all = λ i h d. grind (arith, e, all i, byte_at-stored)
+
+-- all bytes of a list are held just where it is that list
+pub all_held : (f : ℕ → ℕ) (s n : ℕ) (xs bs : List ℕ) → bytes_from f s n ≡ xs → n ≡ length bs → HoldsAt f s bs ↔ (xs ≡ bs)
+all_held f s n xs bs e d = (
+  (λ held. sym e ∙ bytes_from-is f s n bs (sym d) (λ i h. held i (omega (arith, d)))),
+  (λ same i h. sym (get_or-bytes_from f s n i (omega (arith, d))) ∙ ap (λ l. get_or l i 0) (e ∙ same)),
+)

@@ -16,6 +16,7 @@ use Rattle.extent_bytes.specs.contracts.shared_pages.SharedPages.TheInside as In
 use Rattle.extent_bytes.specs.contracts.shared_pages.Sharing as Sharing
 use Rattle.extent_bytes.specs.contracts.stored.Stored as Stored
 use Rattle.extent_bytes.proofs.page.Page.TheSendSync as page
+use Rattle.extent_bytes.proofs.page_part.PagePart.TheSendSync as part
 use Rattle.extent_bytes.proofs.page_run.PageRun.TheSendSync as run
 use Rattle.extent_bytes.proofs.pages.Pages.TheLaws.TheKnot.{both_send-Pages, both_sync-Pages}
 
@@ -75,10 +76,10 @@ bytes_sync : IsSync SharedBytes.the_row
 bytes_sync = recorded_sync SharedBytes.the_field.row _ _ SharedBytes.the_type.to_one (struct_sync (Struct.shape SharedBytes.the_type) (shared_sync, (search (crosses, sendable) depth 20, tt)))
 
 kept_send : IsSend (Kept.the_field).row
-kept_send = enum_send (Enum.shape Kept.the_type) ((search (crosses, sendable) depth 20, tt), ((search (bytes_send, bytes_sync, crosses, sendable) depth 20, tt), tt))
+kept_send = enum_send (Enum.shape Kept.the_type) ((search (crosses, sendable) depth 20, tt), ((part.the_send, tt), ((search (bytes_send, bytes_sync, crosses, sendable) depth 20, tt), tt)))
 
 kept_sync : IsSync (Kept.the_field).row
-kept_sync = enum_sync (Enum.shape Kept.the_type) ((search (crosses, sendable) depth 20, tt), ((search (bytes_send, bytes_sync, crosses, sendable) depth 20, tt), tt))
+kept_sync = enum_sync (Enum.shape Kept.the_type) ((search (crosses, sendable) depth 20, tt), ((part.the_sync, tt), ((search (bytes_send, bytes_sync, crosses, sendable) depth 20, tt), tt)))
 
 read_inside_send : IsSend InsideRead.the_row
 read_inside_send = recorded_send InsideRead.the_field.row _ _ InsideRead.the_type.to_one (struct_send (Struct.shape InsideRead.the_type) (kept_send, tt))

@@ -20,7 +20,7 @@ fn page_holds(pages: &Paged<'_>, number: u64, offset: usize, bytes: &[u8]) -> bo
 }
 
 // Whether the bytes are those from a position on.
-fn holds(pages: &Paged<'_>, at: u64, bytes: &[u8]) -> bool
+pub(crate) fn holds(pages: &Paged<'_>, at: u64, bytes: &[u8]) -> bool
     requires { at + length bytes.now < 2 ^ 63 }
     ensures { IsTrue result ↔ HoldsAt (byte_held pages.now) at bytes.now }
 {

@@ -3,9 +3,10 @@ ghost use Rattle.std.specs.Prelude.{◌≡◌, ℕ, ◌+◌, ◌-◌, ◌≤◌,
 ghost use Rattle.std.specs.Prelude.{vec_len, max, IsTrue, IfOk, IfSome, OnOk, OnErr};
 ghost use Rattle.extent_bytes.specs.Bytes.{overwritten, zeroed, resized, range_of};
 
-use crate::comparing::{rest_agrees, stored_agree};
+use crate::comparing::{holds, rest_agrees, stored_agree};
 use crate::moving::aligned;
-use crate::page_bytes::{PAGE, copy_of_part, part_of_page};
+use crate::page_bytes::{PAGE, copy_of_part, part_of_page, shared_part};
+use crate::page_part::PagePart;
 use crate::page_run::PageRun;
 use crate::paged::Paged;
 use crate::stored::Stored;
@@ -270,6 +271,23 @@ impl Extents {
         )
     }
 
+    /// The bytes from `lo` up to `hi` as a part of the page that they lie in, which is shared; none
+    /// where they lie in several, or it isn't stored.
+    pub(crate) fn part(&self, lo: u64, hi: u64) -> Result<Option<PagePart>, AllocError>
+        requires forward { lo ≤ hi }
+        requires inside { hi ≤ length self.now }
+        ensures { IfOk result (λ found. IfSome found (λ part. part ≡ range_of self.now lo hi)) }
+    {
+        let pages = self.stored.pages();
+        let at = self.start + lo;
+        let start = at % PAGE;
+        let stop = start + (hi - lo);
+        if PAGE < stop {
+            return Ok(None);
+        }
+        shared_part(pages, at / PAGE, start as usize, stop as usize)
+    }
+
     /// The bytes from `lo` up to `hi` as a run of pages, which are shared; none where one of them
     /// isn't stored, or there are many.
     pub(crate) fn run(&self, lo: u64, hi: u64) -> Result<Option<PageRun>, AllocError>
@@ -286,5 +304,13 @@ impl Extents {
         ensures { IsTrue result ↔ (run.now ≡ self.now) }
     {
         run.len() == self.len && run.agrees(&Paged::Map(self.stored.pages()), self.start)
+    }
+
+    /// Whether a slice has the bytes of this list. It takes no memory.
+    pub(crate) fn is_slice(&self, bytes: &[u8]) -> bool
+        requires { length bytes.now ≤ MAX_LEN }
+        ensures { IsTrue result ↔ (self.now ≡ bytes.now) }
+    {
+        self.len == bytes.len() as u64 && holds(&Paged::Map(self.stored.pages()), self.start, bytes)
     }
 }

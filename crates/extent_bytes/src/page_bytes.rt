@@ -6,6 +6,7 @@ ghost use Rattle.extent_bytes.specs.Pages.{bytes_of, PageCopied};
 ghost use Rattle.extent_bytes.specs.Pages.{SameBytes, SameBelow, Overlaid};
 
 use crate::page::PAGE_SIZE;
+use crate::page_part::PagePart;
 use crate::pages::Pages;
 use std::alloc::{AllocError, Global};
 
@@ -77,6 +78,24 @@ pub(crate) fn part_of_page(pages: &Pages, number: u64, from: usize, to: usize) -
             Some(&stored[from..to])
         }
         None => None,
+    }
+}
+
+// A part of one page, which is shared; none where the page is not stored.
+pub(crate) fn shared_part(
+    pages: &Pages,
+    number: u64,
+    from: usize,
+    to: usize,
+) -> Result<Option<PagePart>, AllocError>
+    requires forward { from ≤ to }
+    requires inside { to ≤ PAGE_SIZE }
+    ensures { IfOk result (λ found. IfSome found (λ part.
+        part ≡ bytes_of pages.now (number * 4096 + from) (to - from))) }
+{
+    match pages.get(number) {
+        Some(page) => Ok(Some(PagePart::of(page, from, to)?)),
+        None => Ok(None),
     }
 }
 

@@ -5,7 +5,7 @@ ghost use Rattle.extent_bytes.specs.Bytes.{range_of};
 ghost use Rattle.extent_bytes.specs.Kept.{byte_held};
 ghost use Rattle.extent_bytes.specs.Pages.{page_of, byte_in, bytes_from, bytes_of};
 
-use crate::comparing::page_agrees;
+use crate::comparing::{holds, page_agrees};
 use crate::page::Page;
 use crate::page_bytes::PAGE;
 use crate::paged::Paged;
@@ -140,5 +140,13 @@ impl PageRun {
         ensures { IsTrue result ↔ (self.now ≡ other.now) }
     {
         self.len == other.len && self.agrees(&Paged::Run(&other.pages), other.start)
+    }
+
+    // Whether they are the bytes of a slice.
+    pub(crate) fn is_slice(&self, bytes: &[u8]) -> bool
+        requires { length bytes.now ≤ 2 ^ 40 }
+        ensures { IsTrue result ↔ (self.now ≡ bytes.now) }
+    {
+        self.len == bytes.len() as u64 && holds(&Paged::Run(&self.pages), self.start, bytes)
     }
 }

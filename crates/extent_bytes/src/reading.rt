@@ -4,6 +4,7 @@ ghost use Rattle.std.specs.Prelude.{IfNone, IfSome};
 ghost use Rattle.extent_bytes.specs.Bytes.{range_of};
 
 use crate::extents::{Extents, MAX_LEN};
+use crate::page_part::PagePart;
 use crate::shared_pages::SharedPages;
 use std::alloc::{AllocError, Global};
 use std::marker::Model;
@@ -27,6 +28,8 @@ pub(crate) struct SharedBytes {
 #[derive(Drop)]
 pub(crate) enum Kept {
     Plain(Vec<u8>),
+    // All of them lie in one page, which is stored.
+    Part(PagePart),
     Shared(Box<SharedBytes>),
 }
 
@@ -75,6 +78,11 @@ impl ReadBytes {
                 kept: Kept::Plain(list.read(lo, hi)?),
             });
         }
+        if let Some(part) = list.part(lo, hi)? {
+            return Ok(ReadBytes {
+                kept: Kept::Part(part),
+            });
+        }
         let front = list.read(lo, lo + FRONT as u64)?;
         let list = SharedPages::of(alloc, list, lo, hi)?;
         let shared = Box::new(alloc, SharedBytes { list, front })?;
@@ -90,6 +98,7 @@ impl ReadBytes {
     {
         match &self.kept {
             Kept::Plain(bytes) => bytes.len() as u64,
+            Kept::Part(part) => part.as_slice().len() as u64,
             Kept::Shared(shared) => shared.list.len(),
         }
     }
@@ -102,7 +111,7 @@ impl ReadBytes {
     {
         match &self.kept {
             Kept::Plain(bytes) => Some(bytes),
-            Kept::Shared(_) => None,
+            Kept::Part(_) | Kept::Shared(_) => None,
         }
     }
 
@@ -111,8 +120,9 @@ impl ReadBytes {
         requires { count ≤ FRONT }
         ensures { result.now ≡ take count self.now }
     {
-        let bytes = match &self.kept {
+        let bytes: &[u8] = match &self.kept {
             Kept::Plain(bytes) => bytes,
+            Kept::Part(part) => part.as_slice(),
             Kept::Shared(shared) => &shared.front,
         };
         let end = count.min(bytes.len());
@@ -132,6 +142,10 @@ impl ReadBytes {
     {
         match &self.kept {
             Kept::Plain(bytes) => Vec::from_slice(alloc, &bytes[lo as usize..hi as usize]),
+            Kept::Part(part) => {
+                let bytes = part.as_slice();
+                Vec::from_slice(alloc, &bytes[lo as usize..hi as usize])
+            }
             Kept::Shared(shared) => shared.list.read(alloc, lo, hi),
         }
     }
@@ -143,6 +157,9 @@ impl ReadBytes {
     {
         match (&self.kept, &other.kept) {
             (Kept::Plain(bytes), Kept::Plain(others)) => bytes.as_slice() == others.as_slice(),
+            (Kept::Part(part), Kept::Part(others)) => part.as_slice() == others.as_slice(),
+            (Kept::Part(part), Kept::Shared(shared)) => shared.list.is_slice(part.as_slice()),
+            (Kept::Shared(shared), Kept::Part(part)) => shared.list.is_slice(part.as_slice()),
             (Kept::Shared(shared), Kept::Shared(others)) => shared.list.same(&others.list),
             _ => false,
         }

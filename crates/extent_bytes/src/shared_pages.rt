@@ -90,4 +90,15 @@ impl SharedPages {
             (Sharing::List(list), Sharing::List(others)) => list.same(others),
         }
     }
+
+    // Whether they are the bytes of a slice. It takes no memory.
+    pub(crate) fn is_slice(&self, bytes: &[u8]) -> bool
+        requires { length bytes.now ≤ MAX_LEN }
+        ensures { IsTrue result ↔ (self.now ≡ bytes.now) }
+    {
+        match &self.sharing {
+            Sharing::Run(run) => run.is_slice(bytes),
+            Sharing::List(list) => list.is_slice(bytes),
+        }
+    }
 }

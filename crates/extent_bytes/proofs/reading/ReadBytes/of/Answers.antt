@@ -1,8 +1,16 @@
--- More than 4,096 bytes are shared, and their first 64 are the range's.
-use Rattle.std.proofs.Common.{◌≡◌, ◌+◌, ◌-◌, ◌≤◌, length, take, drop, arith, ap, sym, ◌∙◌}
+-- More than 2,048 bytes are shared, and the first 64 of those in several pages are the range's.
+use Rattle.std.proofs.Common.{◌≡◌, ◌+◌, ◌-◌, ◌≤◌, IfSome, length, take, drop, arith, ap, subst, sym, ◌∙◌}
 use Rattle.std.proofs.lemmas.List.{take-take}
 use Rattle.extent_bytes.specs.Bytes.{range_of}
+use Rattle.extent_bytes.proofs.Lists.{length-part}
 use Rattle.extent_bytes.proofs.reading.ReadBytes.of.Goals as goal
+
+pub invariant_of-result-in-Some : goal.invariant_of-result-in-Some
+unfolding range_of
+invariant_of-result-in-Some c =
+    let list = c.args.list.now in
+    let same = subst (λ o. IfSome o (λ part. part ≡ range_of list c.args.lo c.args.hi)) c.in-Some.is c.in_ok-part.ensures in
+    omega (arith, ap length same, length-part list c.args.lo c.args.hi c.requires.forward c.requires.inside, c.if-hi-lo-le-MOST_COPIED.false)
 
 pub invariant_of-result-2 : goal.invariant_of-result-2
 unfolding range_of
