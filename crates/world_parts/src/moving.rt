@@ -1,5 +1,5 @@
 //! Bytes that go between files and registered buffers, and those that a trace's text has for them.
-ghost use Rattle.std.specs.Prelude.{◌≡◌, ◌+◌, ◌-◌, ◌≤◌, [], length, unwrap_or, OnOk};
+ghost use Rattle.std.specs.Prelude.{◌≡◌, ◌+◌, ◌-◌, ◌≤◌, [], length, unwrap_or, IsTrue, OnOk};
 ghost use Rattle.entry_checks.specs.Operation.{file_limit};
 ghost use Rattle.extent_bytes.specs.Bytes.{range_of};
 ghost use Rattle.trace_format.specs.Blobs.{sliced};
@@ -11,8 +11,16 @@ use extent_bytes::Extents;
 use std::alloc::{AllocError, Global};
 use trace_format::{Blob, TextSlice};
 
-/// The most bytes that are copied. More are shared.
-const MOST_COPIED: u64 = 4_096;
+/// How many bytes a page of a file or buffer has.
+const PAGE: u64 = 4_096;
+
+/// Whether so many bytes that lie from one place on, and are to lie from another on, are shared and
+/// not copied: more than a page, and a page that is one on both sides.
+fn are_shared(count: u64, from: u64, to: u64) -> bool
+    ensures { IsTrue result → 4096 ≤ count }
+{
+    count > PAGE || count == PAGE && from % PAGE == 0 && to % PAGE == 0
+}
 
 impl State {
     /// Writes the bytes of a file from `low` up to `high`, as far as it has them, over those of a
@@ -37,7 +45,7 @@ impl State {
     {
         let room = self.buffer_len(ring, index).unwrap_or(0).saturating_sub(at);
         let end = high.min(low.saturating_add(room));
-        if end.saturating_sub(low) <= MOST_COPIED {
+        if !are_shared(end.saturating_sub(low), low, at) {
             let bytes = self.bytes(alloc, node, low, end)?;
             return self.write_buffer(ring, index, at, &bytes);
         }
@@ -67,7 +75,7 @@ impl State {
         ensures { OnOk result (self.new ≡ apply (world.write_bytes node at
             (range_of (unwrap_or (world.buffer self.old ring index) []) low high)) self.old) }
     {
-        if high - low <= MOST_COPIED {
+        if !are_shared(high - low, low, at) {
             let bytes = self.buffer(ring, index, low, high)?;
             return self.write(node, at, &bytes);
         }
@@ -92,7 +100,7 @@ impl State {
         ensures { OnOk result
             (self.new ≡ apply (world.write_bytes node at (sliced bytes.entry)) self.old) }
     {
-        if bytes.len() as u64 <= MOST_COPIED {
+        if !are_shared(bytes.len() as u64, 0, at) {
             return self.write(node, at, bytes.as_slice());
         }
         let part = Extents::of_text(alloc, bytes.text, bytes.from, bytes.len(), at)?;
@@ -133,7 +141,7 @@ impl State {
             (self.new ≡ apply (world.write_buffer ring index at bytes.now) self.old) }
     {
         match bytes.slice() {
-            Some(bytes) if bytes.len() as u64 > MOST_COPIED => {
+            Some(bytes) if are_shared(bytes.len() as u64, 0, at) => {
                 self.buffers.write_text(ring, index, at, bytes)
             }
             _ => self.write_buffer(ring, index, at, bytes.as_slice()),
