@@ -17,6 +17,7 @@ KINDS = {
     "chains": "chains {n}",
     "big": "big {few} 1",
     "position": "position {n} 16",
+    "pages": "pages {n} 64",
     "appends": "appends {n}",
     "files": "files 192 1024",
 }

@@ -13,6 +13,8 @@
                                         READ, READ_FIXED, READ, .. (a WRITE's bytes would not fit a trace)
     traces.py position N FILE_MB  READs of 4,096 bytes at the position of a file of FILE_MB stored megabytes,
                                   from its start again by an OPENAT at its end
+    traces.py pages N FILE_MB     READs of 4,096 bytes at random pages of a file of FILE_MB stored megabytes, each fourth entry a
+                                  WRITE, READ_FIXED or WRITE_FIXED of as many in turn; 64 buffers
     traces.py appends N           WRITEs of 64 bytes to a file that is open to append
     traces.py files N KB          WRITEs of KB kilobytes to 64 files in turn, one behind another; nothing collides
 
@@ -32,8 +34,8 @@ _SQE = struct.Struct("<BBHiQQIIQHHIQQI")     # the entry and its side length
 out = sys.stdout.buffer
 
 
-def entry(op, flags, fd=0, off=0, addr=0, length=0, op_flags=0, user=0, file_index=0, side=b""):
-    return _SQE.pack(op, flags, 0, fd, off, addr, length, op_flags, user, 0, 0, file_index, 0, 0, len(side)) + side
+def entry(op, flags, fd=0, off=0, addr=0, length=0, op_flags=0, user=0, file_index=0, buffer=0, side=b""):
+    return _SQE.pack(op, flags, 0, fd, off, addr, length, op_flags, user, buffer, 0, file_index, 0, 0, len(side)) + side
 
 
 def directory(path):
@@ -197,6 +199,26 @@ def position(n, file_mb):
     records(n, 64, 1, make)
 
 
+def pages(n, file_mb):
+    r = random.Random(10)
+    count = file_mb * MB // 4096
+    buffers = [(4096 * (i + 1), 4096) for i in range(64)]
+    start(file(b"/data", file_mb * MB, file_mb * MB, r), 1, [1], [([1], buffers)], n, 64)
+    data = r.randbytes(65536 + 4096)
+
+    def make(k, ring):
+        off = int(r.random() * count) * 4096
+        if k % 4 < 3:
+            return entry(READ, FIXED_FILE, off=off, length=4096, user=k)
+        op = (WRITE, READ_FIXED, WRITE_FIXED)[k // 4 % 3]
+        if op == WRITE:
+            at = k & 0xffff
+            return entry(op, FIXED_FILE, off=off, length=4096, user=k, side=data[at:at + 4096])
+        buffer = k * 613 % 64
+        return entry(op, FIXED_FILE, off=off, addr=4096 * (buffer + 1), length=4096, user=k, buffer=buffer)
+    records(n, 64, 1, make)
+
+
 def appends(n):
     r = random.Random(8)
     start(file(b"/data", 0), 1, [], [([0], [])], n, 64)
@@ -226,8 +248,8 @@ def files(n, kb):
     records(n, 64, 1, make)
 
 
-KINDS = {"rw": (rw, 3), "rings": (rings, 1), "one_file": (one_file, 1), "paths": (paths, 1),
-         "chains": (chains, 1), "big": (big, 2), "position": (position, 2), "appends": (appends, 1), "files": (files, 2)}
+KINDS = {"rw": (rw, 3), "rings": (rings, 1), "one_file": (one_file, 1), "paths": (paths, 1), "chains": (chains, 1),
+         "big": (big, 2), "position": (position, 2), "pages": (pages, 2), "appends": (appends, 1), "files": (files, 2)}
 
 
 def main(a):
