@@ -1,5 +1,5 @@
 -- A part that gets an item of the world: chains, slots and descriptors.
-use Rattle.std.specs.Prelude.{◌≡◌, ℕ, Bool, cond, ◌==◌, T, length, Option, Some, None, refl, Result, OnOk}
+use Rattle.std.specs.Prelude.{◌≡◌, ℕ, Bool, false, cond, ◌==◌, T, length, Option, Some, None, is_some, refl, Result, OnOk}
 use Rattle.std.specs.Option.{option_map}
 use Rattle.std.specs.Cmp.{unsigned_tied}
 use mathlib.Core.Path.{sym, subst, ap, ◌∙◌}
@@ -122,3 +122,8 @@ descriptors_copied s p sh = record {
     item : (a : Atom) → T (member_of all_descriptors a) → value s a ≡ value (record p { descriptors = s.descriptors }) a
     item (descriptor_at m) h = refl
     item _ h = absurd h
+
+-- a look-up that was told to find nothing finds nothing
+pub none_of : {X : Type 0} (o : Option X) → is_some o ≡ false → o ≡ None
+none_of None h = refl
+none_of (Some x) h = cc

@@ -10,8 +10,8 @@ use Rattle.world_parts.proofs.Placing.{range_of-clipped, length-range_of-most, s
 use Rattle.world_parts.proofs.state.State.fill_from_file.Goals as goal
 use Rattle.world_parts.proofs.ByteWords.{length-there}
 
-pub returns-then-saturating_sub-le-MOST_COPIED : goal.returns-then-saturating_sub-le-MOST_COPIED
-returns-then-saturating_sub-le-MOST_COPIED c =
+pub returns-then-not-are_shared : goal.returns-then-not-are_shared
+returns-then-not-are_shared c =
     let s = c.args.self.now in
     let at = c.args.at in
     let o = buffer s c.args.ring c.args.index in
@@ -40,7 +40,7 @@ returns c =
     let new = range_of whole c.args.low c.args.high in
     let room : c.saturating_sub-room.result ≡ unwrap_or (option_map length o) 0 - at = c.saturating_sub-room.ensures ∙ ap (λ n. n - at) (c.unwrap_or.ensures ∙ ap (λ x. unwrap_or x 0) c.buffer_len.ensures) in
     let end : c.min-end.result ≡ min c.args.high (c.args.low + c.saturating_sub-room.result) = omega arith in
-    let some : 0 < c.saturating_sub-room.result = omega (arith, end, c.saturating_sub.ensures, c.if-saturating_sub-le-MOST_COPIED.false) in
+    let some : 0 < c.saturating_sub-room.result = omega (arith, end, c.saturating_sub.ensures, c.are_shared.ensures c.if-not-are_shared.false) in
     let taken = c.in_ok-part.ensures ∙ ap (λ (v : World). range_of (unwrap_or (bytes v c.args.node) []) c.args.low c.min-end.result) c.self.view_is ∙ range_of-clipped whole c.args.low c.args.high c.min-end.result c.saturating_sub-room.result end in
     on_ok_weaker c.put_buffer_bytes.result
     (λ e. e ∙ ap (λ (x : Option (List ℕ)). record s { buffers = assign pair_keys.total s.buffers (c.args.ring, c.args.index) x })

@@ -1,11 +1,11 @@
 use Rattle.std.proofs.Common.{ap, sym, subst, ◌∙◌}
 use Rattle.std.specs.Option.{option_map}
 use Rattle.std.proofs.lemmas.Result.{on_ok_weaker}
-use Rattle.extent_bytes.proofs.Outcomes.{none_of}
 use Rattle.file_tree.specs.Kinds.{kind_meant}
 use Rattle.file_tree.specs.Tree.{new_node}
 use Rattle.world_parts.specs.Known.{Known, Knows}
 use Rattle.world_parts.specs.World.{World, make_node, apply}
+use Rattle.world_parts.proofs.Copies.{none_of}
 use Rattle.world_parts.proofs.KnownPaths.{knows_none, made_known}
 use Rattle.world_parts.proofs.state.State.make_node.Goals as goal
 use Rattle.world_parts.proofs.state.State.make_node.Goals.{then-is_some, else-is_some}

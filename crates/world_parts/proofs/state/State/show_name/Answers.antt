@@ -3,10 +3,9 @@ use Rattle.std.specs.Prelude.{is_some}
 use Rattle.std.proofs.lemmas.Result.{on_ok_weaker}
 use Rattle.world_parts.specs.Items.{one, name_at}
 use Rattle.world_parts.specs.Copying.{looked_up}
-use Rattle.world_parts.proofs.Copies.{copied_to}
+use Rattle.world_parts.proofs.Copies.{copied_to, none_of}
 use Rattle.world_parts.proofs.CopiesOfNames.{name_copied, name_shown, number_of}
 use Rattle.world_parts.proofs.state.State.show_name.Goals as goal
-use Rattle.extent_bytes.proofs.Outcomes.{none_of}
 
 pub returns-then-is_some : goal.returns-then-is_some
 returns-then-is_some c =
