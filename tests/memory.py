@@ -36,10 +36,11 @@ SPARE = 6
 # The lists of the command line's words are made as large as they will be ahead of time; where that alone is refused, they
 # grow on their own. So are the lists of the lines of two reports, and of the words of each line.
 TRIED_AGAIN = 4
-# Some growths can be done without: a list of many pages that is refused what it takes to share its map of them keeps it for
-# itself, and shares page by page, two lists in each of these traces; and a thread that is refused memory isn't started, and
-# its sums are made where it was asked for.
-DONE_WITHOUT = {HEAVY_WRITES: 2, STORED_FILES: 4}
+# Some growths can be done without: a list of many pages that is refused what it takes to share its tree of them keeps it for
+# itself, and one that is refused one of the two growths of a turn leaves its tree a little higher. Of eight leaves, as each of two
+# heavy writes has, four turns are made. And a thread that is refused memory isn't started, and its sums are made where it was
+# asked for.
+DONE_WITHOUT = {HEAVY_WRITES: 2 * (1 + 4 * 2), STORED_FILES: 4}
 
 
 def growths(count: int, spare: int) -> List[int]:
