@@ -8,12 +8,14 @@ from shims import Shim
 
 TRACES = ("read_four_bytes", "open_write_close_chain_then_empty_slot", "fallocate_and_ftruncate_tests", "side_bytes_of_read")
 MODES = (["serial"], ["serial", "--sums"], ["check"], ["run"], ["compare"], ["rounds"], ["diff"])
-WORDS_ALONE: List[Words] = [["--help"], ["run", "--help"], ["serial", "extra"], ["run", "--workers", "65"], ["serial", b"\xff"]]
+WORDS_ALONE: List[Words] = [["--help"], ["run", "--help"], ["serial", "a", "extra"], ["run", "--workers", "65"], ["serial", b"\xff"]]
 FAILURES = ("fail", "interrupt", "block", "zero")
 INPUT, OUTPUT, ERRORS = 0, 1, 2
 # Where each call moves a byte, every call is changed in these, and each STEP-th in the others.
 WHOLE = ((["serial"], INPUT), (["serial"], OUTPUT), (["run"], INPUT), (["check"], OUTPUT), (["compare"], OUTPUT))
 STEP = 7
+# Help is printed in pieces of so many bytes.
+PIECE = 1024
 
 
 def changed(calls: int, is_whole: bool) -> List[int]:
@@ -28,7 +30,7 @@ def allowed(on: int, how: str, at: int, is_byte: bool, calls: int, is_help: bool
     `ended` gives the answer for so many of its bytes."""
     if at > calls or how == "short":
         return [wanted]
-    moved = at - 1 if is_byte else 0
+    moved = at - 1 if is_byte else PIECE * (at - 1) if is_help else 0
     if on == INPUT and how != "zero":
         return [fault("read")]
     if on == INPUT:

@@ -24,7 +24,8 @@ WEIGHTS = {READ: 8, WRITE: 8, READV: 3, WRITEV: 3, READ_FIXED: 5, WRITE_FIXED: 5
            OPENAT: 12, CLOSE: 6, UNLINKAT: 6, MKDIRAT: 6, LINKAT: 5, RENAMEAT: 12, 6: 1}
 OF_FILES = (READ, WRITE, READV, WRITEV, READ_FIXED, WRITE_FIXED, FSYNC, FALLOCATE, FTRUNCATE)
 # Words that a line of a report may be given, the first ones of lines, and whole lines.
-FACTS = (b"outside=x", b"op=22", b"posted", b"silent", b"", b"=", b"res=1", b"size=0", b"outside", b"a=b=c", b"a=b")
+FACTS = (b"outside=x", b"op=22", b"posted", b"silent", b"", b"=", b"res=1", b"size=0", b"outside", b"a=b=c", b"a=b", b"sum=large", b"tree-sum=ab", b"submitted=5",
+         b"completed=9", b"completed")
 FIRST_WORDS = (b"dir", b"file", b"slot", b"descriptor", b"buffer", b"tree", b"ring", b"0", b"1")
 LINES = (b"", b" ", b"tree", b"slots", b"buffers x", b"dir", b"slot 1", b"descriptor 0 desc=1", b"7 user=1")
 

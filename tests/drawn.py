@@ -1,11 +1,12 @@
 """Drawn traces, such traces with bytes changed, and drawn pairs of reports: the program gives what a second replayer (model.py) and a
 second comparison (model_diff.py) give, and tells of its rounds what model_rounds.py tells. These give what the examples say, and what
-kernels gave."""
+kernels gave. Half of the seeds are the same in every run, the others those of the day (`./test --day` draws them again)."""
 import os
 import re
 from functools import partial
 from typing import Callable, List, Optional
 
+import days
 import model
 import model_diff
 import model_rounds
@@ -63,7 +64,8 @@ def of_reports(program: Program, seed: int) -> Optional[str]:
 
 def lot(program: Program, what: str, unlike: Callable[[Program, int], Optional[str]], seeds: range) -> List[Outcome]:
     faults = ["seed {}: {}".format(seed, told) for seed in seeds for told in [unlike(program, seed)] if told]
-    return [Outcome("{} {} to {} as the model says, by {}".format(what, seeds[0], seeds[-1], program.compiler), first(faults))]
+    day = " of {}".format(days.written()) if seeds[0] >= days.SEEDS_A_DAY else ""
+    return [Outcome("{} {} to {}{} as the model says, by {}".format(what, seeds[0], seeds[-1], day, program.compiler), first(faults))]
 
 
 def model_of_examples() -> List[Outcome]:
@@ -109,5 +111,6 @@ def jobs(programs: List[Program]) -> List[Job]:
     """The first program on all of them, the others on one lot of each kind."""
     each = DRAWN // LOTS
     kinds = (("drawn traces", of_drawn), ("changed traces", of_changed), ("reports", of_reports))
-    lots = [(program, range(at, at + each)) for program in programs for at in range(0, DRAWN if program is programs[0] else each, each)]
+    starts = [at + back for back in (0, days.first_seed()) for at in range(0, DRAWN, each)]
+    lots = [(program, range(at, at + each)) for program in programs for at in (starts if program is programs[0] else starts[:: LOTS])]
     return [model_of_examples, *(partial(lot, program, what, unlike, seeds) for program, seeds in lots for what, unlike in kinds)]

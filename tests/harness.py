@@ -161,15 +161,14 @@ class Count:
     def __init__(self) -> None:
         self.passed = 0
         self.failed = 0
-        self.skipped = 0
+        self.skips: List[Outcome] = []
 
     def add(self, outcome: Outcome) -> None:
         if outcome.fault is not None:
             self.failed += 1
             say("FAILED: {}: {}".format(outcome.name, outcome.fault))
         elif outcome.skipped is not None:
-            self.skipped += 1
-            say("skipped: {}: {}".format(outcome.name, outcome.skipped))
+            self.skips.append(outcome)
         else:
             self.passed += 1
 
@@ -183,14 +182,18 @@ class Count:
     def join(self, other: "Count") -> None:
         self.passed += other.passed
         self.failed += other.failed
-        self.skipped += other.skipped
+        self.skips += other.skips
 
     def line(self) -> str:
-        return "{} passed, {} failed".format(self.passed, self.failed) + (", {} skipped".format(self.skipped) if self.skipped else "")
+        return "{} passed, {} failed".format(self.passed, self.failed) + (", {} skipped".format(len(self.skips)) if self.skips else "")
+
+
+# How a reason begins that is no lack of the machine: a compiler is there, and what is to be tested does not build.
+MADE_NO = "the C compiler made no "
 
 
 def skipped(name: str, why: str) -> List[Outcome]:
-    return [Outcome(name, skipped=why)]
+    return [Outcome(name, why) if why.startswith(MADE_NO) else Outcome(name, skipped=why)]
 
 
 def guarded(job: Job) -> List[Outcome]:

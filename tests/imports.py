@@ -14,7 +14,7 @@ import sys
 
 TOP = os.path.dirname(os.path.dirname(os.path.abspath(__file__)))
 # Traits whose methods are called without their names.
-TRAITS = {"Read", "Write", "BufRead", "Digest", "Model", "ToString", "FromStr", "Hash", "Hasher", "Iterator", "Parser", "Display"}
+TRAITS = {"Read", "Write", "BufRead", "Digest", "Model", "ToString", "FromStr", "Hash", "Hasher", "Iterator", "Parser", "Display", "IsTerminal", "MetadataExt"}
 OF_DO = ("◌>>=◌", "◌>>◌")
 COMMENT = {".rt": r"//[^\n]*", ".antt": r"--[^\n]*"}
 RUST_USE = re.compile(r"^[ \t]*(?P<hands_on>pub(?:\([^)]*\))?[ ])?(?:ghost[ ])?use[ ](?P<path>[^;]*);", re.M)

@@ -1,4 +1,4 @@
-"""Want of memory: each growth is refused in turn, and each thread."""
+"""Out of memory: each growth is refused in turn, and each thread."""
 import os
 from functools import partial
 from typing import List
@@ -21,7 +21,7 @@ TRACES = (
 )
 ROUNDS = ["--workers", "2", "--window", "4"]
 MODES = (["serial"], ["serial", "--sums"], ["check"], ["run", *ROUNDS], ["compare", *ROUNDS], ["rounds"], ["diff"])
-WORDS_ALONE: List[Words] = [["serial", "extra"], ["run", "--workers", "65"], ["--help"], ["serial", "--help"], ["serial", b"\xff"]]
+WORDS_ALONE: List[Words] = [["serial", "a", "extra"], ["run", "--workers", "65"], ["--help"], ["serial", "--help"], ["serial", b"\xff"]]
 # So many files are written side by side, each by so much that a worker is worth its thread.
 HEAVY = (2, 8)
 HEAVY_WRITES = "two heavy writes"
@@ -50,7 +50,7 @@ def growths(count: int, spare: int) -> List[int]:
 
 
 def swept(shim: Shim, program: Program, words: Words, trace: str, is_from: bool) -> List[Outcome]:
-    """Each growth of one run refused, once or from then on: the fault is want of memory or of a thread, and nothing goes
+    """Each growth of one run refused, once or from then on: the fault is that of memory or of a thread, and nothing goes
     out. A run that met no refusal, and one with ample memory, gives the answer."""
     given = MADE[trace] if trace in MADE else input_of(words, trace) if trace else None
     has_workers = bool(trace) and words[0] in ("run", "compare")
@@ -107,7 +107,7 @@ def jobs(programs: List[Program]) -> List[Job]:
     shim = Shim("refuse", 4)
     lacking = shim.lacking()
     if lacking:
-        return [partial(skipped, "want of memory", lacking)]
+        return [partial(skipped, "out of memory", lacking)]
     whole, *others = programs
     made: List[Job] = []
     for is_from in (False, True):

@@ -2,6 +2,8 @@
 from typing import Dict, Iterator, List, NamedTuple, Optional, Tuple
 
 BEGINNING, END = b"uring-report 1", b"end"
+# What stands behind these names is no fact of a line; and the most bytes of a subject that are shown.
+TIMES, MOST_SHOWN = (b"submitted", b"completed"), 128
 SECTIONS = (b"entries", b"tree", b"slots", b"buffers")
 HEADINGS = (b"uring-report", b"ring", b"tree", b"slots", b"buffers", b"end", b"")
 # Of a first word the section of its line, and how many words its subject has; of any other the line is an entry.
@@ -9,7 +11,7 @@ KINDS = {b"dir": (b"tree", 2), b"file": (b"tree", 2), b"slot": (b"slots", 3), b"
 
 
 class Refused(Exception):
-    """An input that is not two reports."""
+    """Texts that are not two reports."""
 
 
 class Line(NamedTuple):
@@ -27,37 +29,65 @@ class Line(NamedTuple):
     def agrees(self, other: "Line") -> bool:
         return all(map(other.fits, self.facts)) and all(map(self.fits, other.facts))
 
+    def leaves_large(self, other: "Line") -> bool:
+        """Whether this and the other line are of a large file whose bytes are not compared."""
+        both = (self.facts, other.facts)
+        return all(b"sum=large" in facts for facts in both) and not all(b"tree-sum" in map(name_of, facts) for facts in both)
+
 
 def name_of(fact: bytes) -> bytes:
     return fact.split(b"=", 1)[0] if b"=" in fact else b""
 
 
 class Report:
-    def __init__(self, lines: List[bytes]) -> None:
+    """The lines of a report without those that repeat what an earlier one says."""
+
+    def __init__(self, side: str, lines: List[bytes]) -> None:
         self.sections = {b"entries", *(it.split(b" ")[0] for it in lines)}
-        self.lines = [line_of(it) for it in lines if it.split(b" ")[0] not in HEADINGS]
         self.first: Dict[Tuple[bytes, ...], Line] = {}
-        for line in self.lines:
-            self.first.setdefault(line.subject, line)
+        for number, text in enumerate(lines, 1):
+            if text.split(b" ")[0] in HEADINGS:
+                continue
+            line = line_of(text)
+            if set(self.first.setdefault(line.subject, line).facts) != set(line.facts):
+                raise Refused("line {} of the {} says otherwise of {}".format(number, side, shown(b" ".join(line.subject))))
+        self.lines = list(self.first.values())
+
+
+def shown(subject: bytes) -> str:
+    letters = "".join(chr(it) if 32 <= it <= 126 else "?" for it in subject[:MOST_SHOWN])
+    return letters + "+" if len(subject) > MOST_SHOWN else letters
 
 
 def line_of(text: bytes) -> Line:
     words = tuple(text.split(b" "))
     section, count = KINDS.get(words[0], (b"entries", 1))
-    return Line(text, section, words[:count], words[count:])
+    return Line(text, section, words[:count], tuple(it for it in words[count:] if name_of(it) not in TIMES))
+
+
+def report_in(side: str, lines: List[bytes]) -> List[bytes]:
+    """The lines of a text ahead of its first line `end`, behind which nothing may stand."""
+    if lines[:1] != [BEGINNING]:
+        raise Refused("the {} does not begin with uring-report 1".format(side))
+    if END not in lines:
+        raise Refused("the first has no line end" if side == "first" else "the second has no end")
+    end = lines.index(END)
+    if lines[end + 1 :] not in ([], [b""]):
+        raise Refused("the {} goes on behind its end".format(side))
+    return lines[:end]
+
+
+def reports(first: List[bytes], second: List[bytes]) -> Tuple[Report, Report]:
+    both = [(side, report_in(side, lines)) for side, lines in (("first", first), ("second", second))]
+    one, two = (Report(side, lines) for side, lines in both)
+    return one, two
 
 
 def two_reports(text: bytes) -> Tuple[Report, Report]:
+    """Those of one input: the first goes to the first line `end`."""
     lines = text.split(b"\n")
-    lines = lines[:-1] if lines[-1] == b"" else lines
-    if lines[:1] != [BEGINNING]:
-        raise Refused("the first does not begin with uring-report 1")
-    if END not in lines:
-        raise Refused("the first has no line end")
-    end = lines.index(END) + 1
-    if lines[end : end + 1] != [BEGINNING]:
-        raise Refused("the second does not begin with uring-report 1")
-    return Report(lines[:end]), Report(lines[end:])
+    second = lines.index(END) + 1 if END in lines else len(lines)
+    return reports(lines[:second], lines[second:])
 
 
 def compared(line: Line, other: Optional[Line], has_section: bool) -> Tuple[str, List[bytes]]:
@@ -80,14 +110,25 @@ def judged(one: Report, two: Report) -> Iterator[Tuple[Line, str, List[bytes]]]:
 
 
 def difference(text: bytes) -> Tuple[bytes, bool]:
-    """What `diff` tells of two reports, and whether no line is different; or it is Refused."""
+    """What `diff` tells of two reports in one input, and whether no line is different; or it is Refused."""
+    return told_of(*two_reports(text))
+
+
+def difference_of_two(first: bytes, second: bytes) -> Tuple[bytes, bool]:
+    """The same of two texts."""
+    return told_of(*reports(first.split(b"\n"), second.split(b"\n")))
+
+
+def told_of(one: Report, two: Report) -> Tuple[bytes, bool]:
     counts = {(section, what): 0 for section in SECTIONS for what in ("equal", "different", "outside")}
     told: List[bytes] = []
-    for line, what, shown in judged(*two_reports(text)):
-        told += shown
+    for line, what, shown_lines in judged(one, two):
+        told += shown_lines
         if what:
             counts[line.section, what] += 1
     for section in SECTIONS:
         each = ("{} {}".format(counts[section, what], what) for what in ("equal", "different", "outside"))
         told.append(section + b" " + ", ".join(each).encode())
+    large = sum(line.leaves_large(two.first[line.subject]) for line in one.lines if line.subject in two.first)
+    told += [b"large %d not compared" % large] if large else []
     return b"".join(it + b"\n" for it in told), not any(counts[section, "different"] for section in SECTIONS)

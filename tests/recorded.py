@@ -10,7 +10,7 @@ from typing import Dict, List, NamedTuple, Optional, Sequence, Tuple
 from harness import EXAMPLES, TOP, Answer, Job, Outcome, Program, difference, first, shown, skipped, spoken
 
 FOLDER = os.path.join(EXAMPLES, "recorded")
-SOURCES = os.path.join(TOP, "tools", "uring_record")
+SOURCES, SHARED = (os.path.join(TOP, "tools", it) for it in ("uring_record", "shared"))
 # Whether a program that has no `diff` fails here; if not, the comparison in this file stands alone.
 NEEDS_DIFF = True
 # What sixteen.c ends with where the kernel lacks what it needs, and the recorder where it failed.
@@ -34,13 +34,15 @@ class Line(NamedTuple):
 
 
 class Compared(NamedTuple):
-    """How many lines of each part are equal, different and outside, and what differs."""
+    """How many lines of each part are equal, different and outside, what differs, and how many large files have no sum on both sides."""
 
     counts: Dict[str, List[int]]
     differing: List[str]
+    large: int
 
     def lines(self) -> str:
-        return "".join("{} {} equal, {} different, {} outside\n".format(part, *self.counts[part]) for part in PARTS)
+        told = "".join("{} {} equal, {} different, {} outside\n".format(part, *self.counts[part]) for part in PARTS)
+        return told + ("large {} not compared\n".format(self.large) if self.large else "")
 
 
 def line_of(text: str) -> Line:
@@ -68,10 +70,12 @@ def compared(report: str, kernel: str) -> Compared:
     """Each line of either text: equal, different, or outside."""
     (ours, our_parts), (theirs, their_parts) = read_report(report), read_report(kernel)
     counts = {part: [0, 0, 0] for part in PARTS}
-    differing = []
+    differing, large = [], 0
     for subject in [*ours, *(it for it in theirs if it not in ours)]:
         one, other = ours.get(subject), theirs.get(subject)
         part = (one or other).part
+        if one and other and all(it.facts.get("sum") == "large" for it in (one, other)):
+            large += not all("tree-sum" in it.facts for it in (one, other))
         if any(it and "outside" in it.facts for it in (one, other)):
             counts[part][2] += 1
         elif one and other and agree(one, other):
@@ -79,7 +83,7 @@ def compared(report: str, kernel: str) -> Compared:
         elif part in our_parts and part in their_parts:
             counts[part][1] += 1
             differing += [sign + it.text for sign, it in (("- ", one), ("+ ", other)) if it]
-    return Compared(counts, differing)
+    return Compared(counts, differing, large)
 
 
 # --- Recorded traces ----------------------------------------------------------------------------------------------
@@ -144,11 +148,11 @@ class Tools:
         compiler = os.environ.get("CC") or next((it for it in ("cc", "gcc", "clang") if shutil.which(it)), "")
         if not compiler:
             return "there is no C compiler"
-        sources = [os.path.join(SOURCES, it) for it in sorted(os.listdir(SOURCES)) if it.endswith(".c")]
+        sources = [os.path.join(at, it) for at in (SOURCES, SHARED) for it in sorted(os.listdir(at)) if it.endswith(".c")]
         tests = {it: [os.path.join(SOURCES, "test", it + ".c")] for it in ("sixteen", "sums")}
-        tests["sums"] += [os.path.join(SOURCES, it) for it in ("sha256.c", "common.c")]
+        tests["sums"].append(os.path.join(SHARED, "sha256.c"))
         for name, files in {"uring_record": sources, **tests}.items():
-            words = [*compiler.split(), "-std=gnu11", "-D_GNU_SOURCE", "-O1", "-I", SOURCES, "-o", self.file(name), *files]
+            words = [*compiler.split(), "-std=gnu11", "-D_GNU_SOURCE", "-O1", "-I", SOURCES, "-I", SHARED, "-o", self.file(name), *files]
             try:
                 ran = subprocess.run(words, stdin=subprocess.DEVNULL, stdout=subprocess.PIPE, stderr=subprocess.STDOUT)
             except OSError as error:
@@ -195,7 +199,7 @@ def sixteen(tools: Tools, programs: List[Program], words: Sequence[str]) -> List
     outcomes = [Outcome(label + ": the summary", first(faults))]
     trace, kernel = (read_file(tools.file("of-" + name + it)) for it in (".trace", ".kernel"))
     for opcode in (0, 1, 2, 3, 4, 5, 17, 18, 19, 22, 23, 35, 36, 37, 39, 55):
-        told = " op={}\n".format(opcode).encode() in kernel
+        told = " op={} submitted=".format(opcode).encode() in kernel
         outcomes.append(Outcome("{}: opcode {} is told".format(label, opcode), None if told else "no line has op={}".format(opcode)))
     for program in programs:
         outcomes += replayed(program, trace, kernel, None, label)

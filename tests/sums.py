@@ -73,10 +73,24 @@ def buffers_of_zeros(rings: int, each: int, length: int, most: float) -> Work:
     return Work("{} buffers of {} zeros".format(rings * each, length), trace(rings, each), report((), rings, lines), trace(1, 1), most)
 
 
+def buffers_that_end(rings: int, each: int, length: int, most: float) -> Work:
+    """Buffers of zeros but for their last byte: what is ahead of it is hashed once."""
+
+    def trace(count: int, each: int) -> bytes:
+        world = traces.ring([], [(at << 32, length) for at in range(each)]) * count
+        fills = [traces.fill(ring, at, length - 1, b"x") for ring in range(count) for at in range(each)]
+        return traces.head(rings=count, records=len(fills)) + world + b"".join(fills)
+
+    total = hashlib.sha256(bytes(length - 1) + b"x").hexdigest().encode()
+    lines = (b"buffer %d %d len=%d sum=%s" % (ring, at, length, total) for ring in range(rings) for at in range(each))
+    return Work("{} buffers of {} bytes with one at their ends".format(rings * each, length), trace(rings, each), report((), rings, lines), trace(1, 1), most)
+
+
 def works() -> Iterator[Work]:
     yield one_file_of_many_names()
     yield files_of_zeros()
     yield buffers_of_zeros(64, 1024, 1 << 26, 8)
+    yield buffers_that_end(8, 1024, 1 << 27, 4)
 
 
 def timed(program: Program, words: List[str], trace: bytes) -> Tuple[Answer, float]:

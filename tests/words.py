@@ -9,22 +9,25 @@ from harness import Answer, Job, Outcome, Program, Words, difference, fault, rea
 EXAMPLE = "read_four_bytes"
 SUBCOMMANDS = ("serial", "run", "compare", "rounds", "check", "diff")
 WRONG: List[Words] = [
-    [], ["bogus"], [""], ["Serial"], ["serial", "serial"], ["--sums"], ["--version"],
-    ["serial", "extra"], ["serial", "--workers", "2"], ["serial", "--sums", "--sums"],
-    ["check", "extra"], ["check", "--sums"], ["compare", "--sums"],
+    [], ["bogus"], [""], ["Serial"], ["--sums"], ["version"], ["--output", "out", "serial"],
+    ["serial", "a", "extra"], ["serial", "--workers", "2"], ["serial", "--sums", "--sums"], ["serial", "--eager"],
+    ["serial", "--output"], ["serial", "-o"], ["serial", "--sums=true"], ["serial", "-s"], ["serial", "--output", "a", "-o", "b"],
+    ["check", "a", "extra"], ["check", "--sums"], ["check", "--eager"], ["compare", "--sums"], ["compare", "--eager", "--eager"],
+    ["run", "--eager", "--eager"], ["run", "--eager=1"],
     ["run", "--workers"], ["run", "--workers", ""], ["run", "--workers", "0"], ["run", "--workers", "65"],
     ["run", "--workers", "x"], ["run", "--workers", "-1"], ["run", "--workers", "4.5"],
     ["run", "--workers", "99999999999999999999"], ["run", "--workers", "2", "--workers", "2"],
     ["run", "--window", "0"], ["run", "--window", "4097"], ["run", "--window", "18446744073709551617"],
     ["compare", "--workers", "0"], ["compare", "--workers", "65"],
     ["compare", "--window", "0"], ["compare", "--window", "4097"],
-    ["rounds", "extra"], ["rounds", "--sums"], ["rounds", "--workers", "2"], ["rounds", "--window", "0"], ["rounds", "--window", "4097"],
+    ["rounds", "a", "extra"], ["rounds", "--eager"], ["rounds", "--sums"], ["rounds", "--workers", "2"], ["rounds", "--window", "0"], ["rounds", "--window", "4097"],
     ["rounds", "--dot", "--dot"],
-    ["diff", "extra"], ["diff", "--sums"], ["diff", "--workers", "2"],
+    ["diff", "a", "b", "extra"], ["diff", "--eager"], ["diff", "--sums"], ["diff", "--workers", "2"],
 ]
 GOOD: List[Words] = [
     ["serial"], ["run"], ["run", "--workers=64", "--window=4096"], ["run", "--workers", "1", "--window", "1"],
-    ["run", "--window", "1", "--workers", "64"],
+    ["run", "--window", "1", "--workers", "64"], ["run", "--eager"], ["run", "--eager", "--window=2", "--workers", "2"],
+    ["run", "--window", "2", "--eager", "-"], ["run", "-", "--eager"], ["serial", "-"], ["serial", "--", "-"],
 ]
 NO_TEXT: List[Words] = [[b"\xff"], ["serial", b"--su\xffms"], ["run", "--workers", b"\xff4"], [b"\xc3"]]
 

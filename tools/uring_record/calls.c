@@ -1,7 +1,9 @@
 #include "calls.h"
+#include "aside.h"
 #include "completions.h"
 #include "flights.h"
 #include "made.h"
+#include "meetings.h"
 #include "memory.h"
 #include "notes.h"
 #include "paths.h"
@@ -112,7 +114,13 @@ static void add_on_file(struct call *call, struct io_uring_sqe *sqe, bool moves,
 		note_nameless(call->flight->used);
 		return;
 	}
-	is_told_by(call, make(our_ring(), sqe, side, length, result));
+	struct entry *made = make(our_ring(), sqe, side, length, result);
+	is_told_by(call, made);
+	if (end_in_file(sqe, result) > MOST_SIZE) {
+		note("a file grows over 2^40 bytes, which no trace can have", made);
+		put_outside(made, OUTSIDE_LARGE);
+		unsettle(call->flight->used, OUTSIDE_LARGE);
+	}
 }
 
 /* Whether the file of a call is open for appending. */
@@ -211,7 +219,7 @@ static void ended_copy(struct call *call, i64 result)
 static void touch_changed(struct call *call)
 {
 	const u64 *arguments = call->arguments;
-	const struct opened *file = call->flight->used;
+	struct opened *file = call->flight->used;
 	u64 from = 0, length = UINT64_MAX;
 
 	if (call->number == SYS_fallocate) {
@@ -229,6 +237,19 @@ static void touch_changed(struct call *call)
 
 /* Calls by name */
 
+static void ended_open(struct call *call, i64 result);
+static void ended_truncate(struct call *call, i64 result);
+
+/* Whether a call that makes, moves or takes away a name finds there what the trace may have: a link
+ * is in no trace. Links on the way to it are gone through. */
+static bool is_in_trace(const struct call *call, char **name)
+{
+	bool is_open = kind_of(call->number)->ended == ended_open;
+	bool cuts = kind_of(call->number)->ended == ended_truncate;
+
+	return look_through(name, is_open || cuts) != NAME_LINK || is_open;
+}
+
 /* A name of a call as the trace has it, in memory of its own, or NULL where it is not below the
  * root. */
 static char *name_in_tree(const struct call *call, int directory, int argument)
@@ -239,7 +260,7 @@ static char *name_in_tree(const struct call *call, int directory, int argument)
 	char *name = path ? translate(call->process, from, path, &is_known) : NULL;
 
 	free(path);
-	if (name && !has_parent(name)) {
+	if (name && (!has_parent(name) || !is_in_trace(call, &name))) {
 		free(name);
 		name = NULL;
 	}
@@ -266,13 +287,24 @@ static void ended_mkdir(struct call *call, i64 result)
 	is_told_by(call, make_path(OP_MKDIRAT, 0, call->names[0]));
 }
 
+/* A rename or link of which the trace has one name: what is there is not told. */
+static void leave_names(const struct call *call)
+{
+	note("a rename or link into or out of the root, or of a symbolic link, is left out", NULL);
+	for (int at = 0; at < 2; at++) {
+		const char *name = call->names[at];
+		if (name)
+			doubt_name((const u8 *)name, (u32)strlen(name), OUTSIDE_PATH);
+	}
+}
+
 /* Adds an entry for a call with two names, where both are below the root. */
 static void add_two_names(struct call *call, u8 opcode, u32 flags)
 {
 	if (call->names[0] && call->names[1])
 		is_told_by(call, make_paths(opcode, flags, call->names[0], call->names[1]));
 	else
-		note("a rename or link into or out of the root is left out", NULL);
+		leave_names(call);
 }
 
 /* rename(2), renameat(2), renameat2(2). */
@@ -445,12 +477,57 @@ void forget_call(struct call *call)
 	call->flight = NULL;
 }
 
+bool may_change(const struct call *call)
+{
+	const struct kind *kind = kind_of(call->number);
+	struct stat status = { 0 };
+
+	if (!kind || kind->ended == ended_copy || kind->ended == ended_other_name)
+		return false;
+	if (kind->file != NONE) {
+		int copy = copy_descriptor(call->process, (int)call->arguments[kind->file]);
+		bool is_file = copy >= 0 && !fstat(copy, &status) && S_ISREG(status.st_mode);
+		if (copy >= 0)
+			close(copy);
+		return is_file;
+	}
+	if (kind->ended == ended_open && !(flags_of(call) & (O_CREAT | O_TRUNC)))
+		return false;
+	char *name = name_in_tree(call, kind->directory, kind->path),
+	     *other = name_in_tree(call, kind->other_directory, kind->other),
+	     *full = name ? outside_path(name) : NULL;
+	/* (an open of a pipe waits for its other end) */
+	bool is_other = full && !stat(full, &status) && !S_ISREG(status.st_mode) &&
+			!S_ISDIR(status.st_mode);
+	bool may = (name || other) && !is_other;
+	free(full);
+	free(name);
+	free(other);
+	return may;
+}
+
+/* Files that a call opens, renames or links are such that the command uses. */
+static void touch_by_names(const struct call *call)
+{
+	void (*ended)(struct call *, i64) = kind_of(call->number)->ended;
+
+	if (ended != ended_open && ended != ended_rename && ended != ended_link &&
+	    ended != ended_truncate)
+		return;
+	for (unsigned at = 0; at < 2; at++) {
+		char *full = call->names[at] ? outside_path(call->names[at]) : NULL;
+		if (full)
+			is_touched_by_name(full);
+		free(full);
+	}
+}
+
 bool call_begins(struct call *call)
 {
 	const struct kind *kind = kind_of(call->number);
 	struct stat status;
 
-	if (!is_started() || !kind)
+	if (!is_started() || trace.is_ended || !kind)
 		return false;
 	if (kind->file != NONE) {
 		int copy = copy_descriptor(call->process, (int)call->arguments[kind->file]);
@@ -461,13 +538,15 @@ bool call_begins(struct call *call)
 			close(copy);
 		return is_file;
 	}
-	if (kind->ended == ended_open && !trace.uses_table &&
+	if (kind->ended == ended_open && !trace.uses_table && !options.touched &&
 	    !(flags_of(call) & (O_CREAT | O_TRUNC)))
 		return false;
 	call->names[0] = name_in_tree(call, kind->directory, kind->path);
 	call->names[1] = name_in_tree(call, kind->other_directory, kind->other);
 	if (!call->names[0] && !call->names[1])
 		return false;
+	if (options.touched)
+		touch_by_names(call);
 	launch_call(call, -1);
 	return true;
 }
@@ -485,7 +564,8 @@ void file_mapped(const struct call *call)
 {
 	const u64 *arguments = call->arguments;
 
-	if (!is_started() || !(arguments[2] & PROT_WRITE) || !(arguments[3] & MAP_SHARED))
+	if (!is_started() || trace.is_ended || !(arguments[2] & PROT_WRITE) ||
+	    !(arguments[3] & MAP_SHARED))
 		return;
 	int copy = copy_descriptor(call->process, (int)arguments[4]);
 	if (copy < 0)

@@ -17,6 +17,8 @@ struct call {
 
 /* The numbers of these calls; gives how many there are. */
 u32 list_calls(long *numbers, u32 room);
+/* Before the start: whether a call may change the tree, and ends by itself. */
+bool may_change(const struct call *call);
 /* At its entry: whether its end matters. At its end, and where it has none. */
 bool call_begins(struct call *call);
 void call_ended(struct call *call, i64 result);

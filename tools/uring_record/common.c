@@ -5,7 +5,7 @@
 #include <stdlib.h>
 #include <string.h>
 
-struct options options = { .trace = "uring.trace", .root = "." };
+struct options options = { .trace = "uring.trace", .root = ".", .limit = MOST_BYTES };
 
 void die(const char *format, ...)
 {

@@ -2,20 +2,17 @@
 #ifndef COMMON_H
 #define COMMON_H
 
+#include "integers.h"
+
 #include <stdbool.h>
 #include <stddef.h>
-#include <stdint.h>
 #include <sys/types.h>
-
-typedef uint8_t u8;
-typedef uint16_t u16;
-typedef uint32_t u32;
-typedef uint64_t u64;
-typedef int32_t i32;
-typedef int64_t i64;
 
 /* The exit statuses that are not the command's own, as env(1) has them. */
 enum { STATUS_FAILED = 125, STATUS_NOT_RUN = 126, STATUS_NOT_FOUND = 127 };
+
+/* The most bytes that a trace, a file of its tree or a registered buffer may have. */
+#define MOST_BYTES (1ULL << 30)
 
 struct options {
 	const char *trace;   /* the file of the trace */
@@ -25,6 +22,9 @@ struct options {
 	bool replace;	     /* entries outside the profile are recorded as NOP */
 	bool drain;	     /* the kernel is given IO_DRAIN on each head of a chain */
 	bool wait;	     /* each call waits for what it submits */
+	bool touched;	     /* bytes of files that the command does not use are not stored */
+	u64 limit;	     /* the most bytes that the trace may have */
+	bool all_sums;	     /* the results have tree sums of large files */
 	bool verbose;	     /* notes are said as they come up */
 };
 extern struct options options;
@@ -40,11 +40,6 @@ char *copy_bytes(const char *text, size_t length);
 /* Room for one more element behind `count`; use it through GROW. */
 void *grow(void *list, u64 count, u64 *room, size_t size);
 #define GROW(list, count, room) ((list) = grow((list), (count), &(room), sizeof *(list)))
-
-static inline u64 min64(u64 one, u64 other)
-{
-	return one < other ? one : other;
-}
 
 /* Whether two ranges share a byte; an empty one shares none. */
 static inline bool overlap(u64 from, u64 to, u64 other_from, u64 other_to)

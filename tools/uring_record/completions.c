@@ -1,7 +1,11 @@
 #include "completions.h"
+#include "ahead.h"
+#include "aside.h"
 #include "memory.h"
 #include "notes.h"
+#include "others.h"
 #include "positions.h"
+#include "start.h"
 #include "table.h"
 
 #include <string.h>
@@ -12,9 +16,11 @@ static void read_came(struct flight *flight, pid_t thread, i32 result, bool is_f
 	struct entry *entry = flight->entry;
 	u64 shown = min64((u64)result, DATA_SHOWN);
 
-	if (!is_fresh) {
-		note("a read whose completion was seen at a later call: its bytes are not told "
-		     "(--wait tells them)",
+	if (!is_fresh || is_filled_by_others(flight) || !others_slept(flight->process, thread)) {
+		note(is_fresh ? "a read while another thread ran, or another read filled its "
+				"memory: its bytes are not told"
+			      : "a read whose completion was seen at a later call: its bytes are "
+				"not told (--wait tells them)",
 		     entry);
 		return;
 	}
@@ -44,9 +50,19 @@ static void take_again(struct flight *flight, pid_t thread)
 	struct entry *entry = flight->entry;
 	u32 lengths = entry->opcode == OP_WRITEV ? 8 * entry->sqe.len : 0;
 
-	if (flight->has_all_vectors && !is_fixed(entry->opcode) && lengths <= entry->side_length)
+	if (flight->has_all_vectors && !is_fixed(entry->opcode) && lengths < entry->side_length)
 		fetch_gathered(thread, flight->vectors, flight->vector_count, entry->side + lengths,
 			       entry->side_length - lengths);
+}
+
+/* A write whose bytes came late has ended: they are still there, or its file is not told. */
+static void late_write_came(struct flight *flight, pid_t thread, i32 result, bool is_fresh)
+{
+	take_again(flight, thread);
+	bool is_there =
+		is_fresh && !is_filled_by_others(flight) && others_slept(flight->process, thread);
+	if (result > 0 && flight->used && !is_there)
+		unsettle(flight->used, OUTSIDE_LATE);
 }
 
 void put_back_place(struct flight *flight)
@@ -55,11 +71,13 @@ void put_back_place(struct flight *flight)
 
 	if (!flight->takes_place)
 		return;
-	if (sqe->file_index) {
-		struct opened **slot = &flight->ring->now[sqe->file_index - 1];
-		release(*slot);
-		*slot = flight->before;
-		slot = &flight->ring->foreign[sqe->file_index - 1];
+	if (flight->slot) {
+		struct opened **slot = &flight->ring->now[flight->slot - 1];
+		if (!flight->is_outside) {
+			release(*slot);
+			*slot = flight->before;
+		}
+		slot = &flight->ring->foreign[flight->slot - 1];
 		release(*slot);
 		*slot = flight->foreign_before;
 		flight->foreign_before = NULL;
@@ -70,6 +88,19 @@ void put_back_place(struct flight *flight)
 	flight->takes_place = false;
 }
 
+/* A result that has no form in the replay. What failed changes nothing there; of what did not, the
+ * kernel knows more than the replay. */
+static void result_is_outside(struct flight *flight, i32 result, enum outside why)
+{
+	static const char text[] = "a result that the profile does not have";
+
+	if (flight->entry->outside == INSIDE)
+		note(text, flight->entry);
+	if (why == OUTSIDE_THREAD && result >= 0 && !flight->used)
+		lose("an entry on a number that another thread opened meanwhile");
+	put_aside(flight->entry, why);
+}
+
 /* What follows from the result of an entry. */
 static void completed(struct flight *flight, pid_t thread, i32 result, bool is_fresh)
 {
@@ -78,19 +109,32 @@ static void completed(struct flight *flight, pid_t thread, i32 result, bool is_f
 
 	entry->state = ENTRY_POSTED;
 	entry->result = result;
+	entry->completed = time_now();
+	enum outside why =
+		entry->replaced && result < 0 ? OUTSIDE_OPCODE : outside_by_result(flight, result);
+	if (why == OUTSIDE_OPCODE)
+		put_outside(entry, why);
+	else if (why != INSIDE && entry->outside != OUTSIDE_OPCODE)
+		result_is_outside(flight, result, why);
 	if (flight->is_late)
-		take_again(flight, thread);
+		late_write_came(flight, thread, result, is_fresh);
 	if (result > 0 && (opcode == OP_READ || opcode == OP_READV))
 		read_came(flight, thread, result, is_fresh);
 	if (result > 0 && opcode == OP_READ_FIXED)
 		fixed_read_came(flight, result);
+	if (flight->meets_name)
+		doubt_names(flight, result);
+	if (is_doubtful(entry) || flight->changes || entry->outside == OUTSIDE_OPCODE)
+		outside_ended(flight, thread, result);
 	if (result < 0)
 		put_back_place(flight);
+	else if (entry->is_aside)
+		;
 	else if (opcode == OP_OPENAT && !entry->sqe.file_index)
-		number_opened(flight->process, result, entry->outside == OUTSIDE_ORDER);
+		number_opened(flight->process, result, is_doubtful(entry));
 	else if (opcode == OP_OPENAT && flight->used)
 		look_at_direct(flight->used);
-	if (flight->moves)
+	if (flight->moves && !entry->is_aside)
 		position_moved(flight->moves, result);
 }
 
@@ -98,13 +142,14 @@ static void completed(struct flight *flight, pid_t thread, i32 result, bool is_f
 static void completion_came(struct ring *ring, pid_t thread, const struct io_uring_cqe *cqe,
 			    bool is_fresh)
 {
-	struct flight *flight = flight_of(ring, cqe->user_data, cqe->res);
+	bool is_sure;
+	struct flight *flight = flight_of(ring, cqe->user_data, cqe->res, &is_sure);
 
 	if (!flight) {
 		note("a completion of no entry that is known", NULL);
 		return;
 	}
-	completed(flight, thread, cqe->res, is_fresh);
+	completed(flight, thread, cqe->res, is_fresh && is_sure);
 	if (cqe->flags & IORING_CQE_F_MORE) {
 		note("an entry with several completions: the last one is recorded", flight->entry);
 		return;
@@ -113,13 +158,36 @@ static void completion_came(struct ring *ring, pid_t thread, const struct io_uri
 	land(flight);
 }
 
+/* The tail of a queue where it moved further than entries are in flight: the kernel's own, since
+ * the program may have written there, and never more behind what was seen than the queue holds. */
+static u32 doubted_tail(struct ring *ring, u32 tail)
+{
+	kernel_count(ring, "CachedCqTail", &tail);
+	if (tail - ring->seen <= ring->cq_entries)
+		return tail;
+	note("completions are written over before they are seen", NULL);
+	ring->seen = tail;
+	while (ring->first) {
+		leave(ring->first);
+		land(ring->first);
+	}
+	return tail;
+}
+
 void reap(struct ring *ring, pid_t thread, bool is_fresh)
 {
 	u32 tail, mask = ring->cq_entries - 1;
 	unsigned shift = ring->flags & IORING_SETUP_CQE32 ? 5 : 4;
 
-	if (!ring->cq || !fetch(thread, ring->cq + ring->cq_offsets.tail, &tail, sizeof tail))
+	if (trace.is_ended || !ring->cq)
 		return;
+	if (is_fresh)
+		read_completions_ahead(ring, thread);
+	is_fresh = is_fresh && !ring->overflows;
+	if (!fetch(thread, ring->cq + ring->cq_offsets.tail, &tail, sizeof tail))
+		return;
+	if (tail - ring->seen > ring->in_flight)
+		tail = doubted_tail(ring, tail);
 	for (; ring->seen != tail; ring->seen++) {
 		u64 at = ring->cq + ring->cq_offsets.cqes + ((u64)(ring->seen & mask) << shift);
 		struct io_uring_cqe cqe;
@@ -137,14 +205,43 @@ void reap_all(pid_t process, pid_t thread)
 	}
 }
 
-void reap_unmapped(pid_t process, pid_t thread, u64 address)
+/* Whether a part of the memory of a process, at an address of a ring (0 for none), is in a range.
+ */
+static bool is_within(u64 address, u64 from, u64 to)
+{
+	return address && address >= from && address < to;
+}
+
+/* Whether a ring of a process has a queue in a range of its memory. */
+static bool has_queue(const struct ring *ring, pid_t process, u64 from, u64 to)
+{
+	return ring->process == process &&
+	       (is_within(ring->cq, from, to) || is_within(ring->sq, from, to) ||
+		is_within(ring->sqes, from, to));
+}
+
+bool reap_unmapped(pid_t process, pid_t thread, u64 from, u64 to)
+{
+	bool is_any = false;
+
+	for (u32 at = 0; at < ring_count; at++) {
+		if (!has_queue(rings[at], process, from, to))
+			continue;
+		reap(rings[at], thread, false);
+		is_any = true;
+	}
+	return is_any;
+}
+
+void unmapped(pid_t process, u64 from, u64 to)
 {
 	for (u32 at = 0; at < ring_count; at++) {
 		struct ring *ring = rings[at];
-		if (!address || ring->process != process ||
-		    (ring->cq != address && ring->sq != address))
+		if (!has_queue(ring, process, from, to))
 			continue;
-		reap(ring, thread, false);
-		ring->cq = ring->sq = 0;
+		if (is_within(ring->cq, from, to) || is_within(ring->sq, from, to))
+			ring->cq = ring->sq = 0;
+		if (is_within(ring->sqes, from, to))
+			ring->sqes = 0;
 	}
 }

@@ -1,16 +1,20 @@
 #include "flights.h"
+#include "meetings.h"
 #include "memory.h"
 #include "notes.h"
+#include "paths.h"
+#include "start.h"
 #include "table.h"
 
+#include <errno.h>
 #include <fcntl.h>
 #include <stdlib.h>
 #include <string.h>
 
 /* So many flights that post nothing are kept in a ring. */
-enum { MOST_QUIET = 4096 };
+enum { MOST_QUIET = 4096, MOST_LOOKS = 64 };
 
-static u64 in_flight, quiet_count;
+static u64 quiet_count;
 static u32 opens_in_flight;
 
 u32 count_opens_in_flight(void)
@@ -24,16 +28,48 @@ static bool is_quiet(const struct flight *flight)
 	return flight->entry->sqe.flags & FLAG_SKIP;
 }
 
-/* The flights of a ring whose user_data may be this one. */
-static struct flight **chain_of(struct ring *ring, u64 user_data)
+/* The chain of flights of a ring whose user_data may be this one. */
+static unsigned chain_of(u64 user_data)
 {
-	return &ring->by_data[(user_data ^ user_data >> 10 ^ user_data >> 20) % DATA_CHAINS];
+	return (user_data ^ user_data >> 10 ^ user_data >> 20) % DATA_CHAINS;
 }
+
+/* Puts a flight at the end of its chain. */
+static void join_chain(struct flight *flight)
+{
+	struct ring *ring = flight->ring;
+	unsigned chain = chain_of(flight->entry->sqe.user_data);
+	struct flight *last = ring->by_data_last[chain];
+
+	flight->previous_same = last;
+	*(last ? &last->next_same : &ring->by_data[chain]) = flight;
+	ring->by_data_last[chain] = flight;
+}
+
+/* Takes a flight out of its chain. */
+static void leave_chain(struct flight *flight)
+{
+	struct ring *ring = flight->ring;
+	unsigned chain = chain_of(flight->entry->sqe.user_data);
+	struct flight *before = flight->previous_same, *behind = flight->next_same;
+
+	*(before ? &before->next_same : &ring->by_data[chain]) = behind;
+	*(behind ? &behind->previous_same : &ring->by_data_last[chain]) = before;
+}
+
+/* Flights that have ended, whose memory is used again. */
+static struct flight *spare;
 
 struct flight *new_flight(struct ring *ring, struct entry *entry, pid_t process)
 {
-	struct flight *flight = allocate(sizeof *flight);
+	struct flight *flight = spare;
 
+	if (flight)
+		spare = flight->next;
+	else
+		flight = allocate(sizeof *flight);
+	/* (the last members have their counts) */
+	memset(flight, 0, offsetof(struct flight, touches));
 	flight->entry = entry;
 	flight->ring = ring;
 	flight->process = process;
@@ -55,7 +91,6 @@ static void land_a_quiet_one(struct ring *ring)
 void launch(struct flight *flight)
 {
 	struct ring *ring = flight->ring;
-	struct flight **same = chain_of(ring, flight->entry->sqe.user_data);
 
 	flight->previous = ring->last;
 	if (ring->last)
@@ -63,23 +98,31 @@ void launch(struct flight *flight)
 	else
 		ring->first = flight;
 	ring->last = flight;
-	while (*same)
-		same = &(*same)->next_same;
-	*same = flight;
-	in_flight++;
-	opens_in_flight += opens_in_table(&flight->entry->sqe);
+	join_chain(flight);
+	keep_spans(flight);
+	flight->opens = opens_in_table(&flight->entry->sqe) && !flight->entry->is_aside;
+	opens_in_flight += flight->opens;
+	ring->in_flight++;
+	ring->has_quiet |= is_quiet(flight);
 	if (is_quiet(flight) && ++quiet_count > MOST_QUIET)
 		land_a_quiet_one(ring);
+}
+
+void mark_alike(struct entry *entry)
+{
+	for (struct entry *next; entry; entry = next) {
+		next = entry->alike;
+		entry->alike = NULL;
+		put_outside(entry, OUTSIDE_USER);
+	}
 }
 
 void land(struct flight *flight)
 {
 	struct ring *ring = flight->ring;
-	struct flight **same = chain_of(ring, flight->entry->sqe.user_data);
 
-	while (*same != flight)
-		same = &(*same)->next_same;
-	*same = flight->next_same;
+	forget_spans(flight);
+	leave_chain(flight);
 	if (flight->previous)
 		flight->previous->next = flight->next;
 	else
@@ -92,38 +135,110 @@ void land(struct flight *flight)
 		flight->moves->moving--;
 	if (flight->takes_place && closes_in_table(&flight->entry->sqe))
 		number_closed(flight->entry->sqe.fd);
-	opens_in_flight -= opens_in_table(&flight->entry->sqe);
+	opens_in_flight -= flight->opens;
+	mark_alike(flight->alike);
 	release(flight->moves);
 	release(flight->used);
 	release(flight->before);
 	release(flight->foreign_before);
+	release(flight->changes);
+	free(flight->names[0]);
+	free(flight->names[1]);
 	quiet_count -= is_quiet(flight);
-	in_flight--;
-	free(flight);
+	ring->in_flight--;
+	flight->next = spare;
+	spare = flight;
 }
 
-struct flight *flight_of(struct ring *ring, u64 user_data, i32 result)
+/* Whether an entry may have a result, as far as its opcode tells. */
+static bool may_give(const struct flight *flight, i32 result)
 {
-	struct flight *found = NULL, *quiet = NULL;
+	const struct io_uring_sqe *sqe = &flight->asked_for;
+	bool is_chosen = !sqe->file_index || sqe->file_index == IORING_FILE_INDEX_ALLOC;
 
-	for (struct flight *it = *chain_of(ring, user_data); it; it = it->next_same) {
+	if (sqe->opcode == OP_NOP && !sqe->rw_flags)
+		return result == 0 || result == -ECANCELED;
+	if (result < 0 || !is_served(sqe->opcode) || sqe->opcode == OP_NOP)
+		return sqe->opcode != IORING_OP_TIMEOUT || result <= 0;
+	if (moves_bytes(sqe->opcode))
+		return (u64)result <= flight->asked;
+	return result == 0 || (sqe->opcode == OP_OPENAT && is_chosen);
+}
+
+/* The next flight behind one (or from the start of its chain on) that a completion may be of. So
+ * many are looked at. */
+static struct flight *next_of(struct flight *from, u64 user_data, i32 result, u32 *looks)
+{
+	for (struct flight *it = from; it && *looks; it = it->next_same) {
+		bool is_silent = is_quiet(it) && result >= 0; /* (it posts where it fails) */
 		if (it->entry->sqe.user_data != user_data)
 			continue;
-		if (is_quiet(it)) {
-			/* (it posts where it fails) */
-			if (result < 0)
-				quiet = it;
-			continue;
-		}
-		if (found) {
-			note("a completion whose user_data several entries in flight have is taken "
-			     "for the first",
-			     found->entry);
-			break;
-		}
-		found = it;
+		if (!is_silent && may_give(it, result))
+			return it;
+		--*looks;
 	}
-	return found ? found : quiet;
+	return NULL;
+}
+
+/* A completion may be of two flights or more, and is taken for one: they are marked unless all have
+ * one result. */
+static void take_for(struct flight *taken, struct flight *other, i32 result)
+{
+	struct entry *entry = taken->entry;
+
+	note("a completion whose user_data several entries in flight have is taken for the first",
+	     entry);
+	if (taken->is_mixed || (taken->alike && taken->alike_result != result) ||
+	    (other && other->alike && other->alike_result != result)) {
+		mark_alike(taken->alike);
+		mark_alike(other ? other->alike : NULL);
+		taken->alike = NULL;
+		put_outside(entry, OUTSIDE_USER);
+		if (other) {
+			other->alike = NULL;
+			other->is_mixed = true;
+		}
+		return;
+	}
+	entry->alike = taken->alike;
+	taken->alike = NULL;
+	if (!other || other->is_mixed)
+		return;
+	if (other->alike) { /* (both lists had this result) */
+		struct entry *last = entry;
+		while (last->alike)
+			last = last->alike;
+		last->alike = other->alike;
+	}
+	other->alike = entry;
+	other->alike_result = result;
+}
+
+struct flight *flight_of(struct ring *ring, u64 user_data, i32 result, bool *is_sure)
+{
+	struct flight *first = ring->by_data[chain_of(user_data)];
+	u32 looks = MOST_LOOKS;
+	struct flight *found = next_of(first, user_data, result, &looks);
+	struct flight *other = found ? next_of(found->next_same, user_data, result, &looks) : NULL;
+
+	*is_sure = found && !other && looks && !found->alike && !found->is_mixed;
+	if (*is_sure)
+		return found;
+	for (struct flight *it = first; it && !found; it = it->next_same)
+		found = it->entry->sqe.user_data == user_data ? it : NULL;
+	if (found && (!looks || !may_give(found, result)))
+		found->is_mixed = true;
+	if (found)
+		take_for(found, other, result);
+	return found;
+}
+
+/* Lets go of one that has ended and posted nothing. */
+static void land_silent(struct flight *flight)
+{
+	if (flight->entry->state == ENTRY_UNSEEN)
+		flight->entry->state = ENTRY_SILENT;
+	land(flight);
 }
 
 void land_quiet_before(const struct flight *flight)
@@ -133,13 +248,13 @@ void land_quiet_before(const struct flight *flight)
 	for (struct flight *it = flight->previous; it && it->chain == flight->chain; it = next) {
 		next = it->previous;
 		if (is_quiet(it))
-			land(it);
+			land_silent(it);
 	}
 	for (struct flight *it = flight->ring->first; it && it->sequence < flight->barrier;
 	     it = next) {
 		next = it->next;
 		if (is_quiet(it) && it != flight)
-			land(it);
+			land_silent(it);
 	}
 }
 
@@ -154,7 +269,7 @@ struct touch *add_touch(struct flight *flight, enum touch_kind kind, bool writes
 	return touch;
 }
 
-void touch_file(struct flight *flight, const struct opened *file, u64 from, u64 to, bool writes)
+void touch_file(struct flight *flight, struct opened *file, u64 from, u64 to, bool writes)
 {
 	struct touch *touch = add_touch(flight, TOUCH_FILE, writes);
 
@@ -203,7 +318,7 @@ static void touch_vectors(struct flight *flight, bool writes)
 static void touch_moved(struct flight *flight)
 {
 	const struct io_uring_sqe *sqe = &flight->entry->sqe;
-	const struct opened *file = flight->used;
+	struct opened *file = flight->used;
 	bool writes = !reads_bytes(sqe->opcode);
 	u64 from = sqe->off == AT_POSITION ? file->position : sqe->off;
 
@@ -243,6 +358,17 @@ static void touch_place(struct flight *flight)
 		touch->from = sqe->opcode == OP_OPENAT ? ANY_NUMBER : (u64)(u32)sqe->fd;
 }
 
+/* A file whose name an entry moves, or to which it gives another one, is one that the command uses.
+ */
+static void touch_file_named(const u8 *path, u32 length)
+{
+	char *name = copy_bytes((const char *)path, length), *full = outside_path(name);
+
+	is_touched_by_name(full);
+	free(name);
+	free(full);
+}
+
 /* The names of an entry, and what an open cuts. */
 static void touch_names(struct flight *flight)
 {
@@ -263,6 +389,10 @@ static void touch_names(struct flight *flight)
 	case OP_RENAMEAT:
 	case OP_LINKAT:
 		memcpy(&first, entry->side, 2);
+		if (options.touched) {
+			touch_file_named(entry->side + 2, first);
+			touch_file_named(entry->side + 2 + first, entry->side_length - 2 - first);
+		}
 		touch_name(flight, entry->side + 2, first, entry->sqe.opcode == OP_RENAMEAT);
 		touch_name(flight, entry->side + 2 + first, entry->side_length - 2 - first, true);
 		break;
@@ -291,202 +421,54 @@ void look_at_touches(struct flight *flight)
 		touch_file(flight, flight->used, 0, UINT64_MAX, true);
 }
 
-/* Which flights meet */
-
-/* Whether two descriptions are of one file, as far as that is known. */
-static bool is_one_file(const struct opened *one, const struct opened *other)
+void lose(const char *what)
 {
-	if (one->inode && other->inode)
-		return one->inode == other->inode && one->device == other->device;
-	return one->name && other->name && !strcmp(one->name, other->name);
-}
-
-/* Whether a write may change where a read behind the end of the file stops. */
-static bool moves_end(const struct touch *write, const struct touch *read)
-{
-	u64 size = size_now(write->file);
-
-	return write->extends && write->to > size && read->to > min64(size, write->from);
-}
-
-/* Whether two accesses to files, one of them a write, depend on their order. */
-static bool files_meet(const struct touch *one, const struct touch *other)
-{
-	if (!is_one_file(one->file, other->file))
-		return false;
-	if (overlap(one->from, one->to, other->from, other->to))
-		return true;
-	if (one->writes && other->writes)
-		return false;
-	return one->writes ? moves_end(one, other) : moves_end(other, one);
-}
-
-/* Whether a path is another, or above it. */
-static bool is_above(const struct touch *upper, const struct touch *lower)
-{
-	return upper->length <= lower->length && !memcmp(upper->path, lower->path, upper->length) &&
-	       (upper->length == lower->length || lower->path[upper->length] == '/');
-}
-
-/* Whether two uses of the table, one of them an open or a close, depend on their order. */
-static bool numbers_meet(const struct touch *one, const struct touch *other)
-{
-	if (one->from == ANY_NUMBER || other->from == ANY_NUMBER)
-		return one->writes && other->writes;
-	return one->from == other->from;
-}
-
-/* Whether two touches depend on their order. */
-static bool touches_meet(const struct touch *earlier, const struct touch *later, bool is_deferred)
-{
-	bool is_use = !earlier->writes && !is_deferred;
-
-	if (earlier->kind != later->kind || !(earlier->writes || later->writes))
-		return false;
-	switch (earlier->kind) {
-	case TOUCH_FILE:
-		return files_meet(earlier, later);
-	case TOUCH_NAME:
-		return (earlier->writes && is_above(earlier, later)) ||
-		       (later->writes && is_above(later, earlier));
-	case TOUCH_SLOT: /* (what uses a slot and begins at once has its file before another changes
-			    it) */
-		return !is_use && earlier->owner == later->owner && earlier->from == later->from;
-	case TOUCH_TABLE:
-		return !is_use && numbers_meet(earlier, later);
-	case TOUCH_MEMORY:
-		return earlier->process == later->process &&
-		       overlap(earlier->from, earlier->to, later->from, later->to);
-	case TOUCH_POSITION:
-		return earlier->owner == later->owner;
+	note(what, NULL);
+	if (trace.is_lost)
+		return;
+	trace.is_lost = true;
+	for (u32 at = 0; at < ring_count; at++) {
+		for (struct flight *it = rings[at]->first; it; it = it->next)
+			put_outside(it->entry, OUTSIDE_CHANGED);
 	}
-	return false;
 }
-
-/* Files whose bytes are not told from some place on. */
-struct unsettled {
-	dev_t device;
-	ino_t inode;
-	enum outside why;
-};
-static struct unsettled *unsettled;
-static u64 unsettled_count, unsettled_room;
 
 enum outside unsettled_by(dev_t device, ino_t inode)
 {
-	for (u64 at = 0; at < unsettled_count; at++) {
-		if (unsettled[at].inode == inode && unsettled[at].device == device)
-			return unsettled[at].why;
-	}
-	return INSIDE;
+	return doubt_of(device, inode);
 }
 
 void unsettle(const struct opened *file, enum outside why)
 {
-	if (!file->inode || unsettled_by(file->device, file->inode) != INSIDE)
-		return;
-	GROW(unsettled, unsettled_count, unsettled_room);
-	unsettled[unsettled_count++] = (struct unsettled){ file->device, file->inode, why };
+	if (file->inode)
+		set_doubt(file->device, file->inode, why);
 }
 
-/* What a flight touches that a later one meets, or NULL. */
-static const struct touch *meeting(const struct flight *earlier, const struct flight *later)
+/* Names of which it is not told what is there: few, since the program knows as little. */
+struct doubt *doubts;
+u64 doubt_count;
+static u64 doubt_room;
+enum { MOST_DOUBTS = 1024 };
+
+enum outside doubted_by(const char *path, u32 length)
 {
-	for (u32 at = 0; at < earlier->touch_count; at++) {
-		const struct touch *one = &earlier->touches[at];
-		for (u32 in = 0; in < later->touch_count; in++) {
-			const struct touch *other = &later->touches[in];
-			if (!touches_meet(one, other, earlier->is_deferred))
-				continue;
-			if (one->kind == TOUCH_FILE && one->writes && other->writes)
-				unsettle(one->file, OUTSIDE_ORDER);
-			return one;
-		}
+	for (u64 at = 0; at < doubt_count; at++) {
+		size_t upper = strlen(doubts[at].path);
+		if (upper <= length && !memcmp(doubts[at].path, path, upper) &&
+		    (upper == length || path[upper] == '/'))
+			return doubts[at].why;
 	}
-	return NULL;
+	return INSIDE;
 }
 
-/* Whether a chain or a drain has the kernel run one behind the other. */
-static bool is_ordered(const struct flight *earlier, const struct flight *later)
+void doubt_name(const u8 *path, u32 length, enum outside why)
 {
-	return earlier->ring == later->ring &&
-	       (earlier->chain == later->chain || earlier->sequence < later->barrier);
-}
-
-/* Whether a write takes bytes that an earlier read in flight puts there, and the replay does not.
- */
-static bool takes_late(const struct flight *earlier, const struct flight *later)
-{
-	u8 read = earlier->entry->sqe.opcode, write = later->entry->sqe.opcode;
-
-	if (!reads_bytes(read) || reads_bytes(write) || (is_fixed(read) && is_fixed(write)))
-		return false;
-	for (u32 one = 0; one < earlier->touch_count; one++) {
-		const struct touch *put = &earlier->touches[one];
-		for (u32 other = 0; put->kind == TOUCH_MEMORY && other < later->touch_count;
-		     other++) {
-			if (touches_meet(put, &later->touches[other], true))
-				return true;
-		}
-	}
-	return false;
-}
-
-/* Marks a read of a file whose bytes are not told. */
-static void look_at_settled(struct flight *flight)
-{
-	const struct opened *file = flight->used;
-
-	if (!unsettled_count || !file || !reads_bytes(flight->entry->sqe.opcode))
+	if (!length || *path != '/' || doubted_by((const char *)path, length) != INSIDE)
 		return;
-	enum outside why = unsettled_by(file->device, file->inode);
-	if (why == INSIDE)
+	if (doubt_count == MOST_DOUBTS) { /* (then nothing is told of any name) */
+		doubts[0] = (struct doubt){ copy_text(""), why };
 		return;
-	put_outside(flight->entry, why);
-	note("a read of a file whose bytes are not told from some earlier place on", flight->entry);
-}
-
-static const char *const meeting_notes[] = {
-	[TOUCH_FILE] = "requests in flight at once touch the same bytes of a file",
-	[TOUCH_NAME] = "requests in flight at once touch the same name",
-	[TOUCH_SLOT] = "requests in flight at once touch the same slot",
-	[TOUCH_TABLE] = "requests in flight at once touch the descriptor table",
-	[TOUCH_MEMORY] = "requests in flight at once touch the same memory",
-	[TOUCH_POSITION] = "requests in flight at once move the position of one description",
-};
-
-/* Compares a flight with those of one ring. */
-static void meet_ring(const struct ring *ring, struct flight *flight, bool *is_noted)
-{
-	for (struct flight *it = ring->first; it; it = it->next) {
-		if (!it->touch_count)
-			continue;
-		flight->is_late |= takes_late(it, flight);
-		const struct touch *met = is_ordered(it, flight) ? NULL : meeting(it, flight);
-		if (!met)
-			continue;
-		put_outside(it->entry, OUTSIDE_ORDER);
-		put_outside(flight->entry, OUTSIDE_ORDER);
-		if (!*is_noted)
-			note_pair(meeting_notes[met->kind], it->entry, flight->entry);
-		*is_noted = true;
 	}
-}
-
-void meet_others(struct flight *flight)
-{
-	bool is_noted = false;
-
-	if (!flight->touch_count)
-		return;
-	for (u32 at = 0; in_flight && at < ring_count; at++)
-		meet_ring(rings[at], flight, &is_noted);
-	meet_ring(call_ring(), flight, &is_noted);
-	look_at_settled(flight);
-	if (flight->is_late) {
-		put_outside(flight->entry, OUTSIDE_LATE);
-		note("a write of what a read in flight puts there: its bytes are taken when its "
-		     "completion is seen",
-		     flight->entry);
-	}
+	GROW(doubts, doubt_count, doubt_room);
+	doubts[doubt_count++] = (struct doubt){ copy_bytes((const char *)path, length), why };
 }

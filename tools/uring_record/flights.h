@@ -18,7 +18,7 @@ struct touch {
 	bool writes;
 	bool extends;	   /* of a file: a write behind its end makes it longer */
 	const void *owner; /* a slot's ring; a position's description */
-	const struct opened *file;
+	struct opened *file;
 	u64 from, to;	/* bytes of a file or of memory; a slot or number from `from` on */
 	pid_t process;	/* whose memory */
 	const u8 *path; /* a name, `length` bytes of it */
@@ -32,50 +32,77 @@ struct flight {
 	u64 sequence, chain,
 		barrier;  /* its number in the ring, its chain's, and the ring's barrier for it */
 	bool is_deferred; /* it may begin later than its submission */
-	bool is_late;	  /* it writes what a read in flight puts there */
-	u32 buffer;	  /* the buffer of the trace, of fixed forms */
+	bool opens;	  /* it opens a number of the table in the replay */
+	struct entry *alike; /* entries that may have had its completion, with their result */
+	i32 alike_result;
+	bool meets_name;	       /* another one in flight touches its name */
+	bool is_mixed;		       /* they had several results */
+	bool is_late;		       /* it writes what a read in flight puts there */
+	struct io_uring_sqe asked_for; /* as the command has it */
+	u32 buffer;		       /* the buffer of the trace, of fixed forms */
 
-	struct touch touches[MOST_TOUCHES];
-	u32 touch_count;
-	struct iovec
-		vectors[MOST_KEPT_VECTORS]; /* where a read puts its bytes, a write takes them */
-	u32 vector_count;
+	u32 touch_count, vector_count; /* (of the last members) */
+	struct span *spans;	       /* where it is looked for */
 	bool has_all_vectors;
 	u64 asked; /* how many bytes it asks for */
 
-	struct opened *used;  /* the description that it works on or opens */
+	struct opened *used;	/* the description that it works on or opens */
+	struct opened *changes; /* a file that an opcode changes which is not served */
+	char *names[2];	 /* of an entry that is outside: what it names, without dots and links */
+	bool is_nowhere; /* from where a name starts is not known */
+	u32 open_flags;	 /* of an open that is outside */
 	struct opened *moves; /* the description whose position it moves */
 	bool takes_place; /* a slot or number is taken, and has to be put back where the entry fails
 			   */
+	u32 slot;	  /* the slot, from 1, or 0 for a number */
+	bool is_outside;  /* what comes into it is outside: the replay's slot stays as it is */
 	struct opened *before;
 	struct opened *foreign_before; /* (what is no file of the tree, in the slot) */
 	bool was_taken;		       /* (the same of a number) */
 
-	struct flight *next, *previous, *next_same;
+	struct flight *next, *previous, *next_same, *previous_same;
+
+	struct touch touches[MOST_TOUCHES];
+	struct iovec
+		vectors[MOST_KEPT_VECTORS]; /* where a read puts its bytes, a write takes them */
 };
 
 /* A flight that is in no list yet, and its end in each way. */
 struct flight *new_flight(struct ring *ring, struct entry *entry, pid_t process);
 void launch(struct flight *flight);
 void land(struct flight *flight);
-/* The flight that a completion is of, or NULL. */
-struct flight *flight_of(struct ring *ring, u64 user_data, i32 result);
+/* The flight that a completion is of, or NULL. `is_sure` is false where it may be of another. */
+struct flight *flight_of(struct ring *ring, u64 user_data, i32 result, bool *is_sure);
+/* Marks entries that may have had each other's results. */
+void mark_alike(struct entry *entry);
 /* Lets go of flights without a completion that have ended once this one has. */
 void land_quiet_before(const struct flight *flight);
 
 /* What a flight touches, once its fields, side bytes and description are known. */
 void look_at_touches(struct flight *flight);
 struct touch *add_touch(struct flight *flight, enum touch_kind kind, bool writes);
-void touch_file(struct flight *flight, const struct opened *file, u64 from, u64 to, bool writes);
+void touch_file(struct flight *flight, struct opened *file, u64 from, u64 to, bool writes);
 void touch_name(struct flight *flight, const u8 *path, u32 length, bool writes);
 
-/* Compares a flight with those that are in flight: marks and notes entries whose order is not told.
- */
-void meet_others(struct flight *flight);
+/* Whether another read in flight fills memory that a flight reads or writes: then it is not known
+ * whose bytes are there. */
+bool is_filled_by_others(struct flight *flight);
+
 /* Why the bytes of a file are not told from some place on: writes of it met, or it was changed in a
  * way that has no entry; INSIDE where they are told. */
 enum outside unsettled_by(dev_t device, ino_t inode);
 void unsettle(const struct opened *file, enum outside why);
+/* The same of names: whether there is something at a path, or what, is not told. */
+struct doubt {
+	char *path;
+	enum outside why;
+};
+extern struct doubt *doubts;
+extern u64 doubt_count;
+void doubt_name(const u8 *path, u32 length, enum outside why);
+enum outside doubted_by(const char *path, u32 length);
+/* Something was submitted that is not in the trace: no result is compared from here on. */
+void lose(const char *what);
 /* How many that open a number of the table are. */
 u32 count_opens_in_flight(void);
 

@@ -1,4 +1,5 @@
 #include "made.h"
+#include "flights.h"
 
 #include <fcntl.h>
 #include <stdlib.h>
@@ -20,8 +21,20 @@ struct entry *make(struct ring *ring, const struct io_uring_sqe *sqe, const void
 	entry->side_length = length;
 	entry->state = ENTRY_MADE;
 	entry->result = result;
+	if (trace.is_lost)
+		put_outside(entry, OUTSIDE_CHANGED);
 	ring->is_begun = true;
 	add_record(record);
+	return entry;
+}
+
+/* Marks an entry of which it is not told what is at its path. */
+static struct entry *with_doubt(struct entry *entry, const char *path)
+{
+	enum outside why = doubt_count ? doubted_by(path, (u32)strlen(path)) : INSIDE;
+
+	if (why != INSIDE)
+		put_outside(entry, why);
 	return entry;
 }
 
@@ -31,7 +44,7 @@ struct entry *make_open(struct ring *ring, u32 index, const char *path, u32 flag
 
 	sqe.open_flags = flags;
 	sqe.file_index = index;
-	return make(ring, &sqe, path, (u32)strlen(path), result);
+	return with_doubt(make(ring, &sqe, path, (u32)strlen(path), result), path);
 }
 
 void make_close(struct ring *ring, u32 index, int number)
@@ -50,7 +63,7 @@ struct entry *make_path(u8 opcode, u32 flags, const char *path)
 		sqe.len = 0755;
 	else
 		sqe.unlink_flags = flags;
-	return make(our_ring(), &sqe, path, (u32)strlen(path), 0);
+	return with_doubt(make(our_ring(), &sqe, path, (u32)strlen(path), 0), path);
 }
 
 struct entry *make_paths(u8 opcode, u32 flags, const char *old_path, const char *new_path)
@@ -66,7 +79,7 @@ struct entry *make_paths(u8 opcode, u32 flags, const char *old_path, const char 
 	memcpy(side + 2 + old_length, new_path, length - 2 - old_length);
 	struct entry *entry = make(our_ring(), &sqe, side, length, 0);
 	free(side);
-	return entry;
+	return with_doubt(with_doubt(entry, old_path), new_path);
 }
 
 struct opened *make_again(struct ring *ring, u32 index, const char *path, int descriptor,

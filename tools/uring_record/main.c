@@ -2,6 +2,7 @@
  * (docs/FORMAT.md).
  *
  * docs/RECORDING.md says how it is used and what is told faithfully, README.md how it works. */
+#include "aside.h"
 #include "notes.h"
 #include "output.h"
 #include "paths.h"
@@ -9,8 +10,10 @@
 #include "start.h"
 #include "tracer.h"
 
+#include <errno.h>
 #include <getopt.h>
 #include <stdio.h>
+#include <stdlib.h>
 #include <string.h>
 
 static const char help[] =
@@ -29,25 +32,88 @@ static const char help[] =
 	"each\n"
 	"                       head of a chain (this is not recorded)\n"
 	"  -w, --wait           each call waits for what it submits\n"
+	"  -t, --touched        bytes of files that the command never opens, renames or links are "
+	"not "
+	"stored\n"
+	"  -l, --limit BYTES    the most bytes that the trace may have (1073741824): there the "
+	"recording\n"
+	"                       ends, and the command runs on\n"
+	"      --all-sums       the results have tree sums of files over 16 MiB\n"
 	"  -v, --verbose        what is not told faithfully is said as it comes up\n"
 	"  -h, --help           this text\n"
+	"  -V, --version        the versions of the format that it writes\n"
 	"\n"
 	"The exit status is the command's own (128 and the number of the signal that ended it); "
 	"125 where\n"
 	"the recorder failed, 126 where the command could not be run, 127 where it was not "
 	"found.\n";
 
+static const char version[] = "uring_record 1, for traces of versions 1 and 2\n";
+
 static const struct option long_options[] = {
 	{ "output", required_argument, NULL, 'o' }, { "results", required_argument, NULL, 'k' },
 	{ "root", required_argument, NULL, 'r' },   { "version-1", no_argument, NULL, '1' },
 	{ "nop", no_argument, NULL, 'n' },	    { "drain", no_argument, NULL, 'd' },
-	{ "wait", no_argument, NULL, 'w' },	    { "verbose", no_argument, NULL, 'v' },
-	{ "help", no_argument, NULL, 'h' },	    { NULL, 0, NULL, 0 },
+	{ "wait", no_argument, NULL, 'w' },	    { "touched", no_argument, NULL, 't' },
+	{ "limit", required_argument, NULL, 'l' },  { "verbose", no_argument, NULL, 'v' },
+	{ "help", no_argument, NULL, 'h' },	    { "version", no_argument, NULL, 'V' },
+	{ "all-sums", no_argument, NULL, 's' },	    { NULL, 0, NULL, 0 },
 };
+
+/* A trace may not be limited to less: its descriptions, table and rings are always there. */
+enum { LEAST_LIMIT = 65536 };
+
+/* Reads a number of bytes that a trace may have. */
+static u64 read_limit(const char *text)
+{
+	char *end;
+
+	errno = 0;
+	u64 limit = strtoull(text, &end, 10);
+	if (errno || *text < '0' || *text > '9' || *end || limit < LEAST_LIMIT ||
+	    limit > MOST_BYTES)
+		die("--limit is a number of bytes from 65536 to 1073741824, not %s", text);
+	return limit;
+}
+
+/* Says what was asked for; gives the status. */
+static int say(const char *text)
+{
+	return fputs(text, stdout) < 0 || fflush(stdout) ? STATUS_FAILED : 0;
+}
+
+/* The option that a letter turns on, or NULL. */
+static bool *switch_of(int letter)
+{
+	switch (letter) {
+	case '1':
+		return &options.version_one;
+	case 'n':
+		return &options.replace;
+	case 'd':
+		return &options.drain;
+	case 'w':
+		return &options.wait;
+	case 't':
+		return &options.touched;
+	case 's':
+		return &options.all_sums;
+	case 'v':
+		return &options.verbose;
+	default:
+		return NULL;
+	}
+}
 
 /* Takes one option; false for the end of the program, with its status. */
 static bool take_option(int letter, int *status)
 {
+	bool *is_on = switch_of(letter);
+
+	if (is_on) {
+		*is_on = true;
+		return true;
+	}
 	switch (letter) {
 	case 'o':
 		options.trace = optarg;
@@ -58,23 +124,14 @@ static bool take_option(int letter, int *status)
 	case 'r':
 		options.root = optarg;
 		return true;
-	case '1':
-		options.version_one = true;
-		return true;
-	case 'n':
-		options.replace = true;
-		return true;
-	case 'd':
-		options.drain = true;
-		return true;
-	case 'w':
-		options.wait = true;
-		return true;
-	case 'v':
-		options.verbose = true;
+	case 'l':
+		options.limit = read_limit(optarg);
 		return true;
 	case 'h':
-		*status = fputs(help, stdout) < 0 || fflush(stdout) ? STATUS_FAILED : 0;
+		*status = say(help);
+		return false;
+	case 'V':
+		*status = say(version);
 		return false;
 	default:
 		fputs("uring_record: try uring_record --help\n", stderr);
@@ -89,7 +146,8 @@ int main(int count, char **words)
 	int letter, status = 0;
 	bool has_run;
 
-	while ((letter = getopt_long(count, words, "+o:k:r:1ndwvh", long_options, NULL)) != -1) {
+	while ((letter = getopt_long(count, words, "+o:k:r:1ndwtl:vhV", long_options, NULL)) !=
+	       -1) {
 		if (!take_option(letter, &status))
 			return status;
 	}
@@ -104,10 +162,12 @@ int main(int count, char **words)
 		return status;
 	/* The tree is read before anything is written, which may be below the root. */
 	start_without_submission();
-	struct final_tree *tree = options.results ? read_final_tree() : NULL;
-	u64 places = number_places();
-	u64 bytes = write_trace(places);
-	if (tree)
+	leave_unseen();
+	struct final_tree *tree =
+		options.results && !trace.is_lost && !trace.is_ended ? read_final_tree() : NULL;
+	number_places();
+	u64 bytes = write_trace(), places = number_places();
+	if (options.results)
 		write_results(tree);
 	summary(places, bytes, ring_count);
 	return status;

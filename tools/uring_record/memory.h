@@ -6,7 +6,14 @@
 
 #include <sys/uio.h>
 
+/* How often memory was read. */
+extern u64 memory_reads;
 bool fetch(pid_t process, u64 address, void *to, u64 length);
+/* Reads ranges with one call; fetch() takes what it asks for from there, until the next such call
+ * or forget_ahead(). What could not be read is not there. */
+enum { MOST_AHEAD = 1024, MOST_AHEAD_BYTES = 1 << 20 };
+void read_ahead(pid_t process, const struct iovec *ranges, u32 count);
+void forget_ahead(void);
 bool store(pid_t process, u64 address, const void *from, u64 length);
 /* A word, 0 where it cannot be had. */
 u32 fetch_word(pid_t process, u64 address);

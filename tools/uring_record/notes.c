@@ -1,4 +1,5 @@
 #include "notes.h"
+#include "memory.h"
 
 #include <inttypes.h>
 #include <stdio.h>
@@ -105,7 +106,8 @@ static u64 place_of(const struct entry *entry)
 /* Says each note, with where it came up first. */
 static void say_notes(void)
 {
-	for (const struct note *it = notes; it < notes + note_count; it++) {
+	for (u64 at = 0; at < note_count; at++) {
+		const struct note *it = &notes[at];
 		u64 place = it->entry ? place_of(it->entry) : place_behind(it->records);
 		fprintf(stderr,
 			"uring_record: note: %s (%" PRIu64 " time%s, first at place %" PRIu64,
@@ -192,5 +194,7 @@ void summary(u64 places, u64 bytes, u32 rings)
 		fprintf(stderr,
 			"uring_record: %" PRIu64 " entries were left in the queue by a call\n",
 			counts.not_taken);
+	if (options.verbose)
+		fprintf(stderr, "uring_record: %" PRIu64 " reads of memory\n", memory_reads);
 	say_notes();
 }

@@ -1,5 +1,6 @@
 #include "opened.h"
 #include "paths.h"
+#include "start.h"
 
 #include <errno.h>
 #include <fcntl.h>
@@ -12,6 +13,9 @@
 #include <unistd.h>
 
 enum { HANDLES = 16 };
+
+/* Which stop of the command this is: what is looked at once in it is not looked at again. */
+static u64 look = 1;
 
 /* A handle on a process. The last few are kept. */
 static int handle_of(pid_t process)
@@ -67,6 +71,8 @@ char *name_of(int descriptor)
 
 	if (fstat(descriptor, &status) || !(S_ISREG(status.st_mode) || S_ISDIR(status.st_mode)))
 		return NULL;
+	if (S_ISREG(status.st_mode) && (u64)status.st_size > MOST_SIZE)
+		return NULL;
 	char *target = descriptor_target(getpid(), descriptor), *name = NULL;
 	if (!target)
 		return NULL;
@@ -97,11 +103,32 @@ struct opened *new_opened(int descriptor, u64 position)
 	opened->position = position;
 	opened->access = flags < 0 ? 0 : (u8)(flags & O_ACCMODE);
 	opened->appends = flags >= 0 && flags & O_APPEND;
+	is_touched(descriptor);
 	if (!fstat(descriptor, &status)) {
 		opened->device = status.st_dev;
 		opened->inode = status.st_ino;
 	}
 	return opened;
+}
+
+struct opened *new_foreign(int descriptor)
+{
+	return let_go_of(new_opened(descriptor, 0));
+}
+
+struct opened *let_go_of(struct opened *opened)
+{
+	if (opened->descriptor >= 0)
+		close(opened->descriptor);
+	opened->descriptor = -1;
+	return opened;
+}
+
+bool is_file_or_directory(int descriptor)
+{
+	struct stat status;
+
+	return !fstat(descriptor, &status) && (S_ISREG(status.st_mode) || S_ISDIR(status.st_mode));
 }
 
 struct opened *new_direct(const char *path, u32 flags)
@@ -113,6 +140,7 @@ struct opened *new_direct(const char *path, u32 flags)
 	opened->name = outside_path(path);
 	opened->access = (u8)(flags & O_ACCMODE);
 	opened->appends = flags & O_APPEND;
+	is_touched_by_name(opened->name);
 	look_at_direct(opened);
 	return opened;
 }
@@ -144,11 +172,26 @@ struct opened *release(struct opened *opened)
 	return NULL;
 }
 
-u64 size_now(const struct opened *opened)
+void begin_look(void)
+{
+	look++;
+}
+
+u64 this_look(void)
+{
+	return look;
+}
+
+u64 size_now(struct opened *opened)
 {
 	struct stat status;
+
+	if (opened->looked == look)
+		return opened->size;
 	bool is_there = opened->descriptor >= 0 ? !fstat(opened->descriptor, &status)
 						: opened->name && !stat(opened->name, &status);
 
-	return is_there ? (u64)status.st_size : 0;
+	opened->looked = look;
+	opened->size = is_there ? (u64)status.st_size : 0;
+	return opened->size;
 }

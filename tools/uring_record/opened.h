@@ -13,6 +13,7 @@ struct opened {
 	u32 moving;	/* entries in flight that move it */
 	dev_t device;	/* which file it is; 0 where that is not known */
 	ino_t inode;
+	u64 size, looked; /* the file's size at a look */
 	u8 access;
 	bool appends;
 	bool is_unsure; /* it may be another one in the replay */
@@ -34,6 +35,13 @@ int open_again(int descriptor, int flags);
 
 /* A description with one holder. The descriptor becomes its own. */
 struct opened *new_opened(int descriptor, u64 position);
+/* One of which only is kept which file it is: a copy would hold a pipe or socket open. The
+ * descriptor is closed. */
+struct opened *new_foreign(int descriptor);
+/* Closes the recorder's descriptor of one. */
+struct opened *let_go_of(struct opened *opened);
+/* Whether a descriptor of the recorder leads to a file or a directory. */
+bool is_file_or_directory(int descriptor);
 /* One that only a slot of the command leads to, by the path of the trace that it was opened by. */
 struct opened *new_direct(const char *path, u32 flags);
 struct opened *hold(struct opened *opened);
@@ -41,7 +49,9 @@ struct opened *hold(struct opened *opened);
 struct opened *release(struct opened *opened);
 /* Learns which file a direct one is, once it is there. */
 void look_at_direct(struct opened *opened);
-/* The size of its file now. */
-u64 size_now(const struct opened *opened);
+/* The size of its file, looked at once in each stop of the command, which begins a new look. */
+u64 size_now(struct opened *opened);
+void begin_look(void);
+u64 this_look(void);
 
 #endif

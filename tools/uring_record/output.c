@@ -1,4 +1,5 @@
 #include "output.h"
+#include "aside.h"
 #include "notes.h"
 #include "rings.h"
 
@@ -12,9 +13,37 @@
 static FILE *file;
 static u64 written;
 
+/* The full paths of the files that are written at the end. */
+static char *outputs[2];
+
+/* Keeps the full path of a file that is written later. */
+static void keep_output(const char *path)
+{
+	char *copy = copy_text(path), *slash = strrchr(copy, '/'), directory[PATH_MAX];
+	const char *name = slash ? slash + 1 : path;
+
+	if (slash)
+		*slash = 0;
+	if (realpath(!slash ? "." : *copy ? copy : "/", directory)) {
+		size_t room = strlen(directory) + strlen(name) + 2;
+		char *full = allocate(room);
+		snprintf(full, room, "%s/%s", strcmp(directory, "/") ? directory : "", name);
+		outputs[outputs[0] != NULL] = full;
+	}
+	free(copy);
+}
+
+bool is_output(const char *full)
+{
+	return (outputs[0] && !strcmp(full, outputs[0])) ||
+	       (outputs[1] && !strcmp(full, outputs[1]));
+}
+
 void try_output(const char *path)
 {
 	char *copy = copy_text(path), *slash = strrchr(copy, '/');
+
+	keep_output(path);
 
 	if (access(path, F_OK)) {
 		/* It is made later, since it would be in the tree if its directory is below the
@@ -29,10 +58,10 @@ void try_output(const char *path)
 	free(copy);
 }
 
-/* Writes bytes to the trace. */
+/* Writes bytes to the trace, or counts them where there is no file yet. */
 static void put(const void *bytes, u64 length)
 {
-	if (length && fwrite(bytes, 1, length, file) != length)
+	if (file && length && fwrite(bytes, 1, length, file) != length)
 		die("%s: %s", options.trace, strerror(errno));
 	written += length;
 }
@@ -86,6 +115,21 @@ static void put_ring(const struct ring *ring)
 	}
 }
 
+/* An entry with its side bytes. */
+static void put_entry(const struct entry *entry)
+{
+	struct io_uring_sqe sqe = entry->sqe;
+	u8 *side = NULL;
+	u32 length = entry->side_length;
+
+	if (entry->is_aside)
+		aside_form(entry, &sqe, &side, &length);
+	put(&sqe, sizeof sqe);
+	put_number(length, 4);
+	put(side ? side : entry->side, length);
+	free(side);
+}
+
 /* A record: a fill, or entries with their side bytes. */
 static void put_record(const struct record *record)
 {
@@ -99,12 +143,8 @@ static void put_record(const struct record *record)
 		return;
 	}
 	put_number(record->count, 2);
-	for (u32 at = 0; at < record->count; at++) {
-		const struct entry *entry = &record->entries[at];
-		put(&entry->sqe, sizeof entry->sqe);
-		put_number(entry->side_length, 4);
-		put(entry->side, entry->side_length);
-	}
+	for (u32 at = 0; at < record->count; at++)
+		put_entry(&record->entries[at]);
 }
 
 /* A record of entries of which the kernel took none is left out. */
@@ -133,27 +173,14 @@ static void finish_table(void)
 		trace.table_size = 0;
 }
 
-/* Ends the recorder where the trace would be refused for its size. */
-static void check_limits(u64 places, u64 records)
-{
-	if (trace.item_count > MOST_ITEMS || trace.description_count > MOST_ITEMS)
-		die("a trace has at most 65,535 names and 65,535 descriptions, and there are more; "
-		    "nothing is written");
-	if (places > MOST_PLACES || records > MOST_PLACES)
-		die("a trace has at most 1,048,576 places, and there are more; nothing is written");
-}
-
-u64 write_trace(u64 places)
+/* Writes the trace, or counts its bytes where there is no file. */
+static void put_trace(void)
 {
 	u64 records = 0;
 
 	for (u64 at = 0; at < trace.record_count; at++)
 		records += !is_empty(trace.records[at]);
-	finish_table();
-	check_limits(places, records);
-	file = fopen(options.trace, "wb");
-	if (!file)
-		die("%s: %s", options.trace, strerror(errno));
+	written = 0;
 	put("URINGTRC", 8);
 	put_number(trace.uses_table ? 2 : 1, 4);
 	put_number(trace.item_count, 4);
@@ -173,9 +200,34 @@ u64 write_trace(u64 places)
 		if (!is_empty(trace.records[at]))
 			put_record(trace.records[at]);
 	}
+}
+
+/* Takes the last records away where the trace is over its limit: its rings may have grown behind
+ * them. */
+static void keep_limit(void)
+{
+	put_trace();
+	u64 over = written > options.limit ? written - options.limit : 0;
+	if (over)
+		end_recording("the trace has as many bytes as it may have");
+	while (over && trace.record_count) {
+		const struct record *last = trace.records[--trace.record_count];
+		written = 0;
+		if (!is_empty(last))
+			put_record(last);
+		over -= min64(over, written);
+	}
+}
+
+u64 write_trace(void)
+{
+	finish_table();
+	keep_limit();
+	file = fopen(options.trace, "wb");
+	if (!file)
+		die("%s: %s", options.trace, strerror(errno));
+	put_trace();
 	if (fclose(file))
 		die("%s: %s", options.trace, strerror(errno));
-	if (written > MOST_BYTES)
-		die("the trace has more than 1,073,741,824 bytes, so that it will be refused");
 	return written;
 }

@@ -3,10 +3,12 @@
 #include <errno.h>
 #include <fcntl.h>
 #include <limits.h>
+#include <linux/openat2.h>
 #include <stdio.h>
 #include <stdlib.h>
 #include <string.h>
 #include <sys/stat.h>
+#include <sys/syscall.h>
 #include <unistd.h>
 
 enum { MOST_PATH = 4095 };
@@ -110,15 +112,36 @@ static void tidy(char *path)
 		strcpy(path, "/");
 }
 
+/* Whether a process sees other files under the same names. */
+static bool has_own_names(pid_t process)
+{
+	char link[64];
+	struct stat own, its;
+
+	snprintf(link, sizeof link, "/proc/%d/ns/mnt", process);
+	return stat(link, &its) || stat("/proc/self/ns/mnt", &own) || its.st_ino != own.st_ino;
+}
+
+/* Where the paths of a process start that begin with a slash, in memory of its own, or NULL. */
+static char *root_of(pid_t process)
+{
+	char link[64];
+
+	snprintf(link, sizeof link, "/proc/%d/root", process);
+	return target_of(link);
+}
+
 /* The full path of what a call names, in memory of its own, or NULL. */
 static char *full_path(pid_t process, int directory, const char *path)
 {
-	if (*path == '/')
-		return copy_text(path);
-	char *base = directory == AT_FDCWD ? working_directory(process)
-					   : descriptor_target(process, directory);
-	if (!base)
+	char *base = *path == '/'	     ? root_of(process)
+		     : directory == AT_FDCWD ? working_directory(process)
+					     : descriptor_target(process, directory);
+
+	if (!base || *base != '/' || has_own_names(process)) {
+		free(base);
 		return NULL;
+	}
 	size_t room = strlen(base) + strlen(path) + 2;
 	char *full = allocate(room + 1);
 	snprintf(full, room, "%s/%s", base, path);
@@ -162,6 +185,69 @@ char *translate(pid_t process, int directory, const char *path, bool *is_known)
 		*is_known = false;
 		return full;
 	}
+	free(full);
+	return found;
+}
+
+/* What a name leads to, where no link is in its way. */
+static enum name_kind kind_of_name(const char *path, bool follows)
+{
+	struct open_how how = { .flags = O_PATH | O_CLOEXEC, .resolve = RESOLVE_NO_SYMLINKS };
+	char *full = outside_path(path);
+	enum name_kind kind = NAME_TOLD;
+	struct stat status;
+
+	how.flags |= follows ? 0 : O_NOFOLLOW;
+	int found = (int)syscall(SYS_openat2, AT_FDCWD, full, &how, sizeof how);
+	if (found < 0)
+		kind = errno == ELOOP ? NAME_LINK : NAME_TOLD;
+	else if (fstat(found, &status) || !(S_ISREG(status.st_mode) || S_ISDIR(status.st_mode)))
+		kind = NAME_LINK;
+	else if (S_ISREG(status.st_mode) && (u64)status.st_size > MOST_SIZE)
+		kind = NAME_LARGE;
+	if (found >= 0)
+		close(found);
+	free(full);
+	return kind;
+}
+
+enum name_kind look_through(char **path, bool follows)
+{
+	enum name_kind kind = **path == '/' ? kind_of_name(*path, follows) : NAME_TOLD;
+	char whole[PATH_MAX];
+
+	if (kind != NAME_LINK)
+		return kind;
+	char *full = outside_path(*path);
+	char *found = follows && realpath(full, whole) ? inside_root(whole) : resolved(full);
+	free(full);
+	if (!found || kind_of_name(found, follows) == NAME_LINK) {
+		free(found);
+		return NAME_LINK;
+	}
+	free(*path);
+	*path = found;
+	return kind_of_name(found, follows);
+}
+
+bool starts_somewhere(pid_t process, int directory, const char *path)
+{
+	char *full = full_path(process, directory, path);
+	bool is_known = full && (*path == '/' || !strstr(full, " (deleted)"));
+
+	free(full);
+	return is_known;
+}
+
+char *canonical_path(pid_t process, int directory, const char *path)
+{
+	char *full = *path ? full_path(process, directory, path) : NULL, *found = NULL;
+
+	for (size_t end = full ? strlen(full) : 0; end > 1 && full[end - 1] == '/'; end--)
+		full[end - 1] = 0;
+	const char *last = full ? strrchr(full, '/') + 1 : "";
+	if (*last && strcmp(last, ".") && strcmp(last, ".."))
+		found = resolved(full);
 	free(full);
 	return found;
 }

@@ -26,4 +26,17 @@ bool is_deleted(const char *target);
  * out of the root, or from where is not known. */
 char *translate(pid_t process, int directory, const char *path, bool *is_known);
 
+/* What a path of the trace leads to on this machine: a file or directory, or nothing; a symbolic
+ * link or what has no form in a trace; a file that is larger than a trace may have. */
+enum name_kind { NAME_TOLD, NAME_LINK, NAME_LARGE };
+#define MOST_SIZE (1ULL << 40)
+/* Looks at a path of the trace. One that leads through symbolic links becomes the one that they
+ * lead to, where that is below the root; `follows` says that the last name is followed too. */
+enum name_kind look_through(char **path, bool follows);
+/* Whether it is known from which directory a path of a call starts. */
+bool starts_somewhere(pid_t process, int directory, const char *path);
+/* A path of a call as the trace has it, without dots and links, or NULL where it is not below the
+ * root. */
+char *canonical_path(pid_t process, int directory, const char *path);
+
 #endif

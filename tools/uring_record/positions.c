@@ -97,7 +97,7 @@ void correct_position(struct ring *ring, struct entry *entry)
 		return;
 	}
 	note("a position that ordinary calls moved, and that entries cannot make right", entry);
-	put_outside(entry, OUTSIDE_POSITION);
+	put_aside(entry, OUTSIDE_POSITION);
 }
 
 void position_moved(struct opened *opened, i32 result)

@@ -1,8 +1,10 @@
 #include "output.h"
 #include "flights.h"
+#include "notes.h"
 #include "paths.h"
 #include "rings.h"
 #include "sha256.h"
+#include "tree_sum.h"
 
 #include <dirent.h>
 #include <errno.h>
@@ -20,31 +22,46 @@ enum { MOST_SUMMED = 16777216, CHUNK = 1 << 16 };
 struct name {
 	char *path;
 	bool is_directory;
+	bool is_untold; /* nothing is known of it */
 	enum outside outside;
 	u64 size;
-	char sum[SHA256_TEXT];
+	char sum[SHA256_TEXT], tree_sum[SHA256_TEXT];
 };
 struct final_tree {
 	struct name *names;
 	u64 count, room;
 };
 
-/* The sum of a file, read in pieces. */
+/* Notes and marks a file whose bytes cannot be read. */
+static void is_unreadable(const char *path, struct name *name)
+{
+	note_name("a file of the end that cannot be read", path);
+	*name->sum = 0;
+	if (name->outside == INSIDE)
+		name->outside = OUTSIDE_UNREADABLE;
+}
+
+/* The sum of a file, read in pieces up to the size that it has. */
 static void sum_file(const char *path, struct name *name)
 {
 	struct sha256 sum;
 	u8 *chunk = allocate(CHUNK);
 	int descriptor = open(path, O_RDONLY | O_CLOEXEC | O_NOFOLLOW);
-	ssize_t moved = -1;
+	ssize_t moved = 0;
 
 	sha256_begin(&sum);
-	while (descriptor >= 0 && (moved = read(descriptor, chunk, CHUNK)) > 0)
+	for (u64 left = name->size; descriptor >= 0 && left; left -= (u64)moved) {
+		moved = read(descriptor, chunk, min64(left, CHUNK));
+		if (moved <= 0)
+			break;
 		sha256_add(&sum, chunk, (size_t)moved);
-	if (moved < 0)
-		die("%s: %s", path, strerror(errno));
-	close(descriptor);
+	}
+	if (descriptor >= 0)
+		close(descriptor);
 	free(chunk);
 	sha256_end(&sum, name->sum);
+	if (descriptor < 0 || moved < 0)
+		is_unreadable(path, name);
 }
 
 static void look_below(struct final_tree *tree, const char *path);
@@ -55,7 +72,8 @@ static void look_at(struct final_tree *tree, char *path)
 	char *full = outside_path(path);
 	struct stat status;
 
-	if (lstat(full, &status) || !(S_ISREG(status.st_mode) || S_ISDIR(status.st_mode))) {
+	if (is_output(full) || lstat(full, &status) ||
+	    !(S_ISREG(status.st_mode) || S_ISDIR(status.st_mode))) {
 		free(path);
 		free(full);
 		return;
@@ -65,11 +83,39 @@ static void look_at(struct final_tree *tree, char *path)
 	*name = (struct name){ .path = path, .size = (u64)status.st_size, .sum = "large" };
 	name->is_directory = S_ISDIR(status.st_mode);
 	name->outside = unsettled_by(status.st_dev, status.st_ino);
-	if (!name->is_directory && name->size <= MOST_SUMMED)
+	if (name->outside == INSIDE)
+		name->outside = doubted_by(path, (u32)strlen(path));
+	if (!name->is_directory && name->size > MOST_SIZE)
+		name->outside = OUTSIDE_LARGE;
+	if (name->outside == OUTSIDE_UNTOUCHED)
+		*name->sum = 0;
+	else if (!name->is_directory && name->size <= MOST_SUMMED)
 		sum_file(full, name);
+	else if (!name->is_directory && options.all_sums && name->size <= MOST_SIZE)
+		tree_sum(full, name->size, name->tree_sum);
 	if (name->is_directory)
 		look_below(tree, path);
 	free(full);
+}
+
+/* Of a directory that cannot be read, the names that it had at the start: it is not known which are
+ * there. */
+static void leave_out_below(struct final_tree *tree, const char *path)
+{
+	size_t length = strlen(path);
+
+	for (u64 at = 0; at < trace.item_count; at++) {
+		const struct item *item = &trace.items[at];
+		if (strncmp(item->path, path, length) || item->path[length] != '/')
+			continue;
+		GROW(tree->names, tree->count, tree->room);
+		tree->names[tree->count++] = (struct name){
+			.path = copy_text(item->path),
+			.is_directory = item->kind == ITEM_DIRECTORY,
+			.outside = OUTSIDE_UNREADABLE,
+			.size = item->size,
+		};
+	}
 }
 
 /* Adds what is in a directory. */
@@ -79,8 +125,12 @@ static void look_below(struct final_tree *tree, const char *path)
 	DIR *directory = opendir(full);
 	const struct dirent *entry;
 
-	if (!directory)
-		die("%s: %s", full, strerror(errno));
+	if (!directory) {
+		note_name("a directory of the end that cannot be read", *path ? path : "/");
+		leave_out_below(tree, path);
+		free(full);
+		return;
+	}
 	while ((entry = readdir(directory))) {
 		if (!strcmp(entry->d_name, ".") || !strcmp(entry->d_name, ".."))
 			continue;
@@ -90,6 +140,42 @@ static void look_below(struct final_tree *tree, const char *path)
 	}
 	closedir(directory);
 	free(full);
+}
+
+/* Adds a line that says nothing of a path but that it is not told. */
+static void add_untold(struct final_tree *tree, const char *path, bool is_directory,
+		       enum outside why)
+{
+	GROW(tree->names, tree->count, tree->room);
+	tree->names[tree->count++] = (struct name){ .path = copy_text(path),
+						    .is_directory = is_directory,
+						    .is_untold = true,
+						    .outside = why };
+}
+
+/* Of each name in doubt, and of those of the start below it: that it is not told, as a file and as
+ * a directory, where it is not there as that. */
+static void add_doubts(struct final_tree *tree)
+{
+	for (u64 at = 0; at < doubt_count; at++) {
+		const char *path = doubts[at].path;
+		char *full = outside_path(path);
+		struct stat status;
+		bool is_there = !lstat(full, &status);
+		if (*path && !(is_there && S_ISREG(status.st_mode)))
+			add_untold(tree, path, false, doubts[at].why);
+		if (*path && !(is_there && S_ISDIR(status.st_mode)))
+			add_untold(tree, path, true, doubts[at].why);
+		free(full);
+	}
+	for (u64 at = 0; doubt_count && at < trace.item_count; at++) {
+		const struct item *item = &trace.items[at];
+		enum outside why = doubted_by(item->path, (u32)strlen(item->path));
+		char *full = outside_path(item->path);
+		if (why != INSIDE && access(full, F_OK))
+			add_untold(tree, item->path, item->kind == ITEM_DIRECTORY, why);
+		free(full);
+	}
 }
 
 /* The order of the bytes of paths. */
@@ -103,6 +189,7 @@ struct final_tree *read_final_tree(void)
 	struct final_tree *tree = allocate(sizeof *tree);
 
 	look_below(tree, "");
+	add_doubts(tree);
 	if (tree->count)
 		qsort(tree->names, tree->count, sizeof *tree->names, by_path);
 	return tree;
@@ -123,11 +210,16 @@ static void write_path(FILE *file, const char *path)
 static void write_tree(FILE *file, const struct final_tree *tree)
 {
 	fputs("tree\n", file);
-	for (const struct name *it = tree->names; it < tree->names + tree->count; it++) {
+	for (u64 at = 0; at < tree->count; at++) {
+		const struct name *it = &tree->names[at];
 		fputs(it->is_directory ? "dir " : "file ", file);
 		write_path(file, it->path);
-		if (!it->is_directory)
-			fprintf(file, " size=%" PRIu64 " sum=%s", it->size, it->sum);
+		if (!it->is_directory && !it->is_untold)
+			fprintf(file, " size=%" PRIu64, it->size);
+		if (!it->is_directory && !it->is_untold && *it->sum)
+			fprintf(file, " sum=%s", it->sum);
+		if (*it->tree_sum)
+			fprintf(file, " tree-sum=%s", it->tree_sum);
 		if (it->outside != INSIDE)
 			fprintf(file, " outside=%s", outside_words[it->outside]);
 		fputc('\n', file);
@@ -138,7 +230,9 @@ static void write_tree(FILE *file, const struct final_tree *tree)
 static void write_entry(FILE *file, const struct entry *entry)
 {
 	fprintf(file, "%" PRIu64 " user=%" PRIu64, entry->place, (u64)entry->sqe.user_data);
-	if (entry->state == ENTRY_SILENT)
+	if (entry->state == ENTRY_UNSEEN)
+		fputs(" completion=unseen", file);
+	else if (entry->state == ENTRY_SILENT)
 		fputs(" silent", file);
 	else
 		fprintf(file, " res=%d", entry->result);
@@ -156,6 +250,10 @@ static void write_entry(FILE *file, const struct entry *entry)
 		fputs(" by=recorder", file);
 	if (entry->outside != INSIDE)
 		fprintf(file, " outside=%s", outside_words[entry->outside]);
+	if (entry->state != ENTRY_MADE)
+		fprintf(file, " submitted=%" PRIu64, entry->submitted);
+	if (entry->state == ENTRY_POSTED)
+		fprintf(file, " completed=%" PRIu64, entry->completed);
 	fputc('\n', file);
 }
 
@@ -192,7 +290,8 @@ void write_results(const struct final_tree *tree)
 		die("%s: %s", options.results, strerror(errno));
 	fputs("uring-report 1\n", file);
 	write_entries(file);
-	write_tree(file, tree);
+	if (tree)
+		write_tree(file, tree);
 	fputs("end\n", file);
 	if (ferror(file) | fclose(file))
 		die("%s: %s", options.results, strerror(errno));

@@ -2,9 +2,15 @@
 #include "made.h"
 #include "memory.h"
 #include "notes.h"
+#include "paths.h"
 #include "start.h"
+#include "table.h"
 
+#include <linux/kcmp.h>
+#include <stdio.h>
 #include <stdlib.h>
+#include <string.h>
+#include <sys/syscall.h>
 #include <unistd.h>
 
 struct ring *rings[MOST_RINGS];
@@ -25,14 +31,80 @@ static struct ring *new_ring(void)
 	return ring;
 }
 
-struct ring *add_ring(void)
+/* Rings that are in no trace, since it has no more. */
+struct stranger {
+	pid_t process;
+	int descriptor;
+};
+static struct stranger *strangers;
+static u64 stranger_count, stranger_room;
+
+/* The stranger with a descriptor of a process, or NULL. */
+static struct stranger *find_stranger(pid_t process, int descriptor)
 {
-	/* One place is kept for the ring of ordinary calls. */
-	if (ring_count + !ours >= MOST_RINGS) {
-		note("a ring beyond the 64th is left out", NULL);
-		return NULL;
+	for (u64 at = 0; at < stranger_count; at++) {
+		if (strangers[at].descriptor == descriptor && strangers[at].process == process)
+			return &strangers[at];
 	}
-	return new_ring();
+	return NULL;
+}
+
+/* A descriptor of a process leads to no ring from before any more. */
+static void forget_descriptor(pid_t process, int descriptor)
+{
+	struct stranger *stranger = find_stranger(process, descriptor);
+
+	if (stranger)
+		*stranger = strangers[--stranger_count];
+	for (u32 at = 0; at < ring_count; at++) {
+		if (rings[at]->process == process && rings[at]->descriptor == descriptor)
+			rings[at]->descriptor = -1;
+	}
+}
+
+/* Lets go of a ring, and of the copies of what is in its slots. */
+static void close_ring(struct ring *ring)
+{
+	ring->descriptor = -1;
+	ring->sq = ring->cq = ring->sqes = 0;
+	for (u32 slot = 0; slot < ring->slot_count; slot++) {
+		if (ring->now[slot])
+			let_go_of(ring->now[slot]);
+	}
+}
+
+void let_go_of_process(pid_t process)
+{
+	for (u32 at = 0; at < ring_count; at++) {
+		if (rings[at]->process == process && !rings[at]->is_ours)
+			close_ring(rings[at]);
+	}
+	for (u64 at = stranger_count; at--;) {
+		if (strangers[at].process == process)
+			strangers[at] = strangers[--stranger_count];
+	}
+	let_go_of_numbers(process);
+	if (ours && ours->now[0])
+		let_go_of(ours->now[0]);
+	for (u64 at = 0; is_started() && process == home_process() && at < trace.description_count;
+	     at++)
+		let_go_of(trace.descriptions[at].opened);
+}
+
+void let_go_of_closed_files(void)
+{
+	for (u32 at = 0; at < ring_count; at++) {
+		struct ring *ring = rings[at];
+		if (ring->descriptor >= 0 && !is_ring(ring->process, ring->descriptor))
+			close_ring(ring);
+	}
+	if (ours && ours->now[0])
+		let_go_of(ours->now[0]);
+	let_go_of_closed();
+	for (u64 at = 0; at < trace.description_count; at++) {
+		if (trace.descriptions[at].opened && trace.descriptions[at].opened->holders == 1)
+			let_go_of(trace.descriptions[at].opened);
+	}
 }
 
 struct ring *our_ring(void)
@@ -54,17 +126,63 @@ struct ring *call_ring(void)
 	return calls;
 }
 
+/* Whether two descriptors lead to one description: 1 and 0, or -1 where one of them is not open. */
+static int is_same_in(pid_t process, int descriptor, const struct ring *ring)
+{
+	long order =
+		syscall(SYS_kcmp, process, ring->process, KCMP_FILE, descriptor, ring->descriptor);
+
+	return order < 0 ? -1 : order == 0;
+}
+
 struct ring *find_ring(pid_t process, int descriptor)
 {
-	for (int any = 0; any < 2; any++) {
-		for (u32 at = ring_count; at--;) {
-			struct ring *ring = rings[at];
-			if (ring->descriptor == descriptor && !ring->is_ours &&
-			    (any || ring->process == process))
-				return ring;
-		}
+	if (descriptor < 0)
+		return NULL;
+	for (u32 at = ring_count; at--;) {
+		struct ring *ring = rings[at];
+		if (ring->descriptor == descriptor && ring->process == process)
+			return ring;
+	}
+	if (find_stranger(process, descriptor))
+		return NULL;
+	/* A child has the rings of its parent, and a ring may have another number too. */
+	for (u32 at = ring_count; at--;) {
+		struct ring *ring = rings[at];
+		if (ring->descriptor < 0)
+			continue;
+		int same = is_same_in(process, descriptor, ring);
+		if (same > 0 || (same < 0 && ring->descriptor == descriptor))
+			return ring;
 	}
 	return NULL;
+}
+
+bool is_ring(pid_t process, int descriptor)
+{
+	char *target = descriptor_target(process, descriptor);
+	bool leads = target && !strcmp(target, "anon_inode:[io_uring]");
+
+	free(target);
+	return leads;
+}
+
+bool kernel_count(const struct ring *ring, const char *word, u32 *count)
+{
+	char name[64], line[256];
+	size_t length = strlen(word);
+	bool is_told = false;
+
+	snprintf(name, sizeof name, "/proc/%d/fdinfo/%d", ring->process, ring->descriptor);
+	FILE *info = ring->descriptor < 0 ? NULL : fopen(name, "re");
+	while (info && !is_told && fgets(line, sizeof line, info)) {
+		is_told = !strncmp(line, word, length) && line[length] == ':';
+		if (is_told)
+			*count = (u32)strtoul(line + length + 1, NULL, 0);
+	}
+	if (info)
+		fclose(info);
+	return is_told;
 }
 
 /* Puts a file of the tree into a slot: at the start of the trace where that is the same, else by an
@@ -72,6 +190,12 @@ struct ring *find_ring(pid_t process, int descriptor)
 static void fill_slot(struct ring *ring, u32 slot, int copy)
 {
 	ring->foreign[slot] = release(ring->foreign[slot]);
+	if (!is_file_or_directory(copy)) {
+		if (is_started())
+			note("a registered file that is no file of the root", NULL);
+		ring->foreign[slot] = new_foreign(copy);
+		return;
+	}
 	if (!is_started()) {
 		ring->now[slot] = new_opened(copy, 0);
 		return;
@@ -88,7 +212,7 @@ static void fill_slot(struct ring *ring, u32 slot, int copy)
 		ring->now[slot] = make_again(ring, slot + 1, name, copy, 0);
 	} else {
 		note("a registered file that is no file of the root", NULL);
-		ring->foreign[slot] = new_opened(copy, 0);
+		ring->foreign[slot] = new_foreign(copy);
 	}
 	free(name);
 }
@@ -104,11 +228,85 @@ static void empty_slot(struct ring *ring, u32 slot)
 	ring->foreign[slot] = release(ring->foreign[slot]);
 }
 
+u32 most_slots(void)
+{
+	return options.version_one ? VERSION_ONE_SLOTS : MOST_SLOTS;
+}
+
+/* Keeps which file comes into a slot that a trace does not have. */
+static void keep_beyond(struct ring *ring, int descriptor)
+{
+	int copy = copy_descriptor(ring->process, descriptor);
+	struct opened *file = copy < 0 ? NULL : new_foreign(copy);
+
+	if (!file)
+		return;
+	note("a slot beyond the last that can be recorded", NULL);
+	for (u64 at = 0; file && at < ring->beyond_count; at++) {
+		if (ring->beyond[at]->inode == file->inode &&
+		    ring->beyond[at]->device == file->device)
+			file = release(file);
+	}
+	if (!file)
+		return;
+	GROW(ring->beyond, ring->beyond_count, ring->beyond_room);
+	ring->beyond[ring->beyond_count++] = file;
+}
+
+/* Whether a ring is closed, and nothing of it is left that a later one with its number would find.
+ */
+static bool is_closed(struct ring *ring)
+{
+	if (ring->is_ours || ring->first || ring->has_quiet || ring->has_index)
+		return false;
+	return ring->descriptor < 0 || !is_ring(ring->process, ring->descriptor);
+}
+
+/* A closed ring for a new one, which goes on with its number: its slots are emptied. NULL where
+ * there is none. */
+static struct ring *take_closed_ring(void)
+{
+	struct ring *ring = NULL;
+
+	for (u32 at = 0; at < ring_count && !ring; at++)
+		ring = is_closed(rings[at]) ? rings[at] : NULL;
+	if (!ring)
+		return NULL;
+	for (u32 slot = 0; slot < ring->slot_count; slot++) {
+		if (ring->now[slot] || ring->foreign[slot])
+			empty_slot(ring, slot);
+	}
+	for (u32 index = 0; index < MOST_INDEXES; index++)
+		ring->mapped[index] = -1;
+	ring->sq = ring->cq = ring->sqes = 0;
+	ring->index_count = ring->seen = ring->claimed = ring->callers = 0;
+	ring->user = 0;
+	ring->is_shared = false;
+	note("a ring goes on with the number of one that is closed", NULL);
+	return ring;
+}
+
+struct ring *add_ring(pid_t process, int descriptor)
+{
+	forget_descriptor(process, descriptor);
+	/* One place is kept for the ring of ordinary calls. */
+	struct ring *ring = ring_count + !ours < MOST_RINGS ? new_ring() : take_closed_ring();
+	if (!ring) {
+		GROW(strangers, stranger_count, stranger_room);
+		strangers[stranger_count++] = (struct stranger){ process, descriptor };
+		note("a ring beyond the 64th is left out", NULL);
+		return NULL;
+	}
+	ring->process = ring->submitter = process;
+	ring->descriptor = descriptor;
+	return ring;
+}
+
 /* Puts what a descriptor of the command leads to into a slot. */
 static void set_slot(struct ring *ring, u32 slot, int descriptor)
 {
-	if (slot >= (options.version_one ? VERSION_ONE_SLOTS : MOST_SLOTS)) {
-		note("a slot beyond the last that can be recorded", NULL);
+	if (slot >= most_slots()) {
+		keep_beyond(ring, descriptor);
 		return;
 	}
 	if (descriptor == IORING_REGISTER_FILES_SKIP)
@@ -132,9 +330,15 @@ static void set_slots(struct ring *ring, pid_t thread, u32 from, u64 list, u32 c
 		set_slot(ring, from + at, list ? (int)fetch_word(thread, list + 4ULL * at) : -1);
 }
 
+void update_slots(struct ring *ring, pid_t thread, u32 from, u64 list, u32 count)
+{
+	set_slots(ring, thread, from, list, count);
+}
+
 /* Registers a list of descriptors, which says how many slots there are. */
 static void add_slots(struct ring *ring, pid_t thread, u64 list, u32 count)
 {
+	ring->registered = count;
 	if (count > ring->slot_count)
 		ring->slot_count = count < MOST_SLOTS ? count : MOST_SLOTS;
 	set_slots(ring, thread, 0, list, count);
@@ -143,12 +347,14 @@ static void add_slots(struct ring *ring, pid_t thread, u64 list, u32 count)
 void start_slots(struct ring *ring)
 {
 	for (u32 slot = 0; slot < ring->slot_count; slot++) {
+		if (ring->foreign[slot])
+			note("a registered file that is no file of the root", NULL);
 		if (!ring->now[slot])
 			continue;
 		i64 known = description_of(ring->now[slot]->descriptor, true);
 		if (known < 0) {
 			note("a registered file that is no file of the root", NULL);
-			ring->foreign[slot] = ring->now[slot];
+			ring->foreign[slot] = let_go_of(ring->now[slot]);
 			ring->now[slot] = NULL;
 			continue;
 		}
@@ -243,6 +449,7 @@ static void registered_files(struct ring *ring, pid_t thread, u32 operation, u64
 		break;
 	case IORING_UNREGISTER_FILES:
 		set_slots(ring, thread, 0, 0, ring->slot_count);
+		ring->registered = 0;
 		break;
 	case IORING_REGISTER_FILES2:
 		fetch(thread, argument, &all, sizeof all);

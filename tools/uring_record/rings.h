@@ -29,11 +29,22 @@ struct ring {
 	struct io_sqring_offsets sq_offsets;
 	struct io_cqring_offsets cq_offsets;
 	u64 sq, cq, sqes;
-	u32 seen; /* completions that are seen */
+	u32 seen;	/* completions that are seen */
+	u32 claimed;	/* where the next call begins to take entries of the queue */
+	u32 callers;	/* calls that are taking some */
+	u32 in_flight;	/* how many entries are in flight */
+	bool overflows; /* completions wait behind the queue: they are not as new as they seem */
+	bool has_quiet; /* an entry asked for CQE_SKIP_SUCCESS */
+	bool has_index; /* a thread has it by an index of its own */
+	pid_t user;	/* the thread of the last call */
+	bool is_shared; /* several threads use it: no call of it is made to wait */
 
 	/* Slots: at the start of the trace, and what the replay has there now. */
 	u32 slot_count;
+	u32 registered; /* how many slots the command has now */
 	u32 slots[MOST_SLOTS];
+	struct opened **beyond; /* the files of slots that a trace does not have */
+	u64 beyond_count, beyond_room;
 	struct opened *now[MOST_SLOTS];
 	struct opened
 		*foreign[MOST_SLOTS]; /* what is no file of the tree, which the command has there */
@@ -46,26 +57,45 @@ struct ring {
 
 	/* Entries in flight, the earliest first, and by their user_data. */
 	struct flight *first, *last;
-	struct flight *by_data[DATA_CHAINS];
-	u64 sequence; /* how many entries were submitted */
-	u64 barrier;  /* entries numbered below have ended before a later one begins */
+	struct flight *by_data[DATA_CHAINS], *by_data_last[DATA_CHAINS];
+	/* What those touch that may meet a later one of the ring, and those that end before one
+	 * begins; of each what is read, and what is written. */
+	struct span *spans[2][2];
+	struct flight *unsorted; /* the first that is not there yet */
+	struct flight *behind;	 /* the first that may meet a later one of the ring */
+	u64 sequence;		 /* how many entries were submitted */
+	u64 barrier;		 /* entries numbered below have ended before a later one begins */
 };
 
 extern struct ring *rings[MOST_RINGS];
 extern u32 ring_count;
 
-/* A new ring, or NULL where the format has no more. */
-struct ring *add_ring(void);
+/* A new ring with a descriptor of a process, which no other ring has from then on; NULL where the
+ * format has no more. */
+struct ring *add_ring(pid_t process, int descriptor);
 /* The ring of ordinary calls, which is made when it is first asked for. */
 struct ring *our_ring(void);
 /* A ring that is in no trace: ordinary calls are in flight there while they run. */
 struct ring *call_ring(void);
-/* The last ring with a descriptor, of the process or of any other. */
+/* The ring that a descriptor of a process leads to, or NULL. A ring that is closed is none. */
 struct ring *find_ring(pid_t process, int descriptor);
+/* Whether a descriptor leads to a ring at all. */
+bool is_ring(pid_t process, int descriptor);
+/* Lets go of the rings of a process that has ended or begins another program, and of all copies of
+ * its descriptors: a lock would stay, or a file could not be executed. */
+void let_go_of_process(pid_t process);
+/* The same of all copies of what programs have closed: before a file is executed or locked. */
+void let_go_of_closed_files(void);
+/* What the kernel has for a word of a ring in /proc/PID/fdinfo; false where it says nothing. */
+bool kernel_count(const struct ring *ring, const char *word, u32 *count);
 
 /* What io_uring_register(2) did: `from` is the ring that buffers are cloned from. */
 void registered(struct ring *ring, const struct ring *from, pid_t thread, u32 operation,
 		u64 argument, u32 count);
+/* Puts a list of descriptors of the command into slots. */
+void update_slots(struct ring *ring, pid_t thread, u32 from, u64 list, u32 count);
+/* So many slots a ring of the command may have in the trace. */
+u32 most_slots(void);
 /* Puts the slots at the start of the trace; slots that are no files of the tree stay empty. */
 void start_slots(struct ring *ring);
 

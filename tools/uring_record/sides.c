@@ -1,18 +1,20 @@
 #include "sides.h"
+#include "meetings.h"
 #include "memory.h"
 #include "notes.h"
 #include "paths.h"
 
+#include <fcntl.h>
 #include <stdlib.h>
 #include <string.h>
 
-enum { MOST_VECTORS = 1024, SHORT_GAP = 512 };
+enum { MOST_VECTORS = 1024, SHORT_GAP = 512, MUCH = 1 << 20 };
 
 /* Notes what cannot be read of an entry, and marks the entry. */
 static void unread(struct entry *entry, const char *what)
 {
 	note(what, entry);
-	put_outside(entry, OUTSIDE_MEMORY);
+	put_aside(entry, OUTSIDE_MEMORY);
 }
 
 /* Keeps the first vectors of an entry while it is in flight. */
@@ -37,6 +39,27 @@ static u64 total_of(const struct iovec *vectors, u32 count)
 	return min64(total, MOST_MOVED);
 }
 
+/* Whether bytes of a write can be had: of much memory the end is tried first, and nothing is read
+ * where the trace has no room for it. */
+static bool may_read(pid_t thread, const struct iovec *vector)
+{
+	u64 length = vector->iov_len;
+	u8 last;
+
+	return length <= MUCH ||
+	       (length <= MOST_MOVED && fetch(thread, address_of(vector) + length - 1, &last, 1) &&
+		has_room(length));
+}
+
+/* An entry whose bytes cannot be had asks for none: its replay changes nothing. */
+static void takes_nothing(struct entry *entry)
+{
+	unread(entry, "bytes of a write that cannot be read: none are recorded");
+	free(entry->side);
+	entry->side = NULL;
+	entry->side_length = entry->sqe.len = 0;
+}
+
 /* READV and WRITEV: lengths, and the bytes of a write. */
 static void take_vectored(struct flight *flight, pid_t thread)
 {
@@ -52,12 +75,20 @@ static void take_vectored(struct flight *flight, pid_t thread)
 	}
 	u64 bytes = entry->sqe.opcode == OP_WRITEV ? total_of(vectors, count) : 0;
 	flight->asked = total_of(vectors, count);
+	for (u32 at = 0; bytes && at < count; at++) {
+		if (!may_read(thread, &vectors[at])) {
+			takes_nothing(entry);
+			keep_vectors(flight, vectors, count);
+			free(vectors);
+			return;
+		}
+	}
 	entry->side_length = (u32)(8 * count + bytes);
 	entry->side = allocate(entry->side_length);
 	for (u32 at = 0; at < count; at++)
 		memcpy(entry->side + 8ULL * at, &vectors[at].iov_len, 8);
 	if (!fetch_gathered(thread, vectors, count, entry->side + 8ULL * count, bytes))
-		unread(entry, "bytes of a write that cannot be read: zeros are recorded");
+		takes_nothing(entry);
 	keep_vectors(flight, vectors, count);
 	free(vectors);
 }
@@ -72,14 +103,75 @@ static void take_plain(struct flight *flight, pid_t thread)
 	keep_vectors(flight, &vector, 1);
 	if (entry->sqe.opcode != OP_WRITE)
 		return;
-	entry->side_length = (u32)flight->asked;
-	entry->side = allocate(entry->side_length);
-	if (entry->side_length && !fetch(thread, entry->sqe.addr, entry->side, entry->side_length))
-		unread(entry, "bytes of a write that cannot be read: zeros are recorded");
+	vector.iov_len = flight->asked;
+	if (may_read(thread, &vector)) {
+		entry->side_length = (u32)flight->asked;
+		entry->side = allocate(entry->side_length);
+	}
+	if (!entry->side || (entry->side_length &&
+			     !fetch(thread, entry->sqe.addr, entry->side, entry->side_length)))
+		takes_nothing(entry);
 }
 
-/* A path as the trace has it, in memory of its own. */
-static char *take_path(struct flight *flight, pid_t thread, int directory, u64 address)
+/* Whether an entry goes on to what a symbolic link at the end of its path leads to. */
+static bool follows_last(const struct io_uring_sqe *sqe)
+{
+	u32 made = O_CREAT | O_EXCL;
+
+	if (sqe->opcode == OP_LINKAT)
+		return sqe->hardlink_flags & AT_SYMLINK_FOLLOW;
+	return sqe->opcode == OP_OPENAT && !(sqe->open_flags & O_NOFOLLOW) &&
+	       (sqe->open_flags & made) != made;
+}
+
+/* Whether a path goes up somewhere. */
+static bool has_dots(const char *path)
+{
+	size_t length = strlen(path);
+
+	return strstr(path, "/../") || (length >= 3 && !strcmp(path + length - 3, "/..")) ||
+	       !strcmp(path, "..") || !strncmp(path, "../", 3);
+}
+
+/* Notes and marks an entry whose path the trace cannot have. */
+static void look_at_path(struct entry *entry, char **path, bool is_known)
+{
+	enum name_kind kind = NAME_TOLD;
+
+	if (!is_known) {
+		note("a path outside the root", entry);
+		put_aside(entry, OUTSIDE_PATH);
+		return;
+	}
+	if (has_dots(*path) || (**path && (*path)[strlen(*path) - 1] == '/')) {
+		note("a path with dots or with a slash at its end, which the replay refuses",
+		     entry);
+		put_aside(entry, OUTSIDE_PATH);
+		return;
+	}
+	kind = look_through(path, follows_last(&entry->sqe));
+	if (kind == NAME_LINK) {
+		note("a path to a symbolic link, or to what is neither file nor directory", entry);
+		put_aside(entry, OUTSIDE_LINK);
+	} else if (kind == NAME_LARGE) {
+		note("a file of more than 2^40 bytes, which no trace can have", entry);
+		put_aside(entry, OUTSIDE_LARGE);
+	}
+}
+
+/* What an entry names in the tree that is or may come to be outside. A link is not in the tree. */
+static char *real_name(const struct flight *flight, int directory, const char *text,
+		       const char *path)
+{
+	const struct entry *entry = flight->entry;
+
+	if (entry->outside == OUTSIDE_LINK && entry->sqe.opcode != OP_OPENAT)
+		return NULL;
+	return entry->is_aside ? canonical_path(flight->process, directory, text) : copy_text(path);
+}
+
+/* The first or second path of an entry as the trace has it, in memory of its own. */
+static char *take_path(struct flight *flight, u32 which, pid_t thread, int directory, u64 address)
 {
 	struct entry *entry = flight->entry;
 	char *text = fetch_text(thread, address);
@@ -90,15 +182,11 @@ static char *take_path(struct flight *flight, pid_t thread, int directory, u64 a
 		return copy_text("");
 	}
 	char *path = translate(flight->process, directory, text, &is_known);
+	look_at_path(entry, &path, is_known);
+	flight->is_nowhere |=
+		entry->is_aside && *text && !starts_somewhere(flight->process, directory, text);
+	flight->names[which] = real_name(flight, directory, text, path);
 	free(text);
-	if (!is_known) {
-		note("a path outside the root, kept as it is", entry);
-		put_outside(entry, OUTSIDE_PATH);
-	} else if (strstr(path, "/../") || (*path && path[strlen(path) - 1] == '/')) {
-		note("a path with dots or with a slash at its end, which the replay refuses",
-		     entry);
-		put_outside(entry, OUTSIDE_PATH);
-	}
 	return path;
 }
 
@@ -106,7 +194,7 @@ static char *take_path(struct flight *flight, pid_t thread, int directory, u64 a
 static void take_one_path(struct flight *flight, pid_t thread)
 {
 	struct entry *entry = flight->entry;
-	char *path = take_path(flight, thread, entry->sqe.fd, entry->sqe.addr);
+	char *path = take_path(flight, 0, thread, entry->sqe.fd, entry->sqe.addr);
 
 	entry->side = (u8 *)path;
 	entry->side_length = (u32)strlen(path);
@@ -116,8 +204,8 @@ static void take_one_path(struct flight *flight, pid_t thread)
 static void take_two_paths(struct flight *flight, pid_t thread)
 {
 	struct entry *entry = flight->entry;
-	char *one = take_path(flight, thread, entry->sqe.fd, entry->sqe.addr);
-	char *other = take_path(flight, thread, (int)entry->sqe.len, entry->sqe.addr2);
+	char *one = take_path(flight, 0, thread, entry->sqe.fd, entry->sqe.addr);
+	char *other = take_path(flight, 1, thread, (int)entry->sqe.len, entry->sqe.addr2);
 	u16 length = (u16)strlen(one);
 
 	entry->side_length = 2 + length + (u32)strlen(other);
@@ -177,18 +265,22 @@ static void add_fill(struct flight *flight, struct buffer *buffer, u64 offset, c
 	counts.filled += length;
 }
 
-/* Marks the bytes of a range that fixed reads in flight will put there: they are left to those. */
-static void mark_awaited(const struct flight *flight, u8 *awaited)
-{
-	u64 from = flight->entry->sqe.addr, to = from + flight->entry->sqe.len;
+/* Bytes that a write takes from a registered buffer, and which of them a read will put there. */
+struct awaited {
+	const struct ring *ring;
+	u8 *bytes;
+};
 
-	for (const struct flight *it = flight->ring->first; it; it = it->next) {
-		u64 start = it->entry->sqe.addr, end = start + it->entry->sqe.len;
-		if (it->entry->sqe.opcode != OP_READ_FIXED || !overlap(start, end, from, to))
-			continue;
-		u64 first = start > from ? start - from : 0;
-		memset(awaited + first, 1, (end < to ? end : to) - from - first);
-	}
+/* Marks what a read in flight will put into the range of a search: that is left to the read. */
+static bool mark_awaited(struct search *search, const struct span *span)
+{
+	const struct awaited *awaited = search->context;
+	u64 from = span->from > search->from ? span->from : search->from;
+
+	if (span->flight->ring == awaited->ring)
+		memset(awaited->bytes + (from - search->from), 1,
+		       min64(span->to, search->to) - from);
+	return false;
 }
 
 /* Fills what differs in a range; short gaps are filled with it. */
@@ -235,7 +327,11 @@ void fill_buffer(struct flight *flight, pid_t thread)
 	} else if (memchr(buffer->unknown + offset, 1, length) ||
 		   memcmp(buffer->values + offset, bytes, length)) {
 		u8 *awaited = allocate(length);
-		mark_awaited(flight, awaited);
+		struct awaited those = { flight->ring, awaited };
+		struct search search = { .from = from, .to = from + length };
+		search.look = mark_awaited;
+		search.context = &those;
+		search_fillings(flight->process, &search);
 		fill_differing(flight, buffer, bytes, awaited);
 		free(awaited);
 	}

@@ -3,6 +3,7 @@
 #include "made.h"
 #include "notes.h"
 #include "opened.h"
+#include "output.h"
 #include "paths.h"
 #include "rings.h"
 #include "table.h"
@@ -15,12 +16,14 @@
 #include <stdlib.h>
 #include <string.h>
 #include <sys/resource.h>
+#include <time.h>
 #include <unistd.h>
 
 enum { MOST_PATH = 4095, FIRST_ROOM = 1 << 16 };
 
 static const char unlinked_name[] = "/.uring_record.unlinked.";
 static bool started;
+static struct timespec began;
 static pid_t home;
 
 bool is_started(void)
@@ -33,10 +36,25 @@ pid_t home_process(void)
 	return home;
 }
 
-/* Reads a range of a file into the bytes of its item, which grow to its end. */
-static void read_range(struct item *item, int descriptor, u64 from, u64 to, u64 *room)
+u64 time_now(void)
+{
+	static u64 known, look;
+	struct timespec now;
+
+	if (look == this_look())
+		return known;
+	clock_gettime(CLOCK_MONOTONIC, &now);
+	look = this_look();
+	known = (u64)((now.tv_sec - began.tv_sec) * 1000000000LL + now.tv_nsec - began.tv_nsec);
+	return known;
+}
+
+/* Reads a range of a file into the bytes of its item, which grow to its end; false where they
+ * cannot be read. */
+static bool read_range(struct item *item, int descriptor, u64 from, u64 to, u64 *room)
 {
 	u64 wanted = *room ? *room : FIRST_ROOM;
+	ssize_t moved = 0;
 
 	while (wanted < to)
 		wanted *= 2;
@@ -47,37 +65,113 @@ static void read_range(struct item *item, int descriptor, u64 from, u64 to, u64 
 		memset(item->bytes + *room, 0, wanted - *room);
 		*room = wanted;
 	}
-	for (u64 at = from; at < to;) {
-		ssize_t moved = pread(descriptor, item->bytes + at, to - at, (off_t)at);
+	for (u64 at = from; at < to; at += (u64)moved) {
+		moved = pread(descriptor, item->bytes + at, to - at, (off_t)at);
 		if (moved <= 0)
 			break;
-		at += (u64)moved;
 	}
+	return moved >= 0;
 }
 
-/* Adds a file. What is stored ends with its last byte that is not zero; holes are not read. */
-static void add_file(int descriptor, char *path, const struct stat *status)
+/* Reads the bytes of a file up to its size, without its holes, as far as they fit into the trace;
+ * gives where the last ones end. */
+static u64 read_bytes(struct item *item, int descriptor, bool *is_read)
 {
-	struct item *item = add_item(ITEM_FILE, path);
 	u64 room = 0, stored = 0;
+	off_t size = (off_t)item->size;
 
-	item->size = (u64)status->st_size;
-	for (off_t from = 0, to;; from = to) {
+	for (off_t from = 0, to; *is_read; from = to) {
 		from = lseek(descriptor, from, SEEK_DATA);
-		to = from < 0 ? -1 : lseek(descriptor, from, SEEK_HOLE);
-		if (to < 0)
+		to = from < 0 || from >= size ? -1 : lseek(descriptor, from, SEEK_HOLE);
+		if (to <= from) /* (or what is no file on a disk) */
 			break;
-		if ((u64)to > MOST_BYTES)
-			die("%s has bytes behind its first 1,073,741,824, which no trace can have",
-			    path);
-		read_range(item, descriptor, (u64)from, (u64)to, &room);
-		stored = (u64)to;
+		stored = min64((u64)to, item->size);
+		if (!would_fit(stored))
+			break;
+		*is_read = read_range(item, descriptor, (u64)from, stored, &room);
 	}
-	stored = min64(stored, item->size);
+	return stored;
+}
+
+/* Stores the bytes of a file, up to its last byte that is not zero. Where they cannot be read,
+ * nothing is stored, and the file is marked. */
+static void store_bytes(struct item *item, int descriptor, const struct stat *status)
+{
+	bool is_read = descriptor >= 0;
+	u64 stored = is_read ? read_bytes(item, descriptor, &is_read) : 0;
+
+	if (!is_read) {
+		note_name("a file of the start that cannot be read", item->path);
+		set_doubt(status->st_dev, status->st_ino, OUTSIDE_UNREADABLE);
+		stored = 0;
+	} else if (!would_fit(stored)) {
+		note_name("a file of the start whose bytes do not fit into the trace", item->path);
+		set_doubt(status->st_dev, status->st_ino, OUTSIDE_LARGE);
+		stored = 0;
+	}
 	while (stored && !item->bytes[stored - 1])
 		stored--;
+	if (!stored) {
+		free(item->bytes);
+		item->bytes = NULL;
+	}
 	item->stored = (u32)stored;
+	trace.bytes += stored;
+}
+
+/* Adds a file; false where the trace is at its limit. */
+static bool add_file(int descriptor, char *path, const struct stat *status)
+{
+	struct item *item = add_item(ITEM_FILE, path);
+
+	if (!item)
+		return false;
+	item->size = (u64)status->st_size;
 	set_node(status, (u32)trace.item_count);
+	if (options.touched && item->size)
+		set_doubt(status->st_dev, status->st_ino, OUTSIDE_UNTOUCHED);
+	else
+		store_bytes(item, descriptor, status);
+	return true;
+}
+
+/* Stores the bytes of a file of the start that the command is about to use. */
+static void store_touched(int descriptor, const struct stat *status)
+{
+	u32 node = node_of(status);
+	int again;
+
+	if (!S_ISREG(status->st_mode) || !node || node == NO_ITEM ||
+	    doubt_of(status->st_dev, status->st_ino) != OUTSIDE_UNTOUCHED)
+		return;
+	set_doubt(status->st_dev, status->st_ino, INSIDE);
+	again = open_again(descriptor, O_RDONLY);
+	trace.items[node - 1].size = (u64)status->st_size;
+	store_bytes(&trace.items[node - 1], again, status);
+	if (again >= 0)
+		close(again);
+}
+
+void is_touched(int descriptor)
+{
+	struct stat status;
+
+	if (options.touched && !fstat(descriptor, &status))
+		store_touched(descriptor, &status);
+}
+
+void is_touched_by_name(const char *full)
+{
+	struct stat status;
+	int descriptor;
+
+	if (!options.touched || stat(full, &status) || !S_ISREG(status.st_mode))
+		return;
+	descriptor = open(full, O_PATH | O_CLOEXEC);
+	if (descriptor >= 0) {
+		store_touched(descriptor, &status);
+		close(descriptor);
+	}
 }
 
 static void walk(const char *directory, const char *path);
@@ -87,23 +181,27 @@ static void add_name(const char *full, char *path, const struct stat *status)
 {
 	u32 known = node_of(status);
 
+	if (S_ISREG(status->st_mode) && (u64)status->st_size > MOST_SIZE) {
+		note_name("a file of the start of more than 2^40 bytes is left out", path);
+		return;
+	}
 	if (S_ISDIR(status->st_mode)) {
-		add_item(ITEM_DIRECTORY, path);
+		if (!add_item(ITEM_DIRECTORY, path))
+			return;
 		set_node(status, (u32)trace.item_count);
 		walk(full, path);
 		return;
 	}
 	if (status->st_nlink > 1 && known != NO_ITEM) {
-		add_item(ITEM_NAME, path)->of = known;
+		struct item *item = add_item(ITEM_NAME, path);
+		if (item)
+			item->of = known;
 		return;
 	}
-	int descriptor = open(full, O_RDONLY | O_CLOEXEC | O_NOFOLLOW);
-	if (descriptor < 0) {
-		note_name("a file of the start that cannot be read is left out", path);
-		return;
-	}
+	int descriptor = open(full, O_RDONLY | O_CLOEXEC | O_NOFOLLOW | O_NONBLOCK);
 	add_file(descriptor, path, status);
-	close(descriptor);
+	if (descriptor >= 0)
+		close(descriptor);
 }
 
 /* The order of the bytes of names. */
@@ -122,7 +220,9 @@ static void walk(const char *directory, const char *path)
 		note_name("a directory of the start that cannot be read", path);
 		return;
 	}
-	for (int at = 0; at < count; at++) {
+	for (int at = 0; at < count && trace.is_ended; at++)
+		free(names[at]);
+	for (int at = 0; at < count && !trace.is_ended; at++) {
 		const char *name = names[at]->d_name;
 		size_t length = strlen(path) + strlen(name) + 2;
 		char *full = allocate(strlen(directory) + strlen(name) + 2),
@@ -131,7 +231,7 @@ static void walk(const char *directory, const char *path)
 		sprintf(full, "%s/%s", directory, name);
 		sprintf(inner, "%s/%s", path, name);
 		bool is_dots = !strcmp(name, ".") || !strcmp(name, "..");
-		if (is_dots || length > MOST_PATH + 1 || lstat(full, &status))
+		if (is_dots || is_output(full) || length > MOST_PATH + 1 || lstat(full, &status))
 			;
 		else if (S_ISREG(status.st_mode) || S_ISDIR(status.st_mode))
 			add_name(full, inner, &status);
@@ -158,8 +258,8 @@ static u32 add_unlinked(int descriptor, const struct stat *status)
 	if (again >= 0) {
 		char *name = allocate(sizeof unlinked_name + 16);
 		sprintf(name, "%s%d", unlinked_name, (int)trace.item_count + 1);
-		add_file(again, name, status);
-		node = (u32)trace.item_count;
+		if (add_file(again, name, status))
+			node = (u32)trace.item_count;
 		close(again);
 	}
 	return node;
@@ -181,7 +281,7 @@ i64 description_of(int descriptor, bool adds)
 	u32 node = node_of(&status);
 	if (node == NO_ITEM && S_ISREG(status.st_mode) && !status.st_nlink)
 		node = add_unlinked(descriptor, &status);
-	if (node == NO_ITEM)
+	if (node == NO_ITEM || trace.description_count == MOST_ITEMS - 1)
 		return -1;
 	bool is_file = S_ISREG(status.st_mode);
 	off_t position = is_file ? lseek(descriptor, 0, SEEK_CUR) : 0;
@@ -205,8 +305,10 @@ static void start_table(pid_t process)
 	trace.table_size = limit.rlim_cur < MOST_TABLE ? (u32)limit.rlim_cur : MOST_TABLE;
 	snprintf(directory, sizeof directory, "/proc/%d/fd", process);
 	int count = scandir(directory, &names, NULL, versionsort);
-	if (count < 0)
-		die("the descriptors of the command cannot be read: %s", strerror(errno));
+	if (count < 0) {
+		lose("the descriptors of the command cannot be read");
+		return;
+	}
 	for (int at = 0; at < count; at++) {
 		int number = atoi(names[at]->d_name);
 		bool is_dots = names[at]->d_name[0] == '.';
@@ -260,8 +362,10 @@ static void start_tree(void)
 {
 	struct stat status;
 
-	if (stat(root_path(), &status))
-		die("%s: %s", root_path(), strerror(errno));
+	if (stat(root_path(), &status)) {
+		lose("the root is gone");
+		return;
+	}
 	set_node(&status, 0);
 	walk(root_path(), "");
 }
@@ -289,4 +393,5 @@ void start(pid_t process)
 			make_path(OP_UNLINKAT, 0, trace.items[at].path);
 	}
 	look_at_mappings(process);
+	clock_gettime(CLOCK_MONOTONIC, &began);
 }

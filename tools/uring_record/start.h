@@ -7,6 +7,13 @@
 /* Reads all of it, once, at the first submission: the descriptor table is that of the process. */
 void start(pid_t process);
 bool is_started(void);
+/* Nanoseconds from the end of the start on, so that reading the tree is not counted: the clock is
+ * read once in each stop of the command. */
+u64 time_now(void);
+/* With --touched: the command is about to use the file that a descriptor of the recorder leads to,
+ * or one of a full path, whose bytes are stored now. */
+void is_touched(int descriptor);
+void is_touched_by_name(const char *full);
 /* For a command that submitted nothing: its trace has the tree, as it is now, and nothing else. */
 void start_without_submission(void);
 /* The process whose descriptors are the table. */

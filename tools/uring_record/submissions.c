@@ -1,7 +1,11 @@
 #include "submissions.h"
+#include "ahead.h"
+#include "aside.h"
 #include "completions.h"
+#include "meetings.h"
 #include "memory.h"
 #include "notes.h"
+#include "others.h"
 #include "positions.h"
 #include "sides.h"
 #include "start.h"
@@ -16,21 +20,59 @@
 /* The chain that entries are being taken of. */
 struct chain {
 	u64 head;
+	struct entry *first;
+	bool is_broken; /* a member fails in the replay, so that later ones do not run */
 	bool is_drained;
 	bool goes_on;
 };
 
+/* Whether a priority of a read or write is one: a class of 1 to 3, or 0 without a level. */
+static bool is_priority(u16 priority)
+{
+	return priority >> 13 <= 3 && (priority >> 13 || !priority);
+}
+
+/* Whether fields are set that the opcode does not use: the kernel refuses them. */
+static bool has_other_fields(const struct io_uring_sqe *sqe)
+{
+	bool has_index = sqe->buf_index || sqe->splice_fd_in;
+
+	switch (sqe->opcode) {
+	case OP_OPENAT:
+		return sqe->buf_index;
+	case OP_CLOSE:
+		return sqe->off || sqe->addr || sqe->len || sqe->rw_flags || sqe->buf_index;
+	case OP_FSYNC:
+		return has_index || sqe->addr;
+	case OP_FALLOCATE:
+		return has_index || sqe->rw_flags;
+	case OP_FTRUNCATE:
+		return has_index || sqe->rw_flags || sqe->addr || sqe->len || sqe->addr3;
+	case OP_MKDIRAT:
+		return has_index || sqe->rw_flags || sqe->off;
+	case OP_UNLINKAT:
+		return has_index || sqe->off || sqe->len;
+	case OP_RENAMEAT:
+	case OP_LINKAT:
+		return has_index;
+	default:
+		return false;
+	}
+}
+
 /* Why an entry asks for what lies outside the profile by its fields, and the replay may answer
  * otherwise. */
-static enum outside outside_by_fields(const struct io_uring_sqe *sqe)
+static enum outside outside_by_fields(const struct ring *ring, const struct io_uring_sqe *sqe)
 {
 	u8 opcode = sqe->opcode;
+	bool has_index = opcode == OP_OPENAT || opcode == OP_CLOSE;
 
 	if (!is_served(opcode))
 		return OUTSIDE_OPCODE;
 	if (sqe->flags & FLAG_SELECT)
 		return OUTSIDE_SELECTION;
-	if (sqe->personality || (sqe->ioprio && !moves_bytes(opcode)))
+	if (sqe->personality || has_other_fields(sqe) ||
+	    (sqe->ioprio && !(moves_bytes(opcode) && is_priority(sqe->ioprio))))
 		return OUTSIDE_FLAGS;
 	if ((moves_bytes(opcode) || opcode == OP_NOP) && sqe->rw_flags)
 		return OUTSIDE_FLAGS;
@@ -40,8 +82,8 @@ static enum outside outside_by_fields(const struct io_uring_sqe *sqe)
 		return OUTSIDE_FLAGS;
 	if (opcode == OP_LINKAT && sqe->hardlink_flags & ~0x400U)
 		return OUTSIDE_FLAGS;
-	if ((opcode == OP_OPENAT || opcode == OP_CLOSE) &&
-	    sqe->file_index == IORING_FILE_INDEX_ALLOC)
+	if (has_index && (sqe->file_index == IORING_FILE_INDEX_ALLOC ||
+			  sqe->file_index > ring->registered || sqe->file_index > most_slots()))
 		return OUTSIDE_SLOT;
 	if (opcode == OP_OPENAT) {
 		u32 made = O_CREAT | O_DIRECTORY;
@@ -56,7 +98,7 @@ static const char *const outside_notes[OUTSIDE_COUNT] = {
 	[OUTSIDE_OPCODE] = "an entry whose opcode the profile does not serve",
 	[OUTSIDE_SELECTION] = "an entry with buffer selection",
 	[OUTSIDE_FLAGS] = "an entry with flags or fields outside the profile",
-	[OUTSIDE_SLOT] = "an entry whose slot the kernel chooses",
+	[OUTSIDE_SLOT] = "an entry whose slot the kernel chooses, or the trace cannot have",
 };
 
 /* Counts an entry for the summary. */
@@ -90,54 +132,74 @@ static void leads_elsewhere(struct entry *entry)
 }
 
 /* What is no file of the tree, and the command has in a slot, or NULL. */
-static const struct opened *foreign_in(const struct ring *ring, u32 slot)
+static struct opened *foreign_in(const struct ring *ring, u32 slot)
 {
 	return slot < ring->slot_count ? ring->foreign[slot] : NULL;
 }
 
 /* The same for a slot: what the entry writes there is not told. */
-static void slot_leads_elsewhere(struct entry *entry, const struct opened *foreign)
+static void slot_leads_elsewhere(struct flight *flight, struct opened *foreign)
+{
+	struct entry *entry = flight->entry;
+
+	leads_elsewhere(entry);
+	entry->is_aside |= entry->sqe.flags & FLAG_FIXED;
+	if (!changes_file(entry->sqe.opcode))
+		return;
+	unsettle(foreign, OUTSIDE_CHANGED);
+	flight->changes = hold(foreign); /* (a file that is not there yet is known at the end) */
+}
+
+/* The same for a slot beyond those that a trace has. What is there is not known. */
+static void slot_is_beyond(struct ring *ring, struct entry *entry)
 {
 	leads_elsewhere(entry);
-	if (works_on_file(entry->sqe.opcode) && !reads_bytes(entry->sqe.opcode) &&
-	    entry->sqe.opcode != OP_FSYNC)
-		unsettle(foreign, OUTSIDE_CHANGED);
+	entry->is_aside = true;
+	for (u64 at = 0; at < ring->beyond_count; at++)
+		unsettle(ring->beyond[at], OUTSIDE_CHANGED);
 }
 
 /* The same for a number. */
-static void number_leads_elsewhere(struct entry *entry, pid_t process)
+static void number_leads_elsewhere(struct flight *flight)
 {
-	int copy = copy_descriptor(process, entry->sqe.fd);
+	int copy = copy_descriptor(flight->process, flight->entry->sqe.fd);
 
 	if (copy < 0) {
-		leads_elsewhere(entry);
+		leads_elsewhere(flight->entry);
 		return;
 	}
-	struct opened *foreign = new_opened(copy, 0);
-	slot_leads_elsewhere(entry, foreign);
+	struct opened *foreign = new_foreign(copy);
+	slot_leads_elsewhere(flight, foreign);
 	release(foreign);
 }
 
 /* Makes the descriptor or slot of an entry lead in the replay where it leads in the command. */
-static void ensure_place(struct ring *ring, struct entry *entry, pid_t process)
+static void ensure_place(struct flight *flight)
 {
+	struct ring *ring = flight->ring;
+	struct entry *entry = flight->entry;
 	struct io_uring_sqe *sqe = &entry->sqe;
 	bool closes = closes_in_table(sqe);
 
 	if (works_on_file(sqe->opcode) && sqe->flags & FLAG_FIXED) {
-		const struct opened *foreign = foreign_in(ring, (u32)sqe->fd);
+		u32 slot = (u32)sqe->fd;
+		struct opened *foreign = foreign_in(ring, slot);
 		if (foreign)
-			slot_leads_elsewhere(entry, foreign);
+			slot_leads_elsewhere(flight, foreign);
+		else if (slot >= most_slots() && slot < ring->registered)
+			slot_is_beyond(ring, entry);
 		return;
 	}
-	if (sqe->opcode == OP_CLOSE && foreign_in(ring, sqe->file_index - 1))
+	if (sqe->opcode == OP_CLOSE && foreign_in(ring, sqe->file_index - 1)) {
 		leads_elsewhere(entry);
+		entry->is_aside = true;
+	}
 	if (!works_on_file(sqe->opcode) && !closes)
 		return;
-	enum leads leads = options.version_one ? ensure_slot(ring, process, sqe->fd)
-					       : ensure_number(process, sqe->fd);
+	enum leads leads = options.version_one ? ensure_slot(ring, flight->process, sqe->fd)
+					       : ensure_number(flight->process, sqe->fd);
 	if (leads == LEADS_ELSEWHERE)
-		number_leads_elsewhere(entry, process);
+		number_leads_elsewhere(flight);
 	if (!options.version_one || leads != LEADS_TO_FILE)
 		return;
 	if (closes) {
@@ -156,8 +218,13 @@ static void take_place(struct flight *flight)
 	const struct io_uring_sqe *sqe = &flight->entry->sqe;
 	u32 slot = sqe->file_index - 1;
 
-	if (sqe->file_index && slot < flight->ring->slot_count) {
+	if (sqe->opcode == OP_OPENAT && flight->entry->is_aside) {
+		take_outside_slot(flight, sqe->file_index, hold(flight->used));
+	} else if (closes_in_table(sqe) && flight->entry->is_aside) {
+		return; /* (that it is closed is seen when the number is looked at) */
+	} else if (sqe->file_index && slot < flight->ring->slot_count) {
 		flight->takes_place = true;
+		flight->slot = sqe->file_index;
 		flight->before = flight->ring->now[slot];
 		flight->foreign_before = flight->ring->foreign[slot];
 		flight->ring->now[slot] = sqe->opcode == OP_OPENAT ? hold(flight->used) : NULL;
@@ -176,10 +243,12 @@ static void find_description(struct flight *flight)
 	u8 opcode = entry->sqe.opcode;
 
 	if (opcode == OP_OPENAT) {
-		flight->used = new_direct((const char *)entry->side, entry->sqe.open_flags);
+		flight->open_flags = entry->sqe.open_flags;
+		flight->used = new_direct(flight->names[0] ? flight->names[0] : "/",
+					  entry->sqe.open_flags);
 		if (options.version_one && !entry->sqe.file_index) {
 			note("an OPENAT to a descriptor, which version 1 does not have", entry);
-			put_outside(entry, OUTSIDE_DESCRIPTOR);
+			put_aside(entry, OUTSIDE_DESCRIPTOR);
 		}
 	}
 	if (!works_on_file(opcode))
@@ -200,7 +269,7 @@ static void find_buffer(struct flight *flight)
 
 	if (index < -1) {
 		note("an entry with a registered buffer that is left out", entry);
-		put_outside(entry, OUTSIDE_BUFFER);
+		put_aside(entry, OUTSIDE_BUFFER);
 	}
 	flight->buffer = index < 0 ? NO_BUFFER : (u32)index;
 	entry->sqe.buf_index = (u16)flight->buffer;
@@ -213,42 +282,68 @@ static bool begins_later(u8 opcode)
 	return opcode == OP_FSYNC || opcode == OP_FALLOCATE || opcode == OP_FTRUNCATE;
 }
 
-/* Takes an entry: what it points to, what it works on, and what it meets. */
+/* An entry of an opcode that is not served: what it will change. */
+static void take_unserved(struct flight *flight, pid_t thread)
+{
+	struct entry *entry = flight->entry;
+
+	note(outside_notes[OUTSIDE_OPCODE], entry);
+	look_at_unserved(flight, thread);
+	if (options.replace)
+		replace_by_nop(entry);
+	put_outside(entry, OUTSIDE_OPCODE);
+}
+
+/* An entry of an opcode that is served: what it points to, what it works on, and what it meets. */
+static void take_served(struct flight *flight, pid_t thread)
+{
+	struct entry *entry = flight->entry;
+
+	take_side(flight, thread);
+	ensure_place(flight);
+	find_description(flight);
+	if (is_fixed(entry->sqe.opcode))
+		find_buffer(flight);
+	look_at_touches(flight);
+	if (entry->sqe.opcode == OP_WRITE_FIXED)
+		fill_buffer(flight, thread);
+	meet_others(flight);
+	take_place(flight);
+	if (flight->used && moves_bytes(entry->sqe.opcode) && !entry->is_aside &&
+	    entry->sqe.off == AT_POSITION) {
+		flight->moves = hold(flight->used);
+		flight->moves->moving++;
+	}
+}
+
+/* Takes an entry, with what is known of it by its fields and its chain. */
 static void take_entry(struct ring *ring, struct entry *entry, struct chain *chain, pid_t thread)
 {
 	struct flight *flight = new_flight(ring, entry, ring->submitter);
-	enum outside why = outside_by_fields(&entry->sqe);
+	enum outside why = outside_by_fields(ring, &entry->sqe);
 
 	flight->sequence = ring->sequence++;
 	flight->chain = chain->head;
+	entry->head = chain->first;
+	entry->submitted = time_now();
 	flight->barrier = ring->barrier;
 	flight->is_deferred = flight->sequence != chain->head || chain->is_drained ||
 			      entry->sqe.flags & FLAG_ASYNC || begins_later(entry->opcode);
 	count_entry(&entry->sqe);
-	if (why != INSIDE) {
-		note(outside_notes[why], entry);
-		put_outside(entry, why);
-	}
+	flight->asked_for = entry->sqe;
+	if (trace.is_lost)
+		put_outside(entry, OUTSIDE_CHANGED);
 	if (why == OUTSIDE_OPCODE) {
-		if (options.replace)
-			replace_by_nop(entry);
+		take_unserved(flight, thread);
 	} else {
-		take_side(flight, thread);
-		ensure_place(ring, entry, ring->submitter);
-		find_description(flight);
-		if (is_fixed(entry->sqe.opcode))
-			find_buffer(flight);
-		look_at_touches(flight);
-		if (entry->sqe.opcode == OP_WRITE_FIXED)
-			fill_buffer(flight, thread);
-		meet_others(flight);
-		take_place(flight);
-		if (flight->used && moves_bytes(entry->sqe.opcode) &&
-		    entry->sqe.off == AT_POSITION) {
-			flight->moves = hold(flight->used);
-			flight->moves->moving++;
-		}
+		if (why != INSIDE)
+			note(outside_notes[why], entry);
+		if (why != INSIDE || chain->is_broken)
+			put_aside(entry, why != INSIDE ? why : OUTSIDE_CHAIN);
+		take_served(flight, thread);
 	}
+	chain->is_broken |= entry->is_aside || entry->outside == OUTSIDE_DESCRIPTOR ||
+			    (why == OUTSIDE_OPCODE && !entry->replaced);
 	launch(flight);
 }
 
@@ -275,17 +370,21 @@ static void drain_in_kernel(pid_t thread, u64 address, u8 flags)
 	store(thread, address + offsetof(struct io_uring_sqe, flags), &flags, 1);
 }
 
-/* Reads the entries of the queue as they are. */
+/* Reads the entries of the queue as they are, up to an index that the kernel drops: there it ends
+ * the call. */
 static void read_entries(struct ring *ring, pid_t thread, struct record *record, u32 head,
 			 u32 count)
 {
 	for (u32 at = 0; at < count; at++) {
 		u64 address = entry_address(ring, thread, head + at);
+		record->claimed++;
 		if (!address)
-			continue;
+			return;
 		struct entry *entry = &record->entries[record->count];
-		if (!fetch(thread, address, &entry->sqe, sizeof entry->sqe))
-			die("the queue of a ring cannot be read");
+		if (!fetch(thread, address, &entry->sqe, sizeof entry->sqe)) {
+			lose("a queue that cannot be read");
+			return;
+		}
 		entry->opcode = entry->sqe.opcode;
 		bool is_head = !record->count || !goes_on(&entry[-1].sqe);
 		if (options.drain && is_head && !(entry->sqe.flags & (FLAG_DRAIN | FLAG_SKIP)))
@@ -307,6 +406,20 @@ static bool is_drained(const struct entry *head, const struct entry *end)
 	return is_asked;
 }
 
+/* Whether no member of a chain runs in the replay, since one asks for what lies outside by its
+ * fields. */
+static bool is_doomed(const struct ring *ring, const struct entry *head, const struct entry *end)
+{
+	for (const struct entry *it = head; it < end; it++) {
+		enum outside why = outside_by_fields(ring, &it->sqe);
+		if (why != INSIDE && !(why == OUTSIDE_OPCODE && options.replace))
+			return true;
+		if (!goes_on(&it->sqe))
+			break;
+	}
+	return false;
+}
+
 /* Takes the entries of a call one after another, chain by chain. */
 static void take_entries(struct ring *ring, pid_t thread, struct record *record)
 {
@@ -316,6 +429,8 @@ static void take_entries(struct ring *ring, pid_t thread, struct record *record)
 	for (struct entry *it = record->entries; it < end; it++) {
 		if (!chain.goes_on) {
 			chain.head = ring->sequence;
+			chain.first = it;
+			chain.is_broken = is_doomed(ring, it, end);
 			chain.is_drained = is_drained(it, end);
 			if (chain.is_drained)
 				ring->barrier = chain.head;
@@ -327,21 +442,38 @@ static void take_entries(struct ring *ring, pid_t thread, struct record *record)
 	}
 }
 
+/* Where a call begins to take entries: behind what other calls take. Where that is not the head
+ * that the program's memory has, the kernel's own counts. */
+static u32 first_entry(struct ring *ring, pid_t thread)
+{
+	u32 head = fetch_word(thread, ring->sq + ring->sq_offsets.head);
+
+	if (head != ring->claimed && !ring->callers) {
+		kernel_count(ring, "CachedSqHead", &head);
+		ring->claimed = head;
+	}
+	return ring->claimed;
+}
+
 struct record *submission(struct ring *ring, pid_t thread, pid_t process, u32 wanted)
 {
 	ring->submitter = process;
-	u32 head = fetch_word(thread, ring->sq + ring->sq_offsets.head);
+	u32 head = first_entry(ring, thread);
 	u32 count = fetch_word(thread, ring->sq + ring->sq_offsets.tail) - head, opens = 0;
+	if (count > ring->sq_entries)
+		count = ring->sq_entries;
 	if (count > wanted)
 		count = wanted;
-	if (count > MOST_IN_RECORD)
-		count = MOST_IN_RECORD;
 	if (!count)
 		return NULL;
 	start(ring->submitter);
 	begin_batch();
 	struct record *record = new_record(ring->number, count);
 	read_entries(ring, thread, record, head, count);
+	read_sides_ahead(record, thread);
+	record->from = head;
+	ring->claimed += record->claimed;
+	ring->callers++;
 	for (u32 at = 0; at < record->count; at++) {
 		const struct io_uring_sqe *sqe = &record->entries[at].sqe;
 		opens += opens_in_table(sqe);
@@ -356,10 +488,36 @@ struct record *submission(struct ring *ring, pid_t thread, pid_t process, u32 wa
 	return record;
 }
 
+/* Marks what used a number that another thread has made lead elsewhere since it was looked at. */
+static void look_at_numbers(struct ring *ring, const struct record *record)
+{
+	const struct entry *end = record->entries + record->count;
+
+	for (struct flight *it = ring->last; it; it = it->previous) {
+		struct entry *entry = it->entry;
+		const struct io_uring_sqe *sqe = &it->asked_for;
+		if (entry < record->entries || entry >= end)
+			break;
+		if (!it->used || !works_on_file(sqe->opcode) || sqe->flags & FLAG_FIXED ||
+		    opened_at(sqe->fd) != it->used || leads_to(it->process, sqe->fd, it->used))
+			continue;
+		note("a number that another thread changed meanwhile", entry);
+		put_outside(entry, OUTSIDE_THREAD);
+		if (!it->changes)
+			it->changes = file_now(it);
+	}
+}
+
 void submitted(struct ring *ring, pid_t thread, struct record *record, u32 taken)
 {
+	ring->callers--;
+	if (has_others(ring->submitter, thread))
+		look_at_numbers(ring, record);
+	if (taken < record->count)
+		ring->claimed -= record->claimed - taken;
 	while (record->count > taken) {
-		const struct entry *left = &record->entries[--record->count];
+		const struct entry *left = &record->entries[record->count - 1];
+		drop_entry(record);
 		struct flight *flight = ring->last;
 		while (flight && flight->entry != left)
 			flight = flight->previous;
@@ -370,6 +528,18 @@ void submitted(struct ring *ring, pid_t thread, struct record *record, u32 taken
 		}
 	}
 	reap(ring, thread, true);
+}
+
+void submitter_ended(struct ring *ring, pid_t thread, struct record *record)
+{
+	u32 head = record->from;
+
+	if (!fetch(thread, ring->sq + ring->sq_offsets.head, &head, sizeof head) ||
+	    head - record->from > record->claimed)
+		kernel_count(ring, "CachedSqHead", &head);
+	u32 taken = head - record->from;
+	/* (a head behind the call's first entry is that of a call that took none) */
+	submitted(ring, thread, record, taken > ring->sq_entries ? 0 : taken);
 }
 
 bool may_wait(struct ring *ring, pid_t thread, u32 *completions)

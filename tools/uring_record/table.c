@@ -12,6 +12,7 @@ enum place_state { PLACE_FREE, PLACE_TAKEN, PLACE_FILE };
 struct place {
 	enum place_state state;
 	struct opened *opened;
+	pid_t process;	  /* whose descriptor it was learned from */
 	bool is_closing;  /* an entry in flight closes it */
 	u64 batch;	  /* the call in which the number was looked at */
 	enum leads leads; /* and where it led */
@@ -37,6 +38,7 @@ void start_place(int number, i64 description)
 		return;
 	}
 	place->state = PLACE_FILE;
+	place->process = home_process();
 	place->opened = hold(trace.descriptions[description].opened);
 	trace.table[number] = (u32)description + 1;
 }
@@ -56,7 +58,7 @@ static void close_number(int number)
 
 /* Opens a path at a number: lower ones that are free are taken meanwhile. The descriptor becomes
  * its own. */
-static void open_number(int number, const char *path, int copy)
+static void open_number(pid_t process, int number, const char *path, int copy)
 {
 	int lower[MOST_TABLE];
 	u32 count = 0, flags = (u32)fcntl(copy, F_GETFL) & (O_ACCMODE | O_APPEND);
@@ -67,6 +69,7 @@ static void open_number(int number, const char *path, int copy)
 		make_open(our_ring(), 0, path, flags, at);
 		lower[count++] = at;
 	}
+	places[number].process = process;
 	places[number].opened = make_again(our_ring(), 0, path, copy, number);
 	places[number].state = PLACE_FILE;
 	while (count)
@@ -96,7 +99,7 @@ static enum leads correct_number(pid_t process, int number)
 	}
 	if (place->state != PLACE_FREE)
 		close_number(number);
-	open_number(number, name, copy);
+	open_number(process, number, name, copy);
 	free(name);
 	return LEADS_TO_FILE;
 }
@@ -182,6 +185,29 @@ void match_lowest(pid_t process, u32 opens, u32 opens_in_flight)
 	}
 }
 
+void let_go_of_numbers(pid_t process)
+{
+	for (u32 number = 0; number < MOST_TABLE; number++) {
+		struct opened *opened = places[number].opened;
+		if (!opened || places[number].process != process)
+			continue;
+		let_go_of(opened);
+		opened->is_unsure = true;
+	}
+}
+
+void let_go_of_closed(void)
+{
+	for (u32 number = 0; number < MOST_TABLE; number++) {
+		struct place *place = &places[number];
+		if (!place->opened || place->opened->descriptor < 0 ||
+		    leads_to(place->process, (int)number, place->opened))
+			continue;
+		let_go_of(place->opened);
+		place->opened->is_unsure = true;
+	}
+}
+
 bool open_number_anew(int number)
 {
 	struct opened *opened = opened_at(number);
@@ -191,7 +217,7 @@ bool open_number_anew(int number)
 		return false;
 	int copy = fcntl(opened->descriptor, F_DUPFD_CLOEXEC, 0);
 	close_number(number);
-	open_number(number, name, copy);
+	open_number(places[number].process, number, name, copy);
 	free(name);
 	return true;
 }
@@ -239,7 +265,12 @@ void number_opened(pid_t process, int number, bool is_unsure)
 		is_unsure = true;
 	}
 	release(place->opened);
+	if (copy >= 0 && !is_file_or_directory(copy)) {
+		close(copy);
+		copy = -1;
+	}
 	place->state = copy < 0 ? PLACE_TAKEN : PLACE_FILE;
+	place->process = process;
 	place->opened = copy < 0 ? NULL : new_opened(copy, 0);
 	if (place->opened)
 		place->opened->is_unsure = is_unsure;

@@ -23,6 +23,12 @@ void match_lowest(pid_t process, u32 opens, u32 opens_in_flight);
 /* Opens a number anew, so that its position is 0; false where its file has no name. */
 bool open_number_anew(int number);
 
+/* Lets go of the copies of what numbers of a process lead to: each is made to lead there anew where
+ * it is used. */
+void let_go_of_numbers(pid_t process);
+/* The same of numbers that lead there no more in their process. */
+void let_go_of_closed(void);
+
 /* What the replay has at a number, or NULL. */
 struct opened *opened_at(int number);
 /* An entry in flight closes a number; the description is the caller's. `was_taken` says that it is

@@ -1,60 +1,161 @@
 #include "trace.h"
+#include "notes.h"
+#include "rings.h"
 
 #include <fcntl.h>
+#include <stdio.h>
 #include <stdlib.h>
 #include <string.h>
+
+/* The bytes of the parts of a trace: of a name, of a file or another name, the most without its
+ * path and bytes; of records, without their entries or bytes. */
+enum {
+	HEADER_BYTES = 32,
+	ITEM_BYTES = 15,
+	DESCRIPTION_BYTES = 14,
+	ENTRIES_BYTES = 4,
+	FILL_BYTES = 12,
+};
 
 struct trace trace;
 
 const char *const outside_words[OUTSIDE_COUNT] = {
-	[OUTSIDE_OPCODE] = "opcode",	   [OUTSIDE_DESCRIPTOR] = "descriptor",
-	[OUTSIDE_SELECTION] = "selection", [OUTSIDE_FLAGS] = "flags",
-	[OUTSIDE_SLOT] = "slot",	   [OUTSIDE_PATH] = "path",
-	[OUTSIDE_MEMORY] = "memory",	   [OUTSIDE_BUFFER] = "buffer",
-	[OUTSIDE_POSITION] = "position",   [OUTSIDE_CHANGED] = "changed",
-	[OUTSIDE_MAPPED] = "mapped",	   [OUTSIDE_LATE] = "late",
-	[OUTSIDE_ORDER] = "order",	   [OUTSIDE_CHAIN] = "chain",
+	[OUTSIDE_OPCODE] = "opcode",
+	[OUTSIDE_DESCRIPTOR] = "descriptor",
+	[OUTSIDE_SELECTION] = "selection",
+	[OUTSIDE_FLAGS] = "flags",
+	[OUTSIDE_SLOT] = "slot",
+	[OUTSIDE_PATH] = "path",
+	[OUTSIDE_MEMORY] = "memory",
+	[OUTSIDE_BUFFER] = "buffer",
+	[OUTSIDE_POSITION] = "position",
+	[OUTSIDE_CHANGED] = "changed",
+	[OUTSIDE_MAPPED] = "mapped",
+	[OUTSIDE_LATE] = "late",
+	[OUTSIDE_UNREADABLE] = "unreadable",
+	[OUTSIDE_UNTOUCHED] = "untouched",
+	[OUTSIDE_ORDER] = "order",
+	[OUTSIDE_CHAIN] = "chain",
+	[OUTSIDE_LINK] = "link",
+	[OUTSIDE_LARGE] = "large",
+	[OUTSIDE_SYSTEM] = "system",
+	[OUTSIDE_POLLED] = "polled",
+	[OUTSIDE_THREAD] = "thread",
+	[OUTSIDE_USER] = "user",
+	[OUTSIDE_UNSEEN] = "unseen",
 };
 
-/* Nodes by device and inode: a table of chains, for trees of many files. */
+/* Files by device and inode: a table of chains, for trees of many files. */
 enum { NODE_CHAINS = 16384 };
 struct node {
 	dev_t device;
 	ino_t inode;
 	u32 item;
+	enum outside doubt;
 	struct node *next;
 };
 static struct node *nodes[NODE_CHAINS];
 
+void end_recording(const char *why)
+{
+	if (trace.is_ended)
+		return;
+	trace.is_ended = true;
+	note(why, NULL);
+	fprintf(stderr, "uring_record: %s: the recording ends here, and the command runs on\n",
+		why);
+}
+
+/* The bytes of the trace without its names, files and records. */
+static u64 fixed_bytes(void)
+{
+	u64 bytes = HEADER_BYTES + DESCRIPTION_BYTES * (trace.description_count + 1) +
+		    4ULL * trace.table_size;
+
+	for (u32 at = 0; at < ring_count; at++)
+		bytes += 4 + 4ULL * rings[at]->slot_count + 12ULL * rings[at]->buffer_count;
+	return bytes;
+}
+
+bool would_fit(u64 bytes)
+{
+	return !trace.is_ended && trace.bytes + bytes + fixed_bytes() <= options.limit;
+}
+
+bool has_room(u64 bytes)
+{
+	if (trace.is_ended || would_fit(bytes))
+		return !trace.is_ended;
+	end_recording("the trace has as many bytes as it may have");
+	return false;
+}
+
 struct item *add_item(enum item_kind kind, char *path)
 {
+	u64 bytes = ITEM_BYTES + strlen(path);
+
+	if (trace.item_count == MOST_ITEMS)
+		end_recording("the trace has 65,535 names, as many as it may have");
+	if (!has_room(bytes)) {
+		free(path);
+		return NULL;
+	}
+	trace.bytes += bytes;
 	GROW(trace.items, trace.item_count, trace.item_room);
 	struct item *item = &trace.items[trace.item_count++];
 	*item = (struct item){ .kind = kind, .path = path };
 	return item;
 }
 
-/* The nodes that may be this one. */
-static struct node **chain_of(const struct stat *status)
+/* The node of a file, or NULL. */
+static struct node *find_node(dev_t device, ino_t inode)
 {
-	return &nodes[(status->st_ino ^ status->st_dev * 31) % NODE_CHAINS];
+	struct node *it = nodes[(inode ^ device * 31) % NODE_CHAINS];
+
+	while (it && (it->inode != inode || it->device != device))
+		it = it->next;
+	return it;
+}
+
+/* The same; one that is not there is made. */
+static struct node *make_node(dev_t device, ino_t inode)
+{
+	struct node **chain = &nodes[(inode ^ device * 31) % NODE_CHAINS];
+	struct node *made = find_node(device, inode);
+
+	if (made)
+		return made;
+	made = allocate(sizeof *made);
+	*made = (struct node){ device, inode, NO_ITEM, INSIDE, *chain };
+	*chain = made;
+	return made;
 }
 
 u32 node_of(const struct stat *status)
 {
-	for (const struct node *it = *chain_of(status); it; it = it->next) {
-		if (it->inode == status->st_ino && it->device == status->st_dev)
-			return it->item;
-	}
-	return NO_ITEM;
+	const struct node *node = find_node(status->st_dev, status->st_ino);
+
+	return node ? node->item : NO_ITEM;
 }
 
 void set_node(const struct stat *status, u32 item)
 {
-	struct node **chain = chain_of(status), *made = allocate(sizeof *made);
+	make_node(status->st_dev, status->st_ino)->item = item;
+}
 
-	*made = (struct node){ status->st_dev, status->st_ino, item, *chain };
-	*chain = made;
+enum outside doubt_of(dev_t device, ino_t inode)
+{
+	const struct node *node = find_node(device, inode);
+
+	return node ? node->doubt : INSIDE;
+}
+
+void set_doubt(dev_t device, ino_t inode, enum outside why)
+{
+	struct node *node = make_node(device, inode);
+
+	if (node->doubt == INSIDE || node->doubt == OUTSIDE_UNTOUCHED)
+		node->doubt = why;
 }
 
 struct record *new_record(u8 ring, u32 count)
@@ -67,10 +168,38 @@ struct record *new_record(u8 ring, u32 count)
 	return record;
 }
 
+/* The bytes of an entry in the trace. */
+static u64 bytes_of(const struct entry *entry)
+{
+	return sizeof entry->sqe + 4 + entry->side_length;
+}
+
 void add_record(struct record *record)
 {
+	u64 bytes = record->kind == RECORD_FILL ? FILL_BYTES + record->length : ENTRIES_BYTES;
+	u32 places = record->kind == RECORD_FILL ? 1 : record->count;
+
+	for (u32 at = 0; at < record->count; at++)
+		bytes += bytes_of(&record->entries[at]);
+	if (trace.places + places > MOST_PLACES)
+		end_recording("the trace has 1,048,576 places, as many as it may have");
+	if (!has_room(bytes))
+		return;
+	record->is_added = true;
+	trace.bytes += bytes;
+	trace.places += places;
 	GROW(trace.records, trace.record_count, trace.record_room);
 	trace.records[trace.record_count++] = record;
+}
+
+void drop_entry(struct record *record)
+{
+	const struct entry *left = &record->entries[--record->count];
+
+	if (record->is_added) {
+		trace.bytes -= bytes_of(left);
+		trace.places--;
+	}
 }
 
 bool is_served(u8 opcode)
@@ -106,6 +235,11 @@ bool reads_bytes(u8 opcode)
 	return opcode == OP_READ || opcode == OP_READV || opcode == OP_READ_FIXED;
 }
 
+bool changes_file(u8 opcode)
+{
+	return works_on_file(opcode) && !reads_bytes(opcode) && opcode != OP_FSYNC;
+}
+
 bool is_fixed(u8 opcode)
 {
 	return opcode == OP_READ_FIXED || opcode == OP_WRITE_FIXED;
@@ -126,19 +260,13 @@ bool goes_on(const struct io_uring_sqe *sqe)
 	return sqe->flags & (FLAG_LINK | FLAG_HARD);
 }
 
-void put_outside(struct entry *entry, enum outside why)
-{
-	if (entry->outside == INSIDE || (entry->outside == OUTSIDE_LATE && why == OUTSIDE_ORDER))
-		entry->outside = why;
-}
-
 /* Whether the replay may give the rest of a chain another end than the kernel: the member asks for
  * what the replay refuses, or is a NOP there and failed in the kernel. */
 static bool turns_chain(const struct entry *entry)
 {
 	switch (entry->outside) {
 	case OUTSIDE_OPCODE:
-		return !entry->replaced || entry->state == ENTRY_SILENT || entry->result < 0;
+		return !entry->replaced || entry->state != ENTRY_POSTED || entry->result < 0;
 	case INSIDE:
 	case OUTSIDE_LATE:
 	case OUTSIDE_CHAIN:
@@ -146,6 +274,31 @@ static bool turns_chain(const struct entry *entry)
 	default:
 		return true;
 	}
+}
+
+void put_outside(struct entry *entry, enum outside why)
+{
+	struct entry *head = entry->head;
+
+	if (entry->outside == INSIDE || (entry->outside == OUTSIDE_LATE && why == OUTSIDE_ORDER))
+		entry->outside = why;
+	bool is_open = entry->replaced && entry->state == ENTRY_UNSEEN; /* (its end tells) */
+	if (head && !is_open && turns_chain(entry) && (!head->turned || head->turned > entry))
+		head->turned = entry;
+}
+
+void put_aside(struct entry *entry, enum outside why)
+{
+	put_outside(entry, why);
+	entry->is_aside = true;
+}
+
+bool is_doubtful(const struct entry *entry)
+{
+	const struct entry *head = entry->head;
+
+	return entry->is_aside || turns_chain(entry) ||
+	       (head && head->turned && head->turned < entry);
 }
 
 /* Marks the other members of a chain of which one is outside. */

@@ -210,7 +210,7 @@ impl Stretch {
     ///
     /// # Errors
     ///
-    /// Want of memory.
+    /// Out of memory.
     pub fn next(self, trace: &Trace, least: u32) -> Result<Self, AllocError>
         requires spelled { IsSpelled trace.now }
         requires stretch { IsStretch trace.now self }

@@ -169,7 +169,7 @@ impl<J: Job> Desk<J> {
         ensures job { IfSome result (λ r. slice_get (jobs_of self.now) r.0 ≡ Some r.1) }
         ensures some { IfSome result (λ r. hand_of seat.new ≡ drew r.0 (hand_of seat.old)) }
         ensures none { IfNone result (hand_of seat.new ≡ ran_dry (hand_of seat.old)) }
-        ensures dry { (hand_of seat.old).dry ≡ true → result ≡ None }
+        ensures dry { (hand_of seat.old).dry ≡ true → (result ≡ None) × (seat.new ≡ seat.old) }
         ensures known { Knows (hand_of seat.new) }
     {
         if seat.dry {

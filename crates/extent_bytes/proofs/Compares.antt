@@ -1,7 +1,8 @@
 -- Bytes compared.
-use Rattle.std.proofs.Common.{IsSome, ◌≡◌, ℕ, ◌+◌, ◌-◌, ◌*◌, ◌/◌, ◌<◌, ◌≤◌, ◌↔◌, List, Bool, length, take, drop, get_or, replicate, arith, sym, ◌∙◌, ap, min, max, Some, refl}
+use Rattle.std.proofs.Common.{IsSome, ◌≡◌, ℕ, ◌+◌, ◌-◌, ◌*◌, ◌/◌, ◌%◌, ◌<◌, ◌≤◌, ◌↔◌, List, Bool, length, take, drop, get_or, replicate, arith, sym, ◌∙◌, ap, min, max, Some, refl, ⊎_elim}
 use Rattle.std.specs.Prelude.{IsTrue, All, nat_eq}
 use Rattle.std.specs.Cmp.Lexicographic.{pointwise}
+use Rattle.std.proofs.lemmas.Bool.{cases_lt}
 use Rattle.std.proofs.lemmas.Bool.Decides.{Decides-eqb}
 use Rattle.std.proofs.lemmas.Slice.Eq.{slice_eq-Decides}
 use Rattle.std.proofs.lemmas.List.{get_or-replicate}
@@ -9,7 +10,8 @@ use Rattle.std.proofs.lemmas.List.Elements.{All-get_or, All-from_get_or}
 use Rattle.extent_bytes.specs.Pages.{StoredAgree, PageMap, page_of, byte_at, bytes_from, HoldsAt, PageAgrees}
 use Rattle.extent_bytes.proofs.ExtentFacts.{bytes_from-is, get_or-bytes_from}
 use Rattle.extent_bytes.proofs.Lists.{get_or-part, length-part}
-use Rattle.extent_bytes.proofs.PageFacts.{byte_at-stored}
+use Rattle.extent_bytes.proofs.Outcomes.{some_or_none}
+use Rattle.extent_bytes.proofs.PageFacts.{byte_at-none, byte_at-stored}
 
 -- bytes of a page against others, where the page is there
 pub part_holds : (f : ℕ → ℕ) (at n : ℕ) (xs bs : List ℕ) (r : Bool) → n ≡ length bs → xs ≡ bytes_from f at n → r ≡ pointwise nat_eq xs bs → IsTrue r ↔ HoldsAt f at bs
@@ -67,3 +69,21 @@ all_held f s n xs bs e d = (
   (λ held. sym e ∙ bytes_from-is f s n bs (sym d) (λ i h. held i (omega (arith, d)))),
   (λ same i h. sym (get_or-bytes_from f s n i (omega (arith, d))) ∙ ap (λ l. get_or l i 0) (e ∙ same)),
 )
+
+-- a page of zeros has those of a list of zeros
+pub blank_agrees : (page : List ℕ) (number start end target : ℕ) → length page ≡ 4096 → All (λ b. b ≡ 0) page → PageAgrees page number start end (λ _. 0) target
+blank_agrees page number start end target long all i h d = sym (All-get_or (λ b. b ≡ 0) page ((start + i) % 4096) 0 (omega (arith, long)) all)
+
+-- bytes below a page are zeros, where those of the stored pages are
+pub zeros_before : (m : PageMap) (start end at number : ℕ) → ((j : ℕ) → at ≤ j → j < number → IsSome (page_of m j) → number ≤ j)
+    → ((i : ℕ) → start + i < end → (start + i) / 4096 < at → IsSome (page_of m ((start + i) / 4096)) → 0 ≡ byte_at m (start + i))
+    → (i : ℕ) → start + i < end → (start + i) / 4096 < number → byte_at m (start + i) ≡ 0
+zeros_before m start end at number least before i l h =
+    let p : ℕ = (start + i) / 4096 in
+    ⊎_elim
+    (λ some. ⊎_elim
+    (λ (below : p < at). sym (before i l below some))
+    (λ (above : at ≤ p). let no : number ≤ p = least p above h some in absurd (omega arith))
+    (cases_lt p at))
+    (λ none. byte_at-none m (start + i) none)
+    (some_or_none (page_of m p))

@@ -153,3 +153,12 @@ agree_if_equal m n s t len k xs ys e mine theirs there = (
   (λ back. sym mine ∙ bytes_of-agree m n s t len k e there back ∙ theirs),
   (λ same. stored_of_equal n m t s k len (sym e) (theirs ∙ sym same ∙ sym mine)),
 )
+
+-- how a list begins whose bytes are zeros up to there
+pub begins_with-zeros : (m : PageMap) (s len n : ℕ) (xs : List ℕ) → bytes_of m s len ≡ xs → n ≤ len → ((i : ℕ) → i < n → byte_at m (s + i) ≡ 0) → take n xs ≡ replicate n 0
+begins_with-zeros m s len n xs e h zeros =
+    let long = length_seen m s len xs e in
+    same_number_lists (take n xs) (replicate n 0) (omega (arith, length-take n xs, length-replicate {A = ℕ} n 0, long))
+    (λ i l.
+    let below : i < n = omega (arith, length-take n xs, long) in
+    get_or-take n xs i 0 below ∙ ap (λ ys. get_or ys i 0) (sym e) ∙ get_or-bytes_of m s len i (omega arith) ∙ zeros i below ∙ sym (get_or-replicate n i 0 0 below))

@@ -26,6 +26,10 @@ pub none_is : {X : Type 0} (o : Option X) → (IsSome o → ⊥) → o ≡ None
 none_is None h = refl
 none_is (Some x) h = absurd (h refl)
 
+pub some_not_none : {X : Type 0} {P : Type 0} (o : Option X) → IsSome o → o ≡ None → P
+some_not_none None h e = absurd (cc h)
+some_not_none (Some x) h e = absurd (cc e)
+
 -- what an append leaves where it succeeds
 pub ok_items : {T E X : Type 0} (r : Result T E) (xs ys zs ws : List X) → zs ≡ (if is_ok r then ys else xs) → ys ≡ ws → OnOk r (zs ≡ ws)
 ok_items (Ok x) xs ys zs ws h e = h ∙ e

@@ -1,5 +1,5 @@
 // Bytes of two maps of pages compared. Only stored pages are looked at.
-ghost use Rattle.std.specs.Prelude.{◌+◌, ◌*◌, ◌/◌, ◌<◌, ◌≤◌, ◌^◌, ◌↔◌, length, IsTrue};
+ghost use Rattle.std.specs.Prelude.{◌≡◌, ℕ, ◌+◌, ◌*◌, ◌/◌, ◌<◌, ◌≤◌, ◌^◌, ◌↔◌, length, IsTrue};
 ghost use Rattle.extent_bytes.specs.Kept.{byte_held};
 ghost use Rattle.extent_bytes.specs.Pages.{byte_at, HoldsAt, PageAgrees, StoredAgree};
 
@@ -109,4 +109,23 @@ pub(crate) fn rest_agrees(other: &Pages, start: u64, end: u64, pages: &Pages) ->
         }
     }
     true
+}
+
+// How many zeros there are from `start` on and up to `end`, up to the first stored page that has
+// another byte.
+pub(crate) fn zeros_ahead(pages: &Pages, start: u64, end: u64) -> u64
+    requires forward { start ≤ end }
+    requires small { end < 2 ^ 62 }
+    ensures within { start + result ≤ end }
+    ensures zeros { (i : ℕ) → i < result → byte_at pages.now (start + i) ≡ 0 }
+{
+    let last = end.div_ceil(PAGE);
+    let mut at = start / PAGE;
+    while let Some((number, page)) = pages.next(at, last) {
+        if !is_blank(page.as_slice()) {
+            return start.max(number * PAGE) - start;
+        }
+        at = number + 1;
+    }
+    end - start
 }

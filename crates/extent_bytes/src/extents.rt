@@ -1,9 +1,9 @@
 // Lists of bytes whose stored pages alone take memory.
 ghost use Rattle.std.specs.Prelude.{◌≡◌, ℕ, ◌+◌, ◌-◌, ◌≤◌, ◌↔◌, List, [], length, take, drop};
-ghost use Rattle.std.specs.Prelude.{vec_len, max, IsTrue, IfOk, IfSome, OnOk, OnErr};
+ghost use Rattle.std.specs.Prelude.{replicate, vec_len, max, IsTrue, IfOk, IfSome, OnOk, OnErr};
 ghost use Rattle.extent_bytes.specs.Bytes.{overwritten, zeroed, resized, range_of};
 
-use crate::comparing::{holds, rest_agrees, stored_agree};
+use crate::comparing::{holds, rest_agrees, stored_agree, zeros_ahead};
 use crate::moving::aligned;
 use crate::page_bytes::{PAGE, copy_of_part, part_of_page, shared_part};
 use crate::page_part::PagePart;
@@ -269,6 +269,15 @@ impl Extents {
             &Paged::Map(pages),
             self.start,
         )
+    }
+
+    /// How many zeros the list begins with, at least: those before the first stored page that has
+    /// another byte, and all where there is none. It takes no memory, and only looks at stored pages.
+    pub fn zeros_ahead(&self) -> u64
+        ensures within { result ≤ length self.now }
+        ensures zeros { take result self.now ≡ replicate result 0 }
+    {
+        zeros_ahead(self.stored.pages(), self.start, self.start + self.len)
     }
 
     /// The bytes from `lo` up to `hi` as a part of the page that they lie in, which is shared; none

@@ -1,9 +1,10 @@
 //! Bytes that were read.
 ghost use Rattle.std.specs.Prelude.{◌≡◌, ◌-◌, ◌<◌, ◌≤◌, ◌↔◌, [], length, take, IfOk, IsTrue};
-ghost use Rattle.std.specs.Prelude.{IfNone, IfSome};
+ghost use Rattle.std.specs.Prelude.{replicate, IfNone, IfSome};
 ghost use Rattle.extent_bytes.specs.Bytes.{range_of};
 
 use crate::extents::{Extents, MAX_LEN};
+use crate::page::is_blank;
 use crate::page_part::PagePart;
 use crate::shared_pages::SharedPages;
 use std::alloc::{AllocError, Global};
@@ -66,7 +67,7 @@ impl ReadBytes {
     ///
     /// # Errors
     ///
-    /// Want of memory.
+    /// Out of memory.
     #[inline(always)]
     pub fn of(alloc: Global, list: &Extents, lo: u64, hi: u64) -> Result<Self, AllocError>
         requires forward { lo ≤ hi }
@@ -133,7 +134,7 @@ impl ReadBytes {
     ///
     /// # Errors
     ///
-    /// Want of memory.
+    /// Out of memory.
     #[tactic(auto, unfolding(crate::specs::Bytes::range_of))]
     pub fn read(&self, alloc: Global, lo: u64, hi: u64) -> Result<Vec<u8>, AllocError>
         requires forward { lo ≤ hi }
@@ -163,5 +164,30 @@ impl ReadBytes {
             (Kept::Shared(shared), Kept::Shared(others)) => shared.list.same(&others.list),
             _ => false,
         }
+    }
+
+    /// How many zeros they begin with, at least: of a whole list those before the first stored page
+    /// that has another byte, and all where there is none.
+    pub fn zeros_ahead(&self) -> u64
+        ensures within { result ≤ length self.now }
+        ensures zeros { take result self.now ≡ replicate result 0 }
+    {
+        match &self.kept {
+            Kept::Plain(bytes) => blank_len(bytes),
+            Kept::Part(part) => blank_len(part.as_slice()),
+            Kept::Shared(shared) => shared.list.zeros_ahead(),
+        }
+    }
+}
+
+/// How many bytes there are, where all are zeros, and else none.
+fn blank_len(bytes: &[u8]) -> u64
+    ensures within { result ≤ length bytes.now }
+    ensures zeros { take result bytes.now ≡ replicate result 0 }
+{
+    if is_blank(bytes) {
+        bytes.len() as u64
+    } else {
+        0
     }
 }

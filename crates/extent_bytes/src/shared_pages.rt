@@ -1,5 +1,5 @@
 // Bytes that share the pages that they were read from.
-ghost use Rattle.std.specs.Prelude.{◌≡◌, ◌-◌, ◌≤◌, ◌↔◌, length, IfOk, IsTrue};
+ghost use Rattle.std.specs.Prelude.{◌≡◌, ◌-◌, ◌≤◌, ◌↔◌, length, replicate, take, IfOk, IsTrue};
 ghost use Rattle.extent_bytes.specs.Bytes.{range_of};
 
 use crate::extents::{Extents, MAX_LEN};
@@ -99,6 +99,17 @@ impl SharedPages {
         match &self.sharing {
             Sharing::Run(run) => run.is_slice(bytes),
             Sharing::List(list) => list.is_slice(bytes),
+        }
+    }
+
+    // How many zeros they begin with, at least. Of a run it isn't found out.
+    pub(crate) fn zeros_ahead(&self) -> u64
+        ensures within { result ≤ length self.now }
+        ensures zeros { take result self.now ≡ replicate result 0 }
+    {
+        match &self.sharing {
+            Sharing::Run(_) => 0,
+            Sharing::List(list) => list.zeros_ahead(),
         }
     }
 }

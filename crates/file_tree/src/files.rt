@@ -33,7 +33,7 @@ impl Tree {
     ///
     /// # Errors
     ///
-    /// Want of memory; the tree is as before.
+    /// Out of memory; the tree is as before.
     pub fn add_zeros(&mut self, alloc: Global, number: u32, size: u64) -> Result<(), AllocError>
         requires { size ≤ file_limit }
         ensures ok { OnOk result
@@ -51,7 +51,7 @@ impl Tree {
     ///
     /// # Errors
     ///
-    /// Want of memory.
+    /// Out of memory.
     pub fn read(&self, alloc: Global, node: u32, lo: u64, hi: u64) -> Result<Vec<u8>, AllocError>
         ensures { IfOk result
             (λ taken. taken.items ≡ range_of (unwrap_or (tree.bytes self.now node) []) lo hi) }
@@ -67,7 +67,7 @@ impl Tree {
     ///
     /// # Errors
     ///
-    /// Want of memory.
+    /// Out of memory.
     pub fn read_shared(
         &self,
         alloc: Global,
@@ -89,7 +89,7 @@ impl Tree {
     ///
     /// # Errors
     ///
-    /// Want of memory.
+    /// Out of memory.
     pub fn share(&self, alloc: Global, node: u32, lo: u64, hi: u64) -> Result<Extents, AllocError>
         ensures { IfOk result
             (λ part. part ≡ range_of (unwrap_or (tree.bytes self.now node) []) lo hi) }
@@ -106,7 +106,7 @@ impl Tree {
     ///
     /// # Errors
     ///
-    /// Want of memory; the tree is as before.
+    /// Out of memory; the tree is as before.
     pub fn write(&mut self, node: u32, at: u64, bytes: &[u8]) -> Result<(), AllocError>
         requires { at + length bytes.now ≤ file_limit }
         ensures ok { OnOk result (self.new
@@ -124,7 +124,7 @@ impl Tree {
     ///
     /// # Errors
     ///
-    /// Want of memory; the tree is as before.
+    /// Out of memory; the tree is as before.
     pub fn zero(&mut self, node: u32, lo: u64, hi: u64) -> Result<(), AllocError>
         ensures ok { OnOk result
             (self.new ≡ adjust_number (rewritten_node (λ old. zeroed old lo hi)) self.old node) }
@@ -140,7 +140,7 @@ impl Tree {
     ///
     /// # Errors
     ///
-    /// Want of memory; the tree is as before.
+    /// Out of memory; the tree is as before.
     pub fn set_size(&mut self, node: u32, size: u64) -> Result<(), AllocError>
         requires { size ≤ file_limit }
         ensures ok { OnOk result
@@ -158,7 +158,7 @@ impl Tree {
     ///
     /// # Errors
     ///
-    /// Want of memory; the tree is as before.
+    /// Out of memory; the tree is as before.
     pub fn cut(&mut self, alloc: Global, node: u32, lo: u64, hi: u64) -> Result<Extents, AllocError>
         ensures part { IfOk result
             (λ part. part ≡ range_of (unwrap_or (tree.bytes self.old node) []) lo hi) }
@@ -177,7 +177,7 @@ impl Tree {
     ///
     /// # Errors
     ///
-    /// Want of memory; the tree is as before.
+    /// Out of memory; the tree is as before.
     pub fn put_back(&mut self, node: u32, lo: u64, part: Extents) -> Result<(), AllocError>
         requires { IfSome (tree.size self.old node) (λ size. lo + length part ≤ size) }
         ensures ok { OnOk result (self.new
@@ -195,7 +195,7 @@ impl Tree {
     ///
     /// # Errors
     ///
-    /// Want of memory; the tree is as before.
+    /// Out of memory; the tree is as before.
     pub fn copy_range(
         &mut self,
         source: &Tree,

@@ -49,7 +49,7 @@ impl Tree {
     ///
     /// # Errors
     ///
-    /// Want of memory.
+    /// Out of memory.
     pub fn new(alloc: Global) -> Result<Self, AllocError>
         ensures { IfOk result
             (λ tree. tree ≡ insert number_keys.total empty 0 (directory empty 0)) }
@@ -118,7 +118,7 @@ impl Tree {
     ///
     /// # Errors
     ///
-    /// Want of memory, where no machine could have so many.
+    /// Out of memory, where no machine could have so many.
     pub fn name_count(&self, node: u32) -> Result<Option<usize>, AllocError>
         ensures { IfOk result (λ count. count ≡ tree.name_count self.now node) }
     {
@@ -142,7 +142,7 @@ impl Tree {
     ///
     /// # Errors
     ///
-    /// Want of memory; the tree is as before.
+    /// Out of memory; the tree is as before.
     pub fn add_node(&mut self, alloc: Global, number: u32, kind: Kind) -> Result<(), AllocError>
         ensures ok { OnOk result
             (self.new ≡ insert number_keys.total self.old number (new_node (kind_meant kind))) }
@@ -156,7 +156,7 @@ impl Tree {
     ///
     /// # Errors
     ///
-    /// Want of memory; the tree is as before.
+    /// Out of memory; the tree is as before.
     pub fn add_listing(
         &mut self,
         alloc: Global,
@@ -182,7 +182,7 @@ impl Tree {
     ///
     /// # Errors
     ///
-    /// Want of memory; the tree is as before.
+    /// Out of memory; the tree is as before.
     pub fn set_name(
         &mut self,
         alloc: Global,
@@ -206,7 +206,7 @@ impl Tree {
     ///
     /// # Errors
     ///
-    /// Want of memory; the tree is as before.
+    /// Out of memory; the tree is as before.
     pub fn show_name(
         &mut self,
         alloc: Global,

@@ -24,7 +24,7 @@ use world_parts::{Footprint, State};
 ///
 /// # Errors
 ///
-/// Want of memory.
+/// Out of memory.
 pub(crate) fn operation_uses(
     alloc: Global,
     site: Site<'_>,

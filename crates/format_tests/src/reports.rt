@@ -1,6 +1,6 @@
 //! Reports of one trace, compared.
 
-use report_diff::{Comparison, DiffFault, Refusal, compare};
+use report_diff::{Comparison, DiffFault, Flaw, Refusal, Side, compare, compare_two};
 use std::alloc::Global;
 
 #[test]
@@ -76,11 +76,65 @@ fn one_report_is_refused(rt: HostRuntime) {
     let report = "uring-report 1\nring 0\nend\n";
     let half = "uring-report 1\nring 0\n";
     assert!(rt;
-        is_refused(rt.alloc(), "", report, Refusal::SecondHeading)
-            && is_refused(rt.alloc(), "end\n", report, Refusal::FirstHeading)
-            && is_refused(rt.alloc(), half, half, Refusal::FirstEnd)
-            && compared(rt.alloc(), report, half).is_ok()
+        is_refused(rt.alloc(), "", report, Side::Second, Flaw::Heading)
+            && is_refused(rt.alloc(), "end\n", report, Side::First, Flaw::Heading)
+            && is_refused(rt.alloc(), half, half, Side::First, Flaw::End)
+            && is_refused(rt.alloc(), report, half, Side::Second, Flaw::End)
+            && is_refused(
+                rt.alloc(),
+                report,
+                "uring-report 1\nend\nx\n",
+                Side::Second,
+                Flaw::GoesOn
+            )
+            && compared(rt.alloc(), report, report).is_ok()
     );
+}
+
+#[test]
+fn two_texts_are_two_reports(rt: HostRuntime) {
+    let report = "uring-report 1\nring 0\nend\n";
+    let two = compare_two(rt.alloc(), report.as_bytes(), report.as_bytes());
+    assert!(rt; two.is_ok());
+    let longer = "uring-report 1\nend\nuring-report 1\nend\n";
+    let refused = compare_two(rt.alloc(), longer.as_bytes(), report.as_bytes());
+    assert!(rt; refused.is_err());
+    assert!(rt;
+        fault_says(
+            rt.alloc(),
+            longer,
+            report,
+            "the first goes on behind its end",
+        )
+    );
+}
+
+#[test]
+fn a_line_that_says_otherwise_is_named(rt: HostRuntime) {
+    let report = "uring-report 1\nend\n";
+    let same = "uring-report 1\n7 res=1 op=2\n7 op=2 res=1\nend\n";
+    assert!(rt; compare_two(rt.alloc(), report.as_bytes(), same.as_bytes()).is_ok());
+    let other = "uring-report 1\nslot 0 1 pos=0\nslot 0 1 pos=0 node=1\nend\n";
+    assert!(rt;
+        fault_says(
+            rt.alloc(),
+            report,
+            other,
+            "line 3 of the second says otherwise of slot 0 1",
+        )
+    );
+}
+
+/// Whether two texts are refused in these words.
+fn fault_says(alloc: Global, first: &str, second: &str, words: &str) -> bool {
+    let Err(DiffFault::Refused(why)) = compare_two(alloc, first.as_bytes(), second.as_bytes())
+    else {
+        return false;
+    };
+    let Ok(text) = why.to_string(alloc) else {
+        return false;
+    };
+    text.as_str() == words
 }
 
 fn compared(alloc: Global, first: &str, second: &str) -> Result<Comparison, DiffFault> {
@@ -105,9 +159,10 @@ fn are_alike(alloc: Global, report: &str) -> bool {
     }
 }
 
-fn is_refused(alloc: Global, first: &str, second: &str, why: Refusal) -> bool {
-    match compared(alloc, first, second) {
-        Ok(_) => false,
-        Err(fault) => fault == DiffFault::Refused(why),
-    }
+fn is_refused(alloc: Global, first: &str, second: &str, side: Side, flaw: Flaw) -> bool {
+    let Err(fault) = compared(alloc, first, second) else {
+        return false;
+    };
+    let wanted = DiffFault::Refused(Refusal { side, flaw });
+    fault == wanted
 }

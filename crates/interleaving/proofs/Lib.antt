@@ -11,3 +11,5 @@ pub mod Prefixes
 pub mod Sets
 pub mod ByRows
 pub mod Sharing
+pub mod Dependencies
+pub mod Direct

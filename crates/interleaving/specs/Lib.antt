@@ -7,3 +7,5 @@ pub mod Rounds
 pub mod Prefix
 pub mod Sharing
 pub mod Rows
+pub mod Dependencies
+pub mod Direct

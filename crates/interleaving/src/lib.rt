@@ -51,6 +51,7 @@ ghost use Rattle.interleaving.specs.Laws.{Cover, Laws};
 ghost use Rattle.interleaving.specs.Rows.{Rows, RowLaws, RowsForesee};
 ghost use Rattle.interleaving.specs.Commuting.{ApartCommute};
 ghost use Rattle.interleaving.specs.Machine.{EveryOrder, KeepsOrder, ReachesHold, ReachesShrink};
+ghost use Rattle.interleaving.specs.Dependencies.{DependenciesSuffice};
 ghost use Rattle.interleaving.specs.Gather.{GatherIsInOrder, PutIsStep, PutFills};
 ghost use Rattle.interleaving.specs.Gather.{PutsAreInOrder, OrderIsFree};
 ghost use Rattle.interleaving.specs.Prefix.{PrefixRoundsAreSequential, PrefixesAreSideBySide};
@@ -183,4 +184,12 @@ pub fn rounds_are_sequential<S: Foreseen>()
     ensures go_on { (trace : S.Trace) → RoundsGoOn (S.system trace) }
     ensures order { (trace : S.Trace) → RoundsKeepOrder (S.system trace) }
     ensures sets { (trace : S.Trace) → AnySetsOccur (S.system trace) }
+{}
+
+/// What each place has to wait for is told by the sequential run alone: the earlier places with whose
+/// footprints its own collides, each footprint taken where its place runs in that run. Whatever waits
+/// at least so, by itself or through others that it waits for, may start and finish in any order: the
+/// world and the replies are those of one place at a time.
+pub fn dependencies_suffice<S: Footprinted>()
+    ensures { (trace : S.Trace) → DependenciesSuffice (S.system trace) }
 {}

@@ -40,7 +40,7 @@ pub(crate) enum Decision<'a> {
 ///
 /// # Errors
 ///
-/// Want of memory; the state can then only be dropped.
+/// Out of memory; the state can then only be dropped.
 pub(crate) fn carry_out(
     alloc: Global,
     site: Site<'_>,

@@ -181,7 +181,7 @@ fn fill(
 ///
 /// # Errors
 ///
-/// Want of memory.
+/// Out of memory.
 pub(crate) fn open(
     alloc: Global,
     site: Site<'_>,

@@ -116,7 +116,7 @@ impl Replies {
     ///
     /// # Errors
     ///
-    /// Want of memory.
+    /// Out of memory.
     #[inline(always)]
     pub fn push(&mut self, reply: Reply) -> Result<(), AllocError>
         ensures ok { OnOk result (self.new ≡ self.old ++ reply ∷ []) }
@@ -131,7 +131,7 @@ impl Replies {
     ///
     /// # Errors
     ///
-    /// Want of memory.
+    /// Out of memory.
     #[inline(always)]
     pub fn set(&mut self, place: usize, reply: Reply) -> Result<(), AllocError>
         requires { place < length self.old }
@@ -230,7 +230,7 @@ impl<'a> ReplyRef<'a> {
     ///
     /// # Errors
     ///
-    /// Want of memory.
+    /// Out of memory.
     pub fn read(&self, alloc: Global, lo: u64, hi: u64) -> Result<Vec<u8>, AllocError>
         requires forward { lo ≤ hi }
         requires inside { hi ≤ length self.now.bytes }

@@ -140,7 +140,7 @@ fn decide<'a>(
 ///
 /// # Errors
 ///
-/// Want of memory; the state can then only be dropped.
+/// Out of memory; the state can then only be dropped.
 pub(crate) fn run_operation(
     alloc: Global,
     site: Site<'_>,

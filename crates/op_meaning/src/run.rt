@@ -34,7 +34,7 @@ use world_parts::{Broken, Part, State};
 ///
 /// # Errors
 ///
-/// Want of memory; the part can then only be dropped.
+/// Out of memory; the part can then only be dropped.
 pub fn run_entry(
     alloc: Global,
     place: u32,
@@ -55,7 +55,7 @@ pub fn run_entry(
 ///
 /// # Errors
 ///
-/// Want of memory; the state can then only be dropped.
+/// Out of memory; the state can then only be dropped.
 pub fn run_on_state(
     alloc: Global,
     place: u32,

@@ -61,7 +61,7 @@ fn advance(file: &OpenFile, offset: u64, end: u64, state: &mut State)
 ///
 /// # Errors
 ///
-/// Want of memory.
+/// Out of memory.
 pub(crate) fn read(alloc: Global, read: FileRead, state: &mut State) -> Result<Done, AllocError>
     ensures answer { IfOk result (Gives (bytes_read state.old read)) }
     ensures state { OnOk result
@@ -85,7 +85,7 @@ pub(crate) fn read(alloc: Global, read: FileRead, state: &mut State) -> Result<D
 ///
 /// # Errors
 ///
-/// Want of memory.
+/// Out of memory.
 pub(crate) fn read_fixed(
     alloc: Global,
     ring: u8,
@@ -116,7 +116,7 @@ pub(crate) fn read_fixed(
 ///
 /// # Errors
 ///
-/// Want of memory.
+/// Out of memory.
 pub(crate) fn write(
     alloc: Global,
     write: FileWrite<'_>,
@@ -143,7 +143,7 @@ pub(crate) fn write(
 ///
 /// # Errors
 ///
-/// Want of memory.
+/// Out of memory.
 pub(crate) fn write_fixed(
     alloc: Global,
     ring: u8,

@@ -1,12 +1,60 @@
 -- What a comparison of two reports wrote, by what it read.
-use Rattle.std.proofs.Common.{◌≡◌, List, ℕ, subst, ◌∙◌}
+use Rattle.std.proofs.Common.{◌≡◌, ◌≢◌, List, [], ℕ, arith, inl, inr, refl, subst, ◌∙◌}
 use Rattle.std.specs.Prelude.{Option}
+use Rattle.std.proofs.KnownBytes.{Consumes-nil}
 use Rattle.report_diff.specs.declared.comparing.Comparison.{Comparison}
-use Rattle.replay_program.specs.Diffs.{ComparesReports, WritesDifferencesPart}
-use Rattle.replay_program.specs.Transfer.{AppendsPart}
+use Rattle.replay_program.specs.declared.fault.RunFault.{RunFault}
+use Rattle.replay_program.specs.declared.fault.RunFault.TheVariants.{Trace, Replay, Reports, Read, Write, Different}
+use Rattle.replay_program.specs.declared.fault.ReportsFault.TheVariants.{Refused, TooLong, Memory}
+use Rattle.replay_program.specs.Diffs.{ComparesReports, ComparesTwoReports, TellsOfText, TellsOfTwoReports, WritesDifferencesPart, WritesPartOfTwo}
+use Rattle.replay_program.specs.Runs.{writes_failed}
+use Rattle.replay_program.specs.Transfer.{AppendsPart, ConsumesUpTo}
 
 -- a part of the text went out
 pub part : (left left' written written' : Option (List ℕ)) (comparison : Comparison) (bytes : List ℕ) → ComparesReports left left' comparison → bytes ≡ comparison.text.items
     → AppendsPart written written' bytes → WritesDifferencesPart left left' written written'
 part left left' written written' comparison bytes found text wrote =
     record { input = found.input; read = found.read; wrote = subst (AppendsPart written written') (text ∙ found.compares.text) wrote }
+
+-- the same of the text of two readers
+pub part_of_two : (left left' more more' written written' : Option (List ℕ)) (comparison : Comparison) (bytes : List ℕ) → ComparesTwoReports left left' more more' comparison → bytes ≡ comparison.text.items
+    → AppendsPart written written' bytes → WritesPartOfTwo left left' more more' written written'
+part_of_two left left' more more' written written' comparison bytes found text wrote =
+    record { first = found.first; second = found.second; read = found.read; wrote = subst (AppendsPart written written') (text ∙ found.compares.text) wrote }
+
+-- a fault of the first text, before the second was asked for, and of the second
+pub tells_first : (left left' more more' : Option (List ℕ)) (f : RunFault) → TellsOfText left left' f → TellsOfTwoReports left left' more more' f
+tells_first left left' more more' (Reports (Refused why)) h = absurd h
+tells_first left left' more more' (Reports TooLong) h = inl h
+tells_first left left' more more' (Reports Memory) h = tt
+tells_first left left' more more' Read h = tt
+tells_first left left' more more' (Trace f) h = absurd h
+tells_first left left' more more' (Replay f) h = absurd h
+tells_first left left' more more' Write h = absurd h
+tells_first left left' more more' Different h = absurd h
+
+pub tells_second : (left left' more more' : Option (List ℕ)) (f : RunFault) → TellsOfText more more' f → TellsOfTwoReports left left' more more' f
+tells_second left left' more more' (Reports (Refused why)) h = absurd h
+tells_second left left' more more' (Reports TooLong) h = inr h
+tells_second left left' more more' (Reports Memory) h = tt
+tells_second left left' more more' Read h = tt
+tells_second left left' more more' (Trace f) h = absurd h
+tells_second left left' more more' (Replay f) h = absurd h
+tells_second left left' more more' Write h = absurd h
+tells_second left left' more more' Different h = absurd h
+
+-- neither is one of the writer's
+pub text_writes : (left left' : Option (List ℕ)) (f : RunFault) → TellsOfText left left' f → writes_failed f ≡ 0
+text_writes left left' (Reports f) h = refl
+text_writes left left' Read h = refl
+text_writes left left' (Trace f) h = refl
+text_writes left left' (Replay f) h = refl
+text_writes left left' Write h = absurd h
+text_writes left left' Different h = refl
+
+pub text_neither : (left left' : Option (List ℕ)) (f : RunFault) → TellsOfText left left' f → (f ≢ Write) × (f ≢ Different)
+text_neither left left' f h = (λ is. subst (TellsOfText left left') is h, λ is. subst (TellsOfText left left') is h)
+
+-- a reader that was not asked has given nothing
+pub takes_none : (most : ℕ) (left : Option (List ℕ)) → ConsumesUpTo most left left
+takes_none most left = ([], Consumes-nil left, omega arith)

@@ -1,12 +1,12 @@
 -- What the parser makes of the words of `run`, `compare` and `rounds`.
-use Rattle.std.proofs.Common.{◌≡◌, ◌∙◌, ℕ, Bool, true, false, List, [], ◌∷◌, Some, codes, refl, ap}
-use Rattle.std.specs.Prelude.{◌&&◌, ⊤, find, pos, unwrap_or}
+use Rattle.std.proofs.Common.{◌≡◌, ◌∙◌, ℕ, Bool, true, false, List, [], ◌∷◌, None, Some, codes, refl, ap}
+use Rattle.std.specs.Prelude.{◌&&◌, find, pos, unwrap_or}
 use Rattle.std.specs.List.{list_all}
 use Rattle.clap.specs.ValueTests.{accepts}
 use Rattle.clap.specs.Walk.{Held, Row, Rule, Text, answers_to, finished, nothing_held, walk, walk_from}
 use Rattle.clap.specs.Simple.{Shape, built, filled, label_of}
 use Rattle.clap.specs.Takes.{default_passes, is_valid, settle_passes, walk_passes}
-use Rattle.clap.specs.Words.{one_of}
+use Rattle.clap.specs.Words.{first_of, one_of}
 use Rattle.clap.specs.declared.builder.value_parser.ValueParser.TheVariants as vp
 use Rattle.clap.proofs.OnLiterals.{clap_on_literals}
 use Rattle.replay_program.specs.Words.{check_command, dot_words, flag_text, replayer, sums_words, workers_option, window_option}
@@ -48,8 +48,16 @@ pub record Leaves (s : Shape) (workers window : Text) (P : List Row → Type 0) 
   pub window_text : one_of (codes "window") (finished s.rules end) ≡ Some window
   pub others : P (finished s.rules end)
 
+-- no file is named
+abbrev pub NamesNone : List Row → Type 0
+NamesNone rows = (first_of (codes "file") rows ≡ None) × (first_of (codes "second") rows ≡ None) × (first_of (codes "output") rows ≡ None)
+
+-- nor is the run an eager one
+abbrev pub IsPlain : List Row → Type 0
+IsPlain rows = (one_of (codes "eager") rows ≡ Some (codes "false")) × NamesNone rows
+
 abbrev pub HasSums : Bool → List Row → Type 0
-HasSums sums rows = one_of (codes "sums") rows ≡ Some (flag_text sums)
+HasSums sums rows = (one_of (codes "sums") rows ≡ Some (flag_text sums)) × IsPlain rows
 
 -- the same where workers are not asked for
 pub record LeavesWindow (s : Shape) (window : Text) (dot : Bool) (words : List Text) : Type 0 where
@@ -59,6 +67,7 @@ pub record LeavesWindow (s : Shape) (window : Text) (dot : Bool) (words : List T
   pub rest : (settle_passes s.rules s.args_override_self end && (list_all default_passes s.rules && is_valid s (finished s.rules end) false)) ≡ true
   pub window_text : one_of (codes "window") (finished s.rules end) ≡ Some window
   pub dot_text : one_of (codes "dot") (finished s.rules end) ≡ Some (flag_text dot)
+  pub files : NamesNone (finished s.rules end)
 
 -- the text of a number that its option takes
 pub record IsTaken (most : ℕ) (t : Text) : Type 0 where
@@ -79,7 +88,7 @@ run_both t u false a b =
       rest = rw b.accepted refl;
       workers_text = rw a.value.plain refl;
       window_text = rw b.value.plain refl;
-      others = refl;
+      others = (refl, (refl, (refl, refl, refl)));
     }
 run_both t u true a b =
     let s = leaf (codes "run") in
@@ -94,7 +103,7 @@ run_both t u true a b =
       rest = refl;
       workers_text = rw a.value.plain refl;
       window_text = rw b.value.plain refl;
-      others = refl;
+      others = (refl, (refl, (refl, refl, refl)));
     }
 
 pub run_workers : (t : Text) (sums : Bool) → IsTaken 64 t → Leaves (leaf (codes "run")) t (codes "64") (HasSums sums) (codes "--workers" ∷ t ∷ sums_words sums)
@@ -108,7 +117,7 @@ run_workers t false a =
       rest = rw a.accepted refl;
       workers_text = rw a.value.plain refl;
       window_text = refl;
-      others = refl;
+      others = (refl, (refl, (refl, refl, refl)));
     }
 run_workers t true a =
     let s = leaf (codes "run") in
@@ -120,7 +129,7 @@ run_workers t true a =
       rest = refl;
       workers_text = rw a.value.plain refl;
       window_text = refl;
-      others = refl;
+      others = (refl, (refl, (refl, refl, refl)));
     }
 
 pub run_window : (u : Text) (sums : Bool) → IsTaken 4096 u → Leaves (leaf (codes "run")) (codes "4") u (HasSums sums) (codes "--window" ∷ u ∷ sums_words sums)
@@ -134,7 +143,7 @@ run_window u false b =
       rest = rw b.accepted refl;
       workers_text = refl;
       window_text = rw b.value.plain refl;
-      others = refl;
+      others = (refl, (refl, (refl, refl, refl)));
     }
 run_window u true b =
     let s = leaf (codes "run") in
@@ -146,7 +155,7 @@ run_window u true b =
       rest = refl;
       workers_text = refl;
       window_text = rw b.value.plain refl;
-      others = refl;
+      others = (refl, (refl, (refl, refl, refl)));
     }
 
 pub run_none : (sums : Bool) → Leaves (leaf (codes "run")) (codes "4") (codes "64") (HasSums sums) (sums_words sums)
@@ -159,7 +168,7 @@ run_none false =
       rest = refl;
       workers_text = refl;
       window_text = refl;
-      others = refl;
+      others = (refl, (refl, (refl, refl, refl)));
     }
 run_none true =
     let s = leaf (codes "run") in
@@ -170,10 +179,10 @@ run_none true =
       rest = refl;
       workers_text = refl;
       window_text = refl;
-      others = refl;
+      others = (refl, (refl, (refl, refl, refl)));
     }
 
-pub compare_both : (t : Text) (u : Text) → IsTaken 64 t → IsTaken 4096 u → Leaves (leaf (codes "compare")) t u (λ rows. ⊤) (codes "--workers" ∷ t ∷ codes "--window" ∷ u ∷ [])
+pub compare_both : (t : Text) (u : Text) → IsTaken 64 t → IsTaken 4096 u → Leaves (leaf (codes "compare")) t u IsPlain (codes "--workers" ∷ t ∷ codes "--window" ∷ u ∷ [])
 unfolding clap_on_literals
 compare_both t u a b =
     let s = leaf (codes "compare") in
@@ -187,10 +196,10 @@ compare_both t u a b =
       rest = rw b.accepted refl;
       workers_text = rw a.value.plain refl;
       window_text = rw b.value.plain refl;
-      others = tt;
+      others = (refl, (refl, refl, refl));
     }
 
-pub compare_workers : (t : Text) → IsTaken 64 t → Leaves (leaf (codes "compare")) t (codes "64") (λ rows. ⊤) (codes "--workers" ∷ t ∷ [])
+pub compare_workers : (t : Text) → IsTaken 64 t → Leaves (leaf (codes "compare")) t (codes "64") IsPlain (codes "--workers" ∷ t ∷ [])
 unfolding clap_on_literals
 compare_workers t a =
     let s = leaf (codes "compare") in
@@ -201,10 +210,10 @@ compare_workers t a =
       rest = rw a.accepted refl;
       workers_text = rw a.value.plain refl;
       window_text = refl;
-      others = tt;
+      others = (refl, (refl, refl, refl));
     }
 
-pub compare_window : (u : Text) → IsTaken 4096 u → Leaves (leaf (codes "compare")) (codes "4") u (λ rows. ⊤) (codes "--window" ∷ u ∷ [])
+pub compare_window : (u : Text) → IsTaken 4096 u → Leaves (leaf (codes "compare")) (codes "4") u IsPlain (codes "--window" ∷ u ∷ [])
 unfolding clap_on_literals
 compare_window u b =
     let s = leaf (codes "compare") in
@@ -215,10 +224,10 @@ compare_window u b =
       rest = rw b.accepted refl;
       workers_text = refl;
       window_text = rw b.value.plain refl;
-      others = tt;
+      others = (refl, (refl, refl, refl));
     }
 
-pub compare_none : Leaves (leaf (codes "compare")) (codes "4") (codes "64") (λ rows. ⊤) ([])
+pub compare_none : Leaves (leaf (codes "compare")) (codes "4") (codes "64") IsPlain ([])
 unfolding clap_on_literals
 compare_none =
     let s = leaf (codes "compare") in record {
@@ -228,7 +237,7 @@ compare_none =
       rest = refl;
       workers_text = refl;
       window_text = refl;
-      others = tt;
+      others = (refl, (refl, refl, refl));
     }
 
 pub rounds_window : (u : Text) (dot : Bool) → IsTaken 4096 u → LeavesWindow (leaf (codes "rounds")) u dot (codes "--window" ∷ u ∷ dot_words dot)
@@ -242,6 +251,7 @@ rounds_window u false b =
       rest = rw b.accepted refl;
       window_text = rw b.value.plain refl;
       dot_text = refl;
+      files = (refl, refl, refl);
     }
 rounds_window u true b =
     let s = leaf (codes "rounds") in
@@ -252,11 +262,12 @@ rounds_window u true b =
       rest = refl;
       window_text = rw b.value.plain refl;
       dot_text = refl;
+      files = (refl, refl, refl);
     }
 
 pub rounds_none : (dot : Bool) → LeavesWindow (leaf (codes "rounds")) (codes "64") dot (dot_words dot)
 unfolding clap_on_literals
 rounds_none false =
-    record { end = nothing_held; walked = refl; passes = refl; rest = refl; window_text = refl; dot_text = refl }
+    record { end = nothing_held; walked = refl; passes = refl; rest = refl; window_text = refl; dot_text = refl; files = (refl, refl, refl) }
 rounds_none true =
-    record { end = _; walked = refl; passes = refl; rest = refl; window_text = refl; dot_text = refl }
+    record { end = _; walked = refl; passes = refl; rest = refl; window_text = refl; dot_text = refl; files = (refl, refl, refl) }

@@ -40,6 +40,6 @@ pub sequential_text : (t : Trace) (s : World) (replies : List Reply) (sums : Boo
 sequential_text t s replies sums text world answers e = e ∙ ap (λ w. report_of t w replies sums) world ∙ ap (λ rs. report_of t (sequential_world t) rs sums) answers
 
 -- the line of a comparison that went out in part
-pub comparison_part : (options : Options) (left left' written written' : Option (List ℕ)) (t : Trace) (workers window : ℕ) (v : Verdict) → ReadsTrace left left' t → options.mode ≡ Compare workers window → v ≡ verdict.Equal
+pub comparison_part : (options : Options) (left left' written written' : Option (List ℕ)) (t : Trace) (workers window : ℕ) (eager : Bool) (v : Verdict) → ReadsTrace left left' t → options.mode ≡ Compare workers window eager → v ≡ verdict.Equal
     → AppendsPart written written' (verdict_line v) → WritesPart options left left' written written'
-comparison_part options left left' written written' t workers window v read mode equal part = record { t = t; read = read; wrote = rw mode (rw equal at part) }
+comparison_part options left left' written written' t workers window eager v read mode equal part = record { t = t; read = read; wrote = rw mode (rw equal at part) }

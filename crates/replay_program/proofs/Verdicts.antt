@@ -1,6 +1,6 @@
 -- What a run wrote and what its fault tells, where it compared both replays.
 use Rattle.std.proofs.Common.{◌≡◌, ◌≢◌, ℕ, ◌+◌, ◌⊎◌, inl, inr, refl, List, Result, Ok, Err, sym, ap, subst}
-use Rattle.std.specs.Prelude.{Option, IfErr, OnOk, ⊤}
+use Rattle.std.specs.Prelude.{Bool, Option, IfErr, OnOk, ⊤}
 use Rattle.std.specs.Io.KnownBytes.{Appends, Keeps}
 use Rattle.trace_format.specs.declared.trace.Trace as trace
 use Rattle.replay_core.specs.declared.serial.ReplayFault.TheVariants.{Memory}
@@ -13,10 +13,10 @@ use Rattle.replay_program.specs.declared.words.Mode.TheVariants.{Compare}
 use Rattle.replay_program.specs.Runs.{ReadsTrace, TellsOfReading, WritesOutput, read_failures, reads_failed, verdict_line}
 
 -- the whole line went out
-pub told_whole : (options : Options) (left left' written written' : Option (List ℕ)) (t : trace.Trace) (workers window : ℕ) (v : Verdict) (r : Result ⊤ RunFault) → ReadsTrace left left' t
-    → options.mode ≡ Compare workers window → v ≡ Equal → ((r ≡ Ok tt) ⊎ (r ≡ Err Different) → Appends written written' (verdict_line v)) → OnOk r (WritesOutput options left left' written written')
-told_whole options left left' written written' t workers window v (Ok x) read mode equal whole = record { t = t; read = read; wrote = rw mode (rw equal at (whole (inl refl))) }
-told_whole options left left' written written' t workers window v (Err f) read mode equal whole = tt
+pub told_whole : (options : Options) (left left' written written' : Option (List ℕ)) (t : trace.Trace) (workers window : ℕ) (eager : Bool) (v : Verdict) (r : Result ⊤ RunFault) → ReadsTrace left left' t
+    → options.mode ≡ Compare workers window eager → v ≡ Equal → ((r ≡ Ok tt) ⊎ (r ≡ Err Different) → Appends written written' (verdict_line v)) → OnOk r (WritesOutput options left left' written written')
+told_whole options left left' written written' t workers window eager v (Ok x) read mode equal whole = record { t = t; read = read; wrote = rw mode (rw equal at (whole (inl refl))) }
+told_whole options left left' written written' t workers window eager v (Err f) read mode equal whole = tt
 
 -- how telling that both are equal may fail
 abbrev Told : RunFault → Type 0

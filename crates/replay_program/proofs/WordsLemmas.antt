@@ -1,6 +1,6 @@
 -- What the parser of the command line does with the words that are known.
 use Rattle.std.proofs.Common.{◌≡◌, ◌⊎◌, ◌≤◌, ◌<◌, ◌^◌, ℕ, Bool, true, false, List, [], ◌∷◌, ◌++◌, Option, None, Some, Ok, Err, codes, refl, sym, ap, ap₂, ◌∙◌, subst, inl, inr, suc, map, Contains, arith}
-use Rattle.std.specs.Prelude.{⊤, Result, slice_index}
+use Rattle.std.specs.Prelude.{Result, slice_index}
 use Rattle.std.specs.Option.{option_map}
 use Rattle.std.specs.Result.{MatchResult}
 use Rattle.std.specs.Fmt.{decimal}
@@ -8,15 +8,15 @@ use Rattle.std.specs.Str.Parse.{ParsesUnsigned}
 use Rattle.std.proofs.lemmas.Fmt.{decimal_digit, decimal_is_IsNumeral, decimal_step, parse-decimal}
 use Rattle.std.proofs.lemmas.Option.{same_Some}
 use Rattle.std.proofs.lemmas.Result.{MatchResult-weaker}
-use Rattle.clap.proofs.WalkLemmas.{one_text-rows}
+use Rattle.clap.proofs.WalkLemmas.{first_value-rows, one_text-rows}
 use Rattle.clap.specs.Matches.{ReadsOne}
 use Rattle.clap.specs.Simple.{built, entered, names_of}
 use Rattle.clap.specs.Takes.{level_passes}
 use Rattle.clap.specs.Walk.{Walk, finished, nothing_held, walk, walk_from}
-use Rattle.clap.specs.Words.{App, FailsBy, HasKind, HasMatchesOf, IsAmong, Row, fault_of, found_of, one_of, one_text, rows_of, is_simple, is_simple_and_free, kind_of, subcommand_name_of, subcommand_of, subcommand_rows_of, takes}
+use Rattle.clap.specs.Words.{App, FailsBy, HasKind, HasMatchesOf, IsAmong, Row, fault_of, first_of, first_value, found_of, one_of, one_text, rows_of, is_simple, is_simple_and_free, kind_of, subcommand_name_of, subcommand_of, subcommand_rows_of, takes}
 use Rattle.clap.specs.declared.error.Error.{Error}
 use Rattle.clap.specs.declared.error.kind.ErrorKind.{ErrorKind}
-use Rattle.clap.specs.declared.error.kind.ErrorKind.TheVariants.{DisplayHelp, OutOfMemory}
+use Rattle.clap.specs.declared.error.kind.ErrorKind.TheVariants.{DisplayHelp, DisplayVersion, OutOfMemory}
 use Rattle.clap.specs.declared.parser.matches.ArgMatches.{ArgMatches}
 use Rattle.clap.specs.declared.parser.matches.ArgMatches.TheViews.{out-ArgMatches}
 use Rattle.clap.proofs.OnLiterals.{clap_on_literals}
@@ -27,11 +27,11 @@ use Rattle.replay_program.specs.declared.words.Task.{Task}
 use Rattle.replay_program.specs.declared.words.Task.TheVariants.{Replay, Diff}
 use Rattle.replay_program.specs.declared.words.UsageKind.{UsageKind}
 use Rattle.replay_program.specs.declared.words.UsageKind.TheVariants.{Memory}
-use Rattle.replay_program.specs.Words.{AreFound, AreRoundOptions, AskFor, AskForHelp, AskForMode, HasNumbers, IsFound, IsNumberOption, dot_words, flag_text, kind_meant, replayer, sums_words, text_in}
+use Rattle.replay_program.specs.Words.{AreFound, AreRoundOptions, AskFor, AskForHelp, AskForMode, AskForVersion, HasNoFiles, HasNumbers, IsFound, IsNumberOption, dot_words, flag_text, kind_meant, name_in, replayer, sums_words, text_in}
 use Rattle.replay_program.specs.Limits.{IsWindow}
 use Rattle.replay_program.proofs.NumberWords.{accepted, number_is_value}
 use Rattle.replay_program.proofs.OptionWalk.{at, level_by_parts, stopped_at, stopped_passes, stopped_walk, takes_by_parts}
-use Rattle.replay_program.proofs.RoundWords.{HasSums, IsTaken, Leaves, LeavesWindow, compare_both, compare_none, compare_window, compare_workers, leaf, rounds_none, rounds_window, run_both, run_none, run_window, run_workers}
+use Rattle.replay_program.proofs.RoundWords.{HasSums, IsPlain, IsTaken, Leaves, LeavesWindow, compare_both, compare_none, compare_window, compare_workers, leaf, rounds_none, rounds_window, run_both, run_none, run_window, run_workers}
 
 taken : (n most : ℕ) → 1 ≤ n → n ≤ most → most < 2 ^ 63 → IsTaken most (decimal n)
 taken n most low high small = record { value = number_is_value (decimal n) (decimal_is_IsNumeral n (omega arith)).0; accepted = accepted n most low high small }
@@ -60,7 +60,7 @@ run_leaves workers window sums chosen o =
     ]
 
 compare_leaves : (workers window : ℕ) (chosen : List (List ℕ)) → AreRoundOptions workers window chosen
-    → Leaves (leaf (codes "compare")) (decimal workers) (decimal window) (λ rows. ⊤) chosen
+    → Leaves (leaf (codes "compare")) (decimal workers) (decimal window) IsPlain chosen
 compare_leaves workers window chosen o =
     let a = taken workers 64 o.served.0 o.served.1 (omega arith) in
     let b = taken window 4096 o.served.2 o.served.3 (omega arith) in
@@ -135,23 +135,39 @@ options_found : (m : Mode) (sums : Bool) (words : List (List ℕ)) → AskForMod
 unfolding clap_on_literals
 options_found Serial false words e = rw e (refl, refl)
 options_found Serial true words e = rw e (refl, refl)
-options_found (Run workers window) sums words e =
+options_found (Run workers window eager) sums words e =
     let l = run_leaves workers window sums e.0 e.1 in
-    rw (e.2, run_found (decimal workers) (decimal window) (HasSums sums) (e.0 ++ sums_words sums) l) (refl, l.others, (l.workers_text, l.window_text, e.1.served))
-options_found (Compare workers window) sums words e =
+    rw (e.3, e.2, run_found (decimal workers) (decimal window) (HasSums sums) (e.0 ++ sums_words sums) l) (refl, l.others.0, l.others.1.0, (l.workers_text, l.window_text, e.1.served))
+options_found (Compare workers window eager) sums words e =
     let l = compare_leaves workers window e.0 e.1 in
-    rw (e.3, compare_found (decimal workers) (decimal window) (λ rows. ⊤) e.0 l) (refl, e.2, (l.workers_text, l.window_text, e.1.served))
+    rw (e.4, e.2, compare_found (decimal workers) (decimal window) IsPlain e.0 l) (refl, e.3, l.others.0, (l.workers_text, l.window_text, e.1.served))
 options_found (Rounds window dot) sums words e =
     let l = rounds_leaves window dot e.0 e.1 e.2 in
     rw (e.4, rounds_found (decimal window) dot (e.0 ++ dot_words dot) l) (refl, e.3, l.dot_text, (l.window_text, e.2))
 options_found Check sums words e = rw e.1 (refl, e.0)
 
+-- and no file is named by them
+files_found : (m : Mode) (sums : Bool) (words : List (List ℕ)) → AskForMode m sums words → HasNoFiles (subcommand_of replayer words)
+unfolding clap_on_literals
+files_found Serial false words e = rw e (refl, refl, refl)
+files_found Serial true words e = rw e (refl, refl, refl)
+files_found (Run workers window eager) sums words e =
+    let l = run_leaves workers window sums e.0 e.1 in
+    rw (e.3, run_found (decimal workers) (decimal window) (HasSums sums) (e.0 ++ sums_words sums) l) l.others.1.1
+files_found (Compare workers window eager) sums words e =
+    let l = compare_leaves workers window e.0 e.1 in
+    rw (e.4, compare_found (decimal workers) (decimal window) IsPlain e.0 l) l.others.1
+files_found (Rounds window dot) sums words e =
+    let l = rounds_leaves window dot e.0 e.1 e.2 in
+    rw (e.4, rounds_found (decimal window) dot (e.0 ++ dot_words dot) l) l.files
+files_found Check sums words e = rw e.1 (refl, refl, refl)
+
 words_taken : (m : Mode) (sums : Bool) (words : List (List ℕ)) → AskForMode m sums words → takes replayer words ≡ true
 unfolding clap_on_literals
 words_taken Serial false words e = rw e refl
 words_taken Serial true words e = rw e refl
-words_taken (Run workers window) sums words e = rw e.2 (run_taken (decimal workers) (decimal window) (HasSums sums) (e.0 ++ sums_words sums) (run_leaves workers window sums e.0 e.1))
-words_taken (Compare workers window) sums words e = rw e.3 (compare_taken (decimal workers) (decimal window) (λ rows. ⊤) e.0 (compare_leaves workers window e.0 e.1))
+words_taken (Run workers window eager) sums words e = rw e.3 (run_taken (decimal workers) (decimal window) (HasSums sums) (e.0 ++ sums_words sums) (run_leaves workers window sums e.0 e.1))
+words_taken (Compare workers window eager) sums words e = rw e.4 (compare_taken (decimal workers) (decimal window) IsPlain e.0 (compare_leaves workers window e.0 e.1))
 words_taken (Rounds window dot) sums words e = rw e.4 (rounds_taken (decimal window) dot (e.0 ++ dot_words dot) (rounds_leaves window dot e.0 e.1 e.2))
 words_taken Check sums words e = rw e.1 refl
 
@@ -160,11 +176,16 @@ unfolding clap_on_literals
 help_found words (inl e) = rw e refl
 help_found words (inr e) = rw e refl
 
+version_found : (words : List (List ℕ)) → AskForVersion words → fault_of replayer words ≡ DisplayVersion ∷ []
+unfolding clap_on_literals
+version_found words (inl e) = rw e refl
+version_found words (inr e) = rw e refl
+
 -- the same for each task
 task_found : (t : Task) (words : List (List ℕ)) → AskFor t words → IsFound t (subcommand_of replayer words)
 unfolding clap_on_literals
-task_found (Replay o) words e = options_found o.mode o.sums words e
-task_found Diff words e = rw e refl
+task_found (Replay o) words e = (options_found o.mode o.sums words e, files_found o.mode o.sums words e)
+task_found Diff words e = rw e (refl, (refl, refl, refl))
 
 task_taken : (t : Task) (words : List (List ℕ)) → AskFor t words → takes replayer words ≡ true
 unfolding clap_on_literals
@@ -181,13 +202,23 @@ task_met a words m t command asked h =
 pub words_pass : (a : App) (words : List (List ℕ)) (t : Task) → a ≡ replayer → AskFor t words → takes a words ≡ true
 words_pass a words t command asked = ap (λ x. takes x words) command ∙ task_taken t words asked
 
+-- words that have one fault end the parse by it
+pub request_ends : {T : Type 0} (a : App) (words : List (List ℕ)) (r : Result T Error) (kind : ErrorKind) → a ≡ replayer → fault_of replayer words ≡ kind ∷ [] → (is_simple_and_free a ≡ true → FailsBy (fault_of a words) r)
+    → MatchResult r (λ _. ⊥) (λ e. (kind_of e ≡ kind) ⊎ (kind_of e ≡ OutOfMemory))
+request_ends a words r kind command found h =
+    let faults : fault_of a words ≡ kind ∷ [] = ap (λ x. fault_of x words) command ∙ found in
+    let fails = rw faults at (h (ap is_simple_and_free command)) in
+    MatchResult-weaker r fails (λ m none. cc none) (λ e among. elim among [ inl memory ↦ inr memory | inr one ↦ elim one [ inl is ↦ inl is | inr other ↦ absurd other ] ])
+
 -- words that ask for help end the parse
 pub help_ends : {T : Type 0} (a : App) (words : List (List ℕ)) (r : Result T Error) → a ≡ replayer → AskForHelp words → (is_simple_and_free a ≡ true → FailsBy (fault_of a words) r)
     → MatchResult r (λ _. ⊥) (λ e. (kind_of e ≡ DisplayHelp) ⊎ (kind_of e ≡ OutOfMemory))
-help_ends a words r command asked h =
-    let faults : fault_of a words ≡ DisplayHelp ∷ [] = ap (λ x. fault_of x words) command ∙ help_found words asked in
-    let fails = rw faults at (h (ap is_simple_and_free command)) in
-    MatchResult-weaker r fails (λ m none. cc none) (λ e among. elim among [ inl memory ↦ inr memory | inr kind ↦ elim kind [ inl is ↦ inl is | inr other ↦ absurd other ] ])
+help_ends a words r command asked h = request_ends a words r DisplayHelp command (help_found words asked) h
+
+-- and so do those that ask for the version
+pub version_ends : {T : Type 0} (a : App) (words : List (List ℕ)) (r : Result T Error) → a ≡ replayer → AskForVersion words → (is_simple_and_free a ≡ true → FailsBy (fault_of a words) r)
+    → MatchResult r (λ _. ⊥) (λ e. (kind_of e ≡ DisplayVersion) ⊎ (kind_of e ≡ OutOfMemory))
+version_ends a words r command asked h = request_ends a words r DisplayVersion command (version_found words asked) h
 
 -- an option among the rows of the subcommand
 rows_at : (id : List ℕ) (found : Option (List ℕ × List Row)) (rows : List Row) (text : List ℕ) → option_map (λ p. p.1) found ≡ Some rows → text_in id found ≡ Some text
@@ -195,11 +226,26 @@ rows_at : (id : List ℕ) (found : Option (List ℕ × List Row)) (rows : List R
 rows_at id None rows text there value = cc
 rows_at id (Some p) rows text there value = let e : p.1 ≡ rows = cc in rw (← e) value
 
+-- a name of a file among them
+none_at : (id : List ℕ) (found : Option (List ℕ × List Row)) (rows : List Row) → Some rows ≡ option_map (λ p. p.1) found → name_in id found ≡ None → first_of id rows ≡ None
+none_at id None rows there none = cc
+none_at id (Some p) rows there none = let e : rows ≡ p.1 = cc in rw e none
+
 abbrev pub IsChosen : ArgMatches → ArgMatches → Type 0
 IsChosen m chosen = Some (rows_of (found_of chosen)) ≡ option_map (λ p. p.1) (subcommand_rows_of m)
 
 text_is : (m chosen : ArgMatches) (id text : List ℕ) → IsChosen m chosen → text_in id (subcommand_rows_of m) ≡ Some text → one_text (found_of chosen) id ≡ Some text
 text_is m chosen id text rows found = one_text-rows (found_of chosen) id ∙ rows_at id (subcommand_rows_of m) (rows_of (found_of chosen)) text (sym rows) found
+
+came_of_none : {A B : Type 0} (f : A → B) (o : Option A) → option_map f o ≡ None → o ≡ None
+came_of_none f None none = refl
+came_of_none f (Some x) none = cc
+
+-- there is none where none was found
+pub no_name : {A : Type 0} (m chosen : ArgMatches) (id : List ℕ) (f : A → List ℕ) (given : Option A) → IsChosen m chosen → option_map f given ≡ first_value (found_of chosen) id → name_in id (subcommand_rows_of m) ≡ None
+    → given ≡ None
+no_name m chosen id f given rows read none =
+    came_of_none f given (read ∙ first_value-rows (found_of chosen) id ∙ none_at id (subcommand_rows_of m) (rows_of (found_of chosen)) rows none)
 
 read_as_flag : (flag sums : Bool) (text : Option (List ℕ)) → text ≡ Some (flag_text sums) → (text ≡ Some (codes "true") → flag ≡ true) → (text ≡ Some (codes "false") → flag ≡ false) → flag ≡ sums
 read_as_flag flag false text e set unset = unset e
@@ -215,15 +261,15 @@ named m = fused _ _ (out-ArgMatches m).subcommand
 -- the name of the subcommand is one of the modes'
 abbrev pub name_of : Mode → List ℕ
 name_of Serial = codes "serial"
-name_of (Run workers window) = codes "run"
-name_of (Compare workers window) = codes "compare"
+name_of (Run workers window eager) = codes "run"
+name_of (Compare workers window eager) = codes "compare"
 name_of (Rounds window dot) = codes "rounds"
 name_of Check = codes "check"
 
 pub found_name : (m : ArgMatches) (mode : Mode) (sums : Bool) → AreFound mode sums (subcommand_rows_of m) → subcommand_name_of m ≡ Some (name_of mode)
 found_name m Serial sums h = sym (named m) ∙ h.0
-found_name m (Run workers window) sums h = sym (named m) ∙ h.0
-found_name m (Compare workers window) sums h = sym (named m) ∙ h.0
+found_name m (Run workers window eager) sums h = sym (named m) ∙ h.0
+found_name m (Compare workers window eager) sums h = sym (named m) ∙ h.0
 found_name m (Rounds window dot) sums h = sym (named m) ∙ h.0
 found_name m Check sums h = sym (named m) ∙ h.0
 
@@ -236,6 +282,12 @@ ReadsNumber chosen id most given = (n : ℕ) → one_text (found_of chosen) id �
 
 options_same : {a b : Mode} {x y : Bool} → a ≡ b → x ≡ y → ◌≡◌ {A = Options} (record { mode = a; sums = x }) (record { mode = b; sums = y })
 options_same e f = ap₂ (λ m s. record { mode = m; sums = s }) e f
+
+run_same : {a b w v : ℕ} {c e : Bool} → a ≡ w → b ≡ v → c ≡ e → Run a b c ≡ Run w v e
+run_same {a} {b} {w} {v} {c} {e} f g h = ap (λ x. Run x b c) f ∙ ap (λ x. Run w x c) g ∙ ap (λ x. Run w v x) h
+
+compare_same : {a b w v : ℕ} {c e : Bool} → a ≡ w → b ≡ v → c ≡ e → Compare a b c ≡ Compare w v e
+compare_same {a} {b} {w} {v} {c} {e} f g h = ap (λ x. Compare x b c) f ∙ ap (λ x. Compare w x c) g ∙ ap (λ x. Compare w v x) h
 
 -- two names of one length
 other_names : codes "serial" ≡ codes "rounds" → ⊥
@@ -256,34 +308,34 @@ module _ (m chosen : ArgMatches) (rows : IsChosen m chosen) where
   pub serial_chosen : (flag : Bool) (mode : Mode) (sums : Bool) → subcommand_name_of m ≡ Some (codes "serial") → ReadsFlag chosen (codes "sums") flag
       → AreFound mode sums (subcommand_rows_of m) → ◌≡◌ {A = Options} (record { mode = Serial; sums = flag }) (record { mode = mode; sums = sums })
   serial_chosen flag Serial sums name read h = options_same refl (flag_is (codes "sums") flag sums read h.1)
-  serial_chosen flag (Run w v) sums name read h = let same : codes "serial" ≡ codes "run" = same_Some _ _ (sym name ∙ found_name m (Run w v) sums h) in absurd (cc same)
-  serial_chosen flag (Compare w v) sums name read h = let same : codes "serial" ≡ codes "compare" = same_Some _ _ (sym name ∙ found_name m (Compare w v) sums h) in absurd (cc same)
+  serial_chosen flag (Run w v e) sums name read h = let same : codes "serial" ≡ codes "run" = same_Some _ _ (sym name ∙ found_name m (Run w v e) sums h) in absurd (cc same)
+  serial_chosen flag (Compare w v e) sums name read h = let same : codes "serial" ≡ codes "compare" = same_Some _ _ (sym name ∙ found_name m (Compare w v e) sums h) in absurd (cc same)
   serial_chosen flag (Rounds v dot) sums name read h = absurd (other_names (same_Some _ _ (sym name ∙ found_name m (Rounds v dot) sums h)))
   serial_chosen flag Check sums name read h = let same : codes "serial" ≡ codes "check" = same_Some _ _ (sym name ∙ found_name m Check sums h) in absurd (cc same)
 
   -- where it is `run`
-  pub run_chosen : (workers window : ℕ) (flag : Bool) (mode : Mode) (sums : Bool) → subcommand_name_of m ≡ Some (codes "run")
-      → ReadsNumber chosen (codes "workers") 64 workers → ReadsNumber chosen (codes "window") 4096 window → ReadsFlag chosen (codes "sums") flag
-      → AreFound mode sums (subcommand_rows_of m) → ◌≡◌ {A = Options} (record { mode = Run workers window; sums = flag }) (record { mode = mode; sums = sums })
-  run_chosen workers window flag (Run w v) sums name a b read h =
-      let e = numbers_are workers window w v a b h.2 in
-      options_same (ap₂ Run e.0 e.1) (flag_is (codes "sums") flag sums read h.1)
-  run_chosen workers window flag Serial sums name a b read h = let same : codes "run" ≡ codes "serial" = same_Some _ _ (sym name ∙ found_name m Serial sums h) in absurd (cc same)
-  run_chosen workers window flag (Compare w v) sums name a b read h = let same : codes "run" ≡ codes "compare" = same_Some _ _ (sym name ∙ found_name m (Compare w v) sums h) in absurd (cc same)
-  run_chosen workers window flag (Rounds v dot) sums name a b read h = let same : codes "run" ≡ codes "rounds" = same_Some _ _ (sym name ∙ found_name m (Rounds v dot) sums h) in absurd (cc same)
-  run_chosen workers window flag Check sums name a b read h = let same : codes "run" ≡ codes "check" = same_Some _ _ (sym name ∙ found_name m Check sums h) in absurd (cc same)
+  pub run_chosen : (workers window : ℕ) (flag eager : Bool) (mode : Mode) (sums : Bool) → subcommand_name_of m ≡ Some (codes "run")
+      → ReadsNumber chosen (codes "workers") 64 workers → ReadsNumber chosen (codes "window") 4096 window → ReadsFlag chosen (codes "sums") flag → ReadsFlag chosen (codes "eager") eager
+      → AreFound mode sums (subcommand_rows_of m) → ◌≡◌ {A = Options} (record { mode = Run workers window eager; sums = flag }) (record { mode = mode; sums = sums })
+  run_chosen workers window flag eager (Run w v e) sums name a b read eagerly h =
+      let same = numbers_are workers window w v a b h.3 in
+      options_same (run_same same.0 same.1 (flag_is (codes "eager") eager e eagerly h.2)) (flag_is (codes "sums") flag sums read h.1)
+  run_chosen workers window flag eager Serial sums name a b read eagerly h = let same : codes "run" ≡ codes "serial" = same_Some _ _ (sym name ∙ found_name m Serial sums h) in absurd (cc same)
+  run_chosen workers window flag eager (Compare w v e) sums name a b read eagerly h = let same : codes "run" ≡ codes "compare" = same_Some _ _ (sym name ∙ found_name m (Compare w v e) sums h) in absurd (cc same)
+  run_chosen workers window flag eager (Rounds v dot) sums name a b read eagerly h = let same : codes "run" ≡ codes "rounds" = same_Some _ _ (sym name ∙ found_name m (Rounds v dot) sums h) in absurd (cc same)
+  run_chosen workers window flag eager Check sums name a b read eagerly h = let same : codes "run" ≡ codes "check" = same_Some _ _ (sym name ∙ found_name m Check sums h) in absurd (cc same)
 
   -- where it is `compare`
-  pub compare_chosen : (workers window : ℕ) (mode : Mode) (sums : Bool) → subcommand_name_of m ≡ Some (codes "compare")
-      → ReadsNumber chosen (codes "workers") 64 workers → ReadsNumber chosen (codes "window") 4096 window
-      → AreFound mode sums (subcommand_rows_of m) → ◌≡◌ {A = Options} (record { mode = Compare workers window; sums = false }) (record { mode = mode; sums = sums })
-  compare_chosen workers window (Compare w v) sums name a b h =
-      let e = numbers_are workers window w v a b h.2 in
-      options_same (ap₂ Compare e.0 e.1) (sym h.1)
-  compare_chosen workers window Serial sums name a b h = let same : codes "compare" ≡ codes "serial" = same_Some _ _ (sym name ∙ found_name m Serial sums h) in absurd (cc same)
-  compare_chosen workers window (Run w v) sums name a b h = let same : codes "compare" ≡ codes "run" = same_Some _ _ (sym name ∙ found_name m (Run w v) sums h) in absurd (cc same)
-  compare_chosen workers window (Rounds v dot) sums name a b h = let same : codes "compare" ≡ codes "rounds" = same_Some _ _ (sym name ∙ found_name m (Rounds v dot) sums h) in absurd (cc same)
-  compare_chosen workers window Check sums name a b h = let same : codes "compare" ≡ codes "check" = same_Some _ _ (sym name ∙ found_name m Check sums h) in absurd (cc same)
+  pub compare_chosen : (workers window : ℕ) (eager : Bool) (mode : Mode) (sums : Bool) → subcommand_name_of m ≡ Some (codes "compare")
+      → ReadsNumber chosen (codes "workers") 64 workers → ReadsNumber chosen (codes "window") 4096 window → ReadsFlag chosen (codes "eager") eager
+      → AreFound mode sums (subcommand_rows_of m) → ◌≡◌ {A = Options} (record { mode = Compare workers window eager; sums = false }) (record { mode = mode; sums = sums })
+  compare_chosen workers window eager (Compare w v e) sums name a b eagerly h =
+      let same = numbers_are workers window w v a b h.3 in
+      options_same (compare_same same.0 same.1 (flag_is (codes "eager") eager e eagerly h.2)) (sym h.1)
+  compare_chosen workers window eager Serial sums name a b eagerly h = let same : codes "compare" ≡ codes "serial" = same_Some _ _ (sym name ∙ found_name m Serial sums h) in absurd (cc same)
+  compare_chosen workers window eager (Run w v e) sums name a b eagerly h = let same : codes "compare" ≡ codes "run" = same_Some _ _ (sym name ∙ found_name m (Run w v e) sums h) in absurd (cc same)
+  compare_chosen workers window eager (Rounds v dot) sums name a b eagerly h = let same : codes "compare" ≡ codes "rounds" = same_Some _ _ (sym name ∙ found_name m (Rounds v dot) sums h) in absurd (cc same)
+  compare_chosen workers window eager Check sums name a b eagerly h = let same : codes "compare" ≡ codes "check" = same_Some _ _ (sym name ∙ found_name m Check sums h) in absurd (cc same)
 
   -- where it is `rounds`
   pub rounds_chosen : (window : ℕ) (flag : Bool) (mode : Mode) (sums : Bool) → subcommand_name_of m ≡ Some (codes "rounds")
@@ -293,8 +345,8 @@ module _ (m chosen : ArgMatches) (rows : IsChosen m chosen) where
       let same = b v (text_is m chosen (codes "window") (decimal v) rows h.3.0) h.3.1.0 h.3.1.1 in
       options_same (ap₂ Rounds same (flag_is (codes "dot") flag dot read h.2)) (sym h.1)
   rounds_chosen window flag Serial sums name b read h = absurd (other_names (sym (same_Some _ _ (sym name ∙ found_name m Serial sums h))))
-  rounds_chosen window flag (Run w v) sums name b read h = let same : codes "rounds" ≡ codes "run" = same_Some _ _ (sym name ∙ found_name m (Run w v) sums h) in absurd (cc same)
-  rounds_chosen window flag (Compare w v) sums name b read h = let same : codes "rounds" ≡ codes "compare" = same_Some _ _ (sym name ∙ found_name m (Compare w v) sums h) in absurd (cc same)
+  rounds_chosen window flag (Run w v e) sums name b read h = let same : codes "rounds" ≡ codes "run" = same_Some _ _ (sym name ∙ found_name m (Run w v e) sums h) in absurd (cc same)
+  rounds_chosen window flag (Compare w v e) sums name b read h = let same : codes "rounds" ≡ codes "compare" = same_Some _ _ (sym name ∙ found_name m (Compare w v e) sums h) in absurd (cc same)
   rounds_chosen window flag Check sums name b read h = let same : codes "rounds" ≡ codes "check" = same_Some _ _ (sym name ∙ found_name m Check sums h) in absurd (cc same)
 
 -- a number in decimal is read as that number

@@ -13,7 +13,7 @@ AreServed workers window = (1 ≤ workers) × (workers ≤ 64) × (1 ≤ window)
 -- The numbers that a mode asks for are within their limits.
 abbrev pub IsServed : Mode → Type 0
 IsServed Serial = ⊤
-IsServed (Run workers window) = AreServed workers window
-IsServed (Compare workers window) = AreServed workers window
+IsServed (Run workers window eager) = AreServed workers window
+IsServed (Compare workers window eager) = AreServed workers window
 IsServed (Rounds window dot) = IsWindow window
 IsServed Check = ⊤

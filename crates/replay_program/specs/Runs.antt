@@ -8,7 +8,7 @@ use Rattle.trace_format.specs.declared.trace.Trace as trace
 use Rattle.trace_format.specs.declared.fault.TraceFault.{TraceFault}
 use Rattle.trace_format.specs.declared.fault.Kind.TheVariants.{Memory}
 use Rattle.op_meaning.specs.Step.{sequential_world, sequential_replies}
-use Rattle.replay_core.specs.declared.serial.ReplayFault.{ReplayFault}
+use Rattle.replay_core.specs.Comparing.{WantsMemoryOrThread}
 use Rattle.replay_core.specs.declared.serial.ReplayFault.TheVariants as replay_fault
 use Rattle.replay_core.specs.declared.difference.Verdict.{Verdict}
 use Rattle.replay_core.specs.declared.difference.Verdict.TheVariants as verdict
@@ -39,8 +39,8 @@ rounds_output true t window = graph_text t (log_of t window)
 -- The output for a trace, by the mode.
 abbrev pub mode_output : Mode → Bool → trace.Trace → List ℕ
 mode_output Serial sums t = sequential_report t sums
-mode_output (Run workers window) sums t = sequential_report t sums
-mode_output (Compare workers window) sums t = verdict_line verdict.Equal
+mode_output (Run workers window eager) sums t = sequential_report t sums
+mode_output (Compare workers window eager) sums t = verdict_line verdict.Equal
 mode_output (Rounds window dot) sums t = rounds_output dot t window
 mode_output Check sums t = check_line t
 
@@ -77,10 +77,7 @@ pub record WritesPart (options : Options) (left left' written written' : Option 
 abbrev pub most_taken : ℕ
 most_taken = longest + 1
 
--- A replay, and a run with one, that was refused memory or a thread.
-abbrev pub WantsMemoryOrThread : ReplayFault → Type 0
-WantsMemoryOrThread f = (f ≡ replay_fault.Memory) ⊎ (f ≡ replay_fault.NoThread)
-
+-- A run with a replay that was refused memory or a thread.
 abbrev pub ReplayWantsMemoryOrThread : RunFault → Type 0
 ReplayWantsMemoryOrThread f = (f ≡ Replay replay_fault.Memory) ⊎ (f ≡ Replay replay_fault.NoThread)
 
@@ -121,15 +118,15 @@ write_failures (Err f) = writes_failed f
 -- The modes that need no thread.
 abbrev pub IsAlone : Mode → Type 0
 IsAlone Serial = ⊤
-IsAlone (Run workers window) = ⊥
-IsAlone (Compare workers window) = ⊥
+IsAlone (Run workers window eager) = ⊥
+IsAlone (Compare workers window eager) = ⊥
 IsAlone (Rounds window dot) = ⊥
 IsAlone Check = ⊤
 
 -- The modes that write no verdict.
 abbrev pub IsNoComparison : Mode → Type 0
 IsNoComparison Serial = ⊤
-IsNoComparison (Run workers window) = ⊤
-IsNoComparison (Compare workers window) = ⊥
+IsNoComparison (Run workers window eager) = ⊤
+IsNoComparison (Compare workers window eager) = ⊥
 IsNoComparison (Rounds window dot) = ⊤
 IsNoComparison Check = ⊤

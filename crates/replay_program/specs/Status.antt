@@ -15,22 +15,21 @@ use Rattle.replay_program.specs.declared.words.UsageKind.{UsageKind}
 use Rattle.replay_program.specs.declared.words.UsageKind.TheVariants as usage
 use Rattle.replay_core.specs.declared.serial.ReplayFault.{ReplayFault}
 use Rattle.replay_core.specs.declared.serial.ReplayFault.TheVariants as replay_fault
-use Rattle.report_diff.specs.declared.comparing.Refusal.{Refusal}
-use Rattle.report_diff.specs.declared.comparing.Refusal.TheVariants as refusal
+use Rattle.report_diff.specs.Refusals.{refusal_text}
 
--- A refused trace, or want of memory while it is read.
+-- A refused trace, or out of memory while it is read.
 abbrev pub trace_status : Kind → ℕ
 trace_status kind.Memory = 3
 trace_status _ = 1
 
--- A replay that gave nothing for want of memory or a thread, or that was asked for in a wrong way.
+-- A replay that gave nothing, being out of memory or refused a thread, or that was asked for in a wrong way.
 abbrev pub replay_status : ReplayFault → ℕ
 replay_status replay_fault.Memory = 3
 replay_status replay_fault.NoThread = 3
 replay_status replay_fault.Workers = 2
 replay_status replay_fault.Window = 2
 
--- Refused reports, or want of memory while they are compared.
+-- Refused reports, or out of memory while they are compared.
 abbrev pub reports_status : ReportsFault → ℕ
 reports_status reports_fault.Memory = 3
 reports_status _ = 1
@@ -59,7 +58,7 @@ kind_name kind.Overlap = codes "Overlap"
 kind_name kind.Trailing = codes "Trailing"
 kind_name kind.Memory = codes "Memory"
 
--- The line of a refused trace, by what is wrong and at which byte, or of want of memory while it is read.
+-- The line of a refused trace, by what is wrong and at which byte, or that memory ran out while it is read.
 abbrev pub trace_line : Kind → ℕ → List ℕ
 trace_line kind.Memory at = codes "fault: memory"
 trace_line what at = codes "trace refused: " ++ kind_name what ++ codes " at " ++ decimal at
@@ -70,12 +69,6 @@ replay_line replay_fault.Memory = codes "fault: memory"
 replay_line replay_fault.NoThread = codes "fault: thread"
 replay_line replay_fault.Workers = codes "fault: workers"
 replay_line replay_fault.Window = codes "fault: window"
-
--- Why the first or the second report is none.
-abbrev pub refusal_text : Refusal → List ℕ
-refusal_text refusal.FirstHeading = codes "the first does not begin with uring-report 1"
-refusal_text refusal.FirstEnd = codes "the first has no line end"
-refusal_text refusal.SecondHeading = codes "the second does not begin with uring-report 1"
 
 -- The line of reports that are not compared.
 abbrev pub reports_line : ReportsFault → List ℕ
@@ -104,12 +97,14 @@ fault_ending fault = record { stream = fault_stream fault; status = status_of fa
 -- The ending where the words gave no options.
 abbrev pub usage_ending : UsageKind → Ending
 usage_ending usage.Help = record { stream = Some Output; status = 0 }
+usage_ending usage.Version = record { stream = Some Output; status = 0 }
 usage_ending usage.Wrong = record { stream = Some Errors; status = 2 }
 usage_ending usage.Memory = record { stream = Some Errors; status = 3 }
 
 -- The text that is printed then.
 abbrev pub text_by_kind : UsageKind → List ℕ → List ℕ
 text_by_kind usage.Help text = text
+text_by_kind usage.Version text = text
 text_by_kind usage.Wrong text = text
 text_by_kind usage.Memory text = codes "fault: memory\n"
 

@@ -1,8 +1,8 @@
 -- The model: the words of the command line, and the answers to them.
-use Rattle.std.specs.Prelude.{◌≡◌, ◌⊎◌, ⊤, ℕ, pos, Bool, true, false, List, [], ◌∷◌, ◌++◌, map, Option, Some, codes, Result, MatchResult, IsErrAnd, Contains}
+use Rattle.std.specs.Prelude.{◌≡◌, ◌⊎◌, ⊤, ℕ, pos, Bool, true, false, List, [], ◌∷◌, ◌++◌, map, Option, None, Some, codes, Result, MatchResult, IsErrAnd, Contains}
 use Rattle.std.specs.Option.{option_and_then, option_map}
 use Rattle.std.specs.Fmt.{decimal}
-use Rattle.clap.specs.Words.{App, Row, Rule, new_app, new_rule, app_of, one_of, rule_of, with_rule, with_subcommand}
+use Rattle.clap.specs.Words.{App, Row, Rule, new_app, new_rule, app_of, one_of, rule_of, with_rule, with_subcommand, first_of}
 use Rattle.clap.specs.Simple.{on_top}
 use Rattle.clap.specs.declared.builder.command.Command.TheViews.{out-Command}
 use Rattle.clap.specs.declared.builder.arg.Arg.{Arg}
@@ -10,15 +10,17 @@ use Rattle.clap.specs.declared.builder.command.Command.{Command}
 use Rattle.clap.specs.declared.builder.action.ArgAction.TheVariants.{SetTrue}
 use Rattle.clap.specs.declared.builder.value_parser.ValueParser.TheVariants.{Signed}
 use Rattle.clap.specs.declared.error.kind.ErrorKind.{ErrorKind}
-use Rattle.clap.specs.declared.error.kind.ErrorKind.TheVariants.{DisplayHelp, OutOfMemory}
+use Rattle.clap.specs.declared.error.kind.ErrorKind.TheVariants.{DisplayHelp, DisplayVersion, OutOfMemory}
 use Rattle.replay_program.specs.declared.words.Mode.{Mode}
 use Rattle.replay_program.specs.declared.words.Mode.TheVariants.{Serial, Run, Compare, Rounds, Check}
+use Rattle.replay_program.specs.declared.words.Files.{Files}
+use Rattle.replay_program.specs.declared.words.Request.{Request}
 use Rattle.replay_program.specs.declared.words.Task.{Task}
 use Rattle.replay_program.specs.declared.words.Task.TheVariants.{Replay, Diff}
 use Rattle.replay_program.specs.declared.words.Usage.{Usage}
 use Rattle.replay_program.specs.declared.words.UsageKind.{UsageKind}
 use Rattle.replay_report.specs.Report.{escaped}
-use Rattle.replay_program.specs.declared.words.UsageKind.TheVariants.{Help, Wrong, Memory}
+use Rattle.replay_program.specs.declared.words.UsageKind.TheVariants.{Help, Version, Wrong, Memory}
 use Rattle.replay_program.specs.Limits.{IsWindow, AreServed, IsServed}
 
 abbrev pub IsServedTask : Task → Type 0
@@ -46,11 +48,11 @@ abbrev pub dot_words : Bool → List (List ℕ)
 dot_words false = []
 dot_words true = codes "--dot" ∷ []
 
--- The words that ask for a mode, with sums or without: its name, and then its options. Only runs have sums.
+-- The words that ask for a mode, with sums or without: its name, and then its options. Only runs have sums. Which words ask for an eager run is not said here.
 abbrev pub AskForMode : Mode → Bool → List (List ℕ) → Type 0
 AskForMode Serial sums words = words ≡ codes "serial" ∷ sums_words sums
-AskForMode (Run workers window) sums words = (chosen : List (List ℕ)) × AreRoundOptions workers window chosen × (words ≡ codes "run" ∷ (chosen ++ sums_words sums))
-AskForMode (Compare workers window) sums words = (chosen : List (List ℕ)) × AreRoundOptions workers window chosen × (sums ≡ false) × (words ≡ codes "compare" ∷ chosen)
+AskForMode (Run workers window eager) sums words = (chosen : List (List ℕ)) × AreRoundOptions workers window chosen × (eager ≡ false) × (words ≡ codes "run" ∷ (chosen ++ sums_words sums))
+AskForMode (Compare workers window eager) sums words = (chosen : List (List ℕ)) × AreRoundOptions workers window chosen × (eager ≡ false) × (sums ≡ false) × (words ≡ codes "compare" ∷ chosen)
 AskForMode (Rounds window dot) sums words = (chosen : List (List ℕ)) × IsNumberOption (codes "--window") 64 window chosen × IsWindow window × (sums ≡ false) × (words ≡ codes "rounds" ∷ (chosen ++ dot_words dot))
 AskForMode Check sums words = (sums ≡ false) × (words ≡ codes "check" ∷ [])
 
@@ -58,30 +60,45 @@ abbrev pub AskFor : Task → List (List ℕ) → Type 0
 AskFor (Replay options) words = AskForMode options.mode options.sums words
 AskFor Diff words = words ≡ codes "diff" ∷ []
 
--- The words that ask for help.
+-- The words that ask for help, and for the version.
 abbrev pub AskForHelp : List (List ℕ) → Type 0
 AskForHelp words = (words ≡ codes "-h" ∷ []) ⊎ (words ≡ codes "--help" ∷ [])
 
--- The task, or want of memory.
-abbrev pub GivesTask : Result Task Usage → Task → Type 0
-GivesTask result task = MatchResult result (λ given. given ≡ task) (λ usage. usage.kind ≡ Memory)
+abbrev pub AskForVersion : List (List ℕ) → Type 0
+AskForVersion words = (words ≡ codes "-V" ∷ []) ⊎ (words ≡ codes "--version" ∷ [])
+
+-- No file is named: the task reads standard input and writes to standard output.
+abbrev pub HasNoNames : Files → Type 0
+HasNoNames files = (files.input ≡ None) × (files.second ≡ None) × (files.output ≡ None)
+
+-- The task from standard input to standard output.
+abbrev pub IsRequestFor : Task → Request → Type 0
+IsRequestFor task request = (request.task ≡ task) × HasNoNames request.files
+
+-- The same, or out of memory.
+abbrev pub GivesTask : Result Request Usage → Task → Type 0
+GivesTask result task = MatchResult result (IsRequestFor task) (λ usage. usage.kind ≡ Memory)
 
 -- What is said of an argument that is not text: its bytes as those of a path in a report.
 abbrev pub not_text : List ℕ → List ℕ
-not_text word = codes "error: the argument '" ++ escaped word ++ codes "' is not text\n\nFor more information, try '--help'.\n"
+not_text word = codes "error: the argument '" ++ escaped word ++ codes "' is not valid UTF-8\n\nFor more information, try '--help'.\n"
 
--- Help, or want of memory.
-abbrev pub GivesHelp : Result Task Usage → Type 0
+-- Help, or out of memory; and the version.
+abbrev pub GivesHelp : Result Request Usage → Type 0
 GivesHelp result = IsErrAnd result (λ usage. (usage.kind ≡ Help) ⊎ (usage.kind ≡ Memory))
+
+abbrev pub GivesVersion : Result Request Usage → Type 0
+GivesVersion result = IsErrAnd result (λ usage. (usage.kind ≡ Version) ⊎ (usage.kind ≡ Memory))
 
 -- What an error of the command line's parser is for the user.
 abbrev pub kind_meant : ErrorKind → UsageKind
 kind_meant DisplayHelp = Help
+kind_meant DisplayVersion = Version
 kind_meant OutOfMemory = Memory
 kind_meant _ = Wrong
 
--- A task only where the parser finds no fault, and else the kind of one that it finds, or want of memory.
-abbrev pub FailsByRules : List ErrorKind → Result Task Usage → Type 0
+-- A request only where the parser finds no fault, and else the kind of one that it finds, or out of memory.
+abbrev pub FailsByRules : List ErrorKind → Result Request Usage → Type 0
 FailsByRules faults result = MatchResult result (λ _. faults ≡ []) (λ usage. (usage.kind ≡ Memory) ⊎ Contains (map kind_meant faults) usage.kind)
 
 -- The text that the parser has for a flag, and the one that it found for `--sums` at the subcommand.
@@ -98,6 +115,16 @@ HasFlag sums found = text_in (codes "sums") found ≡ Some (flag_text sums)
 abbrev pub HasDot : Bool → Option (List ℕ × List Row) → Type 0
 HasDot dot found = text_in (codes "dot") found ≡ Some (flag_text dot)
 
+abbrev pub HasEager : Bool → Option (List ℕ × List Row) → Type 0
+HasEager eager found = text_in (codes "eager") found ≡ Some (flag_text eager)
+
+-- No name of a file was found.
+abbrev pub name_in : List ℕ → Option (List ℕ × List Row) → Option (List ℕ)
+name_in id found = option_and_then (λ p. first_of id p.1) found
+
+abbrev pub HasNoFiles : Option (List ℕ × List Row) → Type 0
+HasNoFiles found = (name_in (codes "file") found ≡ None) × (name_in (codes "second") found ≡ None) × (name_in (codes "output") found ≡ None)
+
 abbrev pub HasWindow : ℕ → Option (List ℕ × List Row) → Type 0
 HasWindow window found = (text_in (codes "window") found ≡ Some (decimal window)) × IsWindow window
 
@@ -110,14 +137,17 @@ IsNamed name found = option_map (λ p. p.0) found ≡ Some name
 -- What the parser finds where these options are asked for: the name of the subcommand, and its options as text.
 abbrev pub AreFound : Mode → Bool → Option (List ℕ × List Row) → Type 0
 AreFound Serial sums found = IsNamed (codes "serial") found × HasFlag sums found
-AreFound (Run workers window) sums found = IsNamed (codes "run") found × HasFlag sums found × HasNumbers workers window found
-AreFound (Compare workers window) sums found = IsNamed (codes "compare") found × (sums ≡ false) × HasNumbers workers window found
+AreFound (Run workers window eager) sums found = IsNamed (codes "run") found × HasFlag sums found × HasEager eager found × HasNumbers workers window found
+AreFound (Compare workers window eager) sums found = IsNamed (codes "compare") found × (sums ≡ false) × HasEager eager found × HasNumbers workers window found
 AreFound (Rounds window dot) sums found = IsNamed (codes "rounds") found × (sums ≡ false) × HasDot dot found × HasWindow window found
 AreFound Check sums found = IsNamed (codes "check") found × (sums ≡ false)
 
+abbrev pub IsTaskFound : Task → Option (List ℕ × List Row) → Type 0
+IsTaskFound (Replay options) found = AreFound options.mode options.sums found
+IsTaskFound Diff found = IsNamed (codes "diff") found
+
 abbrev pub IsFound : Task → Option (List ℕ × List Row) → Type 0
-IsFound (Replay options) found = AreFound options.mode options.sums found
-IsFound Diff found = IsNamed (codes "diff") found
+IsFound task found = IsTaskFound task found × HasNoFiles found
 
 -- The command line, as its parser sees it: a subcommand has to be named. The number of an option lies within its limits.
 abbrev pub sums_flag : Rule
@@ -125,6 +155,18 @@ sums_flag = record (new_rule (codes "sums")) { long = Some (codes "sums"); actio
 
 abbrev pub dot_flag : Rule
 dot_flag = record (new_rule (codes "dot")) { long = Some (codes "dot"); action = Some SetTrue }
+
+abbrev pub eager_flag : Rule
+eager_flag = record (new_rule (codes "eager")) { long = Some (codes "eager"); action = Some SetTrue }
+
+abbrev pub file_argument : Rule
+file_argument = record (new_rule (codes "file")) { value_names = 1 }
+
+abbrev pub second_argument : Rule
+second_argument = record (new_rule (codes "second")) { value_names = 1 }
+
+abbrev pub output_option : Rule
+output_option = record (new_rule (codes "output")) { short = Some 111; long = Some (codes "output"); value_names = 1 }
 
 abbrev pub number_option : List ℕ → ℕ → List ℕ → Rule
 number_option name most default =
@@ -140,10 +182,10 @@ abbrev pub serial_command : App
 serial_command = with_rule (new_app (codes "serial")) sums_flag
 
 abbrev pub run_command : App
-run_command = with_rule (with_rule (with_rule (new_app (codes "run")) workers_option) window_option) sums_flag
+run_command = with_rule (with_rule (with_rule (with_rule (new_app (codes "run")) workers_option) window_option) sums_flag) eager_flag
 
 abbrev pub compare_command : App
-compare_command = with_rule (with_rule (new_app (codes "compare")) workers_option) window_option
+compare_command = with_rule (with_rule (with_rule (new_app (codes "compare")) workers_option) window_option) eager_flag
 
 abbrev pub rounds_command : App
 rounds_command = with_rule (with_rule (new_app (codes "rounds")) window_option) dot_flag
@@ -154,16 +196,22 @@ check_command = new_app (codes "check")
 abbrev pub diff_command : App
 diff_command = new_app (codes "diff")
 
+-- A command with the names of its input and of its output.
+abbrev pub with_files : App → App
+with_files app = with_rule (with_rule app file_argument) output_option
+
 -- The command line with no subcommand, and with those that replay a trace.
 abbrev pub replayer_alone : App
-replayer_alone = on_top (λ s. record s { no_binary_name = true; subcommand_required = true }) (new_app (codes "uring_replay"))
+replayer_alone = on_top (λ s. record s { has_version = true; no_binary_name = true; subcommand_required = true }) (new_app (codes "uring_replay"))
 
 abbrev pub with_replays : App → App
-with_replays app = with_subcommand (with_subcommand (with_subcommand app serial_command.top) run_command.top) compare_command.top
+with_replays app = with_subcommand (with_subcommand (with_subcommand app (with_files serial_command).top) (with_files run_command).top) (with_files compare_command).top
 
 -- The whole command line.
 abbrev pub replayer : App
-replayer = with_subcommand (with_subcommand (with_subcommand (with_replays replayer_alone) rounds_command.top) check_command.top) diff_command.top
+replayer =
+    let reading = with_subcommand (with_subcommand (with_replays replayer_alone) (with_files rounds_command).top) (with_files check_command).top in
+    with_subcommand reading (with_rule (with_files diff_command) second_argument).top
 
 -- What the parser sees of an argument and of a subcommand; neither is one of all levels.
 abbrev pub IsRule : Rule → Arg → Type 0

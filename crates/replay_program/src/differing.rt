@@ -2,14 +2,16 @@
 ghost use Rattle.std.specs.Prelude.{◌≡◌, ◌≢◌, ◌+◌, ◌-◌, ◌^◌, ◌<◌, IfErr, IfOk, OnOk, false, true};
 ghost use Rattle.std.specs.Io.KnownBytes.{Keeps};
 ghost use Rattle.replay_program.specs.Diffs.{ComparesReports, TellsOfReports, WritesDifferences};
-ghost use Rattle.replay_program.specs.Diffs.{WritesDifferencesPart};
+ghost use Rattle.replay_program.specs.Diffs.{ComparesTwoReports, ReadsAll, TellsOfText};
+ghost use Rattle.replay_program.specs.Diffs.{TellsOfTwoReports, WritesDifferencesOfTwo};
+ghost use Rattle.replay_program.specs.Diffs.{WritesDifferencesPart, WritesPartOfTwo};
 ghost use Rattle.replay_program.specs.Runs.{most_taken, read_failures, write_failures};
 ghost use Rattle.replay_program.specs.Transfer.{ConsumesUpTo};
 
 use crate::fault::{ReportsFault, RunFault};
 use crate::session::written;
 use crate::transfer::{MOST_BYTES, Sink, Source, TextFault, read_text};
-use report_diff::{Comparison, DiffFault, compare};
+use report_diff::{Comparison, DiffFault, compare, compare_two};
 use std::alloc::Global;
 
 /// Reads two reports, one after another, compares them and writes where they differ. Nothing is
@@ -17,8 +19,8 @@ use std::alloc::Global;
 ///
 /// # Errors
 ///
-/// Different where they differ, with the whole text written; Reports where they are refused, or for
-/// want of memory; Read and Write at a call that failed.
+/// Different where they differ, with the whole text written; Reports where they are refused, or when
+/// out of memory; Read and Write at a call that failed.
 pub fn run_diff<R: Source, W: Sink>(
     alloc: Global,
     reader: &mut R,
@@ -77,4 +79,94 @@ fn taken_comparison<R: Source>(alloc: Global, reader: &mut R) -> Result<Comparis
         Err(DiffFault::Refused(why)) => Err(RunFault::Reports(ReportsFault::Refused(why))),
         Err(DiffFault::Memory) => Err(RunFault::Reports(ReportsFault::Memory)),
     }
+}
+
+/// Reads two reports, each from a reader of its own, compares them and writes where they differ.
+/// Nothing is written before the whole text is there, and the run ends at the first failure of a
+/// side.
+///
+/// # Errors
+///
+/// As those of [`run_diff`].
+pub fn run_diff_of_two<R: Source, S: Source, W: Sink>(
+    alloc: Global,
+    first: &mut R,
+    second: &mut S,
+    writer: &mut W,
+) -> Result<(), RunFault>
+    requires first { R.failures first.old < 2 ^ 64 - 1 }
+    requires second { S.failures second.old < 2 ^ 64 - 1 }
+    requires writer { W.failures writer.old < 2 ^ 64 - 1 }
+
+    // The text is the one of the two reports that the bytes of both readers are.
+    ensures alike { OnOk result (WritesDifferencesOfTwo true (R.left first.old) (R.left first.new)
+        (S.left second.old) (S.left second.new) (W.written writer.old) (W.written writer.new)) }
+    ensures different { result ≡ Err RunFault.Different
+        → WritesDifferencesOfTwo false (R.left first.old) (R.left first.new)
+        (S.left second.old) (S.left second.new) (W.written writer.old) (W.written writer.new) }
+    ensures part { result ≡ Err RunFault.Write
+        → WritesPartOfTwo (R.left first.old) (R.left first.new)
+        (S.left second.old) (S.left second.new) (W.written writer.old) (W.written writer.new) }
+    ensures nothing { IfErr result (λ fault. fault ≢ RunFault.Write → fault ≢ RunFault.Different
+        → Keeps (W.written writer.old) (W.written writer.new)) }
+
+    ensures taken { ConsumesUpTo most_taken (R.left first.old) (R.left first.new)
+        × ConsumesUpTo most_taken (S.left second.old) (S.left second.new) }
+    ensures reading { IfErr result (TellsOfTwoReports (R.left first.old) (R.left first.new)
+        (S.left second.old) (S.left second.new)) }
+    ensures write { W.failures writer.new ≡ W.failures writer.old + write_failures result }
+{
+    let comparison = comparison_of_two(alloc, first, second)?;
+    written(writer, comparison.text.as_slice())?;
+    if comparison.alike {
+        Ok(())
+    } else {
+        Err(RunFault::Different)
+    }
+}
+
+/// How the reports that two readers have left compare.
+fn comparison_of_two<R: Source, S: Source>(
+    alloc: Global,
+    first: &mut R,
+    second: &mut S,
+) -> Result<Comparison, RunFault>
+    requires first { R.failures first.old < 2 ^ 64 - 1 }
+    requires second { S.failures second.old < 2 ^ 64 - 1 }
+    ensures ok { IfOk result (ComparesTwoReports (R.left first.old) (R.left first.new)
+        (S.left second.old) (S.left second.new)) }
+    ensures taken { ConsumesUpTo most_taken (R.left first.old) (R.left first.new)
+        × ConsumesUpTo most_taken (S.left second.old) (S.left second.new) }
+    ensures err { IfErr result (TellsOfTwoReports (R.left first.old) (R.left first.new)
+        (S.left second.old) (S.left second.new)) }
+    ensures write { write_failures result ≡ 0 }
+    ensures neither { IfErr result
+        (λ fault. (fault ≢ RunFault.Write) × (fault ≢ RunFault.Different)) }
+{
+    let one = report_text(alloc, first)?;
+    let other = report_text(alloc, second)?;
+    match compare_two(alloc, one.as_slice(), other.as_slice()) {
+        Ok(comparison) => Ok(comparison),
+        Err(DiffFault::Refused(why)) => Err(RunFault::Reports(ReportsFault::Refused(why))),
+        Err(DiffFault::Memory) => Err(RunFault::Reports(ReportsFault::Memory)),
+    }
+}
+
+/// All that a reader has left, where it is not too long for reports.
+fn report_text<R: Source>(alloc: Global, reader: &mut R) -> Result<Vec<u8>, RunFault>
+    requires { R.failures reader.old < 2 ^ 64 - 1 }
+    ensures ok { IfOk result (λ text. ReadsAll (R.left reader.old) (R.left reader.new) text.items) }
+    ensures taken { ConsumesUpTo most_taken (R.left reader.old) (R.left reader.new) }
+    ensures err { IfErr result (TellsOfText (R.left reader.old) (R.left reader.new)) }
+    ensures read { R.failures reader.new ≡ R.failures reader.old + read_failures result }
+{
+    let text = match read_text(alloc, reader) {
+        Ok(text) => text,
+        Err(TextFault::Read) => return Err(RunFault::Read),
+        Err(TextFault::Memory) => return Err(RunFault::Reports(ReportsFault::Memory)),
+    };
+    if text.len() == MOST_BYTES {
+        return Err(RunFault::Reports(ReportsFault::TooLong));
+    }
+    Ok(text)
 }

@@ -24,7 +24,7 @@ pub fn usage_ending(usage: &Usage) -> Ending
     ensures { result ≡ usage_ending usage.now.kind }
 {
     let (stream, status) = match usage.kind {
-        UsageKind::Help => (Stream::Output, 0),
+        UsageKind::Help | UsageKind::Version => (Stream::Output, 0),
         UsageKind::Wrong => (Stream::Errors, 2),
         UsageKind::Memory => (Stream::Errors, 3),
     };
@@ -34,12 +34,12 @@ pub fn usage_ending(usage: &Usage) -> Ending
     }
 }
 
-/// What is printed there. For want of memory it is a line of its own, which takes none.
+/// What is printed there. When out of memory it is a line of its own, which takes none.
 pub fn usage_text(usage: &Usage) -> &str
     ensures { result.now ≡ usage_text usage.now }
 {
     match usage.kind {
-        UsageKind::Help | UsageKind::Wrong => usage.text.as_str(),
+        UsageKind::Help | UsageKind::Version | UsageKind::Wrong => usage.text.as_str(),
         UsageKind::Memory => "fault: memory\n",
     }
 }

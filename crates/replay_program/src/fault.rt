@@ -1,7 +1,6 @@
 //! Why a run of the program gives no output.
 ghost use Rattle.std.specs.Prelude.{◌≡◌, Some};
-ghost use Rattle.replay_program.specs.Status.{fault_line, kind_name, replay_line, reports_line};
-ghost use Rattle.replay_program.specs.Status.{status_of};
+ghost use Rattle.replay_program.specs.Status.{fault_line, kind_name, replay_line, status_of};
 
 use replay_core::ReplayFault;
 use report_diff::Refusal;
@@ -80,7 +79,11 @@ impl fmt::Display for RunFault {
                 write!(f, "trace refused: {name} at {at}")
             }
             RunFault::Replay(fault) => f.write_str(replay_line(fault)),
-            RunFault::Reports(fault) => f.write_str(reports_line(fault)),
+            RunFault::Reports(ReportsFault::Refused(why)) => write!(f, "reports refused: {why}"),
+            RunFault::Reports(ReportsFault::TooLong) => {
+                f.write_str("reports refused: more than 1073741824 bytes")
+            }
+            RunFault::Reports(ReportsFault::Memory) => f.write_str("fault: memory"),
             RunFault::Read => f.write_str("fault: read"),
             RunFault::Write => f.write_str("fault: write"),
             RunFault::Different => f.write_str("different"),
@@ -117,22 +120,5 @@ fn replay_line(fault: ReplayFault) -> &'static str
         ReplayFault::NoThread => "fault: thread",
         ReplayFault::Workers => "fault: workers",
         ReplayFault::Window => "fault: window",
-    }
-}
-
-/// The line where reports are not compared.
-fn reports_line(fault: ReportsFault) -> &'static str
-    ensures { result.now ≡ reports_line fault }
-{
-    match fault {
-        ReportsFault::Memory => "fault: memory",
-        ReportsFault::TooLong => "reports refused: more than 1073741824 bytes",
-        ReportsFault::Refused(Refusal::FirstHeading) => {
-            "reports refused: the first does not begin with uring-report 1"
-        }
-        ReportsFault::Refused(Refusal::FirstEnd) => "reports refused: the first has no line end",
-        ReportsFault::Refused(Refusal::SecondHeading) => {
-            "reports refused: the second does not begin with uring-report 1"
-        }
     }
 }

@@ -9,9 +9,11 @@ mod session;
 mod transfer;
 mod words;
 
-pub use differing::run_diff;
+pub use differing::{run_diff, run_diff_of_two};
 pub use ending::{Ending, Stream, fault_ending, usage_ending, usage_text};
 pub use fault::{ReportsFault, RunFault};
 pub use session::{run, run_alone, told};
 pub use transfer::{Failed, FromStd, MOST_BYTES, Sink, Source, TextFault, read_text, write_text};
-pub use words::{Mode, Options, Task, Usage, UsageKind, no_memory, not_text, read_words};
+pub use words::{
+    Files, Mode, Options, Request, Task, Usage, UsageKind, no_memory, not_text, read_words,
+};

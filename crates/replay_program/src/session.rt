@@ -3,15 +3,13 @@ ghost use Rattle.std.specs.Prelude.{◌≡◌, ◌≢◌, ◌⊎◌, ◌≤◌, 
 ghost use Rattle.std.specs.Prelude.{OnErr, string_bytes};
 ghost use Rattle.std.specs.Io.KnownBytes.{Appends, Keeps};
 ghost use Rattle.op_meaning.specs.Step.{sequential_replies, sequential_world};
-ghost use Rattle.replay_core.specs.Rounds.{IsReplay};
-ghost use Rattle.replay_core.specs.Serial.{IsSequential};
 ghost use Rattle.trace_format.specs.Grammar.{fault};
 ghost use Rattle.trace_format.specs.Text.{IsRefusal, IsSpelled, SpellsTrace};
 ghost use Rattle.trace_format.specs.declared.fault.Kind.TheVariants.{Memory};
 ghost use Rattle.world_parts.specs.Part.{whole};
 ghost use Rattle.replay_program.specs.Runs.{IsAlone, IsNoComparison, ReadsTrace};
 ghost use Rattle.replay_program.specs.Runs.{ReplayWantsMemoryOrThread, TellsOfReading};
-ghost use Rattle.replay_program.specs.Runs.{WantsMemoryOrThread};
+ghost use Rattle.replay_core.specs.Comparing.{WantsMemoryOrThread};
 ghost use Rattle.replay_program.specs.Runs.{WritesOutput, WritesPart, most_taken, output_of};
 ghost use Rattle.replay_program.specs.Runs.{read_failures, rounds_output, sequential_report};
 ghost use Rattle.replay_program.specs.Runs.{verdict_line, write_failures};
@@ -21,11 +19,12 @@ ghost use Rattle.replay_program.specs.Limits.{IsServed, IsWindow};
 use crate::fault::RunFault;
 use crate::transfer::{Sink, Source, TextFault, read_text, write_text};
 use crate::words::{Mode, Options};
-use replay_core::comparing::verdict_on;
 use replay_core::parallel::replay;
 use replay_core::quick::replay_quick;
 use replay_core::round_log::log_rounds;
-use replay_core::{NoGate, Replay, ReplayFault, Verdict, replay_serial};
+use replay_core::{
+    EagerGate, InOrder, InRounds, Replay, ReplayFault, Verdict, compared_by, replay_serial,
+};
 use replay_report::{check_text, report_text, report_text_on};
 use round_report::{graph_text, rounds_text};
 use std::alloc::{AllocError, Global};
@@ -90,8 +89,13 @@ pub fn run<T: Threads + Wait + Sync, R: Source, W: Sink>(
     ensures same { result ≢ Err RunFault.Different }
 {
     let trace = taken_trace(alloc, reader)?;
-    if let Mode::Compare { workers, window } = options.mode {
-        let verdict = comparison(rt, alloc, &trace, workers, window)?;
+    if let Mode::Compare {
+        workers,
+        window,
+        eager,
+    } = options.mode
+    {
+        let verdict = comparison(rt, alloc, &trace, workers, window, eager)?;
         return told(alloc, writer, verdict);
     }
     let output = output_in_rounds(rt, alloc, &trace, options)?;
@@ -112,8 +116,12 @@ fn output_in_rounds<T: Threads + Wait + Sync>(
     ensures err { IfErr result ReplayWantsMemoryOrThread }
 {
     match options.mode {
-        Mode::Run { workers, window } => {
-            parallel_report(rt, alloc, trace, workers, window, options.sums).map_err(
+        Mode::Run {
+            workers,
+            window,
+            eager,
+        } => {
+            parallel_report(rt, alloc, trace, workers, window, eager, options.sums).map_err(
                 RunFault::Replay,
             )
         }
@@ -149,13 +157,15 @@ fn rounds_output<T: Threads + Wait + Sync>(
     }
 }
 
-/// The report of the run in rounds, or of that in recorded order where rounds can't pay.
+/// The report of the run in rounds, or of that in recorded order where rounds can't pay; of one that
+/// is eager always of that in rounds.
 fn parallel_report<T: Threads + Wait + Sync>(
     rt: &T,
     alloc: Global,
     trace: &Trace,
     workers: u32,
     window: u32,
+    eager: bool,
     sums: bool,
 ) -> Result<Vec<u8>, ReplayFault>
     requires trace { IsSpelled trace.now }
@@ -164,8 +174,13 @@ fn parallel_report<T: Threads + Wait + Sync>(
     ensures ok { IfOk result (λ text. text.items ≡ sequential_report trace.now sums) }
     ensures err { IfErr result WantsMemoryOrThread }
 {
-    let replay = replay_quick(rt, alloc, trace, workers, window)?;
-    report_on(rt, alloc, trace, &replay, sums, workers)
+    if eager {
+        let replay = replay(rt, alloc, trace, workers, window, &EagerGate)?;
+        report_on(rt, alloc, trace, &replay, sums, workers)
+    } else {
+        let replay = replay_quick(rt, alloc, trace, workers, window)?;
+        report_on(rt, alloc, trace, &replay, sums, workers)
+    }
 }
 
 /// The report of what the run in recorded order gives, whose sums are made on up to so many threads.
@@ -190,13 +205,14 @@ fn report_on<T: Threads + Sync>(
     }
 }
 
-/// The verdict of a comparison of both runs.
+/// How the run in rounds compares with the one in recorded order.
 fn comparison<T: Threads + Wait + Sync>(
     rt: &T,
     alloc: Global,
     trace: &Trace,
     workers: u32,
     window: u32,
+    eager: bool,
 ) -> Result<Verdict, RunFault>
     requires trace { IsSpelled trace.now }
     requires workers { (1 ≤ workers) × (workers ≤ 64) }
@@ -204,71 +220,16 @@ fn comparison<T: Threads + Wait + Sync>(
     ensures ok { IfOk result (λ verdict. verdict ≡ Verdict.Equal) }
     ensures err { IfErr result ReplayWantsMemoryOrThread }
 {
-    match compared(rt, alloc, trace, workers, window) {
+    let in_order = InOrder { trace };
+    let in_rounds = InRounds {
+        trace,
+        workers,
+        window,
+        eager,
+    };
+    match compared_by(rt, alloc, &in_order, &in_rounds, workers) {
         Ok(verdict) => Ok(verdict),
         Err(fault) => Err(RunFault::Replay(fault)),
-    }
-}
-
-/// How the run in rounds compares with the one in recorded order.
-fn compared<T: Threads + Wait + Sync>(
-    rt: &T,
-    alloc: Global,
-    trace: &Trace,
-    workers: u32,
-    window: u32,
-) -> Result<Verdict, ReplayFault>
-    requires trace { IsSpelled trace.now }
-    requires workers { (1 ≤ workers) × (workers ≤ 64) }
-    requires window { (1 ≤ window) × (window ≤ 4096) }
-    ensures ok { IfOk result (λ verdict. verdict ≡ Verdict.Equal) }
-    ensures err { IfErr result WantsMemoryOrThread }
-{
-    let serial = replay_serial(alloc, trace)?;
-    compared_with(rt, alloc, trace, workers, window, &serial)
-}
-
-/// How the run in rounds compares with another replay, that in recorded order.
-fn compared_with<T: Threads + Wait + Sync>(
-    rt: &T,
-    alloc: Global,
-    trace: &Trace,
-    workers: u32,
-    window: u32,
-    serial: &Replay,
-) -> Result<Verdict, ReplayFault>
-    requires trace { IsSpelled trace.now }
-    requires workers { (1 ≤ workers) × (workers ≤ 64) }
-    requires window { (1 ≤ window) × (window ≤ 4096) }
-    requires serial { IsSequential trace.now serial.now }
-    ensures ok { IfOk result (λ verdict. verdict ≡ Verdict.Equal) }
-    ensures err { IfErr result WantsMemoryOrThread }
-{
-    let parallel = boxed_replay(rt, alloc, trace, workers, window)?;
-    match verdict_on(rt, alloc, serial, &parallel, workers) {
-        Ok(verdict) => Ok(verdict),
-        Err(AllocError) => Err(ReplayFault::Memory),
-    }
-}
-
-/// The run in rounds, in a box, which is let go in one step.
-fn boxed_replay<T: Threads + Wait + Sync>(
-    rt: &T,
-    alloc: Global,
-    trace: &Trace,
-    workers: u32,
-    window: u32,
-) -> Result<Box<Replay>, ReplayFault>
-    requires trace { IsSpelled trace.now }
-    requires workers { (1 ≤ workers) × (workers ≤ 64) }
-    requires window { (1 ≤ window) × (window ≤ 4096) }
-    ensures ok { IfOk result (λ parallel. IsReplay trace.now window parallel.value) }
-    ensures err { IfErr result WantsMemoryOrThread }
-{
-    let parallel = replay(rt, alloc, trace, workers, window, &NoGate)?;
-    match Box::new(alloc, parallel) {
-        Ok(parallel) => Ok(parallel),
-        Err(_) => Err(ReplayFault::Memory),
     }
 }
 

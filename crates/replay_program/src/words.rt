@@ -3,16 +3,19 @@ ghost use Rattle.std.specs.Prelude.{◌≡◌, ◌≤◌, ◌⊎◌, ℕ, string
 ghost use Rattle.std.specs.Prelude.{Some, map};
 ghost use Rattle.std.specs.Fmt.{decimal};
 ghost use Rattle.clap.specs.Words.{App, FailsBy, app_of, fault_of, found_of, kind_of, one_text};
-ghost use Rattle.clap.specs.Words.{subcommand_rows_of, with_subcommand};
-ghost use Rattle.replay_program.specs.Words.{AreFound, AskFor, AskForHelp, FailsByRules, GivesHelp};
-ghost use Rattle.replay_program.specs.Words.{GivesTask, HasApp, IsFound, IsRule};
-ghost use Rattle.replay_program.specs.Limits.{IsServed};
-ghost use Rattle.replay_program.specs.Words.{IsServedTask, check_command, compare_command};
-ghost use Rattle.replay_program.specs.Words.{diff_command, dot_flag, kind_meant, not_text};
-ghost use Rattle.replay_program.specs.Words.{replayer, replayer_alone, rounds_command, run_command};
-ghost use Rattle.replay_program.specs.Words.{serial_command};
-ghost use Rattle.replay_program.specs.Words.{sums_flag, window_option, with_replays};
+ghost use Rattle.clap.specs.Words.{subcommand_rows_of, with_rule, with_subcommand};
+ghost use Rattle.replay_program.specs.Words.{AreFound, AskFor, AskForHelp, AskForVersion};
+ghost use Rattle.replay_program.specs.Words.{FailsByRules, GivesHelp, GivesTask, GivesVersion};
+ghost use Rattle.replay_program.specs.Words.{HasApp, HasNoFiles, HasNoNames, IsFound, IsRequestFor};
+ghost use Rattle.replay_program.specs.Words.{IsTaskFound};
+ghost use Rattle.replay_program.specs.Words.{IsRule, IsServedTask, check_command, compare_command};
+ghost use Rattle.replay_program.specs.Words.{diff_command, dot_flag, eager_flag, file_argument};
+ghost use Rattle.replay_program.specs.Words.{kind_meant, not_text, output_option, replayer};
+ghost use Rattle.replay_program.specs.Words.{replayer_alone, rounds_command, run_command};
+ghost use Rattle.replay_program.specs.Words.{second_argument, serial_command, sums_flag};
+ghost use Rattle.replay_program.specs.Words.{window_option, with_files, with_replays};
 ghost use Rattle.replay_program.specs.Words.{workers_option};
+ghost use Rattle.replay_program.specs.Limits.{IsServed};
 
 use clap::error::ErrorKind;
 use clap::{Arg, ArgAction, ArgMatches, Command, Error, value_parser};
@@ -24,13 +27,26 @@ use std::alloc::{AllocError, Global};
 pub enum Mode {
     /// A run of the places in recorded order, and its report.
     Serial,
-    /// A run on worker threads, in rounds where these may pay, and its report.
-    Run { workers: u32, window: u32 },
-    /// Both runs, and whether they gave the same, in one line.
-    Compare { workers: u32, window: u32 },
+    /// A run on worker threads, in rounds where these may pay or, where it is eager, always, and its
+    /// report.
+    Run {
+        workers: u32,
+        window: u32,
+        eager: bool,
+    },
+    /// Both runs, and whether they gave the same, in one line. An eager one runs every round of two
+    /// places or more on threads.
+    Compare {
+        workers: u32,
+        window: u32,
+        eager: bool,
+    },
     /// In which round each place runs and for which one it waited, as lines or, with `dot`, as a
     /// graph.
-    Rounds { window: u32, dot: bool },
+    Rounds {
+        window: u32,
+        dot: bool,
+    },
     /// How many places and rings the trace has, in one line. Nothing is run.
     Check,
 }
@@ -46,25 +62,60 @@ pub struct Options {
 /// What the words ask for.
 #[derive(Clone, Copy, Debug, PartialEq, Eq)]
 pub enum Task {
-    /// A mode, with a trace from standard input.
+    /// A mode, with a trace.
     Replay(Options),
-    /// A comparison of two reports from standard input.
+    /// A comparison of two reports.
     Diff,
 }
 
+/// The names of files that the words give. No name, and for an input the name `-`, stands for
+/// standard input or standard output.
+#[derive(Clone, Copy, Debug, PartialEq, Eq)]
+pub struct Files<'a> {
+    pub input: Option<&'a str>,
+    /// The second report of a comparison; where it has no name, both come from the first input.
+    pub second: Option<&'a str>,
+    pub output: Option<&'a str>,
+}
+
+/// A task, and the files that it reads and writes.
+#[derive(Clone, Copy, Debug, PartialEq, Eq)]
+pub struct Request<'a> {
+    pub task: Task,
+    pub files: Files<'a>,
+}
+
+/// The version of the program, and of the formats that it reads and writes. It stands here alone.
+const VERSION: &str = "0.1.0
+trace formats 1 and 2
+report format 1";
+
 /// What help says at its end.
-const STATUSES: &str = "Exit status:
+const STATUSES: &str = "Examples:
+  uring_replay check a.trace
+  uring_replay serial a.trace --sums --output a.report
+  uring_replay diff a.report b.report
+
+Exit status:
   0  done
-  1  the trace is refused, or the reports
-  2  wrong words
-  3  memory, a thread, reading or writing failed
+  1  the input is not a trace, or not two reports
+  2  invalid command line
+  3  out of memory, no thread, or an input or output error
   4  `compare` or `diff` found a difference";
+
+/// What the help of a command that reads a trace says of its input.
+const TRACE: &str = "The trace; `-` or nothing: standard input";
+
+/// What that of `diff` says of its inputs.
+const FIRST_REPORT: &str = "The first report, or both in one file; `-` or nothing: standard input";
 
 /// Why the words give no options.
 #[derive(Clone, Copy, Debug, PartialEq, Eq)]
 pub enum UsageKind {
     /// The words ask for help: the text is for standard output.
     Help,
+    /// The words ask for the version: the text is for standard output.
+    Version,
     /// The words are wrong: the text is for standard error.
     Wrong,
     /// Memory ran out, perhaps for the text.
@@ -86,42 +137,77 @@ const MOST_PLACES: u32 = 4096;
 
 /// Reads the words after the program's name: `serial` and `run`, with `--sums` or without,
 /// `compare`, `rounds`, with `--dot` or without, `check` or `diff`; `run` and `compare` with the
-/// numbers of workers and of places or without, `rounds` with that of places. Any other words are
-/// wrong, unless they ask for help.
-pub fn read_words<'a>(alloc: Global, words: &'a [&'a str]) -> Result<Task, Usage>
+/// numbers of workers and of places or without, `rounds` with that of places; each with the names of
+/// its input and output or without. Any other words are wrong, unless they ask for help or for the
+/// version.
+pub fn read_words<'a>(alloc: Global, words: &'a [&'a str]) -> Result<Request<'a>, Usage>
     ensures task { (task : Task) → AskFor task (map (λ word. word.now) words.now)
         → GivesTask result task }
     ensures help { AskForHelp (map (λ word. word.now) words.now) → GivesHelp result }
-    ensures served { IfOk result IsServedTask }
+    ensures version { AskForVersion (map (λ word. word.now) words.now) → GivesVersion result }
+    ensures served { IfOk result (λ request. IsServedTask request.task) }
 
     // All other words by the rules of the command line.
     ensures rules { FailsByRules (fault_of replayer (map (λ word. word.now) words.now)) result }
 {
     match parsed(alloc, words) {
-        Ok(task) => Ok(task),
+        Ok(request) => Ok(request),
         Err(error) => Err(usage_of(alloc, &error)),
     }
 }
 
-fn parsed<'a>(alloc: Global, words: &'a [&'a str]) -> Result<Task, Error>
+fn parsed<'a>(alloc: Global, words: &'a [&'a str]) -> Result<Request<'a>, Error>
     ensures task { (task : Task) → AskFor task (map (λ word. word.now) words.now)
-        → MatchResult result (λ given. given ≡ task)
+        → MatchResult result (IsRequestFor task)
         (λ error. kind_of error ≡ ErrorKind.OutOfMemory) }
     ensures help { AskForHelp (map (λ word. word.now) words.now) → IsErrAnd result (λ error.
         (kind_of error ≡ ErrorKind.DisplayHelp) ⊎ (kind_of error ≡ ErrorKind.OutOfMemory)) }
-    ensures served { IfOk result IsServedTask }
+    ensures version { AskForVersion (map (λ word. word.now) words.now) → IsErrAnd result (λ error.
+        (kind_of error ≡ ErrorKind.DisplayVersion) ⊎ (kind_of error ≡ ErrorKind.OutOfMemory)) }
+    ensures served { IfOk result (λ request. IsServedTask request.task) }
     ensures rules { FailsBy (fault_of replayer (map (λ word. word.now) words.now)) result }
 {
     let command = program(alloc)?;
     match command.try_get_matches_from(words) {
-        Ok(matches) => Ok(task_in(&matches)),
+        Ok(matches) => Ok(request_in(&matches)),
         Err(error) => Err(error),
     }
 }
 
 /// What the subcommand that was named asks for.
+fn request_in<'a>(matches: &ArgMatches<'a>) -> Request<'a>
+    ensures task { (task : Task) → IsFound task (subcommand_rows_of matches.now)
+        → IsRequestFor task result }
+    ensures served { IsServedTask result.task }
+{
+    Request {
+        task: task_in(matches),
+        files: files_in(matches),
+    }
+}
+
+/// The files that are named behind the subcommand.
+fn files_in<'a>(matches: &ArgMatches<'a>) -> Files<'a>
+    ensures { HasNoFiles (subcommand_rows_of matches.now) → HasNoNames result }
+{
+    match matches.subcommand() {
+        Some((_, chosen)) => Files {
+            input: chosen.get_str("file"),
+            second: chosen.get_str("second"),
+            output: chosen.get_str("output"),
+        },
+        None => Files {
+            input: None,
+            second: None,
+            output: None,
+        },
+    }
+}
+
+/// The task of the subcommand that was named.
 fn task_in(matches: &ArgMatches<'_>) -> Task
-    ensures task { (task : Task) → IsFound task (subcommand_rows_of matches.now) → result ≡ task }
+    ensures task { (task : Task) → IsTaskFound task (subcommand_rows_of matches.now)
+        → result ≡ task }
     ensures served { IsServedTask result }
 {
     match matches.subcommand() {
@@ -146,6 +232,7 @@ fn options_in(matches: &ArgMatches<'_>) -> Options
             mode: Mode::Run {
                 workers: number_in(chosen, "workers", MOST_WORKERS),
                 window: number_in(chosen, "window", MOST_PLACES),
+                eager: chosen.get_flag("eager"),
             },
             sums: chosen.get_flag("sums"),
         },
@@ -153,6 +240,7 @@ fn options_in(matches: &ArgMatches<'_>) -> Options
             mode: Mode::Compare {
                 workers: number_in(chosen, "workers", MOST_WORKERS),
                 window: number_in(chosen, "window", MOST_PLACES),
+                eager: chosen.get_flag("eager"),
             },
             sums: false,
         },
@@ -188,9 +276,10 @@ fn program<'a>(alloc: Global) -> Result<Command<'a>, AllocError>
     ensures { IfOk result (λ command. app_of command ≡ replayer) }
 {
     let command = with_replays(alloc, program_alone(alloc)?)?;
-    let command = with_subcommand(command, rounds_command(alloc))?;
-    let command = with_subcommand(command, Ok(check_command(alloc)))?;
-    with_subcommand(command, Ok(diff_command(alloc)))
+    let command = with_subcommand(command, with_files(alloc, TRACE, rounds_command(alloc)))?;
+    let command = with_subcommand(command, with_files(alloc, TRACE, Ok(check_command(alloc))))?;
+    let reports = with_files(alloc, FIRST_REPORT, Ok(diff_command(alloc)));
+    with_subcommand(command, with_second(alloc, reports))
 }
 
 /// A command line with a subcommand more, where there was memory for that.
@@ -204,14 +293,40 @@ fn with_subcommand<'a>(
     command.subcommand(more?)
 }
 
+/// A command that may be given the names of its input and of its output.
+fn with_files<'a>(
+    alloc: Global,
+    input: &'a str,
+    command: Result<Command<'a>, AllocError>,
+) -> Result<Command<'a>, AllocError>
+    ensures { (app : App) → IfOk command.entry (HasApp app)
+        → IfOk result (λ more. HasApp (with_files app) more) }
+{
+    command?
+        .arg(file_argument(alloc, input))?
+        .arg(output_option(alloc))
+}
+
+/// A command that may be given the name of a second input.
+fn with_second<'a>(
+    alloc: Global,
+    command: Result<Command<'a>, AllocError>,
+) -> Result<Command<'a>, AllocError>
+    ensures { (app : App) → IfOk command.entry (HasApp app)
+        → IfOk result (λ more. HasApp (with_rule app second_argument) more) }
+{
+    command?.arg(second_argument(alloc))
+}
+
 /// The command line with no subcommand.
 fn program_alone<'a>(alloc: Global) -> Result<Command<'a>, AllocError>
     ensures { IfOk result (λ command. app_of command ≡ replayer_alone) }
 {
     let command = Command::new(alloc, "uring_replay")
         .bin_name("uring_replay")?
-        .about("Replays a recorded trace from standard input")
+        .about("Execute recorded io_uring submissions in memory and report every result")
         .after_help(STATUSES)
+        .version(VERSION)
         .no_binary_name(true)
         .subcommand_required(true);
     Ok(command)
@@ -221,16 +336,17 @@ fn program_alone<'a>(alloc: Global) -> Result<Command<'a>, AllocError>
 fn with_replays<'a>(alloc: Global, command: Command<'a>) -> Result<Command<'a>, AllocError>
     ensures { IfOk result (λ more. app_of more ≡ with_replays (app_of command.entry)) }
 {
-    let command = with_subcommand(command, serial_command(alloc))?;
-    let command = with_subcommand(command, run_command(alloc))?;
-    with_subcommand(command, compare_command(alloc))
+    let command = with_subcommand(command, with_files(alloc, TRACE, serial_command(alloc)))?;
+    let command = with_subcommand(command, with_files(alloc, TRACE, run_command(alloc)))?;
+    with_subcommand(command, with_files(alloc, TRACE, compare_command(alloc)))
 }
 
 fn serial_command<'a>(alloc: Global) -> Result<Command<'a>, AllocError>
     ensures { IfOk result (λ command. HasApp serial_command command) }
 {
     Command::new(alloc, "serial")
-        .about("Runs the places in recorded order and prints the report")
+        .after_help("Example: uring_replay serial a.trace --output a.report")
+        .about("Execute one entry at a time, in recorded order, and print the report")
         .arg(sums_flag(alloc))
 }
 
@@ -238,26 +354,33 @@ fn run_command<'a>(alloc: Global) -> Result<Command<'a>, AllocError>
     ensures { IfOk result (λ command. HasApp run_command command) }
 {
     Command::new(alloc, "run")
-        .about("Runs the places on worker threads, where that pays, and prints the report")
+        .after_help("Example: uring_replay run a.trace --sums --workers 8")
+        .about(
+            "Print the report of `serial`, on up to N threads where they save time (large writes, --sums)",
+        )
         .arg(workers_option(alloc))?
         .arg(window_option(alloc))?
-        .arg(sums_flag(alloc))
+        .arg(sums_flag(alloc))?
+        .arg(eager_flag(alloc))
 }
 
 fn compare_command<'a>(alloc: Global) -> Result<Command<'a>, AllocError>
     ensures { IfOk result (λ command. HasApp compare_command command) }
 {
     Command::new(alloc, "compare")
-        .about("Runs the places both ways and compares what they give")
+        .after_help("Example: uring_replay compare a.trace --workers 8 --window 1024")
+        .about("Replay serially and in rounds, and print `equal` if the results are the same")
         .arg(workers_option(alloc))?
-        .arg(window_option(alloc))
+        .arg(window_option(alloc))?
+        .arg(eager_flag(alloc))
 }
 
 fn rounds_command<'a>(alloc: Global) -> Result<Command<'a>, AllocError>
     ensures { IfOk result (λ command. HasApp rounds_command command) }
 {
     Command::new(alloc, "rounds")
-        .about("Tells in which round each place runs, and for which one it waited")
+        .after_help("Example: uring_replay rounds a.trace --dot | dot -Tsvg > a.svg")
+        .about("Show which places can run at the same time, and what blocked each other one")
         .arg(window_option(alloc))?
         .arg(dot_flag(alloc))
 }
@@ -265,13 +388,17 @@ fn rounds_command<'a>(alloc: Global) -> Result<Command<'a>, AllocError>
 fn check_command<'a>(alloc: Global) -> Command<'a>
     ensures { HasApp check_command result }
 {
-    Command::new(alloc, "check").about("Reads the trace and counts its places and rings")
+    Command::new(alloc, "check")
+        .after_help("Example: uring_replay check a.trace")
+        .about("Check that the input is a trace; count its places (entries and fills) and rings")
 }
 
 fn diff_command<'a>(alloc: Global) -> Command<'a>
     ensures { HasApp diff_command result }
 {
-    Command::new(alloc, "diff").about("Reads two reports and tells where they differ")
+    Command::new(alloc, "diff")
+        .after_help("Example: uring_replay diff a.report b.report")
+        .about("Compare two reports. What only one of them tells is no difference")
 }
 
 fn sums_flag<'a>(alloc: Global) -> Arg<'a>
@@ -300,7 +427,7 @@ fn workers_option<'a>(alloc: Global) -> Arg<'a>
         .value_name("N")
         .value_parser(value_parser!(u32).range(1..=64))
         .default_value("4")
-        .help("The most threads at a time, 1 to 64")
+        .help("Most threads, 1 to 64")
 }
 
 fn window_option<'a>(alloc: Global) -> Arg<'a>
@@ -311,7 +438,40 @@ fn window_option<'a>(alloc: Global) -> Arg<'a>
         .value_name("W")
         .value_parser(value_parser!(u32).range(1..=4096))
         .default_value("64")
-        .help("How many pending places a round looks at, 1 to 4096")
+        .help("Most unfinished places that a round looks at, 1 to 4096; wide windows cost time")
+}
+
+fn eager_flag<'a>(alloc: Global) -> Arg<'a>
+    ensures { IsRule eager_flag result }
+{
+    Arg::new(alloc, "eager")
+        .long("eager")
+        .action(ArgAction::SetTrue)
+        .help("Run every round of two places or more on threads (slower, for trying)")
+}
+
+fn file_argument<'a>(alloc: Global, help: &'a str) -> Arg<'a>
+    ensures { IsRule file_argument result }
+{
+    Arg::new(alloc, "file").value_name("FILE").help(help)
+}
+
+fn second_argument<'a>(alloc: Global) -> Arg<'a>
+    ensures { IsRule second_argument result }
+{
+    Arg::new(alloc, "second")
+        .value_name("SECOND")
+        .help("The second report; each file then has one")
+}
+
+fn output_option<'a>(alloc: Global) -> Arg<'a>
+    ensures { IsRule output_option result }
+{
+    Arg::new(alloc, "output")
+        .short('o')
+        .long("output")
+        .value_name("FILE")
+        .help("Write to this file, once the whole output is there, and not to standard output")
 }
 
 fn usage_of(alloc: Global, error: &Error) -> Usage
@@ -319,6 +479,7 @@ fn usage_of(alloc: Global, error: &Error) -> Usage
 {
     let kind = match error.kind() {
         ErrorKind::DisplayHelp => UsageKind::Help,
+        ErrorKind::DisplayVersion => UsageKind::Version,
         ErrorKind::OutOfMemory => UsageKind::Memory,
         _ => UsageKind::Wrong,
     };
@@ -347,7 +508,7 @@ fn text_of_no_text(alloc: Global, word: &[u8]) -> Result<String, AllocError>
 {
     let word = escaped(alloc, word)?;
     format!(in alloc;
-        "error: the argument '{word}' is not text\n\nFor more information, try '--help'.\n"
+        "error: the argument '{word}' is not valid UTF-8\n\nFor more information, try '--help'.\n"
     )
 }
 

@@ -3,7 +3,7 @@ ghost use Rattle.std.specs.Prelude.{◌<◌, ◌≤◌, All, IfOk, length, max};
 ghost use Rattle.replay_report.specs.Sums.{AreSumsOf, IsSum};
 ghost use Rattle.world_parts.specs.World.{World};
 
-use crate::sums::{Holder, Summed, Sums, holders_of, is_blank, len_of, sums_of};
+use crate::sums::{Holder, Summed, Sums, holders_of, len_of, sums_of, zeros_ahead};
 use std::alloc::{AllocError, Global};
 use std::thread;
 use std::thread::Threads;
@@ -49,8 +49,8 @@ fn lightest(shares: &[Share]) -> usize
     least
 }
 
-/// Gives a file or a buffer with other bytes than zeros to the share with the fewest bytes, or to a
-/// new one where that has enough for a thread.
+/// Gives a file or a buffer to the share with the fewest bytes, or to a new one where that has enough
+/// for a thread.
 fn deal(
     alloc: Global,
     shares: &mut Vec<Share>,
@@ -72,8 +72,8 @@ fn deal(
     Ok(())
 }
 
-/// Deals files and buffers, which come in the order of their lengths, to up to so many shares. What
-/// is all zeros goes to the first one, where one pass over the longest serves them all.
+/// Deals files and buffers to up to so many shares. What begins with more zeros than there are bytes
+/// behind them goes to the first one, where one pass over the most zeros serves them all.
 fn dealt(
     alloc: Global,
     world: &State,
@@ -89,9 +89,11 @@ fn dealt(
         let Some(len) = len_of(world, *holder) else {
             continue;
         };
-        if is_blank(alloc, world, *holder, len)? {
-            shares[0].add(*holder, len.saturating_sub(zeros))?;
-            zeros = len;
+        let ahead = zeros_ahead(alloc, world, *holder, len)?;
+        let behind = len - ahead;
+        if behind <= ahead {
+            shares[0].add(*holder, ahead.saturating_sub(zeros).saturating_add(behind))?;
+            zeros = zeros.max(ahead);
         } else {
             deal(alloc, &mut shares, workers, *holder, len)?;
         }
@@ -118,7 +120,7 @@ fn together(alloc: Global, made: &[Result<Vec<Summed>, AllocError>]) -> Result<S
 ///
 /// # Errors
 ///
-/// Want of memory.
+/// Out of memory.
 pub(crate) fn sums_alone(alloc: Global, world: &State, image: &Image) -> Result<Sums, AllocError>
     ensures { IfOk result (AreSumsOf world.now) }
 {
@@ -134,7 +136,7 @@ pub(crate) fn sums_alone(alloc: Global, world: &State, image: &Image) -> Result<
 ///
 /// # Errors
 ///
-/// Want of memory.
+/// Out of memory.
 pub(crate) fn sums_on_threads<R: Threads + Sync>(
     rt: &R,
     alloc: Global,

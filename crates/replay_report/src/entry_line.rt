@@ -150,9 +150,10 @@ fn write_hexadecimal(digits: &mut [u8], bytes: &[u8])
 }
 
 /// The digit of half a byte. Digits are computed and not looked up: so many are made at once.
-fn digit(half: u8) -> u8
+pub(crate) fn digit(half: u8) -> u8
     requires { half < 16 }
-    ensures { result ≡ slice_index lower_digits half }
+    ensures value { result ≡ slice_index lower_digits half }
+    ensures ascii { result < 128 }
 {
     if half < 10 {
         b'0' + half

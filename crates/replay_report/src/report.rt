@@ -21,7 +21,7 @@ use world_parts::{Image, State};
 ///
 /// # Errors
 ///
-/// Want of memory.
+/// Out of memory.
 pub fn report_text(
     alloc: Global,
     trace: &Trace,
@@ -47,7 +47,7 @@ pub fn report_text(
 ///
 /// # Errors
 ///
-/// Want of memory.
+/// Out of memory.
 pub fn report_text_on<R: Threads + Sync>(
     rt: &R,
     alloc: Global,
@@ -96,7 +96,7 @@ fn text_of(
 ///
 /// # Errors
 ///
-/// Want of memory.
+/// Out of memory.
 pub fn check_text(alloc: Global, trace: &Trace) -> Result<Vec<u8>, AllocError>
     ensures { IfOk result (λ text. text.items ≡ check_line trace.now) }
 {

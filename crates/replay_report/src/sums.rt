@@ -1,16 +1,16 @@
 //! The SHA-256 sums of what a world holds.
-ghost use Rattle.std.specs.Prelude.{◌≡◌, ◌≤◌, [], All, IfOk, IfSome, IsSome, IsTrue, OnOk, Some, length};
-ghost use Rattle.std.specs.Prelude.{◌++◌, map, replicate, unwrap_or};
+ghost use Rattle.std.specs.Prelude.{◌≡◌, ◌≤◌, [], All, IfOk, IfSome, IsSome, OnOk, Some, length};
+ghost use Rattle.std.specs.Prelude.{◌++◌, map, replicate, take, unwrap_or};
 ghost use Rattle.std.specs.List.{filter_map, flat_map};
 ghost use Rattle.std.specs.Option.{option_map};
 ghost use Rattle.extent_bytes.specs.Bytes.{range_of};
+ghost use Rattle.sha2.specs.Hashers.{Holds256};
 ghost use Rattle.sha2.specs.Sha256.{sha256};
 ghost use Rattle.replay_report.specs.Sums.{AreSumsOf, HaveSame, IsSum, buffer_to_sum, file_to_sum};
 ghost use Rattle.replay_report.specs.Sums.{held, shown};
 ghost use Rattle.world_parts.specs.World.{World};
 
 use crate::zeros::Zeros;
-use extent_bytes::{Extents, MAX_LEN, ReadBytes};
 use sha2::{Digest, Sha256};
 use std::alloc::{AllocError, Global};
 use std::collections::{BTreeMap, BTreeSet};
@@ -36,18 +36,19 @@ pub struct Summed {
     pub sum: [u8; 32],
 }
 
-/// The sums of these files and buffers, of all that are there. In the order of their lengths those of
-/// zeros take one pass, over the longest.
+/// The sums of these files and buffers, of all that are there. The zeros that they begin with take
+/// one pass, over the most: they are summed in the order of how many zeros each begins with.
 ///
 /// # Errors
 ///
-/// Want of memory.
+/// Out of memory.
 pub fn sums_of(alloc: Global, world: &State, holders: &[Holder]) -> Result<Vec<Summed>, AllocError>
     ensures { IfOk result (λ made. All (IsSum world.now) made.items) }
 {
+    let ordered = by_zeros(alloc, world, holders)?;
     let mut made = Vec::new(alloc);
     let mut zeros = Zeros::new();
-    for holder in holders {
+    for (_, holder) in ordered.iter() {
         if let Some(len) = len_of(world, *holder) {
             let sum = sum_with(alloc, world, *holder, len, &mut zeros)?;
             made.push(Summed {
@@ -57,6 +58,23 @@ pub fn sums_of(alloc: Global, world: &State, holders: &[Holder]) -> Result<Vec<S
         }
     }
     Ok(made)
+}
+
+/// Those of some files and buffers that are there, each behind the number of zeros that it begins
+/// with.
+fn by_zeros(
+    alloc: Global,
+    world: &State,
+    holders: &[Holder],
+) -> Result<BTreeSet<(u64, Holder)>, AllocError> {
+    let mut ordered = BTreeSet::new(alloc);
+    for holder in holders {
+        if let Some(len) = len_of(world, *holder) {
+            let ahead = zeros_ahead(alloc, world, *holder, len)?;
+            ordered.insert((ahead, *holder))?;
+        }
+    }
+    Ok(ordered)
 }
 
 /// The sum of the bytes of a file or a buffer, `len` of them, with the help of a hasher of zeros.
@@ -70,11 +88,9 @@ fn sum_with(
     requires { option_map length (held world.now holder) ≡ Some len }
     ensures { IfOk result (λ sum. sum ≡ sha256 (unwrap_or (held world.now holder) [])) }
 {
-    if is_blank(alloc, world, holder, len)? {
-        zeros.sum(len)
-    } else {
-        sum_of(alloc, world, holder, len)
-    }
+    let ahead = zeros_ahead(alloc, world, holder, len)?;
+    let hasher = zeros.hasher(ahead)?;
+    sum_from(alloc, world, holder, len, hasher, ahead)
 }
 
 /// Sums that are made before the report is written: each once, however many names a file has.
@@ -97,7 +113,7 @@ impl Sums {
     ///
     /// # Errors
     ///
-    /// Want of memory.
+    /// Out of memory.
     pub fn add(&mut self, made: &[Summed]) -> Result<(), AllocError>
         ensures { OnOk result ((world : World) → AreSumsOf world self.old
             → All (IsSum world) made.now → AreSumsOf world self.new) }
@@ -113,7 +129,7 @@ impl Sums {
     ///
     /// # Errors
     ///
-    /// Want of memory.
+    /// Out of memory.
     pub fn get(
         &self,
         alloc: Global,
@@ -194,7 +210,7 @@ fn by_length(alloc: Global, set: &BTreeSet<(u64, Holder)>) -> Result<Vec<Holder>
 ///
 /// # Errors
 ///
-/// Want of memory.
+/// Out of memory.
 pub fn holders_of(alloc: Global, image: &Image) -> Result<Vec<Holder>, AllocError>
     ensures { IfOk result (λ holders. HaveSame holders.items (map (λ it. it.1) (shown image.now))) }
 {
@@ -213,76 +229,78 @@ pub fn len_of(world: &State, holder: Holder) -> Option<u64>
     }
 }
 
-/// Whether the bytes of a file or a buffer, `len` of them, are all zeros.
-pub fn is_blank(alloc: Global, world: &State, holder: Holder, len: u64) -> Result<bool, AllocError>
-    requires { option_map length (held world.now holder) ≡ Some len }
-    ensures { IfOk result (λ blank. IsTrue blank
-        → unwrap_or (held world.now holder) [] ≡ replicate len 0) }
-{
-    match holder {
-        Holder::File { node } => is_blank_file(alloc, world, node, len),
-        Holder::Buffer { ring, index } => is_blank_buffer(alloc, world, ring, index, len),
-    }
-}
-
-/// Whether the bytes of a file are `len` zeros. Only stored pages are looked at, up to the first
-/// that has another byte.
-fn is_blank_file(alloc: Global, world: &State, node: u32, len: u64) -> Result<bool, AllocError>
-    requires { option_map length (held world.now (Holder.File node)) ≡ Some len }
-    ensures { IfOk result (λ blank. IsTrue blank
-        → unwrap_or (held world.now (Holder.File node)) [] ≡ replicate len 0) }
-{
-    if len > MAX_LEN {
-        return Ok(false);
-    }
-    let zeros = zeros_of(alloc, len)?;
-    let bytes = world.read_shared(alloc, node, 0, len)?;
-    Ok(bytes.same(&zeros))
-}
-
-/// So many zeros.
-fn zeros_of(alloc: Global, len: u64) -> Result<ReadBytes, AllocError>
-    requires { len ≤ MAX_LEN }
-    ensures { IfOk result (λ zeros. zeros ≡ replicate len 0) }
-{
-    let mut zeros = Extents::new(alloc);
-    zeros.set_len(len)?;
-    ReadBytes::of(alloc, &zeros, 0, len)
-}
-
-/// The same of a buffer.
-fn is_blank_buffer(
-    alloc: Global,
-    world: &State,
-    ring: u8,
-    index: u32,
-    len: u64,
-) -> Result<bool, AllocError>
-    requires { option_map length (held world.now (Holder.Buffer ring index)) ≡ Some len }
-    ensures { IfOk result (λ blank. IsTrue blank
-        → unwrap_or (held world.now (Holder.Buffer ring index)) [] ≡ replicate len 0) }
-{
-    if len > MAX_LEN {
-        return Ok(false);
-    }
-    let mut zeros = Extents::new(alloc);
-    zeros.set_len(len)?;
-    let bytes = world.share_buffer(ring, index, 0, len)?;
-    Ok(bytes.same(&zeros))
-}
-
-/// The SHA-256 sum of the bytes of a file or a buffer, `len` of them. They are read a piece at a
-/// time.
+/// How many zeros a file or a buffer of `len` bytes begins with, at least: those before its first
+/// stored page that has another byte.
 ///
 /// # Errors
 ///
-/// Want of memory.
+/// Out of memory.
+pub fn zeros_ahead(
+    alloc: Global,
+    world: &State,
+    holder: Holder,
+    len: u64,
+) -> Result<u64, AllocError>
+    requires { option_map length (held world.now holder) ≡ Some len }
+    ensures within { IfOk result (λ zeros. zeros ≤ len) }
+    ensures zeros { IfOk result (λ zeros.
+        take zeros (unwrap_or (held world.now holder) []) ≡ replicate zeros 0) }
+{
+    match holder {
+        Holder::File { node } => zeros_of_file(alloc, world, node, len),
+        Holder::Buffer { ring, index } => zeros_of_buffer(world, ring, index, len),
+    }
+}
+
+/// The zeros that a file begins with. Only stored pages are looked at, up to the first that has
+/// another byte.
+fn zeros_of_file(alloc: Global, world: &State, node: u32, len: u64) -> Result<u64, AllocError>
+    requires { option_map length (held world.now (Holder.File node)) ≡ Some len }
+    ensures within { IfOk result (λ zeros. zeros ≤ len) }
+    ensures zeros { IfOk result (λ zeros.
+        take zeros (unwrap_or (held world.now (Holder.File node)) []) ≡ replicate zeros 0) }
+{
+    let bytes = world.read_shared(alloc, node, 0, len)?;
+    Ok(bytes.zeros_ahead())
+}
+
+/// The same of a buffer.
+fn zeros_of_buffer(world: &State, ring: u8, index: u32, len: u64) -> Result<u64, AllocError>
+    requires { option_map length (held world.now (Holder.Buffer ring index)) ≡ Some len }
+    ensures within { IfOk result (λ zeros. zeros ≤ len) }
+    ensures zeros { IfOk result (λ zeros.
+        take zeros (unwrap_or (held world.now (Holder.Buffer ring index)) []) ≡ replicate zeros 0) }
+{
+    let bytes = world.share_buffer(ring, index, 0, len)?;
+    Ok(bytes.zeros_ahead())
+}
+
+/// The SHA-256 sum of the bytes of a file or a buffer, `len` of them.
+///
+/// # Errors
+///
+/// Out of memory.
 fn sum_of(alloc: Global, world: &State, holder: Holder, len: u64) -> Result<[u8; 32], AllocError>
     requires { option_map length (held world.now holder) ≡ Some len }
     ensures { IfOk result (λ sum. sum ≡ sha256 (unwrap_or (held world.now holder) [])) }
 {
-    let mut hasher = Sha256::new();
-    let mut done = 0;
+    sum_from(alloc, world, holder, len, Sha256::new(), 0)
+}
+
+/// The same sum, given a hasher of the first bytes. The others are read a piece at a time.
+fn sum_from(
+    alloc: Global,
+    world: &State,
+    holder: Holder,
+    len: u64,
+    mut hasher: Sha256,
+    mut done: u64,
+) -> Result<[u8; 32], AllocError>
+    requires len { option_map length (held world.now holder) ≡ Some len }
+    requires within { done ≤ len }
+    requires hasher { Holds256 hasher (take done (unwrap_or (held world.now holder) [])) }
+    ensures { IfOk result (λ sum. sum ≡ sha256 (unwrap_or (held world.now holder) [])) }
+{
     while done < len {
         let next = done + PIECE.min(len - done);
         let piece = piece_of(alloc, world, holder, done, next)?;

@@ -18,8 +18,8 @@ use crate::sums::{Holder, MOST_SUMMED, Sums};
 use std::alloc::{AllocError, Global};
 use world_parts::{BufferEntry, DescriptorEntry, Image, NameEntry, SlotEntry, State};
 
-/// The lines of what the world shows, which are made apart, with the sums that were made ahead where
-/// they are asked for.
+/// The lines of what the world shows, with the sums that were made ahead where they are asked for.
+#[tactic(auto, using(crate::proofs::ReportLemmas::image_is_sized, crate::proofs::SumLemmas::image_is_long))]
 pub(crate) fn push_world(
     alloc: Global,
     text: &mut Vec<u8>,
@@ -32,30 +32,17 @@ pub(crate) fn push_world(
     ensures { OnOk result (text.new.items
         ≡ text.old.items ++ world_lines world.now (is_some sums.entry)) }
 {
-    let mut lines = String::new(alloc);
-    push_image(alloc, &mut lines, world, image, sums)?;
-    text.extend_from_slice(lines.as_bytes())
-}
-
-/// The lines of the image of a world.
-#[tactic(auto, using(crate::proofs::ReportLemmas::image_is_sized, crate::proofs::SumLemmas::image_is_long))]
-fn push_image(
-    alloc: Global,
-    text: &mut String,
-    world: &State,
-    image: &Image,
-    sums: Option<&Sums>,
-) -> Result<(), AllocError>
-    requires image { image.now ≡ image_of world.now }
-    requires sums { IfSome sums (λ s. AreSumsOf world.now s.now) }
-    ensures { OnOk result (string_bytes text.new
-        ≡ string_bytes text.old ++ world_lines world.now (is_some sums.entry)) }
-{
-    text.push_str("tree\n")?;
+    text.extend_from_slice(b"tree\n")?;
     push_names(alloc, text, world, image.names.as_slice(), sums)?;
-    push_tables(text, image.slots.as_slice(), image.descriptors.as_slice())?;
-    text.push_str("buffers\n")?;
-    push_buffers(alloc, text, world, image.buffers.as_slice(), sums)
+    let mut lines = String::new(alloc);
+    push_tables(
+        &mut lines,
+        image.slots.as_slice(),
+        image.descriptors.as_slice(),
+    )?;
+    lines.push_str("buffers\n")?;
+    push_buffers(alloc, &mut lines, world, image.buffers.as_slice(), sums)?;
+    text.extend_from_slice(lines.as_bytes())
 }
 
 /// The lines of the full slots and of the full descriptors.
@@ -72,20 +59,24 @@ fn push_tables(
     push_descriptors(text, descriptors)
 }
 
+/// The lines of the names, each of which is made apart: where paths are long, they are most of the
+/// report.
 fn push_names(
     alloc: Global,
-    text: &mut String,
+    text: &mut Vec<u8>,
     world: &State,
     names: &[NameEntry],
     sums: Option<&Sums>,
 ) -> Result<(), AllocError>
     requires sums { IfSome sums (λ s. AreSumsOf world.now s.now) }
     requires names { All (IsSized world.now) names.now }
-    ensures { OnOk result (string_bytes text.new
-        ≡ string_bytes text.old ++ flat_map (name_line world.now (is_some sums.entry)) names.now) }
+    ensures { OnOk result (text.new.items
+        ≡ text.old.items ++ flat_map (name_line world.now (is_some sums.entry)) names.now) }
 {
     for name in names {
-        push_name(alloc, text, world, name, sums)?;
+        let mut line = String::new(alloc);
+        push_name(alloc, &mut line, world, name, sums)?;
+        text.extend_from_slice(line.as_bytes())?;
     }
     Ok(())
 }

@@ -1,6 +1,6 @@
-//! The SHA-256 sums of zeros.
+//! The SHA-256 hasher of zeros.
 ghost use Rattle.std.specs.Prelude.{◌≡◌, ◌≤◌, IfOk, replicate};
-ghost use Rattle.sha2.specs.Sha256.{sha256};
+ghost use Rattle.sha2.specs.Hashers.{Holds256};
 
 use sha2::{Digest, Sha256};
 use std::alloc::AllocError;
@@ -9,8 +9,8 @@ use std::marker::Model;
 /// The most zeros that are hashed at once.
 const PIECE: usize = 4_096;
 
-/// A hasher of so many zeros. Sums that are asked for in the order of their lengths take one pass,
-/// over the longest.
+/// A hasher of so many zeros. Those that are asked for in the order of their counts take one pass,
+/// over the most.
 #[derive(Drop)]
 pub struct Zeros {
     hasher: Sha256,
@@ -39,20 +39,19 @@ impl Zeros {
         }
     }
 
-    /// The sum of `count` zeros.
+    /// A hasher of `count` zeros, to which more may be added.
     ///
     /// # Errors
     ///
-    /// Want of memory.
-    pub fn sum(&mut self, count: u64) -> Result<[u8; 32], AllocError>
-        ensures { IfOk result (λ sum. sum ≡ sha256 (replicate count 0)) }
+    /// Out of memory.
+    pub fn hasher(&mut self, count: u64) -> Result<Sha256, AllocError>
+        ensures { IfOk result (λ hasher. Holds256 hasher (replicate count 0)) }
     {
         if count < self.count {
             *self = Zeros::new();
         }
         self.grow(count);
-        let hasher = self.hasher.clone()?;
-        Ok(hasher.finalize())
+        self.hasher.clone()
     }
 
     /// Adds zeros, so that there are `count`.

@@ -1,10 +1,10 @@
 //! Places that run on parts of the world, and give what one after another on the whole of it gives.
 
-use crate::rounds::{Eager, compared};
+use crate::rounds::compared;
 use crate::text::{
     Submitted, close, flagged, open, read, read_descriptor, rename, trace_behind, unlink, write,
 };
-use replay_core::Verdict;
+use replay_core::{EagerGate, Verdict};
 use sqe_codec::IO_LINK;
 use std::alloc::{AllocError, Global};
 use std::sync::Wait;
@@ -36,7 +36,7 @@ fn is_serial<R: Threads + Wait + Sync>(
     entries: &[Submitted<'_>],
 ) -> Result<bool, Fail> {
     let trace = trace_behind(alloc, head(alloc)?, entries)?;
-    let verdict = compared(rt, alloc, &trace, 2, &Eager);
+    let verdict = compared(rt, alloc, &trace, 2, &EagerGate);
     Ok(matches!(verdict, Ok(Verdict::Equal)))
 }
 

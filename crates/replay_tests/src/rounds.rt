@@ -8,7 +8,9 @@ use op_meaning::{Reply, run_entry};
 use replay_core::comparing::verdict;
 use replay_core::parallel::replay;
 use replay_core::quick::replay_quick;
-use replay_core::{Gate, NoGate, Replay, ReplayFault, Verdict, WORTH_A_THREAD, replay_serial};
+use replay_core::{
+    EagerGate, Gate, NoGate, Replay, ReplayFault, Verdict, WORTH_A_THREAD, replay_serial,
+};
 use std::alloc::{AllocError, Global};
 use std::sync::Wait;
 use std::sync::atomic::AtomicU64;
@@ -85,27 +87,6 @@ impl Gate for Refusing {
         if place == 1 {
             return Err(AllocError);
         }
-        run_entry(alloc, place, trace, role_there, part)
-    }
-
-    fn weight(&self, _trace: &Trace, _place: u32) -> u64 {
-        WORTH_A_THREAD
-    }
-}
-
-/// Runs each place on a worker of its own, as far as there are so many.
-#[derive(Drop)]
-pub(crate) struct Eager;
-
-impl Gate for Eager {
-    fn run(
-        &self,
-        alloc: Global,
-        place: u32,
-        trace: &Trace,
-        role_there: &Role,
-        part: &mut Part,
-    ) -> Result<Reply, AllocError> {
         run_entry(alloc, place, trace, role_there, part)
     }
 
@@ -250,7 +231,7 @@ fn both_runs_are_equal(rt: HostRuntime) -> Result<(), Fail> {
     for workers in [1, 2, 64] {
         let alone = compared(&rt, rt.alloc(), &trace, workers, &NoGate);
         assert!(rt; matches!(alone, Ok(Verdict::Equal)));
-        let parallel = compared(&rt, rt.alloc(), &trace, workers, &Eager);
+        let parallel = compared(&rt, rt.alloc(), &trace, workers, &EagerGate);
         assert!(rt; matches!(parallel, Ok(Verdict::Equal)));
     }
     Ok(())

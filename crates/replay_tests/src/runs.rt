@@ -4,10 +4,10 @@ ghost use Rattle.replay_program.specs.Limits.{IsServed};
 use crate::examples::{NEIGHBOURING_WRITES_DO_NOT_COLLIDE, READ_FOUR_BYTES};
 use replay_core::{ReplayFault, Verdict};
 use replay_program::{
-    FromStd, Mode, Options, ReportsFault, RunFault, Task, read_words, run, run_alone, run_diff,
-    told,
+    Files, FromStd, Mode, Options, ReportsFault, RunFault, Task, read_words, run, run_alone,
+    run_diff, run_diff_of_two, told,
 };
-use report_diff::Refusal;
+use report_diff::{Flaw, Refusal, Side};
 use std::process::Abort;
 use std::sync::Wait;
 use std::test::Fail;
@@ -31,14 +31,22 @@ const CHECK: Options = Options {
 
 fn run_with(workers: u32, window: u32, sums: bool) -> Options {
     Options {
-        mode: Mode::Run { workers, window },
+        mode: Mode::Run {
+            workers,
+            window,
+            eager: false,
+        },
         sums,
     }
 }
 
-fn compare_with(workers: u32, window: u32) -> Options {
+fn compare_with(workers: u32, window: u32, eager: bool) -> Options {
     Options {
-        mode: Mode::Compare { workers, window },
+        mode: Mode::Compare {
+            workers,
+            window,
+            eager,
+        },
         sums: false,
     }
 }
@@ -48,6 +56,25 @@ fn rounds_with(window: u32, dot: bool) -> Options {
         mode: Mode::Rounds { window, dot },
         sums: false,
     }
+}
+
+const NO_FILES: Files<'static> = Files {
+    input: None,
+    second: None,
+    output: None,
+};
+
+#[test]
+fn reads_names_of_files(rt: HostRuntime) {
+    let words = ["diff", "a", "-o", "c", "-"];
+    let request = read_words(rt.alloc(), &words).expect(&rt, "a task");
+    let files = Files {
+        input: Some("a"),
+        second: Some("-"),
+        output: Some("c"),
+    };
+    assert_eq!(rt; request.task, Task::Diff);
+    assert_eq!(rt; request.files, files);
 }
 
 #[test]
@@ -60,10 +87,13 @@ fn reads_words(rt: HostRuntime) {
             ["run", "--workers", "7", "--window", "4096", "--sums"].as_slice(),
             Task::Replay(run_with(7, 4096, true)),
         ),
-        (["compare"].as_slice(), Task::Replay(compare_with(4, 64))),
         (
-            ["compare", "--window=1", "--workers", "64"].as_slice(),
-            Task::Replay(compare_with(64, 1)),
+            ["compare"].as_slice(),
+            Task::Replay(compare_with(4, 64, false)),
+        ),
+        (
+            ["compare", "--window=1", "--eager", "--workers", "64"].as_slice(),
+            Task::Replay(compare_with(64, 1, true)),
         ),
         (["rounds"].as_slice(), Task::Replay(rounds_with(64, false))),
         (
@@ -74,8 +104,9 @@ fn reads_words(rt: HostRuntime) {
         (["diff"].as_slice(), Task::Diff),
     ];
     for (words, wanted) in cases {
-        let task = read_words(rt.alloc(), words).expect(&rt, "a task");
-        assert_eq!(rt; task, wanted);
+        let request = read_words(rt.alloc(), words).expect(&rt, "a task");
+        assert_eq!(rt; request.task, wanted);
+        assert_eq!(rt; request.files, NO_FILES);
     }
 }
 
@@ -89,6 +120,10 @@ fn statuses_and_lines(rt: HostRuntime) -> Result<(), Fail> {
         kind: Kind::Memory,
         at: 0,
     };
+    let no_end = Refusal {
+        side: Side::First,
+        flaw: Flaw::End,
+    };
     let cases = [
         (RunFault::Trace(refused), 1, "trace refused: NoParent at 35"),
         (RunFault::Trace(no_memory), 3, "fault: memory"),
@@ -97,7 +132,7 @@ fn statuses_and_lines(rt: HostRuntime) -> Result<(), Fail> {
         (RunFault::Replay(ReplayFault::Workers), 2, "fault: workers"),
         (RunFault::Replay(ReplayFault::Window), 2, "fault: window"),
         (
-            RunFault::Reports(ReportsFault::Refused(Refusal::FirstEnd)),
+            RunFault::Reports(ReportsFault::Refused(no_end)),
             1,
             "reports refused: the first has no line end",
         ),
@@ -140,16 +175,20 @@ fn output_on_workers<R: Abort + AllocGlobal + Threads + Wait + Sync>(
 
 #[test]
 fn runs_on_workers(rt: HostRuntime) {
-    let run = Mode::Run {
-        workers: 2,
-        window: 2,
-    };
-    output_on_workers(&rt, run, NEIGHBOURING_WRITES_DO_NOT_COLLIDE.report);
-    let compare = Mode::Compare {
-        workers: 2,
-        window: 2,
-    };
-    output_on_workers(&rt, compare, "equal\n");
+    for eager in [false, true] {
+        let run = Mode::Run {
+            workers: 2,
+            window: 2,
+            eager,
+        };
+        output_on_workers(&rt, run, NEIGHBOURING_WRITES_DO_NOT_COLLIDE.report);
+        let compare = Mode::Compare {
+            workers: 2,
+            window: 2,
+            eager,
+        };
+        output_on_workers(&rt, compare, "equal\n");
+    }
 }
 
 /// The second write doesn't wait for the first, which is the first place of a longest path of one.
@@ -205,13 +244,34 @@ fn compares_two_reports(rt: HostRuntime) {
 }
 
 #[test]
+fn compares_the_reports_of_two_readers(rt: HostRuntime) {
+    let alloc = rt.alloc();
+    let mut first = FromStd::new("uring-report 1\n0 user=7 res=4 posted\nend\n".as_bytes());
+    let mut second = FromStd::new("uring-report 1\n0 user=7 res=4 silent\nend\n".as_bytes());
+    let mut writer = FromStd::new(Vec::new(alloc));
+    let done = run_diff_of_two(alloc, &mut first, &mut second, &mut writer);
+    assert_eq!(rt; done, Err(RunFault::Different));
+    let text = "- 0 user=7 res=4 posted\n\
+        + 0 user=7 res=4 silent\n\
+        entries 0 equal, 1 different, 0 outside\n\
+        tree 0 equal, 0 different, 0 outside\n\
+        slots 0 equal, 0 different, 0 outside\n\
+        buffers 0 equal, 0 different, 0 outside\n";
+    assert_eq!(rt; writer.stream.as_slice(), text.as_bytes());
+}
+
+#[test]
 fn writes_nothing_for_one_report(rt: HostRuntime) {
     let alloc = rt.alloc();
     let report = "uring-report 1\nring 0\nend\n";
     let mut reader = FromStd::new(report.as_bytes());
     let mut writer = FromStd::new(Vec::new(alloc));
     let done = run_diff(alloc, &mut reader, &mut writer);
-    let refused = ReportsFault::Refused(Refusal::SecondHeading);
+    let heading = Refusal {
+        side: Side::Second,
+        flaw: Flaw::Heading,
+    };
+    let refused = ReportsFault::Refused(heading);
     assert_eq!(rt; done, Err(RunFault::Reports(refused)));
     assert!(rt; writer.stream.is_empty());
 }

@@ -1,4 +1,7 @@
 pub mod Slices
 pub mod Words
-pub mod Known
+pub mod Subjects
+pub mod Sets
+pub mod RepeatLemmas
+pub mod IndexLemmas
 pub mod Reports

@@ -10,11 +10,8 @@ use Rattle.report_diff.specs.declared.telling.Outcome.{Outcome}
 use Rattle.report_diff.specs.declared.telling.Outcome.TheVariants.{Equal, Different, Outside}
 use Rattle.report_diff.specs.declared.telling.Finding.{Finding}
 use Rattle.report_diff.specs.declared.telling.Told.{Told}
-use Rattle.report_diff.specs.Lines.{facts, line_about, line_kind, section_of, subject}
-
--- The name of a fact `NAME=VALUE`; that of a bare word is empty.
-unfoldable pub fact_name : List ℕ → List ℕ
-fact_name fact = if position_or_len (λ b. b == 61) fact == length fact then [] else before_first (λ b. b == 61) fact
+use Rattle.report_diff.specs.Lines.{fact_name, facts, line_about, line_kind, section_of, subject}
+use Rattle.report_diff.specs.Repeats.{once}
 
 -- Whether some facts have one of a name.
 abbrev pub has_name : List ℕ → List (List ℕ) → Bool
@@ -39,6 +36,23 @@ pair_outcome one other = if is_outside one || is_outside other then Outside else
 -- How a line compares whose subject the other text lacks.
 unfoldable pub lone_outcome : List ℕ → Outcome
 lone_outcome line = if is_outside line then Outside else Different
+
+-- The bytes of two large files are not compared where neither has its sum, unless both have the sum of their pieces' sums.
+abbrev pub is_large : List ℕ → Bool
+is_large line = list_any (bytes_eq (codes "sum=large")) (facts line)
+
+abbrev pub has_tree_sum : List ℕ → Bool
+has_tree_sum line = has_name (codes "tree-sum") (facts line)
+
+unfoldable pub is_large_pair : List ℕ → List ℕ → Bool
+is_large_pair one other = is_large one && is_large other && not (has_tree_sum one && has_tree_sum other)
+
+-- What is found of two lines of one subject, and of a line whose subject the other text lacks.
+abbrev pub pair_finding : Section → List ℕ → List ℕ → Finding
+pair_finding section one other = record { section = section; outcome = pair_outcome one other; large = is_large_pair one other }
+
+abbrev pub lone_finding : Section → List ℕ → Finding
+lone_finding section line = record { section = section; outcome = lone_outcome line; large = false }
 
 -- The signs `-`, `+` and `~`, and a line behind one.
 abbrev pub minus : ℕ
@@ -72,11 +86,11 @@ pub record Found : Type 0 where
 
 abbrev pub found_pair : Section → List ℕ → List ℕ → List Found
 found_pair section one other =
-    record { finding = record { section = section; outcome = pair_outcome one other }; text = pair_text (pair_outcome one other) one other } ∷ []
+    record { finding = pair_finding section one other; text = pair_text (pair_outcome one other) one other } ∷ []
 
 abbrev pub found_lone : ℕ → Section → List ℕ → List Found
 found_lone sign section line =
-    record { finding = record { section = section; outcome = lone_outcome line }; text = lone_text (lone_outcome line) sign line } ∷ []
+    record { finding = lone_finding section line; text = lone_text (lone_outcome line) sign line } ∷ []
 
 -- Whether a text has a section, by its heading. Every text has entries.
 unfoldable pub has_section : List (List ℕ) → Section → Bool
@@ -113,9 +127,9 @@ found_in_second first line (Some section) = found_past first section line (line_
 unfoldable pub of_second : List (List ℕ) → List ℕ → List Found
 of_second first line = found_in_second first line (section_of (line_kind line))
 
--- What a comparison of two texts finds: of each line of the first, and then of the lines that only the second has.
+-- What a comparison of two texts finds: of each line of the first, and then of the lines that only the second has. A line that repeats what an earlier one says is passed over.
 unfoldable pub found : List (List ℕ) → List (List ℕ) → List Found
-found first second = flat_map (of_first second) first ++ flat_map (of_second first) second
+found first second = flat_map (of_first second) (once first) ++ flat_map (of_second first) (once second)
 
 -- Whether two sections are one, or two outcomes.
 abbrev pub same_section : Section → Section → Bool
@@ -150,8 +164,17 @@ count_line findings section =
     section_name section ++ codes " " ++ decimal (count findings section Equal) ++ codes " equal, " ++ decimal (count findings section Different)
     ++ codes " different, " ++ decimal (count findings section Outside) ++ codes " outside\n"
 
+-- The line of the files whose bytes are not compared, where there are some.
+abbrev pub large_count : List Finding → ℕ
+large_count findings = count_by (λ f. f.large) findings
+
+unfoldable pub large_line : List Finding → List ℕ
+large_line findings =
+    if large_count findings == 0 then [] else codes "large " ++ (decimal (large_count findings) ++ codes " not compared\n")
+
 abbrev pub counts_text : List Finding → List ℕ
-counts_text findings = count_line findings Entries ++ count_line findings Tree ++ count_line findings Slots ++ count_line findings Buffers
+counts_text findings =
+    count_line findings Entries ++ count_line findings Tree ++ count_line findings Slots ++ count_line findings Buffers ++ large_line findings
 
 abbrev pub findings : List Found → List Finding
 findings founds = map (λ f. f.finding) founds

@@ -1,3 +1,6 @@
 pub mod Lines
+pub mod Repeats
+pub mod Refusals
 pub mod Differences
+pub mod Known
 pub mod Inputs

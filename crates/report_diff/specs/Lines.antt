@@ -1,6 +1,6 @@
 -- The model: the lines of a report, what each is about and what it says. At the end, a view of code: the map of the lines by what they are about.
-use Rattle.std.specs.Prelude.{ℕ, ◌≡◌, ◌==◌, List, [], ◌∷◌, map, take, drop, codes, Option, None, Some, if◌then◌else◌}
-use Rattle.std.specs.List.{find, list_any, slice_split, join_with_byte}
+use Rattle.std.specs.Prelude.{ℕ, ◌≡◌, ◌==◌, Bool, not, List, [], ◌∷◌, length, map, filter, take, drop, codes, Option, None, Some, if◌then◌else◌}
+use Rattle.std.specs.List.{before_first, find, list_any, position_or_len, slice_split, join_with_byte}
 use Rattle.std.specs.Str.{bytes_eq}
 use Rattle.std.specs.Borrow.{Bor}
 use Rattle.std.specs.Ordering.{nat_cmp}
@@ -11,7 +11,6 @@ use Rattle.report_diff.specs.declared.lines.Kind.{Kind}
 use Rattle.report_diff.specs.declared.lines.Kind.TheVariants.{Heading, Entry, Name, Slot, Descriptor, Buffer}
 use Rattle.report_diff.specs.declared.lines.Section.{Section}
 use Rattle.report_diff.specs.declared.lines.Section.TheVariants.{Entries, Tree, Slots, Buffers}
-use Rattle.report_diff.specs.declared.index.Index.{Index}
 
 -- The lines of a text stand between its line feeds, and the words of a line between its spaces.
 abbrev pub lines : List ℕ → List (List ℕ)
@@ -47,12 +46,20 @@ subject_words Name = 2
 subject_words Descriptor = 2
 subject_words _ = 1
 
--- What a line is about: its first words. The others are its facts.
+-- What a line is about: its first words. The others are its facts, but for times.
 unfoldable pub subject : List ℕ → List ℕ
 subject line = first_words (subject_words (line_kind line)) line
 
+-- The name of a fact `NAME=VALUE`; that of a bare word is empty.
+unfoldable pub fact_name : List ℕ → List ℕ
+fact_name fact = if position_or_len (λ b. b == 61) fact == length fact then [] else before_first (λ b. b == 61) fact
+
+-- When an entry was submitted, and when its completion was seen, is no fact of it.
+abbrev pub is_time : List ℕ → Bool
+is_time word = list_any (bytes_eq (fact_name word)) (codes "submitted" ∷ codes "completed" ∷ [])
+
 unfoldable pub facts : List ℕ → List (List ℕ)
-facts line = drop (subject_words (line_kind line)) (words line)
+facts line = filter (λ word. not (is_time word)) (drop (subject_words (line_kind line)) (words line))
 
 -- The section that a line is in; a heading is in none.
 abbrev pub section_of : Kind → Option Section
@@ -78,6 +85,3 @@ line_at known about = option_map (λ line. line.now) (get_by (λ k. slice_cmp na
 -- The map has the first line of a text about each subject.
 abbrev pub Knows : BTreeMap (Bor (List ℕ)) (Bor (List ℕ)) → List (List ℕ) → Type 0
 Knows known text = (about : List ℕ) → line_at known about ≡ line_about text about
-
-abbrev pub IsIndex : Index → List (List ℕ) → Type 0
-IsIndex index text = Knows index.known text

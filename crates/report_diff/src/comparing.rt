@@ -1,14 +1,18 @@
-//! Two reports from one input.
-ghost use Rattle.std.specs.Prelude.{◌≡◌, ◌≤◌, IfErr, IfOk, List, OnOk, length, ℕ};
+//! Two reports, in one text or in two.
+ghost use Rattle.std.specs.Prelude.{◌≡◌, ◌≤◌, IfErr, IfOk, List, None, OnOk, length, ℕ};
 ghost use Rattle.std.specs.List.{flat_map, position_or_len};
 ghost use Rattle.report_diff.specs.Differences.{Adds, Holds, are_alike, difference_text, found};
 ghost use Rattle.report_diff.specs.Differences.{of_first, of_second};
-ghost use Rattle.report_diff.specs.Inputs.{Compares, TellsOfInput, begins, is_end};
-ghost use Rattle.report_diff.specs.declared.comparing.DiffFault.TheVariants.{Memory};
-ghost use Rattle.report_diff.specs.Lines.{IsIndex, texts};
+ghost use Rattle.report_diff.specs.Inputs.{Compares, ComparesLines, ComparesTwo, TellsFlaw};
+ghost use Rattle.report_diff.specs.Inputs.{TellsOfInput, TellsOfLines, TellsOfTwo, begins};
+ghost use Rattle.report_diff.specs.Inputs.{flaw_of, is_end, is_nothing, report_in};
+ghost use Rattle.report_diff.specs.declared.comparing.DiffFault.TheVariants.{Memory, Refused};
+ghost use Rattle.report_diff.specs.Lines.{texts};
+ghost use Rattle.report_diff.specs.Repeats.{IsIndex};
 
 use crate::index::Index;
 use crate::lines::lines;
+use crate::refusal::{Flaw, Refusal, Side};
 use crate::telling::{Told, counts_text, no_difference};
 use std::alloc::{AllocError, Global};
 
@@ -21,21 +25,10 @@ pub struct Comparison {
     pub alike: bool,
 }
 
-/// Why an input is not two reports.
-#[derive(Clone, Copy, Debug, PartialEq, Eq)]
-pub enum Refusal {
-    /// The first line is no heading of a report.
-    FirstHeading,
-    /// No line ends the first report.
-    FirstEnd,
-    /// The line after the end of the first report is no heading.
-    SecondHeading,
-}
-
 /// Why there is no comparison.
 #[derive(Clone, Copy, Debug, PartialEq, Eq)]
 pub enum DiffFault {
-    /// The input is not two reports.
+    /// The texts are not two reports.
     Refused(Refusal),
     /// Memory ran out.
     Memory,
@@ -49,29 +42,83 @@ impl From<AllocError> for DiffFault {
     }
 }
 
+impl From<Refusal> for DiffFault {
+    ghost from_gives = { λ why fault. fault ≡ Refused why };
+
+    fn from(why: Refusal) -> DiffFault {
+        DiffFault::Refused(why)
+    }
+}
+
 /// Compares the two reports of an input, one after another: the first goes to its first line `end`.
 ///
 /// # Errors
 ///
-/// Refused where the input is not two reports, with the first reason; else want of memory.
-#[tactic(auto, unfolding(crate::specs::Inputs::refusal, crate::specs::Inputs::first_report, crate::specs::Inputs::second_report))]
+/// Refused where the input is not two reports, with the first reason; else out of memory.
 pub fn compare(alloc: Global, input: &[u8]) -> Result<Comparison, DiffFault>
     ensures ok { IfOk result (Compares input.now) }
     ensures err { IfErr result (TellsOfInput input.now) }
 {
     let lines = lines(alloc, input)?;
     let lines = lines.as_slice();
-    if !begins(lines) {
-        return Err(DiffFault::Refused(Refusal::FirstHeading));
+    let second = lines.len().min(end_of(lines) + 1);
+    compare_lines(alloc, &lines[..second], &lines[second..])
+}
+
+/// Compares two reports that are given apart.
+///
+/// # Errors
+///
+/// Refused where one of the texts is no report, with the first reason; else out of memory.
+pub fn compare_two(alloc: Global, first: &[u8], second: &[u8]) -> Result<Comparison, DiffFault>
+    ensures ok { IfOk result (ComparesTwo first.now second.now) }
+    ensures err { IfErr result (TellsOfTwo first.now second.now) }
+{
+    let first = lines(alloc, first)?;
+    let second = lines(alloc, second)?;
+    compare_lines(alloc, first.as_slice(), second.as_slice())
+}
+
+/// Compares the reports of two texts, by their lines.
+#[tactic(auto, unfolding(crate::specs::Inputs::refusal_of, crate::specs::Inputs::differences_of, crate::specs::Inputs::are_alike_of))]
+fn compare_lines(alloc: Global, first: &[&[u8]], second: &[&[u8]]) -> Result<Comparison, DiffFault>
+    ensures ok { IfOk result (ComparesLines (texts first.now) (texts second.now)) }
+    ensures err { IfErr result (TellsOfLines (texts first.now) (texts second.now)) }
+{
+    let first = report_in(Side::First, first)?;
+    let second = report_in(Side::Second, second)?;
+    let first = Index::of(alloc, Side::First, first)?;
+    let second = Index::of(alloc, Side::Second, second)?;
+    Ok(compared(alloc, &first, &second)?)
+}
+
+/// The lines of a text up to its first line `end`, behind which nothing may stand.
+#[tactic(auto, unfolding(crate::specs::Inputs::flaw_of, crate::specs::Inputs::report_in))]
+fn report_in<'t, 'a>(side: Side, text: &'t [&'a [u8]]) -> Result<&'t [&'a [u8]], Refusal>
+    ensures report { IfOk result (λ report. texts report.now ≡ report_in (texts text.now)) }
+    ensures whole { OnOk result (flaw_of side (texts text.now) ≡ None) }
+    ensures err { IfErr result (λ why. TellsFlaw side (texts text.now) (Refused why)) }
+{
+    if !begins(text) {
+        return Err(Refusal {
+            side,
+            flaw: Flaw::Heading,
+        });
     }
-    let end = end_of(lines);
-    if end == lines.len() {
-        return Err(DiffFault::Refused(Refusal::FirstEnd));
+    let end = end_of(text);
+    if end == text.len() {
+        return Err(Refusal {
+            side,
+            flaw: Flaw::End,
+        });
     }
-    if !begins(&lines[end + 1..]) {
-        return Err(DiffFault::Refused(Refusal::SecondHeading));
+    if !is_nothing(&text[end + 1..]) {
+        return Err(Refusal {
+            side,
+            flaw: Flaw::GoesOn,
+        });
     }
-    Ok(compared(alloc, &lines[..end], &lines[end + 1..])?)
+    Ok(&text[..end])
 }
 
 /// Whether lines begin with the heading of a report.
@@ -81,6 +128,17 @@ fn begins(lines: &[&[u8]]) -> bool
     match lines.first() {
         Some(line) => *line == b"uring-report 1".as_slice(),
         None => false,
+    }
+}
+
+/// Whether nothing stands behind a line but its line feed.
+fn is_nothing(lines: &[&[u8]]) -> bool
+    ensures { result ≡ is_nothing (texts lines.now) }
+{
+    match lines {
+        [] => true,
+        [line] => line.is_empty(),
+        _ => false,
     }
 }
 
@@ -97,16 +155,12 @@ fn end_of(lines: &[&[u8]]) -> usize
     lines.len()
 }
 
-/// How the lines of two reports compare.
-fn compared<'a>(
-    alloc: Global,
-    first: &'a [&'a [u8]],
-    second: &'a [&'a [u8]],
-) -> Result<Comparison, AllocError>
-    ensures text { IfOk result (λ comparison. comparison.text.items
-        ≡ difference_text (texts first.now) (texts second.now)) }
-    ensures alike { IfOk result (λ comparison. comparison.alike
-        ≡ are_alike (texts first.now) (texts second.now)) }
+/// How two reports compare.
+fn compared(alloc: Global, first: &Index<'_>, second: &Index<'_>) -> Result<Comparison, AllocError>
+    ensures text { (one other : List (List ℕ)) → IsIndex first.now one → IsIndex second.now other
+        → IfOk result (λ comparison. comparison.text.items ≡ difference_text one other) }
+    ensures alike { (one other : List (List ℕ)) → IsIndex first.now one → IsIndex second.now other
+        → IfOk result (λ comparison. comparison.alike ≡ are_alike one other) }
 {
     let told = told(alloc, first, second)?;
     let counts = counts_text(alloc, told.findings.as_slice())?;
@@ -118,21 +172,16 @@ fn compared<'a>(
 
 /// What the lines of two reports tell: those of the first, then those that only the second has.
 #[tactic(auto, unfolding(crate::specs::Differences::found))]
-fn told<'a>(
-    alloc: Global,
-    first: &'a [&'a [u8]],
-    second: &'a [&'a [u8]],
-) -> Result<Told, AllocError>
-    ensures { IfOk result (λ all. Holds all (found (texts first.now) (texts second.now))) }
+fn told(alloc: Global, first: &Index<'_>, second: &Index<'_>) -> Result<Told, AllocError>
+    ensures { (one other : List (List ℕ)) → IsIndex first.now one → IsIndex second.now other
+        → IfOk result (λ all. Holds all (found one other)) }
 {
     let mut told = Told {
         findings: Vec::new(alloc),
         text: Vec::new(alloc),
     };
-    let other = Index::of(alloc, second)?;
-    add_firsts(alloc, &mut told, &other, first)?;
-    let other = Index::of(alloc, first)?;
-    add_seconds(alloc, &mut told, &other, second)?;
+    add_firsts(alloc, &mut told, second, first.lines())?;
+    add_seconds(alloc, &mut told, first, second.lines())?;
     Ok(told)
 }
 

@@ -1,14 +1,18 @@
-//! Whether the facts of two lines agree.
-ghost use Rattle.std.specs.Prelude.{◌≡◌, ◌==◌, IfOk};
+//! What lines say, and whether their facts agree.
+ghost use Rattle.std.specs.Prelude.{◌≡◌, ◌==◌, IfOk, List, codes, filter, not, ℕ};
 ghost use Rattle.std.specs.List.{list_all, list_any, position_or_len};
 ghost use Rattle.std.specs.Str.{bytes_eq};
-ghost use Rattle.report_diff.specs.Differences.{agree, fact_name, fits, has_name, pair_outcome};
-ghost use Rattle.report_diff.specs.Differences.{lone_outcome};
-ghost use Rattle.report_diff.specs.Lines.{texts};
+ghost use Rattle.report_diff.specs.Differences.{agree, fits, has_name, pair_finding};
+ghost use Rattle.report_diff.specs.Differences.{lone_outcome, pair_outcome};
+ghost use Rattle.report_diff.specs.Lines.{fact_name, facts, is_time, texts};
+ghost use Rattle.report_diff.specs.Repeats.{all_among, have_same_facts};
 
-use crate::lines::{facts, words};
-use crate::telling::Outcome;
+use crate::known::Known;
+use crate::lines::{Section, line_kind, words};
+use crate::telling::{Finding, Outcome};
 use std::alloc::{AllocError, Global};
+/// So few facts are looked through: that is quicker than sets of them.
+const FEW: usize = 16;
 
 /// The place of the first byte of this value, or the length.
 fn first_place(bytes: &[u8], wanted: u8) -> usize
@@ -23,8 +27,8 @@ fn first_place(bytes: &[u8], wanted: u8) -> usize
 }
 
 /// The name of a fact; that of a bare word is empty.
-#[tactic(auto, unfolding(crate::specs::Differences::fact_name))]
-fn fact_name(fact: &[u8]) -> &[u8]
+#[tactic(auto, unfolding(crate::specs::Lines::fact_name))]
+pub(crate) fn fact_name(fact: &[u8]) -> &[u8]
     ensures { result.now ≡ fact_name fact.now }
 {
     let place = first_place(fact, b'=');
@@ -33,6 +37,37 @@ fn fact_name(fact: &[u8]) -> &[u8]
     } else {
         &fact[..place]
     }
+}
+
+/// Whether a word tells when an entry was submitted or its completion seen.
+fn is_time(word: &[u8]) -> bool
+    ensures { result ≡ is_time word.now }
+{
+    let name = fact_name(word);
+    name == b"submitted".as_slice() || name == b"completed".as_slice()
+}
+
+/// What a line says of its subject: its words behind those, but for times.
+#[tactic(auto, unfolding(crate::specs::Lines::facts))]
+fn facts(alloc: Global, line: &[u8]) -> Result<Vec<&[u8]>, AllocError>
+    ensures { IfOk result (λ found. texts found.items ≡ facts line.now) }
+{
+    let words = words(alloc, line)?;
+    let about = line_kind(line).subject_words().min(words.len());
+    without_times(alloc, &words[about..])
+}
+
+fn without_times<'a>(alloc: Global, words: &[&'a [u8]]) -> Result<Vec<&'a [u8]>, AllocError>
+    ensures { IfOk result
+        (λ left. texts left.items ≡ filter (λ word. not (is_time word)) (texts words.now)) }
+{
+    let mut facts = Vec::new(alloc);
+    for word in words {
+        if !is_time(word) {
+            facts.push(*word)?;
+        }
+    }
+    Ok(facts)
 }
 
 /// Whether some facts have one of a name.
@@ -66,7 +101,8 @@ fn fits(others: &[&[u8]], fact: &[u8]) -> bool
     is_among(others, fact) || !has_name(others, fact_name(fact))
 }
 
-fn all_fit(facts: &[&[u8]], others: &[&[u8]]) -> bool
+/// Whether each fact fits the others, of which there are few.
+fn all_fit_few(facts: &[&[u8]], others: &[&[u8]]) -> bool
     ensures { result ≡ list_all (fits (texts others.now)) (texts facts.now) }
 {
     for fact in facts {
@@ -77,18 +113,81 @@ fn all_fit(facts: &[&[u8]], others: &[&[u8]]) -> bool
     true
 }
 
-/// How two lines of one subject compare.
-#[tactic(auto, unfolding(crate::specs::Differences::pair_outcome, crate::specs::Differences::is_outside, crate::specs::Differences::agree))]
-pub(crate) fn pair_outcome(alloc: Global, one: &[u8], other: &[u8]) -> Result<Outcome, AllocError>
-    ensures { IfOk result (λ outcome. outcome ≡ pair_outcome one.now other.now) }
+/// Whether each fact fits the others.
+fn all_fit(alloc: Global, facts: &[&[u8]], others: &[&[u8]]) -> Result<bool, AllocError>
+    ensures { IfOk result
+        (λ fit. fit ≡ list_all (fits (texts others.now)) (texts facts.now)) }
 {
-    let one_words = words(alloc, one)?;
-    let other_words = words(alloc, other)?;
-    let one_facts = facts(one, one_words.as_slice());
-    let other_facts = facts(other, other_words.as_slice());
+    if others.len() <= FEW {
+        return Ok(all_fit_few(facts, others));
+    }
+    let others = Known::of(alloc, others)?;
+    Ok(others.all_fit(facts))
+}
+
+/// Whether two lines have the same facts.
+#[tactic(auto, unfolding(crate::specs::Repeats::have_same_facts))]
+pub(crate) fn have_same_facts(alloc: Global, one: &[u8], other: &[u8]) -> Result<bool, AllocError>
+    ensures { IfOk result (λ same. same ≡ have_same_facts one.now other.now) }
+{
+    let one = facts(alloc, one)?;
+    let other = facts(alloc, other)?;
+    Ok(all_among(alloc, &one, &other)? && all_among(alloc, &other, &one)?)
+}
+
+/// Whether each fact is one of the others.
+fn all_among(alloc: Global, facts: &[&[u8]], others: &[&[u8]]) -> Result<bool, AllocError>
+    ensures { IfOk result (λ all. all ≡ all_among (texts facts.now) (texts others.now)) }
+{
+    let others = Known::of(alloc, others)?;
+    Ok(others.has_all(facts))
+}
+
+/// What is found of two lines of one subject.
+#[tactic(auto, unfolding(crate::specs::Differences::is_large_pair))]
+pub(crate) fn pair_finding(
+    alloc: Global,
+    section: Section,
+    one: &[u8],
+    other: &[u8],
+) -> Result<Finding, AllocError>
+    ensures { IfOk result (λ finding. finding ≡ pair_finding section one.now other.now) }
+{
+    let one_facts = facts(alloc, one)?;
+    let other_facts = facts(alloc, other)?;
+    let (one_facts, other_facts) = (one_facts.as_slice(), other_facts.as_slice());
+    let outcome = outcome_of(alloc, one_facts, other_facts)?;
+    let large = is_large(one_facts)
+        && is_large(other_facts)
+        && !(has_name(one_facts, b"tree-sum") && has_name(other_facts, b"tree-sum"));
+    Ok(Finding {
+        section,
+        outcome,
+        large,
+    })
+}
+
+/// Whether a file is too large for a sum.
+fn is_large(facts: &[&[u8]]) -> bool
+    ensures { result ≡ list_any (bytes_eq (codes "sum=large")) (texts facts.now) }
+{
+    is_among(facts, b"sum=large")
+}
+
+/// How two lines with these facts compare.
+#[tactic(auto, unfolding(crate::specs::Differences::pair_outcome, crate::specs::Differences::is_outside, crate::specs::Differences::agree))]
+fn outcome_of(
+    alloc: Global,
+    one_facts: &[&[u8]],
+    other_facts: &[&[u8]],
+) -> Result<Outcome, AllocError>
+    ensures { (one other : List ℕ) → texts one_facts.now ≡ facts one
+        → texts other_facts.now ≡ facts other
+        → IfOk result (λ outcome. outcome ≡ pair_outcome one other) }
+{
     if has_name(one_facts, b"outside") || has_name(other_facts, b"outside") {
         Ok(Outcome::Outside)
-    } else if all_fit(one_facts, other_facts) && all_fit(other_facts, one_facts) {
+    } else if all_fit(alloc, one_facts, other_facts)? && all_fit(alloc, other_facts, one_facts)? {
         Ok(Outcome::Equal)
     } else {
         Ok(Outcome::Different)
@@ -100,8 +199,8 @@ pub(crate) fn pair_outcome(alloc: Global, one: &[u8], other: &[u8]) -> Result<Ou
 pub(crate) fn lone_outcome(alloc: Global, line: &[u8]) -> Result<Outcome, AllocError>
     ensures { IfOk result (λ outcome. outcome ≡ lone_outcome line.now) }
 {
-    let words = words(alloc, line)?;
-    if has_name(facts(line, words.as_slice()), b"outside") {
+    let facts = facts(alloc, line)?;
+    if has_name(facts.as_slice(), b"outside") {
         Ok(Outcome::Outside)
     } else {
         Ok(Outcome::Different)

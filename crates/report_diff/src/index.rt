@@ -1,10 +1,16 @@
 //! The lines of a text by their subjects.
-ghost use Rattle.std.specs.Prelude.{◌≡◌, IfOk, List, ℕ, is_some};
+ghost use Rattle.std.specs.Prelude.{◌≡◌, ◌∷◌, ◌++◌, IfErr, IfOk, List, None, OnOk, [], ℕ, is_some};
+ghost use Rattle.std.specs.Prelude.{not};
 ghost use Rattle.std.specs.Option.{option_map};
 ghost use Rattle.report_diff.specs.Differences.{has_section};
-ghost use Rattle.report_diff.specs.Lines.{IsIndex, line_about, texts};
+ghost use Rattle.report_diff.specs.Inputs.{TellsOtherwise};
+ghost use Rattle.report_diff.specs.Lines.{line_about, texts};
+ghost use Rattle.report_diff.specs.Repeats.{IsIndex, once, otherwise, says_otherwise};
 
-use crate::lines::{Section, subject};
+use crate::comparing::DiffFault;
+use crate::facts::have_same_facts;
+use crate::lines::{Section, line_kind, subject};
+use crate::refusal::{Flaw, Refusal, Side, shown};
 use std::alloc::{AllocError, Global};
 use std::collections::BTreeMap;
 
@@ -12,20 +18,59 @@ use std::collections::BTreeMap;
 #[derive(Drop)]
 pub(crate) struct Index<'a> {
     known: BTreeMap<&'a [u8], &'a [u8]>,
+    lines: Vec<&'a [u8]>,
 }
 
 impl<'a> Index<'a> {
-    pub(crate) fn of(alloc: Global, lines: &'a [&'a [u8]]) -> Result<Index<'a>, AllocError>
-        ensures { IfOk result (λ index. IsIndex index (texts lines.now)) }
+    /// The index of a text, which is refused where a line has other facts than an earlier one of
+    /// its subject.
+    pub(crate) fn of(alloc: Global, side: Side, lines: &[&'a [u8]]) -> Result<Index<'a>, DiffFault>
+        ensures index { IfOk result (λ index. IsIndex index (texts lines.now)) }
+        ensures agrees { OnOk result (otherwise (texts lines.now) ≡ None) }
+        ensures err { IfErr result (TellsOtherwise side (texts lines.now)) }
     {
-        let mut known = BTreeMap::new(alloc);
-        for line in lines {
-            let about = subject(line);
-            if !known.contains_key(about) {
-                known.insert(about, *line)?;
+        let mut index = Index {
+            known: BTreeMap::new(alloc),
+            lines: Vec::new(alloc),
+        };
+        for (place, line) in lines.iter().enumerate() {
+            if !index.add(alloc, line)? {
+                let flaw = Flaw::Otherwise {
+                    line: place + 1,
+                    subject: shown(subject(line)),
+                };
+                return Err(DiffFault::Refused(Refusal { side, flaw }));
             }
         }
-        Ok(Index { known })
+        Ok(index)
+    }
+
+    /// Adds a line that follows those of a text. Whether it says nothing otherwise than they do.
+    #[tactic(auto, unfolding(crate::specs::Repeats::says_otherwise))]
+    fn add(&mut self, alloc: Global, line: &'a [u8]) -> Result<bool, AllocError>
+        ensures index { (text : List (List ℕ)) → IsIndex self.old text
+            → OnOk result (IsIndex self.new (text ++ line.now ∷ [])) }
+        ensures agrees { (text : List (List ℕ)) → IsIndex self.old text
+            → IfOk result (λ agrees. agrees ≡ not (says_otherwise text line.now)) }
+    {
+        let about = subject(line);
+        match self.line_about(about) {
+            Some(first) => {
+                Ok(line_kind(line).section().is_none() || have_same_facts(alloc, first, line)?)
+            }
+            None => {
+                self.known.insert(about, line)?;
+                self.lines.push(line)?;
+                Ok(true)
+            }
+        }
+    }
+
+    /// The first line about each subject, in their order.
+    pub(crate) fn lines(&self) -> &[&'a [u8]]
+        ensures { (text : List (List ℕ)) → IsIndex self.now text → texts result.now ≡ once text }
+    {
+        self.lines.as_slice()
     }
 
     /// The first line about a subject.

@@ -9,7 +9,10 @@
 mod comparing;
 mod facts;
 mod index;
+mod known;
 mod lines;
+mod refusal;
 mod telling;
 
-pub use comparing::{Comparison, DiffFault, Refusal, compare};
+pub use comparing::{Comparison, DiffFault, compare, compare_two};
+pub use refusal::{Flaw, Refusal, Shown, Side};

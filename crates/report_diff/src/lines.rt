@@ -2,9 +2,8 @@
 ghost use Rattle.std.specs.Prelude.{◌≡◌, ◌≤◌, IfOk};
 ghost use Rattle.std.specs.List.{list_any};
 ghost use Rattle.std.specs.Str.{bytes_eq};
-ghost use Rattle.report_diff.specs.Lines.{facts, first_words, heading_words, kind_of, lines};
-ghost use Rattle.report_diff.specs.Lines.{line_kind, section_of, subject, subject_words, texts};
-ghost use Rattle.report_diff.specs.Lines.{words};
+ghost use Rattle.report_diff.specs.Lines.{first_words, heading_words, kind_of, line_kind, lines};
+ghost use Rattle.report_diff.specs.Lines.{section_of, subject, subject_words, texts, words};
 
 use std::alloc::{AllocError, Global};
 
@@ -51,7 +50,7 @@ impl Kind {
     }
 
     /// How many words say what a line is about.
-    fn subject_words(self) -> usize
+    pub(crate) fn subject_words(self) -> usize
         ensures value { result ≡ subject_words self }
         ensures some { 1 ≤ result }
     {
@@ -133,13 +132,4 @@ pub(crate) fn subject(line: &[u8]) -> &[u8]
     ensures { result.now ≡ subject line.now }
 {
     first_words(line, line_kind(line).subject_words())
-}
-
-/// What a line says of its subject: its words behind those.
-#[tactic(auto, unfolding(crate::specs::Lines::facts))]
-pub(crate) fn facts<'w, 'a>(line: &[u8], parts: &'w [&'a [u8]]) -> &'w [&'a [u8]]
-    requires { texts parts.now ≡ words line.now }
-    ensures { texts result.now ≡ facts line.now }
-{
-    &parts[line_kind(line).subject_words().min(parts.len())..]
 }

@@ -2,11 +2,12 @@
 ghost use Rattle.std.specs.Prelude.{◌≡◌, ◌++◌, List, ℕ, OnOk, IfOk, string_bytes};
 ghost use Rattle.report_diff.specs.Differences.{Adds, count, count_line, counts_text};
 ghost use Rattle.report_diff.specs.Differences.{found_lacking, found_pair};
-ghost use Rattle.report_diff.specs.Differences.{is_of, no_difference, of_first, of_second};
+ghost use Rattle.report_diff.specs.Differences.{is_of, large_count, large_line, no_difference};
+ghost use Rattle.report_diff.specs.Differences.{of_first, of_second};
 ghost use Rattle.report_diff.specs.Differences.{section_name, told};
-ghost use Rattle.report_diff.specs.Lines.{IsIndex};
+ghost use Rattle.report_diff.specs.Repeats.{IsIndex};
 
-use crate::facts::{lone_outcome, pair_outcome};
+use crate::facts::{lone_outcome, pair_finding};
 use crate::index::Index;
 use crate::lines::{Section, line_kind, subject};
 use std::alloc::{AllocError, Global};
@@ -25,6 +26,8 @@ pub(crate) enum Outcome {
 pub(crate) struct Finding {
     pub(crate) section: Section,
     pub(crate) outcome: Outcome,
+    /// Whether it is that of a large file whose bytes are not compared.
+    pub(crate) large: bool,
 }
 
 /// What was found so far, and the lines that tell it.
@@ -66,9 +69,9 @@ impl Told {
     ) -> Result<(), AllocError>
         ensures { OnOk result (Adds self.old self.new (found_pair section one.now other.now)) }
     {
-        let outcome = pair_outcome(alloc, one, other)?;
-        self.findings.push(Finding { section, outcome })?;
-        match outcome {
+        let finding = pair_finding(alloc, section, one, other)?;
+        self.findings.push(finding)?;
+        match finding.outcome {
             Outcome::Equal => Ok(()),
             Outcome::Different => {
                 self.tell(MINUS, one)?;
@@ -95,7 +98,11 @@ impl Told {
             return Ok(());
         }
         let outcome = lone_outcome(alloc, line)?;
-        self.findings.push(Finding { section, outcome })?;
+        self.findings.push(Finding {
+            section,
+            outcome,
+            large: false,
+        })?;
         match outcome {
             Outcome::Equal => Ok(()),
             Outcome::Different => self.tell(sign, line),
@@ -203,6 +210,26 @@ fn push_counts(text: &mut String, findings: &[Finding], section: Section) -> Res
     )
 }
 
+/// How many large files have bytes that are not compared.
+fn large_count(findings: &[Finding]) -> usize
+    ensures { result ≡ large_count findings.now }
+{
+    findings.iter().filter(|finding| finding.large).count()
+}
+
+/// The line of the large files whose bytes are not compared, where there are some.
+#[tactic(auto, unfolding(crate::specs::Differences::large_line))]
+fn push_large(text: &mut String, findings: &[Finding]) -> Result<(), AllocError>
+    ensures { OnOk result (string_bytes text.new ≡ string_bytes text.old
+        ++ large_line findings.now) }
+{
+    let large = large_count(findings);
+    if large == 0 {
+        return Ok(());
+    }
+    writeln!(text, "large {large} not compared")
+}
+
 /// The counts of each section.
 pub(crate) fn counts_text(alloc: Global, findings: &[Finding]) -> Result<String, AllocError>
     ensures { IfOk result (λ text. string_bytes text ≡ counts_text findings.now) }
@@ -212,5 +239,6 @@ pub(crate) fn counts_text(alloc: Global, findings: &[Finding]) -> Result<String,
     push_counts(&mut text, findings, Section::Tree)?;
     push_counts(&mut text, findings, Section::Slots)?;
     push_counts(&mut text, findings, Section::Buffers)?;
+    push_large(&mut text, findings)?;
     Ok(text)
 }

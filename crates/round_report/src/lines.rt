@@ -19,7 +19,7 @@ use trace_format::Trace;
 ///
 /// # Errors
 ///
-/// Want of memory.
+/// Out of memory.
 pub fn rounds_text(alloc: Global, trace: &Trace, log: &RoundLog) -> Result<Vec<u8>, AllocError>
     requires { length log.now.waits ≡ length log.now.rounds }
     ensures { IfOk result (λ text. text.items ≡ rounds_text trace.now (log_meant log.now)) }

@@ -1,12 +1,20 @@
-//! Replays a recorded trace from standard input.
+//! Executes recorded io_uring submissions, and reports every result.
 #![tactic(auto)]
 
-ghost use Rattle.std.specs.Prelude.{IfOk};
+ghost use Rattle.replay_program.specs.Limits.{IsServed};
 ghost use Rattle.replay_program.specs.Words.{IsServedTask};
 
+mod hints;
+mod inputs;
+mod output;
+mod trouble;
+
+use crate::inputs::{Input, first_input, second_input};
+use crate::output::{ended, output_of};
+use crate::trouble::{Trouble, shown};
 use replay_program::{
-    FromStd, RunFault, Stream, Task, Usage, fault_ending, no_memory, not_text, read_words, run,
-    run_diff, usage_ending, usage_text,
+    FromStd, Options, Request, Task, Usage, no_memory, not_text, read_words, run, run_diff,
+    run_diff_of_two,
 };
 use std::alloc::AllocError;
 use std::env;
@@ -14,28 +22,105 @@ use std::env::FillError;
 use std::io::ErrorKind;
 use std::process::ExitCode;
 use std::rt::Env;
+use std::sync::Wait;
+use std::thread::Threads;
 
 fn main(rt: HostRuntime) -> ExitCode {
-    let task = match chosen(&rt) {
-        Ok(task) => task,
+    let words = match arguments(&rt) {
+        Ok(words) => words,
         Err(usage) => return shown(&rt, &usage),
     };
-    let mut reader = FromStd::new(rt.stdin());
-    let mut writer = FromStd::new(rt.stdout());
-    let done = match task {
-        Task::Replay(options) => run(&rt, rt.alloc(), &mut reader, &mut writer, &options),
-        Task::Diff => run_diff(rt.alloc(), &mut reader, &mut writer),
+    let words: Result<Vec<&str>, AllocError> = words
+        .iter()
+        .map(|word| word.as_str())
+        .collect(rt.alloc());
+    let Ok(words) = words else {
+        return shown(&rt, &no_memory(rt.alloc()));
     };
+    let words = words.as_slice();
+    let done = answered(&rt, &rt, words);
     match done {
         Ok(()) => ExitCode::SUCCESS,
-        Err(fault) => failed(&rt, fault),
+        Err(trouble) => trouble.told(&rt),
     }
 }
 
-/// What the program's arguments ask for.
-fn chosen<R: Env + AllocGlobal>(rt: &R) -> Result<Task, Usage>
-    ensures { IfOk result IsServedTask }
+/// Does what the words ask for, or says why they ask for nothing.
+fn answered<'a, T: Threads + Wait + Sync>(
+    rt: &'a HostRuntime,
+    threads: &T,
+    words: &'a [&'a str],
+) -> Result<(), Trouble<'a>> {
+    match read_words(rt.alloc(), words) {
+        Ok(request) => served(rt, threads, &request),
+        Err(usage) => Err(Trouble::Usage(usage)),
+    }
+}
+
+/// Does what was asked for, from its input to its output.
+fn served<'a, T: Threads + Wait + Sync>(
+    rt: &'a HostRuntime,
+    threads: &T,
+    request: &Request<'a>,
+) -> Result<(), Trouble<'a>>
+    requires { IsServedTask request.now.task }
 {
+    let files = request.files;
+    let input = first_input(rt, files.input)?;
+    match (request.task, files.second) {
+        (Task::Replay(options), _) => replayed(rt, threads, input, files.output, &options),
+        (Task::Diff, None) => compared(rt, input, files.output),
+        (Task::Diff, Some(second)) => {
+            let second = second_input(rt, files.input, second)?;
+            compared_apart(rt, input, second, files.output)
+        }
+    }
+}
+
+/// Runs a trace.
+fn replayed<'a, T: Threads + Wait + Sync>(
+    rt: &'a HostRuntime,
+    threads: &T,
+    input: Input,
+    output: Option<&'a str>,
+    options: &Options,
+) -> Result<(), Trouble<'a>>
+    requires { IsServed options.now.mode }
+{
+    let mut writer = FromStd::new(output_of(rt, output, &[&input])?);
+    let mut reader = FromStd::new(input);
+    let done = run(threads, rt.alloc(), &mut reader, &mut writer, options);
+    ended(writer.stream, done)
+}
+
+/// Compares the two reports of an input.
+fn compared<'a>(
+    rt: &'a HostRuntime,
+    input: Input,
+    output: Option<&'a str>,
+) -> Result<(), Trouble<'a>> {
+    let mut writer = FromStd::new(output_of(rt, output, &[&input])?);
+    let mut reader = FromStd::new(input);
+    let done = run_diff(rt.alloc(), &mut reader, &mut writer);
+    ended(writer.stream, done)
+}
+
+/// Compares the reports of two inputs.
+fn compared_apart<'a>(
+    rt: &'a HostRuntime,
+    first: Input,
+    second: Input,
+    output: Option<&'a str>,
+) -> Result<(), Trouble<'a>> {
+    let mut writer = FromStd::new(output_of(rt, output, &[&first, &second])?);
+    let mut first = FromStd::new(first);
+    let mut second = FromStd::new(second);
+    let done = run_diff_of_two(rt.alloc(), &mut first, &mut second, &mut writer);
+    ended(writer.stream, done)
+}
+
+/// The program's arguments, without its name.
+fn arguments<R: Env + AllocGlobal>(rt: &R) -> Result<Vec<String>, Usage> {
     let alloc = rt.alloc();
     let words = match env::args(rt) {
         Ok(words) => words,
@@ -43,13 +128,7 @@ fn chosen<R: Env + AllocGlobal>(rt: &R) -> Result<Task, Usage>
         Err(_) => return Err(first_not_text(rt)),
     };
     let words: Result<Vec<String>, AllocError> = words.skip(1).collect(alloc);
-    let words = words.map_err(|_| no_memory(alloc))?;
-    let words: Result<Vec<&str>, AllocError> = words
-        .iter()
-        .map(|word| word.as_str())
-        .collect(alloc);
-    let words = words.map_err(|_| no_memory(alloc))?;
-    read_words(alloc, words.as_slice())
+    words.map_err(|_| no_memory(alloc))
 }
 
 /// The most bytes of an argument: no longer one can be handed to a program.
@@ -71,37 +150,4 @@ fn first_not_text<R: Env + AllocGlobal>(rt: &R) -> Usage {
         }
     }
     not_text(alloc, &[])
-}
-
-/// Shows why there are no options, and ends.
-fn shown<R: Print + Eprint>(rt: &R, usage: &Usage) -> ExitCode {
-    let ending = usage_ending(usage);
-    let text = usage_text(usage);
-    match ending.stream {
-        Some(Stream::Output) => {
-            if print!(rt; "{text}").is_err() {
-                return failed(rt, RunFault::Write);
-            }
-        }
-        Some(Stream::Errors) => {
-            let _ = eprint!(rt; "{text}");
-        }
-        None => {}
-    }
-    ExitCode::from(ending.status)
-}
-
-/// Shows a fault, and ends.
-fn failed<R: Print + Eprint>(rt: &R, fault: RunFault) -> ExitCode {
-    let ending = fault_ending(fault);
-    match ending.stream {
-        Some(Stream::Output) => {
-            let _ = println!(rt; "{fault}");
-        }
-        Some(Stream::Errors) => {
-            let _ = eprintln!(rt; "{fault}");
-        }
-        None => {}
-    }
-    ExitCode::from(ending.status)
 }

@@ -25,7 +25,7 @@ use Rattle.wave_pick.specs.declared.scheduler.Scheduler.{Scheduler}
 use Rattle.wave_pick.specs.declared.wave.Chosen.{Chosen}
 use Rattle.wave_pick.proofs.Knowing.{covers_each, listed_so, on_so, waits_so}
 use Rattle.wave_pick.proofs.Looked.{pending_free, take_pending}
-use Rattle.wave_pick.proofs.Lists.{not_both}
+use Rattle.wave_pick.proofs.Lists.{all_or, not_both}
 use Rattle.wave_pick.proofs.Passing.{earlier_has}
 use Rattle.wave_pick.proofs.Resting.{waits_on}
 use Rattle.wave_pick.proofs.Seeing.{met_not_clear}
@@ -99,16 +99,19 @@ module _ (t : Trace) (spelled : IsSpelled t) (window : ℕ) (w : World) (q : ℕ
             subst (λ x. Covers x (reach_after t window q k)) (sym r.ahead)
             (covers_each s (map (reach_after t window q) first) h.index found.0 (reach_after t window q k) (slice_get-map (reach_after t window q) first found.0 ∙ ap (option_map (reach_after t window q)) found.1))
 
+        ran_or_stays : (l : RestsListed t window q k s) (i : ℕ) → has l.on i ≡ true → IsAgain later k ⊎ (has free i ≡ false)
+        ran_or_stays l i e = elim (cases_Bool (has free i)) [ inl ran ↦ inl (r.woken i k ran (l.listed i e) within_room) | inr stays ↦ inr stays ]
+
         go_on : RestsListed t window q k s → (has free k ≡ false) → IsAgain later k ⊎ RestsStill t window (suc q) k false later
-        go_on l none = elim (cases_Bool (has free l.on)) [
-          | inl ran ↦ inl (r.woken l.on k ran l.listed within_room)
-          | inr stays ↦ inr (record {
+        go_on l none = elim (all_or (IsAgain later k) (λ i. has free i ≡ false) l.on (ran_or_stays l)) [
+          | inl ran ↦ inl ran
+          | inr stay ↦ inr (record {
             last = q;
             next = refl;
-            by = on_so t window q k l (listed_so (r.others l.on stays).1 l.listed);
+            by = on_so t window q k l (λ i e. listed_so (r.others i (stay i e)).1 (l.listed i e));
             reach = (r.others k none).0 ∙ (h.seen k there).reach;
-            other_waits = waits_later l.on l.waits stays;
-            other_reach = (r.others l.on stays).0 ∙ (h.seen l.on (first_has l.on l.is_before l.waits)).reach;
+            others_wait = λ i e. waits_later i (l.these.before i e).1 (stay i e);
+            other_reaches = λ i e. (r.others i (stay i e)).0 ∙ (h.seen i (first_has i (l.these.before i e).0 (l.these.before i e).1)).reach;
             within = first_within done window k (places t) (ap (λ ks. has ks k) (sym a.first) ∙ there);
             covered = λ e. covered;
           })

@@ -1,7 +1,8 @@
 -- Of a scheduler's tables: what stays of them where one place is written, and what an index with one reach more covers.
-use Rattle.std.specs.Prelude.{◌≡◌, ℕ, zero, suc, ◌<◌, Bool, true, false, ◌&&◌, ◌||◌, T, List, [], ◌∷◌, ◌++◌, map, length, slice_get, Option, Some, refl}
+use Rattle.std.specs.Prelude.{◌≡◌, ℕ, zero, suc, ◌<◌, Bool, true, false, ◌&&◌, ◌||◌, T, List, [], ◌∷◌, ◌++◌, map, length, slice_get, Option, Some, None, refl}
 use Rattle.std.specs.List.{list_any}
 use Rattle.std.specs.Option.{option_map}
+use Rattle.interleaving.specs.Machine.{has}
 use Rattle.trace_format.specs.declared.trace.Trace.{Trace}
 use Rattle.std.proofs.Common.{◌⊎◌, inl, inr, sym, ap, subst, ◌∙◌, arith}
 use Rattle.std.proofs.Math.ListN.{set}
@@ -17,6 +18,7 @@ use Rattle.item_index.specs.Touching.{touches_item, writes_item}
 use Rattle.item_index.specs.declared.ahead.Ahead.{Ahead}
 use Rattle.wave_pick.specs.Holds.{reach_after}
 use Rattle.wave_pick.specs.Scheduling.{AddsReach, Covers, Flags, HasReach, HaveReaches, IsAgain, IsIndex, IsKnown, IsListed, RestsListed, RestsStill}
+use Rattle.wave_pick.specs.Telling.{kept_reach}
 use Rattle.wave_pick.specs.declared.scheduler.Scheduler.{Scheduler}
 use Rattle.interleaving.proofs.Members.{has-snoc}
 use mathlib.Core.Bool.{or-false}
@@ -54,22 +56,22 @@ module _ (ks : List ℕ) (k : ℕ) (again later next : List Bool) (f : Flags ks 
 pub listed_so : {s later : Scheduler} {i k : ℕ} → slice_get later.resting.items i ≡ slice_get s.resting.items i → IsListed s i k → IsListed later i k
 listed_so same l = record { list = l.list; at = ap (option_map (λ v. v.items)) same ∙ l.at; has_it = l.has_it }
 
--- What rests on a place rests on it in each scheduler that lists it there.
-abbrev pub on_so : (t : Trace) (window r k : ℕ) {s later : Scheduler} → (on : RestsListed t window r k s) → IsListed later on.on k
+-- What rests on some places rests on them in each scheduler that lists it there.
+abbrev pub on_so : (t : Trace) (window r k : ℕ) {s later : Scheduler} → (on : RestsListed t window r k s) → ((i : ℕ) → has on.on i ≡ true → IsListed later i k)
     → RestsListed t window r k later
-on_so t window r k on listed = record { on = on.on; is_before = on.is_before; waits = on.waits; rests = on.rests; listed = listed }
+on_so t window r k on listed = record { on = on.on; these = on.these; listed = listed }
 
-pub still_so : (t : Trace) (window q k : ℕ) {e e' : Bool} {s later : Scheduler} → (r : RestsStill t window q k e s) → IsListed later r.by.on k
+pub still_so : (t : Trace) (window q k : ℕ) {e e' : Bool} {s later : Scheduler} → (r : RestsStill t window q k e s) → ((i : ℕ) → has r.by.on i ≡ true → IsListed later i k)
     → HasReach later k (reach_after t window r.last k)
-    → HasReach later r.by.on (reach_after t window r.last r.by.on) → (e' ≡ false → Covers later.ahead (reach_after t window r.last k))
+    → ((i : ℕ) → has r.by.on i ≡ true → HasReach later i (reach_after t window r.last i)) → (e' ≡ false → Covers later.ahead (reach_after t window r.last k))
     → RestsStill t window q k e' later
-still_so t window q k r listed reach other covered = record {
+still_so t window q k r listed reach others covered = record {
   last = r.last;
   next = r.next;
   by = on_so t window r.last k r.by listed;
   reach = reach;
-  other_waits = r.other_waits;
-  other_reach = other;
+  others_wait = r.others_wait;
+  other_reaches = others;
   within = r.within;
   covered = covered;
 }
@@ -81,15 +83,15 @@ module _ (t : Trace) (window q k : ℕ) (s later : Scheduler) (reaches : later.r
     reach = ap (λ v. slice_get v.items k) reaches ∙ known.reach;
     rests = elim known.rests [
       | inl is ↦ inl (ap (λ v. slice_get v.items k) again ∙ is)
-      | inr r ↦ inr (on_so t window q k r (listed_so (ap (λ v. slice_get v.items r.on) resting) r.listed))
+      | inr r ↦ inr (on_so t window q k r (λ i e. listed_so (ap (λ v. slice_get v.items i) resting) (r.listed i e)))
     ];
   }
 
   pub waits_so : (e e' : Bool) → (e' ≡ false → (e ≡ false) × (later.ahead ≡ s.ahead)) → IsAgain s k ⊎ RestsStill t window q k e s
       → IsAgain later k ⊎ RestsStill t window q k e' later
   waits_so e e' index (inl is) = inl (ap (λ v. slice_get v.items k) again ∙ is)
-  waits_so e e' index (inr r) = inr (still_so t window q k r (listed_so (ap (λ v. slice_get v.items r.by.on) resting) r.by.listed)
-      (ap (λ v. slice_get v.items k) reaches ∙ r.reach) (ap (λ v. slice_get v.items r.by.on) reaches ∙ r.other_reach)
+  waits_so e e' index (inr r) = inr (still_so t window q k r (λ i h. listed_so (ap (λ v. slice_get v.items i) resting) (r.by.listed i h))
+      (ap (λ v. slice_get v.items k) reaches ∙ r.reach) (λ i h. ap (λ v. slice_get v.items i) reaches ∙ r.other_reaches i h)
       (λ f. let i = index f in subst (λ a. Covers a (reach_after t window r.last k)) (sym i.1) (r.covered i.0)))
 
 -- The index with one reach more.
@@ -121,7 +123,7 @@ module _ (does : Footprint → Bool) where
   and_less false true h = absurd (h tt)
   and_less false false h = refl
 
-  one_at_is : (table : List (Option Footprint)) (ks : List ℕ) (gs : List Footprint) → map (slice_get table) ks ≡ map (λ f. Some (Some f)) gs
+  pub one_at_is : (table : List (Option Footprint)) (ks : List ℕ) (gs : List Footprint) → map (slice_get table) ks ≡ map (λ f. Some (Some f)) gs
       → one_at table ks does ≡ list_any does gs
   one_at_is table ks gs e = at ks ∙ ap (list_any (at_place does)) e ∙ inside gs
     where
@@ -132,6 +134,22 @@ module _ (does : Footprint → Bool) where
       at : (ks : List ℕ) → one_at table ks does ≡ list_any (at_place does) (map (slice_get table) ks)
       at [] = refl
       at (k ∷ ks) = ap (λ b. at_place does (slice_get table k) || b) (at ks)
+
+  -- One place more, whose reach a table has or not.
+  abbrev pub by_reach : Option Footprint → Bool
+  by_reach (Some f) = does f
+  by_reach None = false
+
+  at_kept : (o : Option (Option Footprint)) → at_place does o ≡ by_reach (kept_reach o)
+  at_kept (Some (Some f)) = refl
+  at_kept (Some None) = refl
+  at_kept None = refl
+
+  pub one_at_more : (table : List (Option Footprint)) (ks : List ℕ) (k : ℕ) (b : Bool) → b ≡ one_at table ks does → (o : Option Footprint) → o ≡ kept_reach (slice_get table k)
+      → one_at table (ks ++ k ∷ []) does ≡ (b || by_reach o)
+  one_at_more table ks k b so o kept =
+      list_any-append (λ j. at_place does (slice_get table j)) ks (k ∷ [])
+      ∙ (λ i. sym so i || or-false (at_place does (slice_get table k)) i) ∙ ap (λ c. b || c) (at_kept (slice_get table k) ∙ ap by_reach (sym kept))
 
   -- So an index that covers each of the reaches that a table has of some places tells what one of these does.
   pub one_of_these : (s : Scheduler) (b : Bool) (table : List (Option Footprint)) (ks : List ℕ) (gs : List Footprint) → table ≡ s.reaches.items
@@ -179,3 +197,9 @@ covers_each s gs i y g e = elim (cases_Bool s.exact) [
       }
   | inr others ↦ i.among others y g e
 ]
+
+-- What a table has as the reach of a place.
+pub kept_some : (o : Option (Option Footprint)) (f : Footprint) → Some f ≡ kept_reach o → o ≡ Some (Some f)
+kept_some (Some (Some g)) f e = ap Some (sym e)
+kept_some (Some None) f e = (cc)
+kept_some None f e = (cc)

@@ -10,8 +10,11 @@ use Rattle.interleaving.specs.Machine.{has}
 use Rattle.interleaving.specs.Gather.{AllDifferent}
 use Rattle.interleaving.proofs.Members.{has-front, has-middle, has-other, has-snoc}
 use Rattle.world_parts.specs.Items.{Footprint}
-use Rattle.wave_pick.specs.Scheduling.{Flags, HasReach, IsAgain, IsListed, Lists, Releases, Renews, Wakes}
+use Rattle.item_index.specs.declared.ahead.Ahead.{Ahead}
+use Rattle.wave_pick.specs.Scheduling.{AddsReach, Flags, HasReach, IsAgain, IsListed, Keeps, Lists, Releases, Renews, Wakes}
+use Rattle.wave_pick.specs.declared.scheduler.Rest.{Rest}
 use Rattle.wave_pick.specs.declared.scheduler.Scheduler.{Scheduler}
+use Rattle.wave_pick.specs.declared.scheduler.View.{View}
 use Rattle.wave_pick.specs.declared.wave.Chosen.{Chosen}
 use Rattle.wave_pick.proofs.Knowing.{listed_so}
 use Rattle.wave_pick.proofs.Lists.{set-here, set-other}
@@ -24,9 +27,15 @@ Listed = Vec ℕ Global
 in_list : (s : Scheduler) (i j : ℕ) (list : Listed) → slice_get s.resting.items i ≡ Some list → IsListed s i j → has list.items j ≡ true
 in_list s i j list there l = ap (λ xs. has xs j) (same_Some _ _ (sym (ap (option_map (λ (v : Listed). v.items)) there) ∙ l.at)) ∙ l.has_it
 
--- A place is listed with another one.
-module _ (s later : Scheduler) (k on : ℕ) (old new : Listed) (there : slice_get s.resting.items on ≡ Some old) (within : on < length s.resting.items) (more : new.items ≡ old.items ++ k ∷ []) (resting : later.resting.items ≡ set s.resting.items on new) (again : later.again.items ≡ set s.again.items k false)
-    (rest : later ≡ record s { again = later.again; resting = later.resting }) where
+-- A place is listed with those of some so far.
+pub record ListsSoFar (k : ℕ) (on : List ℕ) (s later : Scheduler) : Type 0 where
+  pub many : length later.resting.items ≡ length s.resting.items
+  pub listed : (i j : ℕ) → IsListed s i j → IsListed later i j
+  pub here : (i : ℕ) → has on i ≡ true → IsListed later i k
+  pub rest : later ≡ record s { resting = later.resting }
+
+-- It is listed with one more.
+module _ (s later : Scheduler) (k on : ℕ) (old new : Listed) (there : slice_get s.resting.items on ≡ Some old) (within : on < length s.resting.items) (more : new.items ≡ old.items ++ k ∷ []) (resting : later.resting.items ≡ set s.resting.items on new) where
   abbrev now : option_map (λ (v : Listed). v.items) (slice_get later.resting.items on) ≡ Some (old.items ++ k ∷ [])
   now = ap (λ xs. option_map (λ (v : Listed). v.items) (slice_get xs on)) resting ∙ ap (option_map (λ (v : Listed). v.items)) (set-here s.resting.items on new within) ∙ ap (λ xs. Some xs) more
 
@@ -38,14 +47,37 @@ module _ (s later : Scheduler) (k on : ℕ) (old new : Listed) (there : slice_ge
   }
   still_listed i j (inr ne) l = listed_so (ap (λ xs. slice_get xs i) resting ∙ set-other s.resting.items on i new ne) l
 
-  pub lists_there : Lists k (Some on) s later
-  lists_there = record {
-    many_again = ap length again ∙ length-set s.again.items k false;
-    many_resting = ap length resting ∙ length-set s.resting.items on new;
-    still = λ j ne e. ap (λ xs. slice_get xs j) again ∙ set-other s.again.items k j false ne ∙ e;
-    listed = λ i j l. still_listed i j (cases_eq i on) l;
-    rests = inr (on, refl, record { list = old.items ++ k ∷ []; at = now; has_it = has-middle old.items k [] });
-    rest = rest;
+  pub lists_more : (first : Scheduler) (ks : List ℕ) → ListsSoFar k ks first s → later ≡ record s { resting = later.resting } → ListsSoFar k (ks ++ on ∷ []) first later
+  lists_more first ks so rest = record {
+    many = ap length resting ∙ length-set s.resting.items on new ∙ so.many;
+    listed = λ i j l. still_listed i j (cases_eq i on) (so.listed i j l);
+    here = λ i e. elim (has-snoc ks on i e) [
+      | inl before ↦ still_listed i k (cases_eq i on) (so.here i before)
+      | inr same ↦ subst (λ n. IsListed later n k) (sym same) (record { list = old.items ++ k ∷ []; at = now; has_it = has-middle old.items k [] })
+    ];
+    rest = rest ∙ ap (λ (x : Scheduler). record x { resting = later.resting }) so.rest;
+  }
+
+-- It is listed with all, and needn't be looked at; or it is to be looked at still.
+module _ (k : ℕ) (on : List ℕ) (s mid : Scheduler) where
+  pub lists_all : ListsSoFar k on s mid → (later : Scheduler) → later.again.items ≡ set mid.again.items k false → later ≡ record mid { again = later.again } → Lists k on s later
+  lists_all so later again rest = record {
+    many_again = ap length again ∙ length-set mid.again.items k false ∙ ap (λ (x : Scheduler). length x.again.items) so.rest;
+    many_resting = ap (λ (x : Scheduler). length x.resting.items) rest ∙ so.many;
+    still = λ j ne e. ap (λ xs. slice_get xs j) again ∙ set-other mid.again.items k j false ne ∙ ap (λ (x : Scheduler). slice_get x.again.items j) so.rest ∙ e;
+    listed = λ i j l. listed_so (ap (λ (x : Scheduler). slice_get x.resting.items i) rest) (so.listed i j l);
+    rests = inr (λ i e. listed_so (ap (λ (x : Scheduler). slice_get x.resting.items i) rest) (so.here i e));
+    rest = rest ∙ ap (λ (x : Scheduler). record x { again = later.again }) so.rest ∙ (λ i. record s { again = later.again; resting = sym (ap (λ (x : Scheduler). x.resting) rest) i });
+  }
+
+  pub lists_some : (some : List ℕ) → ListsSoFar k some s mid → Lists k on s mid
+  lists_some some so = record {
+    many_again = ap (λ (x : Scheduler). length x.again.items) so.rest;
+    many_resting = so.many;
+    still = λ j ne e. ap (λ (x : Scheduler). slice_get x.again.items j) so.rest ∙ e;
+    listed = so.listed;
+    rests = inl (λ e. ap (λ (x : Scheduler). slice_get x.again.items k) so.rest ∙ e);
+    rest = so.rest ∙ (λ i. record s { again = sym (ap (λ (x : Scheduler). x.again) so.rest) i; resting = mid.resting });
   }
 
 -- Those of a list are to be looked at, and the list is empty.
@@ -130,7 +162,6 @@ module _ (ks : List ℕ) (k : ℕ) (s mid taken later : Scheduler) (chosen : Lis
     release_step = record {
       same = record {
         round = ap (λ (x : Scheduler). x.round) w.rest ∙ ap (λ (x : Scheduler). x.round) same ∙ r.same.round;
-        exact = ap (λ (x : Scheduler). x.exact) w.rest ∙ ap (λ (x : Scheduler). x.exact) same ∙ r.same.exact;
         reaches = ap (λ (x : Scheduler). length x.reaches.items) w.rest ∙ ap length reaches ∙ length-set mid.reaches.items k None ∙ r.same.reaches;
         again = w.many_again ∙ same_many;
         resting = w.many_resting ∙ ap (λ (x : Scheduler). length x.resting.items) same ∙ r.same.resting;
@@ -153,3 +184,27 @@ one_taken reach was e d = cc
 
 pub none_taken : {Y : Type 0} (reach : Footprint) {x : Option Footprint} → ◌≡◌ {A = Option (Option Footprint)} (Some x) (Some (Some reach)) → x ≡ None → Y
 none_taken reach e d = (cc)
+
+-- What is seen of a place is kept: its reach is added, then kept, and it is listed.
+pub keeps_so : (k : ℕ) (v : View) (s : Scheduler) (ahead : Ahead) (added : ℕ) (mid later : Scheduler) → AddsReach s.ahead ahead v.reach → Renews k v.reach (record s { ahead = ahead; added = added }) mid → (on : List ℕ) → Lists k on mid later
+    → (IsAgain mid k → IsAgain later k) ⊎ ((r : Rest) × ((v.rest ≡ Some r) × ((i : ℕ) → has r.on.items i ≡ true → IsListed later i k)))
+    → Keeps k v s later
+keeps_so k v s ahead added mid later adds renews on lists told = record {
+  same = record {
+    round = ap (λ (x : Scheduler). x.round) lists.rest ∙ ap (λ (x : Scheduler). x.round) renews.rest;
+    reaches = ap (λ (x : Scheduler). length x.reaches.items) lists.rest ∙ ap length renews.reaches ∙ length-set s.reaches.items k (Some v.reach);
+    again = lists.many_again ∙ renews.many_again;
+    resting = lists.many_resting ∙ renews.many_resting;
+  };
+  exact = ap (λ (x : Scheduler). x.exact) lists.rest ∙ ap (λ (x : Scheduler). x.exact) renews.rest;
+  index = subst (λ a. AddsReach s.ahead a v.reach) (sym (ap (λ (x : Scheduler). x.ahead) lists.rest ∙ ap (λ (x : Scheduler). x.ahead) renews.rest)) adds;
+  reaches = ap (λ (x : Scheduler). x.reaches.items) lists.rest ∙ renews.reaches;
+  still = λ j apart is. lists.still j apart (renews.still j is);
+  listed = λ i j apart l. lists.listed i j (record { list = l.list; at = ap (option_map (λ (x : Listed). x.items)) (renews.others i apart) ∙ l.at; has_it = l.has_it });
+  woken = λ j apart low l. elim (renews.woken j (record { list = l.list; at = l.at; has_it = l.has_it }) low) [ inl is ↦ inl (lists.still j apart is) | inr rests ↦ inr (rests.0, lists.listed k j rests.1) ];
+  rests = elim told [ inl stays ↦ inl (λ is. stays (renews.still k is)) | inr all ↦ inr all ];
+}
+
+-- A place that rests on none stays as it is.
+pub lists_none : (k : ℕ) (s : Scheduler) → Lists k [] s s
+lists_none k s = record { many_again = refl; many_resting = refl; still = λ j ne e. e; listed = λ i j l. l; rests = inl (λ e. e); rest = refl }

@@ -1,10 +1,12 @@
 -- Lists that are read and written place by place.
-use Rattle.std.proofs.Common.{◌≡◌, ◌≢◌, ℕ, zero, suc, ◌<◌, Bool, true, false, List, [], ◌∷◌, ◌++◌, length, ◌⊎◌, inl, inr, ⊎_elim, refl, sym, ap, ◌∙◌, arith, Some}
+use Rattle.std.proofs.Common.{◌≡◌, ◌≢◌, ℕ, zero, suc, ◌<◌, Bool, true, false, List, [], ◌∷◌, ◌++◌, length, ◌⊎◌, inl, inr, ⊎_elim, refl, sym, ap, subst, ◌∙◌, arith, Some}
 use Rattle.std.specs.Prelude.{slice_get}
 use Rattle.std.proofs.Math.ListN.{set}
 use Rattle.std.proofs.Math.Seq.{lt-length-set}
 use Rattle.std.proofs.lemmas.List.{get_or-set_same}
 use Rattle.std.proofs.lemmas.Option.{slice_get-get_or, slice_get_cases}
+use Rattle.interleaving.specs.Machine.{has}
+use Rattle.interleaving.proofs.Members.{has-cases, has-here, has-later}
 
 -- A test doesn't both pass and fail.
 pub not_both : {Y : Type 0} {b : Bool} → b ≡ true → b ≡ false → Y
@@ -31,3 +33,10 @@ module _ {X : Type 0} where
   set-other (y ∷ xs) zero (suc j) x ne = refl
   set-other (y ∷ xs) (suc k) zero x ne = refl
   set-other (y ∷ xs) (suc k) (suc j) x ne = set-other xs k j x (λ e. ne (ap suc e))
+
+-- Where something holds of each number of a list, or another fact does, it holds of all or the other fact does.
+pub all_or : (A : Type 0) (P : ℕ → Type 0) (is : List ℕ) → ((i : ℕ) → has is i ≡ true → A ⊎ P i) → A ⊎ ((i : ℕ) → has is i ≡ true → P i)
+all_or A P [] each = inr (λ i e. (cc))
+all_or A P (x ∷ is) each = ⊎_elim inl (λ here.
+    ⊎_elim inl (λ later. inr (λ i e. ⊎_elim (λ same. subst P (sym same) here) (λ l. later i l) (has-cases i x is e)))
+    (all_or A P is (λ i e. each i (has-later i x is e)))) (each x (has-here x is))

@@ -16,18 +16,18 @@ use Rattle.world_parts.specs.World.{World}
 use Rattle.world_parts.specs.Items.{Footprint}
 use Rattle.foot_print.specs.Replayed.{replayed}
 use Rattle.wave_pick.specs.Picking.{free_from, reaches_from}
-use Rattle.wave_pick.specs.Resting.{RestsOn, StaysAsIs}
+use Rattle.wave_pick.specs.Resting.{AllStay, OneHolds, RestsOnAll, StaysAsIs}
 use Rattle.wave_pick.specs.Rounds.{state_after}
-use Rattle.wave_pick.specs.Scheduling.{AddsReach, AreBefore, AreFirst, Covers, HasReach, HasRoom, HaveReaches, HaveSeen, IsAgain, IsIndex, IsKnown, IsListed, IsSameRound, IsView, Keeps, RestsStill, Sees}
-use Rattle.wave_pick.specs.Holds.{HoldsBack, Waits, world_after, footprint_after, reaches_after, reach_after}
+use Rattle.wave_pick.specs.Scheduling.{AddsReach, AreBefore, AreFirst, Covers, Freshens, HasReach, HasRoom, HaveReaches, HaveSeen, IsAgain, IsIndex, IsKnown, IsListed, IsSameRound, IsView, Keeps, RestsStill, Sees}
+use Rattle.wave_pick.specs.Holds.{Waits, world_after, footprint_after, reaches_after, reach_after}
 use Rattle.wave_pick.specs.declared.scheduler.Scheduler.{Scheduler}
 use Rattle.wave_pick.specs.declared.scheduler.View.{View}
 use Rattle.wave_pick.proofs.Knowing.{covers_still, index_covers, index_grew, known_so, on_so, still_so, waits_so}
 use Rattle.wave_pick.proofs.Looked.{free_more, pending_reaches, take_pending}
-use Rattle.wave_pick.proofs.Resting.{rests_on_stays}
+use Rattle.wave_pick.proofs.Resting.{rests_on_all_stays}
 use Rattle.wave_pick.proofs.Seeing.{has-got}
 use Rattle.wave_pick.proofs.Within.{before_pending, not_in_more, pending_has}
-use Rattle.wave_pick.proofs.Lists.{not_both, set-here, set-other}
+use Rattle.wave_pick.proofs.Lists.{all_or, not_both, set-here, set-other}
 
 -- A place that waits from one round to the next with the same reach.
 stays_so : (t : Trace) (window p k : ℕ) → Waits t window (suc p) k → reach_after t window (suc p) k ≡ reach_after t window p k → StaysAsIs t window p (suc p) k
@@ -46,20 +46,24 @@ one_reach d e = cc
 pub same_on : {s mid later : Scheduler} → IsSameRound s mid → IsSameRound mid later → IsSameRound s later
 same_on a b = record {
   round = b.round ∙ a.round;
-  exact = b.exact ∙ a.exact;
   reaches = b.reaches ∙ a.reaches;
   again = b.again ∙ a.again;
   resting = b.resting ∙ a.resting;
 }
 
-pub same_rest : {s mid later : Scheduler} → IsSameRound s mid → later ≡ record mid { ahead = later.ahead; added = later.added } → IsSameRound s later
-same_rest a e = same_on a (record {
-  round = ap (λ (x : Scheduler). x.round) e;
-  exact = ap (λ (x : Scheduler). x.exact) e;
-  reaches = ap (λ (x : Scheduler). length x.reaches.items) e;
-  again = ap (λ (x : Scheduler). length x.again.items) e;
-  resting = ap (λ (x : Scheduler). length x.resting.items) e;
+same_tables : {s mid later : Scheduler} → IsSameRound s mid → later.round ≡ mid.round → later.reaches ≡ mid.reaches → later.again ≡ mid.again → later.resting ≡ mid.resting → IsSameRound s later
+same_tables a round reaches again resting = same_on a (record {
+  round = round;
+  reaches = ap (λ v. length v.items) reaches;
+  again = ap (λ v. length v.items) again;
+  resting = ap (λ v. length v.items) resting;
 })
+
+pub same_rest : {s mid later : Scheduler} → IsSameRound s mid → later ≡ record mid { ahead = later.ahead; added = later.added } → IsSameRound s later
+same_rest a e = same_tables a (ap (λ (x : Scheduler). x.round) e) (ap (λ (x : Scheduler). x.reaches) e) (ap (λ (x : Scheduler). x.again) e) (ap (λ (x : Scheduler). x.resting) e)
+
+pub same_fresh : {s mid later : Scheduler} → IsSameRound s mid → later ≡ record mid { ahead = later.ahead; exact = later.exact; added = later.added } → IsSameRound s later
+same_fresh a e = same_tables a (ap (λ (x : Scheduler). x.round) e) (ap (λ (x : Scheduler). x.reaches) e) (ap (λ (x : Scheduler). x.again) e) (ap (λ (x : Scheduler). x.resting) e)
 
 module _ (t : Trace) (spelled : IsSpelled t) (window : ℕ) (w : World) (q : ℕ) (first : List ℕ) (a : AreFirst t window w q first) where
   abbrev done : ℕ → Bool
@@ -119,6 +123,19 @@ module _ (t : Trace) (spelled : IsSpelled t) (window : ℕ) (w : World) (q : ℕ
         (λ i. is i ++ (if (e ∙ ap (is_clear (replayed t) (footprint_after t window q k)) (sym before_is)) i then k ∷ [] else []))
         ∙ sym (free_more t (world_after t window q) [] (take x first) k)
 
+    -- Before it is looked at, the index may be made anew.
+    pub fresh_step : (s : Scheduler) (free : List ℕ) → HaveSeen t window q (take x first) s free → (later : Scheduler) → Freshens (take x first) s later → HaveSeen t window q (take x first) later free
+    fresh_step s free h later f =
+        let reaches = ap (λ (z : Scheduler). z.reaches) f.rest in
+        let again = ap (λ (z : Scheduler). z.again) f.rest in
+        let resting = ap (λ (z : Scheduler). z.resting) f.rest in
+        record {
+          index = f.index (map reach_of (take x first)) (table_has s (take x first) (λ j e. (h.seen j e).reach)) h.index;
+          seen = λ j e. known_so t window q j s later reaches again resting (h.seen j e);
+          others = λ j low waits none. waits_so t window q j s later reaches again resting s.exact later.exact f.others (h.others j low waits none);
+          free_are = h.free_are;
+        }
+
     -- A look at it, which is kept.
     module _ (s : Scheduler) (free : List ℕ) (h : HaveSeen t window q (take x first) s free) (room : HasRoom (places t) s) (again : IsAgain s k) (v : View) (view : IsView t window q k v) (later : Scheduler) (keeps : Keeps k v s later) where
       abbrev in_room : k < length s.reaches.items
@@ -135,9 +152,7 @@ module _ (t : Trace) (spelled : IsSpelled t) (window : ℕ) (w : World) (q : ℕ
         reach = reach_there ∙ ap (λ f. Some (Some f)) view.reach;
         rests = elim keeps.rests [
           | inl still ↦ inl (still again)
-          | inr found ↦
-              let r = view.rests found.0 found.1 in
-              inr (record { on = found.0; is_before = r.is_before; waits = r.waits; rests = r.rests; listed = found.2 })
+          | inr found ↦ inr (record { on = found.0.on.items; these = view.rests found.0 found.1.0; listed = found.1.1 })
         ];
       }
 
@@ -150,31 +165,39 @@ module _ (t : Trace) (spelled : IsSpelled t) (window : ℕ) (w : World) (q : ℕ
             reach = reach_apart j apart ∙ old.reach;
             rests = elim old.rests [
               | inl is ↦ inl (keeps.still j apart is)
-              | inr r ↦ let low = r.is_before in inr (on_so t window q j r (keeps.listed r.on j (λ same. omega (arith, below, low, same)) r.listed))
+              | inr r ↦ inr (on_so t window q j r (λ i on. let low = (r.these.before i on).0 in keeps.listed i j (λ same. omega (arith, below, low, same)) (r.listed i on)))
             ];
           }
 
       module _ (j : ℕ) (apart : j ≢ k) (low : j < places t) (r : RestsStill t window q j s.exact s) where
-        still : IsListed later r.by.on j → HasReach later r.by.on (reach_after t window r.last r.by.on) → RestsStill t window q j later.exact later
-        still listed other = still_so t window q j r listed (reach_apart j apart ∙ r.reach) other
-            (λ e. covers_still s.ahead later.ahead v.reach keeps.index (reach_after t window r.last j) (r.covered (sym keeps.same.exact ∙ e)))
+        abbrev Kept : ℕ → Type 0
+        Kept i = IsListed later i j × HasReach later i (reach_after t window r.last i)
 
-        rests_or_again : (r.by.on ≡ k) ⊎ (r.by.on ≢ k) → IsAgain later j ⊎ RestsStill t window q j later.exact later
-        rests_or_again (inr ne) = inr (still (keeps.listed r.by.on j ne r.by.listed) (reach_apart r.by.on ne ∙ r.other_reach))
-        rests_or_again (inl e) = elim (keeps.woken j apart (let many = room.again in omega (arith, low, many)) (subst (λ i. IsListed s i j) e r.by.listed)) [
+        kept_or_again : (i : ℕ) → has r.by.on i ≡ true → (i ≡ k) ⊎ (i ≢ k) → IsAgain later j ⊎ Kept i
+        kept_or_again i on (inr ne) = inr (keeps.listed i j ne (r.by.listed i on), reach_apart i ne ∙ r.other_reaches i on)
+        kept_or_again i on (inl e) = elim (keeps.woken j apart (let many = room.again in omega (arith, low, many)) (subst (λ n. IsListed s n j) e (r.by.listed i on))) [
           | inl woken ↦ inl woken
-          | inr p ↦ inr (still (subst (λ i. IsListed later i j) (sym e) p.1)
-              (ap (slice_get later.reaches.items) e ∙ reach_there
-              ∙ ap (λ f. Some (Some f)) (one_reach p.0 (ap (slice_get s.reaches.items) (sym e) ∙ r.other_reach))))
+          | inr p ↦ inr (
+            subst (λ n. IsListed later n j) (sym e) p.1,
+            ap (slice_get later.reaches.items) e ∙ reach_there
+                ∙ ap (λ f. Some (Some f)) (one_reach p.0 (ap (slice_get s.reaches.items) (sym e) ∙ r.other_reaches i on)),
+          )
+        ]
+
+        rests_or_again : IsAgain later j ⊎ RestsStill t window q j later.exact later
+        rests_or_again = elim (all_or (IsAgain later j) Kept r.by.on (λ i on. kept_or_again i on (cases_eq i k))) [
+          | inl again ↦ inl again
+          | inr all ↦ inr (still_so t window q j r (λ i on. (all i on).0) (reach_apart j apart ∙ r.reach) (λ i on. (all i on).1)
+              (λ e. covers_still s.ahead later.ahead v.reach keeps.index (reach_after t window r.last j) (r.covered (sym keeps.exact ∙ e))))
         ]
 
       pub look_step : HaveSeen t window q (take x first ++ k ∷ []) later (if v.free then free ++ k ∷ [] else free)
       look_step = record {
-        index = subst (IsIndex later) (ap (λ f. map reach_of (take x first) ++ f ∷ []) view.reach ∙ sym (map-append reach_of (take x first) (k ∷ []))) (index_grew s later keeps.same.exact (map reach_of (take x first)) h.index v.reach keeps.index);
+        index = subst (IsIndex later) (ap (λ f. map reach_of (take x first) ++ f ∷ []) view.reach ∙ sym (map-append reach_of (take x first) (k ∷ []))) (index_grew s later keeps.exact (map reach_of (take x first)) h.index v.reach keeps.index);
         seen = λ j e. elim (has-snoc (take x first) k j e) [ inl there ↦ known_still j there | inr here ↦ subst (λ i. IsKnown t window q i later) (sym here) known_now ];
         others = λ j low waits none.
             let l = not_in_more (take x first) k j none in
-            elim (h.others j low waits l.0) [ inl is ↦ inl (keeps.still j l.1 is) | inr r ↦ rests_or_again j l.1 low r (cases_eq r.by.on k) ];
+            elim (h.others j low waits l.0) [ inl is ↦ inl (keeps.still j l.1 is) | inr r ↦ rests_or_again j l.1 low r ];
         free_are =
             (elim v.free as (λ b. (if b then free ++ k ∷ [] else free) ≡ free ++ (if b then k ∷ [] else [])) [ true ↦ refl | false ↦ sym (append-nil free) ])
             ∙ more_free free v.free view.free h.free_are;
@@ -191,20 +214,20 @@ module _ (t : Trace) (spelled : IsSpelled t) (window : ℕ) (w : World) (q : ℕ
       abbrev r : RestsStill t window q k s.exact s
       r = rests_still
 
-      abbrev on : ℕ
+      abbrev on : List ℕ
       on = r.by.on
 
-      on_waits : Waits t window q on
-      on_waits = subst (λ n. Waits t window n on) (sym r.next) r.other_waits
+      on_waits : (i : ℕ) → has on i ≡ true → Waits t window q i
+      on_waits i e = subst (λ n. Waits t window n i) (sym r.next) (r.others_wait i e)
 
-      on_known : IsKnown t window q on s
-      on_known = h.seen on (earlier_has on r.by.is_before on_waits)
+      on_known : (i : ℕ) → has on i ≡ true → IsKnown t window q i s
+      on_known i e = h.seen i (earlier_has i (r.by.these.before i e).0 (on_waits i e))
 
-      on_stays : StaysAsIs t window r.last (suc r.last) on
-      on_stays = stays_so t window r.last on r.other_waits (ap (λ n. reach_after t window n on) (sym r.next) ∙ one_reach on_known.reach r.other_reach)
+      on_stays : AllStay t window r.last (suc r.last) on
+      on_stays i e = stays_so t window r.last i (r.others_wait i e) (ap (λ n. reach_after t window n i) (sym r.next) ∙ one_reach (on_known i e).reach (r.other_reaches i e))
 
-      now : (reach_after t window (suc r.last) k ≡ reach_after t window r.last k) × HoldsBack t window (suc r.last) on k
-      now = r.by.rests (suc r.last) (omega arith) on_stays
+      now : (reach_after t window (suc r.last) k ≡ reach_after t window r.last k) × OneHolds t window (suc r.last) on k
+      now = r.by.these.rests (suc r.last) (omega arith) on_stays
 
       reach_same : reach_after t window q k ≡ reach_after t window r.last k
       reach_same = ap (λ n. reach_after t window n k) r.next ∙ now.0
@@ -214,18 +237,19 @@ module _ (t : Trace) (spelled : IsSpelled t) (window : ℕ) (w : World) (q : ℕ
         reach = r.reach ∙ ap (λ f. Some (Some f)) (sym reach_same);
         rests = inr (record {
           on = on;
-          is_before = r.by.is_before;
-          waits = on_waits;
-          rests = subst (λ n. RestsOn t window n on k) (sym r.next) (rests_on_stays t window r.last on k r.by.rests on_stays);
+          these = record {
+            before = λ i e. ((r.by.these.before i e).0, on_waits i e);
+            rests = subst (λ n. RestsOnAll t window n on k) (sym r.next) (rests_on_all_stays t window r.last on k r.by.these.rests on_stays);
+          };
           listed = r.by.listed;
         });
       }
 
       held_there : is_clear (replayed t) (footprint_after t window (suc r.last) k) (reaches_after t window (suc r.last) k) ≡ false
       held_there = false_from_ne_true _ (λ clear.
-          let b = now.1 in
+          let b = now.1.1.1 in
           not_both b.collides (clear-of (replayed t) (footprint_after t window (suc r.last) k) (has (state_after t window (suc r.last)).finished)
-          (world_after t window (suc r.last)) k clear on b.is_before b.waits))
+          (world_after t window (suc r.last)) k clear now.1.0 b.is_before b.waits))
 
       held : false ≡ is_clear (replayed t) (footprint_after t window q k) (reaches_after t window q k)
       held = sym (subst (λ n. is_clear (replayed t) (footprint_after t window n k) (reaches_after t window n k) ≡ false) (sym r.next) held_there)

@@ -1,5 +1,7 @@
--- A place rests on one whose reach writes one of the items by which it waits.
-use Rattle.std.proofs.Common.{◌≡◌, ℕ, suc, ◌<◌, ◌≤◌, Bool, true, false, [], ◌∷◌, ◌++◌, inl, inr, refl, sym, ap, ◌∙◌, arith}
+-- A place rests on some of which one has a reach that writes one of the items by which it waits.
+use Rattle.std.proofs.Common.{◌≡◌, ℕ, suc, ◌<◌, ◌≤◌, Bool, true, false, List, [], ◌∷◌, ◌++◌, inl, inr, refl, sym, ap, ◌∙◌, arith}
+use Rattle.interleaving.proofs.Members.{has-here}
+use Rattle.interleaving.specs.Machine.{has}
 use Rattle.trace_format.specs.declared.trace.Trace.{Trace}
 use Rattle.trace_format.specs.Text.{IsSpelled}
 use Rattle.world_parts.specs.Items.{Use, Footprint}
@@ -10,24 +12,26 @@ use Rattle.foot_print.proofs.Agreement.{in_left, in_right}
 use Rattle.foot_print.proofs.Holding.{split}
 use Rattle.wave_pick.specs.Waiting.{look_after, IsDecided, WritesRow, accepted_after, wide_after, row_after}
 use Rattle.wave_pick.specs.Holds.{Waits, world_after, reaches_after, reach_after}
-use Rattle.wave_pick.specs.Resting.{StaysAsIs, RestsOn, WritesForAll, RestsByItems}
+use Rattle.wave_pick.specs.Resting.{AllStay, RestsByItems, RestsDecided, RestsOnAll, RestsTogether, RestsUndecided, WriteForAll}
 use Rattle.wave_pick.proofs.Deciding.{deciding_begins}
 use Rattle.wave_pick.proofs.Lists.{not_both}
 use Rattle.wave_pick.proofs.Orders.{accepted_reach, wide_reach}
-use Rattle.wave_pick.proofs.Resting.{same_reach, rests_on}
-use Rattle.wave_pick.proofs.RestingRows.{holds_by_row, writes_for_all_still, runs_still, rows_next}
+use Rattle.wave_pick.proofs.Resting.{alone, rests_on_all, same_reach}
+use Rattle.wave_pick.proofs.RestingRows.{holds_by_row, rows_next, runs_still, write_alone, write_for_all_still}
 use Rattle.wave_pick.proofs.Waiting.{decided_stays}
 use Rattle.wave_pick.proofs.Witness.{deciding_in_row, met_before, row_witness_holds, row_witness_stays}
 
 -- A place that is decided, with the same look as in the first round.
-module _ (t : Trace) (spelled : IsSpelled t) (window r i k : ℕ) (waits : Waits t window r k) (decided : IsDecided t window r k) (h : WritesForAll t window r i k) (w : WritesRow t window r i k) where
+module _ (t : Trace) (spelled : IsSpelled t) (window r i k : ℕ) (waits : Waits t window r k) (decided : IsDecided t window r k) (is : List ℕ) (is_one : has is i ≡ true) (h : WriteForAll t window r is k) (w : WritesRow t window r i k) where
   record StaysDecided (p : ℕ) : Type 0 where
     is_decided : IsDecided t window p k
     same_look : look_after t window p k ≡ look_after t window r k
     same_row : accepted_after t window p k ≡ accepted_after t window r k
 
-  row_written : (p : ℕ) → r ≤ p → StaysAsIs t window r p i → StaysDecided p → WritesRow t window p i k
-  row_written p le stays d = row_witness_stays t spelled window r p i k w.is_before stays.waits d.same_look (ap (λ f. is_met (row_after t window r k) (f ∷ [])) (same_reach t window r p i le stays) ∙ w.writes)
+  row_written : (p : ℕ) → r ≤ p → AllStay t window r p is → StaysDecided p → WritesRow t window p i k
+  row_written p le stays d =
+      let stay = stays i is_one in
+      row_witness_stays t spelled window r p i k w.is_before stay.waits d.same_look (ap (λ f. is_met (row_after t window r k) (f ∷ [])) (same_reach t window r p i le stay) ∙ w.writes)
 
   accepted_now : (p : ℕ) → StaysDecided p → WritesRow t window p i k → reach_after t window p k ≡ accepted_after t window r k
   accepted_now p d row = accepted_reach t k (world_after t window p) (reaches_after t window p k) d.is_decided.may_run d.is_decided.unmet
@@ -36,31 +40,31 @@ module _ (t : Trace) (spelled : IsSpelled t) (window r i k : ℕ) (waits : Waits
   decided_here : StaysDecided r
   decided_here = record { is_decided = decided; same_look = refl; same_row = refl }
 
-  decided_next : (p : ℕ) → r ≤ p → StaysAsIs t window r (suc p) i → Waits t window (suc p) k → StaysDecided p → StaysDecided (suc p)
+  decided_next : (p : ℕ) → r ≤ p → AllStay t window r (suc p) is → Waits t window (suc p) k → StaysDecided p → StaysDecided (suc p)
   decided_next p le stays later d =
       let kept = decided_stays t spelled window p k later d.is_decided in
-      let runs = runs_still t spelled window r i k w.is_before h (suc p) (omega (arith, le)) stays later decided.may_run in
+      let runs = runs_still t spelled window r k is h (suc p) (omega (arith, le)) stays later decided.may_run in
       record {
         is_decided = record { may_run = runs; unmet = kept.1 };
         same_look = kept.0 ∙ d.same_look;
-        same_row = (rows_next t spelled window r i k w.is_before h p le stays later d.is_decided.may_run).accepted d.is_decided.unmet ∙ d.same_row;
+        same_row = (rows_next t spelled window r k is h p le stays later d.is_decided.may_run).accepted d.is_decided.unmet ∙ d.same_row;
       }
 
-  pub rests_decided : RestsOn t window r i k
-  rests_decided = rests_on t spelled window r i k StaysDecided (record {
+  pub decided_rests : RestsOnAll t window r is k
+  decided_rests = rests_on_all t spelled window r is k StaysDecided (record {
     waits = waits;
     now = decided_here;
     told = λ p le stays later d.
         let row = row_written p le stays d in (
           accepted_now p d row ∙ sym (accepted_now r decided_here w),
-          holds_by_row t window p i k d.is_decided.may_run (writes_for_all_still t spelled window r i k w.is_before h p le stays later) row,
+          holds_by_row t window p i k is is_one d.is_decided.may_run (write_for_all_still t spelled window r k is h p le stays later) row,
         );
     next = decided_next;
   })
 
 -- A place that may run, of which the same item is the first that the reach of the earlier one writes.
 module _ (t : Trace) (spelled : IsSpelled t) (window r i k : ℕ) (known rest : Footprint) (first : Use) (lt : i < k) (now : Waits t window r i) (waits : Waits t window r k)
-    (run : is_taken_to_run t k (world_after t window r) (reaches_after t window r k) ≡ true) (h : WritesForAll t window r i k)
+    (run : is_taken_to_run t k (world_after t window r) (reaches_after t window r k) ≡ true) (is : List ℕ) (is_one : has is i ≡ true) (h : WriteForAll t window r is k)
     (deciding : (look_after t window r k).deciding ≡ known ++ first ∷ rest) (unmet : is_met known (reaches_after t window r k) ≡ false)
     (written : is_met (first ∷ []) (reach_after t window r i ∷ []) ≡ true) where
   record StaysUndecided (p : ℕ) : Type 0 where
@@ -83,37 +87,51 @@ module _ (t : Trace) (spelled : IsSpelled t) (window r i k : ℕ) (known rest : 
   undecided_here : StaysUndecided r
   undecided_here = record { runs = run; others = rest; begins = deciding; unwritten = unmet; same_row = refl }
 
-  undecided_next : (p : ℕ) → r ≤ p → StaysAsIs t window r (suc p) i → Waits t window (suc p) k → StaysUndecided p → StaysUndecided (suc p)
+  undecided_next : (p : ℕ) → r ≤ p → AllStay t window r (suc p) is → Waits t window (suc p) k → StaysUndecided p → StaysUndecided (suc p)
   undecided_next p le stays later d =
       let kept = deciding_begins t spelled window p k known d.others first later d.runs d.begins d.unwritten in
       record {
-        runs = runs_still t spelled window r i k lt h (suc p) (omega (arith, le)) stays later run;
+        runs = runs_still t spelled window r k is h (suc p) (omega (arith, le)) stays later run;
         others = kept.0.0;
         begins = kept.0.1;
         unwritten = kept.1;
-        same_row = (rows_next t spelled window r i k lt h p le stays later d.runs).wide ∙ d.same_row;
+        same_row = (rows_next t spelled window r k is h p le stays later d.runs).wide ∙ d.same_row;
       }
 
-  pub rests_undecided : RestsOn t window r i k
-  rests_undecided = rests_on t spelled window r i k StaysUndecided (record {
+  pub undecided_rests : RestsOnAll t window r is k
+  undecided_rests = rests_on_all t spelled window r is k StaysUndecided (record {
     waits = waits;
     now = undecided_here;
     told = λ p le stays later d.
-        let same = same_reach t window r p i le stays in (
-          wide_now p stays.waits same d ∙ sym (wide_now r now refl undecided_here),
-          holds_by_row t window p i k d.runs (writes_for_all_still t spelled window r i k lt h p le stays later) (deciding_in_row t window p i k lt stays.waits (deciding_written p same d)),
+        let stay = stays i is_one in
+        let same = same_reach t window r p i le stay in (
+          wide_now p stay.waits same d ∙ sym (wide_now r now refl undecided_here),
+          holds_by_row t window p i k is is_one d.runs (write_for_all_still t spelled window r k is h p le stays later) (deciding_in_row t window p i k lt stay.waits (deciding_written p same d)),
         );
     next = undecided_next;
   })
 
-pub rests_by_items : (t : Trace) → IsSpelled t → RestsByItems t
-rests_by_items t spelled window r i k f lt now waits wait h written = elim wait.by [
+pub rests_together : (t : Trace) → IsSpelled t → RestsTogether t
+rests_together t spelled window r i k is f is_one lt now waits wait h written = elim wait.by [
   | inl d ↦
       let both : is_met (d.known ++ d.first ∷ []) (reach_after t window r i ∷ []) ≡ true = ap (λ g. is_met g (reach_after t window r i ∷ [])) (sym d.here) ∙ written in
       let first : is_met (d.first ∷ []) (reach_after t window r i ∷ []) ≡ true = elim (split (λ (u : Use). written_by (reach_after t window r i ∷ []) u.item) d.known (d.first ∷ []) (holds_true _ both)) [
         | inl m ↦ not_both (met_before t window r i k lt now d.known (true_of _ m)) d.unwritten
         | inr m ↦ true_of _ m
       ] in
-      rests_undecided t spelled window r i k d.known d.rest d.first lt now waits wait.runs h d.all d.unwritten first
-  | inr d ↦ rests_decided t spelled window r i k waits (record { may_run = wait.runs; unmet = d.0 }) h (record { is_before = lt; waits = now; writes = ap (λ g. is_met g (reach_after t window r i ∷ [])) (sym d.1) ∙ written })
+      undecided_rests t spelled window r i k d.known d.rest d.first lt now waits wait.runs is is_one h d.all d.unwritten first
+  | inr d ↦ decided_rests t spelled window r i k waits (record { may_run = wait.runs; unmet = d.0 }) is is_one h (record { is_before = lt; waits = now; writes = ap (λ g. is_met g (reach_after t window r i ∷ [])) (sym d.1) ∙ written })
 ]
+
+-- On one that does it all.
+pub rests_by_items : (t : Trace) → IsSpelled t → RestsByItems t
+rests_by_items t spelled window r i k f lt now waits wait h written =
+    alone t window r i k (rests_together t spelled window r i k (i ∷ []) f (has-here i []) lt now waits wait (write_alone t window r i k lt now h) written)
+
+pub rests_decided : (t : Trace) → IsSpelled t → RestsDecided t
+rests_decided t spelled window r i k waits decided h w =
+    alone t window r i k (decided_rests t spelled window r i k waits decided (i ∷ []) (has-here i []) (write_alone t window r i k w.is_before w.waits h) w)
+
+pub rests_undecided : (t : Trace) → IsSpelled t → RestsUndecided t
+rests_undecided t spelled window r i k known rest first lt now waits run h deciding unmet written =
+    alone t window r i k (undecided_rests t spelled window r i k known rest first lt now waits run (i ∷ []) (has-here i []) (write_alone t window r i k lt now h) deciding unmet written)

@@ -1,7 +1,9 @@
--- What a place keeps that rests on one whose reach writes for all: whether it may run, whether a descriptor is written, and its rows.
+-- What a place keeps that rests on some whose reaches write for all: whether it may run, whether a descriptor is written, and its rows.
 use Rattle.std.proofs.Common.{◌≡◌, ℕ, suc, ◌<◌, ◌≤◌, true, false, if◌then◌else◌, List, [], ◌∷◌, ◌++◌, inl, inr, refl, sym, ap, subst, ◌∙◌, arith}
 use Rattle.std.specs.Prelude.{T, ◌&&◌, leb, Option, Some, None}
 use Rattle.std.proofs.lemmas.Bool.{cases_Bool, cond-true, cond-false}
+use Rattle.interleaving.proofs.Members.{has-here}
+use Rattle.interleaving.specs.Machine.{has}
 use Rattle.trace_format.specs.declared.trace.Trace.{Trace}
 use Rattle.trace_format.specs.Steps.{places}
 use Rattle.trace_format.specs.Text.{IsSpelled}
@@ -21,11 +23,11 @@ use Rattle.foot_print.proofs.Unmet.{canceled_linked}
 use Rattle.foot_print.proofs.Writing.{is_false, not_false, atom_of_writes, written_thin}
 use Rattle.wave_pick.specs.Lawful.{lawful}
 use Rattle.wave_pick.specs.Waiting.{WritesRow, ChainIsSettled, descriptors_wait, ReachRowsStay}
-use Rattle.wave_pick.specs.Holds.{Waits, world_after, footprint_after, reaches_after, reach_after, HoldsBack}
-use Rattle.wave_pick.specs.Resting.{StaysAsIs, WritesForAll}
+use Rattle.wave_pick.specs.Holds.{Waits, world_after, footprint_after, reaches_after, reach_after}
+use Rattle.wave_pick.specs.Resting.{AllStay, OneHolds, OneWrites, WriteForAll, WritesForAll}
 use Rattle.wave_pick.proofs.Lists.{not_both}
 use Rattle.wave_pick.proofs.Orders.{writes_chain}
-use Rattle.wave_pick.proofs.Resting.{stays_before, same_reach}
+use Rattle.wave_pick.proofs.Resting.{all_before, same_reach}
 use Rattle.wave_pick.proofs.Staying.{waited, keeps_round}
 use Rattle.wave_pick.proofs.Waiting.{until, turn_stays, look_next}
 use Rattle.wave_pick.proofs.Wide.{extras_same, wide_stays, unresolved_in_world}
@@ -35,7 +37,7 @@ use Rattle.wave_pick.proofs.Witness.{row_witness_holds, written_before}
 settled_runs : (t : Trace) (window r k : ℕ) → ChainIsSettled t window r k → is_taken_to_run t k (world_after t window r) (reaches_after t window r k) ≡ (if is_canceled (turn t k (world_after t window r)) then false else true)
 settled_runs t window r k e = cond-false _ _ _ e
 
--- A place whose reach writes the row of a later one holds that one back where its reach writes the flag of that one's chain, or nothing before that one does and it may run.
+-- A place whose reach writes the flag of a later one's chain holds that one back, where it is of a chain of two or more.
 module _ (t : Trace) (window r i k : ℕ) where
   abbrev flag : Atom
   flag = chain_flag (role t k).chain
@@ -46,14 +48,36 @@ module _ (t : Trace) (window r i k : ℕ) where
       let there = subst (λ (a : Atom). T (has_atom (reach_after t window r i) a)) (sym (same_atom-eq flag c.0 c.2)) (writes-has (reach_after t window r i) c.0 c.1) in
       true_of _ (first_writes-collide (footprint_after t window r k) (reach_after t window r i) flag (in_left (λ (u : Use). u.written && member_of u.item flag) (order_of t k) _ (writes_chain t k two)) there)
 
-  pub holds_by_row : is_taken_to_run t k (world_after t window r) (reaches_after t window r k) ≡ true → WritesForAll t window r i k → WritesRow t window r i k → HoldsBack t window r i k
+-- One of some places holds back one whose row another of them writes: that one, or the one that writes the flag of its chain.
+module _ (t : Trace) (window r i k : ℕ) (is : List ℕ) (is_one : has is i ≡ true) where
+  pub holds_by_row : is_taken_to_run t k (world_after t window r) (reaches_after t window r k) ≡ true → WriteForAll t window r is k → WritesRow t window r i k → OneHolds t window r is k
   holds_by_row run h w = elim (cases_Bool (is_canceled (turn t k (world_after t window r)))) [
     | inl off ↦ elim h.chain [
       | inl settled ↦ not_both run (settled_runs t window r k settled ∙ cond-true _ _ _ off)
-      | inr writes ↦ record { is_before = w.is_before; waits = w.waits; collides = flag_collides writes (canceled_linked t k (world_after t window r) [] off) }
+      | inr c ↦ (
+        c.place,
+        (
+          c.is_one,
+          record {
+            is_before = c.is_before;
+            waits = c.waits;
+            collides = flag_collides t window r c.place k c.writes (canceled_linked t k (world_after t window r) [] off);
+          },
+        ),
+      )
     ]
-    | inr on ↦ (row_witness_holds t window r i k w).1 on
+    | inr on ↦ (i, (is_one, (row_witness_holds t window r i k w).1 on))
   ]
+
+-- What one place writes for all is written by one of a list of one.
+pub write_alone : (t : Trace) (window r i k : ℕ) → i < k → Waits t window r i → WritesForAll t window r i k → WriteForAll t window r (i ∷ []) k
+write_alone t window r i k lt now h = record {
+  chain = elim h.chain [ inl settled ↦ inl settled | inr w ↦ inr (one_writes _ w) ];
+  descriptors = elim h.descriptors [ inl e ↦ inl e | inr d ↦ inr (elim d [ inl e ↦ inl e | inr w ↦ inr (one_writes _ w) ]) ];
+}
+  where
+    one_writes : (x : Item) → written_by (reach_after t window r i ∷ []) x ≡ true → OneWrites t window r (i ∷ []) k x
+    one_writes x w = record { place = i; is_one = has-here i []; is_before = lt; waits = now; writes = w }
 
 -- Where a turn doesn't take the lowest free descriptor, what it may make and its room are told by neither world nor reaches.
 same_extras : (t : Trace) (k : ℕ) (s u : World) (earlier later : List Footprint) (x : Option Turn) → turn_takes_lowest x ≡ false → extras_of t k u later x ≡ extras_of t k s earlier x
@@ -72,13 +96,22 @@ module _ (t : Trace) (spelled : IsSpelled t) (window : ℕ) where
       keeps_round (replayed t) (lawful t spelled) (places t) window n k later (λ rs. written_by rs all_descriptors ≡ false)
       (λ rs less m d. is_false _ (λ w. not_false _ d (written_thin t all_descriptors less rs m w))) h) q le waits e
 
-  module _ (r i k : ℕ) (lt : i < k) (h : WritesForAll t window r i k) where
-    module _ (p : ℕ) (le : r ≤ p) (stays : StaysAsIs t window r p i) (waits : Waits t window p k) where
-      writes_still : (x : Item) → written_by (reach_after t window r i ∷ []) x ≡ true → written_by (reach_after t window p i ∷ []) x ≡ true
-      writes_still x w = ap (λ f. written_by (f ∷ []) x) (same_reach t window r p i le stays) ∙ w
+  module _ (r k : ℕ) (is : List ℕ) (h : WriteForAll t window r is k) where
+    module _ (p : ℕ) (le : r ≤ p) (stays : AllStay t window r p is) (waits : Waits t window p k) where
+      writes_still : (x : Item) → OneWrites t window r is k x → OneWrites t window p is k x
+      writes_still x w = record {
+        place = w.place;
+        is_one = w.is_one;
+        is_before = w.is_before;
+        waits = (stays w.place w.is_one).waits;
+        writes = ap (λ f. written_by (f ∷ []) x) (same_reach t window r p w.place le (stays w.place w.is_one)) ∙ w.writes;
+      }
 
-      pub writes_for_all_still : WritesForAll t window p i k
-      writes_for_all_still = record {
+      before_writes : (x : Item) → OneWrites t window r is k x → written_by (reaches_after t window p k) x ≡ true
+      before_writes x w = let now = writes_still x w in written_before t window p now.place k now.is_before now.waits x now.writes
+
+      pub write_for_all_still : WriteForAll t window p is k
+      write_for_all_still = record {
         chain = elim h.chain [
           | inl settled ↦ inl ((turn_stays t spelled window r p k le waits settled).1)
           | inr w ↦ inr (writes_still (one (chain_flag (role t k).chain)) w)
@@ -94,16 +127,14 @@ module _ (t : Trace) (spelled : IsSpelled t) (window : ℕ) where
         | inl settled ↦
             let kept = turn_stays t spelled window r p k le waits settled in
             settled_runs t window p k kept.1 ∙ ap (λ (x : Option Turn). if is_canceled x then false else true) kept.0 ∙ sym (settled_runs t window r k settled) ∙ run
-        | inr w ↦
-            cond-true _ _ _ (written_before t window p i k lt stays.waits (one (chain_flag (role t k).chain))
-            (writes_still (one (chain_flag (role t k).chain)) w))
+        | inr w ↦ cond-true _ _ _ (before_writes (one (chain_flag (role t k).chain)) w)
       ]
 
-      descriptors_now : written_by (reach_after t window r i ∷ []) all_descriptors ≡ true → descriptors_wait t window p k ≡ true
-      descriptors_now w = written_before t window p i k lt stays.waits all_descriptors (writes_still all_descriptors w)
+      descriptors_now : OneWrites t window r is k all_descriptors → descriptors_wait t window p k ≡ true
+      descriptors_now w = before_writes all_descriptors w
 
     -- So the wide row of the later one stays from one round to the next, and so does its row as accepted where it is decided.
-    module _ (p : ℕ) (le : r ≤ p) (stays : StaysAsIs t window r (suc p) i) (waits : Waits t window (suc p) k)
+    module _ (p : ℕ) (le : r ≤ p) (stays : AllStay t window r (suc p) is) (waits : Waits t window (suc p) k)
         (run : is_taken_to_run t k (world_after t window p) (reaches_after t window p k) ≡ true) where
       abbrev s : World
       s = world_after t window p
@@ -117,8 +148,8 @@ module _ (t : Trace) (spelled : IsSpelled t) (window : ℕ) where
       next : r ≤ suc p
       next = omega (arith, le)
 
-      before : StaysAsIs t window r p i
-      before = stays_before t spelled window r p i stays
+      before : AllStay t window r p is
+      before = all_before t spelled window r p is stays
 
       waited_before : Waits t window p k
       waited_before = waited (replayed t) (lawful t spelled) (places t) window p k waits

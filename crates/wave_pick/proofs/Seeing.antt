@@ -1,8 +1,7 @@
 -- What is seen of a place behind others, and on which of them it rests.
 use Rattle.std.specs.Prelude.{◌≡◌, ℕ, zero, suc, ◌<◌, Bool, true, false, not, ◌&&◌, T, List, [], ◌∷◌, map, reverse, slice_get, Option, Some, None, IfSome, refl, if◌then◌else◌}
-use Rattle.std.specs.Borrow.{Bor}
 use Rattle.std.specs.List.{list_any}
-use Rattle.std.proofs.Common.{◌⊎◌, inl, inr, sym, ap, subst, ◌∙◌}
+use Rattle.std.proofs.Common.{inl, inr, sym, ap, subst, ◌∙◌}
 use mathlib.Core.Path.{fun_ext}
 use Rattle.std.proofs.lemmas.Bool.{cases_Bool}
 use Rattle.std.proofs.lemmas.List.{map-append, reverse-append}
@@ -17,26 +16,27 @@ use Rattle.trace_format.specs.declared.trace.Trace.{Trace}
 use Rattle.trace_format.specs.Text.{IsSpelled}
 use Rattle.chain_plan.specs.Chain.{role}
 use Rattle.world_parts.specs.Items.{Item, Use, chain_flag, one, all_descriptors, Footprint, collide}
-use Rattle.world_parts.proofs.Collision.{any_passes, left, right, either_left, true_of}
+use Rattle.world_parts.proofs.Collision.{any_passes, either_left, true_of}
 use Rattle.world_parts.proofs.Sharing.{holds_true}
 use Rattle.item_index.specs.Touching.{touched_by, touches_item, written_by, writes_item}
-use Rattle.foot_print.specs.Reach.{is_met, task}
-use Rattle.foot_print.specs.Outlook.{IsOutlook, WaitsBy, items_awaited, turn_takes_lowest}
+use Rattle.foot_print.specs.Reach.{is_met}
+use Rattle.foot_print.specs.Outlook.{IsOutlook, WaitsBy, items_awaited}
 use Rattle.foot_print.specs.Replayed.{replayed}
 use Rattle.foot_print.specs.declared.reaching.Outlook.{Outlook}
 use Rattle.item_index.specs.Ahead.{touched_before, written_before}
 use Rattle.item_index.specs.declared.behind.Behind.{Behind}
 use Rattle.foot_print.proofs.Foreseeing.{given_is_reach}
 use Rattle.foot_print.proofs.Unmet.{unmet_reach}
-use Rattle.wave_pick.specs.Grounds.{writes_chain, IsGround, RestsOnGround}
+use Rattle.wave_pick.specs.Grounds.{HasGround, RestsOnCollision, RestsOnGrounds}
+use Rattle.wave_pick.specs.Resting.{OneWrites, WriteForAll}
 use Rattle.wave_pick.specs.Rounds.{state_after}
-use Rattle.wave_pick.specs.Scheduling.{AreBefore, IsBehind, IsView, RestsOnOne}
+use Rattle.wave_pick.specs.Scheduling.{AreBefore, IsBehind, IsView, RestsOnThese}
 use Rattle.wave_pick.specs.declared.scheduler.Scheduler.{Scheduler}
 use Rattle.wave_pick.specs.Holds.{Waits, world_after, footprint_after, reaches_after, reach_after}
-use Rattle.wave_pick.specs.declared.scheduler.Ground.TheVariants.{Collides}
+use Rattle.wave_pick.specs.declared.scheduler.Rest.{Rest}
 use Rattle.wave_pick.proofs.Clear.{clear_is, met_all}
-use Rattle.wave_pick.proofs.Resting.{rests_unmet}
-use Rattle.wave_pick.proofs.RestingItems.{rests_by_items}
+use Rattle.wave_pick.proofs.Resting.{only, rests_unmet, together}
+use Rattle.wave_pick.proofs.RestingItems.{rests_together}
 
 pub has-got : (xs : List ℕ) (y i : ℕ) → slice_get xs y ≡ Some i → has xs i ≡ true
 has-got [] zero i e = (cc)
@@ -100,20 +100,22 @@ module _ (t : Trace) (spelled : IsSpelled t) (window q k : ℕ) (earlier : List 
   place_before y i e = has-pending (has (state_after t window q).finished) k i (ap (λ ks. has ks i) (sym b.places_are) ∙ has-got earlier y i e)
 
   -- A place that no reach before it writes rests on one that holds it back.
-  pub unmet_rests : (f : Footprint) (i : ℕ) → f ≡ footprint_after t window q k → is_met f rs ≡ false → (bor : Bor Footprint) → bor.now ≡ f → IsGround (Collides bor) earlier s.reaches.items i → RestsOnOne t window q i k
-  unmet_rests f i e unmet bor is g =
-      let before = place_before g.at i g.is_place in
-      record {
-        is_before = before.0;
-        waits = before.1;
-        rests = rests_unmet t spelled window q i k b.waits (ap (λ h. is_met h rs) (sym e) ∙ unmet) (record {
-          is_before = before.0;
-          waits = before.1;
-          collides = (λ j. collide (sym (is ∙ e) j) (sym (each g.at i g.reach g.is_place g.is_reach) j)) ∙ g.holds;
-        });
-      }
+  pub unmet_rests : (f : Footprint) → f ≡ footprint_after t window q k → is_met f rs ≡ false → (on : List ℕ) → RestsOnCollision f earlier s.reaches.items on → RestsOnThese t window q on k
+  unmet_rests f e unmet on r =
+      let i = r.place in
+      let g = r.ground in
+      let first = place_before g.at i g.is_place in
+      let there : RestsOnThese t window q (i ∷ []) k = record {
+        before = λ j h. subst (λ n. (n < k) × Waits t window q n) (sym (only i j h)) first;
+        rests = together t window q i k (rests_unmet t spelled window q i k b.waits (ap (λ h. is_met h rs) (sym e) ∙ unmet) (record {
+          is_before = first.0;
+          waits = first.1;
+          collides = (λ j. collide (sym e j) (sym (each g.at i g.reach g.is_place g.is_reach) j)) ∙ g.does_so;
+        }));
+      } in
+      subst (λ is. RestsOnThese t window q is k) (sym r.alone) there
 
-  -- One that waits by some items rests on one that writes one of these, and what else it has to.
+  -- One that waits by some items rests on some of which one writes one of these, and others what else is to be written.
   module _ (w : Item → Bool) (same : (x : Item) → w x ≡ written_by rs x) (o : Outlook) (is : IsOutlook t k (world_after t window q) w o) (chain : ℕ) (of_role : chain ≡ (role t k).chain) where
     abbrev flag : ℕ → Item
     flag c = one (chain_flag c)
@@ -128,44 +130,46 @@ module _ (t : Trace) (spelled : IsSpelled t) (window q k : ℕ) (earlier : List 
     one_writes : (g : Footprint) (x : Item) → T (writes_item g x) → written_by (g ∷ []) x ≡ true
     one_writes g x h = true_of _ (either_left (writes_item g x) false h)
 
-    for_chain : (g : Footprint) → T (writes_chain g (if w (flag chain) then Some chain else None)) → (written_by rs (flag (role t k).chain) ≡ false) ⊎ (written_by (g ∷ []) (flag (role t k).chain) ≡ true)
-    for_chain g h = elim (cases_Bool (w (flag chain))) [
-      | inl e ↦ inr (subst (λ c. written_by (g ∷ []) (flag c) ≡ true) of_role
-          (one_writes g (flag chain) (subst (λ v. T (writes_chain g (if v then Some chain else None))) e h)))
-      | inr e ↦ inl (subst (λ c. written_by rs (flag c) ≡ false) of_role (sym (same (flag chain)) ∙ e))
-    ]
+    module _ (on : List ℕ) (r : RestsOnGrounds o chain w earlier s.reaches.items on) where
+      writer : (x : Item) → HasGround (λ g. writes_item g x) earlier s.reaches.items on → OneWrites t window q on k x
+      writer x found =
+          let g = found.1.1 in
+          let before = place_before g.at found.0 g.is_place in
+          record {
+            place = found.0;
+            is_one = found.1.0;
+            is_before = before.0;
+            waits = before.1;
+            writes = subst (λ h. written_by (h ∷ []) x ≡ true) (each g.at found.0 g.reach g.is_place g.is_reach) (one_writes g.reach x (holds_true _ g.does_so));
+          }
 
-    for_descriptors : (g : Footprint) → T (if o.takes_lowest && w all_descriptors then writes_item g all_descriptors else true)
-        → (turn_takes_lowest (task t k) ≡ false) ⊎ ((written_by rs all_descriptors ≡ false) ⊎ (written_by (g ∷ []) all_descriptors ≡ true))
-    for_descriptors g h = elim (cases_Bool o.takes_lowest) [
-      | inl e ↦ inr (elim (cases_Bool (w all_descriptors)) [
-        | inl d ↦ inr (one_writes g all_descriptors (subst (λ v. T (if v then writes_item g all_descriptors else true)) (λ j. e j && d j) h))
-        | inr d ↦ inl (sym (same all_descriptors) ∙ d)
-      ])
-      | inr e ↦ inl (sym is.lowest ∙ e)
-    ]
+      for_all : WriteForAll t window q on k
+      for_all = record {
+        chain = elim (cases_Bool (w (flag chain))) [
+          | inl e ↦ inr (subst (λ c. OneWrites t window q on k (flag c)) of_role (writer (flag chain) (r.chained e)))
+          | inr e ↦ inl (subst (λ c. written_by rs (flag c) ≡ false) of_role (sym (same (flag chain)) ∙ e))
+        ];
+        descriptors = elim (cases_Bool o.takes_lowest) [
+          | inl e ↦ inr (elim (cases_Bool (w all_descriptors)) [
+            | inl d ↦ inr (writer all_descriptors (r.descriptors (λ j. e j && d j)))
+            | inr d ↦ inl (sym (same all_descriptors) ∙ d)
+          ])
+          | inr e ↦ inl (sym is.lowest ∙ e)
+        ];
+      }
 
-    pub items_rest : (i : ℕ) → RestsOnGround o chain w earlier s.reaches.items i → RestsOnOne t window q i k
-    items_rest i r =
-        let g = r.ground in
-        let before = place_before g.at i g.is_place in
-        let reach_is : g.reach ≡ reach_after t window q i = each g.at i g.reach g.is_place g.is_reach in
-        let some = list_any (λ (u : Use). writes_item g.reach u.item) r.items.now in
-        let flagged = writes_chain g.reach (if w (flag chain) then Some chain else None) in
-        let lowest = if o.takes_lowest && w all_descriptors then writes_item g.reach all_descriptors else true in
-        let held : T ((some && flagged) && lowest) = holds_true _ g.holds in
-        let first : T (some && flagged) = left (some && flagged) lowest held in
-        let met : is_met r.items.now (g.reach ∷ []) ≡ true = true_of _ (any_passes (λ (u : Use). writes_item g.reach u.item) (λ (u : Use). written_by (g.reach ∷ []) u.item)
-        (λ u n. either_left (writes_item g.reach u.item) false n) r.items.now (left some flagged first)) in
-        let chain_there = for_chain g.reach (right some flagged first) in
-        let descriptors_there = for_descriptors g.reach (right (some && flagged) lowest held) in
-        let both = subst (λ h. ((written_by rs (flag (role t k).chain) ≡ false) ⊎ (written_by (h ∷ []) (flag (role t k).chain) ≡ true))
-        × ((turn_takes_lowest (task t k) ≡ false) ⊎ ((written_by rs all_descriptors ≡ false) ⊎ (written_by (h ∷ []) all_descriptors ≡ true)))) reach_is (chain_there, descriptors_there) in
-        record {
-          is_before = before.0;
-          waits = before.1;
-          rests = rests_by_items t spelled window q i k r.items.now before.0 before.1 b.waits (waits r.items.now r.waits_by) (record { chain = both.0; descriptors = both.1 }) (ap (λ h. is_met r.items.now (h ∷ [])) (sym reach_is) ∙ met);
-        }
+      pub items_rest : RestsOnThese t window q on k
+      items_rest =
+          let i = r.writer.0 in
+          let g = r.writer.1.1 in
+          let first = place_before g.at i g.is_place in
+          let reach_is : g.reach ≡ reach_after t window q i = each g.at i g.reach g.is_place g.is_reach in
+          let met : is_met r.items (g.reach ∷ []) ≡ true = true_of _ (any_passes (λ (u : Use). writes_item g.reach u.item) (λ (u : Use). written_by (g.reach ∷ []) u.item)
+          (λ u n. either_left (writes_item g.reach u.item) false n) r.items (holds_true _ g.does_so)) in
+          record {
+            before = λ j h. let at = r.each j h in place_before at.0 j at.1;
+            rests = rests_together t spelled window q i k on r.items r.writer.1.0 first.0 first.1 b.waits (waits r.items r.waits_by) for_all (ap (λ h. is_met r.items (h ∷ [])) (sym reach_is) ∙ met);
+          }
 
 -- A look at a place whose footprint this is, behind an index.
 module _ (t : Trace) (spelled : IsSpelled t) (window q k : ℕ) (earlier : List ℕ) (s : Scheduler) (a : AreBefore t window q k earlier s) (b : Behind) (is : IsBehind (map (reach_after t window q) earlier) b) (f : Footprint) (foot : f ≡ footprint_after t window q k) where
@@ -185,10 +189,13 @@ module _ (t : Trace) (spelled : IsSpelled t) (window q k : ℕ) (earlier : List 
   clear_so = (λ i. not (list_any (λ (u : Use). if u.written then touches_is u.item i else writes_is u.item i) (foot i))) ∙ clear_is t (footprint_after t window q k) before
 
   pub seen_met : true ≡ list_any (λ (u : Use). written_before b u.item) f → (o : Outlook) → IsOutlook t k (world_after t window q) (written_before b) o → (chain : ℕ) → chain ≡ (role t k).chain
-      → (on : Option ℕ) (table : List (Option Footprint)) → table ≡ s.reaches.items → IfSome on (RestsOnGround o chain (written_before b) earlier table) → IsView t window q k (record { reach = o.reach; on = on; free = false })
-  seen_met m o out chain of_role on table is_table grounds = record {
+      → (rest : Option Rest) (table : List (Option Footprint)) → table ≡ s.reaches.items → IfSome rest (λ r. RestsOnGrounds o chain (written_before b) earlier table r.on.items)
+      → IsView t window q k (record { reach = o.reach; rest = rest; free = false })
+  seen_met m o out chain of_role rest table is_table grounds = record {
     reach = given_is_reach t k (world_after t window q) (world_after t window q) (written_before b) before o.reach refl writes_is out.reach;
-    rests = λ i e. items_rest t spelled window q k earlier s a (written_before b) writes_is o out chain of_role i (subst (λ x. IfSome x (RestsOnGround o chain (written_before b) earlier s.reaches.items)) e (subst (λ x. IfSome on (RestsOnGround o chain (written_before b) earlier x)) is_table grounds));
+    rests = λ r e. items_rest t spelled window q k earlier s a (written_before b) writes_is o out chain of_role r.on.items
+        (subst (λ x. IfSome x (λ (z : Rest). RestsOnGrounds o chain (written_before b) earlier s.reaches.items z.on.items)) e
+        (subst (λ x. IfSome rest (λ (z : Rest). RestsOnGrounds o chain (written_before b) earlier x z.on.items)) is_table grounds));
     free = met_not_clear t (footprint_after t window q k) before (sym met_is ∙ sym m);
   }
 
@@ -199,15 +206,17 @@ module _ (t : Trace) (spelled : IsSpelled t) (window q k : ℕ) (earlier : List 
   reach_so m = foot ∙ sym (unmet_reach t k (world_after t window q) before (unmet m))
 
   pub seen_held : false ≡ list_any (λ (u : Use). written_before b u.item) f → true ≡ list_any (λ (u : Use). if u.written then touched_before b u.item else written_before b u.item) f
-      → (bor : Bor Footprint) → bor.now ≡ f → (on : Option ℕ) (table : List (Option Footprint)) → table ≡ s.reaches.items → IfSome on (IsGround (Collides bor) earlier table) → IsView t window q k (record { reach = f; on = on; free = false })
-  seen_held m c bor same on table is_table grounds = record {
+      → (rest : Option Rest) (table : List (Option Footprint)) → table ≡ s.reaches.items → IfSome rest (λ r. RestsOnCollision f earlier table r.on.items)
+      → IsView t window q k (record { reach = f; rest = rest; free = false })
+  seen_held m c rest table is_table grounds = record {
     reach = reach_so m;
-    rests = λ i e. unmet_rests t spelled window q k earlier s a f i foot (ap (λ h. is_met h before) foot ∙ unmet m) bor same (subst (λ x. IfSome x (IsGround (Collides bor) earlier s.reaches.items)) e (subst (λ x. IfSome on (IsGround (Collides bor) earlier x)) is_table grounds));
+    rests = λ r e. unmet_rests t spelled window q k earlier s a f foot (ap (λ h. is_met h before) foot ∙ unmet m) r.on.items
+        (subst (λ x. IfSome x (λ (z : Rest). RestsOnCollision f earlier s.reaches.items z.on.items)) e (subst (λ x. IfSome rest (λ (z : Rest). RestsOnCollision f earlier x z.on.items)) is_table grounds));
     free = ap not c ∙ clear_so;
   }
 
   pub seen_free : false ≡ list_any (λ (u : Use). written_before b u.item) f → false ≡ list_any (λ (u : Use). if u.written then touched_before b u.item else written_before b u.item) f
-      → IsView t window q k (record { reach = f; on = None; free = true })
+      → IsView t window q k (record { reach = f; rest = None; free = true })
   seen_free m c = record {
     reach = reach_so m;
     rests = λ i e. absurd (none-some i e);

@@ -1,8 +1,9 @@
--- A law: on which earlier place a waiting one may rest, so that it needn't be looked at again while that one waits unchanged.
-use Rattle.std.specs.Prelude.{◌≡◌, ◌⊎◌, ℕ, suc, ◌<◌, ◌≤◌, true, false, [], ◌∷◌, ◌++◌}
+-- A law: on which earlier places a waiting one may rest, so that it needn't be looked at again while these wait unchanged.
+use Rattle.std.specs.Prelude.{◌≡◌, ◌⊎◌, ℕ, suc, ◌<◌, ◌≤◌, true, false, List, [], ◌∷◌, ◌++◌}
+use Rattle.interleaving.specs.Machine.{has}
 use Rattle.trace_format.specs.declared.trace.Trace.{Trace}
 use Rattle.chain_plan.specs.Chain.{role}
-use Rattle.world_parts.specs.Items.{chain_flag, one, all_descriptors, Use, Footprint}
+use Rattle.world_parts.specs.Items.{Item, chain_flag, one, all_descriptors, Use, Footprint}
 use Rattle.foot_print.specs.Reach.{written_by, is_met, task, is_taken_to_run}
 use Rattle.foot_print.specs.Outlook.{turn_takes_lowest, WaitsBy}
 use Rattle.wave_pick.specs.Waiting.{IsDecided, WritesRow, ChainIsSettled, look_after, descriptors_wait}
@@ -46,3 +47,38 @@ RestsByItems t = (window r i k : ℕ) (f : Footprint) → i < k → Waits t wind
 -- While the one place has the same reach in the next round, the other rests on it still.
 abbrev pub RestsOnStays : Trace → Type 0
 RestsOnStays t = (window r i k : ℕ) → RestsOn t window r i k → StaysAsIs t window r (suc r) i → RestsOn t window (suc r) i k
+
+-- From round r to round q each of some places waits with one reach.
+abbrev pub AllStay : Trace → ℕ → ℕ → ℕ → List ℕ → Type 0
+AllStay t window r q is = (i : ℕ) → has is i ≡ true → StaysAsIs t window r q i
+
+-- One of some places holds back another one.
+abbrev pub OneHolds : Trace → ℕ → ℕ → List ℕ → ℕ → Type 0
+OneHolds t window q is k = (i : ℕ) × ((has is i ≡ true) × HoldsBack t window q i k)
+
+-- One place rests on some earlier ones: while all of them stay as they are, one holds back the other, whose reach stays too.
+abbrev pub RestsOnAll : Trace → ℕ → ℕ → List ℕ → ℕ → Type 0
+RestsOnAll t window r is k = (q : ℕ) → r ≤ q → AllStay t window r q is → (reach_after t window q k ≡ reach_after t window r k) × OneHolds t window q is k
+
+-- One of some places is before another one, waits, and has a reach that writes an item.
+pub record OneWrites (t : Trace) (window r : ℕ) (is : List ℕ) (k : ℕ) (x : Item) : Type 0 where
+  pub place : ℕ
+  pub is_one : has is place ≡ true
+  pub is_before : place < k
+  pub waits : Waits t window r place
+  pub writes : written_by (reach_after t window r place ∷ []) x ≡ true
+
+-- What reaches before a place write of its chain's flag, the reach of one of some places writes too; and so of the descriptors, where it takes the lowest free one.
+pub record WriteForAll (t : Trace) (window r : ℕ) (is : List ℕ) (k : ℕ) : Type 0 where
+  pub chain : ChainIsSettled t window r k ⊎ OneWrites t window r is k (one (chain_flag (role t k).chain))
+  pub descriptors : (turn_takes_lowest (task t k) ≡ false) ⊎ ((descriptors_wait t window r k ≡ false) ⊎ OneWrites t window r is k all_descriptors)
+
+-- A waiting place rests on some of which one writes one of the items by which it waits, and one of them the flag of its chain, and one a descriptor: they need not be the same.
+abbrev pub RestsTogether : Trace → Type 0
+RestsTogether t = (window r i k : ℕ) (is : List ℕ) (f : Footprint) → has is i ≡ true → i < k → Waits t window r i → Waits t window r k
+    → WaitsBy t k (world_after t window r) (written_by (reaches_after t window r k)) f → WriteForAll t window r is k
+    → is_met f (reach_after t window r i ∷ []) ≡ true → RestsOnAll t window r is k
+
+-- While all have the same reaches in the next round, the other rests on them still.
+abbrev pub RestsOnAllStays : Trace → Type 0
+RestsOnAllStays t = (window r : ℕ) (is : List ℕ) (k : ℕ) → RestsOnAll t window r is k → AllStay t window r (suc r) is → RestsOnAll t window (suc r) is k

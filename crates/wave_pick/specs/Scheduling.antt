@@ -1,5 +1,5 @@
 -- A view of code: what a scheduler keeps of the places that wait, and what it has seen of a round.
-use Rattle.std.specs.Prelude.{◌≡◌, ◌≢◌, ℕ, suc, ◌<◌, Bool, true, false, ◌||◌, T, ◌⊎◌, List, [], map, take, length, slice_get, Option, Some}
+use Rattle.std.specs.Prelude.{◌≡◌, ◌≢◌, ℕ, suc, ◌<◌, Bool, true, false, ◌||◌, T, ◌⊎◌, List, [], map, take, length, slice_get, Some}
 use Rattle.std.specs.Option.{option_map}
 use Rattle.std.proofs.Math.ListN.{set}
 use Rattle.interleaving.specs.System.{is_clear}
@@ -16,11 +16,12 @@ use Rattle.item_index.specs.Touching.{touched_by, touches_item, written_by, writ
 use Rattle.item_index.specs.declared.ahead.Ahead.{Ahead}
 use Rattle.item_index.specs.declared.behind.Behind.{Behind}
 use Rattle.wave_pick.specs.Picking.{free_from}
-use Rattle.wave_pick.specs.Resting.{RestsOn}
+use Rattle.wave_pick.specs.Resting.{RestsOnAll}
 use Rattle.wave_pick.specs.Rounds.{state_after}
 use Rattle.wave_pick.specs.Holds.{Waits, world_after, footprint_after, reaches_after, reach_after}
 use Rattle.wave_pick.specs.declared.wave.Chosen.{Chosen}
 use Rattle.wave_pick.specs.declared.scheduler.Scheduler.{Scheduler}
+use Rattle.wave_pick.specs.declared.scheduler.Rest.{Rest}
 use Rattle.wave_pick.specs.declared.scheduler.View.{View}
 
 -- A place is to be looked at.
@@ -37,15 +38,18 @@ pub record IsListed (s : Scheduler) (i k : ℕ) : Type 0 where
   pub at : option_map (λ v. v.items) (slice_get s.resting.items i) ≡ Some list
   pub has_it : has list k ≡ true
 
--- After r rounds a place rests on an earlier one that waits, with which it is listed.
-pub record RestsListed (t : Trace) (window r k : ℕ) (s : Scheduler) : Type 0 where
-  pub on : ℕ
-  pub is_before : on < k
-  pub waits : Waits t window r on
-  pub rests : RestsOn t window r on k
-  pub listed : IsListed s on k
+-- After r rounds a place rests on some earlier ones that wait.
+pub record RestsOnThese (t : Trace) (window r : ℕ) (on : List ℕ) (k : ℕ) : Type 0 where
+  pub before : (i : ℕ) → has on i ≡ true → (i < k) × Waits t window r i
+  pub rests : RestsOnAll t window r on k
 
--- What is known of a place in the round after r others: its reach there, and, unless it is to be looked at again, on which place it rests.
+-- It is listed with each of them.
+pub record RestsListed (t : Trace) (window r k : ℕ) (s : Scheduler) : Type 0 where
+  pub on : List ℕ
+  pub these : RestsOnThese t window r on k
+  pub listed : (i : ℕ) → has on i ≡ true → IsListed s i k
+
+-- What is known of a place in the round after r others: its reach there, and, unless it is to be looked at again, on which places it rests.
 pub record IsKnown (t : Trace) (window r k : ℕ) (s : Scheduler) : Type 0 where
   pub reach : HasReach s k (reach_after t window r k)
   pub rests : IsAgain s k ⊎ RestsListed t window r k s
@@ -55,14 +59,14 @@ pub record Covers (ahead : Ahead) (f : Footprint) : Type 0 where
   pub writes : (x : Item) → T (writes_item f x) → T (written ahead x)
   pub touches : (x : Item) → T (touches_item f x) → T (touched ahead x)
 
--- In the round after the last one a place that was seen then rests still while it isn't known that the reach of the other one has changed; unless the index is made anew, it has its reach.
+-- In the round after the last one a place that was seen then rests still while it isn't known that the reach of one of the others has changed; unless the index is made anew, it has its reach.
 pub record RestsStill (t : Trace) (window q k : ℕ) (exact : Bool) (s : Scheduler) : Type 0 where
   pub last : ℕ
   pub next : q ≡ suc last
   pub by : RestsListed t window last k s
   pub reach : HasReach s k (reach_after t window last k)
-  pub other_waits : Waits t window (suc last) by.on
-  pub other_reach : HasReach s by.on (reach_after t window last by.on)
+  pub others_wait : (i : ℕ) → has by.on i ≡ true → Waits t window (suc last) i
+  pub other_reaches : (i : ℕ) → has by.on i ≡ true → HasReach s i (reach_after t window last i)
   pub within : length (pending (has (state_after t window last).finished) k) < window
   pub covered : exact ≡ false → Covers s.ahead (reach_after t window last k)
 
@@ -102,16 +106,10 @@ pub record AreBefore (t : Trace) (window q k : ℕ) (earlier : List ℕ) (s : Sc
   pub places_are : earlier ≡ pending (has (state_after t window q).finished) k
   pub reaches_are : HaveReaches s earlier (map (reach_after t window q) earlier)
 
--- One place rests on an earlier one that waits.
-pub record RestsOnOne (t : Trace) (window q i k : ℕ) : Type 0 where
-  pub is_before : i < k
-  pub waits : Waits t window q i
-  pub rests : RestsOn t window q i k
-
 -- What is seen of a place after q rounds.
 pub record IsView (t : Trace) (window q k : ℕ) (v : View) : Type 0 where
   pub reach : v.reach ≡ reach_after t window q k
-  pub rests : (i : ℕ) → v.on ≡ Some i → RestsOnOne t window q i k
+  pub rests : (r : Rest) → v.rest ≡ Some r → RestsOnThese t window q r.on.items k
   pub free : v.free ≡ is_clear (replayed t) (footprint_after t window q k) (reaches_after t window q k)
 
 -- A look at a place: where the index has the reaches before it, what is seen of it is right.
@@ -129,10 +127,9 @@ pub record HaveSeen (t : Trace) (window q : ℕ) (ks : List ℕ) (s : Scheduler)
 abbrev pub LooksOver : Trace → World → List ℕ → Scheduler → Scheduler → List ℕ → Type 0
 LooksOver t w first s later free = (window : ℕ) → AreFirst t window w s.round first → HaveSeen t window s.round [] s [] → HaveSeen t window s.round first later free
 
--- The number of rounds, what the index is for, and how much room there is, are as they were.
+-- The number of rounds, and how much room there is, are as they were.
 pub record IsSameRound (s later : Scheduler) : Type 0 where
   pub round : later.round ≡ s.round
-  pub exact : later.exact ≡ s.exact
   pub reaches : length later.reaches.items ≡ length s.reaches.items
   pub again : length later.again.items ≡ length s.again.items
   pub resting : length later.resting.items ≡ length s.resting.items
@@ -141,6 +138,12 @@ pub record IsSameRound (s later : Scheduler) : Type 0 where
 pub record AddsReach (before after : Ahead) (f : Footprint) : Type 0 where
   pub writes : (x : Item) → written after x ≡ (written before x || writes_item f x)
   pub touches : (x : Item) → touched after x ≡ (touched before x || touches_item f x)
+
+-- The index is as it was, or made anew of the reaches of the places before: it has these still, and is exact then.
+pub record Freshens (earlier : List ℕ) (s later : Scheduler) : Type 0 where
+  pub index : (reaches : List Footprint) → HaveReaches s earlier reaches → IsIndex s reaches → IsIndex later reaches
+  pub others : later.exact ≡ false → (s.exact ≡ false) × (later.ahead ≡ s.ahead)
+  pub rest : later ≡ record s { ahead = later.ahead; exact = later.exact; added = later.added }
 
 -- A place is passed over: an index that is exact has its reach more, another one stays.
 pub record Passes (k : ℕ) (s later : Scheduler) : Type 0 where
@@ -173,24 +176,25 @@ pub record Renews (i : ℕ) (f : Footprint) (s later : Scheduler) : Type 0 where
   pub others : (j : ℕ) → j ≢ i → slice_get later.resting.items j ≡ slice_get s.resting.items j
   pub rest : later ≡ record s { reaches = later.reaches; again = later.again; resting = later.resting }
 
--- A place is to be looked at still if it was, or is listed with the one on which it rests; other lists and places stay.
-pub record Lists (k : ℕ) (on : Option ℕ) (s later : Scheduler) : Type 0 where
+-- A place is to be looked at still if it was, or is listed with those on which it rests; other lists and places stay.
+pub record Lists (k : ℕ) (on : List ℕ) (s later : Scheduler) : Type 0 where
   pub many_again : length later.again.items ≡ length s.again.items
   pub many_resting : length later.resting.items ≡ length s.resting.items
   pub still : (j : ℕ) → j ≢ k → IsAgain s j → IsAgain later j
   pub listed : (i j : ℕ) → IsListed s i j → IsListed later i j
-  pub rests : (IsAgain s k → IsAgain later k) ⊎ ((i : ℕ) × (on ≡ Some i) × IsListed later i k)
+  pub rests : (IsAgain s k → IsAgain later k) ⊎ ((i : ℕ) → has on i ≡ true → IsListed later i k)
   pub rest : later ≡ record s { again = later.again; resting = later.resting }
 
 -- What is seen of a place is kept.
 pub record Keeps (k : ℕ) (v : View) (s later : Scheduler) : Type 0 where
   pub same : IsSameRound s later
+  pub exact : later.exact ≡ s.exact
   pub index : AddsReach s.ahead later.ahead v.reach
   pub reaches : later.reaches.items ≡ set s.reaches.items k (Some v.reach)
   pub still : (j : ℕ) → j ≢ k → IsAgain s j → IsAgain later j
   pub listed : (i j : ℕ) → i ≢ k → IsListed s i j → IsListed later i j
   pub woken : (j : ℕ) → j ≢ k → j < length s.again.items → IsListed s k j → IsAgain later j ⊎ (HasReach s k v.reach × IsListed later k j)
-  pub rests : (IsAgain s k → IsAgain later k) ⊎ ((i : ℕ) × (v.on ≡ Some i) × IsListed later i k)
+  pub rests : (IsAgain s k → IsAgain later k) ⊎ ((r : Rest) × ((v.rest ≡ Some r) × ((i : ℕ) → has r.on.items i ≡ true → IsListed later i k)))
 
 -- The places that run are given with their reaches, and those that are listed with one of them are to be looked at; what is kept of others stays.
 pub record Releases (free : List ℕ) (s later : Scheduler) (chosen : List Chosen) : Type 0 where

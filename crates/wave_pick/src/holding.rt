@@ -42,7 +42,7 @@ pub(crate) struct Waiting {
 ///
 /// # Errors
 ///
-/// Want of memory.
+/// Out of memory.
 pub fn held_back(
     alloc: Global,
     trace: &Trace,

@@ -14,8 +14,8 @@ ghost use Rattle.wave_pick.specs.Holders.{SharedWhereColliding};
 ghost use Rattle.wave_pick.specs.Lawful.{covered, lawful};
 ghost use Rattle.wave_pick.specs.Orders.{LinksAndDrainsHold, LinksAndDrainsPart};
 ghost use Rattle.wave_pick.specs.Orders.{LinksAndDrainsRise};
-ghost use Rattle.wave_pick.specs.Resting.{RestsByItems, RestsDecided, RestsOnStays};
-ghost use Rattle.wave_pick.specs.Resting.{RestsUndecided, RestsUnmet};
+ghost use Rattle.wave_pick.specs.Resting.{RestsByItems, RestsDecided, RestsOnAllStays};
+ghost use Rattle.wave_pick.specs.Resting.{RestsOnStays, RestsTogether, RestsUndecided, RestsUnmet};
 ghost use Rattle.wave_pick.specs.Rounds.{NoneCollide, RoundsAreNumbered};
 ghost use Rattle.wave_pick.specs.Sequential.{OrdersEndAsTheModel, RoundsEndAsTheModel};
 ghost use Rattle.wave_pick.specs.Sequential.{RunsAsTheModel};
@@ -151,11 +151,16 @@ pub fn rows_meet_the_same()
 /// rests on a place whose reach writes one of the items by which it waits: those of its row where
 /// it is decided, else those that decide, up to the first one that is written. That place's reach
 /// must also write the flag of its chain and, where it takes the lowest free descriptor, some
-/// descriptor, if any reach before it does. What rests so in one round rests so in the next.
+/// descriptor, if any reach before it does. What rests so in one round rests so in the next. A place
+/// may also rest on some earlier ones together, of which one writes an item by which it waits, one
+/// the flag of its chain and one a descriptor: while all of them wait with the same reaches, one of
+/// them holds it back, and its reach stays the same.
 pub fn waiting_places_rest()
     ensures unmet { (t : Trace) → IsSpelled t → RestsUnmet t }
     ensures decided { (t : Trace) → IsSpelled t → RestsDecided t }
     ensures undecided { (t : Trace) → IsSpelled t → RestsUndecided t }
     ensures items { (t : Trace) → IsSpelled t → RestsByItems t }
     ensures stay { (t : Trace) → RestsOnStays t }
+    ensures together { (t : Trace) → IsSpelled t → RestsTogether t }
+    ensures stay_together { (t : Trace) → RestsOnAllStays t }
 {}

@@ -2,23 +2,25 @@
 ghost use Rattle.std.specs.Prelude.{◌≡◌, ◌+◌, ◌<◌, [], ℕ, List, true, false, All, IfOk, IfSome, OnOk};
 ghost use Rattle.std.specs.Prelude.{Some, filter, length, map, replicate, take};
 ghost use Rattle.chain_plan.specs.Plan.{roles};
-ghost use Rattle.item_index.specs.Ahead.{written_before};
+ghost use Rattle.item_index.specs.Ahead.{one_at, touched, written, written_before};
+ghost use Rattle.item_index.specs.Touching as touching;
 ghost use Rattle.trace_format.specs.Steps.{places};
 ghost use Rattle.trace_format.specs.Text.{IsSpelled};
-ghost use Rattle.wave_pick.specs.Grounds.{ground_holds, writes_chain, writes_for, IsGround};
-ghost use Rattle.wave_pick.specs.Grounds.{RestsOnGround};
+ghost use Rattle.wave_pick.specs.Grounds.{ground_holds, AddsGround, IsGround};
+ghost use Rattle.wave_pick.specs.Grounds.{RestsOnCollision, RestsOnGrounds};
 ghost use Rattle.wave_pick.specs.HeldBack.{held_among, held_meant};
 ghost use Rattle.wave_pick.specs.Picking.{IsNextWave};
 ghost use Rattle.wave_pick.specs.Rounds.{state_after};
-ghost use Rattle.wave_pick.specs.Scheduling.{AreFirst, Flags, HasReach, HasRoom};
+ghost use Rattle.wave_pick.specs.Scheduling.{AreFirst, Flags, Freshens, HasReach, HasRoom};
 ghost use Rattle.wave_pick.specs.Scheduling.{HaveReaches, IsBehind, IsIndex, IsSameRound, Keeps, Lists};
 ghost use Rattle.wave_pick.specs.Scheduling.{LooksOver, Passes, Releases, Remembers};
 ghost use Rattle.wave_pick.specs.Scheduling.{Renews, Sees, Wakes};
 ghost use Rattle.wave_pick.specs.Telling.{Settles, Surveys, has_number};
 ghost use Rattle.world_parts.specs.Items as items;
+ghost use Rattle.world_parts.specs.Uses.{item_meant};
 
 use crate::holding::Held;
-use crate::telling::told_held;
+use crate::telling::{reach_at, told_held};
 use crate::wave::{Chosen, Wave};
 use chain_plan::{Plan, Role};
 use foot_print::{Outlook, foot_in, outlook_in};
@@ -28,25 +30,38 @@ use std::mem;
 use trace_format::{Series, Trace};
 use world_parts::{Footprint, Item, World, collide, same_uses, writes_item};
 
-/// About how many items are looked up in the reaches before a place to find one on which it rests.
-const ASKED: usize = 2048;
-
-/// So many places before it are asked however many items it has: to look at it again costs more.
+/// Among so many places before one the latest on which it rests is looked for first.
 const NEAR: usize = 64;
 
 /// So many places that ran in a round are many, however many wait: then as many or more are looked
-/// at in the next one, and to ask an index that is exact costs less than to ask the reaches.
+/// at in the next one, and to ask an index that is exact costs less than to ask the reaches. So many
+/// looks in one round are many, too.
 const MANY: usize = 16;
 
 /// What is seen of a place in a round.
 #[derive(Drop)]
 pub(crate) struct View {
     reach: Footprint,
-    /// A place before it: while that one waits with the reach that it has, this one has the reach
-    /// that it has, and has to wait.
-    on: Option<u32>,
+    rest: Option<Rest>,
     /// Whether it may run in this round; then its reach is its footprint.
     free: bool,
+}
+
+/// On what a place rests.
+#[derive(Drop)]
+pub(crate) struct Rest {
+    /// Places before it: while all of them wait with the reaches that they have, it has the reach
+    /// that it has, and has to wait.
+    on: Vec<u32>,
+    /// Where the first of them lies among those before it.
+    at: usize,
+}
+
+/// A place before one on which that one rests, and where it lies.
+#[derive(Clone, Copy)]
+struct Found {
+    place: u32,
+    at: usize,
 }
 
 /// Picks the rounds of a replay, one after another. Of the places that wait it looks only at those
@@ -76,7 +91,7 @@ impl Scheduler {
     ///
     /// # Errors
     ///
-    /// Want of memory.
+    /// Out of memory.
     pub fn new(alloc: Global, trace: &Trace) -> Result<Self, AllocError>
         requires { IsSpelled trace.now }
         ensures remembers { IfOk result
@@ -104,7 +119,7 @@ impl Scheduler {
     ///
     /// # Errors
     ///
-    /// Want of memory; the scheduler can then only be dropped.
+    /// Out of memory; the scheduler can then only be dropped.
     pub fn pick(
         &mut self,
         alloc: Global,
@@ -137,7 +152,7 @@ impl Scheduler {
     ///
     /// # Errors
     ///
-    /// Want of memory; the scheduler can then only be dropped.
+    /// Out of memory; the scheduler can then only be dropped.
     pub fn pick_telling(
         &mut self,
         alloc: Global,
@@ -256,20 +271,39 @@ impl Scheduler {
         ensures same { OnOk result (IsSameRound self.old self.new) }
     {
         let mut free = Vec::new(alloc);
+        let mut guess = 0;
+        let mut looks = 0;
         for index in 0..first.len() {
             let place = first[index];
             if self.again[place as usize] {
                 let earlier = &first[..index];
-                let view = self.look(alloc, trace, plan, world, place, earlier)?;
+                self.freshen(alloc, earlier, looks)?;
+                looks = looks.saturating_add(1);
+                let view = self.look(alloc, trace, plan, world, place, earlier, guess)?;
                 if view.free {
                     free.push(place)?;
                 }
+                guess = view.at(guess);
                 self.keep(alloc, place, view)?;
             } else {
                 self.pass(alloc, place)?;
             }
         }
         Ok(free)
+    }
+
+    /// Where so many looks have been many, and the index has more than the reaches of the places
+    /// before, it is made anew of these.
+    fn freshen(&mut self, alloc: Global, earlier: &[u32], looks: usize) -> Result<(), AllocError>
+        ensures { OnOk result (Freshens earlier.now self.old self.new) }
+    {
+        if self.exact || looks < MANY {
+            return Ok(());
+        }
+        self.ahead = index_of(alloc, earlier, self.reaches.as_slice())?;
+        self.added = earlier.len();
+        self.exact = true;
+        Ok(())
     }
 
     /// Passes over a place that rests: where the index is exact, its reach is added.
@@ -299,7 +333,7 @@ impl Scheduler {
         }
     }
 
-    /// A look at a place.
+    /// A look at a place, with a guess where one on which it rests may lie.
     fn look(
         &self,
         alloc: Global,
@@ -308,6 +342,7 @@ impl Scheduler {
         world: &World,
         place: u32,
         earlier: &[u32],
+        guess: usize,
     ) -> Result<View, AllocError>
         requires trace { IsSpelled trace.now }
         requires plan { plan.now ≡ roles trace.now }
@@ -320,26 +355,25 @@ impl Scheduler {
         if behind.meets(&footprint) {
             let outlook = outlook_in(alloc, place, trace, &role, world.state(), &behind)?;
             let reaches = self.reaches.as_slice();
-            let on = resting_place(&outlook, &role, &behind, earlier, reaches);
+            let rest = waits_on(alloc, &outlook, &role, &behind, earlier, reaches, guess)?;
             return Ok(View {
                 reach: outlook.reach,
-                on,
+                rest,
                 free: false,
             });
         }
         if behind.collides(&footprint) {
-            let ground = Ground::Collides(&footprint);
             let reaches = self.reaches.as_slice();
-            let on = latest_on(&ground, footprint.uses().len(), earlier, reaches);
+            let rest = collides_on(alloc, &footprint, earlier, reaches, guess)?;
             return Ok(View {
                 reach: footprint,
-                on,
+                rest,
                 free: false,
             });
         }
         Ok(View {
             reach: footprint,
-            on: None,
+            rest: None,
             free: true,
         })
     }
@@ -353,7 +387,10 @@ impl Scheduler {
         self.ahead.add(alloc, &view.reach)?;
         self.added = self.added.saturating_add(1);
         self.renew(alloc, place, view.reach);
-        self.list(place, view.on)
+        match view.rest {
+            Some(rest) => self.list(place, rest.on.as_slice()),
+            None => Ok(()),
+        }
     }
 
     /// Keeps the reach of a place. Where it had another one, those that rest on it are to be looked
@@ -381,19 +418,18 @@ impl Scheduler {
         }
     }
 
-    /// Lists a place with the one on which it rests: then it needn't be looked at. One that rests on
-    /// none is to be looked at still.
-    fn list(&mut self, place: u32, on: Option<u32>) -> Result<(), AllocError>
+    /// Lists a place with those on which it rests: then it needn't be looked at.
+    fn list(&mut self, place: u32, on: &[u32]) -> Result<(), AllocError>
         requires { place < length self.old.again.items }
-        ensures { OnOk result (Lists place on self.old self.new) }
+        ensures { OnOk result (Lists place on.now self.old self.new) }
     {
-        let Some(on) = on else {
-            return Ok(());
-        };
-        if let Some(listed) = self.resting.get_mut(on as usize) {
+        for one in on {
+            let Some(listed) = self.resting.get_mut(*one as usize) else {
+                return Ok(());
+            };
             listed.push(place)?;
-            self.again[place as usize] = false;
         }
+        self.again[place as usize] = false;
         Ok(())
     }
 
@@ -446,17 +482,45 @@ fn flag(again: &mut Vec<bool>, places: &[u32])
     }
 }
 
-/// What a place before another one does so that the other rests on it.
+/// The index of the reaches that a table has of some places.
+fn index_of(
+    alloc: Global,
+    places: &[u32],
+    reaches: &[Option<Footprint>],
+) -> Result<Ahead, AllocError>
+    ensures written { IfOk result (λ ahead. (x : items.Item) → written ahead x
+        ≡ one_at reaches.now places.now (λ f. touching.writes_item f x)) }
+    ensures touched { IfOk result (λ ahead. (x : items.Item) → touched ahead x
+        ≡ one_at reaches.now places.now (λ f. touching.touches_item f x)) }
+{
+    let mut ahead = Ahead::new(alloc)?;
+    for place in places {
+        if let Some(reach) = reach_at(reaches, *place) {
+            ahead.add(alloc, reach)?;
+        }
+    }
+    Ok(ahead)
+}
+
+impl View {
+    /// Where the first place lies on which this one rests; a guess, where it rests on none.
+    fn at(&self, guess: usize) -> usize {
+        match &self.rest {
+            Some(rest) => rest.at,
+            None => guess,
+        }
+    }
+}
+
+/// What a place before another one does so that the other rests on it, or on it and others.
 #[derive(Drop)]
 enum Ground<'a> {
     /// Its reach collides with this footprint.
     Collides(&'a Footprint),
-    /// It writes one of these items, the flag of this chain, and a descriptor.
-    Writes {
-        items: &'a Footprint,
-        chain: Option<u32>,
-        descriptors: bool,
-    },
+    /// It writes one of these items.
+    WritesSome(&'a Footprint),
+    /// It writes this item.
+    Writes(&'a Item),
 }
 
 impl Ground<'_> {
@@ -466,77 +530,138 @@ impl Ground<'_> {
     {
         match self {
             Ground::Collides(footprint) => collide(footprint, reach),
-            Ground::Writes {
-                items,
-                chain,
-                descriptors,
-            } => writes_all(reach, items, *chain, *descriptors),
+            Ground::WritesSome(items) => writes_some(reach, items.uses()),
+            Ground::Writes(item) => writes_item(reach, item),
         }
     }
 }
 
-/// Whether a footprint writes one of some items, the flag of a chain, and a descriptor, so far as
-/// these are asked for.
-fn writes_all(reach: &Footprint, items: &Footprint, chain: Option<u32>, descriptors: bool) -> bool
-    ensures { result ≡ writes_for reach.now items.now chain descriptors }
-{
-    if !writes_some(reach, items.uses()) || !writes_flag(reach, chain) {
-        return false;
-    }
-    !descriptors || writes_item(reach, &Item::AllDescriptors)
-}
-
-/// Whether a footprint writes the flag of a chain, if there is one.
-fn writes_flag(reach: &Footprint, chain: Option<u32>) -> bool
-    ensures { result ≡ writes_chain reach.now chain }
-{
-    match chain {
-        Some(chain) => writes_item(reach, &Item::Chain(chain)),
-        None => true,
-    }
-}
-
-/// The latest of some places that does so that another one rests on it, if a near one does: so many
-/// items are asked for of each.
+/// The latest of some places that does so that another one rests on it. Where no near one does, a
+/// guess is tried before those further back.
 fn latest_on(
     ground: &Ground<'_>,
-    items: usize,
     earlier: &[u32],
     reaches: &[Option<Footprint>],
-) -> Option<u32>
-    ensures { IfSome result (λ i. IsGround ground.now earlier.now reaches.now i) }
+    guess: usize,
+) -> Option<Found>
+    ensures { IfSome result (λ found.
+        IsGround (ground_holds ground.now) earlier.now reaches.now found.place) }
 {
     let count = earlier.len();
-    for back in 0..count.min(NEAR.max(ASKED / items.max(1))) {
-        let place = earlier[count - 1 - back];
-        if let Some(Some(reach)) = reaches.get(place as usize)
-            && ground.holds(reach)
-        {
-            return Some(place);
+    let near = count.min(NEAR);
+    for back in 0..near {
+        let at = count - 1 - back;
+        if let Some(found) = ground_at(ground, earlier, reaches, at) {
+            return Some(found);
+        }
+    }
+    if let Some(found) = ground_at(ground, earlier, reaches, guess) {
+        return Some(found);
+    }
+    for back in near..count {
+        let at = count - 1 - back;
+        if let Some(found) = ground_at(ground, earlier, reaches, at) {
+            return Some(found);
         }
     }
     None
 }
 
-/// The place on which one rests that waits by some items, if a near one is such.
-fn resting_place(
+/// The place that lies at one spot among some, if it does so that another one rests on it.
+fn ground_at(
+    ground: &Ground<'_>,
+    earlier: &[u32],
+    reaches: &[Option<Footprint>],
+    at: usize,
+) -> Option<Found>
+    ensures { IfSome result (λ found.
+        IsGround (ground_holds ground.now) earlier.now reaches.now found.place) }
+{
+    let place = *earlier.get(at)?;
+    let reach = reach_at(reaches, place)?;
+    if !ground.holds(reach) {
+        return None;
+    }
+    Some(Found { place, at })
+}
+
+/// On which place one rests that collides with reaches before it and meets none.
+fn collides_on(
+    alloc: Global,
+    footprint: &Footprint,
+    earlier: &[u32],
+    reaches: &[Option<Footprint>],
+    guess: usize,
+) -> Result<Option<Rest>, AllocError>
+    ensures { IfOk result (λ rest. IfSome rest (λ r.
+        RestsOnCollision footprint.now earlier.now reaches.now r.on.items)) }
+{
+    let ground = Ground::Collides(footprint);
+    let Some(found) = latest_on(&ground, earlier, reaches, guess) else {
+        return Ok(None);
+    };
+    let mut on = Vec::new(alloc);
+    on.push(found.place)?;
+    Ok(Some(Rest { on, at: found.at }))
+}
+
+/// On which places one rests that waits by some items: one that writes one of these and, so far as
+/// some place before it does, one that writes the flag of its chain, and one that writes a
+/// descriptor, if it takes the lowest.
+fn waits_on(
+    alloc: Global,
     outlook: &Outlook,
     role: &Role,
     behind: &Behind<'_>,
     earlier: &[u32],
     reaches: &[Option<Footprint>],
-) -> Option<u32>
-    ensures { IfSome result (RestsOnGround outlook.now role.now.chain (written_before behind.now)
-        earlier.now reaches.now) }
+    guess: usize,
+) -> Result<Option<Rest>, AllocError>
+    ensures { IfOk result (λ rest. IfSome rest (λ r. RestsOnGrounds outlook.now role.now.chain
+        (written_before behind.now) earlier.now reaches.now r.on.items)) }
 {
-    let items = outlook.waits_by.items(&outlook.reach)?;
-    let chained = behind.writes(&Item::Chain(role.chain));
-    let ground = Ground::Writes {
-        items,
-        chain: chained.then_some(role.chain),
-        descriptors: outlook.takes_lowest && behind.writes(&Item::AllDescriptors),
+    let Some(items) = outlook.waits_by.items(&outlook.reach) else {
+        return Ok(None);
     };
-    latest_on(&ground, items.uses().len(), earlier, reaches)
+    let ground = Ground::WritesSome(items);
+    let Some(found) = latest_on(&ground, earlier, reaches, guess) else {
+        return Ok(None);
+    };
+    let mut on = Vec::new(alloc);
+    on.push(found.place)?;
+    let flag = Item::Chain(role.chain);
+    let chained = behind.writes(&flag);
+    if !add_writer(&mut on, chained, &flag, earlier, reaches)? {
+        return Ok(None);
+    }
+    let lowest = outlook.takes_lowest && behind.writes(&Item::AllDescriptors);
+    if !add_writer(&mut on, lowest, &Item::AllDescriptors, earlier, reaches)? {
+        return Ok(None);
+    }
+    Ok(Some(Rest { on, at: found.at }))
+}
+
+/// Adds the latest of some places that writes an item, if it is asked for. Tells whether there is
+/// one, or none is asked for.
+fn add_writer(
+    on: &mut Vec<u32>,
+    asked: bool,
+    item: &Item,
+    earlier: &[u32],
+    reaches: &[Option<Footprint>],
+) -> Result<bool, AllocError>
+    ensures { IfOk result (λ done. done ≡ true → AddsGround asked
+        (λ g. touching.writes_item g (item_meant item.now)) earlier.now reaches.now
+        on.old.items on.new.items) }
+{
+    if !asked {
+        return Ok(true);
+    }
+    let Some(found) = latest_on(&Ground::Writes(item), earlier, reaches, 0) else {
+        return Ok(false);
+    };
+    on.push(found.place)?;
+    Ok(true)
 }
 
 /// No place has a reach.

@@ -12,7 +12,7 @@ use world_parts::{Footprint, Item, Use, share};
 ///
 /// # Errors
 ///
-/// Want of memory.
+/// Out of memory.
 pub(crate) fn shared_of(
     alloc: Global,
     one: &Footprint,

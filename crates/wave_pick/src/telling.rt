@@ -111,7 +111,7 @@ fn collides_at(footprint: &Footprint, reaches: &[Option<Footprint>], place: u32)
 }
 
 /// The reach that a table has of a place, if it has one.
-fn reach_at(reaches: &[Option<Footprint>], place: u32) -> Option<&Footprint>
+pub(crate) fn reach_at(reaches: &[Option<Footprint>], place: u32) -> Option<&Footprint>
     ensures { option_copied result ≡ kept_reach (slice_get reaches.now place) }
 {
     match reaches.get(place as usize) {

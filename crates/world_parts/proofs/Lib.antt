@@ -16,6 +16,7 @@ pub mod KeepWorld
 pub mod FootprintCode
 pub mod Starts
 pub mod Fills
+pub mod FullPaths
 pub mod KnownPaths
 pub mod Listing
 pub mod Sized

@@ -1,4 +1,4 @@
--- A view of code: items, uses and flags of chains.
+-- The model: which item, use and flag of a chain each value of the code stands for.
 use Rattle.std.specs.Prelude.{false}
 use Rattle.world_parts.specs.Items as items
 use Rattle.world_parts.specs.World as world

@@ -19,7 +19,7 @@ impl State {
     ///
     /// # Errors
     ///
-    /// Want of memory.
+    /// Out of memory.
     pub fn add_node(&mut self, alloc: Global, number: u32, kind: Kind) -> Result<(), AllocError>
         ensures { OnOk result
             (self.new ≡ apply (change.make_node number (kind_meant kind)) self.old) }
@@ -32,7 +32,7 @@ impl State {
     ///
     /// # Errors
     ///
-    /// Want of memory.
+    /// Out of memory.
     pub fn set_name(
         &mut self,
         alloc: Global,
@@ -51,7 +51,7 @@ impl State {
     ///
     /// # Errors
     ///
-    /// Want of memory.
+    /// Out of memory.
     pub fn set_slot(
         &mut self,
         ring: u8,
@@ -68,7 +68,7 @@ impl State {
     ///
     /// # Errors
     ///
-    /// Want of memory.
+    /// Out of memory.
     pub fn set_descriptor(
         &mut self,
         number: u32,
@@ -84,7 +84,7 @@ impl State {
     ///
     /// # Errors
     ///
-    /// Want of memory.
+    /// Out of memory.
     pub fn add_description(
         &mut self,
         number: u32,
@@ -108,7 +108,7 @@ impl State {
     ///
     /// # Errors
     ///
-    /// Want of memory.
+    /// Out of memory.
     pub fn set_size(&mut self, node: u32, size: u64) -> Result<(), AllocError>
         requires { size ≤ file_limit }
         ensures { OnOk result (self.new ≡ apply (change.set_size node size) self.old) }
@@ -121,7 +121,7 @@ impl State {
     ///
     /// # Errors
     ///
-    /// Want of memory.
+    /// Out of memory.
     #[inline(always)]
     pub fn write(&mut self, node: u32, at: u64, bytes: &[u8]) -> Result<(), AllocError>
         requires { at + length bytes.now ≤ file_limit }
@@ -135,7 +135,7 @@ impl State {
     ///
     /// # Errors
     ///
-    /// Want of memory.
+    /// Out of memory.
     pub fn zero(&mut self, node: u32, low: u64, high: u64) -> Result<(), AllocError>
         ensures { OnOk result (self.new ≡ apply (change.zero_bytes node low high) self.old) }
     {
@@ -147,7 +147,7 @@ impl State {
     ///
     /// # Errors
     ///
-    /// Want of memory.
+    /// Out of memory.
     pub fn write_buffer(
         &mut self,
         ring: u8,
@@ -165,7 +165,7 @@ impl State {
     ///
     /// # Errors
     ///
-    /// Want of memory.
+    /// Out of memory.
     pub fn break_chain(&mut self, chain: u32, broken: Broken) -> Result<(), AllocError>
         ensures { OnOk result
             (self.new ≡ apply (change.break_chain chain (broken_meant broken)) self.old) }

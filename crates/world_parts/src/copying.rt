@@ -238,7 +238,7 @@ impl State {
     ///
     /// # Errors
     ///
-    /// Want of memory.
+    /// Out of memory.
     pub(crate) fn copy_uses(
         &mut self,
         alloc: Global,

@@ -70,7 +70,7 @@ impl World {
     ///
     /// # Errors
     ///
-    /// Want of memory; the world can then only be dropped.
+    /// Out of memory; the world can then only be dropped.
     pub fn cut(
         &mut self,
         alloc: Global,

@@ -85,7 +85,7 @@ impl Footprint {
     ///
     /// # Errors
     ///
-    /// Want of memory.
+    /// Out of memory.
     #[inline(always)]
     pub fn push(&mut self, used: Use) -> Result<(), AllocError>
         ensures { OnOk result (self.new ≡ self.old ++ use_meant used ∷ []) }
@@ -101,7 +101,7 @@ impl Footprint {
     ///
     /// # Errors
     ///
-    /// Want of memory.
+    /// Out of memory.
     pub fn reads(&mut self, item: Item) -> Result<(), AllocError>
         ensures { OnOk result (self.new ≡ self.old ++ items.reads (item_meant item) ∷ []) }
     {
@@ -115,7 +115,7 @@ impl Footprint {
     ///
     /// # Errors
     ///
-    /// Want of memory.
+    /// Out of memory.
     pub fn writes(&mut self, item: Item) -> Result<(), AllocError>
         ensures { OnOk result (self.new ≡ self.old ++ items.writes (item_meant item) ∷ []) }
     {
@@ -129,7 +129,7 @@ impl Footprint {
     ///
     /// # Errors
     ///
-    /// Want of memory.
+    /// Out of memory.
     pub fn append(&mut self, mut other: Footprint) -> Result<(), AllocError>
         ensures { OnOk result (self.new ≡ self.old ++ other) }
     {
@@ -164,7 +164,7 @@ impl Footprint {
     ///
     /// # Errors
     ///
-    /// Want of memory.
+    /// Out of memory.
     pub fn first(&self, alloc: Global, count: usize) -> Result<Footprint, AllocError>
         requires { count ≤ length self.now }
         ensures { IfOk result (λ f. f ≡ take count self.now) }

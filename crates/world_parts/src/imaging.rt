@@ -9,6 +9,7 @@ ghost use Rattle.file_tree.specs.Tree.{Tree};
 ghost use Rattle.world_parts.specs.World.{buffer, bytes};
 
 use crate::broken::Flag;
+use crate::full_path::FullPath;
 use crate::image::{BufferEntry, DescriptorEntry, Image, NameEntry, SlotEntry};
 use crate::state::State;
 use indexmap::IndexMap;
@@ -75,7 +76,7 @@ impl State {
     ///
     /// # Errors
     ///
-    /// Want of memory.
+    /// Out of memory.
     pub fn image(&self, alloc: Global) -> Result<Image, AllocError>
         ensures { IfOk result (λ image. image ≡ image_of self.now) }
     {
@@ -122,7 +123,7 @@ impl State {
     ///
     /// # Errors
     ///
-    /// Want of memory.
+    /// Out of memory.
     pub fn file_bytes(
         &self,
         alloc: Global,
@@ -140,7 +141,7 @@ impl State {
     ///
     /// # Errors
     ///
-    /// Want of memory.
+    /// Out of memory.
     pub fn buffer_bytes(
         &self,
         alloc: Global,
@@ -193,8 +194,8 @@ impl State {
     }
 
     /// All names by their full paths, each with its node.
-    fn paths(&self, alloc: Global) -> Result<BTreeMap<Vec<u8>, u32>, AllocError>
-        ensures { IfOk result (λ paths. seen_table text_keys.total (λ k. k.items) paths.entries
+    fn paths(&self, alloc: Global) -> Result<BTreeMap<FullPath, u32>, AllocError>
+        ensures { IfOk result (λ paths. seen_table text_keys.total (λ path. path) paths.entries
             ≡ all_paths self.now.nodes) }
     {
         let mut paths = BTreeMap::new(alloc);
@@ -203,7 +204,7 @@ impl State {
         self.push_names(alloc, &mut pending, &[], 0, self.nodes.node_count())?;
         while let Some(Pending { path, node, levels }) = pending.pop() {
             self.push_names(alloc, &mut pending, &path, node, levels)?;
-            paths.insert(path, node)?;
+            paths.insert(FullPath::new(path), node)?;
         }
         Ok(paths)
     }
@@ -215,7 +216,7 @@ impl State {
     {
         for (path, node) in self.paths(alloc)? {
             entries.push(NameEntry {
-                path: Series::from_vec(path),
+                path: Series::from_vec(path.into_bytes()),
                 node,
                 size: self.size(node),
             })?;

@@ -7,6 +7,7 @@ mod changing;
 mod copying;
 mod cutting;
 mod footprint;
+mod full_path;
 mod image;
 mod imaging;
 mod known;

@@ -29,7 +29,7 @@ impl State {
     ///
     /// # Errors
     ///
-    /// Want of memory.
+    /// Out of memory.
     pub fn fill_from_file(
         &mut self,
         alloc: Global,
@@ -59,7 +59,7 @@ impl State {
     ///
     /// # Errors
     ///
-    /// Want of memory.
+    /// Out of memory.
     pub fn write_from_buffer(
         &mut self,
         ring: u8,
@@ -88,7 +88,7 @@ impl State {
     ///
     /// # Errors
     ///
-    /// Want of memory.
+    /// Out of memory.
     pub fn write_from_text(
         &mut self,
         alloc: Global,
@@ -129,7 +129,7 @@ impl State {
     ///
     /// # Errors
     ///
-    /// Want of memory.
+    /// Out of memory.
     pub fn fill_from_blob(
         &mut self,
         ring: u8,

@@ -49,7 +49,7 @@ impl Part {
     ///
     /// # Errors
     ///
-    /// Want of memory.
+    /// Out of memory.
     pub fn nothing(alloc: Global, place: u32) -> Result<Self, AllocError>
         ensures { IfOk result (λ part. part ≡ record { place = place; values = nothing }) }
     {

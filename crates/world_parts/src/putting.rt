@@ -246,7 +246,7 @@ impl World {
     ///
     /// # Errors
     ///
-    /// Want of memory; the world can then only be dropped.
+    /// Out of memory; the world can then only be dropped.
     pub fn put(&mut self, alloc: Global, part: Part) -> Result<(), AllocError>
         requires world { IsWorld self.old.world }
         requires out { IsSome (get self.old.out part.place) }

@@ -106,7 +106,7 @@ impl State {
     ///
     /// # Errors
     ///
-    /// Want of memory.
+    /// Out of memory.
     pub fn of(alloc: Global, trace: &Trace) -> Result<Self, AllocError>
         requires { IsSpelled trace.now }
         ensures { IfOk result (λ state. state ≡ initial.start trace.now) }

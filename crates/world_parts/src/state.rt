@@ -116,7 +116,7 @@ impl State {
     ///
     /// # Errors
     ///
-    /// Want of memory.
+    /// Out of memory.
     pub fn bytes(
         &self,
         alloc: Global,
@@ -134,7 +134,7 @@ impl State {
     ///
     /// # Errors
     ///
-    /// Want of memory.
+    /// Out of memory.
     pub fn read_shared(
         &self,
         alloc: Global,
@@ -204,7 +204,7 @@ impl State {
     ///
     /// # Errors
     ///
-    /// Want of memory.
+    /// Out of memory.
     pub fn buffer(&self, ring: u8, index: u32, low: u64, high: u64) -> Result<Vec<u8>, AllocError>
         requires forward { low ≤ high }
         requires inside { high ≤ length (unwrap_or (world.buffer self.now ring index) []) }
@@ -218,7 +218,7 @@ impl State {
     ///
     /// # Errors
     ///
-    /// Want of memory.
+    /// Out of memory.
     pub fn share_buffer(
         &self,
         ring: u8,

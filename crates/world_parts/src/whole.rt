@@ -20,7 +20,7 @@ impl World {
     ///
     /// # Errors
     ///
-    /// Want of memory.
+    /// Out of memory.
     pub fn new(alloc: Global, state: State) -> Result<Self, AllocError>
         ensures { IfOk result (λ world. world ≡ whole state) }
     {
@@ -35,7 +35,7 @@ impl World {
     ///
     /// # Errors
     ///
-    /// Want of memory.
+    /// Out of memory.
     pub fn of(alloc: Global, trace: &Trace) -> Result<Self, AllocError>
         requires { IsSpelled trace.now }
         ensures { IfOk result (λ world. world ≡ whole (start trace.now)) }
@@ -64,7 +64,7 @@ impl World {
     ///
     /// # Errors
     ///
-    /// Want of memory.
+    /// Out of memory.
     pub fn image(&self, alloc: Global) -> Result<Image, AllocError>
         ensures { IfOk result (λ image. image ≡ image_of self.now.world) }
     {
@@ -76,7 +76,7 @@ impl World {
     ///
     /// # Errors
     ///
-    /// Want of memory.
+    /// Out of memory.
     pub fn file_bytes(
         &self,
         alloc: Global,
@@ -94,7 +94,7 @@ impl World {
     ///
     /// # Errors
     ///
-    /// Want of memory.
+    /// Out of memory.
     pub fn buffer_bytes(
         &self,
         alloc: Global,

@@ -15,8 +15,8 @@ returns-in-Compare g c =
     let equal = c.in_ok-verdict.ensures.ok in
     let told = c.told.ensures in
     record {
-      done = told_whole c.args.options.now _ _ _ _ t c.in-Compare.workers c.in-Compare.window verdict _ read.ok c.in-Compare.is equal told.whole;
-      part = λ failed. comparison_part c.args.options.now _ _ _ _ t c.in-Compare.workers c.in-Compare.window verdict read.ok c.in-Compare.is equal (told.part failed);
+      done = told_whole c.args.options.now _ _ _ _ t c.in-Compare.workers c.in-Compare.window c.in-Compare.eager verdict _ read.ok c.in-Compare.is equal told.whole;
+      part = λ failed. comparison_part c.args.options.now _ _ _ _ t c.in-Compare.workers c.in-Compare.window c.in-Compare.eager verdict read.ok c.in-Compare.is equal (told.part failed);
       nothing = told_nothing _ _ _ told.memory told.nothing;
       taken = read.taken;
       reading = told_reading _ _ t _ read.ok (told.equal equal) told.memory;

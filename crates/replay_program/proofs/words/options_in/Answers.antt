@@ -11,15 +11,17 @@ returns-in-Some-serial-default-clause-options c =
 pub returns-in-Some-run-default-clause-options : goal.returns-in-Some-run-default-clause-options
 returns-in-Some-run-default-clause-options c =
     let found = c.in-Some-run-default.ensures in
-    λ options asked. run_chosen c.args.matches.now c.in-Some-run-default.chosen.now found.rows c.number_in.result c.number_in-in-Some-run-default.result c.get_flag-in-Some-run-default.result options.mode options.sums
+    λ options asked. run_chosen c.args.matches.now c.in-Some-run-default.chosen.now found.rows c.number_in.result c.number_in-in-Some-run-default.result c.get_flag-in-Some-run-default-2.result c.get_flag-in-Some-run-default.result options.mode options.sums
     (sym found.name ∙ ap Some c.in-Some-run-default.is-run) c.number_in.ensures.number c.number_in-in-Some-run-default.ensures.number
+    (c.get_flag-in-Some-run-default-2.ensures.value, c.get_flag-in-Some-run-default-2.ensures.other)
     (c.get_flag-in-Some-run-default.ensures.value, c.get_flag-in-Some-run-default.ensures.other) asked
 
 pub returns-in-Some-compare-default-clause-options : goal.returns-in-Some-compare-default-clause-options
 returns-in-Some-compare-default-clause-options c =
     let found = c.in-Some-compare-default.ensures in
-    λ options asked. compare_chosen c.args.matches.now c.in-Some-compare-default.chosen.now found.rows c.number_in-in-Some-compare-default.result c.number_in-in-Some-compare-default-2.result options.mode options.sums
-    (sym found.name ∙ ap Some c.in-Some-compare-default.is-compare) c.number_in-in-Some-compare-default.ensures.number c.number_in-in-Some-compare-default-2.ensures.number asked
+    λ options asked. compare_chosen c.args.matches.now c.in-Some-compare-default.chosen.now found.rows c.number_in-in-Some-compare-default.result c.number_in-in-Some-compare-default-2.result c.get_flag-in-Some-compare-default.result options.mode options.sums
+    (sym found.name ∙ ap Some c.in-Some-compare-default.is-compare) c.number_in-in-Some-compare-default.ensures.number c.number_in-in-Some-compare-default-2.ensures.number
+    (c.get_flag-in-Some-compare-default.ensures.value, c.get_flag-in-Some-compare-default.ensures.other) asked
 
 pub returns-in-Some-rounds-default-clause-options : goal.returns-in-Some-rounds-default-clause-options
 returns-in-Some-rounds-default-clause-options c =

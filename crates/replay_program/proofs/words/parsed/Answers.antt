@@ -1,16 +1,22 @@
 use Rattle.std.proofs.Common.{map, Ok, Err}
 use Rattle.clap.specs.Words.{app_of}
 use Rattle.clap.specs.declared.parser.matches.ArgMatches.{ArgMatches}
-use Rattle.replay_program.proofs.WordsLemmas.{task_met, help_ends, same_rules, words_pass}
+use Rattle.replay_program.proofs.WordsLemmas.{task_met, help_ends, version_ends, same_rules, words_pass}
 use Rattle.replay_program.proofs.words.parsed.Goals as goal
 
 pub returns-in-Ok-clause-task : goal.returns-in-Ok-clause-task
 returns-in-Ok-clause-task c =
-    λ o asked. c.task_in.ensures.task o
+    λ o asked. c.request_in.ensures.task o
     (task_met (app_of c.in_ok-command.command) (map (λ word. word.now) c.args.words.now) c.in-Ok.matches o c.in_ok-command.ensures asked c.in-Ok.ensures.matches)
 
 pub returns-in-Ok-clause-help : goal.returns-in-Ok-clause-help
 returns-in-Ok-clause-help c = λ asked. help_ends (app_of c.in_ok-command.command) (map (λ word. word.now) c.args.words.now) (Ok c.in-Ok.matches) c.in_ok-command.ensures asked c.in-Ok.ensures.kinds
+
+pub returns-in-Ok-clause-version : goal.returns-in-Ok-clause-version
+returns-in-Ok-clause-version c = λ asked. version_ends (app_of c.in_ok-command.command) (map (λ word. word.now) c.args.words.now) (Ok c.in-Ok.matches) c.in_ok-command.ensures asked c.in-Ok.ensures.kinds
+
+pub returns-in-Err-clause-version : goal.returns-in-Err-clause-version
+returns-in-Err-clause-version c = λ asked. version_ends {T = ArgMatches} (app_of c.in_ok-command.command) (map (λ word. word.now) c.args.words.now) (Err c.in-Err.error) c.in_ok-command.ensures asked c.in-Err.ensures.kinds
 
 pub returns-in-Err-clause-task : goal.returns-in-Err-clause-task
 returns-in-Err-clause-task c =

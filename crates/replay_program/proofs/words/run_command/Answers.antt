@@ -11,4 +11,5 @@ returns c =
     let new : HasApp (new_app (codes "run")) c.about.result = (search rules, search rules) in
     let first = argued c.about.result c.in_ok-arg.field-0 c.workers_option.result _ _ new c.workers_option.ensures c.in_ok-arg.ensures in
     let second = argued c.in_ok-arg.field-0 c.in_ok-arg-2.field-0 c.window_option.result _ _ first c.window_option.ensures c.in_ok-arg-2.ensures in
-    IfOk-weaker c.arg-3.result _ _ (λ command h. argued _ _ _ _ _ second c.sums_flag.ensures h) c.arg-3.ensures
+    let third = argued c.in_ok-arg-2.field-0 c.in_ok-arg-3.field-0 c.sums_flag.result _ _ second c.sums_flag.ensures c.in_ok-arg-3.ensures in
+    IfOk-weaker c.arg-4.result _ _ (λ command h. argued _ _ _ _ _ third c.eager_flag.ensures h) c.arg-4.ensures

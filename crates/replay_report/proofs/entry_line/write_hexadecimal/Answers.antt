@@ -7,7 +7,7 @@ use Rattle.replay_report.proofs.entry_line.write_hexadecimal.Goals as goal
 pub bytes-preserved : goal.bytes-preserved
 bytes-preserved c =
     let byte : ℕ = slice_index c.args.bytes.now c.bytes.i in
-    encode_step lower_digits c.args.bytes.now c.bytes.digits c.bytes.i _ _ (omega arith) (omega arith) c.digit.ensures (c.digit-in-bytes.ensures ∙ ap (λ (k : ℕ). slice_index lower_digits k) (and_mask byte 4)) c.bytes.invariant
+    encode_step lower_digits c.args.bytes.now c.bytes.digits c.bytes.i _ _ (omega arith) (omega arith) c.digit.ensures.value (c.digit-in-bytes.ensures.value ∙ ap (λ (k : ℕ). slice_index lower_digits k) (and_mask byte 4)) c.bytes.invariant
 
 pub returns : goal.returns
 returns c =

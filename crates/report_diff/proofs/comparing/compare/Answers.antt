@@ -1,40 +1,23 @@
-use Rattle.std.proofs.Common.{◌≡◌, ◌+◌, ◌-◌, length, take, drop, ap, ap₂, ◌∙◌, arith}
-use Rattle.std.proofs.lemmas.List.{length-map, take_rest}
-use Rattle.report_diff.specs.Differences.{are_alike, difference_text}
-use Rattle.report_diff.specs.Inputs.{first_report, second_report}
+use Rattle.std.proofs.Common.{◌≡◌, ◌-◌, ap, length, take, drop, ◌∙◌}
+use Rattle.std.specs.Prelude.{IfErr, IfOk}
+use Rattle.std.proofs.lemmas.List.{take_rest}
+use Rattle.report_diff.specs.Inputs.{ComparesLines, TellsOfLines, first_text, second_text}
 use Rattle.report_diff.specs.Lines.{texts}
-use Rattle.report_diff.proofs.Reports.{first_is, no_end, now, refusal_is, second_is, some_end}
+use Rattle.report_diff.proofs.Reports.{first_text_is, of_same, second_text_is}
 use Rattle.report_diff.proofs.comparing.compare.Goals as goal
-
-pub returns-then-end-lines-clause-err : goal.returns-then-end-lines-clause-err
-returns-then-end-lines-clause-err c =
-    let all = c.as_slice-lines.result.now in
-    let same = ap texts c.as_slice-lines.ensures.value ∙ c.in_ok-lines.ensures in
-    let none = no_end (texts all) (omega (arith, c.end_of-end.ensures.place, length-map all now)) in
-    refusal_is c.args.input.now all c.end_of-end.result same c.end_of-end.ensures.place ∙ rw (← c.begins.ensures, c.if-not-begins.false, none)
-
-pub returns-then-not-begins-2-clause-err : goal.returns-then-not-begins-2-clause-err
-returns-then-not-begins-2-clause-err c =
-    let all = c.as_slice-lines.result.now in
-    let same = ap texts c.as_slice-lines.ensures.value ∙ c.in_ok-lines.ensures in
-    let some = some_end (texts all) (omega (arith, c.end_of-end.ensures.place, length-map all now)) in
-    refusal_is c.args.input.now all c.end_of-end.result same c.end_of-end.ensures.place
-    ∙ rw (← c.begins.ensures, c.if-not-begins.false, some, ← take_rest all (c.end_of-end.result + 1), ← c.begins-2.ensures, c.if-not-begins-2.true)
 
 pub returns-clause-ok : goal.returns-clause-ok
 returns-clause-ok c =
-    let input = c.args.input.now in
     let all = c.as_slice-lines.result.now in
-    let end = c.end_of-end.result in
     let same = ap texts c.as_slice-lines.ensures.value ∙ c.in_ok-lines.ensures in
-    let some = some_end (texts all) (omega (arith, c.end_of-end.ensures.place, length-map all now)) in
-    let first : texts (take end all) ≡ first_report input = first_is input all end same c.end_of-end.ensures.place in
-    let rest = take_rest all (end + 1) in
-    let second : texts (take (length all - (end + 1)) (drop (end + 1) all)) ≡ second_report input =
-    ap texts rest ∙ second_is input all end same c.end_of-end.ensures.place in
-    record {
-      reports = refusal_is input all end same c.end_of-end.ensures.place
-          ∙ rw (← c.begins.ensures, c.if-not-begins.false, some, ← rest, ← c.begins-2.ensures, c.if-not-begins-2.false);
-      text = c.in_ok-compared.ensures.text ∙ ap₂ difference_text first second;
-      alike = c.in_ok-compared.ensures.alike ∙ ap₂ are_alike first second;
-    }
+    let first : texts (take c.min-second.result all) ≡ first_text c.args.input.now = first_text_is c.args.input.now all c.end_of.result c.min-second.result same c.end_of.ensures.place c.min-second.ensures in
+    let second : texts (take (length all - c.min-second.result) (drop c.min-second.result all)) ≡ second_text c.args.input.now = ap texts (take_rest all c.min-second.result) ∙ second_text_is c.args.input.now all c.end_of.result c.min-second.result same c.end_of.ensures.place c.min-second.ensures in
+    of_same (λ a b. IfOk c.compare_lines.result (ComparesLines a b)) first second c.compare_lines.ensures.ok
+
+pub returns-clause-err : goal.returns-clause-err
+returns-clause-err c =
+    let all = c.as_slice-lines.result.now in
+    let same = ap texts c.as_slice-lines.ensures.value ∙ c.in_ok-lines.ensures in
+    let first : texts (take c.min-second.result all) ≡ first_text c.args.input.now = first_text_is c.args.input.now all c.end_of.result c.min-second.result same c.end_of.ensures.place c.min-second.ensures in
+    let second : texts (take (length all - c.min-second.result) (drop c.min-second.result all)) ≡ second_text c.args.input.now = ap texts (take_rest all c.min-second.result) ∙ second_text_is c.args.input.now all c.end_of.result c.min-second.result same c.end_of.ensures.place c.min-second.ensures in
+    of_same (λ a b. IfErr c.compare_lines.result (TellsOfLines a b)) first second c.compare_lines.ensures.err

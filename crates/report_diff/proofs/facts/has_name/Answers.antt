@@ -1,6 +1,6 @@
 use Rattle.std.proofs.Common.{sym}
 use Rattle.std.specs.Str.{bytes_eq}
-use Rattle.report_diff.specs.Differences.{fact_name}
+use Rattle.report_diff.specs.Lines.{fact_name}
 use Rattle.report_diff.proofs.Slices.{some_passes}
 use Rattle.report_diff.proofs.facts.has_name.Goals as goal
 

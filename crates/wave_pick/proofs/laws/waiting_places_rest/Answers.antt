@@ -1,5 +1,5 @@
-use Rattle.wave_pick.proofs.Resting.{rests_unmet, rests_on_stays}
-use Rattle.wave_pick.proofs.RestingItems.{rests_decided, rests_undecided, rests_by_items}
+use Rattle.wave_pick.proofs.Resting.{rests_unmet, rests_on_all_stays, rests_on_stays}
+use Rattle.wave_pick.proofs.RestingItems.{rests_decided, rests_undecided, rests_by_items, rests_together}
 use Rattle.wave_pick.proofs.laws.waiting_places_rest.Goals as goal
 
 pub returns : goal.returns
@@ -9,4 +9,6 @@ returns c = record {
   undecided = rests_undecided;
   items = rests_by_items;
   stay = rests_on_stays;
+  together = rests_together;
+  stay_together = rests_on_all_stays;
 }

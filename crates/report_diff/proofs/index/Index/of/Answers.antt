@@ -1,28 +1,34 @@
-use Rattle.std.proofs.Common.{◌∙◌, Some, get_or, take, sym}
-use Rattle.std.proofs.lemmas.Map.Text.{btree_map_updates_str}
-use Rattle.report_diff.specs.Lines.{line_about, texts}
-use Rattle.report_diff.proofs.Slices.{no_slice, texts_more}
-use Rattle.report_diff.proofs.Known.{Knows-known, Knows-new, adds_line, is_known}
-use Rattle.report_diff.proofs.index.Index.of.Goals.{then-not-contains_key+in_ok-insert, else-not-contains_key}
+use Rattle.std.proofs.Common.{◌≡◌, ◌+◌, ℕ, false, true, not, Some, None, List, get_or, take, drop, refl, sym, ap, ◌∙◌}
+use Rattle.std.specs.Option.{option_map}
+use Rattle.report_diff.specs.Lines.{line_about, subject, texts}
+use Rattle.report_diff.specs.Inputs.{otherwise_of}
+use Rattle.report_diff.specs.Refusals.{otherwise_text, shown_subject}
+use Rattle.report_diff.specs.Repeats.{once, otherwise, says_otherwise}
+use Rattle.report_diff.proofs.Slices.{no_slice, texts_more, texts_split, length_texts}
+use Rattle.report_diff.proofs.RepeatLemmas.{first_found, none_more, says_other, says_same}
 use Rattle.report_diff.proofs.index.Index.of.Goals as goal
 
-pub loop-line-init : goal.loop-line-init
-unfolding line_about
-loop-line-init c = λ about. rw c.new-known.ensures.empty
+pub loop-place-init : goal.loop-place-init
+unfolding line_about once otherwise
+loop-place-init c = record { index = record { known = λ about. rw c.new.ensures.empty refl; once = rw c.new-2.ensures.items refl }; agrees = refl }
 
-pub loop-line-preserved : goal.loop-line-preserved
-loop-line-preserved c =
-    let line = get_or c.args.lines.now c.loop-line.line-index no_slice in
-    let text = texts (take c.loop-line.line-index c.args.lines.now) in
-    let more = texts_more c.args.lines.now c.loop-line.line-index c.loop-line-test.true in
-    let about = c.subject-about.result.now in
-    let old = c.loop-line.known in
-    let is_there = is_known old line.now about c.subject-about.ensures ∙ sym c.contains_key.ensures in
-    elim c.if-not-contains_key.branch [
-      | then-not-contains_key+in_ok-insert w ↦
-          rw (more, w.known-is) (Knows-new old w.insert.new.self text line.now c.loop-line.invariant (is_there ∙ w.if-not-contains_key.true)
-          (adds_line old w.insert.new.self line about c.subject-about.ensures
-          (btree_map_updates_str about old w.insert.new.self (Some line) w.in_ok-insert.ensures.updates)))
-      | else-not-contains_key w ↦
-          rw (more, w.known-is) (Knows-known old text line.now c.loop-line.invariant (is_there ∙ w.if-not-contains_key.false))
-    ]
+pub returns-then-not-branch-clause-err : goal.returns-then-not-branch-clause-err
+returns-then-not-branch-clause-err c =
+    let all = c.args.lines.now in
+    let place = c.loop-place.place in
+    let text = texts (take place all) in
+    let line = (get_or all place no_slice).now in
+    let other : says_otherwise text line ≡ true = says_other _ (sym c.if-not-branch.true ∙ c.in_ok-add.ensures.agrees text c.loop-place.invariant.index) in
+    let found = first_found text (texts (drop (place + 1) all)) line c.loop-place.invariant.agrees other in
+    ap (option_map (λ (found : ℕ × List ℕ). otherwise_text c.args.side found.0 (shown_subject found.1))) (ap otherwise (texts_split all place c.loop-place-test.true) ∙ found)
+    ∙ rw (length_texts all place c.loop-place-test.true, c.shown.ensures, c.subject.ensures) refl
+
+pub loop-place-preserved : goal.loop-place-preserved
+loop-place-preserved c =
+    let text = texts (take c.loop-place.place c.args.lines.now) in
+    let line = (get_or c.args.lines.now c.loop-place.place no_slice).now in
+    let same : says_otherwise text line ≡ false = says_same _ (sym c.if-not-branch.false ∙ c.in_ok-add.ensures.agrees text c.loop-place.invariant.index) in
+    rw (texts_more c.args.lines.now c.loop-place.place c.loop-place-test.true) record {
+      index = c.in_ok-add.ensures.index text c.loop-place.invariant.index;
+      agrees = none_more text line c.loop-place.invariant.agrees same;
+    }

@@ -1,6 +1,10 @@
-use Rattle.std.proofs.Common.{take}
-use Rattle.report_diff.specs.Lines.{Knows, texts}
+use Rattle.std.proofs.Common.{◌≡◌, None, take}
+use Rattle.report_diff.specs.Lines.{texts}
+use Rattle.report_diff.specs.Repeats.{IsIndex, otherwise}
 use Rattle.report_diff.proofs.index.Index.of.Given as goal
 
-abbrev pub invariant-loop-line : goal.invariant-loop-line
-invariant-loop-line l = Knows l.known (texts (take l.line-index l.lines))
+abbrev pub invariant-loop-place : goal.invariant-loop-place
+invariant-loop-place l = record {
+  index : IsIndex l.index (texts (take l.place l.lines));
+  agrees : otherwise (texts (take l.place l.lines)) ≡ None;
+}

@@ -1,30 +1,18 @@
-use Rattle.std.proofs.Common.{◌∙◌, Some, inl, inr, ap, length, subst, sym}
-use Rattle.std.specs.Option.{option_map}
-use Rattle.std.proofs.lemmas.List.{length-set}
+use Rattle.std.proofs.Common.{◌∙◌, inl, inr, ap}
 use Rattle.std.proofs.lemmas.Result.{on_ok_weaker}
-use Rattle.wave_pick.specs.Scheduling.{AddsReach}
+use Rattle.interleaving.specs.Machine.{has}
+use Rattle.wave_pick.proofs.Listing.{keeps_so, lists_none}
 use Rattle.wave_pick.proofs.scheduler.Scheduler.keep.Goals as goal
 
-pub returns : goal.returns
-returns c =
-    let s = c.args.self.now in
-    let k = c.args.place in
-    let reach = c.args.view.reach in
-    let renews = c.renew.ensures in
+pub returns-in-Some : goal.returns-in-Some
+returns-in-Some c =
     on_ok_weaker c.list.result
-    (λ lists. record {
-      same = record {
-        round = ap (λ x. x.round) lists.rest ∙ ap (λ x. x.round) renews.rest;
-        exact = ap (λ x. x.exact) lists.rest ∙ ap (λ x. x.exact) renews.rest;
-        reaches = ap (λ x. length x.reaches.items) lists.rest ∙ ap length renews.reaches ∙ length-set s.reaches.items k (Some reach);
-        again = lists.many_again ∙ renews.many_again;
-        resting = lists.many_resting ∙ renews.many_resting;
-      };
-      index = subst (λ a. AddsReach s.ahead a reach) (sym (ap (λ x. x.ahead) lists.rest ∙ ap (λ x. x.ahead) renews.rest)) (record { writes = c.in_ok-add.ensures.written; touches = c.in_ok-add.ensures.touched });
-      reaches = ap (λ x. x.reaches.items) lists.rest ∙ renews.reaches;
-      still = λ j apart is. lists.still j apart (renews.still j is);
-      listed = λ i j apart l. lists.listed i j (record { list = l.list; at = ap (option_map (λ v. v.items)) (renews.others i apart) ∙ l.at; has_it = l.has_it });
-      woken = λ j apart low l. elim (renews.woken j (record { list = l.list; at = l.at; has_it = l.has_it }) low) [ inl is ↦ inl (lists.still j apart is) | inr rests ↦ inr (rests.0, lists.listed k j rests.1) ];
-      rests = elim lists.rests [ inl stays ↦ inl (λ is. stays (renews.still k is)) | inr on ↦ inr on ];
-    })
+    (λ lists. keeps_so c.args.place c.args.view c.args.self.now c.add.new.self _ c.renew.new.self c.list.new.self (record { writes = c.in_ok-add.ensures.written; touches = c.in_ok-add.ensures.touched }) c.renew.ensures c.as_slice.result.now lists
+    (elim lists.rests [
+      | inl stays ↦ inl stays
+      | inr all ↦ inr (c.in-Some.rest, (c.in-Some.is, λ i e. all i (ap (λ is. has is i) (rw c.in-Some.is at c.as_slice.ensures.value) ∙ e)))
+    ]))
     c.list.ensures
+
+pub returns-in-None : goal.returns-in-None
+returns-in-None c = keeps_so c.args.place c.args.view c.args.self.now c.add.new.self _ c.renew.new.self c.renew.new.self (record { writes = c.in_ok-add.ensures.written; touches = c.in_ok-add.ensures.touched }) c.renew.ensures _ (lists_none c.args.place c.renew.new.self) (inl (λ e. e))

@@ -1,17 +1,22 @@
-use Rattle.std.proofs.Common.{Some, refl, inl, sym, ap, ◌∙◌}
+use Rattle.std.proofs.Common.{◌∙◌, Some, take, get_or, ap, refl, sym, rules}
+use Rattle.std.proofs.lemmas.List.{take_all, take_more}
 use Rattle.std.proofs.lemmas.Option.{slice_get-get_or}
-use Rattle.wave_pick.proofs.Listing.{lists_there}
+use Rattle.wave_pick.proofs.Listing.{ListsSoFar, lists_all, lists_more}
 use Rattle.wave_pick.proofs.scheduler.Scheduler.list.Goals as goal
 
-pub returns-in_default : goal.returns-in_default
-returns-in_default c = record { many_again = refl; many_resting = refl; still = λ j ne e. e; listed = λ i j l. l; rests = inl (λ e. e); rest = refl }
-
-pub returns-in_ok-push : goal.returns-in_ok-push
-returns-in_ok-push c =
-    let s = c.args.self.now in
-    let e = c.in-Some-get_mut.ensures in
+pub loop-one-preserved : goal.loop-one-preserved
+loop-one-preserved c =
+    let mid = c.loop-one.self in
+    let on = c.args.on.now in
+    let i = c.loop-one.one-index in
+    let one = get_or on i 0 in
+    let e = c.in-Some.ensures in
     let lt = e.item.3.0 in
-    rw c.in-Some.is (lists_there s _ c.args.place c.in-Some.on c.in-Some-get_mut.listed.now c.push.new.self (slice_get-get_or s.resting.items c.in-Some.on c.in-Some-get_mut.listed.now lt ∙ ap Some (sym e.value)) lt c.in_ok-push.ensures.items refl refl refl)
+    rw (take_more on i 0 (search rules)) (lists_more mid _ c.args.place one c.in-Some.listed.now c.push.new.self (slice_get-get_or mid.resting.items one c.in-Some.listed.now lt ∙ ap Some (sym e.value)) lt
+    c.in_ok-push.ensures.items refl c.args.self.now (take i on) c.loop-one.invariant refl)
 
-pub returns-in_default-get_mut : goal.returns-in_default-get_mut
-returns-in_default-get_mut c = record { many_again = refl; many_resting = refl; still = λ j ne e. e; listed = λ i j l. l; rests = inl (λ e. e); rest = refl }
+pub returns : goal.returns
+returns c =
+    let on = c.args.on.now in
+    let so : ListsSoFar c.args.place on c.args.self.now c.loop-one.self = rw (take_all c.loop-one.one-index on c.loop-one-test.false) at c.loop-one.invariant in
+    lists_all c.args.place on c.args.self.now c.loop-one.self so _ refl refl

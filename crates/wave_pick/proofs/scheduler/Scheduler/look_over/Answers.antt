@@ -1,12 +1,13 @@
-use Rattle.std.proofs.Common.{◌≡◌, ◌<◌, ◌++◌, ◌∷◌, ◌∙◌, [], All, Some, if◌then◌else◌, length, get_or, ap, sym, rules, arith}
+use Rattle.std.proofs.Common.{◌≡◌, ◌<◌, ◌++◌, ◌∷◌, ◌∙◌, [], All, Some, if◌then◌else◌, length, slice_get, get_or, ap, sym, rules, arith}
 use Rattle.std.proofs.lemmas.Bool.{cond_both}
 use Rattle.std.proofs.lemmas.List.{take_more}
 use Rattle.std.proofs.lemmas.Option.{slice_get-get_or}
 use Rattle.trace_format.specs.Steps.{places}
 use Rattle.std.proofs.lemmas.List.Elements.{All-push}
-use Rattle.wave_pick.specs.Scheduling.{HasRoom}
-use Rattle.wave_pick.proofs.Passing.{look_step, pass_step, same_on, same_rest, seen_view}
-use Rattle.wave_pick.proofs.scheduler.Scheduler.look_over.Goals.{then-index+in_ok-view+in_ok-keep, then-view+in_ok-push, else-view, else-index+in_ok-pass}
+use Rattle.wave_pick.specs.Scheduling.{HasRoom, IsAgain}
+use Rattle.wave_pick.specs.declared.scheduler.Scheduler.{Scheduler}
+use Rattle.wave_pick.proofs.Passing.{fresh_step, look_step, pass_step, same_fresh, same_on, same_rest, seen_view}
+use Rattle.wave_pick.proofs.scheduler.Scheduler.look_over.Goals.{then-index+in_ok-freshen+in_ok-view+in_ok-keep, then-view+in_ok-push, else-view, else-index+in_ok-pass}
 use Rattle.wave_pick.proofs.scheduler.Scheduler.look_over.Goals as goal
 
 pub loop-index-preserved : goal.loop-index-preserved
@@ -27,7 +28,10 @@ loop-index-preserved c =
     let low : k < length s.again.items = let p = c.requires.places i 0 l in omega (arith, many, p) in
     let flag = slice_get-get_or s.again.items k c.index.result.now low ∙ ap Some (sym c.index.ensures) in
     elim c.if-index.branch [
-      | then-index+in_ok-view+in_ok-keep w ↦
+      | then-index+in_ok-freshen+in_ok-view+in_ok-keep w ↦
+          let mid = w.freshen.new.self in
+          let fresh = w.in_ok-freshen.ensures in
+          let now = same_fresh before fresh.rest in
           let v = w.in_ok-view.view in
           let keeps = w.in_ok-keep.ensures in
           let pushed : c.if-index.free.items ≡ (if v.free then free ++ k ∷ [] else free) = ap (λ x. x.items) w.free-is ∙ (elim w.if-view.branch [
@@ -36,12 +40,13 @@ loop-index-preserved c =
           ]) in
           record {
             seen = λ window a start.
-                let h = c.loop-index.invariant.seen window a start in
-                let view = seen_view t c.requires.trace window world q first a i k at s free h before.round v w.in_ok-view.ensures in
-                let room : HasRoom (places t) s = record { reaches = before.reaches ∙ c.requires.room.reaches; again = many; resting = before.resting ∙ c.requires.room.resting } in
-                let step = look_step t c.requires.trace window world q first a i k at s free h room (flag ∙ ap Some w.if-index.true) v view w.keep.new.self keeps in
+                let h = fresh_step t c.requires.trace window world q first a i k at s free (c.loop-index.invariant.seen window a start) mid fresh in
+                let view = seen_view t c.requires.trace window world q first a i k at mid free h now.round v w.in_ok-view.ensures in
+                let room : HasRoom (places t) mid = record { reaches = now.reaches ∙ c.requires.room.reaches; again = now.again ∙ c.requires.room.again; resting = now.resting ∙ c.requires.room.resting } in
+                let due : IsAgain mid k = ap (λ (x : Scheduler). slice_get x.again.items k) fresh.rest ∙ flag ∙ ap Some w.if-index.true in
+                let step = look_step t c.requires.trace window world q first a i k at mid free h room due v view w.keep.new.self keeps in
                 rw (w.self-is, more, pushed) step;
-            same = rw w.self-is (same_on before keeps.same);
+            same = rw w.self-is (same_on now keeps.same);
             low = rw pushed (cond_both v.free _ _ (All (λ n. n < places t))
                 (λ _. All-push (λ n. n < places t) free k c.loop-index.invariant.low (c.requires.places i 0 l)) (λ _. c.loop-index.invariant.low));
           }

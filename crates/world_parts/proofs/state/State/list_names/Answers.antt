@@ -1,6 +1,5 @@
 use Rattle.std.proofs.Common.{ℕ, List, ◌∷◌, ◌++◌, [], ap, sym, ◌∙◌}
-use Rattle.std.specs.Prelude.{Vec, map}
-use Rattle.std.specs.declared.alloc.Global.{Global}
+use Rattle.std.specs.Prelude.{map}
 use Rattle.std.specs.List.{flat_map}
 use Rattle.std.proofs.lemmas.List.Concat.{flat_map_single}
 use Rattle.std.proofs.lemmas.List.Folds.{flat_map-map}
@@ -11,8 +10,8 @@ use Rattle.world_parts.specs.Image.{all_paths, name_entry}
 use Rattle.finite_maps.proofs.Ordered.{seen_entries_of}
 use Rattle.world_parts.proofs.state.State.list_names.Goals as goal
 
-abbrev seen : Vec ℕ Global × ℕ → List ℕ × ℕ
-seen e = (e.0.items, e.1)
+abbrev seen : List ℕ × ℕ → List ℕ × ℕ
+seen e = (e.0, e.1)
 
 abbrev line : Tree → List ℕ × ℕ → List NameEntry
 line tree e = name_entry tree e ∷ []
@@ -24,5 +23,5 @@ loop-path-init c =
     ap (λ es. es ++ flat_map (λ e. line tree (seen e)) c.into_iter-path-iterator.result) c.requires
     ∙ (sym (flat_map-map (line tree) seen c.into_iter-path-iterator.result)
     ∙ ap (λ es. flat_map (line tree) (map seen es)) given.0
-    ∙ ap (flat_map (line tree)) (seen_entries_of text_keys (λ k. k.items) c.in_ok-items.items.entries (all_paths tree) given.5 c.in_ok-items.ensures)
+    ∙ ap (flat_map (line tree)) (seen_entries_of text_keys (λ path. path) c.in_ok-items.items.entries (all_paths tree) given.5 c.in_ok-items.ensures)
     ∙ flat_map_single (name_entry tree) (all_paths tree).entries)

@@ -7,7 +7,7 @@ use Rattle.world_parts.proofs.state.State.paths.Given as goal
 
 -- the paths so far, and those of the names that are pending, are all paths
 abbrev pub invariant-loop-path : goal.invariant-loop-path
-invariant-loop-path l = by_path (seen_table text_keys.total (λ k. k.items) l.paths.entries) (paths_pending l.self.nodes l.pending.items) ≡ all_paths l.self.nodes
+invariant-loop-path l = by_path (seen_table text_keys.total (λ path. path) l.paths.entries) (paths_pending l.self.nodes l.pending.items) ≡ all_paths l.self.nodes
 
 abbrev pub decreases-loop-path : goal.decreases-loop-path
 decreases-loop-path l = length (paths_pending l.self.nodes l.pending.items)

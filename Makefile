@@ -1,0 +1,53 @@
+# make install PREFIX=/usr/local    installs the proved program, the recorder, manual pages, examples and licences
+# make deb                          packs the proved program for Debian, with dpkg-deb(1)
+# The program is built and proved first, by ./test, or by `rt run -- --help` in crates/uring_replay.
+PREFIX ?= /usr/local
+DESTDIR ?=
+PROGRAM = crates/uring_replay/out/uring_replay
+VERSION = $(shell sed -n 's/^## \([0-9.]*\).*/\1/p' CHANGELOG.md | head -n 1)
+ROOT = $(DESTDIR)$(PREFIX)
+SHARE = $(ROOT)/share/doc/uring-replay
+BUILD = out
+STAGE = $(BUILD)/deb
+
+all: tools manuals
+
+tools:
+	$(MAKE) -C tools
+
+$(PROGRAM):
+	@echo "$@ is not built: run ./test, or \`rt run -- --help\` in crates/uring_replay" >&2; exit 1
+
+manuals:
+	mkdir -p $(BUILD)/man
+	tools/manual uring_replay 1 $(VERSION) "replay recorded io_uring submissions" docs/GUIDE.md > $(BUILD)/man/uring_replay.1
+	tools/manual uring_record 1 $(VERSION) "record what a program submits through io_uring" docs/RECORDING.md > $(BUILD)/man/uring_record.1
+	tools/manual uring-trace 5 $(VERSION) "traces of io_uring submissions, and reports" docs/FORMAT.md > $(BUILD)/man/uring-trace.5
+
+install: install-program
+	$(MAKE) -C tools
+	install -D -m 755 tools/out/uring_record $(ROOT)/bin/uring_record
+	install -D -m 644 $(BUILD)/man/uring_record.1 $(ROOT)/share/man/man1/uring_record.1
+
+install-program: $(PROGRAM) manuals
+	install -D -m 755 $(PROGRAM) $(ROOT)/bin/uring_replay
+	install -D -m 644 $(BUILD)/man/uring_replay.1 $(ROOT)/share/man/man1/uring_replay.1
+	install -D -m 644 $(BUILD)/man/uring-trace.5 $(ROOT)/share/man/man5/uring-trace.5
+	install -d $(SHARE)/examples
+	install -m 644 README.md CHANGELOG.md LICENSE-MIT LICENSE-APACHE $(SHARE)
+	install -m 644 examples/read_four_bytes.* examples/appends_wait_for_each_other.* examples/recorded/qemu_disk_image.* $(SHARE)/examples
+
+deb: $(PROGRAM)
+	rm -rf $(STAGE)
+	$(MAKE) install-program DESTDIR=$(STAGE) PREFIX=/usr
+	tools/licences > $(STAGE)/usr/share/doc/uring-replay/copyright
+	gzip -9n $(STAGE)/usr/share/man/man*/*
+	mkdir -p $(STAGE)/DEBIAN
+	printf 'Package: uring-replay\nVersion: %s\nArchitecture: amd64\nMaintainer: The uring_replay authors <uring_replay@example.org>\nDepends: libc6\nSection: utils\nPriority: optional\nDescription: replay recorded io_uring submissions\n It executes a recorded trace in memory, and reports every result. The answers\n are proved to be the same on every run and on every number of threads.\n' $(VERSION) > $(STAGE)/DEBIAN/control
+	dpkg-deb --root-owner-group --build $(STAGE) $(BUILD)/uring-replay_$(VERSION)_amd64.deb
+
+clean:
+	rm -rf $(BUILD)
+	$(MAKE) -C tools clean
+
+.PHONY: all tools manuals install install-program deb clean

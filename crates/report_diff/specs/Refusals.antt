@@ -1,0 +1,36 @@
+-- The model: why texts are not two reports, in the words that say it.
+use Rattle.std.specs.Prelude.{ℕ, ◌≡◌, ◌+◌, ◌&&◌, Bool, not, is_some, nat_le, nat_lt, List, [], ◌∷◌, ◌++◌, length, take, map, codes, Option, None, Some, if◌then◌else◌}
+use Rattle.std.specs.Fmt.{decimal}
+use Rattle.report_diff.specs.declared.refusal.Side.{Side}
+use Rattle.report_diff.specs.declared.refusal.Side.TheVariants.{First, Second}
+use Rattle.report_diff.specs.declared.refusal.Flaw.{Flaw}
+use Rattle.report_diff.specs.declared.refusal.Flaw.TheVariants.{Heading, End, GoesOn, Otherwise}
+use Rattle.report_diff.specs.declared.refusal.Refusal.{Refusal}
+
+abbrev pub side_name : Side → List ℕ
+side_name First = codes "first"
+side_name Second = codes "second"
+
+-- A byte that is visible, or a space, is shown as it is, any other by `?`.
+abbrev pub shown_byte : ℕ → ℕ
+shown_byte byte = if nat_le 32 byte && nat_le byte 126 then byte else 63
+
+-- The first 128 bytes of a subject, and a `+` where there are more.
+unfoldable pub shown_subject : List ℕ → List ℕ
+shown_subject subject = map shown_byte (take 128 subject) ++ (if nat_lt 128 (length subject) then codes "+" else [])
+
+-- A line, by its number from 1, says otherwise of its subject.
+abbrev pub otherwise_text : Side → ℕ → List ℕ → List ℕ
+otherwise_text side line subject =
+    codes "line " ++ (decimal line ++ (codes " of the " ++ (side_name side ++ (codes " says otherwise of " ++ subject))))
+
+-- What is wrong with a text.
+abbrev pub flaw_text : Side → Flaw → List ℕ
+flaw_text side Heading = codes "the " ++ side_name side ++ codes " does not begin with uring-report 1"
+flaw_text First End = codes "the first has no line end"
+flaw_text Second End = codes "the second has no end"
+flaw_text side GoesOn = codes "the " ++ side_name side ++ codes " goes on behind its end"
+flaw_text side (Otherwise line subject) = otherwise_text side line subject.bytes
+
+abbrev pub refusal_text : Refusal → List ℕ
+refusal_text why = flaw_text why.side why.flaw

@@ -1,0 +1,4 @@
+pub mod Entries
+pub mod History
+pub mod Telling
+pub mod Direct

@@ -1,0 +1,3 @@
+pub mod History
+pub mod Spans
+pub mod Known

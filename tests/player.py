@@ -1,0 +1,106 @@
+"""Builds the player, and plays traces with it: see docs/PLAYING.md."""
+import copy
+import os
+import shutil
+import subprocess
+import tempfile
+from typing import Dict, List, NamedTuple, Optional, Sequence
+
+from harness import TOP, Answer, Program, shown
+from shims import Shim
+
+SOURCES, SHARED = (os.path.join(TOP, "tools", it) for it in ("uring_play", "shared"))
+UNTRIED, SECONDS = 77, 120
+MODES = ("chains", "rounds", "threads")
+SECTIONS = ("entries", "tree", "slots", "buffers")
+
+
+class Compared(NamedTuple):
+    """A play held against the answers: what is wrong, if anything is, or why it could not be tried; of each section how many lines are equal,
+    different and outside; and the words of those that are outside."""
+
+    fault: Optional[str]
+    untried: Optional[str]
+    counts: Dict[str, List[int]]
+    words: List[str]
+
+
+class Player:
+    """The player, built into a folder that goes with it; it plays there, and where a file system in memory is, there too."""
+
+    def __init__(self) -> None:
+        self.folder = tempfile.TemporaryDirectory(prefix="uring-play-test-")
+        self.shared = tempfile.TemporaryDirectory(prefix="uring-play-test-", dir="/dev/shm") if os.access("/dev/shm", os.W_OK) else None
+        self.program = os.path.join(self.folder.name, "uring_play")
+        self.system = Shim("system", 0)
+        self.environment = dict(os.environ)
+
+    def directories(self) -> List[str]:
+        return [self.folder.name, *([self.shared.name] if self.shared else [])]
+
+    def lacking(self) -> Optional[str]:
+        """Builds it, or says why that cannot be."""
+        compiler = os.environ.get("CC") or next((it for it in ("cc", "gcc", "clang") if shutil.which(it)), "")
+        if not compiler:
+            return "there is no C compiler"
+        sources = [os.path.join(at, it) for at in (SOURCES, SHARED) for it in sorted(os.listdir(at)) if it.endswith(".c")]
+        options = os.environ.get("CFLAGS", "-O1").split()
+        words = [*compiler.split(), "-std=gnu11", "-D_GNU_SOURCE", *options, "-pthread", "-I", SHARED, "-o", self.program, *sources]
+        try:
+            ran = subprocess.run(words, stdin=subprocess.DEVNULL, stdout=subprocess.PIPE, stderr=subprocess.STDOUT)
+        except OSError as error:
+            return "the C compiler {} does not run: {}".format(compiler, error.strerror)
+        if ran.returncode:
+            return "the C compiler made no uring_play: {}".format(ran.stdout.decode("utf-8", "replace")[-300:])
+        return self.system.lacking()
+
+    def lacking_in_system(self, trace: str) -> Optional[str]:
+        """Why nothing can be played here, found out by trying."""
+        tried = self.play([trace])
+        return tried.errors.decode("utf-8", "replace").strip() if tried.status == UNTRIED else None
+
+    def with_less(self, **settings: int) -> "Player":
+        """The same player on a system that gives less, behind tests/system.c."""
+        other = copy.copy(self)
+        other.environment = {**self.environment, "LD_PRELOAD": self.system.file, **{"SYSTEM_" + it.upper(): str(value) for it, value in settings.items()}}
+        return other
+
+    def play(self, words: Sequence[str], given: bytes = b"", directory: str = "") -> Answer:
+        command = [self.program, "--quiet", "--directory", directory or self.folder.name, *words]
+        ran = subprocess.run(command, input=given, stdout=subprocess.PIPE, stderr=subprocess.PIPE, timeout=SECONDS, env=self.environment)
+        return Answer(ran.returncode, ran.stdout, ran.stderr)
+
+    def steered(self, trace: bytes, report: bytes, words: Sequence[str] = (), rounds: bytes = b"", directory: str = "") -> Answer:
+        """Plays a trace by its report and, where there are any, its rounds."""
+        with tempfile.TemporaryDirectory(dir=self.folder.name) as folder:
+            expected, in_rounds = os.path.join(folder, "expected"), os.path.join(folder, "rounds")
+            for path, text in ((expected, report), (in_rounds, rounds)):
+                with open(path, "wb") as file:
+                    file.write(text)
+            return self.play(["--expected", expected, *(["--rounds", in_rounds] if rounds else []), *words], trace, directory)
+
+    def compared(self, program: Program, trace: bytes, report: bytes, mode: str, directory: str) -> Compared:
+        """Plays a trace in a mode, and holds it against its report."""
+        rounds = program.run(["rounds"], trace).output if mode != "chains" else b""
+        got = self.steered(trace, report, ["--async"] if mode == "threads" else [], rounds, directory)
+        return against(program, report, got)
+
+
+def against(program: Program, report: bytes, got: Answer) -> Compared:
+    """What was played beside the report, by `diff`."""
+    counts: Dict[str, List[int]] = {it: [0, 0, 0] for it in SECTIONS}
+    if got.status == UNTRIED:
+        return Compared(None, got.errors.decode("utf-8", "replace").strip(), counts, [])
+    if got.status or got.errors:
+        return Compared(shown(got), None, counts, [])
+    found = program.run(["diff"], report + got.output)
+    lines = found.output.decode("utf-8", "replace").splitlines()
+    if lines and lines[-1].startswith("large "): # (files over 16 MiB have no sum)
+        lines.pop()
+    for section, line in zip(SECTIONS, lines[-len(SECTIONS):]):
+        counts[section] = [int(it) for it in line.replace(",", "").split()[1::2]]
+    is_well = found.status == 0 and not found.errors and not any(it[1] for it in counts.values())
+    words = [it.split("outside=")[1] for it in got.output.decode("utf-8", "replace").splitlines() if " outside=" in it]
+    differing = [it for it in lines[:-len(SECTIONS)] if not it.startswith("~")]
+    fault = None if is_well else "{} {}".format(shown(found), differing[:4])
+    return Compared(fault, None, counts, words)

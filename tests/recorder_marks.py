@@ -1,0 +1,254 @@
+"""What the recorder does not know is marked: programs that are recorded, replayed and compared with what the kernel gave."""
+import hashlib
+import math
+import os
+import re
+import shutil
+import subprocess
+import sys
+import tempfile
+import time
+from functools import partial
+from typing import Dict, List, NamedTuple, Optional, Sequence
+
+from harness import TOP, Answer, Job, Outcome, Program, first, say, shown, skipped, spoken
+from recorded import SHARED, SOURCES, UNTRIED, Tools, lacking_in_system, ran_in, read_file
+
+# Each mode of marks.c: why entries are outside, and how many lines of entries are equal at least.
+class Mode(NamedTuple):
+    name: str
+    marks: Sequence[str] = ()
+    equal: int = 1
+
+
+MODES = (
+    Mode("through_a_link", ["path"], 40),
+    Mode("links", ["opcode", "link"]),
+    Mode("elsewhere", ["path", "descriptor"], 5),
+    Mode("chosen_slots", ["slot", "descriptor"], 3),
+    Mode("open_by_how", ["opcode", "descriptor"], 4),
+    Mode("passed_on", ["opcode", "descriptor"], 2),
+    Mode("beyond", ["descriptor"], 10),
+    Mode("alike", ["opcode", "user"], 5),
+    Mode("unseen", ["descriptor", "chain"]),
+    Mode("many_completions", ["opcode"]),
+    Mode("refused", ["system", "memory", "flags", "polled"]),
+    Mode("chains", ["chain", "opcode", "descriptor"], 2),
+    Mode("other_root", [], 3),
+    Mode("huge", ["large", "descriptor"], 1),
+    Mode("ends_meanwhile"),
+    Mode("closed_meanwhile", [], 0),
+    Mode("changed_meanwhile", [], 90),
+    Mode("written_late", ["late"]),
+)
+OPTIONS: Sequence[Sequence[str]] = ([], ["--nop"], ["--drain"], ["--wait"], ["--version-1"])
+# What recording may cost: so many times the program alone, by at most so many runs each; and so many reads of memory an
+# entry, beside those of the start.
+AT_DEPTH_32, READS_AT_DEPTH_1, TRIES, START = 2.5, 3.0, 12, 50
+
+
+class Recording(NamedTuple):
+    """What was recorded of a program, and what its replay gives beside it."""
+
+    got: Answer
+    kernel: str
+    compared: Answer
+
+
+def build(tools: Tools, names: Sequence[str]) -> Optional[str]:
+    """Builds programs of the test folder; says why that fails."""
+    compiler = os.environ.get("CC") or next((it for it in ("cc", "gcc", "clang") if shutil.which(it)), "")
+    for name in names:
+        source = os.path.join(SOURCES, "test", name + ".c")
+        words = [*compiler.split(), "-std=gnu11", "-D_GNU_SOURCE", "-O1", "-I", SOURCES, "-I", SHARED, "-o", tools.file(name), source, "-lpthread"]
+        ran = subprocess.run(words, stdin=subprocess.DEVNULL, stdout=subprocess.PIPE, stderr=subprocess.STDOUT)
+        if ran.returncode:
+            return "the C compiler made no {}: {}".format(name, ran.stdout.decode("utf-8", "replace")[-300:])
+    return None
+
+
+def record(tools: Tools, program: Program, name: str, words: Sequence[str], command: Sequence[str]) -> Recording:
+    """Records a command in a directory of its own, and compares."""
+    try:
+        got = tools.record(words, command, name)
+    except subprocess.TimeoutExpired:
+        return Recording(Answer(-1, b"", b"it does not end"), "", Answer(-1, b"", b""))
+    path = tools.file("of-" + name)
+    if not os.path.exists(path + ".kernel"):
+        return Recording(got, "", Answer(-1, b"", got.errors))
+    sums = program.run(["serial", "--sums"], path + ".trace")
+    kernel = read_file(path + ".kernel")
+    return Recording(got, kernel.decode("utf-8", "replace"), program.run(["diff"], sums.output + kernel))
+
+
+def equal_entries(compared: Answer) -> int:
+    found = re.search(rb"^entries (\d+) equal", compared.output, re.M)
+    return int(found[1]) if found else -1
+
+
+def mode(tools: Tools, program: Program, mode: Mode, words: Sequence[str]) -> Outcome:
+    """One program: nothing differs, what is said to be outside is, and what is told stays told."""
+    label = "marks: {}, {}".format(mode.name, spoken(words))
+    made = record(tools, program, mode.name + "".join(words), words, [tools.file("marks"), mode.name])
+    if made.got.status == UNTRIED:
+        return Outcome(label, skipped=made.got.errors.decode("utf-8", "replace").split("\n")[0])
+    if made.got.status or made.compared.status:
+        return Outcome(label, "{}; diff: {}".format(shown(made.got), shown(made.compared)))
+    faults = []
+    if not words:
+        lacking = [it for it in mode.marks if "outside={}".format(it) not in made.kernel]
+        faults += ["no line has outside={}".format(it) for it in lacking]
+        if equal_entries(made.compared) < mode.equal:
+            faults.append("fewer than {} entries are equal: {}".format(mode.equal, shown(made.compared)))
+    return Outcome(label, first(faults))
+
+
+def entry_lines(kernel: str) -> List[str]:
+    return [it for it in kernel.split("\n") if it[:1].isdigit()]
+
+
+def facts(tools: Tools) -> List[Outcome]:
+    """What the lines of entries have: a completion that was not seen, and times."""
+    kernel = read_file(tools.file("of-unseen") + ".kernel").decode()
+    faults = []
+    unseen = [it for it in entry_lines(kernel) if "completion=unseen" in it]
+    if len(unseen) < 30:
+        faults.append("{} lines have completion=unseen".format(len(unseen)))
+    faults += ["it tells more: " + it for it in unseen if re.search(r" (res=|posted|silent|completed=)", it)]
+    for line in entry_lines(kernel):
+        submitted, completed = re.search(r" submitted=(\d+)", line), re.search(r" completed=(\d+)$", line)
+        if "by=recorder" in line:
+            continue
+        if not submitted or (" posted" in line) != bool(completed):
+            faults.append("it lacks a time: " + line)
+        elif completed and int(completed[1]) < int(submitted[1]):
+            faults.append("it completed before it was submitted: " + line)
+    return [Outcome("marks: completions that are not seen, and times", first(faults))]
+
+
+def seldom_told(tools: Tools) -> Outcome:
+    """Bytes that another thread changes all the time are not told, but where it was not running (they are compared then)."""
+    kernel = read_file(tools.file("of-changed_meanwhile") + ".kernel").decode()
+    told = [it for it in entry_lines(kernel) if " data=" in it and " op=22" in it]
+    return Outcome("marks: bytes that another thread changes", "{} reads of 100 are told".format(len(told)) if len(told) > 20 else None)
+
+
+def plot(tools: Tools) -> Outcome:
+    """The plot of docs/RECORDING.md draws a bar for each entry that completed."""
+    with open(os.path.join(TOP, "docs", "RECORDING.md"), encoding="utf-8") as file:
+        script = re.search(r"```python\n(.*?)```", file.read(), re.S)
+    kernel = read_file(tools.file("of-through_a_link") + ".kernel")
+    got = ran_in(tools.folder.name, [sys.executable, "-c", script[1] if script else ""], kernel)
+    is_well = got.status == 0 and got.output.count(b"<rect ") == kernel.count(b" completed=") > 0
+    return Outcome("marks: the plot of the times", None if is_well else shown(got))
+
+
+# --- Sums of large files --------------------------------------------------------------------------------------------
+
+PIECE = 1 << 24
+
+
+def tree_sum(path: str) -> str:
+    """By docs/FORMAT.md: the sum of the sums of the pieces of 16 MiB."""
+    whole = hashlib.sha256()
+    with open(path, "rb") as file:
+        for piece in iter(lambda: file.read(PIECE), b""):
+            whole.update(hashlib.sha256(piece).digest())
+    return whole.hexdigest()
+
+
+def all_sums(tools: Tools) -> Outcome:
+    """--all-sums adds tree sums to files over 16 MiB, and only then."""
+    root = tools.file("sums-root")
+    os.mkdir(root)
+    sizes = {"edge": PIECE, "over": PIECE + 1, "two": 2 * PIECE, "holes": 5 * PIECE + 7}
+    for name, size in sizes.items():
+        with open(os.path.join(root, name), "wb") as file:
+            file.truncate(size)
+            for at in (0, size - 1) if name != "holes" else (3 * PIECE + 5, size - 1):
+                file.seek(at)
+                file.write(b"x")
+    started = time.time()
+    with open(os.path.join(root, "sparse"), "wb") as file:
+        file.truncate(1 << 36)
+    faults = []
+    for words in ([], ["--all-sums"]):
+        given = [tools.file("uring_record"), *words, "-o", root + ".trace", "-k", root + ".kernel", "--", "true"]
+        got = ran_in(root, given)
+        lines = [] if got.status else read_file(root + ".kernel").decode().split("\n")
+        for name, size in sizes.items():
+            told = "sum=large" if size > PIECE else "sum="
+            wanted = " tree-sum=" + tree_sum(os.path.join(root, name)) if words and size > PIECE else ""
+            line = next((it for it in lines if it.startswith("file /{} size={} {}".format(name, size, told))), "")
+            if not line or line.partition(told)[2] != wanted and size > PIECE or "tree-sum" in line and not wanted:
+                faults.append("{}: {!r}, wanted {!r}".format(spoken(words), line, wanted))
+    zeros = hashlib.sha256(hashlib.sha256(bytes(PIECE)).digest() * (1 << 12)).hexdigest()
+    if "file /sparse size={} sum=large tree-sum={}".format(1 << 36, zeros) not in lines:
+        faults.append("a file of holes has another sum")
+    if time.time() - started > 30:
+        faults.append("holes are read: it took {:.0f} seconds".format(time.time() - started))
+    return Outcome("marks: --all-sums", first(faults))
+
+
+# --- Cost -----------------------------------------------------------------------------------------------------------
+
+def submitted(tools: Tools, words: Sequence[str], before: Sequence[str]) -> Dict[str, float]:
+    """Runs the submitter; gives nanoseconds an entry, and how often the recorder read its memory."""
+    with tempfile.TemporaryDirectory(dir=tools.folder.name) as root:
+        try:
+            got = ran_in(root, [*before, tools.file("submitter"), *words])
+        except subprocess.TimeoutExpired:
+            return {"entry": math.inf, "reads": math.inf}
+    found = re.search(rb"entry (\d+)", got.output)
+    said = re.search(rb"(\d+) reads of memory", got.errors)
+    return {"entry": float(found[1]) if found else math.inf, "reads": float(said[1]) if said else math.inf}
+
+
+def times(tools: Tools, words: Sequence[str], before: Sequence[str], beside: Sequence[str], wanted: float) -> float:
+    """How many times as long the submitter takes under one command as under another: the least of each, from as many runs as
+    it takes to be what is wanted, since other programs of this machine only make a run longer."""
+    one, other = math.inf, math.inf
+    for _ in range(TRIES):
+        one = min(one, submitted(tools, words, before)["entry"])
+        other = min(other, submitted(tools, words, beside)["entry"])
+        if one <= wanted * other:
+            break
+    return one / other if other < math.inf else math.inf
+
+
+def cost(tools: Tools) -> List[Outcome]:
+    """What recording costs: reads of memory an entry at depth 1, and time at depth 32 beside the program alone."""
+    path = tools.file("cost")
+    recording = [tools.file("uring_record"), "--verbose", "-o", path + ".trace", "-k", path + ".kernel", "--"]
+    outcomes = []
+    for kind in ("read", "write"):
+        count = 4000
+        reads = (submitted(tools, [kind, "1", str(count)], recording)["reads"] - START) / count
+        fault = None if reads <= READS_AT_DEPTH_1 else "{:.2f} an entry".format(reads)
+        outcomes.append(Outcome("cost: {} at depth 1, reads of memory an entry".format(kind), fault))
+        words = [kind, "32", "8000"]
+        found = times(tools, words, recording, [], AT_DEPTH_32)
+        fault = None if found <= AT_DEPTH_32 else "{:.2f} times the program alone".format(found)
+        outcomes.append(Outcome("cost: {} at depth 32".format(kind), fault))
+    beside = times(tools, ["read", "1", "4000"], recording, [tools.file("stops")], 0.0)
+    say("cost: at depth 1 recording takes {:.1f} times as long as a tracer that only stops and goes on".format(beside))
+    return outcomes
+
+
+def marked(programs: List[Program]) -> List[Outcome]:
+    tools = Tools()
+    lacking = tools.lacking() or build(tools, ("marks", "stops", "submitter"))
+    if lacking:
+        return skipped("the recorder's marks", lacking)
+    outcomes = [all_sums(tools)]
+    lacking = lacking_in_system(tools)
+    if lacking:
+        return outcomes + skipped("the recorder's marks", lacking)
+    program = programs[0]
+    for words in OPTIONS:
+        outcomes += [mode(tools, program, it, words) for it in MODES]
+    return [*outcomes, *facts(tools), seldom_told(tools), plot(tools), *cost(tools)]
+
+
+def jobs(programs: List[Program]) -> List[Job]:
+    return [partial(marked, programs)]

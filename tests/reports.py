@@ -1,0 +1,93 @@
+"""What `diff` refuses, what it passes over, and that it takes time in proportion to its input."""
+from functools import partial
+from typing import List, Tuple
+
+from harness import Answer, Job, Outcome, Program, difference, reports_refused, shown
+
+HEADING, END = b"uring-report 1\n", b"end\n"
+NOTHING = "".join(it + " 0 equal, 0 different, 0 outside\n" for it in ("entries", "tree", "slots", "buffers"))
+ENTRY = b"0 user=7 res=4 posted\n"
+# How many facts a line may have, and how often a line is said beside one with so many, and the processor seconds of each, which are 0.1
+# to 0.5 on a busy machine. With each fact looked for among all others it was 55, and with each line compared anew over 100.
+FACTS, REPEATED, MOST_SECONDS = 200_000, 20_000, 1.5
+
+
+def report(*lines: bytes) -> bytes:
+    return b"".join((HEADING, *lines, END))
+
+
+def counted(entries: int = 0, tree: int = 0, large: int = 0) -> bytes:
+    """The counts where no line is different."""
+    said = NOTHING.replace("entries 0", "entries {}".format(entries)).replace("tree 0", "tree {}".format(tree))
+    return (said + ("large {} not compared\n".format(large) if large else "")).encode()
+
+
+def refusals() -> List[Tuple[str, bytes, Answer]]:
+    """Texts that are not two reports, each with how it is refused."""
+    well = report(ENTRY)
+    return [
+        ("a second report with no end", well + HEADING + ENTRY, reports_refused("the second has no end")),
+        ("a second report that is cut in its end", well + well[:-2], reports_refused("the second has no end")),
+        ("a third report", well * 3, reports_refused("the second goes on behind its end")),
+        ("an empty line behind the end", well * 2 + b"\n", reports_refused("the second goes on behind its end")),
+        ("another result in a later line", well + report(ENTRY, b"1 user=8\n", b"0 user=7 res=5 posted\n"),
+         reports_refused("line 4 of the second says otherwise of 0")),
+        ("a later line that tells more", well + report(ENTRY, b"0 user=7 res=4 posted op=22\n"),
+         reports_refused("line 3 of the second says otherwise of 0")),
+        ("another size of a file", report(b"file /a size=1\n", b"file /a size=2\n") + well,
+         reports_refused("line 3 of the first says otherwise of file /a")),
+        ("a long subject with odd bytes", well + report(b"file /\x1b\xff" + b"x" * 150 + b" a=1\n", b"file /\x1b\xff" + b"x" * 150 + b" a=2\n"),
+         reports_refused("line 3 of the second says otherwise of file /??{}+".format("x" * 120))),
+        ("a later line before an end that lacks", report(ENTRY, b"0 user=8\n") + HEADING, reports_refused("the second has no end")),
+    ]
+
+
+def comparisons() -> List[Tuple[str, bytes, Answer]]:
+    """Reports that are compared, each pair with what is told of it."""
+    large = b"file /a size=16777217 sum=large"
+    with_sum, other_sum = (large + b" tree-sum=" + it * 32 + b"\n" for it in (b"ab", b"cd"))
+    return [
+        ("a repeated line", report(ENTRY, ENTRY) + report(b"0 posted res=4 user=7\n", ENTRY), Answer(0, counted(entries=1), b"")),
+        ("no line feed at the end", report(ENTRY) + report(ENTRY)[:-1], Answer(0, counted(entries=1), b"")),
+        ("two recordings at other times", report(ENTRY[:-1] + b" submitted=5 completed=9\n") + report(ENTRY[:-1] + b" submitted=6 completed=10\n"),
+         Answer(0, counted(entries=1), b"")),
+        ("a large file", report(b"tree\n", large + b"\n") * 2, Answer(0, counted(tree=1, large=1), b"")),
+        ("a large file with its sum on one side", report(b"tree\n", large + b"\n") + report(b"tree\n", with_sum), Answer(0, counted(tree=1, large=1), b"")),
+        ("a large file with its sum", report(b"tree\n", with_sum) * 2, Answer(0, counted(tree=1), b"")),
+        ("a large file with another sum", report(b"tree\n", with_sum) + report(b"tree\n", other_sum),
+         Answer(4, b"- " + with_sum + b"+ " + other_sum + counted().replace(b"tree 0 equal, 0", b"tree 0 equal, 1"), b"")),
+        ("names on one side", report(b"0 user=7 res=-2 posted name=OPENAT errno=ENOENT\n") + report(b"0 user=7 res=-2 posted op=18\n"),
+         Answer(0, counted(entries=1), b"")),
+    ]
+
+
+def told(program: Program, name: str, given: bytes, wanted: Answer) -> List[Outcome]:
+    return [Outcome("diff of {} by {}".format(name, program.compiler), difference(program.run(["diff"], given), wanted))]
+
+
+def quick(program: Program, name: str, given: bytes, wanted: Answer) -> List[Outcome]:
+    """A pair of reports that takes no time to speak of."""
+    label = "diff of {} by {}".format(name, program.compiler)
+    got = program.run(["diff"], given)
+    seconds = program.seconds(["diff"], given)
+    late = None if seconds <= MOST_SECONDS else "it took {:.1f} seconds".format(seconds)
+    return [Outcome(label, difference(got, wanted)), Outcome(label + ", in time", late if got.status == wanted.status else shown(got))]
+
+
+def many() -> List[Tuple[str, bytes, Answer]]:
+    facts = [b"f%d=1" % number for number in range(FACTS)]
+    line, turned = (b"0 " + b" ".join(it) + b"\n" for it in (facts, facts[::-1]))
+    return [
+        ("a line of many facts and the same in reversed order", report(line) + report(turned), Answer(0, counted(entries=1), b"")),
+        ("a line of many facts, said again in reversed order", report(line, turned) + report(line), Answer(0, counted(entries=1), b"")),
+        ("a line said often beside one of many facts", report(*[b"0 f1=1\n"] * REPEATED) + report(line), Answer(0, counted(entries=1), b"")),
+    ]
+
+
+def jobs(programs: List[Program]) -> List[Job]:
+    made: List[Job] = []
+    for program in programs:
+        made += [partial(told, program, *case) for case in (*refusals(), *comparisons())]
+        # Rattle's own compiler makes slower programs.
+        made += [partial(quick, program, *case) for case in many()] if program is programs[0] else []
+    return made

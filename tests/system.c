@@ -1,0 +1,65 @@
+/* Between the player and the C library, a system that gives less: cc -shared -fPIC -o system.so system.c -ldl; LD_PRELOAD=./system.so PROGRAM ..
+ *
+ * SYSTEM_STUCK_AT=N: the Nth call of io_uring_enter(2) that submits says so and does not, so that its entries never end.
+ * SYSTEM_RINGS=ERROR: io_uring_setup(2) fails with the error.
+ * SYSTEM_LACKING=N: the kernel says that it does not serve the opcode N (IORING_REGISTER_PROBE).
+ * SYSTEM_ROOT=ERROR: chroot(2) and unshare(2) fail with the error. */
+#define _GNU_SOURCE
+#include <dlfcn.h>
+#include <errno.h>
+#include <linux/io_uring.h>
+#include <sched.h>
+#include <stdarg.h>
+#include <stdlib.h>
+#include <sys/syscall.h>
+#include <unistd.h>
+
+static long setting(const char *name)
+{
+    const char *text = getenv(name);
+
+    return text ? atol(text) : 0;
+}
+
+static int fail(long error)
+{
+    errno = (int)error;
+    return -1;
+}
+
+int chroot(const char *path)
+{
+    int (*real)(const char *) = (int (*)(const char *))dlsym(RTLD_NEXT, "chroot");
+
+    return setting("SYSTEM_ROOT") ? fail(setting("SYSTEM_ROOT")) : real(path);
+}
+
+int unshare(int flags)
+{
+    int (*real)(int) = (int (*)(int))dlsym(RTLD_NEXT, "unshare");
+
+    return setting("SYSTEM_ROOT") ? fail(setting("SYSTEM_ROOT")) : real(flags);
+}
+
+long syscall(long number, ...)
+{
+    static long (*real)(long, ...);
+    static long submissions;
+    long words[6], result;
+    va_list list;
+
+    va_start(list, number);
+    for (int at = 0; at < 6; at++)
+        words[at] = va_arg(list, long);
+    va_end(list);
+    if (!real)
+        real = (long (*)(long, ...))dlsym(RTLD_NEXT, "syscall");
+    if (number == SYS_io_uring_setup && setting("SYSTEM_RINGS"))
+        return fail(setting("SYSTEM_RINGS"));
+    if (number == SYS_io_uring_enter && (unsigned)words[1] && ++submissions == setting("SYSTEM_STUCK_AT"))
+        return words[1];
+    result = real(number, words[0], words[1], words[2], words[3], words[4], words[5]);
+    if (number == SYS_io_uring_register && words[1] == IORING_REGISTER_PROBE && setting("SYSTEM_LACKING"))
+        ((struct io_uring_probe *)words[2])->ops[setting("SYSTEM_LACKING")].flags = 0;
+    return result;
+}

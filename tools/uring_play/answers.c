@@ -1,0 +1,101 @@
+#include "answers.h"
+#include "trace.h"
+
+#include <inttypes.h>
+#include <stdlib.h>
+#include <string.h>
+
+enum { MOST_TEXT = 1 << 30 };
+
+/* The value of a fact of a line, or NULL. */
+static const char *fact(const char *line, const char *end, const char *name)
+{
+	size_t length = strlen(name);
+
+	for (const char *at = line; at < end; at++) {
+		if (*at == ' ' && (size_t)(end - at) > length && !memcmp(at + 1, name, length))
+			return at + 1 + length;
+	}
+	return NULL;
+}
+
+/* A line that tells of a place: whether it was taken. */
+typedef bool take_line(u64 place, const char *line, const char *end);
+
+/* Reads a text whose first line is `heading`, up to a line that begins with `last`; gives how many
+ * lines of places were taken. */
+static u64 read_lines(const char *path, const char *heading, char last, take_line *take)
+{
+	u64 length, told = 0;
+	char *text = (char *)read_whole(path, MOST_TEXT, &length);
+	const char *at = text, *end = text + length, *next;
+	size_t size = strlen(heading);
+
+	if (length > MOST_TEXT)
+		die("%s: it has more than %d bytes", path, MOST_TEXT);
+	if (length <= size || memcmp(text, heading, size) || text[size] != '\n')
+		die("%s: it does not begin with %s", path, heading);
+	for (; at < end && *at != last; at = next + 1) {
+		next = memchr(at, '\n', (size_t)(end - at));
+		if (!next)
+			die("%s: its last line does not end", path);
+		if (*at < '0' || *at > '9')
+			continue;
+		u64 place = strtoull(at, NULL, 10);
+		if (place >= trace.places)
+			die("%s: place %" PRIu64 " is not in the trace", path, place);
+		told += take(place, at, next);
+	}
+	free(text);
+	return told;
+}
+
+static bool take_answer(u64 place, const char *line, const char *end)
+{
+	struct entry *entry = trace.by_place[place];
+	const char *result = fact(line, end, "res=");
+
+	if (!entry || !result || entry->is_expected)
+		return false;
+	entry->is_expected = true;
+	entry->expected = (i32)strtol(result, NULL, 10);
+	entry->is_posted_expected = fact(line, end, "posted");
+	return true;
+}
+
+void read_expected(const char *path)
+{
+	read_lines(path, "uring-report 1", 't', take_answer);
+	for (u32 place = 0; place < trace.places; place++) {
+		if (trace.by_place[place] && !trace.by_place[place]->is_expected)
+			die("%s: it does not tell of place %u; is it another trace's?", path,
+			    place);
+	}
+}
+
+/* What `memset` below leaves. */
+#define NO_ROUND UINT32_MAX
+static u32 *rounds, round_count;
+
+static bool take_round(u64 place, const char *line, const char *end)
+{
+	const char *round = fact(line, end, "round=");
+	u64 number = round ? strtoull(round, NULL, 10) : trace.places;
+
+	if (number >= trace.places || rounds[place] != NO_ROUND)
+		return false;
+	rounds[place] = (u32)number;
+	if (round_count <= number)
+		round_count = (u32)number + 1;
+	return true;
+}
+
+u32 *read_rounds(const char *path, u32 *count)
+{
+	rounds = allocate(trace.places * sizeof *rounds);
+	memset(rounds, 0xff, trace.places * sizeof *rounds);
+	if (read_lines(path, "uring-rounds 1", '\0', take_round) != trace.places)
+		die("%s: it does not tell of each place; is it another trace's?", path);
+	*count = round_count;
+	return rounds;
+}

@@ -1,0 +1,283 @@
+#include "fill.h"
+#include "apart.h"
+#include "numbers.h"
+#include "tree.h"
+#include "uring.h"
+
+#include <errno.h>
+#include <fcntl.h>
+#include <limits.h>
+#include <stdlib.h>
+#include <string.h>
+#include <sys/mman.h>
+#include <sys/uio.h>
+#include <unistd.h>
+
+/* Of x86-64, as the profile has them. */
+#define FLAG_NO_ACCESS_TIME 01000000U
+#define FLAG_DIRECT 040000U
+
+enum { ARENA = 64 << 20, GREAT = 4 << 20, FOLDED = 64 << 20, PAGE = 4096 };
+/* A process has some 65,000 mappings at most, and a great read some 33. */
+enum { BEHIND_FIELDS = 48, CROWDED = 256, MODE_OF_FILES = 0644, MODE_OF_DIRECTORIES = 0755 };
+/* Low enough that vectors of many bytes stay below the end of all addresses, where it is free. */
+#define LOW_ADDRESS ((void *)(1UL << 45))
+
+struct mapping {
+	void *memory;
+	size_t size;
+};
+static u8 *arena;
+static u64 arena_used;
+static int folded = -1;
+static struct mapping *mappings;
+static u64 mapping_count, mapping_room, mapped_bytes;
+static u8 **read_into; /* by place, for reads that are in flight */
+
+/* --- Memory -------------------------------------------------------------------------------------
+ */
+
+static u8 *map(void *hint, u64 size)
+{
+	u8 *memory = mmap(hint, size, PROT_READ | PROT_WRITE,
+			  MAP_PRIVATE | MAP_ANONYMOUS | MAP_NORESERVE, -1, 0);
+
+	if (memory == MAP_FAILED)
+		die("there is no more memory");
+	return memory;
+}
+
+void prepare_memory(void)
+{
+	arena = map(LOW_ADDRESS, ARENA);
+	folded = move_up(memfd_create("uring_play", MFD_CLOEXEC));
+	if (folded < 0 || ftruncate(folded, FOLDED))
+		die("memory for great reads: %s", strerror(errno));
+	read_into = allocate(trace.places * sizeof *read_into);
+}
+
+static u8 *map_for_now(u64 size)
+{
+	u8 *memory = map((u8 *)LOW_ADDRESS + ARENA + mapped_bytes, size);
+
+	mapped_bytes += (size + PAGE) & ~(u64)(PAGE - 1);
+	GROW(mappings, mapping_count, mapping_room);
+	mappings[mapping_count++] = (struct mapping){ memory, size };
+	return memory;
+}
+
+static u8 *memory_of(u64 size)
+{
+	u64 room = (size + 16) & ~15ULL;
+
+	if (arena_used + room > ARENA)
+		return map_for_now(room);
+	arena_used += room;
+	return arena + arena_used - room;
+}
+
+/* Memory that is read into. Where there is much of it, it is the same pages over and over behind
+ * the first one, of which alone something is told. */
+static u8 *memory_to_read(u64 size)
+{
+	if (size <= GREAT && arena_used + size < ARENA)
+		return memory_of(size);
+	u64 room = (size + PAGE) & ~(u64)(PAGE - 1);
+	u8 *memory = map_for_now(PAGE + room);
+	for (u64 at = 0; at < room; at += FOLDED) {
+		if (mmap(memory + PAGE + at, min64(FOLDED, room - at), PROT_READ | PROT_WRITE,
+			 MAP_SHARED | MAP_FIXED, folded, 0) == MAP_FAILED)
+			die("memory for great reads: %s", strerror(errno));
+	}
+	return memory;
+}
+
+bool is_crowded(void)
+{
+	return mapping_count >= CROWDED;
+}
+
+void forget_memory(void)
+{
+	while (mapping_count) {
+		mapping_count--;
+		munmap(mappings[mapping_count].memory, mappings[mapping_count].size);
+	}
+	arena_used = 0;
+	mapped_bytes = 0;
+}
+
+/* A silent read brought all that it asked for, where the answers say that it did. */
+void keep_data(struct entry *entry)
+{
+	bool is_silent = entry->state == ENTRY_SILENT;
+
+	if (!read_into[entry->place] || (is_silent && !entry->is_expected))
+		return;
+	if (!is_silent && entry->result <= 0)
+		return;
+	entry->data_length = is_silent ? asked_of(entry) : (u64)entry->result;
+	memcpy(entry->data, read_into[entry->place], min64(entry->data_length, DATA_SHOWN));
+}
+
+/* --- Fields -------------------------------------------------------------------------------------
+ */
+
+static u64 address_of(const void *memory)
+{
+	return (u64)(uintptr_t)memory;
+}
+
+/* A number of a descriptor: those beyond the table are none of this process either. */
+static i32 number_of(i32 number)
+{
+	return number >= (i32)trace.table_size ? INT_MAX : number;
+}
+
+/* A path that starts at the root of the trace starts at its directory here. One that is too long
+ * stays as it is; the kernel does not walk it. */
+static u64 fill_path(struct span path, i32 *directory)
+{
+	char *copy = (char *)memory_of(path.length + 1);
+	bool is_absolute = path.length && path.bytes[0] == '/';
+
+	memcpy(copy, path.bytes, path.length);
+	copy[path.length] = 0;
+	if (*directory != AT_FDCWD && !is_absolute) {
+		*directory = number_of(*directory);
+		return address_of(copy);
+	}
+	*directory = tree_root;
+	if (!is_absolute || path.length >= PATH_MAX)
+		return address_of(copy);
+	return *below(copy) ? address_of(below(copy)) : address_of(".");
+}
+
+/* The vectors of an entry of too many of them are not looked at. Bytes that are written are those
+ * of the trace's text. */
+static void fill_vectors(struct entry *entry, struct io_uring_sqe *sqe)
+{
+	u64 count = sqe->len, asked = asked_of(entry), at = 0;
+
+	if (8 * count > entry->side_length) {
+		sqe->addr = address_of(memory_of(0));
+		return;
+	}
+	struct iovec *vectors = (void *)memory_of(count * sizeof *vectors);
+	if (sqe->opcode == OP_READV)
+		read_into[entry->place] = memory_to_read(asked);
+	u64 first = address_of(sqe->opcode == OP_READV ? read_into[entry->place]
+						       : entry->side + 8 * count);
+	for (u64 it = 0; it < count; it++) {
+		u64 length = number_at(entry->side + 8 * it, 8);
+		vectors[it] = (struct iovec){ (void *)(uintptr_t)(first + at), length };
+		at += min64(length, asked - at);
+	}
+	sqe->addr = address_of(vectors);
+}
+
+/* Addresses move as their buffer does, so that those outside of it stay outside. */
+static void fill_fixed(const struct entry *entry, struct io_uring_sqe *sqe)
+{
+	const struct ring_of_trace *ring = &trace.rings[entry->ring];
+
+	if (sqe->buf_index >= ring->buffer_count)
+		return;
+	const struct buffer *it = &ring->buffers[sqe->buf_index];
+	sqe->addr = sqe->addr - it->address + address_of(it->memory);
+}
+
+static void fill_paths(const struct entry *entry, struct io_uring_sqe *sqe)
+{
+	i32 from = (i32)number_at(entry->sqe + 4, 4), to = (i32)sqe->len;
+
+	sqe->addr = fill_path(path_of(entry), &from);
+	sqe->fd = from;
+	if (has_two_paths(sqe->opcode)) {
+		sqe->addr2 = fill_path(new_path_of(entry), &to);
+		sqe->len = (u32)to;
+	}
+	if (sqe->opcode == OP_OPENAT)
+		sqe->len = MODE_OF_FILES;
+	if (sqe->opcode == OP_MKDIRAT)
+		sqe->len = MODE_OF_DIRECTORIES;
+}
+
+/* Which fields the profile looks at. */
+static bool looks_at_offset(u8 opcode)
+{
+	return is_transfer(opcode) || opcode == OP_FALLOCATE || opcode == OP_FTRUNCATE;
+}
+
+static bool looks_at_buffer(u8 opcode)
+{
+	return opcode == OP_READ_FIXED || opcode == OP_WRITE_FIXED;
+}
+
+static bool looks_at_flags(u8 opcode)
+{
+	return is_transfer(opcode) || opcode == OP_FSYNC ||
+	       (is_on_names(opcode) && opcode != OP_MKDIRAT);
+}
+
+/* The fields that the profile does not look at become zero, unless all is played as it stands, and
+ * two flags that have no effect by it, and ask much of a file system. */
+static void keep_named(struct io_uring_sqe *sqe)
+{
+	const struct io_uring_sqe all = *sqe;
+	u8 opcode = all.opcode;
+	struct io_uring_sqe named = { .opcode = opcode,
+				      .flags = all.flags,
+				      .personality = all.personality };
+
+	if (opcode != OP_NOP)
+		named.fd = all.fd;
+	if (looks_at_offset(opcode))
+		named.off = all.off;
+	if (looks_at_buffer(opcode) || opcode == OP_FALLOCATE)
+		named.addr = all.addr;
+	if (is_transfer(opcode) || opcode == OP_FALLOCATE || has_two_paths(opcode))
+		named.len = all.len;
+	if (looks_at_flags(opcode))
+		named.rw_flags = all.rw_flags;
+	if (looks_at_buffer(opcode))
+		named.buf_index = all.buf_index;
+	if (opcode == OP_OPENAT || opcode == OP_CLOSE)
+		named.file_index = all.file_index;
+	if (opcode == OP_OPENAT)
+		named.open_flags &= ~(FLAG_DIRECT | FLAG_NO_ACCESS_TIME);
+	*sqe = named;
+}
+
+void fill_entry(struct entry *entry, struct io_uring_sqe *sqe)
+{
+	u8 opcode = entry->sqe[0];
+
+	if (why_never(entry) != NOT_APART)
+		die("place %u may not be played: it might reach out of the directory",
+		    entry->place);
+	memcpy(sqe, entry->sqe, sizeof *sqe);
+	/* No opcode of the profile has these; in a kernel they are addresses. */
+	memset((u8 *)sqe + BEHIND_FIELDS, 0, sizeof *sqe - BEHIND_FIELDS);
+	entry->is_submitted = true;
+	if (!options.raw)
+		keep_named(sqe);
+	sqe->user_data = entry->place;
+	if (options.async)
+		sqe->flags |= FLAG_ASYNC;
+	/* A CLOSE of a slot takes no number, and has to have none. */
+	if (!(sqe->flags & FLAG_FIXED) && !(opcode == OP_CLOSE && sqe->file_index))
+		sqe->fd = number_of(sqe->fd);
+	if (opcode == OP_READ) {
+		read_into[entry->place] = memory_to_read(asked_of(entry));
+		sqe->addr = address_of(read_into[entry->place]);
+	} else if (opcode == OP_WRITE) {
+		sqe->addr = address_of(entry->side);
+	} else if (opcode == OP_READV || opcode == OP_WRITEV) {
+		fill_vectors(entry, sqe);
+	} else if (looks_at_buffer(opcode)) {
+		fill_fixed(entry, sqe);
+	} else if (is_on_names(opcode)) {
+		fill_paths(entry, sqe);
+	}
+}

@@ -1,0 +1,293 @@
+/* uring_play: plays a trace (docs/FORMAT.md) on this kernel and a file system, and writes what they
+ * gave.
+ *
+ * docs/PLAYING.md says how it is used, README.md how it works. */
+#include "answers.h"
+#include "fill.h"
+#include "lacks.h"
+#include "numbers.h"
+#include "play.h"
+#include "results.h"
+#include "rings.h"
+#include "trace.h"
+#include "tree.h"
+#include "watch.h"
+
+#include <errno.h>
+#include <fcntl.h>
+#include <getopt.h>
+#include <stdlib.h>
+#include <string.h>
+#include <sys/resource.h>
+#include <sys/stat.h>
+#include <unistd.h>
+
+enum { MOST_PATIENCE = 86400 };
+
+static const char version[] = "uring_play 0.1.0\n"
+			      "trace formats 1 and 2\n"
+			      "report format 1\n";
+
+static const char help[] =
+	"Usage: uring_play [OPTION..] [TRACE]\n"
+	"\n"
+	"Plays a trace through io_uring in a fresh directory, and writes what the kernel gave.\n"
+	"TRACE is standard input if it is left out.\n"
+	"\n"
+	"  -d, --directory FOLDER  where the fresh directory is made (the working directory)\n"
+	"  -e, --expected FILE     the report of the replay: what a kernel is known to do\n"
+	"                          otherwise is left out, made up for and marked outside\n"
+	"  -r, --rounds FILE       the text of uring_replay rounds: each round is submitted at\n"
+	"                          once (needs --expected)\n"
+	"  -a, --async             each entry runs in a thread of the kernel's\n"
+	"  -s, --strict            results that are as right as the expected ones are compared\n"
+	"  -o, --output FILE       the results (standard output)\n"
+	"  -p, --patience SECONDS  how long a completion is waited for, 1 to 86400 (30)\n"
+	"  -k, --keep              the directory is left as it is\n"
+	"  -q, --quiet             no summary\n"
+	"      --prepare           the tree is laid out, its directory is told, and nothing is\n"
+	"                          played\n"
+	"      --prepared          --directory has the tree already: it is played in it itself\n"
+	"      --lacking OPCODE    taken as one that the kernel lacks; may be given again\n"
+	"      --no-nodes          no file is held, and no node is told\n"
+	"      --no-limit          files may have more than 2^40 bytes\n"
+	"      --raw               entries are played as they stand, with the fields that the\n"
+	"                          profile does not look at (without --expected; needs chroot)\n"
+	"  -h, --help              this text\n"
+	"      --version           the version\n"
+	"\n"
+	"The exit status is 0 where the trace was played, 1 where it is refused, 2 for wrong\n"
+	"words, 77 where the system does not give what a play needs, and 3 for any other fault.\n";
+
+enum word { PREPARE = 256, PREPARED, LACKING, NO_NODES, NO_LIMIT, RAW, VERSION };
+
+static const struct option long_options[] = {
+	{ "directory", required_argument, NULL, 'd' },
+	{ "expected", required_argument, NULL, 'e' },
+	{ "rounds", required_argument, NULL, 'r' },
+	{ "async", no_argument, NULL, 'a' },
+	{ "strict", no_argument, NULL, 's' },
+	{ "output", required_argument, NULL, 'o' },
+	{ "patience", required_argument, NULL, 'p' },
+	{ "keep", no_argument, NULL, 'k' },
+	{ "quiet", no_argument, NULL, 'q' },
+	{ "prepare", no_argument, NULL, PREPARE },
+	{ "prepared", no_argument, NULL, PREPARED },
+	{ "lacking", required_argument, NULL, LACKING },
+	{ "no-nodes", no_argument, NULL, NO_NODES },
+	{ "no-limit", no_argument, NULL, NO_LIMIT },
+	{ "raw", no_argument, NULL, RAW },
+	{ "help", no_argument, NULL, 'h' },
+	{ "version", no_argument, NULL, VERSION },
+	{ NULL, 0, NULL, 0 },
+};
+
+/* --- Words --------------------------------------------------------------------------------------
+ */
+
+static bool *switch_of(int word)
+{
+	switch (word) {
+	case 'a':
+		return &options.async;
+	case 's':
+		return &options.strict;
+	case 'k':
+		return &options.keep;
+	case 'q':
+		return &options.quiet;
+	case PREPARE:
+		return &options.prepare;
+	case PREPARED:
+		return &options.prepared;
+	case NO_NODES:
+		return &options.no_nodes;
+	case NO_LIMIT:
+		return &options.no_limit;
+	case RAW:
+		return &options.raw;
+	default:
+		return NULL;
+	}
+}
+
+static const char **file_of(int word)
+{
+	switch (word) {
+	case 'd':
+		return &options.directory;
+	case 'e':
+		return &options.expected;
+	case 'r':
+		return &options.rounds;
+	case 'o':
+		return &options.output;
+	default:
+		return NULL;
+	}
+}
+
+/* The number that a word is, or the end of the player. */
+static u32 take_number(const char *option, const char *word, u32 least, u32 most)
+{
+	char *end;
+	unsigned long number = strtoul(word, &end, 10);
+
+	if (*word < '0' || *word > '9' || *end || number < least || number > most)
+		die_with(STATUS_WORDS, "%s takes a number from %u to %u", option, least, most);
+	return (u32)number;
+}
+
+static void __attribute__((noreturn)) tell(const char *text)
+{
+	exit(fputs(text, stdout) < 0 || fflush(stdout) ? STATUS_FAILED : 0);
+}
+
+static void take_option(int word)
+{
+	if (switch_of(word))
+		*switch_of(word) = true;
+	else if (file_of(word))
+		*file_of(word) = optarg;
+	else if (word == 'p')
+		options.patience = take_number("--patience", optarg, 1, MOST_PATIENCE);
+	else if (word == LACKING)
+		options.lacking[take_number("--lacking", optarg, 0, OPCODES - 1)] = true;
+	else if (word == 'h')
+		tell(help);
+	else if (word == VERSION)
+		tell(version);
+	else
+		die_with(STATUS_WORDS, "try uring_play --help");
+}
+
+static void take_words(int count, char **words)
+{
+	int word;
+
+	while ((word = getopt_long(count, words, "d:e:r:aso:p:kqh", long_options, NULL)) != -1)
+		take_option(word);
+	if (count - optind > 1)
+		die_with(STATUS_WORDS, "there is more than one trace; try uring_play --help");
+	options.trace = optind < count ? words[optind] : NULL;
+	if (options.rounds && !options.expected)
+		die_with(STATUS_WORDS, "--rounds needs --expected");
+	if (options.raw && options.expected)
+		die_with(STATUS_WORDS, "--raw goes without --expected");
+	if (options.prepare && options.prepared)
+		die_with(STATUS_WORDS, "--prepare and --prepared do not go together");
+}
+
+/* --- The order of things ------------------------------------------------------------------------
+ */
+
+/* Reads the trace and what is said of it; gives the rounds, or NULL. */
+static u32 *read_inputs(u32 *round_count)
+{
+	u64 length;
+	u8 *bytes = read_whole(options.trace, MOST_BYTES, &length);
+
+	read_trace(bytes, length);
+	if (options.expected)
+		read_expected(options.expected);
+	return options.rounds ? read_rounds(options.rounds, round_count) : NULL;
+}
+
+/* Opens the descriptions of the trace. A position that the file system cannot have is another one
+ * behind the greatest file, where nothing can be read or written either. */
+static int *open_descriptions(void)
+{
+	int *opened = allocate(trace.description_count * sizeof *opened);
+
+	for (u32 at = 0; at < trace.description_count; at++) {
+		const struct description *it = &trace.descriptions[at];
+		int flags = it->access == 0 ? O_RDONLY : it->access == 1 ? O_WRONLY : O_RDWR;
+		go_on();
+		opened[at] = move_up(open_item(it->node, flags | (it->append ? O_APPEND : 0)));
+		bool is_far = it->position > 1ULL << 62 ||
+			      lseek(opened[at], (off_t)it->position, SEEK_SET) < 0;
+		if (is_far && lseek(opened[at], (off_t)STAND_IN, SEEK_SET) < 0)
+			say("description %u: its position cannot be had: %s", at, strerror(errno));
+	}
+	return opened;
+}
+
+static void close_descriptions(const int *opened)
+{
+	for (u32 at = 0; at < trace.description_count; at++)
+		close(opened[at]);
+}
+
+static void limit_sizes(void)
+{
+	struct rlimit limit;
+
+	if (options.no_limit || getrlimit(RLIMIT_FSIZE, &limit))
+		return;
+	limit.rlim_cur = min64(GREATEST_SIZE, limit.rlim_max);
+	if (setrlimit(RLIMIT_FSIZE, &limit))
+		die("the limit of file sizes: %s", strerror(errno));
+}
+
+static void summary(void)
+{
+	if (options.quiet)
+		return;
+	say("%llu entries in %.3f s (%.0f a second); %llu not played, %llu made up for",
+	    (unsigned long long)counts.played, counts.seconds,
+	    (double)counts.played / (counts.seconds > 0 ? counts.seconds : 1e-9),
+	    (unsigned long long)counts.unplayed, (unsigned long long)counts.mended);
+	if (counts.unsaid)
+		say("%llu chains were taken as ended since nothing more came",
+		    (unsigned long long)counts.unsaid);
+}
+
+static void play(const u32 *rounds, u32 round_count)
+{
+	double before = now();
+
+	if (rounds)
+		play_rounds(rounds, round_count);
+	else
+		play_chains();
+	counts.seconds = now() - before;
+}
+
+/* Plays the trace, one chain at a time or in rounds. */
+int main(int count, char **words)
+{
+	u32 round_count = 0;
+
+	take_words(count, words);
+	umask(022);
+	u32 *rounds = read_inputs(&round_count);
+	prepare_numbers();
+	heed_signals();
+	enter_directory();
+	watch();
+	if (options.prepare) {
+		lay_out();
+		fprintf(results_file(), "%s\n", laid_out_at());
+		deliver_results();
+		return 0;
+	}
+	open_rings(rounds ? widest_of(rounds, round_count) : 0);
+	try_kernel();
+	try_file_system();
+	lay_out();
+	int *descriptions = open_descriptions();
+	register_all(descriptions);
+	prepare_memory();
+	limit_sizes();
+	enter_table(descriptions);
+	close_descriptions(descriptions);
+	play(rounds, round_count);
+	let_open();
+	write_results();
+	close_rings();
+	leave_table();
+	take_away();
+	deliver_results();
+	summary();
+	return 0;
+}

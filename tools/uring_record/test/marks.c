@@ -1,0 +1,502 @@
+/* Programs of which the recorder cannot tell all: marks MODE, in an empty directory whose parent
+ * can be written too. What it does not know is to be marked. Ends with 77 where the kernel lacks
+ * what a mode needs. */
+#include "raw.h"
+
+#include <pthread.h>
+#include <poll.h>
+#include <signal.h>
+#include <sys/resource.h>
+#include <sys/socket.h>
+#include <sys/stat.h>
+#include <sys/uio.h>
+#include <sys/un.h>
+
+enum { BYTES = 256, ACCEPT = 13, OPENAT2 = 28, MSG_RING = 40, SYMLINKAT = 38 };
+static struct ring ring;
+static char bytes[BYTES];
+static int file; /* "a", with BYTES bytes */
+
+/* An entry with a path. */
+static struct io_uring_sqe *add_open(struct ring *on, const char *path, int flags, unsigned index)
+{
+	struct io_uring_sqe *sqe = add(on, OP_OPENAT, AT_FDCWD, path, 0644, 0);
+
+	sqe->open_flags = (unsigned)flags;
+	sqe->file_index = index;
+	return sqe;
+}
+
+/* Slots without files. */
+static void register_slots(struct ring *on, unsigned count)
+{
+	int *slots = malloc(count * sizeof *slots);
+
+	for (unsigned at = 0; slots && at < count; at++)
+		slots[at] = -1;
+	if (syscall(SYS_io_uring_register, on->descriptor, IORING_REGISTER_FILES, slots, count))
+		fail("io_uring_register");
+	free(slots);
+}
+
+/* A path of this directory's parent, so that it lies outside the root. */
+static const char *elsewhere(const char *name)
+{
+	static char path[4200];
+	char here[4096];
+
+	if (!getcwd(here, sizeof here))
+		fail("getcwd");
+	snprintf(path, sizeof path, "%s.%s", here, name);
+	return path;
+}
+
+/* A link in the tree is opened, read and closed, by a number that the replay has too. */
+static void through_a_link(void)
+{
+	if (symlink("a", "link") || mkdir("d", 0755) || symlink("d", "dirlink"))
+		fail("symlink");
+	for (int at = 0; at < 20; at++) {
+		add_open(&ring, at % 2 ? "link" : "dirlink/../a", O_RDWR, 0);
+		int number = run_one(&ring);
+		add(&ring, OP_READ, number, bytes, 10, 0);
+		expect("a read", run_one(&ring), 10);
+		add(&ring, OP_CLOSE, number, NULL, 0, 0);
+		expect("a close", run_one(&ring), 0);
+	}
+	add_open(&ring, "dirlink/new", O_RDWR | O_CREAT, 0);
+	if (run_one(&ring) < 0)
+		fail("an open through a link");
+}
+
+/* A symbolic link by an entry, taken away by a call and by an entry. */
+static void links(void)
+{
+	add(&ring, SYMLINKAT, AT_FDCWD, "a", 0, (uint64_t)(uintptr_t) "link");
+	expect("a link", run_one(&ring), 0);
+	if (unlink("link") || symlink("a", "other"))
+		fail("unlink");
+	add(&ring, OP_UNLINKAT, AT_FDCWD, "other", 0, 0);
+	expect("an unlink", run_one(&ring), 0);
+	if (symlink("a", "third") || rename("third", "fourth") || unlink("fourth"))
+		fail("rename");
+}
+
+/* Files elsewhere: opened, written and closed, alone and beside files of the tree. */
+static void elsewhere_opened(void)
+{
+	add_open(&ring, elsewhere("out"), O_RDWR | O_CREAT, 0);
+	int number = run_one(&ring);
+	add(&ring, OP_WRITE, number, "elsewhere", 9, 0);
+	expect("a write elsewhere", run_one(&ring), 9);
+	add_open(&ring, "a", O_RDWR, 0);
+	int other = run_one(&ring);
+	add(&ring, OP_CLOSE, number, NULL, 0, 0);
+	expect("a close", run_one(&ring), 0);
+	add(&ring, OP_CLOSE, number, NULL, 0, 0);
+	expect("a close of what is closed", run_one(&ring), -EBADF);
+	add_open(&ring, "a", O_RDWR, 0);
+	expect("the number again", run_one(&ring), number);
+	add(&ring, OP_WRITE, other, "here", 4, 0);
+	expect("a write", run_one(&ring), 4);
+	unlink(elsewhere("out"));
+}
+
+/* The kernel chooses slots; what is there is used and closed. */
+static void chosen_slots(void)
+{
+	register_slots(&ring, 8);
+	for (int at = 0; at < 8; at++) {
+		add_open(&ring, "a", O_RDWR, IORING_FILE_INDEX_ALLOC);
+		expect("a chosen slot", run_one(&ring), at);
+	}
+	add(&ring, OP_WRITE, 3, "slot", 4, 0)->flags = FLAG_FIXED;
+	expect("a write by a chosen slot", run_one(&ring), 4);
+	add(&ring, OP_READ, 3, bytes, 10, 0)->flags = FLAG_FIXED;
+	expect("a read by a chosen slot", run_one(&ring), 10);
+	for (unsigned at = 0; at < 8; at++) {
+		add(&ring, OP_CLOSE, 0, NULL, 0, 0)->file_index = at + 1;
+		expect("a close", run_one(&ring), 0);
+	}
+	add_open(&ring, "a", O_RDWR, 4);
+	expect("an open", run_one(&ring), 0);
+	if (syscall(SYS_io_uring_register, ring.descriptor, IORING_UNREGISTER_FILES, NULL, 0))
+		fail("io_uring_register");
+	add(&ring, OP_CLOSE, 0, NULL, 0, 0)->file_index = 4;
+	expect("a close without slots", run_one(&ring), -ENXIO);
+}
+
+/* OPENAT2, which the profile does not serve, into a slot and to a number; it makes files. */
+static void open_by_how(void)
+{
+	struct {
+		uint64_t flags, mode, resolve;
+	} how = { O_RDWR | O_CREAT, 0644, 0 };
+
+	register_slots(&ring, 4);
+	add(&ring, OPENAT2, AT_FDCWD, "by_slot", sizeof how, (uint64_t)(uintptr_t)&how)
+		->file_index = 2;
+	expect("an open into a slot", run_one(&ring), 0);
+	add(&ring, OP_WRITE, 1, "hidden", 6, 0)->flags = FLAG_FIXED;
+	expect("a write", run_one(&ring), 6);
+	add(&ring, OPENAT2, AT_FDCWD, "by_number", sizeof how, (uint64_t)(uintptr_t)&how);
+	int number = run_one(&ring);
+	add(&ring, OP_WRITE, number, "seen", 4, 0);
+	expect("a write", run_one(&ring), 4);
+	add(&ring, OP_CLOSE, number, NULL, 0, 0);
+	expect("a close", run_one(&ring), 0);
+}
+
+/* A socket comes into a slot, and a file into a slot of another ring. */
+static void passed_on(void)
+{
+	struct sockaddr_un name = { .sun_family = AF_UNIX };
+	struct ring other;
+	int listening = socket(AF_UNIX, SOCK_STREAM, 0), calling = socket(AF_UNIX, SOCK_STREAM, 0);
+
+	snprintf(name.sun_path, sizeof name.sun_path, "socket");
+	if (bind(listening, (struct sockaddr *)&name, sizeof name) || listen(listening, 1) ||
+	    connect(calling, (struct sockaddr *)&name, sizeof name) ||
+	    write(calling, "hello", 5) != 5)
+		fail("socket");
+	register_slots(&ring, 4);
+	add(&ring, ACCEPT, listening, NULL, 0, 0)->file_index = 3;
+	expect("an accept into a slot", run_one(&ring), 0);
+	add(&ring, OP_READ, 2, bytes, 10, 0)->flags = FLAG_FIXED;
+	expect("a read of a socket", run_one(&ring), 5);
+	open_ring(&other, 8, 0);
+	register_slots(&other, 4);
+	add_open(&ring, "a", O_RDWR, 1);
+	expect("an open", run_one(&ring), 0);
+	struct io_uring_sqe *sqe = add(&ring, MSG_RING, other.descriptor, NULL, 0, 0);
+	sqe->addr = 1;
+	sqe->file_index = 2;
+	expect("a file that is sent", run_one(&ring), 0);
+	expect("its message", take(&other), 0);
+	add(&other, OP_READ, 1, bytes, 10, 0)->flags = FLAG_FIXED;
+	expect("a read", run_one(&other), 10);
+	unlink("socket");
+}
+
+/* Slots and numbers beyond those that a trace has. */
+static void beyond(void)
+{
+	struct rlimit limit = { 3000, 3000 };
+	int *slots = malloc(2000 * sizeof *slots), number = 0;
+
+	for (int at = 0; at < 2000; at++)
+		slots[at] = at == 1500 ? file : -1;
+	if (syscall(SYS_io_uring_register, ring.descriptor, IORING_REGISTER_FILES, slots, 2000))
+		lack("io_uring_register");
+	free(slots);
+	add(&ring, OP_READ, 1500, bytes, 10, 0)->flags = FLAG_FIXED;
+	expect("a read", run_one(&ring), 10);
+	add(&ring, OP_WRITE, 1500, "beyond", 6, 0)->flags = FLAG_FIXED;
+	expect("a write", run_one(&ring), 6);
+	if (setrlimit(RLIMIT_NOFILE, &limit))
+		lack("setrlimit");
+	while (number < 1100)
+		number = open("a", O_RDONLY);
+	add_open(&ring, "b", O_RDWR | O_CREAT, 0);
+	number = run_one(&ring);
+	add(&ring, OP_WRITE, number, "number", 6, 0);
+	expect("a write", run_one(&ring), 6);
+}
+
+/* One user_data for entries with several results, and for entries with one. */
+static void alike(void)
+{
+	struct __kernel_timespec soon = { .tv_nsec = 1000000 };
+
+	add(&ring, IORING_OP_TIMEOUT, -1, &soon, 1, 0)->user_data = 7;
+	add(&ring, OP_NOP, 0, NULL, 0, 0)->user_data = 7;
+	submit(&ring, 2);
+	take(&ring);
+	take(&ring);
+	for (unsigned at = 0; at < 4; at++)
+		add(&ring, OP_NOP, 0, NULL, 0, 0)->user_data = 8;
+	submit(&ring, 4);
+	for (unsigned at = 0; at < 4; at++)
+		expect("a NOP", take(&ring), 0);
+	add(&ring, OP_READ, file, bytes, 200, 100)->user_data = 9;
+	add(&ring, OP_READ, file, bytes + 100, 50, 100)->user_data = 9;
+	submit(&ring, 2);
+	take(&ring);
+	take(&ring);
+}
+
+/* Completions that are never seen: of a pipe, behind a drain, and more than the queue holds. */
+static void unseen(void)
+{
+	int ends[2];
+	struct ring small;
+
+	if (pipe(ends))
+		fail("pipe");
+	open_ring(&small, 4, 0);
+	for (unsigned at = 0; at < 40; at++) {
+		add(&small, OP_READ, file, bytes, 1, at);
+		submit(&small, 0);
+	}
+	add(&ring, OP_READ, ends[0], bytes, 1, 0)->flags = FLAG_LINK;
+	add_open(&ring, "never", O_CREAT | O_RDWR, 0);
+	add(&ring, OP_NOP, 0, NULL, 0, 0)->flags = FLAG_DRAIN;
+	submit(&ring, 0);
+	usleep(10000);
+}
+
+/* A poll with many completions, and a drain behind it. */
+static void many_completions(void)
+{
+	int ends[2];
+
+	if (pipe(ends))
+		fail("pipe");
+	struct io_uring_sqe *sqe = add(&ring, IORING_OP_POLL_ADD, ends[0], NULL, 1, 0);
+	sqe->poll32_events = POLLIN;
+	submit(&ring, 0);
+	if (write(ends[1], "x", 1) != 1)
+		fail("write");
+	usleep(2000);
+	add(&ring, OP_NOP, 0, NULL, 0, 0)->flags = FLAG_DRAIN;
+	submit(&ring, 0);
+	usleep(2000);
+}
+
+/* Results that no replay has: a limit on the size of files, a polled ring, memory that is not
+ * there. */
+static void refused(void)
+{
+	struct rlimit limit = { 1000, 1000 };
+	struct ring polled;
+
+	signal(SIGXFSZ, SIG_IGN);
+	if (setrlimit(RLIMIT_FSIZE, &limit))
+		fail("setrlimit");
+	add(&ring, OP_FALLOCATE, file, (void *)(uintptr_t)4000, 0, 0);
+	expect("an allocation", run_one(&ring), -EFBIG);
+	add(&ring, OP_READ, file, (void *)8, 10, 0);
+	expect("a read to nowhere", run_one(&ring), -EFAULT);
+	add(&ring, OP_READ, file, bytes, 10, 0)->ioprio = 0xffff;
+	expect("a read with a wrong priority", run_one(&ring), -EINVAL);
+	open_ring(&polled, 4, IORING_SETUP_IOPOLL);
+	add(&polled, OP_READ, file, bytes, 10, 0);
+	submit(&polled, 1);
+	take(&polled);
+}
+
+/* Chains with a member that the profile does not serve: files, slots and names that they change. */
+static void chains(void)
+{
+	struct __kernel_timespec late = { .tv_sec = 10 };
+	char other[] = "chain";
+	struct iovec vector = { other, 5 };
+
+	register_slots(&ring, 4);
+	add(&ring, OP_WRITEV, file, &vector, 1, 0)->flags = FLAG_LINK;
+	add(&ring, IORING_OP_LINK_TIMEOUT, -1, &late, 1, 0);
+	submit(&ring, 2);
+	take(&ring);
+	take(&ring);
+	add(&ring, IORING_OP_STATX, AT_FDCWD, "a", 0x7ff, (uint64_t)(uintptr_t)malloc(256))->flags =
+		FLAG_LINK;
+	add_open(&ring, "chained", O_CREAT | O_RDWR, 2)->flags = FLAG_LINK;
+	add(&ring, OP_WRITE, 1, "chained", 7, 0)->flags = FLAG_FIXED | FLAG_LINK;
+	add(&ring, OP_MKDIRAT, AT_FDCWD, "made", 0755, 0);
+	submit(&ring, 4);
+	for (int at = 0; at < 4; at++)
+		take(&ring);
+	add(&ring, OP_READ, 1, bytes, 7, 0)->flags = FLAG_FIXED;
+	expect("a read of a chained slot", run_one(&ring), 7);
+	add_open(&ring, "made/x", O_CREAT | O_RDWR, 0);
+	if (run_one(&ring) < 0)
+		fail("an open");
+}
+
+/* Another root for the names of the process. */
+static void other_root(void)
+{
+	mkdir("jail", 0755);
+	if (chroot("jail"))
+		lack("chroot");
+	if (chdir("/"))
+		fail("chdir");
+	add(&ring, OP_MKDIRAT, AT_FDCWD, "/injail", 0755, 0);
+	expect("a directory", run_one(&ring), 0);
+	if (mkdir("/ordinary", 0755))
+		fail("mkdir");
+	add_open(&ring, "/injail/file", O_CREAT | O_RDWR, 0);
+	if (run_one(&ring) < 0)
+		fail("an open");
+}
+
+/* Files of more than 2^40 bytes, at the start and later. */
+static void huge(void)
+{
+	int number = open("huge", O_CREAT | O_RDWR, 0644);
+
+	if (ftruncate(number, 1LL << 42))
+		lack("ftruncate");
+	add(&ring, OP_READ, number, bytes, 10, 5);
+	expect("a read", run_one(&ring), 10);
+	add_open(&ring, "huge", O_RDWR, 0);
+	if (run_one(&ring) < 0)
+		fail("an open");
+	number = open("grows", O_CREAT | O_RDWR, 0644);
+	add(&ring, OP_WRITE, number, "small", 5, 0);
+	expect("a write", run_one(&ring), 5);
+	if (ftruncate(number, 1LL << 41))
+		fail("ftruncate");
+	add(&ring, OP_READ, number, bytes, 5, 0);
+	expect("a read", run_one(&ring), 5);
+}
+
+/* Threads */
+
+static volatile bool is_over, has_begun;
+
+/* Writes through a ring of its own. */
+static void *write_on(void *number)
+{
+	struct ring own;
+	unsigned me = (unsigned)(uintptr_t)number;
+
+	open_ring(&own, 4, 0);
+	for (unsigned at = 0; at < 100000; at++) {
+		add(&own, OP_WRITE, file, "work", 4, 4ULL * (me * 100000 + at));
+		expect("a write", run_one(&own), 4);
+	}
+	return NULL;
+}
+
+/* The process ends while its threads submit. */
+static void ends_meanwhile(void)
+{
+	pthread_t thread;
+
+	for (uintptr_t at = 0; at < 4; at++)
+		pthread_create(&thread, NULL, write_on, (void *)at);
+	usleep(30000);
+	exit(0);
+}
+
+/* Opens and closes the number 40. */
+static void *close_on(void *unused)
+{
+	(void)unused;
+	while (!is_over) {
+		int number = open("b", O_RDWR | O_CREAT, 0644);
+		dup2(number, 40);
+		close(40);
+		close(number);
+	}
+	return NULL;
+}
+
+/* Another thread closes what entries use. */
+static void closed_meanwhile(void)
+{
+	pthread_t thread;
+
+	pthread_create(&thread, NULL, close_on, NULL);
+	for (int at = 0; at < 150; at++) {
+		add(&ring, OP_WRITE, 40, "x", 1, 0);
+		run_one(&ring);
+		add(&ring, OP_READ, 40, bytes, 1, 0);
+		run_one(&ring);
+	}
+	is_over = true;
+	pthread_join(thread, NULL);
+}
+
+/* Changes the bytes that are read. */
+static void *change_on(void *unused)
+{
+	(void)unused;
+	while (!is_over) {
+		memset(bytes, 'Z', BYTES);
+		has_begun = true;
+	}
+	return NULL;
+}
+
+/* Another thread changes what a read brings. */
+static void changed_meanwhile(void)
+{
+	pthread_t thread;
+
+	pthread_create(&thread, NULL, change_on, NULL);
+	while (!has_begun)
+		usleep(100);
+	for (int at = 0; at < 100; at++) {
+		add(&ring, OP_READ, file, bytes, BYTES, 0);
+		expect("a read", run_one(&ring), BYTES);
+	}
+	is_over = true;
+	pthread_join(thread, NULL);
+}
+
+/* A chain writes what it reads; the program changes the bytes before it looks. */
+static void written_late(void)
+{
+	static char moved[64][64];
+	int to = open("copy", O_CREAT | O_RDWR, 0644);
+
+	for (unsigned at = 0; at < 3; at++) {
+		add(&ring, OP_READ, file, moved[at], 64, 64ULL * at)->flags = FLAG_LINK;
+		add(&ring, OP_WRITE, to, moved[at], 64, 64ULL * at);
+		submit(&ring, 0);
+		for (int tries = 0; tries < 1000 && *ring.cq_tail - *ring.cq_head < 2; tries++)
+			usleep(100);
+		memset(moved[at], '!', 64);
+		take(&ring);
+		take(&ring);
+	}
+	add(&ring, OP_READ, to, bytes, 192, 0);
+	expect("a read of the copy", run_one(&ring), 192);
+}
+
+static const struct mode {
+	const char *name;
+	void (*run)(void);
+} modes[] = {
+	{ "through_a_link", through_a_link },
+	{ "links", links },
+	{ "elsewhere", elsewhere_opened },
+	{ "chosen_slots", chosen_slots },
+	{ "open_by_how", open_by_how },
+	{ "passed_on", passed_on },
+	{ "beyond", beyond },
+	{ "alike", alike },
+	{ "unseen", unseen },
+	{ "many_completions", many_completions },
+	{ "refused", refused },
+	{ "chains", chains },
+	{ "other_root", other_root },
+	{ "huge", huge },
+	{ "ends_meanwhile", ends_meanwhile },
+	{ "closed_meanwhile", closed_meanwhile },
+	{ "changed_meanwhile", changed_meanwhile },
+	{ "written_late", written_late },
+};
+
+int main(int count, char **words)
+{
+	alarm(30); /* (a completion that does not come is waited for no longer) */
+	for (unsigned at = 0; at < BYTES; at++)
+		bytes[at] = (char)('A' + at % 26);
+	open_ring(&ring, 16, 0);
+	file = open("a", O_CREAT | O_RDWR, 0644);
+	if (file < 0 || write(file, bytes, BYTES) != BYTES)
+		fail("a");
+	for (unsigned at = 0; at < sizeof modes / sizeof *modes; at++) {
+		if (count == 2 && !strcmp(words[1], modes[at].name)) {
+			modes[at].run();
+			add(&ring, OP_NOP, 0, NULL, 0, 0);
+			submit(&ring, 0);
+			return 0;
+		}
+	}
+	fputs("marks MODE\n", stderr);
+	return 2;
+}
