@@ -1,14 +1,11 @@
 -- What a text says of one subject in more than one line, after one line more.
-use Rattle.std.proofs.Common.{◌≡◌, ℕ, ◌+◌, Bool, true, false, not, List, [], ◌∷◌, ◌++◌, length, None, Some, Option, refl, sym, ap, ◌∙◌, arith, append_assoc, cond}
+use Rattle.std.proofs.Common.{◌≡◌, ℕ, ◌+◌, Bool, true, false, not, List, [], ◌∷◌, ◌++◌, length, None, Some, refl, sym, ap, ◌∙◌, arith, append_assoc}
 use Rattle.std.specs.Prelude.{is_some}
-use Rattle.std.specs.Option.{option_or}
-use Rattle.std.specs.Borrow.{Bor}
 use Rattle.std.proofs.lemmas.Bool.{cases_Bool}
 use Rattle.std.proofs.Common.{inl, inr}
 use Rattle.std.proofs.lemmas.List.{append-nil}
-use Rattle.report_diff.specs.declared.index.Index.{Index}
 use Rattle.report_diff.specs.Lines.{line_about, subject}
-use Rattle.report_diff.specs.Repeats.{IsIndex, if_new, once, once_behind, otherwise, otherwise_behind, says_otherwise}
+use Rattle.report_diff.specs.Repeats.{if_new, once, once_behind, otherwise, otherwise_behind, says_otherwise}
 
 once_behind-append : (earlier xs ys : List (List ℕ)) → once_behind earlier (xs ++ ys) ≡ once_behind earlier xs ++ once_behind (earlier ++ xs) ys
 once_behind-append earlier [] ys = rw append-nil refl

@@ -1,5 +1,5 @@
 -- The form of a text, by the place of its first end.
-use Rattle.std.proofs.Common.{◌≡◌, ◌<◌, ◌≤◌, ◌+◌, ℕ, true, false, not, if◌then◌else◌, List, [], length, take, drop, Option, Some, None, refl, min, subst, ap, ◌∙◌, inl, inr, arith}
+use Rattle.std.proofs.Common.{◌≡◌, ◌<◌, ◌≤◌, ◌+◌, ℕ, true, false, not, if◌then◌else◌, List, [], length, take, drop, Some, None, refl, min, subst, ap, ◌∙◌, inl, inr, arith}
 use Rattle.std.specs.List.{list_any, position_or_len}
 use Rattle.std.specs.Borrow.{Bor}
 use Rattle.std.proofs.lemmas.List.{take-map, length-map, take_all, drop_all}
@@ -8,7 +8,7 @@ use Rattle.std.proofs.lemmas.Bool.{cases_lt}
 use Rattle.std.proofs.lemmas.List.Folds.{list_any_at, list_any_none}
 use Rattle.std.proofs.lemmas.List.Sums.{fails_before_first, passes_at_first}
 use Rattle.report_diff.specs.declared.refusal.Side.{Side}
-use Rattle.report_diff.specs.declared.refusal.Flaw.TheVariants.{Heading, End, GoesOn}
+use Rattle.report_diff.specs.declared.refusal.Flaw.TheVariants.{End, GoesOn}
 use Rattle.report_diff.specs.Lines.{lines, texts}
 use Rattle.report_diff.specs.Inputs.{begins, flaw_of, is_end, is_nothing, report_in, first_text, second_text}
 use Rattle.report_diff.specs.Refusals.{flaw_text}

@@ -1,7 +1,7 @@
 -- The model: two reports, compared line by line.
 use Rattle.std.specs.Prelude.{◌≡◌, ℕ, ◌==◌, Bool, true, false, not, ◌&&◌, ◌||◌, List}
-use Rattle.std.specs.Prelude.{[], ◌∷◌, ◌++◌, length, map, codes, Option, None, Some, is_some, if◌then◌else◌}
-use Rattle.std.specs.List.{flat_map, list_all, list_any, count_by, before_first, position_or_len}
+use Rattle.std.specs.Prelude.{[], ◌∷◌, ◌++◌, map, codes, Option, None, Some, is_some, if◌then◌else◌}
+use Rattle.std.specs.List.{flat_map, list_all, list_any, count_by}
 use Rattle.std.specs.Fmt.{decimal}
 use Rattle.std.specs.Str.{bytes_eq}
 use Rattle.report_diff.specs.declared.lines.Section.{Section}

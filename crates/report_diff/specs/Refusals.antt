@@ -1,5 +1,5 @@
 -- The model: why texts are not two reports, in the words that say it.
-use Rattle.std.specs.Prelude.{ℕ, ◌≡◌, ◌+◌, ◌&&◌, Bool, not, is_some, nat_le, nat_lt, List, [], ◌∷◌, ◌++◌, length, take, map, codes, Option, None, Some, if◌then◌else◌}
+use Rattle.std.specs.Prelude.{ℕ, ◌&&◌, nat_le, nat_lt, List, [], ◌++◌, length, take, map, codes, if◌then◌else◌}
 use Rattle.std.specs.Fmt.{decimal}
 use Rattle.report_diff.specs.declared.refusal.Side.{Side}
 use Rattle.report_diff.specs.declared.refusal.Side.TheVariants.{First, Second}

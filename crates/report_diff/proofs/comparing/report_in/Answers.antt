@@ -1,6 +1,5 @@
-use Rattle.std.proofs.Common.{◌≡◌, ◌<◌, length, ◌+◌, ◌∙◌, refl, sym, arith}
+use Rattle.std.proofs.Common.{◌<◌, length, ◌+◌, ◌∙◌, refl, sym, arith}
 use Rattle.std.proofs.lemmas.List.{take_rest}
-use Rattle.report_diff.specs.Lines.{texts}
 use Rattle.report_diff.proofs.Reports.{flaw_is, lacks_end, report_is}
 use Rattle.report_diff.proofs.comparing.report_in.Goals as goal
 

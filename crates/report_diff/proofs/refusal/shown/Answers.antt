@@ -1,4 +1,4 @@
-use Rattle.std.proofs.Common.{◌≡◌, ◌+◌, ◌<◌, ◌≤◌, ℕ, ◌∷◌, ◌++◌, [], length, take, min, map, get_or, refl, rules, ap, sym, ◌∙◌, arith, lit<, List, inl, inr}
+use Rattle.std.proofs.Common.{◌≡◌, ◌<◌, ◌≤◌, ℕ, ◌∷◌, [], length, take, min, map, get_or, refl, ap, sym, ◌∙◌, arith, lit<, List, inl, inr}
 use Rattle.std.specs.Char.{encode_utf8}
 use Rattle.std.proofs.lemmas.Bool.Decides.{nat_tests}
 use Rattle.std.proofs.lemmas.List.{length-map, length-take, length-take-le, take_more, take_all, map-append, append-nil}

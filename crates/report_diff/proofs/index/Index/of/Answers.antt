@@ -1,7 +1,6 @@
-use Rattle.std.proofs.Common.{◌≡◌, ◌+◌, ℕ, false, true, not, Some, None, List, get_or, take, drop, refl, sym, ap, ◌∙◌}
+use Rattle.std.proofs.Common.{◌≡◌, ◌+◌, ℕ, false, true, List, get_or, take, drop, refl, sym, ap, ◌∙◌}
 use Rattle.std.specs.Option.{option_map}
-use Rattle.report_diff.specs.Lines.{line_about, subject, texts}
-use Rattle.report_diff.specs.Inputs.{otherwise_of}
+use Rattle.report_diff.specs.Lines.{line_about, texts}
 use Rattle.report_diff.specs.Refusals.{otherwise_text, shown_subject}
 use Rattle.report_diff.specs.Repeats.{once, otherwise, says_otherwise}
 use Rattle.report_diff.proofs.Slices.{no_slice, texts_more, texts_split, length_texts}
