@@ -54,9 +54,9 @@ def least(programs: List[List[str]], trace: str, best: int) -> List[Cost]:
 
 
 def written(words: str, entries: int, folder: str) -> str:
-    """Writes the trace that these words of `traces.py` make."""
+    """Writes the trace that these words of `workloads.py` make."""
     trace = os.path.join(folder, "measured.trace")
     made_by = words.format(n=entries, few=max(entries // 250, 1)).split()
     with open(trace, "wb") as out:
-        subprocess.run([sys.executable, "-B", os.path.join(HERE, "traces.py"), *made_by], stdout=out, check=True)
+        subprocess.run([sys.executable, "-B", os.path.join(HERE, "workloads.py"), *made_by], stdout=out, check=True)
     return trace

@@ -24,16 +24,18 @@ of one run can be compared.
 """
 import argparse
 import os
-import struct
 import subprocess
 import sys
 import tempfile
 import time
 from typing import Dict, List, Tuple
 
-from traces import CLOSE, DRAIN, FIXED_FILE, LINK, OPENAT, O_RDWR, READ, WRITE, entry, file
-
 HERE = os.path.dirname(os.path.abspath(__file__))
+sys.path.insert(0, os.path.join(os.path.dirname(HERE), "tests"))
+
+from traces import AT_FDCWD, CLOSE, DRAIN, FIXED_FILE, LINK, OPENAT, READ, WRITE, description, descriptor_table, enter, entry, file, head, ring
+
+O_RDWR = 2
 BUILT = os.path.join(os.path.dirname(HERE), "crates", "uring_replay", "out", "uring_replay")
 REFERENCE = "disjoint"
 # How many entries a record has, and so the longest chain.
@@ -43,7 +45,7 @@ DATA = bytes(range(64))
 
 def write(number: int, flags: int = 0, slot: int = 0, offset: int = 0) -> bytes:
     """A WRITE of 64 bytes."""
-    return entry(WRITE, FIXED_FILE | flags, slot, offset, length=64, user=number, side=DATA)
+    return entry(WRITE, FIXED_FILE | flags, slot, offset, length=64, user_data=number, side=DATA)
 
 
 def appends(number: int, _last: bool) -> bytes:
@@ -69,10 +71,10 @@ def drains(number: int, _last: bool) -> bytes:
 def opens(number: int, _last: bool) -> bytes:
     """The descriptor is 0 each time, since the one before it is closed."""
     if number % 4 == 0:
-        return entry(OPENAT, 0, -100, op_flags=O_RDWR, user=number, side=b"/data")
+        return entry(OPENAT, 0, AT_FDCWD, own_flags=O_RDWR, user_data=number, side=b"/data")
     if number % 4 == 3:
-        return entry(CLOSE, 0, 0, user=number)
-    return entry(READ, 0, 0, length=64, user=number)
+        return entry(CLOSE, 0, 0, user_data=number)
+    return entry(READ, 0, 0, length=64, user_data=number)
 
 
 KINDS = {"disjoint": disjoint, "appends": appends, "range": one_range, "chain": chain, "drains": drains, "opens": opens}
@@ -80,15 +82,10 @@ KINDS = {"disjoint": disjoint, "appends": appends, "range": one_range, "chain": 
 
 def trace(kind: str, entries: int) -> bytes:
     """The file `/data` of zeros, open in slot 0 and to append in slot 1; 64 empty descriptors; the entries of a kind."""
-    counts = struct.pack("<6I", 2, 1, 2, 1, -(-entries // RECORD), 64)
-    parts = [b"URINGTRC", counts, *file(b"/data", 64 * entries)]
-    parts += [struct.pack("<IBBQ", 1, 2, 0, 0), struct.pack("<IBBQ", 1, 2, 1, 0), bytes(4 * 64)]
-    parts += [struct.pack("<HIIH", 2, 1, 2, 0)]
-    for first in range(0, entries, RECORD):
-        count = min(RECORD, entries - first)
-        parts.append(struct.pack("<BBH", 1, 0, count))
-        parts += [KINDS[kind](first + place, place + 1 == count) for place in range(count)]
-    return b"".join(parts)
+    world = file(b"/data", 64 * entries) + description(1) + description(1, append=1) + descriptor_table([0] * 64) + ring([1, 2])
+    records = [range(first, min(first + RECORD, entries)) for first in range(0, entries, RECORD)]
+    parts = [enter(0, [KINDS[kind](place, place + 1 == record.stop) for place in record]) for record in records]
+    return head(1, 2, 1, len(records), 64, 2) + world + b"".join(parts)
 
 
 def seconds(words: List[str], given: str) -> float:

@@ -1,12 +1,11 @@
 """Small inputs of large cost: what each may take, beside another run of the same program or beside its report."""
 import math
-import struct
 from functools import partial
 from typing import List
 
 from harness import Answer, Job, Outcome, Program, difference, shown
 from traces import AT_FDCWD, FIXED_FILE, READ_FIXED, RENAMEAT, WRITE_FIXED
-from traces import description, directory, enter, entry, file, fill, head, ring
+from traces import description, directory, enter, entry, file, fill, head, ring, two_paths
 
 PAGE = 4_096
 BUFFER = 1 << 30
@@ -53,7 +52,7 @@ def moved_in(count: int, byte: bytes) -> bytes:
     entries = []
     for number in range(len(tops) - 1, 0, -1):
         old, new = tops[number], tops[number - 1] + below * 2 + b"/" + byte * (NAME - 1) + b"0"
-        entries.append(entry(RENAMEAT, fd=AT_FDCWD, length=AT_FDCWD & 0xFFFFFFFF, side=struct.pack("<H", len(old)) + old + new))
+        entries.append(entry(RENAMEAT, fd=AT_FDCWD, length=AT_FDCWD & 0xFFFFFFFF, side=two_paths(old, new)))
     return head(len(items), 0, 1, 1) + b"".join(items) + ring() + enter(0, entries)
 
 

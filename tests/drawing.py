@@ -8,7 +8,7 @@ import model
 from model import A_DIRECTORY, APPEND, CLOEXEC, CREAT, EXCL, MOST_MOVED, TRUNC
 from traces import AT_FDCWD, BUFFER_SELECT, CLOSE, DRAIN, FALLOCATE, FIXED_FILE, FSYNC, FTRUNCATE, GREATEST_SIZE, HARDLINK, LINK, LINKAT, MKDIRAT
 from traces import NOP, OPENAT, READ, READ_FIXED, READV, RENAMEAT, SKIP, UNLINKAT, WRITE, WRITE_FIXED, WRITEV
-from traces import description, directory, enter, entry, file, fill, head, name, ring
+from traces import description, directory, descriptor_table, enter, entry, file, fill, head, name, ring, two_paths
 
 NAMES = (b"a", b"b", b"c", b"dd", b"\xff\n", b"n" * 255)
 ODD_NAMES = (b"", b".", b"..", b"n" * 256, b"n" * 4_095)
@@ -65,7 +65,7 @@ class Draw:
         items, nodes = self.items()
         described = [self.described(nodes) for _ in range(self.source.randrange(1, 7))]
         self.table = self.one(self.tables) if self.version == 2 else 0
-        table = struct.pack("<{}I".format(self.table), *self.handles(len(described), self.table))
+        table = descriptor_table(self.handles(len(described), self.table))
         rings = [self.ring(len(described)) for _ in range(self.source.randrange(1, 4))]
         records = [self.record(self.source.randrange(len(rings))) for _ in range(self.source.randrange(1, self.records))]
         front = head(len(items), len(described), len(rings), len(records), self.table, self.version)
@@ -142,7 +142,7 @@ class Draw:
             return {"fd": self.start(), "own_flags": self.one((0, 0x200)) if opcode == UNLINKAT else 0, "side": self.path()}
         if opcode in (RENAMEAT, LINKAT):
             own, old = self.one((0, 0, 0, 1, 2) if opcode == RENAMEAT else (0, 0x400)), self.path()
-            return {"fd": self.start(), "length": self.start() & LAST, "own_flags": own, "side": struct.pack("<H", len(old)) + old + self.path()}
+            return {"fd": self.start(), "length": self.start() & LAST, "own_flags": own, "side": two_paths(old, self.path())}
         return {}
 
     def moved(self, opcode: int, number: int) -> Dict[str, Any]:

@@ -2,8 +2,9 @@
 from functools import partial
 from typing import List
 
-import traces
+import hostile_traces
 from harness import Answer, Job, Outcome, Program, difference, first, read, refused, shown, spoken
+from traces import takes_no_side
 
 EXAMPLE = "read_four_bytes"
 MODES = (["serial"], ["run"], ["compare"], ["check"])
@@ -34,10 +35,10 @@ def limit(program: Program, name: str, at: bytes, past: bytes, line: str) -> Lis
 
 def generated(program: Program, kind: str) -> List[Outcome]:
     """Ten thousand generated entries, those left out that need side bytes."""
-    change = traces.any_entry if kind == "any" else traces.transfer_entry
-    entries = [change(drawn) for drawn in traces.drawn_entries()]
-    kept = [fields for fields in entries if traces.takes_no_side(fields)]
-    trace = traces.in_records(kept)
+    change = hostile_traces.any_entry if kind == "any" else hostile_traces.transfer_entry
+    entries = [change(drawn) for drawn in hostile_traces.drawn_entries()]
+    kept = [fields for fields in entries if takes_no_side(fields)]
+    trace = hostile_traces.in_records(kept)
     label = "10,000 generated entries ({}): {{}} by {}".format(kind, program.compiler)
     serial = program.run(["serial"], trace)
     is_whole = serial.status == 0 and serial.output.endswith(b"\nend\n") and not serial.errors
@@ -49,8 +50,8 @@ def generated(program: Program, kind: str) -> List[Outcome]:
     outcomes.append(Outcome(label.format("compare"), difference(program.run(["compare", *pair], trace), Answer(0, b"equal\n", b""))))
     sums = program.run(["serial", "--sums"], trace)
     outcomes.append(Outcome(label.format("run --sums"), difference(program.run(["run", "--sums", *pair], trace), sums)))
-    left_out = [fields for fields in entries if not traces.takes_no_side(fields)][:20]
-    accepted = [fields for fields in left_out if program.run(["check"], traces.in_records([fields])) != refused("Side at 173")]
+    left_out = [fields for fields in entries if not takes_no_side(fields)][:20]
+    accepted = [fields for fields in left_out if program.run(["check"], hostile_traces.in_records([fields])) != refused("Side at 173")]
     outcomes.append(Outcome(label.format("those that were left out"), "{} of them need no side bytes".format(len(accepted)) if accepted else None))
     return outcomes
 
@@ -71,7 +72,7 @@ def jobs(programs: List[Program]) -> List[Job]:
     made: List[Job] = []
     for program in programs:
         made += [partial(generated, program, kind) for kind in ("any", "transfer")]
-        made += [partial(finished, program, name, trace) for name, trace in traces.much_work()]
+        made += [partial(finished, program, name, trace) for name, trace in hostile_traces.much_work()]
         made += [partial(prefixes, program, words) for words in MODES]
-    made += [partial(limit, programs[0], *each) for each in traces.limits()]
+    made += [partial(limit, programs[0], *each) for each in hostile_traces.limits()]
     return made

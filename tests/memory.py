@@ -1,11 +1,10 @@
 """Out of memory: each growth is refused in turn, and each thread."""
-import os
 from functools import partial
 from typing import List
 
-from harness import EXAMPLES, Job, Outcome, Program, Words, fault, first, input_of, shown, skipped, spoken
+from harness import Job, Outcome, Program, Words, fault, first, input_of, shown, skipped, spoken
+from hostile_traces import heavy_writes, long_reads, stored_files
 from shims import Shim
-from traces import heavy_writes, long_reads, stored_files
 
 TRACES = (
     "read_four_bytes",

@@ -6,7 +6,6 @@ each directory in each mode, and counts."""
 import argparse
 import os
 import shutil
-import struct
 import subprocess
 import sys
 import threading
@@ -20,12 +19,12 @@ if __name__ == "__main__":
 import drawing
 import play_contained
 import play_rows
-import traces
 from harness import BUILT, EXAMPLES, TOP, Answer, Job, Outcome, Program, first, guarded, shown, skipped
+from hostile_traces import limits
 from play_drawing import UNCOUNTED, Played
 from player import MODES, UNTRIED, Player, against
 from traces import AT_FDCWD, FALLOCATE, FIXED_FILE, FSYNC, FTRUNCATE, HARDLINK, LINK, LINKAT, MKDIRAT, NOP, OPENAT, READ, RENAMEAT, SKIP, UNLINKAT
-from traces import description, directory, enter, entry, file, head, ring
+from traces import description, directory, enter, entry, file, head, ring, two_paths
 
 # Drawn traces in the test command, each played in each mode in one of the directories; and how many of them with bytes changed.
 DRAWN, CHANGED, EACH = 200, 200, 25
@@ -61,7 +60,7 @@ def refusal(player: Player, trace: bytes, line: bytes) -> Optional[str]:
 
 def limits(player: Player) -> List[Outcome]:
     """One past each limit of the format."""
-    each = ((name, refusal(player, over, "trace refused: {}\n".format(line).encode())) for name, _, over, line in traces.limits())
+    each = ((name, refusal(player, over, "trace refused: {}\n".format(line).encode())) for name, _, over, line in limits())
     return [Outcome("play: one past the limit {}".format(name), fault) for name, fault in each]
 
 
@@ -139,10 +138,6 @@ def notices(player: Player, program: Program) -> List[Outcome]:
         is_well = wrong != report and compared.status == 4
         outcomes.append(Outcome("the player: {!r} for {!r} is noticed".format(new, old), None if is_well else shown(compared)))
     return outcomes
-
-
-def two_paths(old: bytes, new: bytes) -> bytes:
-    return struct.pack("<H", len(old)) + old + new
 
 
 def made_up_for(player: Player, program: Program) -> List[Outcome]:

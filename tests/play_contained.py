@@ -8,7 +8,7 @@ from typing import Iterator, List, Sequence, Tuple
 from harness import Answer, Job, Outcome, Program, first, shown
 from player import UNTRIED, Player
 from traces import AT_FDCWD, CLOSE, FALLOCATE, FIXED_FILE, FSYNC, FTRUNCATE, LINKAT, MKDIRAT, OPENAT, RENAMEAT, UNLINKAT, WRITE
-from traces import description, directory, enter, entry, file, head, ring, takes_no_side
+from traces import description, directory, enter, entry, file, head, ring, descriptor_table, takes_no_side, two_paths
 
 # None climbs higher than the three folders with bait, so that a player that fails here does so in a folder of the test's own.
 CLIMBING = (b"/..", b"//..", b"/../bait", b"/../made", b"/../../made", b"../made", b"../bait", b"/d/../../made", b"/d/../../bait", b"/d/./../../bait",
@@ -27,11 +27,7 @@ def world(entries: Sequence[bytes]) -> bytes:
     """A tree with a directory that is open as descriptor 0 and in a slot, and entries of a record each."""
     items = file(b"/a", 10, b"0123456789") + directory(b"/d") + file(b"/d/new", 1, b"n")
     opened = description(2, 0) + description(1)
-    return head(3, 2, 1, len(entries), 2, 2) + items + opened + struct.pack("<2I", 1, 0) + ring([1, 2, 0, 0]) + b"".join(enter(0, [it]) for it in entries)
-
-
-def paths(old: bytes, new: bytes) -> bytes:
-    return struct.pack("<H", len(old)) + old + new
+    return head(3, 2, 1, len(entries), 2, 2) + items + opened + descriptor_table([1, 0]) + ring([1, 2, 0, 0]) + b"".join(enter(0, [it]) for it in entries)
 
 
 def climbing(path: bytes) -> Iterator[bytes]:
@@ -40,7 +36,7 @@ def climbing(path: bytes) -> Iterator[bytes]:
         for opcode, flags in ((OPENAT, 0x242), (OPENAT, 0), (OPENAT, 0x410041), (UNLINKAT, 0), (UNLINKAT, 0x200), (MKDIRAT, 0)):
             yield entry(opcode, fd=fd, own_flags=flags, file_index=4 if opcode == OPENAT else 0, side=path)
         for plain in PLAIN:
-            for side in (paths(path, plain), paths(plain, path), paths(path, path)):
+            for side in (two_paths(path, plain), two_paths(plain, path), two_paths(path, path)):
                 for new in (NOWHERE, 0):
                     for opcode, flags in ((RENAMEAT, 0), (RENAMEAT, 2), (LINKAT, 0), (LINKAT, 0x400)):
                         yield entry(opcode, fd=fd, length=new, own_flags=flags, side=side)
@@ -55,7 +51,7 @@ def numbers() -> Iterator[bytes]:
         yield entry(UNLINKAT, fd=number, side=b"bait")
         yield entry(OPENAT, fd=number, own_flags=0x242, file_index=4, side=b"made")
         yield entry(MKDIRAT, fd=number, side=b"made")
-        yield entry(RENAMEAT, fd=number, length=number & 0xffffffff, side=paths(b"bait", b"made"))
+        yield entry(RENAMEAT, fd=number, length=number & 0xffffffff, side=two_paths(b"bait", b"made"))
         yield entry(CLOSE, fd=number)
         yield entry(FSYNC, FIXED_FILE, number)
 

@@ -9,7 +9,7 @@ from harness import TOP, Outcome, Program, first, shown
 from player import SOURCES, UNTRIED, Player
 from traces import AT_FDCWD, BUFFER_SELECT, CLOSE, DRAIN, FALLOCATE, FIXED_FILE, FTRUNCATE, GREATEST_SIZE, LINK, LINKAT, MKDIRAT, NOP, OPENAT
 from traces import READ, READ_FIXED, READV, RENAMEAT, SKIP, UNLINKAT, WRITE, WRITE_FIXED
-from traces import description, directory, enter, entry, file, head, ring
+from traces import description, directory, enter, entry, file, head, ring, descriptor_table, two_paths
 
 POSITION, NOWHERE = (1 << 64) - 1, AT_FDCWD & 0xffffffff
 # Words of the play itself, which are no row: docs/PLAYING.md.
@@ -34,10 +34,6 @@ class Row(NamedTuple):
     is_of_files: bool = False
 
 
-def paths(old: bytes, new: bytes) -> bytes:
-    return struct.pack("<H", len(old)) + old + new
-
-
 def on_names(opcode: int, side: bytes, flags: int = 0, own_flags: int = 0, **fields: int) -> bytes:
     length = NOWHERE if opcode in (RENAMEAT, LINKAT) else 0
     return entry(opcode, flags, **{"fd": AT_FDCWD, "length": length, **fields}, own_flags=own_flags, side=side)
@@ -53,14 +49,14 @@ def world(*entries: bytes, version: int = 2, table: Sequence[int] = (1, 0), slot
         if not it[1] & LINK:
             records.append(enter(0, chain))
             chain = []
-    numbers = struct.pack("<{}I".format(len(table)), *table) if version == 2 else b""
+    numbers = descriptor_table(table) if version == 2 else b""
     return head(3, 2, 1, len(records), len(table) if version == 2 else 0, version) + items + opened + numbers + ring(slots, buffers) + b"".join(records)
 
 
 def failing() -> List[bytes]:
     """The operations, each so that it fails, and not for its descriptor; an FSYNC does only where a disk fails."""
-    return [entry(FALLOCATE, FIXED_FILE), entry(FTRUNCATE, FIXED_FILE, offset=1 << 63), on_names(RENAMEAT, paths(b"/no", b"/b")),
-            on_names(UNLINKAT, b"/no"), on_names(MKDIRAT, b"/a"), on_names(LINKAT, paths(b"/no", b"/b"))]
+    return [entry(FALLOCATE, FIXED_FILE), entry(FTRUNCATE, FIXED_FILE, offset=1 << 63), on_names(RENAMEAT, two_paths(b"/no", b"/b")),
+            on_names(UNLINKAT, b"/no"), on_names(MKDIRAT, b"/a"), on_names(LINKAT, two_paths(b"/no", b"/b"))]
 
 
 def with_flags(drawn: bytes, flags: int) -> bytes:
@@ -76,15 +72,15 @@ def in_another_order() -> List[Tuple[bytes, bytes, bytes]]:
         *((entry(it, FIXED_FILE, directory_, large, 1, address=4096), b"res=-21", b"res=-22") for it in (READ, READ_FIXED)),
         (entry(READ_FIXED, FIXED_FILE, directory_, length=4), b"res=-21", b"res=-14"),
         (entry(WRITE_FIXED, FIXED_FILE, directory_, length=4), b"res=-9", b"res=-14"),
-        (on_names(LINKAT, paths(b"/no", b"/a/b")), b"res=-20", b"res=-2"),
-        (on_names(LINKAT, paths(b"/no", b"b"), length=bad), b"res=-9", b"res=-2"),
-        (on_names(LINKAT, paths(b"/no", long_name)), b"res=-36", b"res=-2"),
-        (on_names(RENAMEAT, paths(b"/no", long_name)), b"res=-36", b"res=-2"),
-        (on_names(RENAMEAT, paths(long_name, b"/a/b")), b"res=-36", b"res=-20"),
-        (on_names(RENAMEAT, paths(long_name, b"b"), length=bad), b"res=-36", b"res=-9"),
+        (on_names(LINKAT, two_paths(b"/no", b"/a/b")), b"res=-20", b"res=-2"),
+        (on_names(LINKAT, two_paths(b"/no", b"b"), length=bad), b"res=-9", b"res=-2"),
+        (on_names(LINKAT, two_paths(b"/no", long_name)), b"res=-36", b"res=-2"),
+        (on_names(RENAMEAT, two_paths(b"/no", long_name)), b"res=-36", b"res=-2"),
+        (on_names(RENAMEAT, two_paths(long_name, b"/a/b")), b"res=-36", b"res=-20"),
+        (on_names(RENAMEAT, two_paths(long_name, b"b"), length=bad), b"res=-36", b"res=-9"),
         *((on_names(OPENAT, it, own_flags=0x10040, file_index=1), b"res=-22", there) for it, there in ((b"", b"res=-2"), (long_path, b"res=-36"))),
-        *((on_names(LINKAT, paths(b"/a", it), own_flags=8), b"res=-22", there) for it, there in ((b"", b"res=-2"), (long_path, b"res=-36"))),
-        *((on_names(RENAMEAT, paths(it, b"/a"), own_flags=8), b"res=-22", there) for it, there in ((b"", b"res=-2"), (long_path, b"res=-36"))),
+        *((on_names(LINKAT, two_paths(b"/a", it), own_flags=8), b"res=-22", there) for it, there in ((b"", b"res=-2"), (long_path, b"res=-36"))),
+        *((on_names(RENAMEAT, two_paths(it, b"/a"), own_flags=8), b"res=-22", there) for it, there in ((b"", b"res=-2"), (long_path, b"res=-36"))),
     ]
 
 
@@ -95,7 +91,7 @@ def rows() -> List[Row]:
     vectors = struct.pack("<QQ", 4, 1 << 62)
     return [
         Row("A failing FSYNC, FALLOCATE, FTRUNCATE, RENAMEAT, UNLINKAT, MKDIRAT or LINKAT with IO_LINK (not for a bad descriptor)", soft + quiet),
-        Row("RENAMEAT of a file onto a directory that is above it", [Play(world(on_names(RENAMEAT, paths(b"/d/f", b"/d"))), [(0, b"res=-21", b"res=-39")])]),
+        Row("RENAMEAT of a file onto a directory that is above it", [Play(world(on_names(RENAMEAT, two_paths(b"/d/f", b"/d"))), [(0, b"res=-21", b"res=-39")])]),
         Row("OPENAT into a slot that the ring does not have", [
             Play(world(on_names(OPENAT, b"/no", file_index=9), on_names(OPENAT, b"/new", own_flags=0x41, file_index=9), on_names(UNLINKAT, b"/new")),
                  [(0, b"res=-22", b"res=-2"), (2, b"res=-2", b"res=0")])]),
@@ -109,7 +105,7 @@ def rows() -> List[Row]:
         Row("Tests of an entry by itself (flags of CLOSE, OPENAT, RENAMEAT, LINKAT)", [
             Play(world(entry(NOP, LINK), it), [(0, b"res=-125", b"res=0")])
             for it in (entry(CLOSE, file_index=(1 << 32) - 1), on_names(OPENAT, b"/a", own_flags=0x10040, file_index=1),
-                       on_names(RENAMEAT, paths(b"/a", b"/b"), own_flags=8), on_names(LINKAT, paths(b"/a", b"/b"), own_flags=8))]),
+                       on_names(RENAMEAT, two_paths(b"/a", b"/b"), own_flags=8), on_names(LINKAT, two_paths(b"/a", b"/b"), own_flags=8))]),
         Row("Order of tests: a read of length 0 on a directory, a bad buffer with a wrong access, both paths of LINKAT and RENAMEAT, flags and a path", [Play(world(it), [(0, here, there)]) for it, here, there in in_another_order()]),
         Row("Offset and length together over 2^63 - 1", [
             Play(world(entry(READ, FIXED_FILE, offset=(1 << 63) - 2, length=4)), [(0, b"res=0", b"res=-22")])]),
@@ -126,9 +122,9 @@ def rows() -> List[Row]:
         Row("OPENAT with access 3, O_PATH or O_TMPFILE", [
             Play(world(on_names(OPENAT, b"/a", own_flags=3, file_index=1), on_names(OPENAT, b"/a", own_flags=0x200000, file_index=1)),
                  [(0, b"res=-22", b"res=0"), (1, b"res=-22", b"res=0")])]),
-        Row("LINKAT with AT_EMPTY_PATH", [Play(world(on_names(LINKAT, paths(b"/a", b"/b"), own_flags=0x1000)), [(0, b"res=-22", b"")])]),
+        Row("LINKAT with AT_EMPTY_PATH", [Play(world(on_names(LINKAT, two_paths(b"/a", b"/b"), own_flags=0x1000)), [(0, b"res=-22", b"")])]),
         Row("RENAMEAT with RENAME_EXCHANGE in version 1", [
-            Play(world(on_names(RENAMEAT, paths(b"/a", b"/d/f"), own_flags=2), version=1), [(0, b"res=-22", b"res=0")])]),
+            Play(world(on_names(RENAMEAT, two_paths(b"/a", b"/d/f"), own_flags=2), version=1), [(0, b"res=-22", b"res=0")])]),
         Row("FALLOCATE with COLLAPSE_RANGE, INSERT_RANGE, UNSHARE_RANGE or WRITE_ZEROES", [
             Play(world(entry(FALLOCATE, FIXED_FILE, offset=0, address=4096, length=8), size=1 << 16), [(0, b"res=-95", b"")])], True),
         Row("FALLOCATE over 2^40 bytes with a mode other than 0", [
@@ -159,7 +155,7 @@ def transient_opens(player: Player, program: Program) -> Optional[str]:
     deep = [b"/d" * it for it in range(1, 1_000)]
     opens = [entry(OPENAT, fd=AT_FDCWD, side=deep[-1] + b"/no") for _ in range(64)]
     items = file(b"/a") + b"".join(map(directory, deep))
-    trace = head(len(deep) + 1, 1, 1, 1, 2, 2) + items + description(1) + struct.pack("<2I", 1, 0) + ring() + enter(0, opens)
+    trace = head(len(deep) + 1, 1, 1, 1, 2, 2) + items + description(1) + descriptor_table([1, 0]) + ring() + enter(0, opens)
     report, rounds = program.run(["serial"], trace).output, program.run(["rounds", "--window", "64"], trace).output
     for _ in range(TRIES):
         if b" outside=opens" in player.steered(trace, report, ["--async"], rounds, player.directories()[-1]).output:

@@ -2,14 +2,13 @@
 and not by its square or cube. `./tests/windows.py PROGRAM COUNT` tries so many mixes, and tells the longest."""
 import math
 import random
-import struct
 import sys
 from functools import partial
 from typing import Callable, Dict, List, NamedTuple, Optional
 
 from harness import Answer, Job, Outcome, Program, difference, first
 from traces import AT_FDCWD, CLOSE, DRAIN, FIXED_FILE, FTRUNCATE, LINK, LINKAT, MKDIRAT, NOP, OPENAT, READ, READ_FIXED, RENAMEAT, UNLINKAT
-from traces import WRITE, WRITE_FIXED, description, directory, enter, entry, file, head, ring
+from traces import WRITE, WRITE_FIXED, description, directory, enter, entry, file, head, ring, two_paths
 
 CREAT, TRUNC, APPEND = 0x40, 0x200, 0x400
 POSITION = (1 << 64) - 1
@@ -56,8 +55,7 @@ class Mix:
         return self.source.choice(self.paths)
 
     def two_paths(self) -> bytes:
-        old = self.path()
-        return struct.pack("<H", len(old)) + old + self.path()
+        return two_paths(self.path(), self.path())
 
     def reading(self, flags: int) -> bytes:
         return entry(READ, flags | FIXED_FILE, self.slot(), self.offset(), length=self.source.choice((1, 64)))

@@ -1,50 +1,44 @@
 #!/usr/bin/env python3
 """Large traces for measuring, on standard output: the same words give the same bytes.
 
-    traces.py rw N SIZE FILE_MB   READs and WRITEs of about SIZE bytes at random offsets of one
+    workloads.py rw N SIZE FILE_MB   READs and WRITEs of about SIZE bytes at random offsets of one
                                         file of FILE_MB stored megabytes; 4 rings
-    traces.py rings N             64 rings with a file each; 64 bytes at offsets that meet again
+    workloads.py rings N             64 rings with a file each; 64 bytes at offsets that meet again
                                         only after 1,024 entries of the ring: nothing near collides
-    traces.py one_file N          WRITEs of 64 bytes to one file, any two of which overlap; 4 rings
-    traces.py paths N             opens, creates, renames, unlinks in a tree of 1,000 directories
-    traces.py chains N            chains of 4 (WRITE, READ, FSYNC, READ), a drain every 100
+    workloads.py one_file N          WRITEs of 64 bytes to one file, any two of which overlap; 4 rings
+    workloads.py paths N             opens, creates, renames, unlinks in a tree of 1,000 directories
+    workloads.py chains N            chains of 4 (WRITE, READ, FSYNC, READ), a drain every 100
                                         entries, every 50th chain broken by a short READ; 4 rings
-    traces.py big N MB            transfers of MB megabytes over a file of 8 times that: WRITE_FIXED,
+    workloads.py big N MB            transfers of MB megabytes over a file of 8 times that: WRITE_FIXED,
                                         READ, READ_FIXED, READ, .. (a WRITE's bytes would not fit a trace)
-    traces.py position N FILE_MB  READs of 4,096 bytes at the position of a file of FILE_MB stored megabytes,
+    workloads.py position N FILE_MB  READs of 4,096 bytes at the position of a file of FILE_MB stored megabytes,
                                   from its start again by an OPENAT at its end
-    traces.py pages N FILE_MB     READs of 4,096 bytes at random pages of a file of FILE_MB stored megabytes, each fourth entry a
+    workloads.py pages N FILE_MB     READs of 4,096 bytes at random pages of a file of FILE_MB stored megabytes, each fourth entry a
                                   WRITE, READ_FIXED or WRITE_FIXED of as many in turn; 64 buffers
-    traces.py appends N           WRITEs of 64 bytes to a file that is open to append
-    traces.py files N KB          WRITEs of KB kilobytes to 64 files in turn, one behind another; nothing collides
+    workloads.py appends N           WRITEs of 64 bytes to a file that is open to append
+    workloads.py files N KB          WRITEs of KB kilobytes to 64 files in turn, one behind another; nothing collides
 
 Enter records have 64 entries (`rings`: 16), rings take turns. N is at most 1,048,576.
 """
+import os
 import random
-import struct
 import sys
 
-FIXED_FILE, DRAIN, LINK = 1, 2, 4
-FSYNC, READ_FIXED, WRITE_FIXED, OPENAT, CLOSE, READ, WRITE = 3, 4, 5, 18, 19, 22, 23
-RENAMEAT, UNLINKAT = 35, 36
+sys.path.insert(0, os.path.join(os.path.dirname(os.path.dirname(os.path.abspath(__file__))), "tests"))
+
+import traces
+from traces import AT_FDCWD, CLOSE, DRAIN, FIXED_FILE, FSYNC, LINK, OPENAT, READ, READ_FIXED, RENAMEAT, UNLINKAT, WRITE, WRITE_FIXED
+from traces import directory, enter, entry, two_paths
+
 O_CREAT, O_APPEND, O_RDWR = 0x40, 0x400, 2
 MB = 1 << 20
 
-_SQE = struct.Struct("<BBHiQQIIQHHIQQI")     # the entry and its side length
 out = sys.stdout.buffer
-
-
-def entry(op, flags, fd=0, off=0, addr=0, length=0, op_flags=0, user=0, file_index=0, buffer=0, side=b""):
-    return _SQE.pack(op, flags, 0, fd, off, addr, length, op_flags, user, buffer, 0, file_index, 0, 0, len(side)) + side
-
-
-def directory(path):
-    return struct.pack("<BH", 1, len(path)) + path
 
 
 def file(path, size, stored=0, rnd=None):
     """the item's bytes, in parts"""
-    yield struct.pack("<BH", 2, len(path)) + path + struct.pack("<QI", size, stored)
+    yield traces.file_head(path, size, stored)
     while stored > 0:
         n = min(stored, MB)
         yield rnd.randbytes(n)
@@ -53,21 +47,20 @@ def file(path, size, stored=0, rnd=None):
 
 def start(items, n_items, descs, rings, n, per):
     """header to rings; descs: nodes (access 2); rings: (slots, buffers)"""
-    out.write(b"URINGTRC" + struct.pack("<6I", 1, n_items, len(descs), len(rings), -(-n // per), 0))
+    out.write(traces.head(n_items, len(descs), len(rings), -(-n // per)))
     for part in items:
         out.write(part)
     for node in descs:
-        out.write(struct.pack("<IBBQ", node, 2, 0, 0))
+        out.write(traces.description(node))
     for slots, buffers in rings:
-        out.write(struct.pack("<H", len(slots)) + b"".join(struct.pack("<I", s) for s in slots))
-        out.write(struct.pack("<H", len(buffers)) + b"".join(struct.pack("<QI", a, m) for a, m in buffers))
+        out.write(traces.ring(slots, buffers))
 
 
 def records(n, per, n_rings, make):
     """make(k, ring) is the entry at place k with its side"""
     for first in range(0, n, per):
         count, ring = min(per, n - first), first // per % n_rings
-        out.write(struct.pack("<BBH", 1, ring, count) + b"".join([make(k, ring) for k in range(first, first + count)]))
+        out.write(enter(ring, [make(k, ring) for k in range(first, first + count)]))
 
 
 def rw(n, size, file_mb):
@@ -81,9 +74,9 @@ def rw(n, size, file_mb):
         m = least + int(r.random() * span)
         off = int(r.random() * (total - m + 1))
         if r.random() < .5:
-            return entry(READ, FIXED_FILE, off=off, length=m, user=k)
+            return entry(READ, FIXED_FILE, offset=off, length=m, user_data=k)
         at = k & 0xffff
-        return entry(WRITE, FIXED_FILE, off=off, length=m, user=k, side=data[at:at + m])
+        return entry(WRITE, FIXED_FILE, offset=off, length=m, user_data=k, side=data[at:at + m])
     records(n, 64, 4, make)
 
 
@@ -100,9 +93,9 @@ def rings(n):
         j = k // 1024 * 16 + k % 16                # the entry's number in its ring
         off = 64 * (j * 613 % 1024)
         if r.random() < .5:
-            return entry(READ, FIXED_FILE, off=off, length=64, user=k)
+            return entry(READ, FIXED_FILE, offset=off, length=64, user_data=k)
         at = k & 0xffff
-        return entry(WRITE, FIXED_FILE, off=off, length=64, user=k, side=data[at:at + 64])
+        return entry(WRITE, FIXED_FILE, offset=off, length=64, user_data=k, side=data[at:at + 64])
     records(n, 16, 64, make)
 
 
@@ -113,7 +106,7 @@ def one_file(n):
 
     def make(k, ring):
         at = k & 0xffff
-        return entry(WRITE, FIXED_FILE, off=int(r.random() * 33), length=64, user=k, side=data[at:at + 64])
+        return entry(WRITE, FIXED_FILE, offset=int(r.random() * 33), length=64, user_data=k, side=data[at:at + 64])
     records(n, 64, 4, make)
 
 
@@ -139,17 +132,17 @@ def paths(n):
         slot = 1 + int(r.random() * 64)
         if x < .25 or len(live) < 2000 and x < .8:
             live.append(new)
-            return entry(OPENAT, 0, -100, op_flags=O_CREAT | O_RDWR, user=k, file_index=slot, side=new)
+            return entry(OPENAT, 0, AT_FDCWD, own_flags=O_CREAT | O_RDWR, user_data=k, file_index=slot, side=new)
         if x < .55:
-            return entry(OPENAT, 0, -100, op_flags=O_RDWR, user=k, file_index=slot, side=live[i])
+            return entry(OPENAT, 0, AT_FDCWD, own_flags=O_RDWR, user_data=k, file_index=slot, side=live[i])
         if x < .75:
             old, live[i] = live[i], new
-            return entry(RENAMEAT, 0, -100, length=0xffffff9c, user=k, side=struct.pack("<H", len(old)) + old + new)
+            return entry(RENAMEAT, 0, AT_FDCWD, length=0xffffff9c, user_data=k, side=two_paths(old, new))
         if x < .95:
             old, live[i] = live[i], live[-1]
             live.pop()
-            return entry(UNLINKAT, 0, -100, user=k, side=old)
-        return entry(CLOSE, 0, user=k, file_index=slot)
+            return entry(UNLINKAT, 0, AT_FDCWD, user_data=k, side=old)
+        return entry(CLOSE, 0, user_data=k, file_index=slot)
     records(n, 64, 4, make)
 
 
@@ -167,12 +160,12 @@ def chains(n):
         off = 64 * int(r.random() * (MB // 64))
         if k % 4 == 0:
             at = k & 0xffff
-            return entry(WRITE, fl, off=off, length=64, user=k, side=data[at:at + 64])
+            return entry(WRITE, fl, offset=off, length=64, user_data=k, side=data[at:at + 64])
         if k % 4 == 2:
-            return entry(FSYNC, fl, user=k)
+            return entry(FSYNC, fl, user_data=k)
         if k % 200 == 1:
             off = MB - 32                           # short: breaks the chain
-        return entry(READ, fl, off=off, length=64, user=k)
+        return entry(READ, fl, offset=off, length=64, user_data=k)
     records(n, 64, 4, make)
 
 
@@ -183,7 +176,7 @@ def big(n, mb):
 
     def make(k, ring):
         op = (WRITE_FIXED, READ, READ_FIXED, READ)[k % 4]
-        return entry(op, FIXED_FILE, off=int(r.random() * 8) * size, addr=0 if op == READ else 4096, length=size, user=k)
+        return entry(op, FIXED_FILE, offset=int(r.random() * 8) * size, address=0 if op == READ else 4096, length=size, user_data=k)
     records(n, 64, 1, make)
 
 
@@ -194,8 +187,8 @@ def position(n, file_mb):
 
     def make(k, ring):
         if k % (reads + 1) == reads:
-            return entry(OPENAT, 0, -100, op_flags=O_RDWR, user=k, file_index=1, side=b"/data")
-        return entry(READ, FIXED_FILE, off=(1 << 64) - 1, length=4096, user=k)
+            return entry(OPENAT, 0, AT_FDCWD, own_flags=O_RDWR, user_data=k, file_index=1, side=b"/data")
+        return entry(READ, FIXED_FILE, offset=(1 << 64) - 1, length=4096, user_data=k)
     records(n, 64, 1, make)
 
 
@@ -209,13 +202,13 @@ def pages(n, file_mb):
     def make(k, ring):
         off = int(r.random() * count) * 4096
         if k % 4 < 3:
-            return entry(READ, FIXED_FILE, off=off, length=4096, user=k)
+            return entry(READ, FIXED_FILE, offset=off, length=4096, user_data=k)
         op = (WRITE, READ_FIXED, WRITE_FIXED)[k // 4 % 3]
         if op == WRITE:
             at = k & 0xffff
-            return entry(op, FIXED_FILE, off=off, length=4096, user=k, side=data[at:at + 4096])
+            return entry(op, FIXED_FILE, offset=off, length=4096, user_data=k, side=data[at:at + 4096])
         buffer = k * 613 % 64
-        return entry(op, FIXED_FILE, off=off, addr=4096 * (buffer + 1), length=4096, user=k, buffer=buffer)
+        return entry(op, FIXED_FILE, offset=off, address=4096 * (buffer + 1), length=4096, user_data=k, buffer=buffer)
     records(n, 64, 1, make)
 
 
@@ -226,9 +219,9 @@ def appends(n):
 
     def make(k, ring):
         if k == 0:
-            return entry(OPENAT, 0, -100, op_flags=O_RDWR | O_APPEND, user=k, file_index=1, side=b"/data")
+            return entry(OPENAT, 0, AT_FDCWD, own_flags=O_RDWR | O_APPEND, user_data=k, file_index=1, side=b"/data")
         at = k & 0xffff
-        return entry(WRITE, FIXED_FILE, off=0, length=64, user=k, side=data[at:at + 64])
+        return entry(WRITE, FIXED_FILE, offset=0, length=64, user_data=k, side=data[at:at + 64])
     records(n, 64, 1, make)
 
 
@@ -244,7 +237,7 @@ def files(n, kb):
 
     def make(k, ring):
         at = k * 613 & 0xffff
-        return entry(WRITE, FIXED_FILE, k % 64, k // 64 * size, length=size, user=k, side=data[at:at + size])
+        return entry(WRITE, FIXED_FILE, k % 64, k // 64 * size, length=size, user_data=k, side=data[at:at + size])
     records(n, 64, 1, make)
 
 
