@@ -437,6 +437,24 @@ static void meet_ring(struct meeting *meeting, struct ring *ring)
 	}
 }
 
+/* Searches the reads in flight for ones that fill memory which a flight touches: those into
+ * registered buffers, and the others where these are asked for, too. */
+static void search_touched_memory(const struct flight *flight, struct search *search,
+				  bool has_plain)
+{
+	for (u32 at = 0; at < flight->touch_count && !search->is_met; at++) {
+		const struct touch *touch = &flight->touches[at];
+		if (touch->kind != TOUCH_MEMORY || touch->from >= touch->to)
+			continue;
+		search->space = space_of_touch(touch);
+		search->from = touch->from;
+		search->to = touch->to;
+		search_spans(filling[0], search);
+		if (has_plain)
+			search_spans(filling[1], search);
+	}
+}
+
 /* Finds a read that fills memory. */
 static bool look_at_filling(struct search *search, const struct span *span)
 {
@@ -453,17 +471,7 @@ static bool takes_late(const struct flight *flight)
 
 	if (!moves_bytes(opcode) || reads_bytes(opcode))
 		return false;
-	for (u32 at = 0; at < flight->touch_count && !search.is_met; at++) {
-		const struct touch *touch = &flight->touches[at];
-		if (touch->kind != TOUCH_MEMORY || touch->from >= touch->to)
-			continue;
-		search.space = space_of_touch(touch);
-		search.from = touch->from;
-		search.to = touch->to;
-		search_spans(filling[0], &search);
-		if (!is_fixed(opcode))
-			search_spans(filling[1], &search);
-	}
+	search_touched_memory(flight, &search, !is_fixed(opcode));
 	return search.is_met;
 }
 
@@ -480,16 +488,7 @@ bool is_filled_by_others(struct flight *flight)
 {
 	struct search search = { .look = look_at_other_filling, .context = flight };
 
-	for (u32 at = 0; at < flight->touch_count && !search.is_met; at++) {
-		const struct touch *touch = &flight->touches[at];
-		if (touch->kind != TOUCH_MEMORY || touch->from >= touch->to)
-			continue;
-		search.space = space_of_touch(touch);
-		search.from = touch->from;
-		search.to = touch->to;
-		search_spans(filling[0], &search);
-		search_spans(filling[1], &search);
-	}
+	search_touched_memory(flight, &search, true);
 	return search.is_met;
 }
 
