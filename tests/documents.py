@@ -13,7 +13,7 @@ import needs
 from harness import EXAMPLES, TOP, Job, Outcome, Program, first, skipped
 
 # These have transcripts (```console), which are run; the README is for a first look, and short.
-RUN = ("README.md", "docs/GUIDE.md")
+RUN = ("README.md", "docs/GUIDE.md", "docs/PLAYING.md")
 MOST_LINES = {"README.md": 150}
 # In these no sentence outside tables and code is longer.
 PLAIN = (
