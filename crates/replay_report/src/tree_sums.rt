@@ -49,7 +49,7 @@ impl TreeSums {
     ///
     /// # Errors
     ///
-    /// Want of memory.
+    /// Out of memory.
     pub(crate) fn of(alloc: Global, world: &State, image: &Image) -> Result<Self, AllocError>
         ensures { IfOk result (AreTreeSums world.now) }
     {
@@ -86,7 +86,7 @@ impl TreeSums {
     ///
     /// # Errors
     ///
-    /// Want of memory.
+    /// Out of memory.
     pub(crate) fn get(
         &self,
         alloc: Global,
