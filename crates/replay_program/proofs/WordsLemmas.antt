@@ -1,11 +1,12 @@
 -- What the parser of the command line does with the words that are known.
 use Rattle.std.proofs.Common.{◌≡◌, ◌⊎◌, ◌≤◌, ◌<◌, ◌^◌, ℕ, Bool, true, false, List, [], ◌∷◌, ◌++◌, Option, None, Some, Ok, Err, codes, refl, sym, ap, ap₂, ◌∙◌, subst, inl, inr, suc, map, Contains, arith}
-use Rattle.std.specs.Prelude.{Result, slice_index, if◌then◌else◌}
+use Rattle.std.specs.Prelude.{Result, slice_index}
 use Rattle.std.specs.Option.{option_map}
 use Rattle.std.specs.Result.{MatchResult}
 use Rattle.std.specs.Fmt.{decimal}
 use Rattle.std.specs.Str.Parse.{ParsesUnsigned}
 use Rattle.std.proofs.lemmas.Fmt.{decimal_digit, decimal_is_IsNumeral, decimal_step, parse-decimal}
+use Rattle.std.proofs.lemmas.Bool.{false≢true}
 use Rattle.std.proofs.lemmas.Option.{same_Some}
 use Rattle.std.proofs.lemmas.Result.{MatchResult-weaker}
 use Rattle.clap.proofs.WalkLemmas.{first_value-rows, one_text-rows}
@@ -319,14 +320,33 @@ sums_texts shows.All one other all h = all _ _ h
 shown_texts : (shown : Shown) (one other : List ℕ → Option (List ℕ)) → ((id text : List ℕ) → one id ≡ Some text → other id ≡ Some text) → HasShown shown one → HasShown shown other
 shown_texts shown one other all h = (sums_texts shown.sums one other all h.0, all _ _ h.1)
 
+-- a flag by the text that there is for it
+abbrev pub Tells : (List ℕ → Option (List ℕ)) → List ℕ → Bool → Type 0
+Tells text id flag = (text id ≡ Some (codes "true") → flag ≡ true) × (text id ≡ Some (codes "false") → flag ≡ false)
+
 -- the sums that two flags ask for
-pub sums_asked : (all small : Bool) (given sums : SumsShown) (text : List ℕ → Option (List ℕ)) → HasSums sums text
-    → ((text (codes "all-sums") ≡ Some (codes "true") → all ≡ true) × (text (codes "all-sums") ≡ Some (codes "false") → all ≡ false))
-    → ((text (codes "sums") ≡ Some (codes "true") → small ≡ true) × (text (codes "sums") ≡ Some (codes "false") → small ≡ false))
-    → given ≡ (if all then shows.All else if small then shows.Small else shows.None) → given ≡ sums
-sums_asked all small given shows.None text h a b e = rw (a.1 h.0, b.1 h.1) at e
-sums_asked all small given shows.Small text h a b e = rw (a.1 h.0, b.0 h.1) at e
-sums_asked all small given shows.All text h a b e = rw (a.0 h) at e
+pub all_asked : (all : Bool) (sums : SumsShown) (text : List ℕ → Option (List ℕ)) → all ≡ true → Tells text (codes "all-sums") all → HasSums sums text → shows.All ≡ sums
+all_asked all shows.None text is read h = absurd (false≢true (sym (read.1 h.0) ∙ is))
+all_asked all shows.Small text is read h = absurd (false≢true (sym (read.1 h.0) ∙ is))
+all_asked all shows.All text is read h = refl
+
+pub small_asked : (all small : Bool) (sums : SumsShown) (text : List ℕ → Option (List ℕ)) → all ≡ false → small ≡ true → Tells text (codes "all-sums") all → Tells text (codes "sums") small
+    → HasSums sums text → shows.Small ≡ sums
+small_asked all small shows.None text not_all is read told h = absurd (false≢true (sym (told.1 h.1) ∙ is))
+small_asked all small shows.Small text not_all is read told h = refl
+small_asked all small shows.All text not_all is read told h = absurd (false≢true (sym not_all ∙ read.0 h))
+
+pub none_asked : (all small : Bool) (sums : SumsShown) (text : List ℕ → Option (List ℕ)) → all ≡ false → small ≡ false → Tells text (codes "all-sums") all → Tells text (codes "sums") small
+    → HasSums sums text → shows.None ≡ sums
+none_asked all small shows.None text not_all is read told h = refl
+none_asked all small shows.Small text not_all is read told h = absurd (false≢true (sym is ∙ told.0 h.1))
+none_asked all small shows.All text not_all is read told h = absurd (false≢true (sym not_all ∙ read.0 h))
+
+-- what the report is to show, by its sums and its names
+pub shown_made : (sums : SumsShown) (names : Bool) (shown : Shown) (text : List ℕ → Option (List ℕ)) → HasShown shown text → sums ≡ shown.sums
+    → Tells text (codes "names") names → ◌≡◌ {A = Shown} (record { sums = sums; names = names }) shown
+shown_made sums names shown text h same read =
+    ap₂ (λ s n. record { sums = s; names = n }) same (read_as_flag names shown.names (text (codes "names")) h.1 read.0 read.1)
 
 abbrev pub ReadsNumber : ArgMatches → List ℕ → ℕ → ℕ → Type 0
 ReadsNumber chosen id most given = (n : ℕ) → one_text (found_of chosen) id ≡ Some (decimal n) → 1 ≤ n → n ≤ most → given ≡ n
