@@ -90,8 +90,8 @@ run_both t u shows.None false a b =
       passes = value_passed s workers_rule (codes "--workers") (codes "workers") t (codes "--window" ∷ u ∷ more) nothing_held workers_of_run a.value
           ∙ (ap (λ x. true && x) (value_passed s window_rule (codes "--window") (codes "window") u more h1 window_of_run b.value) ∙ rw a.accepted refl);
       rest = rw b.accepted refl;
-      workers_text = rw a.value.plain refl;
-      window_text = rw b.value.plain refl;
+      workers_text = ap Some a.value.plain;
+      window_text = ap Some b.value.plain;
       others = (((refl, refl), refl), (refl, (refl, refl, refl)));
     }
 run_both t u shows.None true a b =
@@ -105,8 +105,8 @@ run_both t u shows.None true a b =
       passes = value_passed s workers_rule (codes "--workers") (codes "workers") t (codes "--window" ∷ u ∷ more) nothing_held workers_of_run a.value
           ∙ (ap (λ x. true && x) (value_passed s window_rule (codes "--window") (codes "window") u more h1 window_of_run b.value) ∙ rw (a.accepted, b.accepted) refl);
       rest = refl;
-      workers_text = rw a.value.plain refl;
-      window_text = rw b.value.plain refl;
+      workers_text = ap Some a.value.plain;
+      window_text = ap Some b.value.plain;
       others = (((refl, refl), refl), (refl, (refl, refl, refl)));
     }
 run_both t u shows.Small false a b =
@@ -120,8 +120,8 @@ run_both t u shows.Small false a b =
       passes = value_passed s workers_rule (codes "--workers") (codes "workers") t (codes "--window" ∷ u ∷ more) nothing_held workers_of_run a.value
           ∙ (ap (λ x. true && x) (value_passed s window_rule (codes "--window") (codes "window") u more h1 window_of_run b.value) ∙ rw (a.accepted, b.accepted) refl);
       rest = refl;
-      workers_text = rw a.value.plain refl;
-      window_text = rw b.value.plain refl;
+      workers_text = ap Some a.value.plain;
+      window_text = ap Some b.value.plain;
       others = (((refl, refl), refl), (refl, (refl, refl, refl)));
     }
 run_both t u shows.Small true a b =
@@ -135,8 +135,8 @@ run_both t u shows.Small true a b =
       passes = value_passed s workers_rule (codes "--workers") (codes "workers") t (codes "--window" ∷ u ∷ more) nothing_held workers_of_run a.value
           ∙ (ap (λ x. true && x) (value_passed s window_rule (codes "--window") (codes "window") u more h1 window_of_run b.value) ∙ rw (a.accepted, b.accepted) refl);
       rest = refl;
-      workers_text = rw a.value.plain refl;
-      window_text = rw b.value.plain refl;
+      workers_text = ap Some a.value.plain;
+      window_text = ap Some b.value.plain;
       others = (((refl, refl), refl), (refl, (refl, refl, refl)));
     }
 run_both t u shows.All false a b =
@@ -150,8 +150,8 @@ run_both t u shows.All false a b =
       passes = value_passed s workers_rule (codes "--workers") (codes "workers") t (codes "--window" ∷ u ∷ more) nothing_held workers_of_run a.value
           ∙ (ap (λ x. true && x) (value_passed s window_rule (codes "--window") (codes "window") u more h1 window_of_run b.value) ∙ rw (a.accepted, b.accepted) refl);
       rest = refl;
-      workers_text = rw a.value.plain refl;
-      window_text = rw b.value.plain refl;
+      workers_text = ap Some a.value.plain;
+      window_text = ap Some b.value.plain;
       others = ((refl, refl), (refl, (refl, refl, refl)));
     }
 run_both t u shows.All true a b =
@@ -165,8 +165,8 @@ run_both t u shows.All true a b =
       passes = value_passed s workers_rule (codes "--workers") (codes "workers") t (codes "--window" ∷ u ∷ more) nothing_held workers_of_run a.value
           ∙ (ap (λ x. true && x) (value_passed s window_rule (codes "--window") (codes "window") u more h1 window_of_run b.value) ∙ rw (a.accepted, b.accepted) refl);
       rest = refl;
-      workers_text = rw a.value.plain refl;
-      window_text = rw b.value.plain refl;
+      workers_text = ap Some a.value.plain;
+      window_text = ap Some b.value.plain;
       others = ((refl, refl), (refl, (refl, refl, refl)));
     }
 
@@ -180,7 +180,7 @@ run_workers t shows.None false a =
       walked = value_folded s workers_rule (codes "--workers") (codes "workers") t more nothing_held workers_of_run a.value;
       passes = value_passed s workers_rule (codes "--workers") (codes "workers") t more nothing_held workers_of_run a.value ∙ refl;
       rest = rw a.accepted refl;
-      workers_text = rw a.value.plain refl;
+      workers_text = ap Some a.value.plain;
       window_text = refl;
       others = (((refl, refl), refl), (refl, (refl, refl, refl)));
     }
@@ -192,7 +192,7 @@ run_workers t shows.None true a =
       walked = value_folded s workers_rule (codes "--workers") (codes "workers") t more nothing_held workers_of_run a.value;
       passes = value_passed s workers_rule (codes "--workers") (codes "workers") t more nothing_held workers_of_run a.value ∙ rw a.accepted refl;
       rest = refl;
-      workers_text = rw a.value.plain refl;
+      workers_text = ap Some a.value.plain;
       window_text = refl;
       others = (((refl, refl), refl), (refl, (refl, refl, refl)));
     }
@@ -204,7 +204,7 @@ run_workers t shows.Small false a =
       walked = value_folded s workers_rule (codes "--workers") (codes "workers") t more nothing_held workers_of_run a.value;
       passes = value_passed s workers_rule (codes "--workers") (codes "workers") t more nothing_held workers_of_run a.value ∙ rw a.accepted refl;
       rest = refl;
-      workers_text = rw a.value.plain refl;
+      workers_text = ap Some a.value.plain;
       window_text = refl;
       others = (((refl, refl), refl), (refl, (refl, refl, refl)));
     }
@@ -216,7 +216,7 @@ run_workers t shows.Small true a =
       walked = value_folded s workers_rule (codes "--workers") (codes "workers") t more nothing_held workers_of_run a.value;
       passes = value_passed s workers_rule (codes "--workers") (codes "workers") t more nothing_held workers_of_run a.value ∙ rw a.accepted refl;
       rest = refl;
-      workers_text = rw a.value.plain refl;
+      workers_text = ap Some a.value.plain;
       window_text = refl;
       others = (((refl, refl), refl), (refl, (refl, refl, refl)));
     }
@@ -228,7 +228,7 @@ run_workers t shows.All false a =
       walked = value_folded s workers_rule (codes "--workers") (codes "workers") t more nothing_held workers_of_run a.value;
       passes = value_passed s workers_rule (codes "--workers") (codes "workers") t more nothing_held workers_of_run a.value ∙ rw a.accepted refl;
       rest = refl;
-      workers_text = rw a.value.plain refl;
+      workers_text = ap Some a.value.plain;
       window_text = refl;
       others = ((refl, refl), (refl, (refl, refl, refl)));
     }
@@ -240,7 +240,7 @@ run_workers t shows.All true a =
       walked = value_folded s workers_rule (codes "--workers") (codes "workers") t more nothing_held workers_of_run a.value;
       passes = value_passed s workers_rule (codes "--workers") (codes "workers") t more nothing_held workers_of_run a.value ∙ rw a.accepted refl;
       rest = refl;
-      workers_text = rw a.value.plain refl;
+      workers_text = ap Some a.value.plain;
       window_text = refl;
       others = ((refl, refl), (refl, (refl, refl, refl)));
     }
@@ -256,7 +256,7 @@ run_window u shows.None false b =
       passes = value_passed s window_rule (codes "--window") (codes "window") u more nothing_held window_of_run b.value ∙ refl;
       rest = rw b.accepted refl;
       workers_text = refl;
-      window_text = rw b.value.plain refl;
+      window_text = ap Some b.value.plain;
       others = (((refl, refl), refl), (refl, (refl, refl, refl)));
     }
 run_window u shows.None true b =
@@ -268,7 +268,7 @@ run_window u shows.None true b =
       passes = value_passed s window_rule (codes "--window") (codes "window") u more nothing_held window_of_run b.value ∙ rw b.accepted refl;
       rest = refl;
       workers_text = refl;
-      window_text = rw b.value.plain refl;
+      window_text = ap Some b.value.plain;
       others = (((refl, refl), refl), (refl, (refl, refl, refl)));
     }
 run_window u shows.Small false b =
@@ -280,7 +280,7 @@ run_window u shows.Small false b =
       passes = value_passed s window_rule (codes "--window") (codes "window") u more nothing_held window_of_run b.value ∙ rw b.accepted refl;
       rest = refl;
       workers_text = refl;
-      window_text = rw b.value.plain refl;
+      window_text = ap Some b.value.plain;
       others = (((refl, refl), refl), (refl, (refl, refl, refl)));
     }
 run_window u shows.Small true b =
@@ -292,7 +292,7 @@ run_window u shows.Small true b =
       passes = value_passed s window_rule (codes "--window") (codes "window") u more nothing_held window_of_run b.value ∙ rw b.accepted refl;
       rest = refl;
       workers_text = refl;
-      window_text = rw b.value.plain refl;
+      window_text = ap Some b.value.plain;
       others = (((refl, refl), refl), (refl, (refl, refl, refl)));
     }
 run_window u shows.All false b =
@@ -304,7 +304,7 @@ run_window u shows.All false b =
       passes = value_passed s window_rule (codes "--window") (codes "window") u more nothing_held window_of_run b.value ∙ rw b.accepted refl;
       rest = refl;
       workers_text = refl;
-      window_text = rw b.value.plain refl;
+      window_text = ap Some b.value.plain;
       others = ((refl, refl), (refl, (refl, refl, refl)));
     }
 run_window u shows.All true b =
@@ -316,7 +316,7 @@ run_window u shows.All true b =
       passes = value_passed s window_rule (codes "--window") (codes "window") u more nothing_held window_of_run b.value ∙ rw b.accepted refl;
       rest = refl;
       workers_text = refl;
-      window_text = rw b.value.plain refl;
+      window_text = ap Some b.value.plain;
       others = ((refl, refl), (refl, (refl, refl, refl)));
     }
 

@@ -304,9 +304,13 @@ found_name m (Compare workers window eager) shown h = sym (named m) ∙ h.0
 found_name m (Rounds window dot) shown h = sym (named m) ∙ h.0
 found_name m Check shown h = sym (named m) ∙ h.0
 
+-- a flag by the text that there is for it
+abbrev pub Tells : (List ℕ → Option (List ℕ)) → List ℕ → Bool → Type 0
+Tells text id flag = (text id ≡ Some (codes "true") → flag ≡ true) × (text id ≡ Some (codes "false") → flag ≡ false)
+
 -- what the getters answer where an option has this text
 abbrev pub ReadsFlag : ArgMatches → List ℕ → Bool → Type 0
-ReadsFlag chosen id flag = (one_text (found_of chosen) id ≡ Some (codes "true") → flag ≡ true) × (one_text (found_of chosen) id ≡ Some (codes "false") → flag ≡ false)
+ReadsFlag chosen id flag = Tells (one_text (found_of chosen)) id flag
 
 abbrev pub ReadsShown : ArgMatches → Shown → Type 0
 ReadsShown chosen given = (shown : Shown) → HasShown shown (one_text (found_of chosen)) → given ≡ shown
@@ -319,10 +323,6 @@ sums_texts shows.All one other all h = all _ _ h
 
 shown_texts : (shown : Shown) (one other : List ℕ → Option (List ℕ)) → ((id text : List ℕ) → one id ≡ Some text → other id ≡ Some text) → HasShown shown one → HasShown shown other
 shown_texts shown one other all h = (sums_texts shown.sums one other all h.0, all _ _ h.1)
-
--- a flag by the text that there is for it
-abbrev pub Tells : (List ℕ → Option (List ℕ)) → List ℕ → Bool → Type 0
-Tells text id flag = (text id ≡ Some (codes "true") → flag ≡ true) × (text id ≡ Some (codes "false") → flag ≡ false)
 
 -- the sums that two flags ask for
 pub all_asked : (all : Bool) (sums : SumsShown) (text : List ℕ → Option (List ℕ)) → all ≡ true → Tells text (codes "all-sums") all → HasSums sums text → shows.All ≡ sums

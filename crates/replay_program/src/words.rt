@@ -7,7 +7,8 @@ ghost use Rattle.clap.specs.Words.{subcommand_rows_of, with_rule, with_subcomman
 ghost use Rattle.replay_program.specs.Words.{AreFound, AskFor, AskForHelp, AskForVersion};
 ghost use Rattle.replay_program.specs.Words.{FailsByRules, GivesHelp, GivesTask, GivesVersion};
 ghost use Rattle.replay_program.specs.Words.{HasApp, HasNoFiles, HasNoNames, IsFound, IsRequestFor};
-ghost use Rattle.replay_program.specs.Words.{HasShown, HasSums, IsTaskFound, all_sums_flag, names_flag};
+ghost use Rattle.replay_program.specs.Words.{HasShown, HasSums, IsTaskFound, all_sums_flag};
+ghost use Rattle.replay_program.specs.Words.{names_flag};
 ghost use Rattle.replay_program.specs.Words.{IsRule, IsServedTask, check_command, compare_command};
 ghost use Rattle.replay_program.specs.Words.{diff_command, dot_flag, eager_flag, file_argument};
 ghost use Rattle.replay_program.specs.Words.{kind_meant, not_text, output_option, replayer};
@@ -142,10 +143,10 @@ const MOST_WORKERS: u32 = 64;
 const MOST_PLACES: u32 = 4096;
 
 /// Reads the words after the program's name: `serial` and `run`, each with `--sums`, `--all-sums` and
-/// `--names` or without, `compare`, `rounds`, with `--dot` or without, `check` or `diff`; `run` and `compare` with the
-/// numbers of workers and of places or without, `rounds` with that of places; each with the names of
-/// its input and output or without. Any other words are wrong, unless they ask for help or for the
-/// version.
+/// `--names` or without, `compare`, `rounds`, with `--dot` or without, `check` or `diff`. `run` and
+/// `compare` come with the numbers of workers and of places or without, `rounds` with that of places.
+/// Each has the names of its input and output or not. Any other words are wrong, unless they ask for
+/// help or for the version.
 pub fn read_words<'a>(alloc: Global, words: &'a [&'a str]) -> Result<Request<'a>, Usage>
     ensures task { (task : Task) → AskFor task (map (λ word. word.now) words.now)
         → GivesTask result task }
