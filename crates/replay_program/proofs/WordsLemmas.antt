@@ -6,7 +6,6 @@ use Rattle.std.specs.Result.{MatchResult}
 use Rattle.std.specs.Fmt.{decimal}
 use Rattle.std.specs.Str.Parse.{ParsesUnsigned}
 use Rattle.std.proofs.lemmas.Fmt.{decimal_digit, decimal_is_IsNumeral, decimal_step, parse-decimal}
-use Rattle.std.proofs.lemmas.Bool.{false≢true}
 use Rattle.std.proofs.lemmas.Option.{same_Some}
 use Rattle.std.proofs.lemmas.Result.{MatchResult-weaker}
 use Rattle.clap.proofs.WalkLemmas.{first_value-rows, one_text-rows}
@@ -323,24 +322,6 @@ sums_texts shows.All one other all h = all _ _ h
 
 shown_texts : (shown : Shown) (one other : List ℕ → Option (List ℕ)) → ((id text : List ℕ) → one id ≡ Some text → other id ≡ Some text) → HasShown shown one → HasShown shown other
 shown_texts shown one other all h = (sums_texts shown.sums one other all h.0, all _ _ h.1)
-
--- the sums that two flags ask for
-pub all_asked : (all : Bool) (sums : SumsShown) (text : List ℕ → Option (List ℕ)) → all ≡ true → Tells text (codes "all-sums") all → HasSums sums text → shows.All ≡ sums
-all_asked all shows.None text is read h = absurd (false≢true (sym (read.1 h.0) ∙ is))
-all_asked all shows.Small text is read h = absurd (false≢true (sym (read.1 h.0) ∙ is))
-all_asked all shows.All text is read h = refl
-
-pub small_asked : (all small : Bool) (sums : SumsShown) (text : List ℕ → Option (List ℕ)) → all ≡ false → small ≡ true → Tells text (codes "all-sums") all → Tells text (codes "sums") small
-    → HasSums sums text → shows.Small ≡ sums
-small_asked all small shows.None text not_all is read told h = absurd (false≢true (sym (told.1 h.1) ∙ is))
-small_asked all small shows.Small text not_all is read told h = refl
-small_asked all small shows.All text not_all is read told h = absurd (false≢true (sym not_all ∙ read.0 h))
-
-pub none_asked : (all small : Bool) (sums : SumsShown) (text : List ℕ → Option (List ℕ)) → all ≡ false → small ≡ false → Tells text (codes "all-sums") all → Tells text (codes "sums") small
-    → HasSums sums text → shows.None ≡ sums
-none_asked all small shows.None text not_all is read told h = refl
-none_asked all small shows.Small text not_all is read told h = absurd (false≢true (sym is ∙ told.0 h.1))
-none_asked all small shows.All text not_all is read told h = absurd (false≢true (sym not_all ∙ read.0 h))
 
 -- what the report is to show, by its sums and its names
 pub shown_made : (sums : SumsShown) (names : Bool) (shown : Shown) (text : List ℕ → Option (List ℕ)) → HasShown shown text → sums ≡ shown.sums
