@@ -159,9 +159,7 @@ class Stored(NamedTuple):
         return whole.hexdigest()
 
     def facts(self) -> str:
-        if self.size > PIECE:
-            return "sum=large tree-sum=" + self.tree_sum()
-        return "sum=" + hashlib.sha256(self.between(0, self.size)).hexdigest()
+        return "sum=large tree-sum=" + self.tree_sum()
 
 
 def pattern(size: int, first_byte: int) -> bytes:
@@ -192,19 +190,19 @@ def trace_of(stored: Sequence[Stored]) -> bytes:
 
 
 def tree_sums(program: Program) -> List[Outcome]:
-    """Each file's line ends in its sum, or in that of its pieces' sums; all else is as with --sums."""
+    """The line of a large file ends in its tree sum; all else is as with --sums."""
     stored = list(files())
     trace, outcomes = trace_of(stored), []
     sums = program.run(["serial", "--sums"], trace)
-    facts = {"/{:02}".format(at): it.facts() for at, it in enumerate(stored)}
-    lines = [line + facts[line.split(" ")[1]][9:] if line.endswith(" sum=large") else line for line in sums.output.decode().split("\n")]
-    outcomes.append(Outcome("sums of small files by {}".format(program.compiler), None if all(it in sums.output.decode() for it in
-                    ("size={} {}\n".format(it.size, it.facts().partition(" tree")[0]) for it in stored)) else shown(sums)))
+    tree_sum_of = {"/{:02}".format(at): it.tree_sum() for at, it in enumerate(stored)}
+    lines = (line + (" tree-sum=" + tree_sum_of[line.split(" ")[1]] if line.endswith(" sum=large") else "") for line in sums.output.decode().split("\n"))
+    wanted = sums._replace(output="\n".join(lines).encode())
+    large = sums.output.count(b" sum=large\n")
+    outcomes.append(Outcome("large files by {}".format(program.compiler), None if large == sum(it.size > PIECE for it in stored) else shown(sums)))
     for mode in MODES:
         for words in (["--all-sums"], ["--all-sums", "--sums"], ["--sums", "--all-sums"]):
-            got = program.run([*mode, *words], trace)
             label = "tree sums: {} by {}".format(spoken([*mode, *words]), program.compiler)
-            outcomes.append(Outcome(label, difference(got, Answer(0, "\n".join(lines).encode(), b""))))
+            outcomes.append(Outcome(label, difference(program.run([*mode, *words], trace), wanted)))
     outcomes.append(in_time(program, stored[-1]))
     return outcomes
 
@@ -234,8 +232,9 @@ def differences(program: Program) -> List[Outcome]:
     )
     outcomes = []
     for label, second, first_word, second_word, status, told in cases:
-        both = program.run(["serial", first_word], trace_of([one])).output + program.run(["serial", second_word], trace_of([second])).output
-        outcomes.append(Outcome("diff of {} by {}".format(label, program.compiler), difference(program.run(["diff"], both), Answer(status, told.encode(), b""))))
+        reports = [program.run(["serial", word], trace_of([it])).output for word, it in ((first_word, one), (second_word, second))]
+        got = program.run(["diff"], b"".join(reports))
+        outcomes.append(Outcome("diff of {} by {}".format(label, program.compiler), difference(got, Answer(status, told.encode(), b""))))
     return outcomes
 
 
