@@ -330,7 +330,12 @@ fn serial_report(alloc: Global, trace: &Trace, shown: Shown) -> Result<Vec<u8>, 
 }
 
 /// The report of what the run in recorded order gives.
-fn report(alloc: Global, trace: &Trace, replay: &Replay, shown: Shown) -> Result<Vec<u8>, ReplayFault>
+fn report(
+    alloc: Global,
+    trace: &Trace,
+    replay: &Replay,
+    shown: Shown,
+) -> Result<Vec<u8>, ReplayFault>
     requires trace { IsSpelled trace.now }
     requires world { replay.now.world ≡ whole (sequential_world trace.now) }
     requires replies { replay.now.replies ≡ sequential_replies trace.now }
