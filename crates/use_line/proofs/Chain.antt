@@ -1,11 +1,13 @@
 -- The reads of a number, by their links.
 use Rattle.std.specs.Prelude.{◌≡◌, ℕ, zero, suc, ◌<◌, ◌≤◌, Bool, true, false, ◌==◌, ◌++◌, ◌∷◌, List, [], length, Option, Some, None, IfSome, refl, if◌then◌else◌}
-use Rattle.std.proofs.Common.{sym, ap, ◌∙◌, arith, inl, inr}
-use Rattle.std.proofs.lemmas.Bool.{cases_eq}
+use Rattle.std.proofs.Common.{sym, ap, ◌∙◌, subst, arith, inl, inr}
+use Rattle.std.proofs.lemmas.Grind.{common_steps}
+use Rattle.std.proofs.lemmas.Bool.{cases_Bool, cases_eq}
 use Rattle.std.proofs.lemmas.Bool.Decides.{nat_tests}
 use Rattle.use_line.specs.History.{is_number}
-use Rattle.use_line.specs.Steps.{AllBelow, step_at}
-use Rattle.use_line.specs.Known.{is_none, read_at, readers_at, readers_below}
+use Rattle.use_line.specs.Spans.{within}
+use Rattle.use_line.specs.Steps.{AllBelow, HasSet, IsCopy, step_at}
+use Rattle.use_line.specs.Known.{HasRead, IsLinked, is_among, is_none, known_at, read_at, readers_at, readers_below, written_at}
 use Rattle.use_line.specs.declared.read.Read.{Read}
 
 -- no read, no readers
@@ -49,3 +51,90 @@ below_pushed reads r zero b o le = refl
 below_pushed reads r (suc n) b o le =
     let same : read_at (reads ++ r ∷ []) n ≡ read_at reads n = read_before reads r n (omega (arith, le)) in
     rw (same, below_pushed reads r n b (step_at (read_at reads n).older b) (omega (arith, le)), below_pushed reads r n b o (omega (arith, le))) refl
+
+-- what an older read is the latest of, and what the new one is
+module _ (reads : List Read) (r : Read) where
+  abbrev more : List Read
+  more = reads ++ r ∷ []
+
+  longer : length more ≡ suc (length reads)
+  longer = grind (arith, common_steps)
+
+  pub readers_old : (b : ℕ) (o : Option ℕ) → IfSome o (λ i. i < length reads) → readers_at more o b ≡ readers_at reads o b
+  readers_old b o under = below_more more (length reads) (length more) b o under (omega (arith, longer)) ∙ below_pushed reads r (length reads) b o (omega arith)
+
+  pub readers_new : (b : ℕ) → AllBelow r.older (length reads) → readers_at more (Some (length reads)) b ≡ r.place ∷ readers_at reads (step_at r.older b) b
+  readers_new b linked =
+      let there : AllBelow (read_at more (length reads)).older (length reads) = subst (λ (x : Read). AllBelow x.older (length reads)) (sym (read_new reads r)) linked in
+      below_read more b (length reads) (omega (arith, longer)) there
+      ∙ (λ i. (read_new reads r i).place ∷ readers_at more (step_at (read_new reads r i).older b) b)
+      ∙ ap (λ js. r.place ∷ js) (readers_old b (step_at r.older b) (linked b))
+
+-- a range that one more place has read
+module _ (w readers now : List (ℕ × Option ℕ)) (reads : List Read) (r : Read) (low high : ℕ) (linked : IsLinked (record { writers = w; readers = readers; reads = reads })) (copy : IsCopy readers r.older low high) where
+  pub copy_below : AllBelow r.older (length reads)
+  copy_below b = elim (cases_Bool (within low high b)) [
+    | inl t ↦ let same : step_at r.older b ≡ step_at readers b = rw t at (copy b) in subst (λ (o : Option ℕ). IfSome o (λ i. i < length reads)) (sym same) (linked.latest b)
+    | inr f ↦ let none : step_at r.older b ≡ None = rw f at (copy b) in subst (λ (o : Option ℕ). IfSome o (λ i. i < length reads)) (sym none) tt
+  ]
+
+  -- the reads are linked still, wherever the latest ones are among them
+  pub linked_more : (latest : AllBelow now (length (reads ++ r ∷ []))) → IsLinked (record { writers = w; readers = now; reads = reads ++ r ∷ [] })
+  linked_more latest = record {
+    latest = latest;
+    older = λ k less. elim (cases_eq k (length reads)) [
+      | inl same ↦ rw (same, read_new reads r) copy_below
+      | inr other ↦
+          let under : k < length reads = omega (arith, less, other, longer reads r) in
+          rw (read_before reads r k under) (linked.older k under)
+    ];
+  }
+
+  module _ (set : HasSet readers now low high (Some (length reads))) where
+    pub latest_more : AllBelow now (length (reads ++ r ∷ []))
+    latest_more b = elim (cases_Bool (within low high b)) [
+      | inl t ↦ let new : step_at now b ≡ Some (length reads) = rw t at (set b) in subst (λ (o : Option ℕ). IfSome o (λ i. i < length (reads ++ r ∷ []))) (sym new) (omega (arith, longer reads r))
+      | inr f ↦
+          let old : step_at now b ≡ step_at readers b = rw f at (set b) in
+          subst (λ (o : Option ℕ). IfSome o (λ i. i < length (reads ++ r ∷ []))) (sym old) (wider (step_at readers b) (linked.latest b))
+    ]
+      where
+        wider : (o : Option ℕ) → IfSome o (λ i. i < length reads) → IfSome o (λ i. i < length (reads ++ r ∷ []))
+        wider None h = tt
+        wider (Some i) h = omega (arith, h, longer reads r)
+
+    pub read_known : (b : ℕ) → HasRead (step_at w b, readers_at reads (step_at readers b) b) (step_at w b, readers_at (reads ++ r ∷ []) (step_at now b) b) (within low high b) r.place
+    read_known b = elim (cases_Bool (within low high b)) [
+      | inl t ↦
+          let new : step_at now b ≡ Some (length reads) = rw t at (set b) in
+          let same : step_at r.older b ≡ step_at readers b = rw t at (copy b) in
+          let is = readers_new reads r b copy_below ∙ ap (λ (o : Option ℕ). r.place ∷ readers_at reads o b) same in
+          rw (t, new, is) (record { writer = refl; readers = λ j. grind arith; unread = grind arith })
+      | inr f ↦
+          let old : step_at now b ≡ step_at readers b = rw f at (set b) in
+          rw (f, old, readers_old reads r b (step_at readers b) (linked.latest b)) (record { writer = refl; readers = λ j. grind arith; unread = grind arith })
+    ]
+
+-- a range that a place has written
+module _ (w w₁ readers now : List (ℕ × Option ℕ)) (reads : List Read) (low high : ℕ) (clear : HasSet readers now low high None) where
+  pub linked_written : IsLinked (record { writers = w; readers = readers; reads = reads }) → IsLinked (record { writers = w₁; readers = now; reads = reads })
+  linked_written linked = record {
+    latest = λ b. elim (cases_Bool (within low high b)) [
+      | inl t ↦ let none : step_at now b ≡ None = rw t at (clear b) in subst (λ (o : Option ℕ). IfSome o (λ i. i < length reads)) (sym none) tt
+      | inr f ↦ let old : step_at now b ≡ step_at readers b = rw f at (clear b) in subst (λ (o : Option ℕ). IfSome o (λ i. i < length reads)) (sym old) (linked.latest b)
+    ];
+    older = linked.older;
+  }
+
+  pub written_known : (place : ℕ) → HasSet w w₁ low high (Some place) → (b : ℕ)
+      → known_at (record { writers = w₁; readers = now; reads = reads }) b ≡ (if within low high b then written_at place else known_at (record { writers = w; readers = readers; reads = reads }) b)
+  written_known place wrote b = elim (cases_Bool (within low high b)) [
+    | inl t ↦
+        let new : step_at w₁ b ≡ Some place = rw t at (wrote b) in
+        let none : step_at now b ≡ None = rw t at (clear b) in
+        rw (t, new, none, below_none reads (length reads) b) refl
+    | inr f ↦
+        let old : step_at w₁ b ≡ step_at w b = rw f at (wrote b) in
+        let same : step_at now b ≡ step_at readers b = rw f at (clear b) in
+        rw (f, old, same) refl
+  ]

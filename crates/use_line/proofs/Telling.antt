@@ -18,10 +18,13 @@ use Rattle.use_line.proofs.Clips.{due_pushed}
 use Rattle.use_line.proofs.Entries.{all_from}
 
 -- no range begins or ends between two numbers
-abbrev pub AreOutside : ℕ → ℕ → List Span → Type 0
-AreOutside edge high spans = AllByRecursion (λ s. ((s.low ≤ edge) ⊎ (high ≤ s.low)) × ((s.high ≤ edge) ⊎ (high ≤ s.high))) spans
+abbrev pub IsOutside : ℕ → ℕ → Span → Type 0
+IsOutside edge high s = ((s.low ≤ edge) ⊎ (high ≤ s.low)) × ((s.high ≤ edge) ⊎ (high ≤ s.high))
 
-later : (a edge more high : ℕ) → edge ≤ more → (a ≤ edge) ⊎ (high ≤ a) → (a ≤ more) ⊎ (high ≤ a)
+abbrev pub AreOutside : ℕ → ℕ → List Span → Type 0
+AreOutside edge high spans = AllByRecursion (IsOutside edge high) spans
+
+pub later : (a edge more high : ℕ) → edge ≤ more → (a ≤ edge) ⊎ (high ≤ a) → (a ≤ more) ⊎ (high ≤ a)
 later a edge more high up h = elim h [ inl le ↦ inl (omega (arith, le, up)) | inr ge ↦ inr ge ]
 
 pub outside_up : (edge more high : ℕ) (spans : List Span) → edge ≤ more → AreOutside edge high spans → AreOutside more high spans

@@ -61,6 +61,7 @@ pub(crate) fn add_older(
     high: u128,
     queue: &mut BinaryHeap<Clip>,
 ) -> Result<(), AllocError>
+    requires { low < high }
     ensures filled { OnOk result (AreFilled (heap_items queue.old) → AreFilled (heap_items queue.new)) }
     ensures below { OnOk result ((n : ℕ) → AllBelow older.now n → AreBelow n (heap_items queue.old)
         → AreBelow n (heap_items queue.new)) }

@@ -10,6 +10,7 @@ use Rattle.use_line.proofs.clip.add_older.Given as goal
 -- what stands there from here on is added
 abbrev pub invariant-loop-end : goal.invariant-loop-end
 invariant-loop-end l = record {
+  from : l.low ≤ l.end;
   to : l.end ≤ l.high;
   filled : AreFilled (heap_items l.fn.queue) → AreFilled (heap_items l.queue);
   below : (n : ℕ) → AllBelow l.older n → AreBelow n (heap_items l.fn.queue) → AreBelow n (heap_items l.queue);

@@ -1,4 +1,6 @@
+use Rattle.std.proofs.lemmas.Result.{on_ok_weaker}
+use Rattle.use_line.proofs.Chain.{written_known}
 use Rattle.use_line.proofs.line.Line.write.Goals as goal
 
 pub returns : goal.returns
-returns c = ?
+returns c = rw (← c.self.view_is) (on_ok_weaker c.set-2.result (λ clear. written_known c.self.inside.writers c.set.new.self c.self.inside.readers c.set-2.new.self c.self.inside.reads.items c.args.low c.args.high clear c.args.place c.in_ok-set.ensures.set) c.set-2.ensures.set)
