@@ -1,5 +1,5 @@
 -- The reads of a number, by their links.
-use Rattle.std.specs.Prelude.{◌≡◌, ℕ, zero, suc, ◌<◌, ◌≤◌, Bool, true, false, ◌==◌, ◌++◌, ◌∷◌, List, [], length, Option, Some, None, IfSome, refl, if◌then◌else◌}
+use Rattle.std.specs.Prelude.{◌≡◌, ℕ, zero, suc, ◌<◌, ◌≤◌, Bool, true, false, ◌==◌, ◌++◌, ◌∷◌, List, [], length, Option, Some, None, IfSome, refl, if◌then◌else◌, slice_index_or}
 use Rattle.std.proofs.Common.{sym, ap, ◌∙◌, subst, arith, inl, inr}
 use Rattle.std.proofs.lemmas.Grind.{common_steps}
 use Rattle.std.proofs.lemmas.Bool.{cases_Bool, cases_eq}
@@ -35,6 +35,19 @@ below_read reads b i less linked =
     let last : readers_below reads (suc i) (Some i) b ≡ (read_at reads i).place ∷ readers_below reads i (step_at (read_at reads i).older b) b = rw here refl in
     below_more reads (suc i) (length reads) b (Some i) (omega arith) (omega (arith, less)) ∙ last
     ∙ ap (λ js. (read_at reads i).place ∷ js) (sym (below_more reads i (length reads) b (step_at (read_at reads i).older b) (linked b) (omega (arith, less))))
+
+-- an index of a list of reads
+pub index_is : (reads : List Read) (i : ℕ) (r : Read) → i < length reads → r ≡ slice_index_or reads i r → read_at reads i ≡ r
+index_is [] i r less is = absurd (omega (arith, less))
+index_is (x ∷ reads) zero r less is = sym is
+index_is (x ∷ reads) (suc i) r less is = index_is reads i r (omega (arith, less)) is
+
+pub below_wider : (es : List (ℕ × Option ℕ)) (n more : ℕ) → n ≤ more → AllBelow es n → AllBelow es more
+below_wider es n more le under b = by (step_at es b) (under b)
+  where
+    by : (o : Option ℕ) → IfSome o (λ i. i < n) → IfSome o (λ i. i < more)
+    by None h = tt
+    by (Some i) h = omega (arith, h, le)
 
 -- one read more
 pub read_before : (reads : List Read) (r : Read) (n : ℕ) → n < length reads → read_at (reads ++ r ∷ []) n ≡ read_at reads n

@@ -1,5 +1,6 @@
 -- Clips that are taken out of a heap, and put into it.
 use Rattle.std.specs.Prelude.{◌≡◌, ℕ, suc, ◌+◌, ◌*◌, ◌-◌, ◌<◌, ◌≤◌, Bool, true, false, ◌&&◌, ◌||◌, ◌⊎◌, ◌==◌, List, [], ◌∷◌, length, Option, Some, None, IfSome, refl, slice_index_or}
+use Rattle.std.specs.Option.{IfNone}
 use Rattle.std.specs.List.{All, list_any}
 use Rattle.std.specs.List.Sorted.{IsPermutation}
 use Rattle.std.proofs.Common.{sym, ap, ◌∙◌, subst, arith, inl, inr}
@@ -41,6 +42,11 @@ pub popped_is : (q q₁ : List Clip) (x y : Clip) → x ≡ slice_index_or q 0 x
 popped_is [] q₁ x y a b p = let e = list_any-IsPermutation (λ d. true) [] (x ∷ q₁) p in absurd (let no₁ : false ≡ true = e in cc)
 popped_is (z ∷ q) q₁ x y a b p = a ∙ sym b
 
+pub next_popped : (q rest : List Clip) (r : Option Clip) (c : Clip) (low len : ℕ) → 0 < len → IfNone r (len ≡ 0) → IfSome r (λ x. x ≡ slice_index_or q 0 x) → IfSome r (λ x. IsPermutation q (x ∷ rest)) → IsNext q c low
+    → IsPermutation q (record { read = c.read; low = low; high = c.low } ∷ rest)
+next_popped q rest None c low len some none top perm is = absurd (omega (arith, some, none))
+next_popped q rest (Some x) c low len some none top perm is = subst (λ (d : Clip). IsPermutation q (d ∷ rest)) (popped_is q rest x (record { read = c.read; low = low; high = c.low }) top is perm) perm
+
 -- a clip with one that touches it from below
 module _ (c d : Clip) (same : d.read ≡ c.read) (touch : d.high ≡ c.low) (mine : c.low < c.high) (other : d.low < d.high) where
   abbrev both : Clip
@@ -53,6 +59,12 @@ module _ (c d : Clip) (same : d.read ≡ c.read) (touch : d.high ≡ c.low) (min
     where
       split : (x y z : Bool) → ((x || y) && z) ≡ ((x && z) || (y && z))
       split x y z = grind arith
+
+  pub due_joined : (reads : List Read) (b j : ℕ) (old : Bool) (q rest : List Clip) → old ≡ (has_reader reads c b j || is_due reads q b j) → IsPermutation q (d ∷ rest) → old ≡ (has_reader reads both b j || is_due reads rest b j)
+  due_joined reads b j old q rest before p = before ∙ glue _ _ _ _ _ (due_popped reads d q rest b j p) (due_both reads b j)
+    where
+      glue : (x q y r z : Bool) → q ≡ (y || r) → z ≡ (x || y) → (x || q) ≡ (z || r)
+      glue x q y r z e f = grind arith
 
   pub weight_both : weight_of both ≡ weight_of c + weight_of d
   weight_both =
@@ -112,6 +124,10 @@ module _ (older : List (ℕ × Option ℕ)) (low end high : ℕ) (less : low < e
     where
       wider : (x y n m w : ℕ) → m ≤ w + y * n → m ≤ w + (x + y) * n
       wider x y n m w h = grind arith
+
+-- less is left once a read is told
+pub lighter : (x r mid new old : ℕ) → 0 < x → old ≡ x * suc r + mid → new ≤ mid + x * r → new < old
+lighter x r mid new old some is le = omega (arith, some, is, le)
 
 -- a read is told, and what stands below it is to be told
 pub due_next : (reads : List Read) (c : Clip) (place : ℕ) (older : List (ℕ × Option ℕ)) (told told₁ : List ℕ) (q mid q₁ : List Clip) → c.low < c.high

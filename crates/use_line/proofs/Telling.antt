@@ -1,10 +1,11 @@
 -- Whom a range waits for, part by part.
-use Rattle.std.specs.Prelude.{◌≡◌, ℕ, zero, suc, ◌<◌, ◌≤◌, Bool, true, false, not, ◌&&◌, ◌||◌, ◌⊎◌, ◌==◌, List, [], ◌∷◌, length, Option, Some, None, IfSome, if◌then◌else◌, refl}
+use Rattle.std.specs.Prelude.{◌≡◌, ℕ, zero, suc, ◌+◌, ◌<◌, ◌≤◌, Bool, true, false, not, ◌&&◌, ◌||◌, ◌⊎◌, ◌==◌, List, [], ◌∷◌, length, Option, Some, None, IfSome, if◌then◌else◌, refl}
 use Rattle.std.specs.List.{AllByRecursion}
 use Rattle.std.specs.List.Sorted.{IsPermutation}
 use Rattle.std.proofs.Common.{take, get_or, sym, ap, ◌∙◌, subst, arith, inl, inr}
 use Rattle.std.proofs.lemmas.Bool.{and_from, and_parts, cases_Bool, or_cases, or_left, or_right}
 use Rattle.std.proofs.lemmas.Bool.Decides.{nat_tests}
+use Rattle.std.proofs.lemmas.List.Folds.{list_any_more}
 use Rattle.use_line.specs.History.{is_number}
 use Rattle.use_line.specs.Spans.{within, covers, used_by, written_by}
 use Rattle.use_line.specs.Known.{HasRead, IsLinked, IsPart, IsToldOf, Keeps, Known, Uses, is_among, is_none, known_at, read_by, readers_at, told_of, written_at}
@@ -127,11 +128,11 @@ module _ (u : Uses) (own : List Span) (low high : ℕ) (less : low < high) (part
   due_unread written told told₁ q none more = due_told written told told₁ q (λ b j t. told_unread written (written_by own b) b j none t) more
 
 -- of two ranges that touch
-pub told_joined : (u : Uses) (own : List Span) (written : Bool) (low to high : ℕ) (told mid told₁ : List ℕ) (q middle q₁ : List Clip) → low < to → to ≤ high
+pub told_joined : (u : Uses) (own : List Span) (written : Bool) (low to high : ℕ) (told mid told₁ : List ℕ) (middle q₁ : List Clip) → low < to → to ≤ high
     → ((j : ℕ) → (Due u.reads mid middle j → (is_among told j ≡ true) ⊎ IsToldOf u own written to high j) × ((is_among told j ≡ true) ⊎ IsToldOf u own written to high j → Due u.reads mid middle j))
     → AddsDue u own written low to mid middle told₁ q₁
     → (j : ℕ) → (Due u.reads told₁ q₁ j → (is_among told j ≡ true) ⊎ IsToldOf u own written low high j) × ((is_among told j ≡ true) ⊎ IsToldOf u own written low high j → Due u.reads told₁ q₁ j)
-told_joined u own written low to high told mid told₁ q middle q₁ less under before more j = (
+told_joined u own written low to high told mid told₁ middle q₁ less under before more j = (
   (λ d. elim ((more j).0 d) [
     | inl m ↦ elim ((before j).0 m) [
       | inl t ↦ inl t
@@ -150,6 +151,29 @@ told_joined u own written low to high told mid told₁ q middle q₁ less under 
         ]
   ]),
 )
+
+-- one range more that a place has read
+pub read_more : (spans : List Span) (i : ℕ) (d : Span) (place : ℕ) (old mid new : ℕ → Known) → i < length spans
+    → ((b : ℕ) → HasRead (old b) (mid b) (read_by (take i spans) b) place)
+    → ((b : ℕ) → HasRead (mid b) (new b) (not (get_or spans i d).written && covers (get_or spans i d) b) place)
+    → (b : ℕ) → HasRead (old b) (new b) (read_by (take (i + 1) spans) b) place
+read_more spans i d place old mid new less before more b =
+    let f = before b in
+    let s = more b in
+    rw (list_any_more (λ (x : Span). not x.written && covers x b) spans i d less) (record {
+      writer = s.writer ∙ f.writer;
+      readers = λ j. s.readers j ∙ (λ k. f.readers j k || ((not (get_or spans i d).written && covers (get_or spans i d) b) && place == j)) ∙ spread (is_among (old b).1 j) (read_by (take i spans) b) (not (get_or spans i d).written && covers (get_or spans i d) b) (place == j);
+      unread = s.unread ∙ (λ k. f.unread k && not (not (get_or spans i d).written && covers (get_or spans i d) b)) ∙ both (is_none (old b).1) (read_by (take i spans) b) (not (get_or spans i d).written && covers (get_or spans i d) b);
+    })
+  where
+    spread : (o x y p : Bool) → ((o || (x && p)) || (y && p)) ≡ (o || ((x || y) && p))
+    spread o x y p = grind arith
+
+    both : (o x y : Bool) → ((o && not x) && not y) ≡ (o && not (x || y))
+    both o x y = grind arith
+
+pub read_same : (known : Known) (place : ℕ) → HasRead known known false place
+read_same known place = record { writer = refl; readers = λ j. grind arith; unread = grind arith }
 
 -- what is used is read or written
 used_is : (spans : List Span) (b : ℕ) → used_by spans b ≡ (read_by spans b || written_by spans b)
