@@ -1,13 +1,12 @@
 -- The reads of a number, by their links.
-use Rattle.std.specs.Prelude.{◌≡◌, ℕ, zero, suc, ◌<◌, ◌≤◌, Bool, true, false, ◌==◌, ◌++◌, ◌∷◌, List, [], length, Option, Some, None, IfSome, refl, if◌then◌else◌, slice_index_or}
+use Rattle.std.specs.Prelude.{◌≡◌, ℕ, zero, suc, ◌<◌, ◌≤◌, true, false, ◌==◌, ◌++◌, ◌∷◌, List, [], length, Option, Some, None, IfSome, refl, if◌then◌else◌, slice_index_or}
 use Rattle.std.proofs.Common.{sym, ap, ◌∙◌, subst, arith, inl, inr}
 use Rattle.std.proofs.lemmas.Grind.{common_steps}
 use Rattle.std.proofs.lemmas.Bool.{cases_Bool, cases_eq}
 use Rattle.std.proofs.lemmas.Bool.Decides.{nat_tests}
-use Rattle.use_line.specs.History.{is_number}
 use Rattle.use_line.specs.Spans.{within}
 use Rattle.use_line.specs.Steps.{AllBelow, HasSet, IsCopy, step_at}
-use Rattle.use_line.specs.Known.{HasRead, IsLinked, is_among, is_none, known_at, read_at, readers_at, readers_below, written_at}
+use Rattle.use_line.specs.Known.{HasRead, IsLinked, known_at, read_at, readers_at, readers_below, written_at}
 use Rattle.use_line.specs.declared.read.Read.{Read}
 
 -- no read, no readers
@@ -91,31 +90,7 @@ module _ (w readers now : List (ℕ × Option ℕ)) (reads : List Read) (r : Rea
     | inr f ↦ let none : step_at r.older b ≡ None = rw f at (copy b) in subst (λ (o : Option ℕ). IfSome o (λ i. i < length reads)) (sym none) tt
   ]
 
-  -- the reads are linked still, wherever the latest ones are among them
-  pub linked_more : (latest : AllBelow now (length (reads ++ r ∷ []))) → IsLinked (record { writers = w; readers = now; reads = reads ++ r ∷ [] })
-  linked_more latest = record {
-    latest = latest;
-    older = λ k less. elim (cases_eq k (length reads)) [
-      | inl same ↦ rw (same, read_new reads r) copy_below
-      | inr other ↦
-          let under : k < length reads = omega (arith, less, other, longer reads r) in
-          rw (read_before reads r k under) (linked.older k under)
-    ];
-  }
-
   module _ (set : HasSet readers now low high (Some (length reads))) where
-    pub latest_more : AllBelow now (length (reads ++ r ∷ []))
-    latest_more b = elim (cases_Bool (within low high b)) [
-      | inl t ↦ let new : step_at now b ≡ Some (length reads) = rw t at (set b) in subst (λ (o : Option ℕ). IfSome o (λ i. i < length (reads ++ r ∷ []))) (sym new) (omega (arith, longer reads r))
-      | inr f ↦
-          let old : step_at now b ≡ step_at readers b = rw f at (set b) in
-          subst (λ (o : Option ℕ). IfSome o (λ i. i < length (reads ++ r ∷ []))) (sym old) (wider (step_at readers b) (linked.latest b))
-    ]
-      where
-        wider : (o : Option ℕ) → IfSome o (λ i. i < length reads) → IfSome o (λ i. i < length (reads ++ r ∷ []))
-        wider None h = tt
-        wider (Some i) h = omega (arith, h, longer reads r)
-
     pub read_known : (b : ℕ) → HasRead (step_at w b, readers_at reads (step_at readers b) b) (step_at w b, readers_at (reads ++ r ∷ []) (step_at now b) b) (within low high b) r.place
     read_known b = elim (cases_Bool (within low high b)) [
       | inl t ↦
@@ -130,15 +105,6 @@ module _ (w readers now : List (ℕ × Option ℕ)) (reads : List Read) (r : Rea
 
 -- a range that a place has written
 module _ (w w₁ readers now : List (ℕ × Option ℕ)) (reads : List Read) (low high : ℕ) (clear : HasSet readers now low high None) where
-  pub linked_written : IsLinked (record { writers = w; readers = readers; reads = reads }) → IsLinked (record { writers = w₁; readers = now; reads = reads })
-  linked_written linked = record {
-    latest = λ b. elim (cases_Bool (within low high b)) [
-      | inl t ↦ let none : step_at now b ≡ None = rw t at (clear b) in subst (λ (o : Option ℕ). IfSome o (λ i. i < length reads)) (sym none) tt
-      | inr f ↦ let old : step_at now b ≡ step_at readers b = rw f at (clear b) in subst (λ (o : Option ℕ). IfSome o (λ i. i < length reads)) (sym old) (linked.latest b)
-    ];
-    older = linked.older;
-  }
-
   pub written_known : (place : ℕ) → HasSet w w₁ low high (Some place) → (b : ℕ)
       → known_at (record { writers = w₁; readers = now; reads = reads }) b ≡ (if within low high b then written_at place else known_at (record { writers = w; readers = readers; reads = reads }) b)
   written_known place wrote b = elim (cases_Bool (within low high b)) [

@@ -1,7 +1,7 @@
 -- Clips that are taken out of a heap, and put into it.
-use Rattle.std.specs.Prelude.{◌≡◌, ℕ, suc, ◌+◌, ◌*◌, ◌-◌, ◌<◌, ◌≤◌, Bool, true, false, ◌&&◌, ◌||◌, ◌⊎◌, ◌==◌, List, [], ◌∷◌, length, Option, Some, None, IfSome, refl, slice_index_or}
+use Rattle.std.specs.Prelude.{◌≡◌, ℕ, suc, ◌+◌, ◌*◌, ◌-◌, ◌<◌, ◌≤◌, Bool, true, false, ◌&&◌, ◌||◌, ◌==◌, List, [], ◌∷◌, length, Option, Some, None, IfSome, refl, slice_index_or}
 use Rattle.std.specs.Option.{IfNone}
-use Rattle.std.specs.List.{All, list_any}
+use Rattle.std.specs.List.{All}
 use Rattle.std.specs.List.Sorted.{IsPermutation}
 use Rattle.std.proofs.Common.{sym, ap, ◌∙◌, subst, arith, inl, inr}
 use Rattle.std.proofs.lemmas.Bool.{and_from, and_parts, cases_Bool, or_cases, or_left, or_right}
@@ -9,9 +9,9 @@ use Rattle.std.proofs.lemmas.Bool.Decides.{nat_tests}
 use Rattle.std.proofs.lemmas.List.Elements.{All-cons, All-tail}
 use Rattle.std.proofs.lemmas.List.Sorted.{All-permutation, list_any-IsPermutation, sum_by_popped, sum_by_pushed}
 use Rattle.use_line.specs.Spans.{within}
-use Rattle.use_line.specs.Steps.{AllBelow, IsLevel, step_at}
+use Rattle.use_line.specs.Steps.{IsLevel, step_at}
 use Rattle.use_line.specs.Known.{is_among, readers_at}
-use Rattle.use_line.specs.Queue.{AreBelow, AreFilled, Due, IsNext, has_reader, is_due, weight, weight_of}
+use Rattle.use_line.specs.Queue.{Due, IsNext, has_reader, is_due, weight, weight_of}
 use Rattle.use_line.specs.declared.clip.Clip.{Clip}
 use Rattle.use_line.specs.declared.read.Read.{Read}
 use Rattle.use_line.proofs.Chain.{below_none}

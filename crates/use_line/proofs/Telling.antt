@@ -1,5 +1,5 @@
 -- Whom a range waits for, part by part.
-use Rattle.std.specs.Prelude.{◌≡◌, ℕ, zero, suc, ◌+◌, ◌<◌, ◌≤◌, Bool, true, false, not, ◌&&◌, ◌||◌, ◌⊎◌, ◌==◌, List, [], ◌∷◌, length, Option, Some, None, IfSome, if◌then◌else◌, refl}
+use Rattle.std.specs.Prelude.{◌≡◌, ℕ, zero, suc, ◌+◌, ◌<◌, ◌≤◌, Bool, true, false, not, ◌&&◌, ◌||◌, ◌⊎◌, ◌==◌, List, [], ◌∷◌, length, Some, None, IfSome, if◌then◌else◌, refl}
 use Rattle.std.specs.List.{AllByRecursion}
 use Rattle.std.specs.List.Sorted.{IsPermutation}
 use Rattle.std.proofs.Common.{take, get_or, sym, ap, ◌∙◌, subst, arith, inl, inr}
@@ -9,11 +9,10 @@ use Rattle.std.proofs.lemmas.List.Folds.{list_any_more}
 use Rattle.use_line.specs.History.{is_number}
 use Rattle.use_line.specs.Spans.{within, covers, used_by, written_by}
 use Rattle.use_line.specs.Known.{HasRead, IsLinked, IsPart, IsToldOf, Keeps, Known, Uses, is_among, is_none, known_at, read_by, readers_at, told_of, written_at}
-use Rattle.use_line.specs.Queue.{AddsDue, Due, has_reader, is_due}
+use Rattle.use_line.specs.Queue.{AddsDue, Due, is_due}
 use Rattle.use_line.specs.Steps.{step_at}
 use Rattle.use_line.specs.declared.clip.Clip.{Clip}
 use Rattle.use_line.specs.declared.line.Span.{Span}
-use Rattle.use_line.specs.declared.read.Read.{Read}
 use Rattle.use_line.proofs.Chain.{below_none, below_read}
 use Rattle.use_line.proofs.Clips.{due_pushed}
 use Rattle.use_line.proofs.Entries.{all_from}

@@ -1,5 +1,5 @@
 -- A view of code: a value for each number, or none, by the numbers at which another one begins.
-use Rattle.std.specs.Prelude.{◌≡◌, ℕ, ◌<◌, Bool, true, false, ◌==◌, leb, List, [], ◌∷◌, Option, Some, None, IfSome, if◌then◌else◌}
+use Rattle.std.specs.Prelude.{◌≡◌, ℕ, ◌<◌, Bool, true, false, ◌==◌, leb, List, [], ◌∷◌, Option, None, IfSome, if◌then◌else◌}
 use Rattle.std.specs.List.{AllByRecursion, list_any}
 use Rattle.use_line.specs.Spans.{within}
 

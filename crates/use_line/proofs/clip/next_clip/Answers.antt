@@ -1,4 +1,4 @@
-use Rattle.std.proofs.Common.{arith, ◌<◌, ℕ, ◌∙◌, refl}
+use Rattle.std.proofs.Common.{arith, ◌<◌, ℕ, refl}
 use Rattle.std.specs.BinaryHeap.{heap_items, heap_len}
 use Rattle.use_line.specs.declared.clip.Clip.{Clip}
 use Rattle.use_line.proofs.Clips.{all_popped, due_joined, due_popped, next_popped, weight_both, weight_popped}

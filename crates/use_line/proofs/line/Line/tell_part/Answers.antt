@@ -1,4 +1,4 @@
-use Rattle.std.proofs.Common.{ap, subst, sym, ◌∙◌, ◌≡◌, ◌<◌, ◌||◌, ℕ, length, true, false, Bool}
+use Rattle.std.proofs.Common.{ap, subst, sym, ◌∙◌, ◌≡◌, ◌<◌, ◌||◌, ℕ, length, Bool}
 use Rattle.std.specs.Prelude.{IfSome, Option}
 use Rattle.std.specs.BinaryHeap.{heap_items}
 use Rattle.std.proofs.lemmas.Result.{on_ok_weaker}

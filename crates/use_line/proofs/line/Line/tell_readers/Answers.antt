@@ -1,4 +1,4 @@
-use Rattle.std.proofs.Common.{arith, sym, subst, ◌≡◌, ◌<◌, ◌-◌, ◌∷◌, ℕ, length}
+use Rattle.std.proofs.Common.{arith, sym, subst, ◌≡◌, ◌<◌, ◌-◌, ◌∷◌, length}
 use Rattle.std.specs.Prelude.{Some}
 use Rattle.std.specs.BinaryHeap.{heap_items}
 use Rattle.use_line.specs.Known.{IsLinked, Uses, read_at, readers_at}
