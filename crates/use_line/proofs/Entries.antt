@@ -1,16 +1,16 @@
 -- Values of numbers, by keys that rise: one key more, and one less.
-use Rattle.std.specs.Prelude.{◌≡◌, ◌≢◌, ℕ, ◌<◌, ◌≤◌, Bool, true, false, not, ◌&&◌, ◌||◌, ◌==◌, leb, ltb, List, [], ◌∷◌, ◌++◌, filter, cond, length, refl, is_some, if◌then◌else◌, Option, Some, None}
+use Rattle.std.specs.Prelude.{◌≡◌, ◌≢◌, ℕ, ◌<◌, ◌≤◌, Bool, true, false, not, ◌&&◌, ◌||◌, ◌==◌, leb, ltb, List, [], ◌∷◌, ◌++◌, filter, cond, length, refl, is_some, if◌then◌else◌, Option}
 use Rattle.std.specs.List.{AllByRecursion}
-use Rattle.std.specs.Map.{lookup, remove_entry, set_value}
+use Rattle.std.specs.Map.{lookup, remove_entry}
 use Rattle.std.specs.BTreeMap.{insert_entry, is_at}
 use Rattle.std.specs.Cmp.{nat_cmp_is}
 use Rattle.std.specs.declared.cmp.Ordering.TheVariants.{Less, Equal, Greater}
 use Rattle.std.specs.Ordering.{nat_cmp, is_eq, is_lt, is_le}
-use Rattle.std.proofs.Common.{sym, ap, ◌∙◌, subst, arith, inl, inr}
+use Rattle.std.proofs.Common.{sym, ap, ◌∙◌, arith, inl, inr}
 use Rattle.std.proofs.lemmas.Bool.{cases_Bool, cases_order, cases_eq, cases_lt, cond-true, cond-false}
 use Rattle.std.proofs.lemmas.Bool.Decides.{nat_tests}
 use Rattle.use_line.specs.Spans.{within}
-use Rattle.use_line.specs.Steps.{HasSet, IsCopy, IsLevel, NoneInside, Rises, has_key, step_at, step_from}
+use Rattle.use_line.specs.Steps.{NoneInside, Rises, has_key, step_from}
 
 abbrev Entries : Type 0
 Entries = List (ℕ × Option ℕ)
@@ -19,11 +19,7 @@ pub all_from : {X : Type 0} {P Q : X → Type 0} → ((x : X) → P x → Q x) �
 all_from f [] h = tt
 all_from f (x ∷ xs) h = (f x h.0, all_from f xs h.1)
 
--- a key that is below all
-pub key_below : (es : Entries) (k : ℕ) → AllByRecursion (λ q. k < q.0) es → has_key es k ≡ false
-key_below [] k h = refl
-key_below (e ∷ es) k h = grind (arith, nat_tests, h.0, key_below es k h.1)
-
+-- a key is above what is below all
 pub keys_above : (es : Entries) (k j : ℕ) → AllByRecursion (λ q. k < q.0) es → has_key es j ≡ true → k < j
 keys_above [] k j h t = absurd cc
 keys_above (e ∷ es) k j h t = elim (cases_Bool (e.0 == j)) [
@@ -242,23 +238,6 @@ module _ (k to : ℕ) (less : k < to) where
           cond-false (leb k b) (step_from w rest b) d f ∙ under f ∙ sym (cond-false (within k to b) w (step_from d old b) outside)
     ]
 
-    -- something else at the key
-    pub set_at : (d : Option ℕ) (es : Entries) (b : ℕ) → Rises es → has_key es k ≡ true → has_key es to ≡ true → NoneInside k to es → Changed d es (set_value (is_at (nat_cmp k)) es w) b
-    set_at d [] b r here end none = absurd cc
-    set_at d (e ∷ es) b r here end none = elim (cases_eq k e.0) [
-      | inl same ↦
-          let there : has_key es to ≡ true = grind (arith, nat_tests) in
-          let above : AllByRecursion (λ q. k < q.0) es = rw same r.0 in
-          let head = at_head d e.1 es (e ∷ es) b r.1 above (none_inside_rest e es none) there
-          (λ t. let u : leb e.0 b ≡ true = rw (← same) t in rw u refl) (λ f. let u : leb e.0 b ≡ false = rw (← same) f in rw u refl) in
-          rw (cmp_same k e.0 same) (subst (λ x. Changed d (e ∷ es) ((x, w) ∷ es) b) same head)
-      | inr other ↦
-          let mine : has_key es k ≡ true = grind (arith, nat_tests) in
-          let under : e.0 < k = keys_above es e.0 k r.0 mine in
-          let there : has_key es to ≡ true = grind (arith, nat_tests) in
-          rw (cmp_more k e.0 under) (past_head d e es _ b under (set_at e.1 es b r.1 mine there (none_inside_rest e es none)))
-    ]
-
     -- a key more
     pub put_at : (d : Option ℕ) (es : Entries) (b : ℕ) → Rises es → has_key es k ≡ false → has_key es to ≡ true → NoneInside k to es → Changed d es (insert_entry nat_cmp es k w) b
     put_at d [] b r here end none = absurd cc
@@ -296,17 +275,6 @@ module _ (k to : ℕ) (less : k < to) where
   ]
 
 -- which keys there are then
-pub keys_set : (k : ℕ) (w : Option ℕ) (es : Entries) (j : ℕ) → has_key (set_value (is_at (nat_cmp k)) es w) j ≡ has_key es j
-keys_set k w [] j = refl
-keys_set k w (e ∷ es) j = grind (arith, nat_tests, keys_set k w es j)
-
-pub rises_set : (k : ℕ) (w : Option ℕ) (es : Entries) → Rises es → Rises (set_value (is_at (nat_cmp k)) es w)
-rises_set k w [] r = tt
-rises_set k w (e ∷ es) r = elim (is_eq (nat_cmp k e.0)) as (λ b. Rises (cond b ((e.0, w) ∷ es) (e ∷ set_value (is_at (nat_cmp k)) es w))) [
-  | true ↦ r
-  | false ↦ (each_key (λ j. e.0 < j) (set_value (is_at (nat_cmp k)) es w) (λ j t. keys_above es e.0 j r.0 (sym (keys_set k w es j) ∙ t)), rises_set k w es r.1)
-]
-
 pub keys_cut : (k : ℕ) (es : Entries) (j : ℕ) → k ≢ j → has_key (remove_entry (is_at (nat_cmp k)) es) j ≡ has_key es j
 keys_cut k [] j other = refl
 keys_cut k (e ∷ es) j other = grind (arith, nat_tests, keys_cut k es j other)
@@ -326,25 +294,6 @@ fewer k (e ∷ es) h = elim (cases_eq k e.0) [
   | inr other ↦ let f : is_eq (nat_cmp k e.0) ≡ false = grind (arith, nat_tests) in let mine : has_key es k ≡ true = grind (arith, nat_tests) in rw f (let l = fewer k es mine in omega (arith, l))
 ]
 
--- what stands at a key is what is known up to the next one
-pub step_part : (k to : ℕ) (less : k < to) (d : Option ℕ) (es : Entries) (b : ℕ) (v : Option ℕ) → Rises es → NoneInside k to es → within k to b ≡ true → lookup (is_at (nat_cmp k)) es ≡ Some v → step_from d es b ≡ v
-step_part k to less d [] b v r none t e = absurd cc
-step_part k to less d (x ∷ es) b v r none t e = elim (cases_eq k x.0) [
-  | inl same ↦
-      let is : Some x.1 ≡ Some v = rw (cmp_same k x.0 same) at e in
-      let up : leb x.0 b ≡ true = grind (arith, nat_tests) in
-      let under : b < to = grind (arith, nat_tests) in
-      let val : x.1 ≡ v = cc in
-      rw up (step_before x.1 es b (keys_behind k to less es b (rw same r.0) (none_inside_rest k to less x es none) under) ∙ val)
-  | inr other ↦
-      let f : is_eq (nat_cmp k x.0) ≡ false = grind (arith, nat_tests) in
-      let later : lookup (is_at (nat_cmp k)) es ≡ Some v = rw f at e in
-      let mine : has_key es k ≡ true = sym (key_found es k) ∙ ap is_some later in
-      let under : x.0 < k = keys_above es x.0 k r.0 mine in
-      let up : leb x.0 b ≡ true = grind (arith, nat_tests) in
-      rw up (step_part k to less x.1 es b v r.1 (none_inside_rest k to less x es none) t later)
-]
-
 -- no key stands within a range
 pub level_from : (k to : ℕ) (less : k < to) (d : Option ℕ) (es : Entries) (b : ℕ) → Rises es → NoneInside k to es → within k to b ≡ true → step_from d es b ≡ step_from d es k
 level_from k to less d [] b r none t = refl
@@ -357,22 +306,3 @@ level_from k to less d (x ∷ es) b r none t = elim (cases_lt k x.0) [
       let there : leb x.0 b ≡ true = grind (arith, nat_tests) in
       rw (here, there) (level_from k to less x.1 es b r.1 (none_inside_rest k to less x es none) t)
 ]
-
--- one part more of a copy
-pub copied_more : (of copy more : Entries) (low start end high : ℕ) → low ≤ start → start < end → end ≤ high → IsLevel of start end → IsCopy of copy end high → HasSet copy more start end (step_at of start) → IsCopy of more start high
-copied_more of copy more low start end high from less under level copies set b = set b ∙ (elim (cases_Bool (within start end b)) [
-  | inl t ↦ let whole : within start high b ≡ true = grind (arith, nat_tests) in rw (t, whole) (sym (level b t))
-  | inr f ↦ rw f (copies b ∙ (elim (cases_Bool (within end high b)) [
-    | inl later ↦ let whole : within start high b ≡ true = grind (arith, nat_tests) in rw (later, whole) refl
-    | inr no_later ↦ let whole : within start high b ≡ false = grind (arith, nat_tests) in rw (no_later, whole) refl
-  ]))
-])
-
-pub copied_none : (of copy : Entries) (start end high : ℕ) → start < end → end ≤ high → IsLevel of start end → IsCopy of copy end high → step_at of start ≡ None → IsCopy of copy start high
-copied_none of copy start end high less under level copies none b = copies b ∙ (elim (cases_Bool (within end high b)) [
-  | inl later ↦ let whole : within start high b ≡ true = grind (arith, nat_tests) in rw (later, whole) refl
-  | inr no_later ↦ elim (cases_Bool (within start end b)) [
-    | inl t ↦ let whole : within start high b ≡ true = grind (arith, nat_tests) in rw (no_later, whole) (sym (level b t ∙ none))
-    | inr f ↦ let whole : within start high b ≡ false = grind (arith, nat_tests) in rw (no_later, whole) refl
-  ]
-])

@@ -1,4 +1,4 @@
-//! What is left to tell of reads, the latest read first.
+//! The reads that are left to tell, the latest one first.
 ghost use Rattle.std.specs.BinaryHeap.{heap_items, heap_len};
 ghost use Rattle.std.specs.Option.{IfNone};
 ghost use Rattle.std.specs.Prelude.{◌≡◌, ◌<◌, ◌≤◌, ◌+◌, ◌*◌, ◌-◌, ◌||◌, ◌&&◌, ℕ, List, [], IfSome, OnOk};
@@ -6,13 +6,13 @@ ghost use Rattle.use_line.specs.Known.{is_among, readers_at};
 ghost use Rattle.use_line.specs.Queue.{AreBelow, AreFilled, IsNext, has_reader, is_due, weight, weight_of};
 ghost use Rattle.use_line.specs.Spans.{within};
 ghost use Rattle.use_line.specs.Steps.{AllBelow, step_at};
-ghost use Rattle.use_line.specs.declared.read.Read as reads;
+ghost use Rattle.use_line.specs.declared.read.Read.{Read};
 
 use crate::steps::Steps;
 use std::alloc::AllocError;
 use std::collections::BinaryHeap;
 
-/// The numbers from `low` up to `high`, of which a read, by its number, is the latest to tell.
+/// A part of a read, by its number: what stands there is to be told, down to the oldest read.
 #[derive(Clone, Copy, PartialEq, Eq, PartialOrd, Ord)]
 pub(crate) struct Clip {
     pub(crate) read: u32,
@@ -20,14 +20,14 @@ pub(crate) struct Clip {
     pub(crate) high: u128,
 }
 
-/// Takes out the latest read, with those of its clips that touch at the end.
+/// Takes out the last clip of the latest read, together with those of that read that touch it.
 pub(crate) fn next_clip(queue: &mut BinaryHeap<Clip>) -> Option<Clip>
     requires { AreFilled (heap_items queue.old) }
     ensures none { IfNone result (heap_items queue.old ≡ []) }
     ensures filled { IfSome result (λ c. (c.low < c.high) × AreFilled (heap_items queue.new)) }
     ensures below { IfSome result (λ c. (n : ℕ) → AreBelow n (heap_items queue.old)
         → (c.read < n) × AreBelow n (heap_items queue.new)) }
-    ensures due { IfSome result (λ c. (all : List reads.Read) → (b j : ℕ)
+    ensures due { IfSome result (λ c. (all : List Read) → (b j : ℕ)
         → is_due all (heap_items queue.old) b j
         ≡ (has_reader all c b j || is_due all (heap_items queue.new) b j)) }
     ensures weight { IfSome result (λ c. weight (heap_items queue.old)
@@ -43,7 +43,7 @@ pub(crate) fn next_clip(queue: &mut BinaryHeap<Clip>) -> Option<Clip>
     Some(clip)
 }
 
-/// Where the next clip begins, if it is of the same read and ends where a clip begins.
+/// Where the next clip begins, if it is of a clip's read and ends where that begins.
 fn touching(queue: &BinaryHeap<Clip>, clip: &Clip) -> Option<u128>
     ensures some { IfSome result (λ low. 0 < heap_len queue.now) }
     ensures next { IfSome result (λ low. IsNext (heap_items queue.now) clip.now low) }
@@ -54,7 +54,7 @@ fn touching(queue: &BinaryHeap<Clip>, clip: &Clip) -> Option<u128>
     }
 }
 
-/// Adds what stands below a read within some of its numbers.
+/// Adds the reads that a read stands upon within a range, by what it has kept of them.
 pub(crate) fn add_older(
     older: &Steps,
     low: u128,
@@ -65,7 +65,7 @@ pub(crate) fn add_older(
     ensures filled { OnOk result (AreFilled (heap_items queue.old) → AreFilled (heap_items queue.new)) }
     ensures below { OnOk result ((n : ℕ) → AllBelow older.now n → AreBelow n (heap_items queue.old)
         → AreBelow n (heap_items queue.new)) }
-    ensures due { OnOk result ((all : List reads.Read) → (b j : ℕ) → is_due all (heap_items queue.new) b j
+    ensures due { OnOk result ((all : List Read) → (b j : ℕ) → is_due all (heap_items queue.new) b j
         ≡ (is_due all (heap_items queue.old) b j
         || (within low high b && is_among (readers_at all (step_at older.now b) b) j))) }
     ensures weight { OnOk result ((n : ℕ) → AllBelow older.now n → weight (heap_items queue.new)

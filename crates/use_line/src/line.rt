@@ -24,10 +24,20 @@ pub struct Span {
 }
 
 /// Of each number, which place wrote it last, and which have read it since.
+///
+/// A read takes what it covers out of `readers`, keeps that as what it stands upon, and leaves one
+/// part there. So those that have read a number are the latest read there and the reads below it.
+///
+/// All memory follows the number of ranges that were added, however they overlap: at most one read
+/// for each, and ten keys. A range adds two keys to `writers` or `readers` and takes out those in
+/// between. A read keeps at most two keys for each part that it takes out.
 #[derive(Drop)]
 pub struct Line {
+    /// Which place wrote each number last.
     writers: Steps,
+    /// Which of `reads` is the latest since then.
     readers: Steps,
+    /// All reads, each upon earlier ones.
     reads: Vec<Read>,
 }
 
@@ -53,8 +63,8 @@ impl Line {
         }
     }
 
-    /// From where on one place wrote all numbers of a range up to its end, one read is the latest
-    /// of all, and some ranges write all of them or none.
+    /// From where on all numbers of a range have one writer and one latest read, and a place's
+    /// ranges write all of them or none.
     fn start(&self, low: u128, high: u128, own: &[Span]) -> u128
         requires { low < high }
         ensures from { low ≤ result }
@@ -66,7 +76,7 @@ impl Line {
         last_edge(own, reader, high)
     }
 
-    /// Adds those for whom one of a place's ranges waits by a part of it: the readers by a clip.
+    /// Adds those for whom a place waits by a part of one of its ranges: the readers as a clip.
     fn tell_part(
         &self,
         part: &Span,
@@ -100,7 +110,9 @@ impl Line {
         tell_writer(writer, told)
     }
 
-    /// Tells those that have read what some clips have.
+    /// Adds those that have read what some clips have, each at most once for each of its reads.
+    ///
+    /// The latest read comes first, so that its clips from all reads above it have come together.
     fn tell_readers(
         &self,
         queue: &mut BinaryHeap<Clip>,
@@ -120,7 +132,13 @@ impl Line {
     }
 
     /// Adds those for whom a place waits directly by one of its ranges.
-    pub fn tell(&self, alloc: Global, span: &Span, own: &[Span], told: &mut Vec<u32>) -> Result<(), AllocError>
+    pub fn tell(
+        &self,
+        alloc: Global,
+        span: &Span,
+        own: &[Span],
+        told: &mut Vec<u32>,
+    ) -> Result<(), AllocError>
         requires { span.now.low < span.now.high }
         ensures { OnOk result (AddsTold self.now own.now span.now.written span.now.low span.now.high
             told.old.items told.new.items) }

@@ -89,7 +89,12 @@ impl Steps {
     /// # Errors
     ///
     /// Out of memory: then no number has a value.
-    pub(crate) fn set(&mut self, low: u128, high: u128, value: Option<u32>) -> Result<(), AllocError>
+    pub(crate) fn set(
+        &mut self,
+        low: u128,
+        high: u128,
+        value: Option<u32>,
+    ) -> Result<(), AllocError>
         requires { low < high }
         ensures set { OnOk result (HasSet self.old self.new low high value) }
         ensures none { OnErr result (self.new ≡ []) }
@@ -101,6 +106,7 @@ impl Steps {
         result
     }
 
+    /// Sets the value of the numbers of a range, and may have begun to, where memory is out.
     fn put(&mut self, low: u128, high: u128, value: Option<u32>) -> Result<(), AllocError>
         requires { low < high }
         ensures { OnOk result (HasSet self.old self.new low high value) }

@@ -41,8 +41,8 @@ loop-clip-preserved c =
       due = λ j.
           let before = inv.due j in
           let step = due_next u.reads clip r.place r.older c.loop-clip.told.items c.tell_place.new.told.items (heap_items c.loop-clip.queue) (heap_items c.next_clip.new.queue) (heap_items c.add_older.new.queue)
-              next.filled.0 (next.due u.reads)
-              (λ b. subst (λ (x : Read). readers_at u.reads (Some clip.read) b ≡ x.place ∷ readers_at u.reads (step_at x.older b) b) is (below_read u.reads b clip.read under.0 (linked.older clip.read under.0)))
-              c.in_ok-tell_place.ensures (add.due u.reads) j in
+          next.filled.0 (next.due u.reads)
+          (λ b. subst (λ (x : Read). readers_at u.reads (Some clip.read) b ≡ x.place ∷ readers_at u.reads (step_at x.older b) b) is (below_read u.reads b clip.read under.0 (linked.older clip.read under.0)))
+          c.in_ok-tell_place.ensures (add.due u.reads) j in
           ((λ d. before.0 (step.0 d)), (λ d. step.1 (before.1 d)));
     }
