@@ -1,5 +1,5 @@
 -- What a table of texts has at a number.
-use Rattle.std.proofs.Common.{◌≡◌, ℕ, List, [], map, get_or, sym}
+use Rattle.std.proofs.Common.{◌≡◌, ℕ, List, map, get_or, sym}
 use Rattle.std.specs.Borrow.{Bor}
 use Rattle.std.proofs.Math.ListN.{get_or-map}
 

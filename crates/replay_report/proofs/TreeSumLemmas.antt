@@ -1,11 +1,11 @@
 -- Pieces of a file, and ranges that grow.
-use Rattle.std.proofs.Common.{◌≡◌, ℕ, ◌+◌, ◌-◌, ◌*◌, ◌/◌, ◌%◌, ◌<◌, ◌≤◌, List, [], ◌++◌, length, take, drop, refl, sym, ap, ◌∙◌, arith}
+use Rattle.std.proofs.Common.{◌≡◌, ℕ, ◌+◌, ◌-◌, ◌*◌, ◌/◌, ◌%◌, ◌≤◌, List, [], ◌++◌, length, take, drop, refl, sym, ap, ◌∙◌, arith}
 use Rattle.std.proofs.lemmas.Bool.{eq-eqb, ne_eqb}
 use Rattle.std.specs.List.{flat_map, range_with_len}
 use Rattle.sha2.specs.Sha256.{sha256}
 use Rattle.std.proofs.lemmas.List.{take_all, append-nil, length-drop, drop-drop}
 use Rattle.extent_bytes.specs.Bytes.{range_of}
-use Rattle.replay_report.specs.TreeSum.{piece, rest_sum, tree_sum}
+use Rattle.replay_report.specs.TreeSum.{piece, tree_sum}
 use Rattle.replay_report.proofs.SumLemmas.{one_piece_more}
 use Rattle.replay_report.proofs.ReportLemmas.{range_grown}
 

@@ -1,29 +1,25 @@
--- What is known of numbers, by keys that rise: one key more, one less, and a key at which something else stands.
-use Rattle.std.specs.Prelude.{◌≡◌, ◌≢◌, ℕ, ◌<◌, ◌≤◌, Bool, true, false, not, ◌&&◌, ◌||◌, ◌==◌, leb, ltb, List, [], ◌∷◌, ◌++◌, filter, cond, length, refl, is_some, if◌then◌else◌, Some, None}
+-- Values of numbers, by keys that rise: one key more, and one less.
+use Rattle.std.specs.Prelude.{◌≡◌, ◌≢◌, ℕ, ◌<◌, ◌≤◌, Bool, true, false, not, ◌&&◌, ◌||◌, ◌==◌, leb, ltb, List, [], ◌∷◌, ◌++◌, filter, cond, length, refl, is_some, if◌then◌else◌, Option}
 use Rattle.std.specs.List.{AllByRecursion}
-use Rattle.std.specs.Map.{lookup, remove_entry, set_value}
+use Rattle.std.specs.Map.{lookup, remove_entry}
 use Rattle.std.specs.BTreeMap.{insert_entry, is_at}
 use Rattle.std.specs.Cmp.{nat_cmp_is}
 use Rattle.std.specs.declared.cmp.Ordering.TheVariants.{Less, Equal, Greater}
 use Rattle.std.specs.Ordering.{nat_cmp, is_eq, is_lt, is_le}
-use Rattle.std.proofs.Common.{sym, ap, ◌∙◌, subst, arith, inl, inr}
+use Rattle.std.proofs.Common.{sym, ap, ◌∙◌, arith, inl, inr}
 use Rattle.std.proofs.lemmas.Bool.{cases_Bool, cases_order, cases_eq, cases_lt, cond-true, cond-false}
 use Rattle.std.proofs.lemmas.Bool.Decides.{nat_tests}
 use Rattle.use_line.specs.Spans.{within}
-use Rattle.use_line.specs.Known.{Known, known_from, known_at, has_key, NoneInside, Rises}
+use Rattle.use_line.specs.Steps.{NoneInside, Rises, has_key, step_from}
 
 abbrev Entries : Type 0
-Entries = List (ℕ × Known)
+Entries = List (ℕ × Option ℕ)
 
 pub all_from : {X : Type 0} {P Q : X → Type 0} → ((x : X) → P x → Q x) → (xs : List X) → AllByRecursion P xs → AllByRecursion Q xs
 all_from f [] h = tt
 all_from f (x ∷ xs) h = (f x h.0, all_from f xs h.1)
 
--- a key that is below all
-pub key_below : (es : Entries) (k : ℕ) → AllByRecursion (λ q. k < q.0) es → has_key es k ≡ false
-key_below [] k h = refl
-key_below (e ∷ es) k h = grind (arith, nat_tests, h.0, key_below es k h.1)
-
+-- a key is above what is below all
 pub keys_above : (es : Entries) (k j : ℕ) → AllByRecursion (λ q. k < q.0) es → has_key es j ≡ true → k < j
 keys_above [] k j h t = absurd cc
 keys_above (e ∷ es) k j h t = elim (cases_Bool (e.0 == j)) [
@@ -52,7 +48,7 @@ module _ (test : ℕ → Bool) where
     pub stands : has_key es k ≡ true
     pub none_after : (j : ℕ) → k < j → test j ≡ true → has_key es j ≡ false
 
-  pub last_passes : (es before : Entries) (k : ℕ) (v : Known) → Rises es → filter (λ e. test e.0) es ≡ before ++ (k, v) ∷ [] → IsLast es k
+  pub last_passes : (es before : Entries) (k : ℕ) (v : Option ℕ) → Rises es → filter (λ e. test e.0) es ≡ before ++ (k, v) ∷ [] → IsLast es k
   last_passes [] [] k v r e = absurd cc
   last_passes [] (x ∷ before) k v r e = absurd cc
   last_passes (x ∷ es) before k v r e = by (test x.0) refl (λ t. last_passes es t k v r.1) before e
@@ -80,9 +76,9 @@ module _ (test : ℕ → Bool) where
       by false h step t f = later (step t f)
 
 -- what stands at the last key up to a number
-pub known_none : (d : Known) (es : Entries) (at : ℕ) → filter (λ e. leb e.0 at) es ≡ [] → known_from d es at ≡ d
-known_none d [] at e = refl
-known_none d (x ∷ es) at e = elim (cases_Bool (leb x.0 at)) [
+pub step_none : (d : Option ℕ) (es : Entries) (at : ℕ) → filter (λ e. leb e.0 at) es ≡ [] → step_from d es at ≡ d
+step_none d [] at e = refl
+step_none d (x ∷ es) at e = elim (cases_Bool (leb x.0 at)) [
   | inl t ↦ let some : x ∷ filter (λ y. leb y.0 at) es ≡ [] = rw t at e in absurd cc
   | inr f ↦ rw f refl
 ]
@@ -91,16 +87,16 @@ none_up_to : (es : Entries) (k at : ℕ) → AllByRecursion (λ q. k < q.0) es �
 none_up_to [] k at h f = refl
 none_up_to (x ∷ es) k at h f = let past : leb x.0 at ≡ false = grind (arith, nat_tests, h.0) in rw past (none_up_to es k at h.1 f)
 
-pub known_last : (d : Known) (es before : Entries) (at k : ℕ) (v : Known) → Rises es → filter (λ e. leb e.0 at) es ≡ before ++ (k, v) ∷ [] → known_from d es at ≡ v
-known_last d [] [] at k v r e = absurd cc
-known_last d [] (x ∷ before) at k v r e = absurd cc
-known_last d (x ∷ es) before at k v r e = by (leb x.0 at) refl (λ t. known_last x.1 es t at k v r.1) before e
+pub step_last : (d : Option ℕ) (es before : Entries) (at k : ℕ) (v : Option ℕ) → Rises es → filter (λ e. leb e.0 at) es ≡ before ++ (k, v) ∷ [] → step_from d es at ≡ v
+step_last d [] [] at k v r e = absurd cc
+step_last d [] (x ∷ before) at k v r e = absurd cc
+step_last d (x ∷ es) before at k v r e = by (leb x.0 at) refl (λ t. step_last x.1 es t at k v r.1) before e
   where
-    by : (b : Bool) → leb x.0 at ≡ b → ((t : Entries) → filter (λ y. leb y.0 at) es ≡ t ++ (k, v) ∷ [] → known_from x.1 es at ≡ v) → (t : Entries) → cond b (x ∷ filter (λ y. leb y.0 at) es) (filter (λ y. leb y.0 at) es) ≡ t ++ (k, v) ∷ [] → known_from d (x ∷ es) at ≡ v
+    by : (b : Bool) → leb x.0 at ≡ b → ((t : Entries) → filter (λ y. leb y.0 at) es ≡ t ++ (k, v) ∷ [] → step_from x.1 es at ≡ v) → (t : Entries) → cond b (x ∷ filter (λ y. leb y.0 at) es) (filter (λ y. leb y.0 at) es) ≡ t ++ (k, v) ∷ [] → step_from d (x ∷ es) at ≡ v
     by true h step [] f =
         let here : x ≡ (k, v) = cc in
         let rest : filter (λ y. leb y.0 at) es ≡ [] = cc in
-        rw h (known_none x.1 es at rest ∙ ap (λ y. y.1) here)
+        rw h (step_none x.1 es at rest ∙ ap (λ y. y.1) here)
     by true h step (y ∷ t) f = rw h (step t cc)
     by false h step [] f = let none : filter (λ y. leb y.0 at) es ≡ [] = none_up_to es x.0 at r.0 h in absurd cc
     by false h step (y ∷ t) f = let none : filter (λ y. leb y.0 at) es ≡ [] = none_up_to es x.0 at r.0 h in absurd cc
@@ -115,7 +111,7 @@ cmp_more : (x y : ℕ) → y < x → nat_cmp x y ≡ Greater
 cmp_more x y h = sym (nat_cmp_is x y Greater h)
 
 -- a key more, or something else at one
-module _ (x : ℕ) (v : Known) where
+module _ (x : ℕ) (v : Option ℕ) where
   abbrev with_key : Entries → Entries
   with_key es = insert_entry nat_cmp es x v
 
@@ -144,7 +140,7 @@ module _ (x : ℕ) (v : Known) where
   keys_more (e ∷ es) k = grind (arith, nat_tests, keys_more es k)
 
   -- what stood at the new key stands there still
-  pub same_more : (d : Known) (es : Entries) → v ≡ known_from d es x → Rises es → has_key es x ≡ false → (b : ℕ) → known_from d (with_key es) b ≡ known_from d es b
+  pub same_more : (d : Option ℕ) (es : Entries) → v ≡ step_from d es x → Rises es → has_key es x ≡ false → (b : ℕ) → step_from d (with_key es) b ≡ step_from d es b
   same_more d [] is r new b = elim (cases_Bool (leb x b)) [ inl t ↦ rw t is | inr f ↦ rw f refl ]
   same_more d (e ∷ es) is r new b = elim (cases_order x e.0) [
     | inl same ↦ absurd (grind (arith, nat_tests))
@@ -158,7 +154,7 @@ module _ (x : ℕ) (v : Known) where
           ])
       | inr more ↦
           let up : leb e.0 x ≡ true = grind (arith, nat_tests) in
-          let there : v ≡ known_from e.1 es x = rw up at is in
+          let there : v ≡ step_from e.1 es x = rw up at is in
           let less : has_key es x ≡ false = grind (arith, nat_tests) in
           rw (cmp_more x e.0 more) (elim (cases_Bool (leb e.0 b)) [
             | inl t ↦ rw t (same_more e.1 es there r.1 less b)
@@ -185,13 +181,13 @@ module _ (low high : ℕ) (es : Entries) where
   none_within none k from to = none k (grind (arith, nat_tests))
 
 -- before the first key, and past one
-pub known_before : (d : Known) (es : Entries) (b : ℕ) → AllByRecursion (λ q. b < q.0) es → known_from d es b ≡ d
-known_before d [] b h = refl
-known_before d (e ∷ es) b h = let past : leb e.0 b ≡ false = grind (arith, nat_tests, h.0) in rw past refl
+pub step_before : (d : Option ℕ) (es : Entries) (b : ℕ) → AllByRecursion (λ q. b < q.0) es → step_from d es b ≡ d
+step_before d [] b h = refl
+step_before d (e ∷ es) b h = let past : leb e.0 b ≡ false = grind (arith, nat_tests, h.0) in rw past refl
 
-pub known_past : (d d₁ : Known) (es : Entries) (to b : ℕ) → Rises es → has_key es to ≡ true → to ≤ b → known_from d es b ≡ known_from d₁ es b
-known_past d d₁ [] to b r h le = absurd cc
-known_past d d₁ (e ∷ es) to b r h le = elim (cases_eq e.0 to) [
+pub step_past : (d d₁ : Option ℕ) (es : Entries) (to b : ℕ) → Rises es → has_key es to ≡ true → to ≤ b → step_from d es b ≡ step_from d₁ es b
+step_past d d₁ [] to b r h le = absurd cc
+step_past d d₁ (e ∷ es) to b r h le = elim (cases_eq e.0 to) [
   | inl same ↦ let up : leb e.0 b ≡ true = grind (arith, nat_tests) in rw up refl
   | inr other ↦
       let there : has_key es to ≡ true = grind (arith, nat_tests) in
@@ -207,7 +203,7 @@ each_key P (e ∷ es) h = (h e.0 (grind (arith, nat_tests)), each_key P es (λ j
 
 -- a key from which on no other stands before another one
 module _ (k to : ℕ) (less : k < to) where
-  none_inside_rest : (e : ℕ × Known) (es : Entries) → NoneInside k to (e ∷ es) → NoneInside k to es
+  none_inside_rest : (e : ℕ × Option ℕ) (es : Entries) → NoneInside k to (e ∷ es) → NoneInside k to es
   none_inside_rest e es none j more under = grind (arith, nat_tests, none j more under)
 
   -- behind the key all keys are those from the other one on
@@ -216,51 +212,34 @@ module _ (k to : ℕ) (less : k < to) where
       let more : k < j = keys_above es k j above t in
       elim (cases_lt j to) [ inl lt ↦ absurd (let f = none j more lt in grind arith) | inr ge ↦ omega (arith, ge, under) ])
 
-  value_behind : (d₁ v : Known) (es : Entries) (b : ℕ) → Rises es → AllByRecursion (λ q. k < q.0) es → NoneInside k to es → has_key es to ≡ true → leb k b ≡ true
-      → known_from v es b ≡ (if within k to b then v else known_from d₁ es b)
+  value_behind : (d₁ v : Option ℕ) (es : Entries) (b : ℕ) → Rises es → AllByRecursion (λ q. k < q.0) es → NoneInside k to es → has_key es to ≡ true → leb k b ≡ true
+      → step_from v es b ≡ (if within k to b then v else step_from d₁ es b)
   value_behind d₁ v es b r above none end up = elim (cases_lt b to) [
-    | inl lt ↦ let inside : within k to b ≡ true = grind (arith, nat_tests) in rw inside (known_before v es b (keys_behind es b above none lt))
-    | inr ge ↦ let outside : within k to b ≡ false = grind (arith, nat_tests) in rw outside (known_past v d₁ es to b r end ge)
+    | inl lt ↦ let inside : within k to b ≡ true = grind (arith, nat_tests) in rw inside (step_before v es b (keys_behind es b above none lt))
+    | inr ge ↦ let outside : within k to b ≡ false = grind (arith, nat_tests) in rw outside (step_past v d₁ es to b r end ge)
   ]
 
-  module _ (w : Known) where
-    abbrev Changed : Known → Entries → Entries → ℕ → Type 0
-    Changed d old new b = known_from d new b ≡ (if within k to b then w else known_from d old b)
+  module _ (w : Option ℕ) where
+    abbrev Changed : Option ℕ → Entries → Entries → ℕ → Type 0
+    Changed d old new b = step_from d new b ≡ (if within k to b then w else step_from d old b)
 
-    past_head : (d : Known) (e : ℕ × Known) (old new : Entries) (b : ℕ) → e.0 < k → Changed e.1 old new b → Changed d (e ∷ old) (e ∷ new) b
+    past_head : (d : Option ℕ) (e : ℕ × Option ℕ) (old new : Entries) (b : ℕ) → e.0 < k → Changed e.1 old new b → Changed d (e ∷ old) (e ∷ new) b
     past_head d e old new b under h = elim (cases_Bool (leb e.0 b)) [
       | inl t ↦ rw t h
       | inr f ↦ let outside : within k to b ≡ false = grind (arith, nat_tests) in rw (f, outside) refl
     ]
 
-    at_head : (d d₁ : Known) (rest old : Entries) (b : ℕ) → Rises rest → AllByRecursion (λ q. k < q.0) rest → NoneInside k to rest → has_key rest to ≡ true
-        → (leb k b ≡ true → known_from d₁ rest b ≡ known_from d old b) → (leb k b ≡ false → d ≡ known_from d old b) → Changed d old ((k, w) ∷ rest) b
+    at_head : (d d₁ : Option ℕ) (rest old : Entries) (b : ℕ) → Rises rest → AllByRecursion (λ q. k < q.0) rest → NoneInside k to rest → has_key rest to ≡ true
+        → (leb k b ≡ true → step_from d₁ rest b ≡ step_from d old b) → (leb k b ≡ false → d ≡ step_from d old b) → Changed d old ((k, w) ∷ rest) b
     at_head d d₁ rest old b r above none end same under = elim (cases_Bool (leb k b)) [
-      | inl t ↦ cond-true (leb k b) (known_from w rest b) d t ∙ value_behind d₁ w rest b r above none end t ∙ ap (λ z. if within k to b then w else z) (same t)
+      | inl t ↦ cond-true (leb k b) (step_from w rest b) d t ∙ value_behind d₁ w rest b r above none end t ∙ ap (λ z. if within k to b then w else z) (same t)
       | inr f ↦
           let outside : within k to b ≡ false = grind (arith, nat_tests) in
-          cond-false (leb k b) (known_from w rest b) d f ∙ under f ∙ sym (cond-false (within k to b) w (known_from d old b) outside)
-    ]
-
-    -- something else at the key
-    pub set_at : (d : Known) (es : Entries) (b : ℕ) → Rises es → has_key es k ≡ true → has_key es to ≡ true → NoneInside k to es → Changed d es (set_value (is_at (nat_cmp k)) es w) b
-    set_at d [] b r here end none = absurd cc
-    set_at d (e ∷ es) b r here end none = elim (cases_eq k e.0) [
-      | inl same ↦
-          let there : has_key es to ≡ true = grind (arith, nat_tests) in
-          let above : AllByRecursion (λ q. k < q.0) es = rw same r.0 in
-          let head = at_head d e.1 es (e ∷ es) b r.1 above (none_inside_rest e es none) there
-          (λ t. let u : leb e.0 b ≡ true = rw (← same) t in rw u refl) (λ f. let u : leb e.0 b ≡ false = rw (← same) f in rw u refl) in
-          rw (cmp_same k e.0 same) (subst (λ x. Changed d (e ∷ es) ((x, w) ∷ es) b) same head)
-      | inr other ↦
-          let mine : has_key es k ≡ true = grind (arith, nat_tests) in
-          let under : e.0 < k = keys_above es e.0 k r.0 mine in
-          let there : has_key es to ≡ true = grind (arith, nat_tests) in
-          rw (cmp_more k e.0 under) (past_head d e es _ b under (set_at e.1 es b r.1 mine there (none_inside_rest e es none)))
+          cond-false (leb k b) (step_from w rest b) d f ∙ under f ∙ sym (cond-false (within k to b) w (step_from d old b) outside)
     ]
 
     -- a key more
-    pub put_at : (d : Known) (es : Entries) (b : ℕ) → Rises es → has_key es k ≡ false → has_key es to ≡ true → NoneInside k to es → Changed d es (insert_entry nat_cmp es k w) b
+    pub put_at : (d : Option ℕ) (es : Entries) (b : ℕ) → Rises es → has_key es k ≡ false → has_key es to ≡ true → NoneInside k to es → Changed d es (insert_entry nat_cmp es k w) b
     put_at d [] b r here end none = absurd cc
     put_at d (e ∷ es) b r here end none = elim (cases_order k e.0) [
       | inl same ↦ absurd (grind (arith, nat_tests))
@@ -276,14 +255,14 @@ module _ (k to : ℕ) (less : k < to) where
     ]
 
   -- a key less: before it, and from the other one on, nothing changes
-  pub cut_at : (d : Known) (es : Entries) (b : ℕ) → Rises es → has_key es k ≡ true → has_key es to ≡ true → within k to b ≡ false → known_from d (remove_entry (is_at (nat_cmp k)) es) b ≡ known_from d es b
+  pub cut_at : (d : Option ℕ) (es : Entries) (b : ℕ) → Rises es → has_key es k ≡ true → has_key es to ≡ true → within k to b ≡ false → step_from d (remove_entry (is_at (nat_cmp k)) es) b ≡ step_from d es b
   cut_at d [] b r here end out = absurd cc
   cut_at d (e ∷ es) b r here end out = elim (cases_eq k e.0) [
     | inl same ↦
         let there : has_key es to ≡ true = grind (arith, nat_tests) in
         rw (cmp_same k e.0 same) (elim (cases_Bool (leb e.0 b)) [
-          | inl t ↦ rw t (known_past d e.1 es to b r.1 there (grind (arith, nat_tests)))
-          | inr f ↦ rw f (known_before d es b (all_from (λ q m. let n : b < e.0 = grind (arith, nat_tests) in omega (arith, n, m)) es r.0))
+          | inl t ↦ rw t (step_past d e.1 es to b r.1 there (grind (arith, nat_tests)))
+          | inr f ↦ rw f (step_before d es b (all_from (λ q m. let n : b < e.0 = grind (arith, nat_tests) in omega (arith, n, m)) es r.0))
         ])
     | inr other ↦
         let mine : has_key es k ≡ true = grind (arith, nat_tests) in
@@ -296,22 +275,11 @@ module _ (k to : ℕ) (less : k < to) where
   ]
 
 -- which keys there are then
-pub keys_set : (k : ℕ) (w : Known) (es : Entries) (j : ℕ) → has_key (set_value (is_at (nat_cmp k)) es w) j ≡ has_key es j
-keys_set k w [] j = refl
-keys_set k w (e ∷ es) j = grind (arith, nat_tests, keys_set k w es j)
-
-pub rises_set : (k : ℕ) (w : Known) (es : Entries) → Rises es → Rises (set_value (is_at (nat_cmp k)) es w)
-rises_set k w [] r = tt
-rises_set k w (e ∷ es) r = elim (is_eq (nat_cmp k e.0)) as (λ b. Rises (cond b ((e.0, w) ∷ es) (e ∷ set_value (is_at (nat_cmp k)) es w))) [
-  | true ↦ r
-  | false ↦ (each_key (λ j. e.0 < j) (set_value (is_at (nat_cmp k)) es w) (λ j t. keys_above es e.0 j r.0 (sym (keys_set k w es j) ∙ t)), rises_set k w es r.1)
-]
-
 pub keys_cut : (k : ℕ) (es : Entries) (j : ℕ) → k ≢ j → has_key (remove_entry (is_at (nat_cmp k)) es) j ≡ has_key es j
 keys_cut k [] j other = refl
 keys_cut k (e ∷ es) j other = grind (arith, nat_tests, keys_cut k es j other)
 
-all_cut : (P : ℕ × Known → Type 0) (test : ℕ → Bool) (es : Entries) → AllByRecursion P es → AllByRecursion P (remove_entry test es)
+all_cut : (P : ℕ × Option ℕ → Type 0) (test : ℕ → Bool) (es : Entries) → AllByRecursion P es → AllByRecursion P (remove_entry test es)
 all_cut P test [] h = tt
 all_cut P test (e ∷ es) h = elim (test e.0) as (λ b. AllByRecursion P (cond b es (e ∷ remove_entry test es))) [ true ↦ h.1 | false ↦ (h.0, all_cut P test es h.1) ]
 
@@ -326,48 +294,15 @@ fewer k (e ∷ es) h = elim (cases_eq k e.0) [
   | inr other ↦ let f : is_eq (nat_cmp k e.0) ≡ false = grind (arith, nat_tests) in let mine : has_key es k ≡ true = grind (arith, nat_tests) in rw f (let l = fewer k es mine in omega (arith, l))
 ]
 
--- what stands at a key is what is known up to the next one
-pub known_part : (k to : ℕ) (less : k < to) (d : Known) (es : Entries) (b : ℕ) (v : Known) → Rises es → NoneInside k to es → within k to b ≡ true → lookup (is_at (nat_cmp k)) es ≡ Some v → known_from d es b ≡ v
-known_part k to less d [] b v r none t e = absurd cc
-known_part k to less d (x ∷ es) b v r none t e = elim (cases_eq k x.0) [
-  | inl same ↦
-      let is : Some x.1 ≡ Some v = rw (cmp_same k x.0 same) at e in
-      let up : leb x.0 b ≡ true = grind (arith, nat_tests) in
-      let under : b < to = grind (arith, nat_tests) in
-      let val : x.1 ≡ v = cc in
-      rw up (known_before x.1 es b (keys_behind k to less es b (rw same r.0) (none_inside_rest k to less x es none) under) ∙ val)
-  | inr other ↦
-      let f : is_eq (nat_cmp k x.0) ≡ false = grind (arith, nat_tests) in
-      let later : lookup (is_at (nat_cmp k)) es ≡ Some v = rw f at e in
-      let mine : has_key es k ≡ true = sym (key_found es k) ∙ ap is_some later in
-      let under : x.0 < k = keys_above es x.0 k r.0 mine in
-      let up : leb x.0 b ≡ true = grind (arith, nat_tests) in
-      rw up (known_part k to less x.1 es b v r.1 (none_inside_rest k to less x es none) t later)
-]
-
--- a part of which something else is known
-pub part_changed : (change : Known → Known) (k to : ℕ) (less : k < to) (es : Entries) (v w : Known) → Rises es → has_key es to ≡ true → NoneInside k to es → lookup (is_at (nat_cmp k)) es ≡ Some v
-    → w ≡ change v → (b : ℕ) → known_at (set_value (is_at (nat_cmp k)) es w) b ≡ (if within k to b then change (known_at es b) else known_at es b)
-part_changed change k to less es v w r last none e is b =
-    let first : has_key es k ≡ true = sym (key_found es k) ∙ ap is_some e in
-    set_at k to less w (None, []) es b r first last none ∙ (elim (cases_Bool (within k to b)) [
-      | inl t ↦ rw t (is ∙ ap change (sym (known_part k to less (None, []) es b v r none t e)))
-      | inr f ↦ rw f refl
-    ])
-
--- a change of two ranges that touch is one of both
-pub joined : (change : Known → Known) (k to high b : ℕ) (before now : Known) → k < to → to ≤ high → now ≡ (if within to high b then change before else before)
-    → (if within k to b then change now else now) ≡ (if within k high b then change before else before)
-joined change k to high b before now less under is = elim (cases_Bool (within to high b)) [
-  | inl later ↦
-      let out : within k to b ≡ false = grind (arith, nat_tests) in
-      let whole : within k high b ≡ true = grind (arith, nat_tests) in
-      let here : now ≡ change before = rw later at is in
-      rw (out, whole) here
-  | inr not_later ↦
-      let here : now ≡ before = rw not_later at is in
-      elim (cases_Bool (within k to b)) [
-        | inl t ↦ let whole : within k high b ≡ true = grind (arith, nat_tests) in rw (t, whole, here) refl
-        | inr f ↦ let whole : within k high b ≡ false = grind (arith, nat_tests) in rw (f, whole) here
-      ]
+-- no key stands within a range
+pub level_from : (k to : ℕ) (less : k < to) (d : Option ℕ) (es : Entries) (b : ℕ) → Rises es → NoneInside k to es → within k to b ≡ true → step_from d es b ≡ step_from d es k
+level_from k to less d [] b r none t = refl
+level_from k to less d (x ∷ es) b r none t = elim (cases_lt k x.0) [
+  | inl under ↦
+      let above : AllByRecursion (λ q. k < q.0) (x ∷ es) = (under, all_from (λ q m. omega (arith, under, m)) es r.0) in
+      step_before d (x ∷ es) b (keys_behind k to less (x ∷ es) b above none (grind (arith, nat_tests))) ∙ sym (step_before d (x ∷ es) k above)
+  | inr at ↦
+      let here : leb x.0 k ≡ true = grind (arith, nat_tests) in
+      let there : leb x.0 b ≡ true = grind (arith, nat_tests) in
+      rw (here, there) (level_from k to less x.1 es b r.1 (none_inside_rest k to less x es none) t)
 ]

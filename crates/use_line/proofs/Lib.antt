@@ -1,4 +1,6 @@
 pub mod Entries
 pub mod History
+pub mod Chain
+pub mod Clips
 pub mod Telling
 pub mod Direct

@@ -1,3 +1,5 @@
 pub mod History
 pub mod Spans
+pub mod Steps
 pub mod Known
+pub mod Queue

@@ -1,13 +1,18 @@
 //! A line of numbers that places use.
-ghost use Rattle.std.specs.Prelude.{◌≡◌, ◌<◌, ◌≤◌, ℕ, List, [], true, false, IfOk, OnOk, MatchOption, Some, suc, if◌then◌else◌};
-ghost use Rattle.use_line.specs.Known.{AddsTold, HasChanged, HasEdges, HasRead, Keeps};
-ghost use Rattle.use_line.specs.Known.{NoneInside, has_key, known_at, read_by, with_reader};
-ghost use Rattle.use_line.specs.Known.{written_at};
-ghost use Rattle.use_line.specs.Spans.{written_by};
+ghost use Rattle.std.specs.BinaryHeap.{heap_items};
+ghost use Rattle.std.specs.Bool.{Decides};
+ghost use Rattle.use_line.specs.History.{is_number};
+ghost use Rattle.std.specs.Prelude.{◌≡◌, ◌<◌, ◌≤◌, ◌||◌, ◌==◌, ◌⊎◌, ℕ, List, true, OnOk, None, Some, suc, length, if◌then◌else◌};
+ghost use Rattle.use_line.specs.Known.{AddsTold, HasRead, IsPart, IsToldOf, Keeps};
+ghost use Rattle.use_line.specs.Known.{is_among, known_at, no_uses, read_by, written_at};
+ghost use Rattle.use_line.specs.Queue.{AddsDue, AreBelow, AreFilled, Due};
+ghost use Rattle.use_line.specs.Spans.{within, written_by};
 
-use crate::part::Part;
+use crate::clip::{Clip, add_older, next_clip};
+use crate::read::Read;
+use crate::steps::Steps;
 use std::alloc::{AllocError, Global};
-use std::collections::BTreeMap;
+use std::collections::BinaryHeap;
 use std::marker::Model;
 
 /// A place's use of the numbers from `low` up to `high`.
@@ -19,164 +24,162 @@ pub struct Span {
 }
 
 /// Of each number, which place wrote it last, and which have read it since.
+///
+/// A read takes what it covers out of `readers`, keeps that as what it stands upon, and leaves one
+/// part there. So those that have read a number are the latest read there and the reads below it.
+///
+/// All memory follows the number of ranges that were added, however they overlap: at most one read
+/// for each, and ten keys. A range adds two keys to `writers` or `readers` and takes out those in
+/// between. A read keeps at most two keys for each part that it takes out.
 #[derive(Drop)]
 pub struct Line {
-    /// What is known of the numbers from each key on up to the next.
-    parts: BTreeMap<u128, Part>,
+    /// Which place wrote each number last.
+    writers: Steps,
+    /// Which of `reads` is the latest since then.
+    readers: Steps,
+    /// All reads, each upon earlier ones.
+    reads: Vec<Read>,
 }
 
 impl Model for Line {
-    ghost use Rattle.std.specs.Prelude.{ℕ, List};
-    ghost use Rattle.use_line.specs.Known.{Known, Rises};
+    ghost use Rattle.use_line.specs.Known.{IsLinked, Uses};
 
-    ghost Value = { List (ℕ × Known) };
+    ghost Value = { Uses };
 
-    ghost view = { λ l. l.parts.entries };
+    ghost view = { λ l. record { writers = l.writers; readers = l.readers; reads = l.reads.items } };
 
-    ghost invariant = { λ l. Rises l.parts.entries };
+    ghost invariant = { λ l. IsLinked (record { writers = l.writers; readers = l.readers; reads = l.reads.items }) };
 }
 
 impl Line {
     /// No place has used any number.
     pub fn new(alloc: Global) -> Self
-        ensures { result ≡ [] }
+        ensures { result ≡ no_uses }
     {
         Line {
-            parts: BTreeMap::new(alloc),
+            writers: Steps::new(alloc),
+            readers: Steps::new(alloc),
+            reads: Vec::new(alloc),
         }
     }
 
-    /// Begins a part of its own at a number.
-    fn split_at(&mut self, alloc: Global, at: u128) -> Result<(), AllocError>
-        ensures same { OnOk result ((b : ℕ) → known_at self.new b ≡ known_at self.old b) }
-        ensures key { OnOk result (has_key self.new at ≡ true) }
-        ensures keys { OnOk result ((k : ℕ) → has_key self.old k ≡ true → has_key self.new k ≡ true) }
+    /// From where on all numbers of a range have one writer and one latest read, and a place's
+    /// ranges write all of them or none.
+    fn start(&self, low: u128, high: u128, own: &[Span]) -> u128
+        requires { low < high }
+        ensures from { low ≤ result }
+        ensures to { result < high }
+        ensures part { IsPart self.now own.now result high }
     {
-        if self.parts.contains_key(&at) {
+        let writer = self.writers.start(low, high);
+        let reader = self.readers.start(writer, high);
+        last_edge(own, reader, high)
+    }
+
+    /// Adds those for whom a place waits by a part of one of its ranges: the readers as a clip.
+    fn tell_part(
+        &self,
+        part: &Span,
+        own: &[Span],
+        queue: &mut BinaryHeap<Clip>,
+        told: &mut Vec<u32>,
+    ) -> Result<(), AllocError>
+        requires some { part.now.low < part.now.high }
+        requires part { IsPart self.now own.now part.now.low part.now.high }
+        ensures filled { OnOk result (AreFilled (heap_items queue.old) → AreFilled (heap_items queue.new)) }
+        ensures below { OnOk result (AreBelow (length self.now.reads) (heap_items queue.old)
+            → AreBelow (length self.now.reads) (heap_items queue.new)) }
+        ensures due { OnOk result (AddsDue self.now own.now part.now.written part.now.low part.now.high
+            told.old.items (heap_items queue.old) told.new.items (heap_items queue.new)) }
+    {
+        let writer = self.writers.value(part.low);
+        let Some(read) = self.readers.value(part.low) else {
+            return tell_writer(writer, told);
+        };
+        if part.written {
+            queue.push(Clip {
+                read,
+                low: part.low,
+                high: part.high,
+            })?;
             return Ok(());
         }
-        let part = self.part_at(alloc, at)?;
-        self.parts.insert(at, part)?;
+        if writes(own, part.low) {
+            return Ok(());
+        }
+        tell_writer(writer, told)
+    }
+
+    /// Adds those that have read what some clips have, each at most once for each of its reads.
+    ///
+    /// The latest read comes first, so that its clips from all reads above it have come together.
+    fn tell_readers(
+        &self,
+        queue: &mut BinaryHeap<Clip>,
+        told: &mut Vec<u32>,
+    ) -> Result<(), AllocError>
+        requires filled { AreFilled (heap_items queue.old) }
+        requires below { AreBelow (length self.now.reads) (heap_items queue.old) }
+        ensures { OnOk result ((j : ℕ) → Decides (is_among told.new.items j)
+            (Due self.now.reads told.old.items (heap_items queue.old) j)) }
+    {
+        while let Some(clip) = next_clip(queue) {
+            let read = &self.reads[clip.read as usize];
+            tell_place(read.place, told)?;
+            add_older(&read.older, clip.low, clip.high, queue)?;
+        }
         Ok(())
     }
 
-    /// A copy of what is known of a number.
-    fn part_at(&self, alloc: Global, at: u128) -> Result<Part, AllocError>
-        ensures { IfOk result (λ part. part ≡ known_at self.now at) }
+    /// Adds those for whom a place waits directly by one of its ranges.
+    pub fn tell(
+        &self,
+        alloc: Global,
+        span: &Span,
+        own: &[Span],
+        told: &mut Vec<u32>,
+    ) -> Result<(), AllocError>
+        requires { span.now.low < span.now.high }
+        ensures { OnOk result (AddsTold self.now own.now span.now.written span.now.low span.now.high
+            told.old.items told.new.items) }
     {
-        match self.parts.range(..=at).next_back() {
-            Some((_, part)) => part.copied(),
-            None => Ok(Part::unused(alloc)),
+        let mut queue = BinaryHeap::new(alloc);
+        let mut end = span.high;
+        while span.low < end {
+            let low = self.start(span.low, end, own);
+            let part = Span {
+                low,
+                high: end,
+                written: span.written,
+            };
+            self.tell_part(&part, own, &mut queue, told)?;
+            end = low;
         }
-    }
-
-    /// The last key from one number on up to another.
-    fn last_between(&self, low: u128, high: u128) -> Option<u128>
-        requires { low ≤ high }
-        ensures { MatchOption result
-            ((k : ℕ) → low ≤ k → k < high → has_key self.now k ≡ false)
-            (λ key. (low ≤ key) × (key < high) × (has_key self.now key ≡ true)
-            × NoneInside key high self.now) }
-    {
-        match self.parts.range(low..high).next_back() {
-            Some((key, _)) => Some(*key),
-            None => None,
-        }
-    }
-
-    /// Adds a place to those that have read the part from a key up to the next one.
-    fn read_part(&mut self, key: u128, end: u128, place: u32) -> Result<(), AllocError>
-        requires some { key < end }
-        requires first { has_key self.old key ≡ true }
-        requires last { has_key self.old end ≡ true }
-        requires one { NoneInside key end self.old }
-        ensures changed { OnOk result (HasChanged self.old self.new key end (λ p. with_reader p place)) }
-        ensures keys { OnOk result ((k : ℕ) → has_key self.new k ≡ has_key self.old k) }
-    {
-        match self.parts.get_mut(&key) {
-            Some(part) => part.read(place),
-            None => Ok(()),
-        }
+        self.tell_readers(&mut queue, told)
     }
 
     /// Adds a place to those that have read the numbers of a range.
     fn read(&mut self, alloc: Global, place: u32, low: u128, high: u128) -> Result<(), AllocError>
-        requires { low ≤ high }
-        ensures { OnOk result (HasChanged self.old self.new low high (λ p. with_reader p place)) }
+        requires { low < high }
+        ensures { OnOk result ((b : ℕ) → HasRead (known_at self.old b) (known_at self.new b)
+            (within low high b) place) }
     {
-        self.split_at(alloc, low)?;
-        self.split_at(alloc, high)?;
-        let mut end = high;
-        while let Some(key) = self.last_between(low, end) {
-            self.read_part(key, end, place)?;
-            end = key;
-        }
-        Ok(())
+        let Ok(number) = u32::try_from(self.reads.len()) else {
+            return Err(AllocError);
+        };
+        let older = self.readers.copied(alloc, low, high)?;
+        self.reads.push(Read { place, older })?;
+        self.readers.set(low, high, Some(number))
     }
 
     /// Makes a place the one that wrote the numbers of a range.
-    fn write(&mut self, alloc: Global, place: u32, low: u128, high: u128) -> Result<(), AllocError>
+    fn write(&mut self, place: u32, low: u128, high: u128) -> Result<(), AllocError>
         requires { low < high }
-        ensures { OnOk result (HasChanged self.old self.new low high (λ p. written_at place)) }
+        ensures { OnOk result ((b : ℕ) → known_at self.new b
+            ≡ (if within low high b then written_at place else known_at self.old b)) }
     {
-        self.split_at(alloc, high)?;
-        while let Some(key) = self.last_between(low, high) {
-            self.parts.remove(&key);
-        }
-        self.parts.insert(low, Part::written(alloc, place))?;
-        Ok(())
-    }
-
-    /// Begins a part of its own where each of a place's ranges begins, and where it ends.
-    pub fn prepare(&mut self, alloc: Global, spans: &[Span]) -> Result<(), AllocError>
-        ensures same { OnOk result ((b : ℕ) → known_at self.new b ≡ known_at self.old b) }
-        ensures edges { OnOk result (HasEdges self.new spans.now) }
-    {
-        for span in spans {
-            self.split_at(alloc, span.low)?;
-            self.split_at(alloc, span.high)?;
-        }
-        Ok(())
-    }
-
-    /// Adds those for whom one of a place's ranges waits by the part from a key up to the next one.
-    fn tell_part(
-        &self,
-        key: u128,
-        end: u128,
-        written: bool,
-        own: &[Span],
-        told: &mut Vec<u32>,
-    ) -> Result<(), AllocError>
-        requires some { key < end }
-        requires first { has_key self.now key ≡ true }
-        requires one { NoneInside key end self.now }
-        requires edges { HasEdges self.now own.now }
-        ensures { OnOk result (AddsTold self.now own.now written key end told.old.items told.new.items) }
-    {
-        let own = writes(own, key);
-        match self.parts.get(&key) {
-            Some(part) => part.tell(written, own, told),
-            None => Ok(()),
-        }
-    }
-
-    /// Adds those for whom a place waits directly by one of its ranges, once a part begins where
-    /// each of these begins and ends.
-    pub fn tell(&self, span: &Span, own: &[Span], told: &mut Vec<u32>) -> Result<(), AllocError>
-        requires some { span.now.low < span.now.high }
-        requires first { has_key self.now span.now.low ≡ true }
-        requires last { has_key self.now span.now.high ≡ true }
-        requires edges { HasEdges self.now own.now }
-        ensures { OnOk result (AddsTold self.now own.now span.now.written span.now.low span.now.high
-            told.old.items told.new.items) }
-    {
-        let mut end = span.high;
-        while let Some(key) = self.last_between(span.low, end) {
-            self.tell_part(key, end, span.written, own, told)?;
-            end = key;
-        }
-        Ok(())
+        self.writers.set(low, high, Some(place))?;
+        self.readers.set(low, high, None)
     }
 
     /// Adds a place to those that have read what its ranges have that it only reads.
@@ -193,13 +196,13 @@ impl Line {
     }
 
     /// Makes a place the one that wrote what its ranges have that it writes.
-    fn write_all(&mut self, alloc: Global, place: u32, spans: &[Span]) -> Result<(), AllocError>
+    fn write_all(&mut self, place: u32, spans: &[Span]) -> Result<(), AllocError>
         ensures { OnOk result ((b : ℕ) → known_at self.new b
             ≡ (if written_by spans.now b then written_at place else known_at self.old b)) }
     {
         for span in spans {
             if span.written && span.low < span.high {
-                self.write(alloc, place, span.low, span.high)?;
+                self.write(place, span.low, span.high)?;
             }
         }
         Ok(())
@@ -215,8 +218,59 @@ impl Line {
             → Keeps self.old all place → Keeps self.new all (suc place)) }
     {
         self.read_all(alloc, place, spans)?;
-        self.write_all(alloc, place, spans)
+        self.write_all(place, spans)
     }
+}
+
+/// Adds the place that wrote some numbers, if there is one.
+fn tell_writer(writer: Option<u32>, told: &mut Vec<u32>) -> Result<(), AllocError>
+    ensures { OnOk result ((j : ℕ) → is_among told.new.items j
+        ≡ (is_among told.old.items j || is_number j writer)) }
+{
+    match writer {
+        Some(place) => tell_place(place, told),
+        None => Ok(()),
+    }
+}
+
+/// Adds a place, unless it is the last one there.
+fn tell_place(place: u32, told: &mut Vec<u32>) -> Result<(), AllocError>
+    ensures { OnOk result ((j : ℕ) → is_among told.new.items j
+        ≡ (is_among told.old.items j || place == j)) }
+{
+    match told.as_slice().last() {
+        Some(last) if *last == place => Ok(()),
+        _ => {
+            told.push(place)?;
+            Ok(())
+        }
+    }
+}
+
+/// The last number within a range where one of some ranges begins or ends, or else its first.
+fn last_edge(spans: &[Span], low: u128, high: u128) -> u128
+    requires { low < high }
+    ensures from { low ≤ result }
+    ensures to { result < high }
+    ensures same { (b : ℕ) → within result high b ≡ true
+        → written_by spans.now b ≡ written_by spans.now result }
+{
+    let mut edge = low;
+    for span in spans {
+        edge = later_edge(edge, span.low, high);
+        edge = later_edge(edge, span.high, high);
+    }
+    edge
+}
+
+/// A number, or a later one below an end.
+fn later_edge(edge: u128, at: u128, high: u128) -> u128
+    requires { edge < high }
+    ensures from { edge ≤ result }
+    ensures to { result < high }
+    ensures at { (at ≤ result) ⊎ (high ≤ at) }
+{
+    if edge < at && at < high { at } else { edge }
 }
 
 /// Whether one of some ranges has a number that is written.

@@ -1,16 +1,16 @@
-use Rattle.std.proofs.Common.{◌∙◌, arith}
-use Rattle.use_line.specs.Known.{with_reader, known_at}
-use Rattle.use_line.proofs.Entries.{joined}
+use Rattle.std.proofs.Common.{rules, sym, subst, ◌≡◌, ◌∙◌, ℕ, length, vec_len}
+use Rattle.std.specs.Prelude.{Some}
+use Rattle.std.proofs.lemmas.Result.{on_ok_weaker}
+use Rattle.use_line.specs.Steps.{HasSet}
+use Rattle.use_line.specs.declared.read.Read.{Read}
+use Rattle.use_line.proofs.Chain.{read_known}
 use Rattle.use_line.proofs.line.Line.read.Goals as goal
 
-pub loop-key-preserved : goal.loop-key-preserved
-loop-key-preserved c =
-    let done = c.in_ok-read_part.ensures in
-    let inv = c.loop-key.invariant in
-    record {
-      from = c.in-Some.ensures.0;
-      to = omega (arith, inv.to, c.in-Some.ensures.1);
-      first = done.keys c.args.low ∙ inv.first;
-      last = done.keys c.in-Some.key ∙ c.in-Some.ensures.2;
-      changed = λ b. done.changed b ∙ joined (λ p. with_reader p c.args.place) c.in-Some.key c.loop-key.end c.args.high b (known_at c.args.self.now b) (known_at c.loop-key.self b) c.in-Some.ensures.1 inv.to (inv.changed b);
-    }
+pub returns : goal.returns
+returns c =
+    let u = c.self.inside in
+    let many : length u.reads.items ≡ vec_len u.reads = search rules in
+    let number : c.in-Ok.number ≡ length u.reads.items = c.in-Ok.ensures.1 ∙ c.len.ensures ∙ sym many in
+    let r : Read = record { place = c.args.place; older = c.in_ok-older.older } in
+    rw (← c.self.view_is, c.in_ok-push.ensures.items) (on_ok_weaker c.set.result (λ set. read_known u.writers u.readers c.set.new.self u.reads.items r c.args.low c.args.high c.self.invariant c.in_ok-older.ensures
+    (subst (λ (n : ℕ). HasSet u.readers c.set.new.self c.args.low c.args.high (Some n)) number set)) c.set.ensures.set)

@@ -1,15 +1,19 @@
-use Rattle.std.proofs.Common.{◌≡◌, ◌≤◌, true}
-use Rattle.use_line.specs.Known.{AddsTold, has_key}
+use Rattle.std.proofs.Common.{◌≡◌, ◌≤◌, ◌⊎◌, ℕ, true, length}
+use Rattle.std.specs.BinaryHeap.{heap_items}
+use Rattle.use_line.specs.Known.{IsToldOf, is_among}
+use Rattle.use_line.specs.Queue.{AreBelow, AreFilled, Due}
 use Rattle.use_line.proofs.line.Line.tell.Given as goal
 
--- those of the parts from here on are told
-abbrev pub invariant-loop-key : goal.invariant-loop-key
-invariant-loop-key l = record {
+-- those of the parts from here on are told, or due
+abbrev pub invariant-loop-end : goal.invariant-loop-end
+invariant-loop-end l = record {
   from : l.span.low ≤ l.end;
   to : l.end ≤ l.span.high;
-  last : has_key l.self l.end ≡ true;
-  told : AddsTold l.self l.own l.span.written l.end l.span.high l.fn.told.items l.told.items;
+  filled : AreFilled (heap_items l.queue);
+  below : AreBelow (length l.self.reads) (heap_items l.queue);
+  due : (j : ℕ) → (Due l.self.reads l.told.items (heap_items l.queue) j → (is_among l.fn.told.items j ≡ true) ⊎ IsToldOf l.self l.own l.span.written l.end l.span.high j)
+      × ((is_among l.fn.told.items j ≡ true) ⊎ IsToldOf l.self l.own l.span.written l.end l.span.high j → Due l.self.reads l.told.items (heap_items l.queue) j);
 }
 
-abbrev pub decreases-loop-key : goal.decreases-loop-key
-decreases-loop-key l = l.end
+abbrev pub decreases-loop-end : goal.decreases-loop-end
+decreases-loop-end l = l.end
