@@ -1,13 +1,12 @@
 -- What the line tells of ranges is the rule on atoms.
-use Rattle.std.specs.Prelude.{◌≡◌, ℕ, zero, suc, ◌+◌, ◌-◌, ◌*◌, ◌^◌, ◌<◌, ◌≤◌, Bool, true, false, ◌&&◌, ◌||◌, ◌==◌, List, [], ◌∷◌, map, length, ◌⊎◌, refl, Option, Some, None, slice_index_or}
-use Rattle.std.specs.List.{list_any, AllByRecursion}
+use Rattle.std.specs.Prelude.{◌≡◌, ℕ, zero, suc, ◌+◌, ◌-◌, ◌*◌, ◌^◌, ◌<◌, ◌≤◌, Bool, true, false, ◌&&◌, ◌||◌, ◌==◌, List, [], ◌∷◌, map, length, refl, Option, Some, None, slice_index_or}
 use Rattle.std.proofs.Common.{sym, ap, ◌∙◌, subst, arith, inl, inr, lit<}
-use Rattle.std.proofs.lemmas.Bool.{and_from, and_parts, cases_Bool, cases_eq, or_cases, or_left, or_right}
+use Rattle.std.proofs.lemmas.Bool.{and_from, and_parts, cases_eq, or_cases, or_left, or_right}
 use Rattle.std.proofs.lemmas.Bool.Decides.{nat_tests}
 use Rattle.interleaving.specs.Direct.{clash_on, IsDirect}
 use Rattle.use_line.specs.declared.line.Span.{Span}
 use Rattle.use_line.specs.Spans.{within, covers, used_by, written_by}
-use Rattle.use_line.specs.Known.{IsToldOf, Keeps, Known, WaitsIn, known_at}
+use Rattle.use_line.specs.Known.{Keeps, Known, WaitsIn, known_at}
 use Rattle.use_line.proofs.Direct.{told_direct}
 use Rattle.world_parts.specs.Items.{Atom, descriptor_at, byte_at, buffer_byte, Item, one, file_bytes, buffer_bytes, all_descriptors, Use, Footprint, member_of, same_atom, has_atom, writes_atom}
 use Rattle.world_parts.specs.Cutting.{is_narrow_use}
@@ -164,7 +163,7 @@ module _ (t : Numbers) (apart : AreApart t) (foot : ℕ → Footprint) (k : ℕ)
       let lt : i < length (foot k) = rw (length_map (span_for t) (foot k)) at f.0 in
       (lt, (told_use i j lt).0 f.1, λ h less₁ waits. f.2 h less₁ ((told_use h j (omega (arith, less₁, lt))).1 waits))
 
-keeps_same : (old new : List (ℕ × Known)) (all : ℕ → List Span) (n : ℕ) → ((b : ℕ) → known_at new b ≡ known_at old b) → Keeps old all n → Keeps new all n
+pub keeps_same : (old new : List (ℕ × Known)) (all : ℕ → List Span) (n : ℕ) → ((b : ℕ) → known_at new b ≡ known_at old b) → Keeps old all n → Keeps new all n
 keeps_same old new all n same keep = record {
   writer = λ b. rw (same b) (keep.writer b);
   readers = λ b j. rw (same b) (keep.readers b j);

@@ -1,7 +1,7 @@
 -- The model: by which of its uses each of a list of footprints waits for earlier ones.
-use Rattle.std.specs.Prelude.{◌≡◌, ℕ, ◌<◌, ◌⊎◌, Bool, true, false, length, Option, MatchOption, slice_index_or}
+use Rattle.std.specs.Prelude.{◌≡◌, ℕ, ◌<◌, ◌⊎◌, true, false, length, Option, MatchOption, slice_index_or}
 use Rattle.interleaving.specs.Direct.{clash_on, IsDirect}
-use Rattle.world_parts.specs.Items.{Atom, chain_flag, Item, one, Use, Footprint, has_atom, writes_atom, member_of}
+use Rattle.world_parts.specs.Items.{Atom, chain_flag, one, Use, Footprint, has_atom, writes_atom, member_of}
 
 -- A footprint waits directly for an earlier one by an atom.
 abbrev pub WaitsAt : (ℕ → Footprint) → Atom → ℕ → ℕ → Type 0

@@ -1,5 +1,5 @@
 -- A view of code: by which of its ranges a place waits first.
-use Rattle.std.specs.Prelude.{◌≡◌, ℕ, ◌<◌, Bool, false, List, Option, Some, None, MatchOption, if◌then◌else◌, slice_index_or}
+use Rattle.std.specs.Prelude.{◌≡◌, ℕ, ◌<◌, false, List, Option, Some, None, MatchOption, if◌then◌else◌, slice_index_or}
 use Rattle.std.specs.Bool.{Decides}
 use Rattle.std.specs.Option.{option_or}
 use Rattle.use_line.specs.declared.line.Span.{Span}

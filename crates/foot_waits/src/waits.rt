@@ -3,6 +3,7 @@ ghost use Rattle.std.specs.Option.{option_or};
 ghost use Rattle.std.specs.Prelude.{◌≡◌, ◌==◌, None, Some, if◌then◌else◌, suc, ◌<◌, ◌^◌, ◌-◌, ℕ, IfOk, OnOk, length};
 ghost use Rattle.std.specs.BTreeMap.{get};
 ghost use Rattle.std.specs.Ordering.{nat_cmp};
+ghost use Rattle.foot_waits.specs.Names.{KeepsNumbers};
 ghost use Rattle.foot_waits.specs.Told.{IsAt, IsFirst, TellsAll, with_told};
 ghost use Rattle.foot_waits.specs.Rule.{IsFirstUse};
 ghost use Rattle.world_parts.specs.Items as items;
@@ -24,23 +25,15 @@ pub struct Waits {
 }
 
 impl Waits {
-    /// Before the first of a list of footprints, with the names that all of them have.
-    ///
-    /// # Errors
-    ///
-    /// Want of memory.
-    pub fn new(alloc: Global, feet: &[Footprint]) -> Result<Self, AllocError>
-        ensures { IfOk result (λ waits. (foot : ℕ → items.Footprint) → IsAt waits foot 0) }
+    /// Before the first of a list of footprints.
+    pub fn new(alloc: Global) -> Self
+        ensures { (foot : ℕ → items.Footprint) → IsAt result foot 0 }
     {
-        let mut names = Names::new(alloc);
-        for footprint in feet {
-            add_names(alloc, &mut names, footprint.uses())?;
-        }
-        Ok(Waits {
-            names,
+        Waits {
+            names: Names::new(alloc),
             line: Line::new(alloc),
             place: 0,
-        })
+        }
     }
 
     /// For whom the next footprint waits directly: of each, the number of the first use by which it
@@ -48,7 +41,7 @@ impl Waits {
     ///
     /// # Errors
     ///
-    /// Want of memory: then what is known is of no use any more.
+    /// Out of memory: then what is known is of no use any more.
     pub fn next(
         &mut self,
         alloc: Global,
@@ -61,6 +54,7 @@ impl Waits {
             → foot self.old.place ≡ footprint.now → IsAt self.old foot self.old.place
             → (j : ℕ) → IsFirstUse foot self.old.place j (get nat_cmp found j)) }
     {
+        add_names(alloc, &mut self.names, footprint.uses())?;
         let spans = spans_of(alloc, &self.names, footprint)?;
         if spans.len() >= 4_294_967_296 {
             return Err(AllocError);
@@ -75,7 +69,9 @@ impl Waits {
 }
 
 /// Adds the names of some uses.
-fn add_names(alloc: Global, names: &mut Names, uses: &[Use]) -> Result<(), AllocError> {
+fn add_names(alloc: Global, names: &mut Names, uses: &[Use]) -> Result<(), AllocError>
+    ensures { OnOk result (KeepsNumbers names.old names.new) }
+{
     for used in uses {
         if let Item::Name(directory, name) = &used.item {
             names.add(alloc, *directory, name.as_slice())?;
