@@ -1,5 +1,5 @@
 -- More names leave what was there as it was.
-use Rattle.std.specs.Prelude.{◌≡◌, ℕ, zero, suc, ◌+◌, ◌^◌, ◌<◌, ◌≤◌, true, List, [], ◌∷◌, map, refl}
+use Rattle.std.specs.Prelude.{◌≡◌, ℕ, zero, suc, ◌+◌, ◌^◌, ◌<◌, ◌≤◌, true, List, [], ◌∷◌, map, refl, if◌then◌else◌}
 use Rattle.std.specs.Option.{IsSome, unwrap_or}
 use Rattle.std.proofs.Common.{sym, ap, ◌∙◌, subst, arith}
 use Rattle.world_parts.specs.Items.{name_at, Item, one, Use, Footprint}
@@ -8,6 +8,7 @@ use Rattle.use_line.specs.History.{has_read, is_read, latest_writer}
 use Rattle.use_line.specs.Known.{Keeps, Known}
 use Rattle.use_line.specs.Spans.{used_by, written_by}
 use Rattle.foot_waits.specs.Names.{KeepsNumbers, name_key}
+use Rattle.foot_waits.specs.Rule.{is_of_descriptors}
 use Rattle.foot_waits.specs.Spots.{AllFit, ItemFits, Numbers, high_in, item_known, low_in, row_in, sort_in, span_for, spot}
 
 pub kept_on : (old mid new : Numbers) → KeepsNumbers old mid → KeepsNumbers mid new → KeepsNumbers old new
@@ -31,8 +32,8 @@ module _ (s t : Numbers) (kept : KeepsNumbers s t) where
 
   span_kept : (u : Use) → ItemFits s u.item → span_for t u ≡ span_for s u
   span_kept u f = λ i. record {
-    low = spot (sort_in u.item) (row_in u.item) (low_kept u.item f.known i);
-    high = spot (sort_in u.item) (row_in u.item) (high_kept u.item f.known i);
+    low = if is_of_descriptors u.item then 0 else spot (sort_in u.item) (row_in u.item) (low_kept u.item f.known i);
+    high = if is_of_descriptors u.item then 0 else spot (sort_in u.item) (row_in u.item) (high_kept u.item f.known i);
     written = u.written;
   }
 

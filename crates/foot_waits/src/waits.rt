@@ -1,14 +1,17 @@
 //! For whom each of a list of footprints waits directly.
 ghost use Rattle.std.specs.Option.{option_or};
-ghost use Rattle.std.specs.Prelude.{◌≡◌, ◌==◌, None, Some, if◌then◌else◌, suc, ◌<◌, ◌^◌, ◌-◌, ℕ, IfOk, OnOk, length};
+ghost use Rattle.std.specs.Prelude.{◌≡◌, ◌==◌, None, Some, if◌then◌else◌, suc, ◌<◌, ◌^◌, ◌-◌, ℕ, IfOk, OnOk, length, map};
 ghost use Rattle.std.specs.BTreeMap.{get};
 ghost use Rattle.std.specs.Ordering.{nat_cmp};
 ghost use Rattle.foot_waits.specs.Names.{KeepsNumbers};
 ghost use Rattle.foot_waits.specs.Told.{IsAt, IsFirst, TellsAll, with_told};
 ghost use Rattle.foot_waits.specs.Rule.{IsFirstUse};
+ghost use Rattle.foot_waits.specs.Rule as rule;
 ghost use Rattle.world_parts.specs.Items as items;
+ghost use Rattle.world_parts.specs.Uses.{use_meant};
 ghost use Rattle.use_line.specs.Known.{HasEdges};
 
+use crate::descriptors::{Descriptors, descriptor_uses, is_of_descriptors};
 use crate::names::Names;
 use crate::spans::spans_of;
 use std::alloc::{AllocError, Global};
@@ -21,6 +24,7 @@ use world_parts::{Footprint, Item, Use};
 pub struct Waits {
     names: Names,
     line: Line,
+    descriptors: Descriptors,
     place: u32,
 }
 
@@ -32,6 +36,7 @@ impl Waits {
         Waits {
             names: Names::new(alloc),
             line: Line::new(alloc),
+            descriptors: Descriptors::new(alloc),
             place: 0,
         }
     }
@@ -61,8 +66,17 @@ impl Waits {
         }
         self.names.are_apart();
         self.line.prepare(alloc, spans.as_slice())?;
-        let found = first_told(alloc, &self.line, spans.as_slice())?;
+        let own = descriptor_uses(alloc, footprint)?;
+        let found = first_told(
+            alloc,
+            &self.line,
+            &self.descriptors,
+            footprint.uses(),
+            &own,
+            spans.as_slice(),
+        )?;
         self.line.add(alloc, self.place, spans.as_slice())?;
+        self.descriptors.add(alloc, self.place, own)?;
         self.place += 1;
         Ok(found)
     }
@@ -80,30 +94,55 @@ fn add_names(alloc: Global, names: &mut Names, uses: &[Use]) -> Result<(), Alloc
     Ok(())
 }
 
-/// Of each earlier place for which one waits by some range, the number of the first of these.
-fn first_told(alloc: Global, line: &Line, spans: &[Span]) -> Result<BTreeMap<u32, u32>, AllocError>
+/// Of each earlier place for which one waits by some use, the number of the first of these.
+fn first_told(
+    alloc: Global,
+    line: &Line,
+    descriptors: &Descriptors,
+    uses: &[Use],
+    own: &Footprint,
+    spans: &[Span],
+) -> Result<BTreeMap<u32, u32>, AllocError>
+    requires own { own.now ≡ rule.descriptor_uses (map use_meant uses.now) }
+    requires each { length uses.now ≡ length spans.now }
     requires edges { HasEdges line.now spans.now }
     requires few { length spans.now < 2 ^ 32 }
-    ensures { IfOk result (λ found. (j : ℕ) → IsFirst line.now spans.now (length spans.now) j (get nat_cmp found j)) }
+    ensures { IfOk result (λ found. (j : ℕ) → IsFirst (line.now, descriptors.now)
+        (map use_meant uses.now) spans.now (length spans.now) j (get nat_cmp found j)) }
 {
     let mut found = BTreeMap::new(alloc);
     for index in 0..spans.len() {
-        let told = told_by(alloc, line, spans, index)?;
+        let told = told_by(alloc, line, descriptors, uses, own, spans, index)?;
         add_first(&mut found, told.as_slice(), index as u32)?;
     }
     Ok(found)
 }
 
-/// Those for whom a place waits by one of its ranges.
-fn told_by(alloc: Global, line: &Line, spans: &[Span], index: usize) -> Result<Vec<u32>, AllocError>
+/// Those for whom a place waits by one of its uses.
+fn told_by(
+    alloc: Global,
+    line: &Line,
+    descriptors: &Descriptors,
+    uses: &[Use],
+    own: &Footprint,
+    spans: &[Span],
+    index: usize,
+) -> Result<Vec<u32>, AllocError>
+    requires own { own.now ≡ rule.descriptor_uses (map use_meant uses.now) }
+    requires each { length uses.now ≡ length spans.now }
     requires edges { HasEdges line.now spans.now }
     requires within { index < length spans.now }
-    ensures { IfOk result (λ told. TellsAll line.now spans.now index told.items) }
+    ensures { IfOk result (λ told. TellsAll (line.now, descriptors.now) (map use_meant uses.now)
+        spans.now index told.items) }
 {
     let mut told = Vec::new(alloc);
     let span = spans[index];
     if span.low < span.high {
         line.tell(&span, spans, &mut told)?;
+    }
+    let used = &uses[index];
+    if is_of_descriptors(&used.item) {
+        descriptors.tell(used, own, &mut told)?;
     }
     Ok(told)
 }
