@@ -1,7 +1,8 @@
 -- Whom groups of places tell are those that come directly before.
 use Rattle.std.specs.Prelude.{◌≡◌, ℕ, zero, suc, ◌-◌, ◌<◌, ◌≤◌, Bool, true, false, ◌&&◌, ◌||◌, ◌==◌, leb, max, List, [], ◌∷◌, ◌++◌, length, ◌⊎◌, refl, if◌then◌else◌, slice_index_or}
 use Rattle.std.specs.List.{AllByRecursion, list_all, list_any, remove}
-use Rattle.std.proofs.Common.{drop, sym, ap, ◌∙◌, subst, arith, inl, inr}
+use Rattle.std.specs.Ordering.{nat_cmp, ord_max}
+use Rattle.std.proofs.Common.{drop, take, sym, ap, ◌∙◌, subst, arith, inl, inr}
 use Rattle.std.proofs.lemmas.Bool.{and_from, and_parts, cases_Bool, cases_lt, eqb-true, false_from_ne_true, or_cases, or_left, or_right}
 use Rattle.std.proofs.lemmas.Bool.Decides.{nat_tests}
 use Rattle.std.proofs.lemmas.List.Folds.{list_any-append}
@@ -10,7 +11,7 @@ use Rattle.use_line.specs.Known.{is_among}
 use Rattle.world_parts.specs.Items.{Use, Footprint, collide}
 use Rattle.foot_waits.specs.Groups.{BeginsAt, Grouped, HasUses, IsAdded, KeepsGroups, Rise, from_on, latest_between, meets, nothing, told_among, told_in, with_place}
 use Rattle.foot_waits.specs.Rule.{WaitsBy, descriptor_uses, descriptors}
-use Rattle.foot_waits.proofs.Adding.{all_pushed}
+use Rattle.foot_waits.proofs.Adding.{all_pushed, take_whole}
 
 -- the end of a list that rises
 among_above : (p j : ℕ) (ps : List ℕ) → AllByRecursion (λ q. p < q) ps → is_among ps j ≡ true → p < j
@@ -65,7 +66,7 @@ all_each since [] i t lt = absurd (omega arith)
 all_each since (p ∷ ps) zero t lt = let le = (and_parts (leb since p) (list_all (λ q. leb since q) ps) t).0 in grind (arith, nat_tests)
 all_each since (p ∷ ps) (suc i) t lt = all_each since ps i ((and_parts (leb since p) (list_all (λ q. leb since q) ps) t).1) (omega (arith, lt))
 
-pub begins_is : (since : ℕ) (ps : List ℕ) (first : ℕ) → BeginsAt since ps first → drop first ps ≡ from_on since ps
+begins_is : (since : ℕ) (ps : List ℕ) (first : ℕ) → BeginsAt since ps first → drop first ps ≡ from_on since ps
 begins_is since [] zero b = refl
 begins_is since [] (suc f) b = refl
 begins_is since (p ∷ ps) zero b = let t : list_all (λ q. leb since q) (p ∷ ps) ≡ true = each_all since (p ∷ ps) (λ i lt. b.from i (omega arith) lt) in rw t refl
@@ -84,6 +85,15 @@ begins_is since (p ∷ ps) (suc f) b =
     shorter : (f : ℕ) → slice_index_or (p ∷ ps) f 0 < since → (f ≡ 0) ⊎ (slice_index_or ps (f - 1) 0 < since)
     shorter zero l = inl refl
     shorter (suc f) l = let minus : suc f - 1 ≡ f = omega arith in inr (rw minus l)
+
+length_drop : (ps : List ℕ) (first : ℕ) → length (drop first ps) ≤ length ps - first
+length_drop [] zero = omega arith
+length_drop [] (suc f) = omega arith
+length_drop (p ∷ ps) zero = omega arith
+length_drop (p ∷ ps) (suc f) = let rest = length_drop ps f in omega (arith, rest)
+
+pub end_is : (since : ℕ) (ps : List ℕ) (first : ℕ) → BeginsAt since ps first → take (length ps - first) (drop first ps) ≡ from_on since ps
+end_is since ps first b = take_whole (drop first ps) (length ps - first) (length_drop ps first) ∙ begins_is since ps first b
 
 -- what holds of each of a list, and of one that passes a test
 any_found : {X : Type 0} (P : X → Type 0) (test : X → Bool) (xs : List X) → AllByRecursion P xs → list_any test xs ≡ true → (x : X) × P x × (test x ≡ true)
@@ -287,3 +297,13 @@ module _ (foot : ℕ → Footprint) where
     where
       later : AllByRecursion (HasUses foot (suc n)) old
       later = all_weaker (HasUses foot n) (HasUses foot (suc n)) old (uses_later n) keep.groups
+
+-- one group more
+pub latest_next : (own uses : Footprint) (gs : List Grouped) (i : ℕ) (g : Grouped) → i < length gs → g ≡ slice_index_or gs i g
+    → latest_between own uses (take (suc i) gs) ≡ max (latest_between own uses (take i gs)) (if both_clash own uses g then g.1 else 0)
+latest_next own uses [] i g lt e = absurd (omega arith)
+latest_next own uses (h ∷ gs) zero g lt e = rw e (grind arith)
+latest_next own uses (h ∷ gs) (suc i) g lt e = let rest = latest_next own uses gs i g (omega arith) e in rw rest (grind arith)
+
+pub the_max : (a b : ℕ) → ord_max nat_cmp a b ≡ max a b
+the_max a b = grind (arith, nat_tests)

@@ -1,8 +1,9 @@
 //! Which places have used descriptors, in groups that have used them alike.
-ghost use Rattle.std.specs.Prelude.{◌≡◌, ◌<◌, ◌≤◌, ◌||◌, ◌++◌, ◌∷◌, ℕ, [], IfOk, MatchOption, OnOk, length, slice_index_or};
-ghost use Rattle.foot_waits.specs.Groups.{BeginsAt, IsAdded, from_on, latest_between, meets, nothing, told_among, with_place};
+ghost use Rattle.std.specs.Prelude.{◌≡◌, ◌<◌, ◌≤◌, ◌&&◌, ◌||◌, ◌++◌, ◌∷◌, ℕ, [], IfOk, MatchOption, OnOk, if◌then◌else◌, length, slice_index_or};
+ghost use Rattle.foot_waits.specs.Groups.{BeginsAt, IsAdded, from_on, latest_between, meets, nothing, told_among, told_in, with_place};
 ghost use Rattle.foot_waits.specs.Rule.{descriptor_uses, is_of_descriptors};
 ghost use Rattle.use_line.specs.Known.{is_among};
+ghost use Rattle.world_parts.specs.Items.{collide};
 ghost use Rattle.world_parts.specs.Uses.{item_meant, use_meant};
 
 use std::alloc::{AllocError, Global};
@@ -56,6 +57,18 @@ impl Group {
             touches_item(&self.uses, &used.item)
         } else {
             writes_item(&self.uses, &used.item)
+        }
+    }
+
+    /// The latest place, if the group clashes with both of two footprints, or else 0.
+    fn latest_if_between(&self, own: &Footprint, uses: &Footprint) -> u32
+        ensures { result ≡ (if collide own.now self.now.0 && collide self.now.0 uses.now
+            then self.now.1 else 0) }
+    {
+        if collide(own, &self.uses) && collide(&self.uses, uses) {
+            self.latest
+        } else {
+            0
         }
     }
 
@@ -151,29 +164,58 @@ impl Descriptors {
     {
         let mut latest = 0;
         for group in &self.groups {
-            if collide(own, &group.uses) && collide(&group.uses, uses) {
-                latest = group.latest.max(latest);
-            }
+            latest = latest.max(group.latest_if_between(own, uses));
         }
         latest
     }
 
-    /// Adds those for whom a footprint waits by one of its uses, where `own` is all that it uses of
-    /// descriptors.
+    /// Adds those for whom a footprint waits by one of its uses, if that is one of descriptors,
+    /// where `own` is all that it uses of them.
     pub(crate) fn tell(
         &self,
         used: &Use,
         own: &Footprint,
         told: &mut Vec<u32>,
     ) -> Result<(), AllocError>
-        ensures { OnOk result ((j : ℕ) → is_among told.new.items j
-            ≡ (is_among told.old.items j || told_among self.now own.now (use_meant used.now) j self.now)) }
+        ensures { OnOk result ((j : ℕ) → is_among told.new.items j ≡ (is_among told.old.items j
+            || (is_of_descriptors (item_meant used.now.item)
+            && told_among self.now own.now (use_meant used.now) j self.now))) }
+    {
+        if is_of_descriptors(&used.item) {
+            return self.tell_groups(used, own, told);
+        }
+        Ok(())
+    }
+
+    fn tell_groups(
+        &self,
+        used: &Use,
+        own: &Footprint,
+        told: &mut Vec<u32>,
+    ) -> Result<(), AllocError>
+        ensures { OnOk result ((j : ℕ) → is_among told.new.items j ≡ (is_among told.old.items j
+            || told_among self.now own.now (use_meant used.now) j self.now)) }
     {
         for group in &self.groups {
-            if group.meets(used) {
-                let latest = self.latest_between(own, &group.uses);
-                group.tell(latest, told)?;
-            }
+            self.tell_group(group, used, own, told)?;
+        }
+        Ok(())
+    }
+
+    /// Adds those of one group.
+    fn tell_group(
+        &self,
+        group: &Group,
+        used: &Use,
+        own: &Footprint,
+        told: &mut Vec<u32>,
+    ) -> Result<(), AllocError>
+        ensures { OnOk result ((j : ℕ) → is_among told.new.items j ≡ (is_among told.old.items j
+            || told_in self.now own.now (use_meant used.now) j group.now)) }
+    {
+        if group.meets(used) {
+            let latest = self.latest_between(own, &group.uses);
+            return group.tell(latest, told);
         }
         Ok(())
     }
@@ -212,7 +254,7 @@ fn add_descriptors(uses: &mut Footprint, used: &Use) -> Result<(), AllocError>
 }
 
 /// Whether an item is a descriptor, or all of them.
-pub(crate) fn is_of_descriptors(item: &Item) -> bool
+fn is_of_descriptors(item: &Item) -> bool
     ensures { result ≡ is_of_descriptors (item_meant item.now) }
 {
     matches!(item, Item::Descriptor(_) | Item::AllDescriptors)

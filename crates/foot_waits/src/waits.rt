@@ -1,6 +1,6 @@
 //! For whom each of a list of footprints waits directly.
 ghost use Rattle.std.specs.Option.{option_or};
-ghost use Rattle.std.specs.Prelude.{◌≡◌, ◌==◌, None, Some, if◌then◌else◌, suc, ◌<◌, ◌^◌, ◌-◌, ℕ, IfOk, OnOk, length, map};
+ghost use Rattle.std.specs.Prelude.{◌≡◌, ◌==◌, None, Some, if◌then◌else◌, suc, ◌<◌, ◌^◌, ◌-◌, ℕ, IfOk, OnOk, length, map, slice_index_or};
 ghost use Rattle.std.specs.BTreeMap.{get};
 ghost use Rattle.std.specs.Ordering.{nat_cmp};
 ghost use Rattle.foot_waits.specs.Names.{KeepsNumbers};
@@ -9,9 +9,10 @@ ghost use Rattle.foot_waits.specs.Rule.{IsFirstUse};
 ghost use Rattle.foot_waits.specs.Rule as rule;
 ghost use Rattle.world_parts.specs.Items as items;
 ghost use Rattle.world_parts.specs.Uses.{use_meant};
-ghost use Rattle.use_line.specs.Known.{HasEdges};
+ghost use Rattle.foot_waits.specs.Spots.{no_span};
+ghost use Rattle.use_line.specs.Known.{AddsTold, HasEdges};
 
-use crate::descriptors::{Descriptors, descriptor_uses, is_of_descriptors};
+use crate::descriptors::{Descriptors, descriptor_uses};
 use crate::names::Names;
 use crate::spans::spans_of;
 use std::alloc::{AllocError, Global};
@@ -136,15 +137,28 @@ fn told_by(
         spans.now index told.items) }
 {
     let mut told = Vec::new(alloc);
+    tell_line(line, spans, index, &mut told)?;
+    descriptors.tell(&uses[index], own, &mut told)?;
+    Ok(told)
+}
+
+/// Adds those for whom a place waits by one of its ranges.
+fn tell_line(
+    line: &Line,
+    spans: &[Span],
+    index: usize,
+    told: &mut Vec<u32>,
+) -> Result<(), AllocError>
+    requires edges { HasEdges line.now spans.now }
+    requires within { index < length spans.now }
+    ensures { OnOk result (let s = slice_index_or spans.now index no_span in
+        AddsTold line.now spans.now s.written s.low s.high told.old.items told.new.items) }
+{
     let span = spans[index];
     if span.low < span.high {
-        line.tell(&span, spans, &mut told)?;
+        return line.tell(&span, spans, told);
     }
-    let used = &uses[index];
-    if is_of_descriptors(&used.item) {
-        descriptors.tell(used, own, &mut told)?;
-    }
-    Ok(told)
+    Ok(())
 }
 
 /// Adds those of some places that aren't there yet, with a number.
