@@ -1,0 +1,5 @@
+pub mod Names
+pub mod Rule
+pub mod Spots
+pub mod Groups
+pub mod Told
