@@ -1,15 +1,14 @@
 -- What the line tells of ranges is the rule on atoms.
-use Rattle.std.specs.Prelude.{◌≡◌, ℕ, zero, suc, ◌+◌, ◌-◌, ◌*◌, ◌^◌, ◌<◌, ◌≤◌, Bool, true, false, ◌&&◌, ◌||◌, ◌==◌, List, [], ◌∷◌, map, length, ◌⊎◌, refl, Option, Some, None, slice_index_or}
-use Rattle.std.specs.List.{list_any, AllByRecursion}
+use Rattle.std.specs.Prelude.{◌≡◌, ℕ, zero, suc, ◌+◌, ◌-◌, ◌*◌, ◌^◌, ◌<◌, ◌≤◌, Bool, true, false, ◌&&◌, ◌||◌, ◌==◌, List, [], ◌∷◌, map, length, refl, Option, Some, None, slice_index_or}
 use Rattle.std.proofs.Common.{sym, ap, ◌∙◌, subst, arith, inl, inr, lit<}
 use Rattle.std.proofs.lemmas.Bool.{and_from, and_parts, cases_Bool, cases_eq, or_cases, or_left, or_right}
 use Rattle.std.proofs.lemmas.Bool.Decides.{nat_tests}
 use Rattle.interleaving.specs.Direct.{clash_on, IsDirect}
 use Rattle.use_line.specs.declared.line.Span.{Span}
 use Rattle.use_line.specs.Spans.{within, covers, used_by, written_by}
-use Rattle.use_line.specs.Known.{IsToldOf, Keeps, Known, WaitsIn, known_at}
+use Rattle.use_line.specs.Known.{IsToldOf, Keeps, WaitsIn}
 use Rattle.use_line.proofs.Direct.{told_direct}
-use Rattle.world_parts.specs.Items.{Atom, descriptor_at, byte_at, buffer_byte, Item, one, file_bytes, buffer_bytes, all_descriptors, Use, Footprint, collide, member_of, same_atom, has_atom, writes_atom}
+use Rattle.world_parts.specs.Items.{Atom, byte_at, buffer_byte, Item, one, file_bytes, buffer_bytes, all_descriptors, Use, Footprint, collide, member_of, same_atom, has_atom, writes_atom}
 use Rattle.world_parts.specs.Cutting.{is_narrow_use}
 use Rattle.world_parts.proofs.Collision.{same_atom_refl, true_of}
 use Rattle.foot_waits.specs.Names.{AreApart}
@@ -250,19 +249,12 @@ module _ (t : Numbers) (apart : AreApart t) (foot : ℕ → Footprint) (k : ℕ)
       let lt : i < length (foot k) = rw (length_map (span_for t) (foot k)) at f.0 in
       (lt, (told_use i j lt).0 f.1, λ h less₁ waits. f.2 h less₁ ((told_use h j (omega (arith, less₁, lt))).1 waits))
 
-pub keeps_same : (old new : List (ℕ × Known)) (all : ℕ → List Span) (n : ℕ) → ((b : ℕ) → known_at new b ≡ known_at old b) → Keeps old all n → Keeps new all n
-keeps_same old new all n same keep = record {
-  writer = λ b. rw (same b) (keep.writer b);
-  readers = λ b j. rw (same b) (keep.readers b j);
-  unread = λ b. rw (same b) (keep.unread b);
-}
-
-pub first_at : (t : Numbers) (apart : AreApart t) (foot : ℕ → Footprint) (k : ℕ) (f : Footprint) (line : List (ℕ × Known)) (past : Past) (spans : List Span) (j : ℕ) (o : Option ℕ)
-    → foot k ≡ f → Keeps line (λ i. map (span_for t) (foot i)) k → KeepsGroups past.1 foot k → ((i : ℕ) → i < k → AllFit t (foot i)) → AllFit t f → spans ≡ map (span_for t) f
-    → ((b : ℕ) → known_at past.0 b ≡ known_at line b) → IsFirst past f spans (length spans) j o → IsFirstUse foot k j o
-first_at t apart foot k f line past spans j o is keep groups fit mine are same first =
+pub first_at : (t : Numbers) (apart : AreApart t) (foot : ℕ → Footprint) (k : ℕ) (f : Footprint) (past : Past) (spans : List Span) (j : ℕ) (o : Option ℕ)
+    → foot k ≡ f → Keeps past.0 (λ i. map (span_for t) (foot i)) k → KeepsGroups past.1 foot k → ((i : ℕ) → i < k → AllFit t (foot i)) → AllFit t f → spans ≡ map (span_for t) f
+    → IsFirst past f spans (length spans) j o → IsFirstUse foot k j o
+first_at t apart foot k f past spans j o is keep groups fit mine are first =
     let here : AllFit t (foot k) = subst (λ g. AllFit t g) (sym is) mine in
     let all_fit : (i : ℕ) → i ≤ k → AllFit t (foot i) = λ i le. elim (cases_eq i k) [ inl e ↦ subst (λ n. AllFit t (foot n)) (sym e) here | inr ne ↦ fit i (omega (arith, le, ne)) ] in
     let moved : IsFirst past (foot k) spans (length spans) j o = subst (λ g. IsFirst past g spans (length spans) j o) (sym is) first in
     let there : IsFirst past (foot k) (map (span_for t) (foot k)) (length (map (span_for t) (foot k))) j o = subst (λ (ss : List Span). IsFirst past (foot k) ss (length ss) j o) (are ∙ ap (λ g. map (span_for t) g) (sym is)) moved in
-    first_use t apart foot k all_fit past (keeps_same line past.0 (λ i. map (span_for t) (foot i)) k same keep) groups j o there
+    first_use t apart foot k all_fit past keep groups j o there

@@ -5,7 +5,7 @@ use Rattle.std.proofs.Common.{sym, ap, ◌∙◌, subst, arith}
 use Rattle.world_parts.specs.Items.{name_at, Item, one, Use, Footprint}
 use Rattle.use_line.specs.declared.line.Span.{Span}
 use Rattle.use_line.specs.History.{has_read, is_read, latest_writer}
-use Rattle.use_line.specs.Known.{Keeps, Known}
+use Rattle.use_line.specs.Known.{Keeps, Uses}
 use Rattle.use_line.specs.Spans.{used_by, written_by}
 use Rattle.foot_waits.specs.Names.{KeepsNumbers, name_key}
 use Rattle.foot_waits.specs.Rule.{is_of_descriptors}
@@ -65,13 +65,13 @@ module _ (old new : ℕ → List Span) where
   unread_same b zero same = refl
   unread_same b (suc n) same = rw (same n (omega arith), unread_same b n (λ i lt. same i (omega (arith, lt)))) refl
 
-  pub keeps_renamed : (es : List (ℕ × Known)) (n : ℕ) → Same n → Keeps es old n → Keeps es new n
+  pub keeps_renamed : (es : Uses) (n : ℕ) → Same n → Keeps es old n → Keeps es new n
   keeps_renamed es n same keep = record {
     writer = λ b. keep.writer b ∙ sym (writer_same b n same);
     readers = λ b j. keep.readers b j ∙ sym (readers_same b n j same);
     unread = λ b. rw (unread_same b n same) (keep.unread b);
   }
 
-pub at_kept : (s t : Numbers) → KeepsNumbers s t → (foot : ℕ → Footprint) (es : List (ℕ × Known)) (n : ℕ) → Keeps es (λ i. map (span_for s) (foot i)) n
+pub at_kept : (s t : Numbers) → KeepsNumbers s t → (foot : ℕ → Footprint) (es : Uses) (n : ℕ) → Keeps es (λ i. map (span_for s) (foot i)) n
     → ((i : ℕ) → i < n → AllFit s (foot i)) → Keeps es (λ i. map (span_for t) (foot i)) n
 at_kept s t kept foot es n keep fit = keeps_renamed (λ i. map (span_for s) (foot i)) (λ i. map (span_for t) (foot i)) es n (λ i lt. spans_kept s t kept (foot i) (fit i lt)) keep

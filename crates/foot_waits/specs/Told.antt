@@ -3,7 +3,7 @@ use Rattle.std.specs.Prelude.{◌≡◌, ℕ, ◌<◌, ◌⊎◌, true, List, Op
 use Rattle.std.specs.Bool.{Decides}
 use Rattle.std.specs.Option.{option_or}
 use Rattle.use_line.specs.declared.line.Span.{Span}
-use Rattle.use_line.specs.Known.{IsToldOf, Keeps, Known, is_among}
+use Rattle.use_line.specs.Known.{IsToldOf, Keeps, Uses, is_among}
 use Rattle.world_parts.specs.Items.{Footprint}
 use Rattle.foot_waits.specs.Groups.{Grouped, KeepsGroups, told_among}
 use Rattle.foot_waits.specs.Rule.{descriptor_uses, is_of_descriptors, use_at}
@@ -12,7 +12,7 @@ use Rattle.foot_waits.specs.declared.waits.Waits.{Waits}
 
 -- what is known of the places so far: on the line, and of descriptors
 abbrev pub Past : Type 0
-Past = List (ℕ × Known) × List Grouped
+Past = Uses × List Grouped
 
 -- whether a footprint with these ranges waits for another by one of its uses
 abbrev pub TellsBy : Past → Footprint → List Span → ℕ → ℕ → Type 0

@@ -222,10 +222,7 @@ impl Descriptors {
 }
 
 /// What a footprint uses of descriptors.
-pub(crate) fn descriptor_uses(
-    alloc: Global,
-    footprint: &Footprint,
-) -> Result<Footprint, AllocError>
+pub(crate) fn descriptor_uses(alloc: Global, footprint: &Footprint) -> Result<Footprint, AllocError>
     ensures { IfOk result (λ uses. uses ≡ descriptor_uses footprint.now) }
 {
     let mut uses = Footprint::new(alloc);

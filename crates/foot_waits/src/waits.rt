@@ -10,7 +10,7 @@ ghost use Rattle.foot_waits.specs.Rule as rule;
 ghost use Rattle.world_parts.specs.Items as items;
 ghost use Rattle.world_parts.specs.Uses.{use_meant};
 ghost use Rattle.foot_waits.specs.Spots.{no_span};
-ghost use Rattle.use_line.specs.Known.{AddsTold, HasEdges};
+ghost use Rattle.use_line.specs.Known.{AddsTold};
 
 use crate::descriptors::{Descriptors, descriptor_uses};
 use crate::names::Names;
@@ -66,7 +66,6 @@ impl Waits {
             return Err(AllocError);
         }
         self.names.are_apart();
-        self.line.prepare(alloc, spans.as_slice())?;
         let own = descriptor_uses(alloc, footprint)?;
         let found = first_told(
             alloc,
@@ -106,7 +105,6 @@ fn first_told(
 ) -> Result<BTreeMap<u32, u32>, AllocError>
     requires own { own.now ≡ rule.descriptor_uses (map use_meant uses.now) }
     requires each { length uses.now ≡ length spans.now }
-    requires edges { HasEdges line.now spans.now }
     requires few { length spans.now < 2 ^ 32 }
     ensures { IfOk result (λ found. (j : ℕ) → IsFirst (line.now, descriptors.now)
         (map use_meant uses.now) spans.now (length spans.now) j (get nat_cmp found j)) }
@@ -131,32 +129,31 @@ fn told_by(
 ) -> Result<Vec<u32>, AllocError>
     requires own { own.now ≡ rule.descriptor_uses (map use_meant uses.now) }
     requires each { length uses.now ≡ length spans.now }
-    requires edges { HasEdges line.now spans.now }
     requires within { index < length spans.now }
     ensures { IfOk result (λ told. TellsAll (line.now, descriptors.now) (map use_meant uses.now)
         spans.now index told.items) }
 {
     let mut told = Vec::new(alloc);
-    tell_line(line, spans, index, &mut told)?;
+    tell_line(alloc, line, spans, index, &mut told)?;
     descriptors.tell(&uses[index], own, &mut told)?;
     Ok(told)
 }
 
 /// Adds those for whom a place waits by one of its ranges.
 fn tell_line(
+    alloc: Global,
     line: &Line,
     spans: &[Span],
     index: usize,
     told: &mut Vec<u32>,
 ) -> Result<(), AllocError>
-    requires edges { HasEdges line.now spans.now }
     requires within { index < length spans.now }
     ensures { OnOk result (let s = slice_index_or spans.now index no_span in
         AddsTold line.now spans.now s.written s.low s.high told.old.items told.new.items) }
 {
     let span = spans[index];
     if span.low < span.high {
-        return line.tell(&span, spans, told);
+        return line.tell(alloc, &span, spans, told);
     }
     Ok(())
 }
