@@ -1,5 +1,5 @@
 //! For whom the places of a trace wait, told one after another.
-ghost use Rattle.std.specs.Prelude.{◌≡◌, ◌+◌, ◌<◌, IfOk, OnOk, if◌then◌else◌};
+ghost use Rattle.std.specs.Prelude.{◌≡◌, ◌+◌, ◌-◌, ◌^◌, ◌<◌, IfOk, OnOk, if◌then◌else◌};
 ghost use Rattle.chain_plan.specs.Chain.{role};
 ghost use Rattle.depend_log.specs.Places.{IsPlaceWaits};
 ghost use Rattle.depend_log.specs.Running.{HasRun, next_place};
@@ -46,7 +46,7 @@ impl Dependencies {
         ensures first { IfOk result (λ known. next_place known ≡ 0) }
     {
         let plan = Plan::of(alloc, trace)?;
-        let waits = Waits::new(alloc, &[])?;
+        let waits = Waits::new(alloc);
         match State::of(alloc, trace) {
             Ok(state) => Ok(Dependencies {
                 plan,
@@ -72,6 +72,8 @@ impl Dependencies {
         ensures run { OnOk result (HasRun trace.now self.new) }
         ensures place { OnOk result (next_place self.new ≡ next_place self.old + 1) }
     {
+        // There are fewer places than numbers for them.
+        let _many = trace.places();
         let role_there = self.plan.role(self.place);
         let footprint = foot_in(alloc, self.place, trace, &role_there, &self.state)?;
         let waits = self.waits_for(alloc, trace, &footprint)?;
@@ -92,14 +94,12 @@ impl Dependencies {
         footprint: &Footprint,
     ) -> Result<Vec<Wait>, AllocError>
         requires run { HasRun trace.now self.old }
-        requires place { self.old.place < places trace.now }
+        requires place { self.old.place < 2 ^ 32 - 1 }
         requires footprint { footprint.now ≡ foot_at trace.now self.old.place }
         ensures waits { IfOk result (λ waits. AreWaits trace.now self.old.place waits.items) }
         ensures known { OnOk result (IsAt self.new.waits (foot_at trace.now) (self.old.place + 1)) }
         ensures rest { OnOk result (self.new ≡ record self.old { waits = self.new.waits }) }
     {
-        // There are fewer places than numbers for them.
-        let _many = trace.places();
         let found = self.waits.next(alloc, footprint)?;
         let mut waits = Vec::with_capacity(alloc, found.len())?;
         add_waits(alloc, footprint, self.feet.as_slice(), &found, &mut waits)?;
