@@ -32,13 +32,15 @@ bytes_moved ps = sum_by (λ p. p.moved) ps
 abbrev pub count_line : List ℕ → ℕ → List ℕ
 count_line name n = line (name ++ codes " " ++ decimal n)
 
--- The lines at the end: how many places and pairs, the longest path and how many times as many places there are, and the same in bytes.
+-- The lines of the heaviest path, and of how many times its weight all places have.
+abbrev pub path_lines : List ℕ → List ℕ → ℕ → List ℕ → List ℕ
+path_lines span parallelism whole weights = path_line span weights ++ quotient_line parallelism whole (greatest weights)
+
+-- The lines at the end: how many places and pairs, the longest path, and the same in bytes.
 abbrev pub summary : List PlaceWaits → List ℕ
 summary ps =
-    count_line (codes "places") (length ps) ++ count_line (codes "pairs") (pair_count ps)
-    ++ path_line (codes "span") (spans ps) ++ quotient_line (codes "parallelism") (length ps) (greatest (spans ps))
-    ++ count_line (codes "bytes") (bytes_moved ps) ++ path_line (codes "span-bytes") (loads ps)
-    ++ quotient_line (codes "parallelism-bytes") (bytes_moved ps) (greatest (loads ps))
+    count_line (codes "places") (length ps) ++ count_line (codes "pairs") (pair_count ps) ++ path_lines (codes "span") (codes "parallelism") (length ps) (spans ps)
+    ++ count_line (codes "bytes") (bytes_moved ps) ++ path_lines (codes "span-bytes") (codes "parallelism-bytes") (bytes_moved ps) (loads ps)
 
 -- What the places of a trace wait for, as text.
 abbrev pub depends_text : Trace → List PlaceWaits → List ℕ

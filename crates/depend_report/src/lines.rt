@@ -1,10 +1,11 @@
 //! What places wait for, as lines.
 ghost use Rattle.std.specs.Prelude.{◌≡◌, ◌<◌, ◌-◌, ◌^◌, ◌++◌, ◌∷◌, [], List, IfOk, OnOk, length};
-ghost use Rattle.std.specs.Prelude.{codes, string_bytes};
+ghost use Rattle.std.specs.Prelude.{string_bytes};
 ghost use Rattle.depend_log.specs.declared.wait.PlaceWaits.{PlaceWaits};
-ghost use Rattle.depend_report.specs.Depends.{count_line, depends_text, place_lines, wait_line};
+ghost use Rattle.depend_report.specs.Depends.{count_line, depends_text, path_lines, place_lines};
+ghost use Rattle.depend_report.specs.Depends.{wait_line};
 ghost use Rattle.depend_report.specs.Paths.{path_line};
-ghost use Rattle.depend_report.specs.Told.{told};
+ghost use Rattle.depend_report.specs.Told.{ending, told};
 ghost use Rattle.trace_format.specs.declared.trace.Trace.{Trace};
 
 use crate::paths::Paths;
@@ -41,7 +42,8 @@ impl Model for DependsText {
         bytes = d.bytes
     } };
 
-    ghost invariant = { λ d. (d.pairs ≤ length d.spans * 18446744073709551616)
+    ghost invariant = { λ d. (length d.loads ≤ length d.spans)
+        × (d.pairs ≤ length d.spans * 18446744073709551616)
         × (d.bytes ≤ length d.spans * 4294967295) };
 }
 
@@ -103,12 +105,7 @@ impl DependsText {
             pairs,
             bytes,
         } = self;
-        push_counts(&mut text, spans.len(), pairs)?;
-        push_path(&mut text, "span", &spans)?;
-        push_quotient(&mut text, "parallelism", spans.len() as u64, spans.greatest())?;
-        writeln!(text, "bytes {bytes}")?;
-        push_path(&mut text, "span-bytes", &loads)?;
-        push_quotient(&mut text, "parallelism-bytes", bytes, loads.greatest())?;
+        push_summary(&mut text, &spans, &loads, pairs, bytes)?;
         text.push_str("end\n")?;
         Ok(text.into_bytes())
     }
@@ -150,13 +147,46 @@ fn push_line(
     text.push_str("\n")
 }
 
-/// How many places there are, and how many pairs of which one waits for the other.
-fn push_counts(text: &mut String, places: usize, pairs: u128) -> Result<(), AllocError>
+/// The lines at the end.
+fn push_summary(
+    text: &mut String,
+    spans: &Paths,
+    loads: &Paths,
+    pairs: u128,
+    bytes: u64,
+) -> Result<(), AllocError>
     ensures { OnOk result (string_bytes text.new ≡ string_bytes text.old
-        ++ count_line (codes "places") places ++ count_line (codes "pairs") pairs) }
+        ++ ending spans.now loads.now pairs bytes) }
 {
-    writeln!(text, "places {places}")?;
-    writeln!(text, "pairs {pairs}")
+    let places = spans.len();
+    push_count(text, "places", places as u128)?;
+    push_count(text, "pairs", pairs)?;
+    push_path_lines(text, "span", "parallelism", places as u64, spans)?;
+    push_count(text, "bytes", u128::from(bytes))?;
+    push_path_lines(text, "span-bytes", "parallelism-bytes", bytes, loads)
+}
+
+/// The line of a number.
+fn push_count(text: &mut String, name: &str, count: u128) -> Result<(), AllocError>
+    ensures { OnOk result (string_bytes text.new ≡ string_bytes text.old
+        ++ count_line name.now count) }
+{
+    writeln!(text, "{name} {count}")
+}
+
+/// The lines of the heaviest path, and of how many times its weight all places have.
+fn push_path_lines(
+    text: &mut String,
+    span: &str,
+    parallelism: &str,
+    whole: u64,
+    paths: &Paths,
+) -> Result<(), AllocError>
+    ensures { OnOk result (string_bytes text.new ≡ string_bytes text.old
+        ++ path_lines span.now parallelism.now whole paths.now) }
+{
+    push_path(text, span, paths)?;
+    push_quotient(text, parallelism, whole, paths.greatest())
 }
 
 /// The line of the heaviest path: its weight, and with which place it ends.

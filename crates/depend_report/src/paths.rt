@@ -1,6 +1,6 @@
 //! The heaviest paths of places each of which waits for the one before it.
-ghost use Rattle.std.specs.Prelude.{◌≡◌, ◌≤◌, ◌<◌, ◌+◌, ◌-◌, ◌^◌, ◌++◌, ◌∷◌, [], OnOk, length};
-ghost use Rattle.std.specs.Prelude.{slice_index_or};
+ghost use Rattle.std.specs.Prelude.{◌≡◌, ◌≤◌, ◌<◌, ◌+◌, ◌-◌, ◌^◌, ◌++◌, ◌∷◌, [], OnErr, OnOk, length};
+ghost use Rattle.std.specs.Prelude.{◌==◌, position, slice_index_or};
 ghost use Rattle.depend_report.specs.Paths.{heaviest_before, heaviest_place};
 ghost use Rattle.round_report.specs.Summary.{greatest};
 
@@ -44,8 +44,9 @@ impl Paths {
     /// One place more, of a weight of its own.
     pub(crate) fn push(&mut self, waits: &[Wait], weight: u32) -> Result<(), AllocError>
         requires { length self.old < 2 ^ 32 - 1 }
-        ensures { OnOk result
+        ensures ok { OnOk result
             (self.new ≡ self.old ++ (weight + heaviest_before self.old waits.now) ∷ []) }
+        ensures err { OnErr result (self.new ≡ self.old) }
     {
         let before = heaviest_before(self.weights.as_slice(), waits);
         self.weights.push(u64::from(weight) + before)?;
@@ -56,22 +57,14 @@ impl Paths {
     pub(crate) fn greatest(&self) -> u64
         ensures { result ≡ greatest self.now }
     {
-        let mut most = 0;
-        for weight in self.weights.as_slice() {
-            most = most.max(*weight);
-        }
-        most
+        greatest(self.weights.as_slice())
     }
 
     /// The first place with which a path of the greatest weight ends; none where no path has any.
     pub(crate) fn heaviest_place(&self) -> Option<usize>
         ensures { result ≡ heaviest_place self.now }
     {
-        let most = self.greatest();
-        if most == 0 {
-            return None;
-        }
-        self.weights.iter().position(|weight| *weight == most)
+        heaviest_place(self.weights.as_slice())
     }
 }
 
@@ -90,4 +83,32 @@ fn weight_of(weights: &[u64], place: u32) -> u64
     ensures { result ≡ slice_index_or weights.now place 0 }
 {
     weights.get(place as usize).copied().unwrap_or(0)
+}
+
+fn greatest(weights: &[u64]) -> u64
+    ensures { result ≡ greatest weights.now }
+{
+    let mut most = 0;
+    for weight in weights {
+        most = most.max(*weight);
+    }
+    most
+}
+
+fn heaviest_place(weights: &[u64]) -> Option<usize>
+    ensures { result ≡ heaviest_place weights.now }
+{
+    let most = greatest(weights);
+    if most == 0 {
+        None
+    } else {
+        place_of(weights, most)
+    }
+}
+
+/// The first place with which a path of a weight ends.
+fn place_of(weights: &[u64], weight: u64) -> Option<usize>
+    ensures { result ≡ position (λ n. n == weight) weights.now }
+{
+    weights.iter().position(|n| *n == weight)
 }

@@ -99,12 +99,7 @@ fn push_mean(text: &mut String, places: usize, count: usize) -> Result<(), Alloc
 /// # Errors
 ///
 /// Out of memory.
-pub fn push_quotient(
-    text: &mut String,
-    name: &str,
-    whole: u64,
-    part: u64,
-) -> Result<(), AllocError>
+pub fn push_quotient(text: &mut String, name: &str, whole: u64, part: u64) -> Result<(), AllocError>
     ensures { OnOk result (string_bytes text.new ≡ string_bytes text.old
         ++ quotient_line name.now whole part) }
 {
