@@ -29,5 +29,5 @@ bounded_more weights grown most n is bounded le =
     let long : length (weights ++ n ∷ []) ≡ length weights + 1 = length-append weights (n ∷ []) in
     let more : length (weights ++ n ∷ []) * most ≡ length weights * most + most = rw long (omega arith) in
     let all = All-append (λ m. m ≤ length (weights ++ n ∷ []) * most) weights (n ∷ []) (All-weaker (λ m. m ≤ length weights * most) (λ m. m ≤ length (weights ++ n ∷ []) * most) (λ m h. omega (arith, h, more)) weights bounded)
-      (All-cons (λ m. m ≤ length (weights ++ n ∷ []) * most) n [] (omega (arith, le, more)) (All-nil (λ m. m ≤ length (weights ++ n ∷ []) * most))) in
+    (All-cons (λ m. m ≤ length (weights ++ n ∷ []) * most) n [] (omega (arith, le, more)) (All-nil (λ m. m ≤ length (weights ++ n ∷ []) * most))) in
     subst (λ ws. All (λ m. m ≤ length ws * most) ws) (sym is) all

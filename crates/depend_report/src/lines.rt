@@ -35,11 +35,11 @@ impl Model for DependsText {
     ghost Value = { Told };
 
     ghost view = { λ d. record {
-        text = string_bytes d.text;
-        spans = d.spans;
-        loads = d.loads;
-        pairs = d.pairs;
-        bytes = d.bytes
+      text = string_bytes d.text;
+      spans = d.spans;
+      loads = d.loads;
+      pairs = d.pairs;
+      bytes = d.bytes;
     } };
 
     ghost invariant = { λ d. (length d.loads ≤ length d.spans)
