@@ -1,0 +1,4 @@
+pub mod Names
+pub mod Spots
+pub mod Told
+pub mod Rule

@@ -1,0 +1,8 @@
+//! For each of a list of footprints, the earlier ones that it waits for directly.
+#![tactic(auto)]
+
+mod names;
+mod spans;
+mod waits;
+
+pub use waits::Waits;

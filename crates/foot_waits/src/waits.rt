@@ -1,0 +1,136 @@
+//! For whom each of a list of footprints waits directly.
+ghost use Rattle.std.specs.Option.{option_or};
+ghost use Rattle.std.specs.Prelude.{◌≡◌, ◌==◌, None, Some, if◌then◌else◌, suc, ◌<◌, ◌^◌, ◌-◌, ℕ, IfOk, OnOk, length};
+ghost use Rattle.std.specs.BTreeMap.{get};
+ghost use Rattle.std.specs.Ordering.{nat_cmp};
+ghost use Rattle.foot_waits.specs.Told.{IsAt, IsFirst, TellsAll, with_told};
+ghost use Rattle.foot_waits.specs.Rule.{IsFirstUse};
+ghost use Rattle.world_parts.specs.Items as items;
+ghost use Rattle.use_line.specs.Known.{HasEdges};
+
+use crate::names::Names;
+use crate::spans::spans_of;
+use std::alloc::{AllocError, Global};
+use std::collections::BTreeMap;
+use use_line::{Line, Span};
+use world_parts::{Footprint, Item, Use};
+
+/// What is known of the places so far.
+#[derive(Drop)]
+pub struct Waits {
+    names: Names,
+    line: Line,
+    place: u32,
+}
+
+impl Waits {
+    /// Before the first of a list of footprints, with the names that all of them have.
+    ///
+    /// # Errors
+    ///
+    /// Want of memory.
+    pub fn new(alloc: Global, feet: &[Footprint]) -> Result<Self, AllocError>
+        ensures { IfOk result (λ waits. (foot : ℕ → items.Footprint) → IsAt waits foot 0) }
+    {
+        let mut names = Names::new(alloc);
+        for footprint in feet {
+            add_names(alloc, &mut names, footprint.uses())?;
+        }
+        Ok(Waits {
+            names,
+            line: Line::new(alloc),
+            place: 0,
+        })
+    }
+
+    /// For whom the next footprint waits directly: of each, the number of the first use by which it
+    /// does.
+    ///
+    /// # Errors
+    ///
+    /// Want of memory: then what is known is of no use any more.
+    pub fn next(
+        &mut self,
+        alloc: Global,
+        footprint: &Footprint,
+    ) -> Result<BTreeMap<u32, u32>, AllocError>
+        requires { self.old.place < 2 ^ 32 - 1 }
+        ensures at { OnOk result ((foot : ℕ → items.Footprint) → foot self.old.place ≡ footprint.now
+            → IsAt self.old foot self.old.place → IsAt self.new foot (suc self.old.place)) }
+        ensures first { IfOk result (λ found. (foot : ℕ → items.Footprint)
+            → foot self.old.place ≡ footprint.now → IsAt self.old foot self.old.place
+            → (j : ℕ) → IsFirstUse foot self.old.place j (get nat_cmp found j)) }
+    {
+        let spans = spans_of(alloc, &self.names, footprint)?;
+        if spans.len() >= 4_294_967_296 {
+            return Err(AllocError);
+        }
+        self.names.are_apart();
+        self.line.prepare(alloc, spans.as_slice())?;
+        let found = first_told(alloc, &self.line, spans.as_slice())?;
+        self.line.add(alloc, self.place, spans.as_slice())?;
+        self.place += 1;
+        Ok(found)
+    }
+}
+
+/// Adds the names of some uses.
+fn add_names(alloc: Global, names: &mut Names, uses: &[Use]) -> Result<(), AllocError> {
+    for used in uses {
+        if let Item::Name(directory, name) = &used.item {
+            names.add(alloc, *directory, name.as_slice())?;
+        }
+    }
+    Ok(())
+}
+
+/// Of each earlier place for which one waits by some range, the number of the first of these.
+fn first_told(alloc: Global, line: &Line, spans: &[Span]) -> Result<BTreeMap<u32, u32>, AllocError>
+    requires edges { HasEdges line.now spans.now }
+    requires few { length spans.now < 2 ^ 32 }
+    ensures { IfOk result (λ found. (j : ℕ) → IsFirst line.now spans.now (length spans.now) j (get nat_cmp found j)) }
+{
+    let mut found = BTreeMap::new(alloc);
+    for index in 0..spans.len() {
+        let told = told_by(alloc, line, spans, index)?;
+        add_first(&mut found, told.as_slice(), index as u32)?;
+    }
+    Ok(found)
+}
+
+/// Those for whom a place waits by one of its ranges.
+fn told_by(alloc: Global, line: &Line, spans: &[Span], index: usize) -> Result<Vec<u32>, AllocError>
+    requires edges { HasEdges line.now spans.now }
+    requires within { index < length spans.now }
+    ensures { IfOk result (λ told. TellsAll line.now spans.now index told.items) }
+{
+    let mut told = Vec::new(alloc);
+    let span = spans[index];
+    if span.low < span.high {
+        line.tell(&span, spans, &mut told)?;
+    }
+    Ok(told)
+}
+
+/// Adds those of some places that aren't there yet, with a number.
+fn add_first(found: &mut BTreeMap<u32, u32>, told: &[u32], index: u32) -> Result<(), AllocError>
+    ensures { OnOk result ((j : ℕ) → get nat_cmp found.new j
+        ≡ with_told (get nat_cmp found.old j) told.now index j) }
+{
+    for place in told {
+        add_one(found, *place, index)?;
+    }
+    Ok(())
+}
+
+/// Adds a place that isn't there yet, with a number.
+fn add_one(found: &mut BTreeMap<u32, u32>, place: u32, index: u32) -> Result<(), AllocError>
+    ensures { OnOk result ((j : ℕ) → get nat_cmp found.new j
+        ≡ option_or (get nat_cmp found.old j) (if place == j then Some index else None)) }
+{
+    if found.contains_key(&place) {
+        return Ok(());
+    }
+    found.insert(place, index)?;
+    Ok(())
+}
