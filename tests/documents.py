@@ -41,7 +41,7 @@ FENCED = re.compile(r"^```(\w*)\n(.*?)^```$", re.S | re.M)
 LINK = re.compile(r"\[[^\]]*\]\(([^)#\s]+)(?:#[^)]*)?\)")
 CODE = re.compile(r"`([^`\n]+)`")
 # A file of the repository: not a header of the kernel, and not one that a transcript makes.
-FILE = re.compile(r"(?!linux/|sys/|asm-generic/|demo/)\b[\w.-]+(?:/[\w.-]+)+\.(?:rt|antt|py|c|h|md|trace|txt)")
+FILE = re.compile(r"(?<![\w-])(?!linux/|sys/|asm-generic/|demo/)\b[\w.-]+(?:/[\w.-]+)+\.(?:rt|antt|py|c|h|md|trace|txt)")
 # A name of the code, as documents write it: with an underscore, or Type::name.
 NAME = re.compile(r"(?:[A-Z]\w*::)?([a-z][a-z0-9]*(?:_[a-z0-9]+)+)")
 SOURCES = (".rt", ".antt", ".py", ".c", ".h")

@@ -11,6 +11,9 @@ SUBCOMMANDS = ("serial", "run", "compare", "rounds", "check", "diff")
 WRONG: List[Words] = [
     [], ["bogus"], [""], ["Serial"], ["--sums"], ["version"], ["--output", "out", "serial"],
     ["serial", "a", "extra"], ["serial", "--workers", "2"], ["serial", "--sums", "--sums"], ["serial", "--eager"],
+    ["serial", "--names", "--names"], ["run", "--all-sums", "--sums", "--all-sums"], ["serial", "--names=true"], ["run", "--all-sums=1"], ["serial", "--name"],
+    ["--names", "serial"], ["check", "--names"], ["check", "--all-sums"], ["compare", "--names"], ["compare", "--all-sums"],
+    ["rounds", "--names"], ["rounds", "--all-sums"], ["diff", "--names"], ["diff", "--all-sums"], ["serial", "--all_sums"], ["run", "-n"],
     ["serial", "--output"], ["serial", "-o"], ["serial", "--sums=true"], ["serial", "-s"], ["serial", "--output", "a", "-o", "b"],
     ["check", "a", "extra"], ["check", "--sums"], ["check", "--eager"], ["compare", "--sums"], ["compare", "--eager", "--eager"],
     ["run", "--eager", "--eager"], ["run", "--eager=1"],

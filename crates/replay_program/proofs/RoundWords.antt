@@ -9,7 +9,9 @@ use Rattle.clap.specs.Takes.{default_passes, is_valid, settle_passes, walk_passe
 use Rattle.clap.specs.Words.{first_of, one_of}
 use Rattle.clap.specs.declared.builder.value_parser.ValueParser.TheVariants as vp
 use Rattle.clap.proofs.OnLiterals.{clap_on_literals}
-use Rattle.replay_program.specs.Words.{check_command, dot_words, flag_text, replayer, sums_words, workers_option, window_option}
+use Rattle.replay_report.specs.declared.showing.SumsShown.{SumsShown}
+use Rattle.replay_report.specs.declared.showing.SumsShown.TheVariants as shows
+use Rattle.replay_program.specs.Words.{HasShown, check_command, dot_words, flag_text, replayer, shown_words, workers_option, window_option}
 use Rattle.replay_program.proofs.NumberWords.{IsValue}
 use Rattle.replay_program.proofs.OptionWalk.{IsOption, at, given, value_folded, value_passed}
 
@@ -56,8 +58,9 @@ NamesNone rows = (first_of (codes "file") rows ≡ None) × (first_of (codes "se
 abbrev pub IsPlain : List Row → Type 0
 IsPlain rows = (one_of (codes "eager") rows ≡ Some (codes "false")) × NamesNone rows
 
-abbrev pub HasSums : Bool → List Row → Type 0
-HasSums sums rows = (one_of (codes "sums") rows ≡ Some (flag_text sums)) × IsPlain rows
+-- and what the report shows is asked for
+abbrev pub HasShownRows : SumsShown → Bool → List Row → Type 0
+HasShownRows sums names rows = HasShown (record { sums = sums; names = names }) (λ id. one_of id rows) × IsPlain rows
 
 -- the same where workers are not asked for
 pub record LeavesWindow (s : Shape) (window : Text) (dot : Bool) (words : List Text) : Type 0 where
@@ -74,23 +77,39 @@ pub record IsTaken (most : ℕ) (t : Text) : Type 0 where
   pub value : IsValue t
   pub accepted : accepts false (vp.Signed (pos 1) (pos most)) t ≡ true
 
-pub run_both : (t : Text) (u : Text) (sums : Bool) → IsTaken 64 t → IsTaken 4096 u → Leaves (leaf (codes "run")) t u (HasSums sums) (codes "--workers" ∷ t ∷ codes "--window" ∷ u ∷ sums_words sums)
+pub run_both : (t : Text) (u : Text) (sums : SumsShown) (names : Bool) → IsTaken 64 t → IsTaken 4096 u → Leaves (leaf (codes "run")) t u (HasShownRows sums names) (codes "--workers" ∷ t ∷ codes "--window" ∷ u ∷ shown_words sums names)
 unfolding clap_on_literals
-run_both t u false a b =
+run_both t u shows.None false a b =
     let s = leaf (codes "run") in
     let h1 = given s.rules (codes "workers") t nothing_held in
-    let h2 = given s.rules (codes "window") u h1 in record {
+    let h2 = given s.rules (codes "window") u h1 in
+    let more = [] in record {
       end = h2;
-      walked = value_folded s workers_rule (codes "--workers") (codes "workers") t (codes "--window" ∷ u ∷ []) nothing_held workers_of_run a.value
-          ∙ value_folded s window_rule (codes "--window") (codes "window") u [] h1 window_of_run b.value;
-      passes = value_passed s workers_rule (codes "--workers") (codes "workers") t (codes "--window" ∷ u ∷ []) nothing_held workers_of_run a.value
-          ∙ (ap (λ x. true && x) (value_passed s window_rule (codes "--window") (codes "window") u [] h1 window_of_run b.value) ∙ rw a.accepted refl);
+      walked = value_folded s workers_rule (codes "--workers") (codes "workers") t (codes "--window" ∷ u ∷ more) nothing_held workers_of_run a.value
+          ∙ value_folded s window_rule (codes "--window") (codes "window") u more h1 window_of_run b.value;
+      passes = value_passed s workers_rule (codes "--workers") (codes "workers") t (codes "--window" ∷ u ∷ more) nothing_held workers_of_run a.value
+          ∙ (ap (λ x. true && x) (value_passed s window_rule (codes "--window") (codes "window") u more h1 window_of_run b.value) ∙ rw a.accepted refl);
       rest = rw b.accepted refl;
-      workers_text = rw a.value.plain refl;
-      window_text = rw b.value.plain refl;
-      others = (refl, (refl, (refl, refl, refl)));
+      workers_text = ap Some a.value.plain;
+      window_text = ap Some b.value.plain;
+      others = (((refl, refl), refl), (refl, (refl, refl, refl)));
     }
-run_both t u true a b =
+run_both t u shows.None true a b =
+    let s = leaf (codes "run") in
+    let h1 = given s.rules (codes "workers") t nothing_held in
+    let h2 = given s.rules (codes "window") u h1 in
+    let more = codes "--names" ∷ [] in record {
+      end = _;
+      walked = value_folded s workers_rule (codes "--workers") (codes "workers") t (codes "--window" ∷ u ∷ more) nothing_held workers_of_run a.value
+          ∙ value_folded s window_rule (codes "--window") (codes "window") u more h1 window_of_run b.value;
+      passes = value_passed s workers_rule (codes "--workers") (codes "workers") t (codes "--window" ∷ u ∷ more) nothing_held workers_of_run a.value
+          ∙ (ap (λ x. true && x) (value_passed s window_rule (codes "--window") (codes "window") u more h1 window_of_run b.value) ∙ rw (a.accepted, b.accepted) refl);
+      rest = refl;
+      workers_text = ap Some a.value.plain;
+      window_text = ap Some b.value.plain;
+      others = (((refl, refl), refl), (refl, (refl, refl, refl)));
+    }
+run_both t u shows.Small false a b =
     let s = leaf (codes "run") in
     let h1 = given s.rules (codes "workers") t nothing_held in
     let h2 = given s.rules (codes "window") u h1 in
@@ -101,25 +120,83 @@ run_both t u true a b =
       passes = value_passed s workers_rule (codes "--workers") (codes "workers") t (codes "--window" ∷ u ∷ more) nothing_held workers_of_run a.value
           ∙ (ap (λ x. true && x) (value_passed s window_rule (codes "--window") (codes "window") u more h1 window_of_run b.value) ∙ rw (a.accepted, b.accepted) refl);
       rest = refl;
-      workers_text = rw a.value.plain refl;
-      window_text = rw b.value.plain refl;
-      others = (refl, (refl, (refl, refl, refl)));
+      workers_text = ap Some a.value.plain;
+      window_text = ap Some b.value.plain;
+      others = (((refl, refl), refl), (refl, (refl, refl, refl)));
+    }
+run_both t u shows.Small true a b =
+    let s = leaf (codes "run") in
+    let h1 = given s.rules (codes "workers") t nothing_held in
+    let h2 = given s.rules (codes "window") u h1 in
+    let more = codes "--sums" ∷ codes "--names" ∷ [] in record {
+      end = _;
+      walked = value_folded s workers_rule (codes "--workers") (codes "workers") t (codes "--window" ∷ u ∷ more) nothing_held workers_of_run a.value
+          ∙ value_folded s window_rule (codes "--window") (codes "window") u more h1 window_of_run b.value;
+      passes = value_passed s workers_rule (codes "--workers") (codes "workers") t (codes "--window" ∷ u ∷ more) nothing_held workers_of_run a.value
+          ∙ (ap (λ x. true && x) (value_passed s window_rule (codes "--window") (codes "window") u more h1 window_of_run b.value) ∙ rw (a.accepted, b.accepted) refl);
+      rest = refl;
+      workers_text = ap Some a.value.plain;
+      window_text = ap Some b.value.plain;
+      others = (((refl, refl), refl), (refl, (refl, refl, refl)));
+    }
+run_both t u shows.All false a b =
+    let s = leaf (codes "run") in
+    let h1 = given s.rules (codes "workers") t nothing_held in
+    let h2 = given s.rules (codes "window") u h1 in
+    let more = codes "--all-sums" ∷ [] in record {
+      end = _;
+      walked = value_folded s workers_rule (codes "--workers") (codes "workers") t (codes "--window" ∷ u ∷ more) nothing_held workers_of_run a.value
+          ∙ value_folded s window_rule (codes "--window") (codes "window") u more h1 window_of_run b.value;
+      passes = value_passed s workers_rule (codes "--workers") (codes "workers") t (codes "--window" ∷ u ∷ more) nothing_held workers_of_run a.value
+          ∙ (ap (λ x. true && x) (value_passed s window_rule (codes "--window") (codes "window") u more h1 window_of_run b.value) ∙ rw (a.accepted, b.accepted) refl);
+      rest = refl;
+      workers_text = ap Some a.value.plain;
+      window_text = ap Some b.value.plain;
+      others = ((refl, refl), (refl, (refl, refl, refl)));
+    }
+run_both t u shows.All true a b =
+    let s = leaf (codes "run") in
+    let h1 = given s.rules (codes "workers") t nothing_held in
+    let h2 = given s.rules (codes "window") u h1 in
+    let more = codes "--all-sums" ∷ codes "--names" ∷ [] in record {
+      end = _;
+      walked = value_folded s workers_rule (codes "--workers") (codes "workers") t (codes "--window" ∷ u ∷ more) nothing_held workers_of_run a.value
+          ∙ value_folded s window_rule (codes "--window") (codes "window") u more h1 window_of_run b.value;
+      passes = value_passed s workers_rule (codes "--workers") (codes "workers") t (codes "--window" ∷ u ∷ more) nothing_held workers_of_run a.value
+          ∙ (ap (λ x. true && x) (value_passed s window_rule (codes "--window") (codes "window") u more h1 window_of_run b.value) ∙ rw (a.accepted, b.accepted) refl);
+      rest = refl;
+      workers_text = ap Some a.value.plain;
+      window_text = ap Some b.value.plain;
+      others = ((refl, refl), (refl, (refl, refl, refl)));
     }
 
-pub run_workers : (t : Text) (sums : Bool) → IsTaken 64 t → Leaves (leaf (codes "run")) t (codes "64") (HasSums sums) (codes "--workers" ∷ t ∷ sums_words sums)
+pub run_workers : (t : Text) (sums : SumsShown) (names : Bool) → IsTaken 64 t → Leaves (leaf (codes "run")) t (codes "64") (HasShownRows sums names) (codes "--workers" ∷ t ∷ shown_words sums names)
 unfolding clap_on_literals
-run_workers t false a =
+run_workers t shows.None false a =
     let s = leaf (codes "run") in
-    let h1 = given s.rules (codes "workers") t nothing_held in record {
+    let h1 = given s.rules (codes "workers") t nothing_held in
+    let more = [] in record {
       end = h1;
-      walked = value_folded s workers_rule (codes "--workers") (codes "workers") t [] nothing_held workers_of_run a.value;
-      passes = value_passed s workers_rule (codes "--workers") (codes "workers") t [] nothing_held workers_of_run a.value ∙ refl;
+      walked = value_folded s workers_rule (codes "--workers") (codes "workers") t more nothing_held workers_of_run a.value;
+      passes = value_passed s workers_rule (codes "--workers") (codes "workers") t more nothing_held workers_of_run a.value ∙ refl;
       rest = rw a.accepted refl;
-      workers_text = rw a.value.plain refl;
+      workers_text = ap Some a.value.plain;
       window_text = refl;
-      others = (refl, (refl, (refl, refl, refl)));
+      others = (((refl, refl), refl), (refl, (refl, refl, refl)));
     }
-run_workers t true a =
+run_workers t shows.None true a =
+    let s = leaf (codes "run") in
+    let h1 = given s.rules (codes "workers") t nothing_held in
+    let more = codes "--names" ∷ [] in record {
+      end = _;
+      walked = value_folded s workers_rule (codes "--workers") (codes "workers") t more nothing_held workers_of_run a.value;
+      passes = value_passed s workers_rule (codes "--workers") (codes "workers") t more nothing_held workers_of_run a.value ∙ rw a.accepted refl;
+      rest = refl;
+      workers_text = ap Some a.value.plain;
+      window_text = refl;
+      others = (((refl, refl), refl), (refl, (refl, refl, refl)));
+    }
+run_workers t shows.Small false a =
     let s = leaf (codes "run") in
     let h1 = given s.rules (codes "workers") t nothing_held in
     let more = codes "--sums" ∷ [] in record {
@@ -127,25 +204,74 @@ run_workers t true a =
       walked = value_folded s workers_rule (codes "--workers") (codes "workers") t more nothing_held workers_of_run a.value;
       passes = value_passed s workers_rule (codes "--workers") (codes "workers") t more nothing_held workers_of_run a.value ∙ rw a.accepted refl;
       rest = refl;
-      workers_text = rw a.value.plain refl;
+      workers_text = ap Some a.value.plain;
       window_text = refl;
-      others = (refl, (refl, (refl, refl, refl)));
+      others = (((refl, refl), refl), (refl, (refl, refl, refl)));
+    }
+run_workers t shows.Small true a =
+    let s = leaf (codes "run") in
+    let h1 = given s.rules (codes "workers") t nothing_held in
+    let more = codes "--sums" ∷ codes "--names" ∷ [] in record {
+      end = _;
+      walked = value_folded s workers_rule (codes "--workers") (codes "workers") t more nothing_held workers_of_run a.value;
+      passes = value_passed s workers_rule (codes "--workers") (codes "workers") t more nothing_held workers_of_run a.value ∙ rw a.accepted refl;
+      rest = refl;
+      workers_text = ap Some a.value.plain;
+      window_text = refl;
+      others = (((refl, refl), refl), (refl, (refl, refl, refl)));
+    }
+run_workers t shows.All false a =
+    let s = leaf (codes "run") in
+    let h1 = given s.rules (codes "workers") t nothing_held in
+    let more = codes "--all-sums" ∷ [] in record {
+      end = _;
+      walked = value_folded s workers_rule (codes "--workers") (codes "workers") t more nothing_held workers_of_run a.value;
+      passes = value_passed s workers_rule (codes "--workers") (codes "workers") t more nothing_held workers_of_run a.value ∙ rw a.accepted refl;
+      rest = refl;
+      workers_text = ap Some a.value.plain;
+      window_text = refl;
+      others = ((refl, refl), (refl, (refl, refl, refl)));
+    }
+run_workers t shows.All true a =
+    let s = leaf (codes "run") in
+    let h1 = given s.rules (codes "workers") t nothing_held in
+    let more = codes "--all-sums" ∷ codes "--names" ∷ [] in record {
+      end = _;
+      walked = value_folded s workers_rule (codes "--workers") (codes "workers") t more nothing_held workers_of_run a.value;
+      passes = value_passed s workers_rule (codes "--workers") (codes "workers") t more nothing_held workers_of_run a.value ∙ rw a.accepted refl;
+      rest = refl;
+      workers_text = ap Some a.value.plain;
+      window_text = refl;
+      others = ((refl, refl), (refl, (refl, refl, refl)));
     }
 
-pub run_window : (u : Text) (sums : Bool) → IsTaken 4096 u → Leaves (leaf (codes "run")) (codes "4") u (HasSums sums) (codes "--window" ∷ u ∷ sums_words sums)
+pub run_window : (u : Text) (sums : SumsShown) (names : Bool) → IsTaken 4096 u → Leaves (leaf (codes "run")) (codes "4") u (HasShownRows sums names) (codes "--window" ∷ u ∷ shown_words sums names)
 unfolding clap_on_literals
-run_window u false b =
+run_window u shows.None false b =
     let s = leaf (codes "run") in
-    let h1 = given s.rules (codes "window") u nothing_held in record {
+    let h1 = given s.rules (codes "window") u nothing_held in
+    let more = [] in record {
       end = h1;
-      walked = value_folded s window_rule (codes "--window") (codes "window") u [] nothing_held window_of_run b.value;
-      passes = value_passed s window_rule (codes "--window") (codes "window") u [] nothing_held window_of_run b.value ∙ refl;
+      walked = value_folded s window_rule (codes "--window") (codes "window") u more nothing_held window_of_run b.value;
+      passes = value_passed s window_rule (codes "--window") (codes "window") u more nothing_held window_of_run b.value ∙ refl;
       rest = rw b.accepted refl;
       workers_text = refl;
-      window_text = rw b.value.plain refl;
-      others = (refl, (refl, (refl, refl, refl)));
+      window_text = ap Some b.value.plain;
+      others = (((refl, refl), refl), (refl, (refl, refl, refl)));
     }
-run_window u true b =
+run_window u shows.None true b =
+    let s = leaf (codes "run") in
+    let h1 = given s.rules (codes "window") u nothing_held in
+    let more = codes "--names" ∷ [] in record {
+      end = _;
+      walked = value_folded s window_rule (codes "--window") (codes "window") u more nothing_held window_of_run b.value;
+      passes = value_passed s window_rule (codes "--window") (codes "window") u more nothing_held window_of_run b.value ∙ rw b.accepted refl;
+      rest = refl;
+      workers_text = refl;
+      window_text = ap Some b.value.plain;
+      others = (((refl, refl), refl), (refl, (refl, refl, refl)));
+    }
+run_window u shows.Small false b =
     let s = leaf (codes "run") in
     let h1 = given s.rules (codes "window") u nothing_held in
     let more = codes "--sums" ∷ [] in record {
@@ -154,33 +280,60 @@ run_window u true b =
       passes = value_passed s window_rule (codes "--window") (codes "window") u more nothing_held window_of_run b.value ∙ rw b.accepted refl;
       rest = refl;
       workers_text = refl;
-      window_text = rw b.value.plain refl;
-      others = (refl, (refl, (refl, refl, refl)));
+      window_text = ap Some b.value.plain;
+      others = (((refl, refl), refl), (refl, (refl, refl, refl)));
+    }
+run_window u shows.Small true b =
+    let s = leaf (codes "run") in
+    let h1 = given s.rules (codes "window") u nothing_held in
+    let more = codes "--sums" ∷ codes "--names" ∷ [] in record {
+      end = _;
+      walked = value_folded s window_rule (codes "--window") (codes "window") u more nothing_held window_of_run b.value;
+      passes = value_passed s window_rule (codes "--window") (codes "window") u more nothing_held window_of_run b.value ∙ rw b.accepted refl;
+      rest = refl;
+      workers_text = refl;
+      window_text = ap Some b.value.plain;
+      others = (((refl, refl), refl), (refl, (refl, refl, refl)));
+    }
+run_window u shows.All false b =
+    let s = leaf (codes "run") in
+    let h1 = given s.rules (codes "window") u nothing_held in
+    let more = codes "--all-sums" ∷ [] in record {
+      end = _;
+      walked = value_folded s window_rule (codes "--window") (codes "window") u more nothing_held window_of_run b.value;
+      passes = value_passed s window_rule (codes "--window") (codes "window") u more nothing_held window_of_run b.value ∙ rw b.accepted refl;
+      rest = refl;
+      workers_text = refl;
+      window_text = ap Some b.value.plain;
+      others = ((refl, refl), (refl, (refl, refl, refl)));
+    }
+run_window u shows.All true b =
+    let s = leaf (codes "run") in
+    let h1 = given s.rules (codes "window") u nothing_held in
+    let more = codes "--all-sums" ∷ codes "--names" ∷ [] in record {
+      end = _;
+      walked = value_folded s window_rule (codes "--window") (codes "window") u more nothing_held window_of_run b.value;
+      passes = value_passed s window_rule (codes "--window") (codes "window") u more nothing_held window_of_run b.value ∙ rw b.accepted refl;
+      rest = refl;
+      workers_text = refl;
+      window_text = ap Some b.value.plain;
+      others = ((refl, refl), (refl, (refl, refl, refl)));
     }
 
-pub run_none : (sums : Bool) → Leaves (leaf (codes "run")) (codes "4") (codes "64") (HasSums sums) (sums_words sums)
+pub run_none : (sums : SumsShown) (names : Bool) → Leaves (leaf (codes "run")) (codes "4") (codes "64") (HasShownRows sums names) (shown_words sums names)
 unfolding clap_on_literals
-run_none false =
-    let s = leaf (codes "run") in record {
-      end = nothing_held;
-      walked = refl;
-      passes = refl;
-      rest = refl;
-      workers_text = refl;
-      window_text = refl;
-      others = (refl, (refl, (refl, refl, refl)));
-    }
-run_none true =
-    let s = leaf (codes "run") in
-    let more = codes "--sums" ∷ [] in record {
-      end = _;
-      walked = refl;
-      passes = refl;
-      rest = refl;
-      workers_text = refl;
-      window_text = refl;
-      others = (refl, (refl, (refl, refl, refl)));
-    }
+run_none shows.None false =
+    record { end = nothing_held; walked = refl; passes = refl; rest = refl; workers_text = refl; window_text = refl; others = (((refl, refl), refl), (refl, (refl, refl, refl))) }
+run_none shows.None true =
+    record { end = _; walked = refl; passes = refl; rest = refl; workers_text = refl; window_text = refl; others = (((refl, refl), refl), (refl, (refl, refl, refl))) }
+run_none shows.Small false =
+    record { end = _; walked = refl; passes = refl; rest = refl; workers_text = refl; window_text = refl; others = (((refl, refl), refl), (refl, (refl, refl, refl))) }
+run_none shows.Small true =
+    record { end = _; walked = refl; passes = refl; rest = refl; workers_text = refl; window_text = refl; others = (((refl, refl), refl), (refl, (refl, refl, refl))) }
+run_none shows.All false =
+    record { end = _; walked = refl; passes = refl; rest = refl; workers_text = refl; window_text = refl; others = ((refl, refl), (refl, (refl, refl, refl))) }
+run_none shows.All true =
+    record { end = _; walked = refl; passes = refl; rest = refl; workers_text = refl; window_text = refl; others = ((refl, refl), (refl, (refl, refl, refl))) }
 
 pub compare_both : (t : Text) (u : Text) → IsTaken 64 t → IsTaken 4096 u → Leaves (leaf (codes "compare")) t u IsPlain (codes "--workers" ∷ t ∷ codes "--window" ∷ u ∷ [])
 unfolding clap_on_literals

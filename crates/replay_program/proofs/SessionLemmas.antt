@@ -8,6 +8,7 @@ use Rattle.world_parts.specs.World.{World}
 use Rattle.op_meaning.specs.declared.reply.Reply.{Reply}
 use Rattle.op_meaning.specs.Step.{step_reply, run_world, run_replies, sequential_reply, sequential_world, sequential_replies}
 use Rattle.replay_report.specs.Report.{report_of}
+use Rattle.replay_report.specs.declared.showing.Shown.{Shown}
 use Rattle.std.specs.Prelude.{Option}
 use Rattle.replay_core.specs.declared.difference.Verdict.{Verdict}
 use Rattle.replay_core.specs.declared.difference.Verdict.TheVariants as verdict
@@ -35,9 +36,9 @@ pub length-replies : (t : Trace) (replies : List Reply) → replies ≡ sequenti
 length-replies t replies e = ap length e ∙ length-run_replies t (places t) (omega arith)
 
 -- the report of a replay that is the sequential run
-pub sequential_text : (t : Trace) (s : World) (replies : List Reply) (sums : Bool) (text : List ℕ) → s ≡ sequential_world t → replies ≡ sequential_replies t
-    → text ≡ report_of t s replies sums → text ≡ sequential_report t sums
-sequential_text t s replies sums text world answers e = e ∙ ap (λ w. report_of t w replies sums) world ∙ ap (λ rs. report_of t (sequential_world t) rs sums) answers
+pub sequential_text : (t : Trace) (s : World) (replies : List Reply) (shown : Shown) (text : List ℕ) → s ≡ sequential_world t → replies ≡ sequential_replies t
+    → text ≡ report_of t s replies shown → text ≡ sequential_report t shown
+sequential_text t s replies shown text world answers e = e ∙ ap (λ w. report_of t w replies shown) world ∙ ap (λ rs. report_of t (sequential_world t) rs shown) answers
 
 -- the line of a comparison that went out in part
 pub comparison_part : (options : Options) (left left' written written' : Option (List ℕ)) (t : Trace) (workers window : ℕ) (eager : Bool) (v : Verdict) → ReadsTrace left left' t → options.mode ≡ Compare workers window eager → v ≡ verdict.Equal

@@ -27,11 +27,14 @@ use Rattle.replay_program.specs.declared.words.Task.{Task}
 use Rattle.replay_program.specs.declared.words.Task.TheVariants.{Replay, Diff}
 use Rattle.replay_program.specs.declared.words.UsageKind.{UsageKind}
 use Rattle.replay_program.specs.declared.words.UsageKind.TheVariants.{Memory}
-use Rattle.replay_program.specs.Words.{AreFound, AreRoundOptions, AskFor, AskForHelp, AskForMode, AskForVersion, HasNoFiles, HasNumbers, IsFound, IsNumberOption, dot_words, flag_text, kind_meant, name_in, replayer, sums_words, text_in}
+use Rattle.replay_report.specs.declared.showing.Shown.{Shown}
+use Rattle.replay_report.specs.declared.showing.SumsShown.{SumsShown}
+use Rattle.replay_report.specs.declared.showing.SumsShown.TheVariants as shows
+use Rattle.replay_program.specs.Words.{AreFound, AreRoundOptions, AskFor, AskForHelp, AskForMode, AskForVersion, HasNoFiles, HasNumbers, HasShown, HasSums, IsFound, IsNumberOption, dot_words, flag_text, kind_meant, name_in, plain, replayer, shown_words, text_in}
 use Rattle.replay_program.specs.Limits.{IsWindow}
 use Rattle.replay_program.proofs.NumberWords.{accepted, number_is_value}
 use Rattle.replay_program.proofs.OptionWalk.{at, level_by_parts, stopped_at, stopped_passes, stopped_walk, takes_by_parts}
-use Rattle.replay_program.proofs.RoundWords.{HasSums, IsPlain, IsTaken, Leaves, LeavesWindow, compare_both, compare_none, compare_window, compare_workers, leaf, rounds_none, rounds_window, run_both, run_none, run_window, run_workers}
+use Rattle.replay_program.proofs.RoundWords.{HasShownRows, IsPlain, IsTaken, Leaves, LeavesWindow, compare_both, compare_none, compare_window, compare_workers, leaf, rounds_none, rounds_window, run_both, run_none, run_window, run_workers}
 
 taken : (n most : ℕ) → 1 ≤ n → n ≤ most → most < 2 ^ 63 → IsTaken most (decimal n)
 taken n most low high small = record { value = number_is_value (decimal n) (decimal_is_IsNumeral n (omega arith)).0; accepted = accepted n most low high small }
@@ -43,19 +46,19 @@ sixty_four : (n : ℕ) → n ≡ 64 → decimal n ≡ codes "64"
 sixty_four n e = ap decimal e ∙ decimal_step 64 (omega arith) (omega arith) ∙ ap (λ ds. ds ++ 52 ∷ []) (decimal_digit 6 (omega arith))
 
 -- the words of the options of a run are taken
-run_leaves : (workers window : ℕ) (sums : Bool) (chosen : List (List ℕ)) → AreRoundOptions workers window chosen
-    → Leaves (leaf (codes "run")) (decimal workers) (decimal window) (HasSums sums) (chosen ++ sums_words sums)
-run_leaves workers window sums chosen o =
+run_leaves : (workers window : ℕ) (sums : SumsShown) (names : Bool) (chosen : List (List ℕ)) → AreRoundOptions workers window chosen
+    → Leaves (leaf (codes "run")) (decimal workers) (decimal window) (HasShownRows sums names) (chosen ++ shown_words sums names)
+run_leaves workers window sums names chosen o =
     let a = taken workers 64 o.served.0 o.served.1 (omega arith) in
     let b = taken window 4096 o.served.2 o.served.3 (omega arith) in
     elim o.with_workers [
       | inl t ↦ elim o.with_window [
-        | inl u ↦ rw (o.together, t, u) (run_both (decimal workers) (decimal window) sums a b)
-        | inr u ↦ rw (o.together, t, u.1, sixty_four window u.0) (run_workers (decimal workers) sums a)
+        | inl u ↦ rw (o.together, t, u) (run_both (decimal workers) (decimal window) sums names a b)
+        | inr u ↦ rw (o.together, t, u.1, sixty_four window u.0) (run_workers (decimal workers) sums names a)
       ]
       | inr t ↦ elim o.with_window [
-        | inl u ↦ rw (o.together, t.1, u, four workers t.0) (run_window (decimal window) sums b)
-        | inr u ↦ rw (o.together, t.1, u.1, four workers t.0, sixty_four window u.0) (run_none sums)
+        | inl u ↦ rw (o.together, t.1, u, four workers t.0) (run_window (decimal window) sums names b)
+        | inr u ↦ rw (o.together, t.1, u.1, four workers t.0, sixty_four window u.0) (run_none sums names)
       ]
     ]
 
@@ -131,45 +134,72 @@ module _ (workers window : List ℕ) (P : List Row → Type 0) (words : List (Li
       (stopped_passes (built replayer).top (names_of (built replayer)) (walk_from nothing_held) (codes "compare") [] words) (rw level refl)
 
 -- what is found for the words of each mode
-options_found : (m : Mode) (sums : Bool) (words : List (List ℕ)) → AskForMode m sums words → AreFound m sums (subcommand_of replayer words)
+serial_found : (sums : SumsShown) (names : Bool) → AreFound Serial (record { sums = sums; names = names }) (subcommand_of replayer (codes "serial" ∷ shown_words sums names))
 unfolding clap_on_literals
-options_found Serial false words e = rw e (refl, refl)
-options_found Serial true words e = rw e (refl, refl)
-options_found (Run workers window eager) sums words e =
-    let l = run_leaves workers window sums e.0 e.1 in
-    rw (e.3, e.2, run_found (decimal workers) (decimal window) (HasSums sums) (e.0 ++ sums_words sums) l) (refl, l.others.0, l.others.1.0, (l.workers_text, l.window_text, e.1.served))
-options_found (Compare workers window eager) sums words e =
+serial_found shows.None false = (refl, ((refl, refl), refl))
+serial_found shows.None true = (refl, ((refl, refl), refl))
+serial_found shows.Small false = (refl, ((refl, refl), refl))
+serial_found shows.Small true = (refl, ((refl, refl), refl))
+serial_found shows.All false = (refl, (refl, refl))
+serial_found shows.All true = (refl, (refl, refl))
+
+options_found : (m : Mode) (shown : Shown) (words : List (List ℕ)) → AskForMode m shown words → AreFound m shown (subcommand_of replayer words)
+unfolding clap_on_literals
+options_found Serial shown words e = rw e (serial_found shown.sums shown.names)
+options_found (Run workers window eager) shown words e =
+    let l = run_leaves workers window shown.sums shown.names e.0 e.1 in
+    rw (e.3, e.2, run_found (decimal workers) (decimal window) (HasShownRows shown.sums shown.names) (e.0 ++ shown_words shown.sums shown.names) l)
+    (refl, l.others.0, l.others.1.0, (l.workers_text, l.window_text, e.1.served))
+options_found (Compare workers window eager) shown words e =
     let l = compare_leaves workers window e.0 e.1 in
     rw (e.4, e.2, compare_found (decimal workers) (decimal window) IsPlain e.0 l) (refl, e.3, l.others.0, (l.workers_text, l.window_text, e.1.served))
-options_found (Rounds window dot) sums words e =
+options_found (Rounds window dot) shown words e =
     let l = rounds_leaves window dot e.0 e.1 e.2 in
     rw (e.4, rounds_found (decimal window) dot (e.0 ++ dot_words dot) l) (refl, e.3, l.dot_text, (l.window_text, e.2))
-options_found Check sums words e = rw e.1 (refl, e.0)
+options_found Check shown words e = rw e.1 (refl, e.0)
 
 -- and no file is named by them
-files_found : (m : Mode) (sums : Bool) (words : List (List ℕ)) → AskForMode m sums words → HasNoFiles (subcommand_of replayer words)
+serial_files : (sums : SumsShown) (names : Bool) → HasNoFiles (subcommand_of replayer (codes "serial" ∷ shown_words sums names))
 unfolding clap_on_literals
-files_found Serial false words e = rw e (refl, refl, refl)
-files_found Serial true words e = rw e (refl, refl, refl)
-files_found (Run workers window eager) sums words e =
-    let l = run_leaves workers window sums e.0 e.1 in
-    rw (e.3, run_found (decimal workers) (decimal window) (HasSums sums) (e.0 ++ sums_words sums) l) l.others.1.1
-files_found (Compare workers window eager) sums words e =
+serial_files shows.None false = (refl, refl, refl)
+serial_files shows.None true = (refl, refl, refl)
+serial_files shows.Small false = (refl, refl, refl)
+serial_files shows.Small true = (refl, refl, refl)
+serial_files shows.All false = (refl, refl, refl)
+serial_files shows.All true = (refl, refl, refl)
+
+files_found : (m : Mode) (shown : Shown) (words : List (List ℕ)) → AskForMode m shown words → HasNoFiles (subcommand_of replayer words)
+unfolding clap_on_literals
+files_found Serial shown words e = rw e (serial_files shown.sums shown.names)
+files_found (Run workers window eager) shown words e =
+    let l = run_leaves workers window shown.sums shown.names e.0 e.1 in
+    rw (e.3, run_found (decimal workers) (decimal window) (HasShownRows shown.sums shown.names) (e.0 ++ shown_words shown.sums shown.names) l) l.others.1.1
+files_found (Compare workers window eager) shown words e =
     let l = compare_leaves workers window e.0 e.1 in
     rw (e.4, compare_found (decimal workers) (decimal window) IsPlain e.0 l) l.others.1
-files_found (Rounds window dot) sums words e =
+files_found (Rounds window dot) shown words e =
     let l = rounds_leaves window dot e.0 e.1 e.2 in
     rw (e.4, rounds_found (decimal window) dot (e.0 ++ dot_words dot) l) l.files
-files_found Check sums words e = rw e.1 (refl, refl, refl)
+files_found Check shown words e = rw e.1 (refl, refl, refl)
 
-words_taken : (m : Mode) (sums : Bool) (words : List (List ℕ)) → AskForMode m sums words → takes replayer words ≡ true
+serial_taken : (sums : SumsShown) (names : Bool) → takes replayer (codes "serial" ∷ shown_words sums names) ≡ true
 unfolding clap_on_literals
-words_taken Serial false words e = rw e refl
-words_taken Serial true words e = rw e refl
-words_taken (Run workers window eager) sums words e = rw e.3 (run_taken (decimal workers) (decimal window) (HasSums sums) (e.0 ++ sums_words sums) (run_leaves workers window sums e.0 e.1))
-words_taken (Compare workers window eager) sums words e = rw e.4 (compare_taken (decimal workers) (decimal window) IsPlain e.0 (compare_leaves workers window e.0 e.1))
-words_taken (Rounds window dot) sums words e = rw e.4 (rounds_taken (decimal window) dot (e.0 ++ dot_words dot) (rounds_leaves window dot e.0 e.1 e.2))
-words_taken Check sums words e = rw e.1 refl
+serial_taken shows.None false = refl
+serial_taken shows.None true = refl
+serial_taken shows.Small false = refl
+serial_taken shows.Small true = refl
+serial_taken shows.All false = refl
+serial_taken shows.All true = refl
+
+words_taken : (m : Mode) (shown : Shown) (words : List (List ℕ)) → AskForMode m shown words → takes replayer words ≡ true
+unfolding clap_on_literals
+words_taken Serial shown words e = rw e (serial_taken shown.sums shown.names)
+words_taken (Run workers window eager) shown words e =
+    rw e.3 (run_taken (decimal workers) (decimal window) (HasShownRows shown.sums shown.names) (e.0 ++ shown_words shown.sums shown.names)
+    (run_leaves workers window shown.sums shown.names e.0 e.1))
+words_taken (Compare workers window eager) shown words e = rw e.4 (compare_taken (decimal workers) (decimal window) IsPlain e.0 (compare_leaves workers window e.0 e.1))
+words_taken (Rounds window dot) shown words e = rw e.4 (rounds_taken (decimal window) dot (e.0 ++ dot_words dot) (rounds_leaves window dot e.0 e.1 e.2))
+words_taken Check shown words e = rw e.1 refl
 
 help_found : (words : List (List ℕ)) → AskForHelp words → fault_of replayer words ≡ DisplayHelp ∷ []
 unfolding clap_on_literals
@@ -184,12 +214,12 @@ version_found words (inr e) = rw e refl
 -- the same for each task
 task_found : (t : Task) (words : List (List ℕ)) → AskFor t words → IsFound t (subcommand_of replayer words)
 unfolding clap_on_literals
-task_found (Replay o) words e = (options_found o.mode o.sums words e, files_found o.mode o.sums words e)
+task_found (Replay o) words e = (options_found o.mode o.shown words e, files_found o.mode o.shown words e)
 task_found Diff words e = rw e (refl, (refl, refl, refl))
 
 task_taken : (t : Task) (words : List (List ℕ)) → AskFor t words → takes replayer words ≡ true
 unfolding clap_on_literals
-task_taken (Replay o) words e = words_taken o.mode o.sums words e
+task_taken (Replay o) words e = words_taken o.mode o.shown words e
 task_taken Diff words e = rw e refl
 
 -- the task in the matches of the words that ask for it
@@ -266,22 +296,44 @@ name_of (Compare workers window eager) = codes "compare"
 name_of (Rounds window dot) = codes "rounds"
 name_of Check = codes "check"
 
-pub found_name : (m : ArgMatches) (mode : Mode) (sums : Bool) → AreFound mode sums (subcommand_rows_of m) → subcommand_name_of m ≡ Some (name_of mode)
-found_name m Serial sums h = sym (named m) ∙ h.0
-found_name m (Run workers window eager) sums h = sym (named m) ∙ h.0
-found_name m (Compare workers window eager) sums h = sym (named m) ∙ h.0
-found_name m (Rounds window dot) sums h = sym (named m) ∙ h.0
-found_name m Check sums h = sym (named m) ∙ h.0
+pub found_name : (m : ArgMatches) (mode : Mode) (shown : Shown) → AreFound mode shown (subcommand_rows_of m) → subcommand_name_of m ≡ Some (name_of mode)
+found_name m Serial shown h = sym (named m) ∙ h.0
+found_name m (Run workers window eager) shown h = sym (named m) ∙ h.0
+found_name m (Compare workers window eager) shown h = sym (named m) ∙ h.0
+found_name m (Rounds window dot) shown h = sym (named m) ∙ h.0
+found_name m Check shown h = sym (named m) ∙ h.0
+
+-- a flag by the text that there is for it
+abbrev pub Tells : (List ℕ → Option (List ℕ)) → List ℕ → Bool → Type 0
+Tells text id flag = (text id ≡ Some (codes "true") → flag ≡ true) × (text id ≡ Some (codes "false") → flag ≡ false)
 
 -- what the getters answer where an option has this text
 abbrev pub ReadsFlag : ArgMatches → List ℕ → Bool → Type 0
-ReadsFlag chosen id flag = (one_text (found_of chosen) id ≡ Some (codes "true") → flag ≡ true) × (one_text (found_of chosen) id ≡ Some (codes "false") → flag ≡ false)
+ReadsFlag chosen id flag = Tells (one_text (found_of chosen)) id flag
+
+abbrev pub ReadsShown : ArgMatches → Shown → Type 0
+ReadsShown chosen given = (shown : Shown) → HasShown shown (one_text (found_of chosen)) → given ≡ shown
+
+-- texts that are found are found at another place that has all of them
+sums_texts : (sums : SumsShown) (one other : List ℕ → Option (List ℕ)) → ((id text : List ℕ) → one id ≡ Some text → other id ≡ Some text) → HasSums sums one → HasSums sums other
+sums_texts shows.None one other all h = (all _ _ h.0, all _ _ h.1)
+sums_texts shows.Small one other all h = (all _ _ h.0, all _ _ h.1)
+sums_texts shows.All one other all h = all _ _ h
+
+shown_texts : (shown : Shown) (one other : List ℕ → Option (List ℕ)) → ((id text : List ℕ) → one id ≡ Some text → other id ≡ Some text) → HasShown shown one → HasShown shown other
+shown_texts shown one other all h = (sums_texts shown.sums one other all h.0, all _ _ h.1)
+
+-- what the report is to show, by its sums and its names
+pub shown_made : (sums : SumsShown) (names : Bool) (shown : Shown) (text : List ℕ → Option (List ℕ)) → HasShown shown text → sums ≡ shown.sums
+    → Tells text (codes "names") names → ◌≡◌ {A = Shown} (record { sums = sums; names = names }) shown
+shown_made sums names shown text h same read =
+    ap₂ (λ s n. record { sums = s; names = n }) same (read_as_flag names shown.names (text (codes "names")) h.1 read.0 read.1)
 
 abbrev pub ReadsNumber : ArgMatches → List ℕ → ℕ → ℕ → Type 0
 ReadsNumber chosen id most given = (n : ℕ) → one_text (found_of chosen) id ≡ Some (decimal n) → 1 ≤ n → n ≤ most → given ≡ n
 
-options_same : {a b : Mode} {x y : Bool} → a ≡ b → x ≡ y → ◌≡◌ {A = Options} (record { mode = a; sums = x }) (record { mode = b; sums = y })
-options_same e f = ap₂ (λ m s. record { mode = m; sums = s }) e f
+options_same : {a b : Mode} {x y : Shown} → a ≡ b → x ≡ y → ◌≡◌ {A = Options} (record { mode = a; shown = x }) (record { mode = b; shown = y })
+options_same e f = ap₂ (λ m s. record { mode = m; shown = s }) e f
 
 run_same : {a b w v : ℕ} {c e : Bool} → a ≡ w → b ≡ v → c ≡ e → Run a b c ≡ Run w v e
 run_same {a} {b} {w} {v} {c} {e} f g h = ap (λ x. Run x b c) f ∙ ap (λ x. Run w x c) g ∙ ap (λ x. Run w v x) h
@@ -297,6 +349,10 @@ module _ (m chosen : ArgMatches) (rows : IsChosen m chosen) where
   flag_is : (id : List ℕ) (flag sums : Bool) → ReadsFlag chosen id flag → text_in id (subcommand_rows_of m) ≡ Some (flag_text sums) → flag ≡ sums
   flag_is id flag sums read found = read_as_flag flag sums (one_text (found_of chosen) id) (text_is m chosen id (flag_text sums) rows found) read.0 read.1
 
+  -- what the report is to show
+  shown_is : (given shown : Shown) → ReadsShown chosen given → HasShown shown (λ id. text_in id (subcommand_rows_of m)) → given ≡ shown
+  shown_is given shown read found = read shown (shown_texts shown (λ id. text_in id (subcommand_rows_of m)) (one_text (found_of chosen)) (λ id text. text_is m chosen id text rows) found)
+
   numbers_are : (workers window w v : ℕ) → ReadsNumber chosen (codes "workers") 64 workers → ReadsNumber chosen (codes "window") 4096 window → HasNumbers w v (subcommand_rows_of m)
       → (workers ≡ w) × (window ≡ v)
   numbers_are workers window w v a b h = (
@@ -305,49 +361,49 @@ module _ (m chosen : ArgMatches) (rows : IsChosen m chosen) where
   )
 
   -- the options where the subcommand is `serial`
-  pub serial_chosen : (flag : Bool) (mode : Mode) (sums : Bool) → subcommand_name_of m ≡ Some (codes "serial") → ReadsFlag chosen (codes "sums") flag
-      → AreFound mode sums (subcommand_rows_of m) → ◌≡◌ {A = Options} (record { mode = Serial; sums = flag }) (record { mode = mode; sums = sums })
-  serial_chosen flag Serial sums name read h = options_same refl (flag_is (codes "sums") flag sums read h.1)
-  serial_chosen flag (Run w v e) sums name read h = let same : codes "serial" ≡ codes "run" = same_Some _ _ (sym name ∙ found_name m (Run w v e) sums h) in absurd (cc same)
-  serial_chosen flag (Compare w v e) sums name read h = let same : codes "serial" ≡ codes "compare" = same_Some _ _ (sym name ∙ found_name m (Compare w v e) sums h) in absurd (cc same)
-  serial_chosen flag (Rounds v dot) sums name read h = absurd (other_names (same_Some _ _ (sym name ∙ found_name m (Rounds v dot) sums h)))
-  serial_chosen flag Check sums name read h = let same : codes "serial" ≡ codes "check" = same_Some _ _ (sym name ∙ found_name m Check sums h) in absurd (cc same)
+  pub serial_chosen : (given : Shown) (mode : Mode) (shown : Shown) → subcommand_name_of m ≡ Some (codes "serial") → ReadsShown chosen given
+      → AreFound mode shown (subcommand_rows_of m) → ◌≡◌ {A = Options} (record { mode = Serial; shown = given }) (record { mode = mode; shown = shown })
+  serial_chosen given Serial shown name read h = options_same refl (shown_is given shown read h.1)
+  serial_chosen given (Run w v e) shown name read h = let same : codes "serial" ≡ codes "run" = same_Some _ _ (sym name ∙ found_name m (Run w v e) shown h) in absurd (cc same)
+  serial_chosen given (Compare w v e) shown name read h = let same : codes "serial" ≡ codes "compare" = same_Some _ _ (sym name ∙ found_name m (Compare w v e) shown h) in absurd (cc same)
+  serial_chosen given (Rounds v dot) shown name read h = absurd (other_names (same_Some _ _ (sym name ∙ found_name m (Rounds v dot) shown h)))
+  serial_chosen given Check shown name read h = let same : codes "serial" ≡ codes "check" = same_Some _ _ (sym name ∙ found_name m Check shown h) in absurd (cc same)
 
   -- where it is `run`
-  pub run_chosen : (workers window : ℕ) (flag eager : Bool) (mode : Mode) (sums : Bool) → subcommand_name_of m ≡ Some (codes "run")
-      → ReadsNumber chosen (codes "workers") 64 workers → ReadsNumber chosen (codes "window") 4096 window → ReadsFlag chosen (codes "sums") flag → ReadsFlag chosen (codes "eager") eager
-      → AreFound mode sums (subcommand_rows_of m) → ◌≡◌ {A = Options} (record { mode = Run workers window eager; sums = flag }) (record { mode = mode; sums = sums })
-  run_chosen workers window flag eager (Run w v e) sums name a b read eagerly h =
+  pub run_chosen : (workers window : ℕ) (given : Shown) (eager : Bool) (mode : Mode) (shown : Shown) → subcommand_name_of m ≡ Some (codes "run")
+      → ReadsNumber chosen (codes "workers") 64 workers → ReadsNumber chosen (codes "window") 4096 window → ReadsShown chosen given → ReadsFlag chosen (codes "eager") eager
+      → AreFound mode shown (subcommand_rows_of m) → ◌≡◌ {A = Options} (record { mode = Run workers window eager; shown = given }) (record { mode = mode; shown = shown })
+  run_chosen workers window given eager (Run w v e) shown name a b read eagerly h =
       let same = numbers_are workers window w v a b h.3 in
-      options_same (run_same same.0 same.1 (flag_is (codes "eager") eager e eagerly h.2)) (flag_is (codes "sums") flag sums read h.1)
-  run_chosen workers window flag eager Serial sums name a b read eagerly h = let same : codes "run" ≡ codes "serial" = same_Some _ _ (sym name ∙ found_name m Serial sums h) in absurd (cc same)
-  run_chosen workers window flag eager (Compare w v e) sums name a b read eagerly h = let same : codes "run" ≡ codes "compare" = same_Some _ _ (sym name ∙ found_name m (Compare w v e) sums h) in absurd (cc same)
-  run_chosen workers window flag eager (Rounds v dot) sums name a b read eagerly h = let same : codes "run" ≡ codes "rounds" = same_Some _ _ (sym name ∙ found_name m (Rounds v dot) sums h) in absurd (cc same)
-  run_chosen workers window flag eager Check sums name a b read eagerly h = let same : codes "run" ≡ codes "check" = same_Some _ _ (sym name ∙ found_name m Check sums h) in absurd (cc same)
+      options_same (run_same same.0 same.1 (flag_is (codes "eager") eager e eagerly h.2)) (shown_is given shown read h.1)
+  run_chosen workers window given eager Serial shown name a b read eagerly h = let same : codes "run" ≡ codes "serial" = same_Some _ _ (sym name ∙ found_name m Serial shown h) in absurd (cc same)
+  run_chosen workers window given eager (Compare w v e) shown name a b read eagerly h = let same : codes "run" ≡ codes "compare" = same_Some _ _ (sym name ∙ found_name m (Compare w v e) shown h) in absurd (cc same)
+  run_chosen workers window given eager (Rounds v dot) shown name a b read eagerly h = let same : codes "run" ≡ codes "rounds" = same_Some _ _ (sym name ∙ found_name m (Rounds v dot) shown h) in absurd (cc same)
+  run_chosen workers window given eager Check shown name a b read eagerly h = let same : codes "run" ≡ codes "check" = same_Some _ _ (sym name ∙ found_name m Check shown h) in absurd (cc same)
 
   -- where it is `compare`
-  pub compare_chosen : (workers window : ℕ) (eager : Bool) (mode : Mode) (sums : Bool) → subcommand_name_of m ≡ Some (codes "compare")
+  pub compare_chosen : (workers window : ℕ) (eager : Bool) (mode : Mode) (shown : Shown) → subcommand_name_of m ≡ Some (codes "compare")
       → ReadsNumber chosen (codes "workers") 64 workers → ReadsNumber chosen (codes "window") 4096 window → ReadsFlag chosen (codes "eager") eager
-      → AreFound mode sums (subcommand_rows_of m) → ◌≡◌ {A = Options} (record { mode = Compare workers window eager; sums = false }) (record { mode = mode; sums = sums })
-  compare_chosen workers window eager (Compare w v e) sums name a b eagerly h =
+      → AreFound mode shown (subcommand_rows_of m) → ◌≡◌ {A = Options} (record { mode = Compare workers window eager; shown = plain }) (record { mode = mode; shown = shown })
+  compare_chosen workers window eager (Compare w v e) shown name a b eagerly h =
       let same = numbers_are workers window w v a b h.3 in
       options_same (compare_same same.0 same.1 (flag_is (codes "eager") eager e eagerly h.2)) (sym h.1)
-  compare_chosen workers window eager Serial sums name a b eagerly h = let same : codes "compare" ≡ codes "serial" = same_Some _ _ (sym name ∙ found_name m Serial sums h) in absurd (cc same)
-  compare_chosen workers window eager (Run w v e) sums name a b eagerly h = let same : codes "compare" ≡ codes "run" = same_Some _ _ (sym name ∙ found_name m (Run w v e) sums h) in absurd (cc same)
-  compare_chosen workers window eager (Rounds v dot) sums name a b eagerly h = let same : codes "compare" ≡ codes "rounds" = same_Some _ _ (sym name ∙ found_name m (Rounds v dot) sums h) in absurd (cc same)
-  compare_chosen workers window eager Check sums name a b eagerly h = let same : codes "compare" ≡ codes "check" = same_Some _ _ (sym name ∙ found_name m Check sums h) in absurd (cc same)
+  compare_chosen workers window eager Serial shown name a b eagerly h = let same : codes "compare" ≡ codes "serial" = same_Some _ _ (sym name ∙ found_name m Serial shown h) in absurd (cc same)
+  compare_chosen workers window eager (Run w v e) shown name a b eagerly h = let same : codes "compare" ≡ codes "run" = same_Some _ _ (sym name ∙ found_name m (Run w v e) shown h) in absurd (cc same)
+  compare_chosen workers window eager (Rounds v dot) shown name a b eagerly h = let same : codes "compare" ≡ codes "rounds" = same_Some _ _ (sym name ∙ found_name m (Rounds v dot) shown h) in absurd (cc same)
+  compare_chosen workers window eager Check shown name a b eagerly h = let same : codes "compare" ≡ codes "check" = same_Some _ _ (sym name ∙ found_name m Check shown h) in absurd (cc same)
 
   -- where it is `rounds`
-  pub rounds_chosen : (window : ℕ) (flag : Bool) (mode : Mode) (sums : Bool) → subcommand_name_of m ≡ Some (codes "rounds")
+  pub rounds_chosen : (window : ℕ) (flag : Bool) (mode : Mode) (shown : Shown) → subcommand_name_of m ≡ Some (codes "rounds")
       → ReadsNumber chosen (codes "window") 4096 window → ReadsFlag chosen (codes "dot") flag
-      → AreFound mode sums (subcommand_rows_of m) → ◌≡◌ {A = Options} (record { mode = Rounds window flag; sums = false }) (record { mode = mode; sums = sums })
-  rounds_chosen window flag (Rounds v dot) sums name b read h =
+      → AreFound mode shown (subcommand_rows_of m) → ◌≡◌ {A = Options} (record { mode = Rounds window flag; shown = plain }) (record { mode = mode; shown = shown })
+  rounds_chosen window flag (Rounds v dot) shown name b read h =
       let same = b v (text_is m chosen (codes "window") (decimal v) rows h.3.0) h.3.1.0 h.3.1.1 in
       options_same (ap₂ Rounds same (flag_is (codes "dot") flag dot read h.2)) (sym h.1)
-  rounds_chosen window flag Serial sums name b read h = absurd (other_names (sym (same_Some _ _ (sym name ∙ found_name m Serial sums h))))
-  rounds_chosen window flag (Run w v e) sums name b read h = let same : codes "rounds" ≡ codes "run" = same_Some _ _ (sym name ∙ found_name m (Run w v e) sums h) in absurd (cc same)
-  rounds_chosen window flag (Compare w v e) sums name b read h = let same : codes "rounds" ≡ codes "compare" = same_Some _ _ (sym name ∙ found_name m (Compare w v e) sums h) in absurd (cc same)
-  rounds_chosen window flag Check sums name b read h = let same : codes "rounds" ≡ codes "check" = same_Some _ _ (sym name ∙ found_name m Check sums h) in absurd (cc same)
+  rounds_chosen window flag Serial shown name b read h = absurd (other_names (sym (same_Some _ _ (sym name ∙ found_name m Serial shown h))))
+  rounds_chosen window flag (Run w v e) shown name b read h = let same : codes "rounds" ≡ codes "run" = same_Some _ _ (sym name ∙ found_name m (Run w v e) shown h) in absurd (cc same)
+  rounds_chosen window flag (Compare w v e) shown name b read h = let same : codes "rounds" ≡ codes "compare" = same_Some _ _ (sym name ∙ found_name m (Compare w v e) shown h) in absurd (cc same)
+  rounds_chosen window flag Check shown name b read h = let same : codes "rounds" ≡ codes "check" = same_Some _ _ (sym name ∙ found_name m Check shown h) in absurd (cc same)
 
 -- a number in decimal is read as that number
 pub read_number : {E : Type 0} (G : List ℕ → Result ℕ E → Type 0) (n : ℕ) (r : Option ℕ) → ReadsOne G (decimal n) r → ((u : List ℕ) (x : Result ℕ E) → G u x → ParsesUnsigned 32 10 u x) → n < 2 ^ 32 → r ≡ Some n

@@ -18,12 +18,13 @@ use Rattle.replay_program.specs.declared.words.Options.{Options}
 use Rattle.replay_program.specs.declared.words.Mode.{Mode}
 use Rattle.replay_program.specs.declared.words.Mode.TheVariants.{Serial, Run, Compare, Rounds, Check}
 use Rattle.replay_report.specs.Report.{check_line, line, report_of}
+use Rattle.replay_report.specs.declared.showing.Shown.{Shown}
 use Rattle.round_report.specs.Rounds.{graph_text, log_of, rounds_text}
 use Rattle.replay_program.specs.Transfer.{AppendsPart}
 
 -- The report of the sequential run of a trace.
-abbrev pub sequential_report : trace.Trace → Bool → List ℕ
-sequential_report t sums = report_of t (sequential_world t) (sequential_replies t) sums
+abbrev pub sequential_report : trace.Trace → Shown → List ℕ
+sequential_report t shown = report_of t (sequential_world t) (sequential_replies t) shown
 
 -- What a comparison writes: that both runs give the same, or else the first place whose replies differ, or that the worlds do.
 abbrev pub verdict_line : Verdict → List ℕ
@@ -37,15 +38,15 @@ rounds_output false t window = rounds_text t (log_of t window)
 rounds_output true t window = graph_text t (log_of t window)
 
 -- The output for a trace, by the mode.
-abbrev pub mode_output : Mode → Bool → trace.Trace → List ℕ
-mode_output Serial sums t = sequential_report t sums
-mode_output (Run workers window eager) sums t = sequential_report t sums
-mode_output (Compare workers window eager) sums t = verdict_line verdict.Equal
-mode_output (Rounds window dot) sums t = rounds_output dot t window
-mode_output Check sums t = check_line t
+abbrev pub mode_output : Mode → Shown → trace.Trace → List ℕ
+mode_output Serial shown t = sequential_report t shown
+mode_output (Run workers window eager) shown t = sequential_report t shown
+mode_output (Compare workers window eager) shown t = verdict_line verdict.Equal
+mode_output (Rounds window dot) shown t = rounds_output dot t window
+mode_output Check shown t = check_line t
 
 abbrev pub output_of : Options → trace.Trace → List ℕ
-output_of options t = mode_output options.mode options.sums t
+output_of options t = mode_output options.mode options.shown t
 
 -- The reader was read to its end, and what it had left spells the trace.
 pub record ReadsTrace (before after : Option (List ℕ)) (t : trace.Trace) : Type 0 where

@@ -19,7 +19,10 @@ use Rattle.replay_program.specs.declared.words.Task.{Task}
 use Rattle.replay_program.specs.declared.words.Task.TheVariants.{Replay, Diff}
 use Rattle.replay_program.specs.declared.words.Usage.{Usage}
 use Rattle.replay_program.specs.declared.words.UsageKind.{UsageKind}
-use Rattle.replay_report.specs.Report.{escaped}
+use Rattle.replay_report.specs.Report.{escaped, shown_with}
+use Rattle.replay_report.specs.declared.showing.Shown.{Shown}
+use Rattle.replay_report.specs.declared.showing.SumsShown.{SumsShown}
+use Rattle.replay_report.specs.declared.showing.SumsShown.TheVariants as shows
 use Rattle.replay_program.specs.declared.words.UsageKind.TheVariants.{Help, Version, Wrong, Memory}
 use Rattle.replay_program.specs.Limits.{IsWindow, AreServed, IsServed}
 
@@ -40,24 +43,33 @@ pub record AreRoundOptions (workers window : ℕ) (words : List (List ℕ)) : Ty
   pub served : AreServed workers window
   pub together : words ≡ workers_words ++ window_words
 
-abbrev pub sums_words : Bool → List (List ℕ)
-sums_words false = []
-sums_words true = codes "--sums" ∷ []
+-- The words of what the report shows beside what each one does: its sums, and then its names.
+abbrev pub shown_words : SumsShown → Bool → List (List ℕ)
+shown_words shows.None false = []
+shown_words shows.None true = codes "--names" ∷ []
+shown_words shows.Small false = codes "--sums" ∷ []
+shown_words shows.Small true = codes "--sums" ∷ codes "--names" ∷ []
+shown_words shows.All false = codes "--all-sums" ∷ []
+shown_words shows.All true = codes "--all-sums" ∷ codes "--names" ∷ []
+
+-- A report that shows nothing more.
+abbrev pub plain : Shown
+plain = shown_with false
 
 abbrev pub dot_words : Bool → List (List ℕ)
 dot_words false = []
 dot_words true = codes "--dot" ∷ []
 
--- The words that ask for a mode, with sums or without: its name, and then its options. Only runs have sums. Which words ask for an eager run is not said here.
-abbrev pub AskForMode : Mode → Bool → List (List ℕ) → Type 0
-AskForMode Serial sums words = words ≡ codes "serial" ∷ sums_words sums
-AskForMode (Run workers window eager) sums words = (chosen : List (List ℕ)) × AreRoundOptions workers window chosen × (eager ≡ false) × (words ≡ codes "run" ∷ (chosen ++ sums_words sums))
-AskForMode (Compare workers window eager) sums words = (chosen : List (List ℕ)) × AreRoundOptions workers window chosen × (eager ≡ false) × (sums ≡ false) × (words ≡ codes "compare" ∷ chosen)
-AskForMode (Rounds window dot) sums words = (chosen : List (List ℕ)) × IsNumberOption (codes "--window") 64 window chosen × IsWindow window × (sums ≡ false) × (words ≡ codes "rounds" ∷ (chosen ++ dot_words dot))
-AskForMode Check sums words = (sums ≡ false) × (words ≡ codes "check" ∷ [])
+-- The words that ask for a mode, and for what its report shows: its name, and then its options. Only runs have a report. Which words ask for an eager run is not said here.
+abbrev pub AskForMode : Mode → Shown → List (List ℕ) → Type 0
+AskForMode Serial shown words = words ≡ codes "serial" ∷ shown_words shown.sums shown.names
+AskForMode (Run workers window eager) shown words = (chosen : List (List ℕ)) × AreRoundOptions workers window chosen × (eager ≡ false) × (words ≡ codes "run" ∷ (chosen ++ shown_words shown.sums shown.names))
+AskForMode (Compare workers window eager) shown words = (chosen : List (List ℕ)) × AreRoundOptions workers window chosen × (eager ≡ false) × (shown ≡ plain) × (words ≡ codes "compare" ∷ chosen)
+AskForMode (Rounds window dot) shown words = (chosen : List (List ℕ)) × IsNumberOption (codes "--window") 64 window chosen × IsWindow window × (shown ≡ plain) × (words ≡ codes "rounds" ∷ (chosen ++ dot_words dot))
+AskForMode Check shown words = (shown ≡ plain) × (words ≡ codes "check" ∷ [])
 
 abbrev pub AskFor : Task → List (List ℕ) → Type 0
-AskFor (Replay options) words = AskForMode options.mode options.sums words
+AskFor (Replay options) words = AskForMode options.mode options.shown words
 AskFor Diff words = words ≡ codes "diff" ∷ []
 
 -- The words that ask for help, and for the version.
@@ -101,7 +113,7 @@ kind_meant _ = Wrong
 abbrev pub FailsByRules : List ErrorKind → Result Request Usage → Type 0
 FailsByRules faults result = MatchResult result (λ _. faults ≡ []) (λ usage. (usage.kind ≡ Memory) ⊎ Contains (map kind_meant faults) usage.kind)
 
--- The text that the parser has for a flag, and the one that it found for `--sums` at the subcommand.
+-- The text that the parser has for a flag, and the one that it found for an option of the subcommand.
 abbrev pub flag_text : Bool → List ℕ
 flag_text false = codes "false"
 flag_text true = codes "true"
@@ -109,8 +121,15 @@ flag_text true = codes "true"
 abbrev pub text_in : List ℕ → Option (List ℕ × List Row) → Option (List ℕ)
 text_in id found = option_and_then (λ p. one_of id p.1) found
 
-abbrev pub HasFlag : Bool → Option (List ℕ × List Row) → Type 0
-HasFlag sums found = text_in (codes "sums") found ≡ Some (flag_text sums)
+-- The texts of the flags that ask for sums: `--all-sums` asks for all, whether `--sums` is there or not.
+abbrev pub HasSums : SumsShown → (List ℕ → Option (List ℕ)) → Type 0
+HasSums shows.None text = (text (codes "all-sums") ≡ Some (flag_text false)) × (text (codes "sums") ≡ Some (flag_text false))
+HasSums shows.Small text = (text (codes "all-sums") ≡ Some (flag_text false)) × (text (codes "sums") ≡ Some (flag_text true))
+HasSums shows.All text = text (codes "all-sums") ≡ Some (flag_text true)
+
+-- And of the flag that asks for names too.
+abbrev pub HasShown : Shown → (List ℕ → Option (List ℕ)) → Type 0
+HasShown shown text = HasSums shown.sums text × (text (codes "names") ≡ Some (flag_text shown.names))
 
 abbrev pub HasDot : Bool → Option (List ℕ × List Row) → Type 0
 HasDot dot found = text_in (codes "dot") found ≡ Some (flag_text dot)
@@ -135,15 +154,15 @@ abbrev pub IsNamed : List ℕ → Option (List ℕ × List Row) → Type 0
 IsNamed name found = option_map (λ p. p.0) found ≡ Some name
 
 -- What the parser finds where these options are asked for: the name of the subcommand, and its options as text.
-abbrev pub AreFound : Mode → Bool → Option (List ℕ × List Row) → Type 0
-AreFound Serial sums found = IsNamed (codes "serial") found × HasFlag sums found
-AreFound (Run workers window eager) sums found = IsNamed (codes "run") found × HasFlag sums found × HasEager eager found × HasNumbers workers window found
-AreFound (Compare workers window eager) sums found = IsNamed (codes "compare") found × (sums ≡ false) × HasEager eager found × HasNumbers workers window found
-AreFound (Rounds window dot) sums found = IsNamed (codes "rounds") found × (sums ≡ false) × HasDot dot found × HasWindow window found
-AreFound Check sums found = IsNamed (codes "check") found × (sums ≡ false)
+abbrev pub AreFound : Mode → Shown → Option (List ℕ × List Row) → Type 0
+AreFound Serial shown found = IsNamed (codes "serial") found × HasShown shown (λ id. text_in id found)
+AreFound (Run workers window eager) shown found = IsNamed (codes "run") found × HasShown shown (λ id. text_in id found) × HasEager eager found × HasNumbers workers window found
+AreFound (Compare workers window eager) shown found = IsNamed (codes "compare") found × (shown ≡ plain) × HasEager eager found × HasNumbers workers window found
+AreFound (Rounds window dot) shown found = IsNamed (codes "rounds") found × (shown ≡ plain) × HasDot dot found × HasWindow window found
+AreFound Check shown found = IsNamed (codes "check") found × (shown ≡ plain)
 
 abbrev pub IsTaskFound : Task → Option (List ℕ × List Row) → Type 0
-IsTaskFound (Replay options) found = AreFound options.mode options.sums found
+IsTaskFound (Replay options) found = AreFound options.mode options.shown found
 IsTaskFound Diff found = IsNamed (codes "diff") found
 
 abbrev pub IsFound : Task → Option (List ℕ × List Row) → Type 0
@@ -152,6 +171,12 @@ IsFound task found = IsTaskFound task found × HasNoFiles found
 -- The command line, as its parser sees it: a subcommand has to be named. The number of an option lies within its limits.
 abbrev pub sums_flag : Rule
 sums_flag = record (new_rule (codes "sums")) { long = Some (codes "sums"); action = Some SetTrue }
+
+abbrev pub all_sums_flag : Rule
+all_sums_flag = record (new_rule (codes "all-sums")) { long = Some (codes "all-sums"); action = Some SetTrue }
+
+abbrev pub names_flag : Rule
+names_flag = record (new_rule (codes "names")) { long = Some (codes "names"); action = Some SetTrue }
 
 abbrev pub dot_flag : Rule
 dot_flag = record (new_rule (codes "dot")) { long = Some (codes "dot"); action = Some SetTrue }
@@ -179,10 +204,12 @@ abbrev pub window_option : Rule
 window_option = number_option (codes "window") 4096 (codes "64")
 
 abbrev pub serial_command : App
-serial_command = with_rule (new_app (codes "serial")) sums_flag
+serial_command = with_rule (with_rule (with_rule (new_app (codes "serial")) sums_flag) all_sums_flag) names_flag
 
 abbrev pub run_command : App
-run_command = with_rule (with_rule (with_rule (with_rule (new_app (codes "run")) workers_option) window_option) sums_flag) eager_flag
+run_command =
+    let numbered = with_rule (with_rule (new_app (codes "run")) workers_option) window_option in
+    with_rule (with_rule (with_rule (with_rule numbered sums_flag) all_sums_flag) names_flag) eager_flag
 
 abbrev pub compare_command : App
 compare_command = with_rule (with_rule (with_rule (new_app (codes "compare")) workers_option) window_option) eager_flag

@@ -25,7 +25,7 @@ use replay_core::round_log::log_rounds;
 use replay_core::{
     EagerGate, InOrder, InRounds, Replay, ReplayFault, Verdict, compared_by, replay_serial,
 };
-use replay_report::{check_text, report_text, report_text_on};
+use replay_report::{Shown, check_text, report_text, report_text_on};
 use round_report::{graph_text, rounds_text};
 use std::alloc::{AllocError, Global};
 use std::sync::Wait;
@@ -121,7 +121,7 @@ fn output_in_rounds<T: Threads + Wait + Sync>(
             window,
             eager,
         } => {
-            parallel_report(rt, alloc, trace, workers, window, eager, options.sums).map_err(
+            parallel_report(rt, alloc, trace, workers, window, eager, options.shown).map_err(
                 RunFault::Replay,
             )
         }
@@ -166,20 +166,20 @@ fn parallel_report<T: Threads + Wait + Sync>(
     workers: u32,
     window: u32,
     eager: bool,
-    sums: bool,
+    shown: Shown,
 ) -> Result<Vec<u8>, ReplayFault>
     requires trace { IsSpelled trace.now }
     requires workers { (1 ≤ workers) × (workers ≤ 64) }
     requires window { (1 ≤ window) × (window ≤ 4096) }
-    ensures ok { IfOk result (λ text. text.items ≡ sequential_report trace.now sums) }
+    ensures ok { IfOk result (λ text. text.items ≡ sequential_report trace.now shown) }
     ensures err { IfErr result WantsMemoryOrThread }
 {
     if eager {
         let replay = replay(rt, alloc, trace, workers, window, &EagerGate)?;
-        report_on(rt, alloc, trace, &replay, sums, workers)
+        report_on(rt, alloc, trace, &replay, shown, workers)
     } else {
         let replay = replay_quick(rt, alloc, trace, workers, window)?;
-        report_on(rt, alloc, trace, &replay, sums, workers)
+        report_on(rt, alloc, trace, &replay, shown, workers)
     }
 }
 
@@ -189,17 +189,17 @@ fn report_on<T: Threads + Sync>(
     alloc: Global,
     trace: &Trace,
     replay: &Replay,
-    sums: bool,
+    shown: Shown,
     workers: u32,
 ) -> Result<Vec<u8>, ReplayFault>
     requires trace { IsSpelled trace.now }
     requires world { replay.now.world ≡ whole (sequential_world trace.now) }
     requires replies { replay.now.replies ≡ sequential_replies trace.now }
-    ensures ok { IfOk result (λ text. text.items ≡ sequential_report trace.now sums) }
+    ensures ok { IfOk result (λ text. text.items ≡ sequential_report trace.now shown) }
     ensures err { IfErr result (λ fault. fault ≡ ReplayFault.Memory) }
 {
     let state = replay.world.state();
-    match report_text_on(rt, alloc, trace, state, &replay.replies, sums, workers) {
+    match report_text_on(rt, alloc, trace, state, &replay.replies, shown, workers) {
         Ok(text) => Ok(text),
         Err(AllocError) => Err(ReplayFault::Memory),
     }
@@ -314,31 +314,31 @@ fn output_alone(alloc: Global, trace: &Trace, options: &Options) -> Result<Vec<u
     ensures err { IfErr result (λ fault. fault ≡ RunFault.Replay ReplayFault.Memory) }
 {
     match options.mode {
-        Mode::Serial => serial_report(alloc, trace, options.sums).map_err(RunFault::Replay),
+        Mode::Serial => serial_report(alloc, trace, options.shown).map_err(RunFault::Replay),
         _ => { check_text(alloc, trace).map_err(|_| RunFault::Replay(ReplayFault::Memory)) }
     }
 }
 
 /// The report of the run in recorded order.
-fn serial_report(alloc: Global, trace: &Trace, sums: bool) -> Result<Vec<u8>, ReplayFault>
+fn serial_report(alloc: Global, trace: &Trace, shown: Shown) -> Result<Vec<u8>, ReplayFault>
     requires { IsSpelled trace.now }
-    ensures ok { IfOk result (λ text. text.items ≡ sequential_report trace.now sums) }
+    ensures ok { IfOk result (λ text. text.items ≡ sequential_report trace.now shown) }
     ensures err { IfErr result (λ fault. fault ≡ ReplayFault.Memory) }
 {
     let replay = replay_serial(alloc, trace)?;
-    report(alloc, trace, &replay, sums)
+    report(alloc, trace, &replay, shown)
 }
 
 /// The report of what the run in recorded order gives.
-fn report(alloc: Global, trace: &Trace, replay: &Replay, sums: bool) -> Result<Vec<u8>, ReplayFault>
+fn report(alloc: Global, trace: &Trace, replay: &Replay, shown: Shown) -> Result<Vec<u8>, ReplayFault>
     requires trace { IsSpelled trace.now }
     requires world { replay.now.world ≡ whole (sequential_world trace.now) }
     requires replies { replay.now.replies ≡ sequential_replies trace.now }
-    ensures ok { IfOk result (λ text. text.items ≡ sequential_report trace.now sums) }
+    ensures ok { IfOk result (λ text. text.items ≡ sequential_report trace.now shown) }
     ensures err { IfErr result (λ fault. fault ≡ ReplayFault.Memory) }
 {
     let state = replay.world.state();
-    match report_text(alloc, trace, state, &replay.replies, sums) {
+    match report_text(alloc, trace, state, &replay.replies, shown) {
         Ok(text) => Ok(text),
         Err(AllocError) => Err(ReplayFault::Memory),
     }

@@ -7,7 +7,8 @@ ghost use Rattle.clap.specs.Words.{subcommand_rows_of, with_rule, with_subcomman
 ghost use Rattle.replay_program.specs.Words.{AreFound, AskFor, AskForHelp, AskForVersion};
 ghost use Rattle.replay_program.specs.Words.{FailsByRules, GivesHelp, GivesTask, GivesVersion};
 ghost use Rattle.replay_program.specs.Words.{HasApp, HasNoFiles, HasNoNames, IsFound, IsRequestFor};
-ghost use Rattle.replay_program.specs.Words.{IsTaskFound};
+ghost use Rattle.replay_program.specs.Words.{HasShown, HasSums, IsTaskFound, all_sums_flag};
+ghost use Rattle.replay_program.specs.Words.{names_flag};
 ghost use Rattle.replay_program.specs.Words.{IsRule, IsServedTask, check_command, compare_command};
 ghost use Rattle.replay_program.specs.Words.{diff_command, dot_flag, eager_flag, file_argument};
 ghost use Rattle.replay_program.specs.Words.{kind_meant, not_text, output_option, replayer};
@@ -19,7 +20,7 @@ ghost use Rattle.replay_program.specs.Limits.{IsServed};
 
 use clap::error::ErrorKind;
 use clap::{Arg, ArgAction, ArgMatches, Command, Error, value_parser};
-use replay_report::escaped;
+use replay_report::{Shown, SumsShown, escaped};
 use std::alloc::{AllocError, Global};
 
 /// What the program does with a trace.
@@ -55,8 +56,8 @@ pub enum Mode {
 #[derive(Clone, Copy, Debug, PartialEq, Eq)]
 pub struct Options {
     pub mode: Mode,
-    /// Whether the report has the sums of files and buffers.
-    pub sums: bool,
+    /// What the report shows beside what each one does.
+    pub shown: Shown,
 }
 
 /// What the words ask for.
@@ -129,17 +130,23 @@ pub struct Usage {
     pub text: String,
 }
 
+/// A report that shows nothing beside what each one does.
+const PLAIN: Shown = Shown {
+    sums: SumsShown::None,
+    names: false,
+};
+
 /// The most workers of a round.
 const MOST_WORKERS: u32 = 64;
 
 /// The most pending places that a round looks at.
 const MOST_PLACES: u32 = 4096;
 
-/// Reads the words after the program's name: `serial` and `run`, with `--sums` or without,
-/// `compare`, `rounds`, with `--dot` or without, `check` or `diff`; `run` and `compare` with the
-/// numbers of workers and of places or without, `rounds` with that of places; each with the names of
-/// its input and output or without. Any other words are wrong, unless they ask for help or for the
-/// version.
+/// Reads the words after the program's name: `serial` and `run`, each with `--sums`, `--all-sums` and
+/// `--names` or without, `compare`, `rounds`, with `--dot` or without, `check` or `diff`. `run` and
+/// `compare` come with the numbers of workers and of places or without, `rounds` with that of places.
+/// Each has the names of its input and output or not. Any other words are wrong, unless they ask for
+/// help or for the version.
 pub fn read_words<'a>(alloc: Global, words: &'a [&'a str]) -> Result<Request<'a>, Usage>
     ensures task { (task : Task) → AskFor task (map (λ word. word.now) words.now)
         → GivesTask result task }
@@ -219,14 +226,14 @@ fn task_in(matches: &ArgMatches<'_>) -> Task
 /// The options of the subcommand that was named, where it is one with a trace.
 fn options_in(matches: &ArgMatches<'_>) -> Options
     ensures options { (options : Options)
-        → AreFound options.mode options.sums (subcommand_rows_of matches.now)
+        → AreFound options.mode options.shown (subcommand_rows_of matches.now)
         → result ≡ options }
     ensures served { IsServed result.mode }
 {
     match matches.subcommand() {
         Some(("serial", chosen)) => Options {
             mode: Mode::Serial,
-            sums: chosen.get_flag("sums"),
+            shown: shown_in(chosen),
         },
         Some(("run", chosen)) => Options {
             mode: Mode::Run {
@@ -234,7 +241,7 @@ fn options_in(matches: &ArgMatches<'_>) -> Options
                 window: number_in(chosen, "window", MOST_PLACES),
                 eager: chosen.get_flag("eager"),
             },
-            sums: chosen.get_flag("sums"),
+            shown: shown_in(chosen),
         },
         Some(("compare", chosen)) => Options {
             mode: Mode::Compare {
@@ -242,19 +249,42 @@ fn options_in(matches: &ArgMatches<'_>) -> Options
                 window: number_in(chosen, "window", MOST_PLACES),
                 eager: chosen.get_flag("eager"),
             },
-            sums: false,
+            shown: PLAIN,
         },
         Some(("rounds", chosen)) => Options {
             mode: Mode::Rounds {
                 window: number_in(chosen, "window", MOST_PLACES),
                 dot: chosen.get_flag("dot"),
             },
-            sums: false,
+            shown: PLAIN,
         },
         _ => Options {
             mode: Mode::Check,
-            sums: false,
+            shown: PLAIN,
         },
+    }
+}
+
+/// What the report is to show.
+fn shown_in(matches: &ArgMatches<'_>) -> Shown
+    ensures { (shown : Shown) → HasShown shown (one_text (found_of matches.now)) → result ≡ shown }
+{
+    Shown {
+        sums: sums_in(matches),
+        names: matches.get_flag("names"),
+    }
+}
+
+/// The sums that are asked for: all, where two words ask for some.
+fn sums_in(matches: &ArgMatches<'_>) -> SumsShown
+    ensures { (sums : SumsShown) → HasSums sums (one_text (found_of matches.now)) → result ≡ sums }
+{
+    if matches.get_flag("all-sums") {
+        SumsShown::All
+    } else if matches.get_flag("sums") {
+        SumsShown::Small
+    } else {
+        SumsShown::None
     }
 }
 
@@ -347,7 +377,9 @@ fn serial_command<'a>(alloc: Global) -> Result<Command<'a>, AllocError>
     Command::new(alloc, "serial")
         .after_help("Example: uring_replay serial a.trace --output a.report")
         .about("Execute one entry at a time, in recorded order, and print the report")
-        .arg(sums_flag(alloc))
+        .arg(sums_flag(alloc))?
+        .arg(all_sums_flag(alloc))?
+        .arg(names_flag(alloc))
 }
 
 fn run_command<'a>(alloc: Global) -> Result<Command<'a>, AllocError>
@@ -361,6 +393,8 @@ fn run_command<'a>(alloc: Global) -> Result<Command<'a>, AllocError>
         .arg(workers_option(alloc))?
         .arg(window_option(alloc))?
         .arg(sums_flag(alloc))?
+        .arg(all_sums_flag(alloc))?
+        .arg(names_flag(alloc))?
         .arg(eager_flag(alloc))
 }
 
@@ -408,6 +442,24 @@ fn sums_flag<'a>(alloc: Global) -> Arg<'a>
         .long("sums")
         .action(ArgAction::SetTrue)
         .help("Print SHA-256 sums of files and buffers")
+}
+
+fn all_sums_flag<'a>(alloc: Global) -> Arg<'a>
+    ensures { IsRule all_sums_flag result }
+{
+    Arg::new(alloc, "all-sums")
+        .long("all-sums")
+        .action(ArgAction::SetTrue)
+        .help("The same, and the tree sums of files over 16 MiB")
+}
+
+fn names_flag<'a>(alloc: Global) -> Arg<'a>
+    ensures { IsRule names_flag result }
+{
+    Arg::new(alloc, "names")
+        .long("names")
+        .action(ArgAction::SetTrue)
+        .help("Print the names of operations and errors")
 }
 
 fn dot_flag<'a>(alloc: Global) -> Arg<'a>

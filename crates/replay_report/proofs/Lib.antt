@@ -1,3 +1,5 @@
 mod RingEntriesLemmas
 pub mod ReportLemmas
 mod SumLemmas
+mod NameLemmas
+mod TreeSumLemmas

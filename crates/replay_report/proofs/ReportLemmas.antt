@@ -8,7 +8,7 @@ use Rattle.std.proofs.lemmas.List.Elements.{All-map}
 use Rattle.std.proofs.lemmas.List.FromFn.{map-range_with_len_more}
 use Rattle.world_parts.specs.World.{World}
 use Rattle.world_parts.specs.Image.{image_of, name_entry, all_paths}
-use Rattle.replay_report.specs.Report.{IsSized, data_text, entry_outcome, line, posting}
+use Rattle.replay_report.specs.Report.{IsSized, data_text, entry_outcome, posting}
 
 -- one number more
 pub range_more : (n : ℕ) → range_with_len 0 (n + 1) ≡ range_with_len 0 n ++ n ∷ []
@@ -34,7 +34,7 @@ data_text_shown bytes = elim (cases_lt 33 (length bytes)) [
 ]
 
 pub entry_outcome_shown : (posted : Bool) (shown bytes : List ℕ) → shown ≡ take 33 bytes → entry_outcome posted shown ≡ entry_outcome posted bytes
-entry_outcome_shown posted shown bytes e = ap (λ text. line (posting posted ++ text)) (ap data_text e ∙ data_text_shown bytes)
+entry_outcome_shown posted shown bytes e = ap (λ text. posting posted ++ text) (ap data_text e ∙ data_text_shown bytes)
 
 -- the pieces of the elements that pass a test, where the others have none
 pub flat_map-filter : (p : ℕ → Bool) (f g : ℕ → List ℕ) → ((k : ℕ) → p k ≡ true → f k ≡ g k) → ((k : ℕ) → p k ≡ false → g k ≡ []) → (ks : List ℕ)

@@ -17,7 +17,7 @@ use Rattle.trace_format.specs.Steps.{Action, Step, fill, places, step_at, steps,
 use Rattle.op_meaning.specs.declared.reply.Reply.{Reply}
 use Rattle.sqe_codec.specs.Answers.{each}
 use Rattle.replay_report.specs.Report.{action_line, entry_line, line, place_line, ring_lines, step_line}
-use Rattle.replay_report.specs.RingEntries.{Listed, entries_below, entries_by_ring, entries_of_ring, is_entry_of, lines_of, listed_below, listed_line, longer, submits, user_data_at, user_data_of, with_step}
+use Rattle.replay_report.specs.RingEntries.{Listed, entries_below, entries_by_ring, entries_of_ring, is_entry_of, lines_of, listed_below, listed_line, longer, opcode_at, opcode_of, submits, user_data_at, user_data_of, with_step}
 use Rattle.replay_report.proofs.ReportLemmas.{flat_map-filter, range_more}
 
 -- one place more
@@ -101,38 +101,41 @@ pub listed_within : (t : Trace) (ring n : ℕ) (list : Listed) → list ≡ entr
 listed_within t ring n list e long = rw (e, long) (entries_within t ring)
 
 -- an entry of a ring has its line there, and what is none has no line
-same_line : (place : ℕ) (here : Bool) (action : Action) (reply : Option Reply) → (here && submits action) ≡ true
-    → each (entry_line place (user_data_of action)) reply ≡ each (λ reply. if here then action_line place action reply else []) reply
-same_line place true (submit entry) reply stands = refl
-same_line place true (fill buffer offset bytes) reply stands = absurd (false≢true stands)
-same_line place false action reply stands = absurd (false≢true stands)
+same_line : (names : Bool) (place : ℕ) (here : Bool) (action : Action) (reply : Option Reply) → (here && submits action) ≡ true
+    → each (entry_line names place (user_data_of action) (opcode_of action)) reply ≡ each (λ reply. if here then action_line names place action reply else []) reply
+same_line names place true (submit entry) reply stands = refl
+same_line names place true (fill buffer offset bytes) reply stands = absurd (false≢true stands)
+same_line names place false action reply stands = absurd (false≢true stands)
 
-no_line : (place : ℕ) (here : Bool) (action : Action) (reply : Option Reply) → (here && submits action) ≡ false
-    → each (λ reply. if here then action_line place action reply else []) reply ≡ []
-no_line place here action None other = refl
-no_line place true (submit entry) (Some reply) other = absurd (false≢true (sym other))
-no_line place true (fill buffer offset bytes) (Some reply) other = refl
-no_line place false action (Some reply) other = refl
+no_line : (names : Bool) (place : ℕ) (here : Bool) (action : Action) (reply : Option Reply) → (here && submits action) ≡ false
+    → each (λ reply. if here then action_line names place action reply else []) reply ≡ []
+no_line names place here action None other = refl
+no_line names place true (submit entry) (Some reply) other = absurd (false≢true (sym other))
+no_line names place true (fill buffer offset bytes) (Some reply) other = refl
+no_line names place false action (Some reply) other = refl
 
-abbrev entry_line_at : Trace → List Reply → ℕ → List ℕ
-entry_line_at t replies place = each (entry_line place (user_data_at t place)) (slice_get replies place)
+abbrev entry_line_at : Trace → List Reply → Bool → ℕ → List ℕ
+entry_line_at t replies names place = each (entry_line names place (user_data_at t place) (opcode_at t place)) (slice_get replies place)
 
-same_line_at : (ring place : ℕ) (step : Option Step) (reply : Option Reply) → is_entry_of ring step ≡ true
-    → each (entry_line place (unwrap_or (option_map (λ (step : Step). user_data_of step.action) step) 0)) reply ≡ each (λ step. each (step_line ring place step) reply) step
-same_line_at ring place None reply entry = absurd (false≢true entry)
-same_line_at ring place (Some step) reply entry = same_line place (step.ring == ring) step.action reply entry
+same_line_at : (names : Bool) (ring place : ℕ) (step : Option Step) (reply : Option Reply) → is_entry_of ring step ≡ true
+    → each (entry_line names place (unwrap_or (option_map (λ (step : Step). user_data_of step.action) step) 0) (unwrap_or (option_map (λ (step : Step). opcode_of step.action) step) 0)) reply
+    ≡ each (λ step. each (step_line names ring place step) reply) step
+same_line_at names ring place None reply entry = absurd (false≢true entry)
+same_line_at names ring place (Some step) reply entry = same_line names place (step.ring == ring) step.action reply entry
 
-no_line_at : (ring place : ℕ) (step : Option Step) (reply : Option Reply) → is_entry_of ring step ≡ false → each (λ step. each (step_line ring place step) reply) step ≡ []
-no_line_at ring place None reply other = refl
-no_line_at ring place (Some step) reply other = no_line place (step.ring == ring) step.action reply other
+no_line_at : (names : Bool) (ring place : ℕ) (step : Option Step) (reply : Option Reply) → is_entry_of ring step ≡ false
+    → each (λ step. each (step_line names ring place step) reply) step ≡ []
+no_line_at names ring place None reply other = refl
+no_line_at names ring place (Some step) reply other = no_line names place (step.ring == ring) step.action reply other
 
 -- the entries that are listed, each with its line
-lines_listed : (t : Trace) (replies : List Reply) (ks us : List ℕ) → us ≡ map (user_data_at t) ks
-    → flat_map (λ i. each (entry_line (get_or ks i 0) (get_or us i 0)) (slice_get replies (get_or ks i 0))) (range_with_len 0 (length ks)) ≡ flat_map (entry_line_at t replies) ks
-lines_listed t replies ks us e =
+lines_listed : (t : Trace) (replies : List Reply) (names : Bool) (ks us : List ℕ) → us ≡ map (user_data_at t) ks
+    → flat_map (λ i. each (entry_line names (get_or ks i 0) (get_or us i 0) (opcode_at t (get_or ks i 0))) (slice_get replies (get_or ks i 0))) (range_with_len 0 (length ks))
+    ≡ flat_map (entry_line_at t replies names) ks
+lines_listed t replies names ks us e =
     let pair : ℕ → ℕ × ℕ = λ k. (k, user_data_at t k) in
     let both : ℕ → ℕ × ℕ = λ i. (get_or ks i 0, get_or us i 0) in
-    let text : ℕ × ℕ → List ℕ = λ p. each (entry_line p.0 p.1) (slice_get replies p.0) in
+    let text : ℕ × ℕ → List ℕ = λ p. each (entry_line names p.0 p.1 (opcode_at t p.0)) (slice_get replies p.0) in
     let none : ℕ × ℕ = (0, 0) in
     let with_first : ℕ → ℕ → ℕ × ℕ = λ k u. (k, u) in
     let same : map pair ks ≡ map both (range_with_len 0 (length ks)) =
@@ -141,15 +144,16 @@ lines_listed t replies ks us e =
     sym (flat_map-map text both (range_with_len 0 (length ks))) ∙ ap (flat_map text) (sym same) ∙ flat_map-map text pair ks
 
 -- the line of an entry that is read
-pub line_read : (replies : List Reply) (list : Listed) (i k u : ℕ) (reply : Reply) → k ≡ get_or list.0 i 0 → u ≡ get_or list.1 i 0 → slice_get replies k ≡ Some reply
-    → entry_line k u reply ≡ listed_line replies list i
-line_read replies list i k u reply place user_data read = rw (sym place, sym user_data, read) refl
+pub line_read : (t : Trace) (replies : List Reply) (names : Bool) (list : Listed) (i k u : ℕ) (reply : Reply) → k ≡ get_or list.0 i 0 → u ≡ get_or list.1 i 0 → slice_get replies k ≡ Some reply
+    → entry_line names k u (opcode_at t k) reply ≡ listed_line t replies names list i
+line_read t replies names list i k u reply place user_data read = rw (sym place, sym user_data, read) refl
 
 -- the lines of what is listed of a ring are those of the ring
-pub lines_all : (t : Trace) (replies : List Reply) (ring : ℕ) (list : Listed) → list ≡ entries_of_ring t ring → lines_of replies ring list ≡ ring_lines t replies ring
-lines_all t replies ring list e =
+pub lines_all : (t : Trace) (replies : List Reply) (names : Bool) (ring : ℕ) (list : Listed) → list ≡ entries_of_ring t ring
+    → lines_of t replies names ring list ≡ ring_lines t replies names ring
+lines_all t replies names ring list e =
     ap (λ text. line (codes "ring " ++ decimal ring) ++ text)
-    (ap (λ (list : Listed). flat_map (listed_line replies list) (range_with_len 0 (length list.0))) e
-    ∙ lines_listed t replies (entries_below t (places t) ring) (map (user_data_at t) (entries_below t (places t) ring)) refl
-    ∙ flat_map-filter (λ place. is_entry_of ring (step_at t place)) (entry_line_at t replies) (place_line t replies ring)
-    (λ k entry. same_line_at ring k (step_at t k) (slice_get replies k) entry) (λ k other. no_line_at ring k (step_at t k) (slice_get replies k) other) (range_with_len 0 (places t)))
+    (ap (λ (list : Listed). flat_map (listed_line t replies names list) (range_with_len 0 (length list.0))) e
+    ∙ lines_listed t replies names (entries_below t (places t) ring) (map (user_data_at t) (entries_below t (places t) ring)) refl
+    ∙ flat_map-filter (λ place. is_entry_of ring (step_at t place)) (entry_line_at t replies names) (place_line t replies names ring)
+    (λ k entry. same_line_at names ring k (step_at t k) (slice_get replies k) entry) (λ k other. no_line_at names ring k (step_at t k) (slice_get replies k) other) (range_with_len 0 (places t)))

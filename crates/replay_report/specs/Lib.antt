@@ -1,3 +1,5 @@
+pub mod Names
+pub mod TreeSum
 pub mod RingEntries
 pub mod Report
 pub mod Sums

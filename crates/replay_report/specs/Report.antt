@@ -1,5 +1,5 @@
 -- The model: the report of a replay.
-use Rattle.std.specs.Prelude.{◌≡◌, ℕ, ℤ, ◌==◌, Bool, true, false, not, ◌&&◌, nat_le, nat_lt, List, [], ◌∷◌, ◌++◌, length, take, codes, Option, Some, None, unwrap_or, if◌then◌else◌}
+use Rattle.std.specs.Prelude.{◌≡◌, ℕ, ◌+◌, ℤ, pos, negsuc, ◌==◌, Bool, true, false, not, ◌&&◌, nat_le, nat_lt, List, [], ◌∷◌, ◌++◌, length, take, codes, Option, Some, None, unwrap_or, if◌then◌else◌}
 use Rattle.std.specs.Option.{option_map}
 use Rattle.std.specs.List.{flat_map, slice_get, range_with_len}
 use Rattle.std.specs.Fmt.{decimal, signed_decimal}
@@ -15,6 +15,11 @@ use Rattle.world_parts.specs.declared.image.SlotEntry.{SlotEntry}
 use Rattle.world_parts.specs.declared.image.DescriptorEntry.{DescriptorEntry}
 use Rattle.world_parts.specs.declared.image.BufferEntry.{BufferEntry}
 use Rattle.op_meaning.specs.declared.reply.Reply.{Reply}
+use Rattle.replay_report.specs.Names.{errno_name, opcode_name}
+use Rattle.replay_report.specs.TreeSum.{most_summed, tree_sum}
+use Rattle.replay_report.specs.declared.showing.Shown.{Shown}
+use Rattle.replay_report.specs.declared.showing.SumsShown.{SumsShown}
+use Rattle.replay_report.specs.declared.showing.SumsShown.TheVariants as sums
 
 -- A text and a line feed.
 abbrev pub line : List ℕ → List ℕ
@@ -36,29 +41,46 @@ data_text bytes =
 abbrev pub entry_head : ℕ → ℕ → ℤ → List ℕ
 entry_head place user_data res = decimal place ++ codes " user=" ++ decimal user_data ++ codes " res=" ++ signed_decimal res ++ codes " "
 
--- How it ends: whether a completion is posted, and what was read.
+-- What follows: whether a completion is posted, and what was read.
 abbrev pub entry_outcome : Bool → List ℕ → List ℕ
-entry_outcome posted bytes = line (posting posted ++ data_text bytes)
+entry_outcome posted bytes = posting posted ++ data_text bytes
+
+-- A fact with a name; none where the name is empty.
+abbrev pub named_fact : List ℕ → List ℕ → List ℕ
+named_fact label [] = []
+named_fact label (byte ∷ more) = label ++ byte ∷ more
+
+-- The name of the error that a result is; one that is not negative is none.
+abbrev pub error_text : ℤ → List ℕ
+error_text (pos number) = []
+error_text (negsuc below) = named_fact (codes " errno=") (errno_name (below + 1))
+
+-- The names of an entry's operation and of its error, where names are asked for.
+abbrev pub names_text : Bool → ℕ → ℤ → List ℕ
+names_text false opcode res = []
+names_text true opcode res = named_fact (codes " name=") (opcode_name opcode) ++ error_text res
 
 -- The line of an entry.
-abbrev pub entry_line : ℕ → ℕ → Reply → List ℕ
-entry_line place user_data reply = entry_head place user_data reply.res ++ entry_outcome reply.posted reply.bytes
+abbrev pub entry_line : Bool → ℕ → ℕ → ℕ → Reply → List ℕ
+entry_line names place user_data opcode reply =
+    line (entry_head place user_data reply.res ++ entry_outcome reply.posted reply.bytes ++ names_text names opcode reply.res)
 
 -- The line of what a step does: a fill of a buffer has none.
-abbrev pub action_line : ℕ → Action → Reply → List ℕ
-action_line place (submit entry) reply = entry_line place entry.sqe.user_data reply
-action_line place (fill buffer offset bytes) reply = []
+abbrev pub action_line : Bool → ℕ → Action → Reply → List ℕ
+action_line names place (submit entry) reply = entry_line names place entry.sqe.user_data entry.sqe.opcode reply
+action_line names place (fill buffer offset bytes) reply = []
 
 -- The line of a step, where it is one of the ring.
-abbrev pub step_line : ℕ → ℕ → Step → Reply → List ℕ
-step_line ring place step reply = if step.ring == ring then action_line place step.action reply else []
+abbrev pub step_line : Bool → ℕ → ℕ → Step → Reply → List ℕ
+step_line names ring place step reply = if step.ring == ring then action_line names place step.action reply else []
 
-abbrev pub place_line : Trace → List Reply → ℕ → ℕ → List ℕ
-place_line t replies ring place = each (λ step. each (step_line ring place step) (slice_get replies place)) (step_at t place)
+abbrev pub place_line : Trace → List Reply → Bool → ℕ → ℕ → List ℕ
+place_line t replies names ring place = each (λ step. each (step_line names ring place step) (slice_get replies place)) (step_at t place)
 
 -- The lines of a ring: its heading, and its entries in recorded order.
-abbrev pub ring_lines : Trace → List Reply → ℕ → List ℕ
-ring_lines t replies ring = line (codes "ring " ++ decimal ring) ++ flat_map (place_line t replies ring) (range_with_len 0 (places t))
+abbrev pub ring_lines : Trace → List Reply → Bool → ℕ → List ℕ
+ring_lines t replies names ring =
+    line (codes "ring " ++ decimal ring) ++ flat_map (place_line t replies names ring) (range_with_len 0 (places t))
 
 -- A byte of a path: itself where it is a visible character but a backslash, else by its two digits.
 abbrev pub escaped_byte : ℕ → List ℕ
@@ -72,19 +94,20 @@ escaped path = flat_map escaped_byte path
 abbrev pub sum_text : List ℕ → List ℕ
 sum_text bytes = codes " sum=" ++ encode_lower (sha256 bytes)
 
--- The most bytes of a file whose sum is told.
-abbrev pub most_summed : ℕ
-most_summed = 16777216
+-- What is shown in place of the sum of a large file: that it is large, and the sum of its pieces' sums where all sums are asked for.
+abbrev pub large_sum : SumsShown → List ℕ → List ℕ
+large_sum sums.All bytes = codes " sum=large" ++ (codes " tree-sum=" ++ encode_lower (tree_sum bytes))
+large_sum _ bytes = codes " sum=large"
 
 -- The sum of a file, where sums are asked for.
-abbrev pub file_sum : Bool → List ℕ → List ℕ
-file_sum false bytes = []
-file_sum true bytes = if nat_lt most_summed (length bytes) then codes " sum=large" else sum_text bytes
+abbrev pub file_sum : SumsShown → List ℕ → List ℕ
+file_sum sums.None bytes = []
+file_sum shown bytes = if nat_lt most_summed (length bytes) then large_sum shown bytes else sum_text bytes
 
 -- The sum of a buffer, where sums are asked for.
-abbrev pub buffer_sum : Bool → List ℕ → List ℕ
-buffer_sum false bytes = []
-buffer_sum true bytes = sum_text bytes
+abbrev pub buffer_sum : SumsShown → List ℕ → List ℕ
+buffer_sum sums.None bytes = []
+buffer_sum _ bytes = sum_text bytes
 
 -- The line of a name: a directory, or a file with its node, its size and its sum.
 abbrev pub named_line : List ℕ → ℕ → Option ℕ → List ℕ → List ℕ
@@ -100,8 +123,8 @@ IsSized s name = name.size ≡ size s name.node
 abbrev pub IsLong : World → BufferEntry → Type 0
 IsLong s e = option_map length (buffer s e.ring e.index) ≡ Some e.len
 
-abbrev pub name_line : World → Bool → NameEntry → List ℕ
-name_line s sums name = named_line name.path name.node name.size (each (file_sum sums) (bytes s name.node))
+abbrev pub name_line : World → SumsShown → NameEntry → List ℕ
+name_line s shown name = named_line name.path name.node name.size (each (file_sum shown) (bytes s name.node))
 
 -- What a description shows: its number, its node and its position.
 abbrev pub description_text : ℕ → ℕ → ℕ → List ℕ
@@ -116,22 +139,28 @@ abbrev pub descriptor_line : DescriptorEntry → List ℕ
 descriptor_line e = line (codes "descriptor " ++ decimal e.number ++ description_text e.description e.node e.position)
 
 -- The line of a buffer.
-abbrev pub buffer_line : World → Bool → BufferEntry → List ℕ
-buffer_line s sums e =
-    line (codes "buffer " ++ decimal e.ring ++ codes " " ++ decimal e.index ++ codes " len=" ++ decimal e.len ++ buffer_sum sums (unwrap_or (buffer s e.ring e.index) []))
+abbrev pub buffer_line : World → SumsShown → BufferEntry → List ℕ
+buffer_line s shown e =
+    line (codes "buffer " ++ decimal e.ring ++ codes " " ++ decimal e.index ++ codes " len=" ++ decimal e.len ++ buffer_sum shown (unwrap_or (buffer s e.ring e.index) []))
 
 -- The line of a check: how many places and rings a trace has.
 abbrev pub check_line : Trace → List ℕ
 check_line t = line (codes "ok " ++ decimal (places t) ++ codes " places " ++ decimal (length t.rings) ++ codes " rings")
 
 -- What the world shows: its names, its full slots and descriptors, and its buffers.
-abbrev pub world_lines : World → Bool → List ℕ
-world_lines s sums =
-    line (codes "tree") ++ flat_map (name_line s sums) (image_of s).names
+abbrev pub world_lines : World → SumsShown → List ℕ
+world_lines s shown =
+    line (codes "tree") ++ flat_map (name_line s shown) (image_of s).names
     ++ line (codes "slots") ++ flat_map slot_line (image_of s).slots ++ flat_map descriptor_line (image_of s).descriptors
-    ++ line (codes "buffers") ++ flat_map (buffer_line s sums) (image_of s).buffers
+    ++ line (codes "buffers") ++ flat_map (buffer_line s shown) (image_of s).buffers
 
--- The report of a trace, of the world at its end and of the replies of its places; with sums where they are asked for.
-abbrev pub report_of : Trace → World → List Reply → Bool → List ℕ
-report_of t s replies sums =
-    line (codes "uring-report 1") ++ flat_map (ring_lines t replies) (range_with_len 0 (length t.rings)) ++ world_lines s sums ++ line (codes "end")
+-- The report of a trace, of the world at its end and of the replies of its places; with the sums and names that are asked for.
+abbrev pub report_of : Trace → World → List Reply → Shown → List ℕ
+report_of t s replies shown =
+    line (codes "uring-report 1") ++ flat_map (ring_lines t replies shown.names) (range_with_len 0 (length t.rings)) ++ world_lines s shown.sums
+    ++ line (codes "end")
+
+-- What a report shows with sums or without, and with no names.
+abbrev pub shown_with : Bool → Shown
+shown_with false = record { sums = sums.None; names = false }
+shown_with true = record { sums = sums.Small; names = false }

@@ -57,10 +57,20 @@ abbrev pub with_step : List Listed → ℕ → Step → List Listed
 with_step lists place step =
     if submits step.action then slice_set lists step.ring (longer (slice_index_or lists step.ring ([], [])) place (user_data_of step.action)) else lists
 
+-- The opcode of what is submitted; for a fill 0.
+abbrev pub opcode_of : Action → ℕ
+opcode_of (submit entry) = entry.sqe.opcode
+opcode_of (fill buffer offset bytes) = 0
+
+abbrev pub opcode_at : Trace → ℕ → ℕ
+opcode_at t place = unwrap_or (option_map (λ (step : Step). opcode_of step.action) (step_at t place)) 0
+
 -- The line of an entry that is listed.
-abbrev pub listed_line : List Reply → Listed → ℕ → List ℕ
-listed_line replies list i = each (entry_line (get_or list.0 i 0) (get_or list.1 i 0)) (slice_get replies (get_or list.0 i 0))
+abbrev pub listed_line : Trace → List Reply → Bool → Listed → ℕ → List ℕ
+listed_line t replies names list i =
+    each (entry_line names (get_or list.0 i 0) (get_or list.1 i 0) (opcode_at t (get_or list.0 i 0))) (slice_get replies (get_or list.0 i 0))
 
 -- The heading of a ring, and the lines of the entries that are listed.
-abbrev pub lines_of : List Reply → ℕ → Listed → List ℕ
-lines_of replies ring list = line (codes "ring " ++ decimal ring) ++ flat_map (listed_line replies list) (range_with_len 0 (length list.0))
+abbrev pub lines_of : Trace → List Reply → Bool → ℕ → Listed → List ℕ
+lines_of t replies names ring list =
+    line (codes "ring " ++ decimal ring) ++ flat_map (listed_line t replies names list) (range_with_len 0 (length list.0))

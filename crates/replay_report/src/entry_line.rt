@@ -1,4 +1,4 @@
-//! The line of an entry. It is written from its end to its start, into room on the stack.
+//! What the line of an entry has. It is written from its end to its start, into room on the stack.
 ghost use Rattle.std.specs.Prelude.{◌≡◌, ◌+◌, ◌*◌, ◌<◌, ◌≤◌, ◌++◌, OnOk, codes, drop, length};
 ghost use Rattle.std.specs.Prelude.{slice_index, take};
 ghost use Rattle.std.specs.Fmt.{decimal, signed_decimal};
@@ -19,13 +19,13 @@ const HEAD: usize = 3 * NUMBER + 13;
 /// Room for the bytes that are shown, with the word ahead of them.
 const DATA: usize = 2 * SHOWN + 6;
 
-/// Room for how a line ends: a word of 6 bytes, the bytes that are shown, a sign, and a line feed.
-const OUTCOME: usize = DATA + 8;
+/// Room for what follows: a word of 6 bytes, the bytes that are shown, and a sign.
+const OUTCOME: usize = DATA + 7;
 
 const ROOM: usize = HEAD + OUTCOME;
 
-/// The line of an entry.
-pub(crate) fn push_line(
+/// What each line of an entry has, without a line feed.
+pub(crate) fn push_facts(
     text: &mut Vec<u8>,
     place: u32,
     user_data: u64,
@@ -59,7 +59,7 @@ fn put_head(line: &mut [u8], end: usize, place: u32, user_data: u64, res: i32) -
     put_number(line, end, place as u64)
 }
 
-/// How the line of an entry ends.
+/// Whether a completion is posted, and what was read.
 fn put_outcome(line: &mut [u8], end: usize, posted: bool, bytes: &[u8]) -> usize
     requires room { OUTCOME ≤ end }
     requires within { end ≤ length line.old }
@@ -67,7 +67,6 @@ fn put_outcome(line: &mut [u8], end: usize, posted: bool, bytes: &[u8]) -> usize
     ensures room { end ≤ result + OUTCOME }
     ensures written { drop result line.new ≡ entry_outcome posted bytes.now ++ drop end line.old }
 {
-    let end = put_text(line, end, b"\n");
     let end = put_data(line, end, bytes);
     put_posting(line, end, posted)
 }

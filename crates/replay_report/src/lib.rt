@@ -7,11 +7,16 @@ mod dealing;
 mod entries;
 mod entry_line;
 mod escaping;
+mod made;
+mod names;
 mod report;
 mod ring_entries;
+mod showing;
 mod sums;
+mod tree_sums;
 mod world_lines;
 mod zeros;
 
 pub use escaping::escaped;
 pub use report::{check_text, report_text, report_text_on};
+pub use showing::{Shown, SumsShown};

@@ -1,20 +1,23 @@
 //! The lines of what the world shows at the end.
-ghost use Rattle.std.specs.Prelude.{◌≡◌, ◌++◌, All, IfSome, OnOk, Some, [], is_some, length};
+ghost use Rattle.std.specs.Prelude.{◌≡◌, ◌++◌, All, OnOk, Some, [], length};
 ghost use Rattle.std.specs.Prelude.{codes, string_bytes, unwrap_or};
 ghost use Rattle.std.specs.Fmt.{decimal};
 ghost use Rattle.std.specs.List.{flat_map};
 ghost use Rattle.std.specs.Option.{option_map};
 ghost use Rattle.sqe_codec.specs.Answers.{each};
-ghost use Rattle.replay_report.specs.Sums.{AreSumsOf, held};
+ghost use Rattle.replay_report.specs.Sums.{AreMade, AreSumsOf, AreTreeSums, held, shown_of};
 ghost use Rattle.world_parts.specs.World.{buffer, bytes, size};
 ghost use Rattle.replay_report.specs.Report.{IsLong, IsSized, buffer_line, buffer_sum};
 ghost use Rattle.replay_report.specs.Report.{description_text, descriptor_line, escaped};
-ghost use Rattle.replay_report.specs.Report.{file_sum, line, name_line, slot_line, sum_text};
+ghost use Rattle.replay_report.specs.Report.{file_sum, large_sum, line, name_line, slot_line, sum_text};
 ghost use Rattle.replay_report.specs.Report.{world_lines};
 ghost use Rattle.world_parts.specs.Image.{image_of};
 
 use crate::escaping::escaped;
+use crate::made::Made;
+use crate::showing::SumsShown;
 use crate::sums::{Holder, MOST_SUMMED, Sums};
+use crate::tree_sums::TreeSums;
 use std::alloc::{AllocError, Global};
 use world_parts::{BufferEntry, DescriptorEntry, Image, NameEntry, SlotEntry, State};
 
@@ -25,12 +28,12 @@ pub(crate) fn push_world(
     text: &mut Vec<u8>,
     world: &State,
     image: &Image,
-    sums: Option<&Sums>,
+    sums: Made<'_>,
 ) -> Result<(), AllocError>
     requires image { image.now ≡ image_of world.now }
-    requires sums { IfSome sums (λ s. AreSumsOf world.now s.now) }
+    requires sums { AreMade world.now sums }
     ensures { OnOk result (text.new.items
-        ≡ text.old.items ++ world_lines world.now (is_some sums.entry)) }
+        ≡ text.old.items ++ world_lines world.now (shown_of sums.entry)) }
 {
     text.extend_from_slice(b"tree\n")?;
     push_names(alloc, text, world, image.names.as_slice(), sums)?;
@@ -66,12 +69,12 @@ fn push_names(
     text: &mut Vec<u8>,
     world: &State,
     names: &[NameEntry],
-    sums: Option<&Sums>,
+    sums: Made<'_>,
 ) -> Result<(), AllocError>
-    requires sums { IfSome sums (λ s. AreSumsOf world.now s.now) }
+    requires sums { AreMade world.now sums }
     requires names { All (IsSized world.now) names.now }
     ensures { OnOk result (text.new.items
-        ≡ text.old.items ++ flat_map (name_line world.now (is_some sums.entry)) names.now) }
+        ≡ text.old.items ++ flat_map (name_line world.now (shown_of sums.entry)) names.now) }
 {
     for name in names {
         let mut line = String::new(alloc);
@@ -86,12 +89,12 @@ fn push_name(
     text: &mut String,
     world: &State,
     name: &NameEntry,
-    sums: Option<&Sums>,
+    sums: Made<'_>,
 ) -> Result<(), AllocError>
-    requires sums { IfSome sums (λ s. AreSumsOf world.now s.now) }
+    requires sums { AreMade world.now sums }
     requires name { IsSized world.now name.now }
     ensures { OnOk result (string_bytes text.new
-        ≡ string_bytes text.old ++ name_line world.now (is_some sums.entry) name.now) }
+        ≡ string_bytes text.old ++ name_line world.now (shown_of sums.entry) name.now) }
 {
     match name.size {
         None => {
@@ -129,20 +132,46 @@ fn push_file_sum(
     world: &State,
     node: u32,
     len: u64,
-    sums: Option<&Sums>,
+    sums: Made<'_>,
 ) -> Result<(), AllocError>
-    requires sums { IfSome sums (λ s. AreSumsOf world.now s.now) }
+    requires sums { AreMade world.now sums }
     requires len { size world.now node ≡ Some len }
     ensures { OnOk result (string_bytes text.new
-        ≡ string_bytes text.old ++ each (file_sum (is_some sums.entry)) (bytes world.now node)) }
+        ≡ string_bytes text.old ++ each (file_sum (shown_of sums.entry)) (bytes world.now node)) }
 {
-    let Some(sums) = sums else {
-        return Ok(());
-    };
-    if len > MOST_SUMMED {
-        return text.push_str(" sum=large");
+    match sums {
+        Made::None => Ok(()),
+        Made::Small(known) => {
+            if len > MOST_SUMMED {
+                return text.push_str(" sum=large");
+            }
+            push_sum(alloc, text, world, Holder::File { node }, len, known)
+        }
+        Made::All(known, trees) => {
+            if len > MOST_SUMMED {
+                return push_tree_sum(alloc, text, world, node, len, trees);
+            }
+            push_sum(alloc, text, world, Holder::File { node }, len, known)
+        }
     }
-    push_sum(alloc, text, world, Holder::File { node }, len, sums)
+}
+
+/// What stands for the sum of a large file, and the sum that is made of those of its pieces.
+fn push_tree_sum(
+    alloc: Global,
+    text: &mut String,
+    world: &State,
+    node: u32,
+    len: u64,
+    trees: &TreeSums,
+) -> Result<(), AllocError>
+    requires trees { AreTreeSums world.now trees.now }
+    requires len { option_map length (bytes world.now node) ≡ Some len }
+    ensures { OnOk result (string_bytes text.new ≡ string_bytes text.old
+        ++ large_sum SumsShown.All (unwrap_or (bytes world.now node) [])) }
+{
+    let sum = hex::encode(alloc, trees.get(alloc, world, node, len)?)?;
+    write!(text, " sum=large tree-sum={sum}")
 }
 
 fn push_sum(
@@ -229,13 +258,13 @@ fn push_buffers(
     text: &mut String,
     world: &State,
     buffers: &[BufferEntry],
-    sums: Option<&Sums>,
+    sums: Made<'_>,
 ) -> Result<(), AllocError>
-    requires sums { IfSome sums (λ s. AreSumsOf world.now s.now) }
+    requires sums { AreMade world.now sums }
     requires buffers { All (IsLong world.now) buffers.now }
     ensures { OnOk result (string_bytes text.new
         ≡ string_bytes text.old
-        ++ flat_map (buffer_line world.now (is_some sums.entry)) buffers.now) }
+        ++ flat_map (buffer_line world.now (shown_of sums.entry)) buffers.now) }
 {
     for buffer in buffers {
         push_buffer(alloc, text, world, *buffer, sums)?;
@@ -248,12 +277,12 @@ fn push_buffer(
     text: &mut String,
     world: &State,
     entry: BufferEntry,
-    sums: Option<&Sums>,
+    sums: Made<'_>,
 ) -> Result<(), AllocError>
-    requires sums { IfSome sums (λ s. AreSumsOf world.now s.now) }
+    requires sums { AreMade world.now sums }
     requires entry { IsLong world.now entry }
     ensures { OnOk result (string_bytes text.new
-        ≡ string_bytes text.old ++ buffer_line world.now (is_some sums.entry) entry) }
+        ≡ string_bytes text.old ++ buffer_line world.now (shown_of sums.entry) entry) }
 {
     let BufferEntry { ring, index, len } = entry;
     write!(text, "buffer {ring} {index} len={len}")?;
@@ -267,24 +296,24 @@ fn push_buffer_sum(
     text: &mut String,
     world: &State,
     entry: BufferEntry,
-    sums: Option<&Sums>,
+    sums: Made<'_>,
 ) -> Result<(), AllocError>
-    requires sums { IfSome sums (λ s. AreSumsOf world.now s.now) }
+    requires sums { AreMade world.now sums }
     requires entry { IsLong world.now entry }
     ensures { OnOk result (string_bytes text.new ≡ string_bytes text.old
-        ++ buffer_sum (is_some sums.entry)
+        ++ buffer_sum (shown_of sums.entry)
         (unwrap_or (buffer world.now entry.ring entry.index) [])) }
 {
     let BufferEntry { ring, index, len } = entry;
     match sums {
-        None => Ok(()),
-        Some(sums) => push_sum(
+        Made::None => Ok(()),
+        Made::Small(known) | Made::All(known, _) => push_sum(
             alloc,
             text,
             world,
             Holder::Buffer { ring, index },
             len,
-            sums,
+            known,
         ),
     }
 }

@@ -7,6 +7,7 @@ use replay_program::{
     Files, FromStd, Mode, Options, ReportsFault, RunFault, Task, read_words, run, run_alone,
     run_diff, run_diff_of_two, told,
 };
+use replay_report::{Shown, SumsShown};
 use report_diff::{Flaw, Refusal, Side};
 use std::process::Abort;
 use std::sync::Wait;
@@ -14,29 +15,44 @@ use std::test::Fail;
 use std::thread::Threads;
 use trace_format::{Kind, TraceFault};
 
+const PLAIN: Shown = Shown {
+    sums: SumsShown::None,
+    names: false,
+};
+
+const WITH_SUMS: Shown = Shown {
+    sums: SumsShown::Small,
+    names: false,
+};
+
+const WITH_ALL: Shown = Shown {
+    sums: SumsShown::All,
+    names: true,
+};
+
 const SERIAL: Options = Options {
     mode: Mode::Serial,
-    sums: false,
+    shown: PLAIN,
 };
 
 const SUMS: Options = Options {
     mode: Mode::Serial,
-    sums: true,
+    shown: WITH_SUMS,
 };
 
 const CHECK: Options = Options {
     mode: Mode::Check,
-    sums: false,
+    shown: PLAIN,
 };
 
-fn run_with(workers: u32, window: u32, sums: bool) -> Options {
+fn run_with(workers: u32, window: u32, shown: Shown) -> Options {
     Options {
         mode: Mode::Run {
             workers,
             window,
             eager: false,
         },
-        sums,
+        shown,
     }
 }
 
@@ -47,14 +63,14 @@ fn compare_with(workers: u32, window: u32, eager: bool) -> Options {
             window,
             eager,
         },
-        sums: false,
+        shown: PLAIN,
     }
 }
 
 fn rounds_with(window: u32, dot: bool) -> Options {
     Options {
         mode: Mode::Rounds { window, dot },
-        sums: false,
+        shown: PLAIN,
     }
 }
 
@@ -79,13 +95,17 @@ fn reads_names_of_files(rt: HostRuntime) {
 
 #[test]
 fn reads_words(rt: HostRuntime) {
-    let cases: [(&[&str], Task); 10] = [
+    let cases: [(&[&str], Task); 11] = [
         (["serial"].as_slice(), Task::Replay(SERIAL)),
         (["serial", "--sums"].as_slice(), Task::Replay(SUMS)),
-        (["run"].as_slice(), Task::Replay(run_with(4, 64, false))),
+        (["run"].as_slice(), Task::Replay(run_with(4, 64, PLAIN))),
+        (
+            ["run", "--names", "--all-sums", "--sums"].as_slice(),
+            Task::Replay(run_with(4, 64, WITH_ALL)),
+        ),
         (
             ["run", "--workers", "7", "--window", "4096", "--sums"].as_slice(),
-            Task::Replay(run_with(7, 4096, true)),
+            Task::Replay(run_with(7, 4096, WITH_SUMS)),
         ),
         (
             ["compare"].as_slice(),
@@ -165,7 +185,7 @@ fn output_on_workers<R: Abort + AllocGlobal + Threads + Wait + Sync>(
 {
     let alloc = rt.alloc();
     let trace = hex::decode(alloc, NEIGHBOURING_WRITES_DO_NOT_COLLIDE.trace).expect(rt, "a trace");
-    let options = Options { mode, sums: false };
+    let options = Options { mode, shown: PLAIN };
     let mut reader = FromStd::new(trace.as_slice());
     let mut writer = FromStd::new(Vec::new(alloc));
     let done = run(rt, alloc, &mut reader, &mut writer, &options);

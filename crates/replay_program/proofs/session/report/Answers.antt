@@ -7,5 +7,5 @@ report_text-requires c = record { replies = length-replies c.args.trace.now c.ar
 
 pub returns-in-Ok-clause-ok : goal.returns-in-Ok-clause-ok
 returns-in-Ok-clause-ok c =
-    sequential_text c.args.trace.now c.state-state.result.now c.args.replay.now.replies c.args.sums c.in-Ok.text.items
+    sequential_text c.args.trace.now c.state-state.result.now c.args.replay.now.replies c.args.shown c.in-Ok.text.items
     (c.state-state.ensures ∙ ap (λ d. d.world) c.requires.world) c.requires.replies c.in-Ok.ensures

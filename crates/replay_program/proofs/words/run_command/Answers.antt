@@ -12,4 +12,6 @@ returns c =
     let first = argued c.about.result c.in_ok-arg.field-0 c.workers_option.result _ _ new c.workers_option.ensures c.in_ok-arg.ensures in
     let second = argued c.in_ok-arg.field-0 c.in_ok-arg-2.field-0 c.window_option.result _ _ first c.window_option.ensures c.in_ok-arg-2.ensures in
     let third = argued c.in_ok-arg-2.field-0 c.in_ok-arg-3.field-0 c.sums_flag.result _ _ second c.sums_flag.ensures c.in_ok-arg-3.ensures in
-    IfOk-weaker c.arg-4.result _ _ (λ command h. argued _ _ _ _ _ third c.eager_flag.ensures h) c.arg-4.ensures
+    let fourth = argued c.in_ok-arg-3.field-0 c.in_ok-arg-4.field-0 c.all_sums_flag.result _ _ third c.all_sums_flag.ensures c.in_ok-arg-4.ensures in
+    let fifth = argued c.in_ok-arg-4.field-0 c.in_ok-arg-5.field-0 c.names_flag.result _ _ fourth c.names_flag.ensures c.in_ok-arg-5.ensures in
+    IfOk-weaker c.arg-6.result _ _ (λ command h. argued _ _ _ _ _ fifth c.eager_flag.ensures h) c.arg-6.ensures

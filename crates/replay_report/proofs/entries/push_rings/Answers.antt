@@ -22,7 +22,7 @@ push_ring-requires-clause-places c =
 
 pub loop-ring-preserved : goal.loop-ring-preserved
 loop-ring-preserved c =
-    let lines = lines_all c.args.trace.now c.args.replies.now c.loop-ring.ring c.of_ring.result.now
+    let lines = lines_all c.args.trace.now c.args.replies.now c.args.names c.loop-ring.ring c.of_ring.result.now
     (list_read c.args.trace.now c.in_ok-by_ring.by_ring c.loop-ring.ring c.of_ring.result.now c.in_ok-by_ring.ensures (rw c.as_slice-ring-end.ensures at c.loop-ring-test.true) c.of_ring.ensures) in
-    range_grown c.args.text.now.items c.loop-ring.text.items c.push_ring.new.text.items (ring_lines c.args.trace.now c.args.replies.now) c.loop-ring.ring c.loop-ring.invariant
+    range_grown c.args.text.now.items c.loop-ring.text.items c.push_ring.new.text.items (ring_lines c.args.trace.now c.args.replies.now c.args.names) c.loop-ring.ring c.loop-ring.invariant
     (c.in_ok-push_ring.ensures ∙ ap (λ text. c.loop-ring.text.items ++ text) lines)

@@ -2,13 +2,13 @@
 use Rattle.std.proofs.Common.{◌≡◌, ◌-◌, ◌++◌, arith, take, drop, length-drop, append-nil, to_z-of_z, ◌∙◌, ap}
 use Rattle.std.proofs.lemmas.List.{take_all}
 use Rattle.extent_bytes.proofs.Outcomes.{ok_items}
-use Rattle.replay_report.proofs.entry_line.push_line.Goals as goal
+use Rattle.replay_report.proofs.entry_line.push_facts.Goals as goal
 
 pub returns : goal.returns
 returns c =
     let start = c.put_head-start.result in
     let line = c.put_head-start.new.line in
-    let whole : take (151 - start) (drop start line) ≡ drop start line = take_all (151 - start) (drop start line) (simp length-drop (omega arith)) in
+    let whole : take (150 - start) (drop start line) ≡ drop start line = take_all (150 - start) (drop start line) (simp length-drop (omega arith)) in
     let outcome = rw append-nil at c.put_outcome-end.ensures.written in
     let res = to_z-of_z c.ranges.res in
     let written = rw (res, outcome) at c.put_head-start.ensures.written in
