@@ -5,6 +5,7 @@ use Rattle.std.specs.Option.{option_map}
 use Rattle.std.specs.Fmt.{decimal}
 use Rattle.trace_format.specs.declared.trace.Trace.{Trace}
 use Rattle.trace_format.specs.Steps.{places}
+use Rattle.world_parts.specs.Items.{Item}
 use Rattle.wave_pick.specs.Holding.{Holder}
 use Rattle.wave_pick.specs.Rounds.{rounds}
 use Rattle.replay_core.specs.Waits.{waited_for, waited_meant}
@@ -25,10 +26,14 @@ log_of t window = record { rounds = rounds t window; waits = map (waited_for t w
 abbrev pub log_meant : RoundLog → Log
 log_meant log = record { rounds = log.rounds; waits = map (option_map waited_meant) log.waits }
 
+-- For which place another one waits, and what both use.
+abbrev pub after_text : Trace → ℕ → Item → List ℕ
+after_text t earlier item = codes " after=" ++ decimal earlier ++ codes " on=" ++ item_text t item
+
 -- A place that had to wait: the one that it waited for last, and what both use.
 abbrev pub wait_text : Trace → Option Holder → List ℕ
 wait_text t None = []
-wait_text t (Some h) = codes " after=" ++ decimal h.place ++ codes " on=" ++ item_text t h.item
+wait_text t (Some h) = after_text t h.place h.item
 
 -- The line of a place.
 abbrev pub place_line : Trace → ℕ → ℕ → Option Holder → List ℕ
@@ -49,10 +54,15 @@ quoted_byte byte = if byte == 34 || byte == 92 then 92 ∷ byte ∷ [] else byte
 abbrev pub quoted : List ℕ → List ℕ
 quoted text = flat_map quoted_byte text
 
+-- The arrow from a place to one that waits for it, with what both use.
+abbrev pub arrow_line : Trace → ℕ → ℕ → Item → List ℕ
+arrow_line t earlier place item =
+    line (codes "  " ++ decimal earlier ++ codes " -> " ++ decimal place ++ codes " [label=\"" ++ quoted (item_text t item) ++ codes "\"];")
+
 -- The arrow from the place that another one waited for.
 abbrev pub arrow : Trace → ℕ → Option Holder → List ℕ
 arrow t place None = []
-arrow t place (Some h) = line (codes "  " ++ decimal h.place ++ codes " -> " ++ decimal place ++ codes " [label=\"" ++ quoted (item_text t h.item) ++ codes "\"];")
+arrow t place (Some h) = arrow_line t h.place place h.item
 
 -- The node of a place, and the arrow that leads to it.
 abbrev pub place_node : Trace → ℕ → ℕ → Option Holder → List ℕ

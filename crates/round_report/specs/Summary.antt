@@ -20,13 +20,17 @@ width rounds r = count_by (λ round. round == r) rounds
 abbrev pub widest : List ℕ → ℕ
 widest rounds = greatest (map (width rounds) (range_with_len 0 (round_count rounds)))
 
--- How many hundredths of a place a round has in the mean, rounded down; none where there is no round.
+-- How many hundredths of a place there are in the mean in each of so many rounds, rounded down; none where there is no round.
 abbrev pub mean_of : ℕ → ℕ → ℕ
 mean_of places count = if count == 0 then 0 else places * 100 / count
 
 -- Hundredths as a number with two digits behind its point.
 abbrev pub hundredths : ℕ → List ℕ
 hundredths n = decimal (n / 100) ++ codes "." ++ decimal (n / 10 % 10) ++ decimal (n % 10)
+
+-- The line of a quotient.
+abbrev pub quotient_line : List ℕ → ℕ → ℕ → List ℕ
+quotient_line name whole part = line (name ++ codes " " ++ hundredths (mean_of whole part))
 
 -- How many places the longest path has that ends with the place for which a place waited; none where it didn't wait.
 abbrev pub length_before : List ℕ → Option Holder → ℕ
@@ -50,4 +54,4 @@ longest_line lengths = line (codes "longest " ++ decimal (greatest lengths) ++ e
 abbrev pub summary : List ℕ → List (Option Holder) → List ℕ
 summary rounds waits =
     line (codes "rounds " ++ decimal (round_count rounds)) ++ line (codes "widest " ++ decimal (widest rounds))
-    ++ line (codes "mean " ++ hundredths (mean_of (length rounds) (round_count rounds))) ++ longest_line (path_lengths [] waits)
+    ++ quotient_line (codes "mean") (length rounds) (round_count rounds) ++ longest_line (path_lengths [] waits)

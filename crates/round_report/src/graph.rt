@@ -3,13 +3,15 @@ ghost use Rattle.std.specs.Prelude.{◌≡◌, ◌++◌, IfOk, OnOk, length};
 ghost use Rattle.std.specs.List.{flat_map, range_with_len};
 ghost use Rattle.std.specs.Option.{option_map};
 ghost use Rattle.replay_core.specs.Waits.{waited_meant};
-ghost use Rattle.round_report.specs.Rounds.{arrow, graph_text, log_meant, logged_node, place_node};
-ghost use Rattle.round_report.specs.Rounds.{quoted, quoted_byte};
+ghost use Rattle.round_report.specs.Rounds.{arrow, arrow_line, graph_text, log_meant, logged_node};
+ghost use Rattle.round_report.specs.Rounds.{place_node, quoted, quoted_byte};
+ghost use Rattle.world_parts.specs.Uses.{item_meant};
 
 use crate::naming::item_text;
 use replay_core::round_log::{RoundLog, WaitedFor};
 use std::alloc::{AllocError, Global};
 use trace_format::Trace;
+use world_parts::Item;
 
 /// The rounds of a trace as a graph in the language of graphviz's dot(1): a node for each place
 /// with its round, and an arrow from the place that it waited for last, with what both use. It
@@ -65,7 +67,7 @@ fn push_node(
     push_arrow(alloc, text, trace, place, wait)
 }
 
-/// The arrow from the place that one had to wait for.
+/// The arrow from the place that one had to wait for, if it had to.
 fn push_arrow(
     alloc: Global,
     text: &mut Vec<u8>,
@@ -76,11 +78,29 @@ fn push_arrow(
     ensures { OnOk result (text.new.items ≡ text.old.items
         ++ arrow trace.now place (option_map waited_meant wait.now)) }
 {
-    let Some(wait) = wait else {
-        return Ok(());
-    };
-    let item = item_text(alloc, trace, &wait.item)?;
-    let earlier = wait.place;
+    match wait {
+        Some(wait) => push_arrow_line(alloc, text, trace, wait.place, place, &wait.item),
+        None => Ok(()),
+    }
+}
+
+/// The arrow from a place to one that waits for it, with what both use.
+///
+/// # Errors
+///
+/// Out of memory.
+pub fn push_arrow_line(
+    alloc: Global,
+    text: &mut Vec<u8>,
+    trace: &Trace,
+    earlier: u32,
+    place: usize,
+    item: &Item,
+) -> Result<(), AllocError>
+    ensures { OnOk result (text.new.items ≡ text.old.items
+        ++ arrow_line trace.now earlier place (item_meant item.now)) }
+{
+    let item = item_text(alloc, trace, item)?;
     let head = format!(in alloc; "  {earlier} -> {place} [label=\"")?;
     push_bytes(text, head.as_bytes())?;
     push_quoted(text, item.as_bytes())?;

@@ -10,5 +10,6 @@ mod lines;
 mod naming;
 mod summary;
 
-pub use graph::graph_text;
-pub use lines::rounds_text;
+pub use graph::{graph_text, push_arrow_line};
+pub use lines::{push_after, rounds_text};
+pub use summary::push_quotient;

@@ -4,13 +4,15 @@ ghost use Rattle.std.specs.List.{flat_map, range_with_len};
 ghost use Rattle.std.specs.Option.{option_map};
 ghost use Rattle.replay_core.specs.Waits.{waited_meant};
 ghost use Rattle.round_report.specs.Rounds.{log_meant, logged_line, place_line, rounds_text};
-ghost use Rattle.round_report.specs.Rounds.{wait_text};
+ghost use Rattle.round_report.specs.Rounds.{after_text, wait_text};
+ghost use Rattle.world_parts.specs.Uses.{item_meant};
 
 use crate::naming::item_text;
 use crate::summary::push_summary;
 use replay_core::round_log::{RoundLog, WaitedFor};
 use std::alloc::{AllocError, Global};
 use trace_format::Trace;
+use world_parts::Item;
 
 /// The rounds of a trace as text: of each place its round and, where it had to wait, the place that
 /// it waited for last and what both use; then how many rounds there are, how many places the widest
@@ -78,10 +80,27 @@ fn push_wait(
     ensures { OnOk result (string_bytes text.new ≡ string_bytes text.old
         ++ wait_text trace.now (option_map waited_meant wait.now)) }
 {
-    let Some(wait) = wait else {
-        return Ok(());
-    };
-    let item = item_text(alloc, trace, &wait.item)?;
-    let place = wait.place;
+    match wait {
+        Some(wait) => push_after(alloc, text, trace, wait.place, &wait.item),
+        None => Ok(()),
+    }
+}
+
+/// For which place one waits, and what both use: the end of its line.
+///
+/// # Errors
+///
+/// Out of memory.
+pub fn push_after(
+    alloc: Global,
+    text: &mut String,
+    trace: &Trace,
+    place: u32,
+    item: &Item,
+) -> Result<(), AllocError>
+    ensures { OnOk result (string_bytes text.new ≡ string_bytes text.old
+        ++ after_text trace.now place (item_meant item.now)) }
+{
+    let item = item_text(alloc, trace, item)?;
     write!(text, " after={place} on={item}")
 }

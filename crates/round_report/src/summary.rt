@@ -6,7 +6,7 @@ ghost use Rattle.std.specs.Option.{option_map};
 ghost use Rattle.replay_core.specs.Waits.{waited_meant};
 ghost use Rattle.round_report.specs.Summary.{greatest, hundredths, length_before, longest_line};
 ghost use Rattle.round_report.specs.Summary.{mean_of, path_lengths, round_count, summary, widest};
-ghost use Rattle.round_report.specs.Summary.{width};
+ghost use Rattle.round_report.specs.Summary.{quotient_line, width};
 
 use replay_core::round_log::{RoundLog, WaitedFor};
 use std::alloc::{AllocError, Global};
@@ -88,17 +88,30 @@ fn greatest(numbers: &[usize]) -> usize
 /// The line of how many places a round has in the mean.
 fn push_mean(text: &mut String, places: usize, count: usize) -> Result<(), AllocError>
     ensures { OnOk result (string_bytes text.new ≡ string_bytes text.old
-        ++ codes "mean " ++ hundredths (mean_of places count) ++ 10 ∷ []) }
+        ++ quotient_line (codes "mean") places count) }
 {
-    let mean = if count == 0 {
+    push_quotient(text, "mean", places as u64, count as u64)
+}
+
+/// A line with how often one number holds another, in hundredths, rounded down; with 0.00 where the
+/// other is 0.
+///
+/// # Errors
+///
+/// Out of memory.
+pub fn push_quotient(text: &mut String, name: &str, whole: u64, part: u64) -> Result<(), AllocError>
+    ensures { OnOk result (string_bytes text.new ≡ string_bytes text.old
+        ++ quotient_line name.now whole part) }
+{
+    let quotient = if part == 0 {
         0
     } else {
-        places as u128 * 100 / count as u128
+        whole as u128 * 100 / part as u128
     };
-    let whole = mean / 100;
-    let tenths = mean / 10 % 10;
-    let last = mean % 10;
-    writeln!(text, "mean {whole}.{tenths}{last}")
+    let units = quotient / 100;
+    let tenths = quotient / 10 % 10;
+    let last = quotient % 10;
+    writeln!(text, "{name} {units}.{tenths}{last}")
 }
 
 /// The line of the longest path: how many places it has, and with which it ends.

@@ -3,12 +3,12 @@ use Rattle.std.proofs.lemmas.Result.{on_ok_weaker}
 use Rattle.std.specs.Fmt.{decimal}
 use Rattle.round_report.specs.Rounds.{quoted}
 use Rattle.round_report.proofs.TextLemmas.{arrow_pieces}
-use Rattle.round_report.proofs.graph.push_arrow.Goals as goal
+use Rattle.round_report.proofs.graph.push_arrow_line.Goals as goal
 
 pub returns : goal.returns
 returns c =
     let text = c.args.text.now.items in
     let head = c.in_ok-push_bytes.ensures ∙ ap (λ xs. text ++ xs) (c.as_bytes.ensures.value ∙ c.in_ok-head.ensures.ok) in
     let label = c.in_ok-push_quoted.ensures ∙ ap₂ (λ xs label. xs ++ label) head (ap quoted (c.as_bytes-2.ensures.value ∙ c.in_ok-item.ensures)) in
-    rw c.in-Some.is (on_ok_weaker c.push_bytes-2.result (λ e. e ∙ ap (λ xs. xs ++ codes "\"];\n") label
-    ∙ arrow_pieces text (codes "  ") (decimal c.in-Some.wait.place) (codes " -> ") (decimal c.args.place) (codes " [label=\"") _ (codes "\"];")) c.push_bytes-2.ensures)
+    on_ok_weaker c.push_bytes-2.result (λ e. e ∙ ap (λ xs. xs ++ codes "\"];\n") label
+    ∙ arrow_pieces text (codes "  ") (decimal c.args.earlier) (codes " -> ") (decimal c.args.place) (codes " [label=\"") _ (codes "\"];")) c.push_bytes-2.ensures

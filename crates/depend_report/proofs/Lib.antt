@@ -1,0 +1,2 @@
+mod PathLemmas
+mod ToldLemmas

@@ -1,0 +1,3 @@
+pub mod Depends
+pub mod Paths
+pub mod Told
