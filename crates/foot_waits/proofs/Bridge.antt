@@ -1,6 +1,5 @@
 -- What the line tells of ranges is the rule on atoms.
-use Rattle.std.specs.Prelude.{◌≡◌, ℕ, zero, suc, ◌+◌, ◌-◌, ◌*◌, ◌^◌, ◌<◌, ◌≤◌, Bool, true, false, ◌&&◌, ◌||◌, ◌==◌, List, [], ◌∷◌, map, length, ◌⊎◌, refl, Option, Some, None, slice_index_or}
-use Rattle.std.specs.List.{list_any, AllByRecursion}
+use Rattle.std.specs.Prelude.{◌≡◌, ℕ, zero, suc, ◌+◌, ◌-◌, ◌*◌, ◌^◌, ◌<◌, ◌≤◌, Bool, true, false, ◌&&◌, ◌||◌, ◌==◌, List, [], ◌∷◌, map, length, refl, Option, Some, None, slice_index_or}
 use Rattle.std.proofs.Common.{sym, ap, ◌∙◌, subst, arith, inl, inr, lit<}
 use Rattle.std.proofs.lemmas.Bool.{and_from, and_parts, cases_Bool, cases_eq, or_cases, or_left, or_right}
 use Rattle.std.proofs.lemmas.Bool.Decides.{nat_tests}
@@ -9,7 +8,7 @@ use Rattle.use_line.specs.declared.line.Span.{Span}
 use Rattle.use_line.specs.Spans.{within, covers, used_by, written_by}
 use Rattle.use_line.specs.Known.{IsToldOf, Keeps, Known, WaitsIn, known_at}
 use Rattle.use_line.proofs.Direct.{told_direct}
-use Rattle.world_parts.specs.Items.{Atom, descriptor_at, byte_at, buffer_byte, Item, one, file_bytes, buffer_bytes, all_descriptors, Use, Footprint, collide, member_of, same_atom, has_atom, writes_atom}
+use Rattle.world_parts.specs.Items.{Atom, byte_at, buffer_byte, Item, one, file_bytes, buffer_bytes, all_descriptors, Use, Footprint, collide, member_of, same_atom, has_atom, writes_atom}
 use Rattle.world_parts.specs.Cutting.{is_narrow_use}
 use Rattle.world_parts.proofs.Collision.{same_atom_refl, true_of}
 use Rattle.foot_waits.specs.Names.{AreApart}

@@ -1,12 +1,11 @@
 -- Whom groups of places tell are those that come directly before.
-use Rattle.std.specs.Prelude.{◌≡◌, ℕ, zero, suc, ◌-◌, ◌<◌, ◌≤◌, Bool, true, false, ◌&&◌, ◌||◌, ◌==◌, leb, max, List, [], ◌∷◌, ◌++◌, length, ◌⊎◌, refl, if◌then◌else◌, slice_index_or}
+use Rattle.std.specs.Prelude.{◌≡◌, ℕ, zero, suc, ◌-◌, ◌<◌, ◌≤◌, Bool, true, false, ◌&&◌, ◌==◌, leb, max, List, [], ◌∷◌, ◌++◌, length, ◌⊎◌, refl, if◌then◌else◌, slice_index_or}
 use Rattle.std.specs.List.{AllByRecursion, list_all, list_any, remove}
 use Rattle.std.specs.Ordering.{nat_cmp, ord_max}
 use Rattle.std.proofs.Common.{drop, take, sym, ap, ◌∙◌, subst, arith, inl, inr}
 use Rattle.std.proofs.lemmas.Bool.{and_from, and_parts, cases_Bool, cases_lt, eqb-true, false_from_ne_true, or_cases, or_left, or_right}
 use Rattle.std.proofs.lemmas.Bool.Decides.{nat_tests}
 use Rattle.std.proofs.lemmas.List.Folds.{list_any-append}
-use Rattle.interleaving.specs.Direct.{IsDirect}
 use Rattle.use_line.specs.Known.{is_among}
 use Rattle.world_parts.specs.Items.{Use, Footprint, collide}
 use Rattle.foot_waits.specs.Groups.{BeginsAt, Grouped, HasUses, IsAdded, KeepsGroups, Rise, from_on, latest_between, meets, nothing, told_among, told_in, with_place}
@@ -290,8 +289,8 @@ module _ (foot : ℕ → Footprint) where
           ])
           (inr (any_last (λ x. is_among x.2 n) (remove old i) (with_place g n) (any_last (λ p. p == n) g.2 n (grind (arith, nat_tests))))))
       | inr fresh ↦ rw fresh (keeps_when n old (old ++ (uses, n, n ∷ []) ∷ []) keep (all_pushed (HasUses foot (suc n)) old (uses, n, n ∷ []) later (uses_first n uses mine))
-        (λ j h. any_first (λ x. is_among x.2 j) old ((uses, n, n ∷ []) ∷ []) h)
-        (inr (any_last (λ x. is_among x.2 n) old (uses, n, n ∷ []) (or_left (n == n) false (grind (arith, nat_tests))))))
+          (λ j h. any_first (λ x. is_among x.2 j) old ((uses, n, n ∷ []) ∷ []) h)
+          (inr (any_last (λ x. is_among x.2 n) old (uses, n, n ∷ []) (or_left (n == n) false (grind (arith, nat_tests))))))
     ]
   ]
     where

@@ -1,8 +1,7 @@
 -- A range on the line has just the atoms of its item.
-use Rattle.std.specs.Prelude.{◌≡◌, ℕ, suc, ◌+◌, ◌*◌, ◌^◌, ◌<◌, ◌≤◌, Bool, true, false, ◌&&◌, ◌||◌, ◌==◌, leb, ltb, List, [], ◌∷◌, map, refl, Option, Some, None, is_some}
+use Rattle.std.specs.Prelude.{◌≡◌, ℕ, ◌+◌, ◌*◌, ◌^◌, ◌<◌, ◌≤◌, Bool, true, false, ◌&&◌, ◌||◌, ◌==◌, List, [], ◌∷◌, map, refl, Option, Some, None, is_some}
 use Rattle.std.specs.Str.{bytes_eq}
 use Rattle.std.specs.Option.{unwrap_or}
-use Rattle.std.specs.List.{list_any, AllByRecursion}
 use Rattle.std.proofs.Common.{sym, ap, ◌∙◌, subst, arith, inl, inr, lit<}
 use Rattle.world_parts.proofs.Collision.{same_atom-eq}
 use Rattle.world_parts.proofs.Sharing.{holds_true}
@@ -10,11 +9,11 @@ use Rattle.world_parts.specs.Cutting.{is_narrow_use}
 use Rattle.std.proofs.lemmas.Bool.{and_parts, cases_Bool, cases_order, cases_eq, eqb-true, false_from_ne_true}
 use Rattle.std.proofs.lemmas.Bool.Decides.{nat_tests}
 use Rattle.std.proofs.lemmas.Slice.Eq.{bytes_eq-Decides}
-use Rattle.world_parts.specs.Items.{Atom, chain_flag, ring_order, slot_at, descriptor_at, description_at, position_of, size_of, byte_at, name_at, names_in, buffer_size, buffer_byte, Item, one, file_bytes, buffer_bytes, all_names, all_bytes_and_sizes, all_positions, all_descriptions, all_descriptors, Use, Footprint, member_of, same_atom, has_atom, writes_atom}
+use Rattle.world_parts.specs.Items.{Atom, chain_flag, ring_order, slot_at, descriptor_at, description_at, position_of, size_of, byte_at, name_at, names_in, buffer_size, buffer_byte, Item, one, file_bytes, buffer_bytes, all_descriptors, Use, Footprint, member_of, same_atom, has_atom, writes_atom}
 use Rattle.use_line.specs.Spans.{within, covers, used_by, written_by}
 use Rattle.foot_waits.specs.Names.{AreApart, name_key, number_at}
 use Rattle.foot_waits.specs.Rule.{is_of_descriptors}
-use Rattle.foot_waits.specs.Spots.{AllFit, AtomFits, ItemFits, Numbers, has_number, high_in, inner_in, inner_of, item_known, low_in, place_of, row_in, row_of, sort_in, sort_of, span_for, spot, spot_at}
+use Rattle.foot_waits.specs.Spots.{AllFit, AtomFits, ItemFits, Numbers, has_number, high_in, inner_of, low_in, place_of, row_in, row_of, sort_in, sort_of, span_for, spot, spot_at}
 use Rattle.foot_waits.proofs.Numbering.{key_apart}
 use Rattle.foot_waits.proofs.Parts.{no_member}
 

@@ -1,5 +1,5 @@
 -- The first of the uses by which a footprint waits for another.
-use Rattle.std.specs.Prelude.{◌≡◌, ℕ, zero, suc, ◌<◌, Bool, true, false, ◌&&◌, ◌||◌, ◌⊎◌, List, [], ◌∷◌, length, map, Option, Some, None, slice_index_or}
+use Rattle.std.specs.Prelude.{◌≡◌, ℕ, zero, suc, ◌<◌, true, false, ◌&&◌, ◌||◌, ◌⊎◌, List, [], ◌∷◌, length, map, Option, Some, None, slice_index_or}
 use Rattle.std.specs.Bool.{Decides}
 use Rattle.std.proofs.Common.{ap, get_or, sym, ◌∙◌, subst, arith, inl, inr}
 use Rattle.std.proofs.lemmas.Bool.{and_from, and_parts, cases_Bool, cases_eq, or_cases, or_left, or_right}
@@ -36,11 +36,11 @@ pub told_both : (past : Past) (f : Footprint) (spans : List Span) (i j : ℕ) (u
     → is_among new j ≡ (is_among mid j || (is_of_descriptors u.item && told_among past.1 own u j past.1)) → Decides (is_among new j) (TellsBy past f spans i j)
 told_both past f spans i j u own mid new same_use own_is line groups =
     let of : ((is_of_descriptors u.item && told_among past.1 own u j past.1) ≡ true) → TellsBy past f spans i j = λ h.
-        let parts = and_parts (is_of_descriptors u.item) (told_among past.1 own u j past.1) h in
-        inr (
-          subst (λ v. is_of_descriptors v.item ≡ true) same_use parts.0,
-          subst (λ v. told_among past.1 (descriptor_uses f) v j past.1 ≡ true) same_use (subst (λ o. told_among past.1 o u j past.1 ≡ true) own_is parts.1),
-        ) in (
+    let parts = and_parts (is_of_descriptors u.item) (told_among past.1 own u j past.1) h in
+    inr (
+      subst (λ v. is_of_descriptors v.item ≡ true) same_use parts.0,
+      subst (λ v. told_among past.1 (descriptor_uses f) v j past.1 ≡ true) same_use (subst (λ o. told_among past.1 o u j past.1 ≡ true) own_is parts.1),
+    ) in (
       (λ h. elim (or_cases (is_among mid j) (is_of_descriptors u.item && told_among past.1 own u j past.1) (sym groups ∙ h)) [
         | inl m ↦ elim (line.0 m) [ inl no₁ ↦ absurd cc | inr told ↦ inl told ]
         | inr d ↦ of d

@@ -1,5 +1,5 @@
 -- A view of code: which places have used descriptors, in groups that have used them alike.
-use Rattle.std.specs.Prelude.{◌≡◌, ℕ, ◌-◌, ◌<◌, ◌≤◌, Bool, true, ◌&&◌, ◌||◌, ◌⊎◌, leb, max, List, [], ◌∷◌, ◌++◌, length, if◌then◌else◌, slice_index_or}
+use Rattle.std.specs.Prelude.{◌≡◌, ℕ, ◌-◌, ◌<◌, ◌≤◌, Bool, true, ◌&&◌, ◌⊎◌, leb, max, List, [], ◌∷◌, ◌++◌, length, if◌then◌else◌, slice_index_or}
 use Rattle.std.specs.List.{AllByRecursion, list_all, list_any, remove}
 use Rattle.world_parts.specs.Items.{Use, Footprint, collide, share}
 use Rattle.use_line.specs.Known.{is_among}

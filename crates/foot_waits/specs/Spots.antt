@@ -1,8 +1,8 @@
 -- A view of code: where items lie on the line.
-use Rattle.std.specs.Prelude.{◌≡◌, ℕ, ◌<◌, ◌≤◌, ◌+◌, ◌*◌, ◌^◌, Bool, List, Option, Some, None, if◌then◌else◌, is_some, true, false}
+use Rattle.std.specs.Prelude.{◌≡◌, ℕ, ◌<◌, ◌≤◌, ◌+◌, ◌*◌, ◌^◌, Bool, List, if◌then◌else◌, is_some, true, false}
 use Rattle.std.specs.List.{AllByRecursion}
 use Rattle.std.specs.Option.{unwrap_or}
-use Rattle.world_parts.specs.Items.{Atom, chain_flag, ring_order, slot_at, descriptor_at, description_at, position_of, size_of, byte_at, name_at, names_in, buffer_size, buffer_byte, Item, one, file_bytes, buffer_bytes, all_names, all_bytes_and_sizes, all_positions, all_descriptions, all_descriptors, Use, Footprint, reads}
+use Rattle.world_parts.specs.Items.{Atom, chain_flag, ring_order, slot_at, descriptor_at, description_at, position_of, size_of, byte_at, name_at, names_in, buffer_size, buffer_byte, Item, one, file_bytes, buffer_bytes, all_descriptors, Use, Footprint, reads}
 use Rattle.world_parts.specs.Cutting.{is_narrow_use}
 use Rattle.use_line.specs.declared.line.Span.{Span}
 use Rattle.foot_waits.specs.Names.{name_key, number_at}

@@ -1,5 +1,5 @@
 //! Which places have used descriptors, in groups that have used them alike.
-ghost use Rattle.std.specs.Prelude.{◌≡◌, ◌<◌, ◌≤◌, ◌&&◌, ◌||◌, ◌++◌, ◌∷◌, ℕ, [], IfOk, MatchOption, OnOk, if◌then◌else◌, length, slice_index_or};
+ghost use Rattle.std.specs.Prelude.{◌≡◌, ◌<◌, ◌&&◌, ◌||◌, ◌++◌, ◌∷◌, ℕ, [], IfOk, MatchOption, OnOk, if◌then◌else◌, length, slice_index_or};
 ghost use Rattle.foot_waits.specs.Groups.{BeginsAt, IsAdded, from_on, latest_between, meets, nothing, told_among, told_in, with_place};
 ghost use Rattle.foot_waits.specs.Rule.{descriptor_uses, is_of_descriptors};
 ghost use Rattle.use_line.specs.Known.{is_among};
@@ -222,10 +222,7 @@ impl Descriptors {
 }
 
 /// What a footprint uses of descriptors.
-pub(crate) fn descriptor_uses(
-    alloc: Global,
-    footprint: &Footprint,
-) -> Result<Footprint, AllocError>
+pub(crate) fn descriptor_uses(alloc: Global, footprint: &Footprint) -> Result<Footprint, AllocError>
     ensures { IfOk result (λ uses. uses ≡ descriptor_uses footprint.now) }
 {
     let mut uses = Footprint::new(alloc);

@@ -1,7 +1,7 @@
 use Rattle.std.proofs.Common.{add-one, arith, map, subst, length, ℕ, ◌≡◌}
 use Rattle.std.specs.BTreeMap.{get}
 use Rattle.std.specs.Ordering.{nat_cmp}
-use Rattle.foot_waits.specs.Told.{IsFirst, Past}
+use Rattle.foot_waits.specs.Told.{IsFirst}
 use Rattle.world_parts.specs.Uses.{use_meant}
 use Rattle.foot_waits.proofs.Told.{first_more}
 use Rattle.foot_waits.proofs.waits.first_told.Goals as goal

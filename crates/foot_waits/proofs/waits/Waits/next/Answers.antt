@@ -1,7 +1,5 @@
-use Rattle.std.proofs.Common.{ap, subst}
 use Rattle.std.specs.BTreeMap.{get}
 use Rattle.std.specs.Ordering.{nat_cmp}
-use Rattle.foot_waits.specs.Groups.{IsAdded}
 use Rattle.foot_waits.proofs.Bridge.{first_at}
 use Rattle.foot_waits.proofs.Renaming.{all_fit_kept, at_kept}
 use Rattle.foot_waits.proofs.Stepping.{at_next}
