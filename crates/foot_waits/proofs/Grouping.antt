@@ -288,8 +288,8 @@ module _ (foot : ℕ → Footprint) where
           ])
           (inr (or_left (is_among (with_place g n).2 n) (list_any (λ x. is_among x.2 n) (remove old i)) (any_last (λ p. p == n) g.2 n (grind (arith, nat_tests))))))
       | inr fresh ↦ rw fresh (keeps_when n old ((uses, n, n ∷ []) ∷ old) keep (uses_first n uses mine, later)
-        (λ j h. or_right (is_among (n ∷ []) j) (list_any (λ x. is_among x.2 j) old) h)
-        (inr (or_left (is_among (n ∷ []) n) (list_any (λ x. is_among x.2 n) old) (or_left (n == n) false (grind (arith, nat_tests))))))
+          (λ j h. or_right (is_among (n ∷ []) j) (list_any (λ x. is_among x.2 j) old) h)
+          (inr (or_left (is_among (n ∷ []) n) (list_any (λ x. is_among x.2 n) old) (or_left (n == n) false (grind (arith, nat_tests))))))
     ]
   ]
     where

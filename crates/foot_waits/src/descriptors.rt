@@ -98,7 +98,9 @@ impl Group {
 /// Who has used descriptors.
 ///
 /// There are few groups, however many places: for each descriptor those that use it, those that
-/// close it and those that take it, and one of those that look in vain for a free one.
+/// close it and those that take it, and one of those that look in vain for a free one. The group
+/// with the latest place comes first. A place that takes one clashes with all that take, close or
+/// look in vain before it. So it soon tells that none of these are waited for.
 #[derive(Drop)]
 pub(crate) struct Descriptors {
     groups: Vec<Group>,

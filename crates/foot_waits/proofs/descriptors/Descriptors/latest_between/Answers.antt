@@ -5,5 +5,8 @@ use Rattle.foot_waits.proofs.descriptors.Descriptors.latest_between.Goals as goa
 pub loop-group-preserved : goal.loop-group-preserved
 loop-group-preserved c =
     let same = c.deref-group-items.ensures.value ∙ c.self.view_is in
-    rw (add-one, latest_next c.args.own.now c.args.uses.now c.args.self.now c.loop-group.group-index c.group-item.result (rw (← same) c.loop-group-test.true) (rw (← same) c.group-item.is),
-    ← c.loop-group.invariant) c.latest_with-latest.ensures
+    rw (
+      add-one,
+      latest_next c.args.own.now c.args.uses.now c.args.self.now c.loop-group.group-index c.group-item.result (rw (← same) c.loop-group-test.true) (rw (← same) c.group-item.is),
+      ← c.loop-group.invariant,
+    ) c.latest_with-latest.ensures
