@@ -1,7 +1,6 @@
 -- Whom groups of places tell are those that come directly before.
 use Rattle.std.specs.Prelude.{◌≡◌, ℕ, zero, suc, ◌-◌, ◌<◌, ◌≤◌, Bool, true, false, ◌&&◌, ◌==◌, leb, max, List, [], ◌∷◌, ◌++◌, length, ◌⊎◌, refl, if◌then◌else◌, slice_index_or}
 use Rattle.std.specs.List.{AllByRecursion, list_all, list_any, remove}
-use Rattle.std.specs.Ordering.{nat_cmp, ord_max}
 use Rattle.std.proofs.Common.{drop, take, sym, ap, ◌∙◌, subst, arith, inl, inr}
 use Rattle.std.proofs.lemmas.Bool.{and_from, and_parts, cases_Bool, cases_lt, eqb-true, false_from_ne_true, or_cases, or_left, or_right}
 use Rattle.std.proofs.lemmas.Bool.Decides.{nat_tests}
@@ -282,15 +281,15 @@ module _ (foot : ℕ → Footprint) where
           let g = slice_index_or old i nothing in
           let has = all_at (HasUses foot n) old i nothing there.1 keep.groups in
           let rest = all_removed (HasUses foot (suc n)) old i later in
-          rw there.3 (keeps_when n old (remove old i ++ with_place g n ∷ []) keep (all_pushed (HasUses foot (suc n)) (remove old i) (with_place g n) rest (uses_more n g (mine ∙ sym there.2) has))
+          rw there.3 (keeps_when n old (with_place g n ∷ remove old i) keep (uses_more n g (mine ∙ sym there.2) has, rest)
           (λ j h. elim (any_removed (λ x. is_among x.2 j) old i nothing h) [
-            | inl moved ↦ any_last (λ x. is_among x.2 j) (remove old i) (with_place g n) (any_first (λ p. p == j) g.2 (n ∷ []) moved)
-            | inr stays ↦ any_first (λ x. is_among x.2 j) (remove old i) (with_place g n ∷ []) stays
+            | inl moved ↦ or_left (is_among (with_place g n).2 j) (list_any (λ x. is_among x.2 j) (remove old i)) (any_first (λ p. p == j) g.2 (n ∷ []) moved)
+            | inr stays ↦ or_right (is_among (with_place g n).2 j) (list_any (λ x. is_among x.2 j) (remove old i)) stays
           ])
-          (inr (any_last (λ x. is_among x.2 n) (remove old i) (with_place g n) (any_last (λ p. p == n) g.2 n (grind (arith, nat_tests))))))
-      | inr fresh ↦ rw fresh (keeps_when n old (old ++ (uses, n, n ∷ []) ∷ []) keep (all_pushed (HasUses foot (suc n)) old (uses, n, n ∷ []) later (uses_first n uses mine))
-          (λ j h. any_first (λ x. is_among x.2 j) old ((uses, n, n ∷ []) ∷ []) h)
-          (inr (any_last (λ x. is_among x.2 n) old (uses, n, n ∷ []) (or_left (n == n) false (grind (arith, nat_tests))))))
+          (inr (or_left (is_among (with_place g n).2 n) (list_any (λ x. is_among x.2 n) (remove old i)) (any_last (λ p. p == n) g.2 n (grind (arith, nat_tests))))))
+      | inr fresh ↦ rw fresh (keeps_when n old ((uses, n, n ∷ []) ∷ old) keep (uses_first n uses mine, later)
+          (λ j h. or_right (is_among (n ∷ []) j) (list_any (λ x. is_among x.2 j) old) h)
+          (inr (or_left (is_among (n ∷ []) n) (list_any (λ x. is_among x.2 n) old) (or_left (n == n) false (grind (arith, nat_tests))))))
     ]
   ]
     where
@@ -304,5 +303,31 @@ latest_next own uses [] i g lt e = absurd (omega arith)
 latest_next own uses (h ∷ gs) zero g lt e = rw e (grind arith)
 latest_next own uses (h ∷ gs) (suc i) g lt e = let rest = latest_next own uses gs i g (omega arith) e in rw rest (grind arith)
 
-pub the_max : (a b : ℕ) → ord_max nat_cmp a b ≡ max a b
-the_max a b = grind (arith, nat_tests)
+-- a group with a later place than all of a list
+latest_above : (own uses : Footprint) (gs : List Grouped) (i last : ℕ) (g : Grouped) → i < length gs → g ≡ slice_index_or gs i g → last < max last (if both_clash own uses g then g.1 else 0)
+    → last < latest_between own uses gs
+latest_above own uses [] i last g lt e more = absurd (omega arith)
+latest_above own uses (h ∷ gs) zero last g lt e more = let there = rw e at more in grind (arith, there)
+latest_above own uses (h ∷ gs) (suc i) last g lt e more = let rest = latest_above own uses gs i last g (omega arith) e more in grind (arith, rest)
+
+same_default : (ps : List ℕ) (i d e : ℕ) → i < length ps → slice_index_or ps i d ≡ slice_index_or ps i e
+same_default [] i d e lt = absurd (omega arith)
+same_default (p ∷ ps) zero d e lt = refl
+same_default (p ∷ ps) (suc i) d e lt = same_default ps i d e (omega arith)
+
+none_left : (ps : List ℕ) → drop (length ps) ps ≡ []
+none_left [] = refl
+none_left (p ∷ ps) = none_left ps
+
+pub cut_by : (own uses : Footprint) (gs : List Grouped) (i last : ℕ) (g : Grouped) (ps : List ℕ) → i < length gs → g ≡ slice_index_or gs i g → last < max last (if both_clash own uses g then g.1 else 0)
+    → last ≡ slice_index_or ps (length ps - 1) last → from_on (latest_between own uses gs) ps ≡ []
+cut_by own uses gs i last g [] lt e more is = refl
+cut_by own uses gs i last g (p ∷ ps) lt e more is =
+    let above = latest_above own uses gs i last g lt e more in
+    let all = p ∷ ps in
+    let at_last : slice_index_or all (length all - 1) 0 ≡ last = same_default all (length all - 1) 0 last (omega arith) ∙ sym is in
+    sym (begins_is (latest_between own uses gs) all (length all) (record {
+      within = omega arith;
+      from = λ n le less. absurd (omega (arith, le, less));
+      before = inr (rw at_last above);
+    })) ∙ none_left all

@@ -45,8 +45,8 @@ with_place g place = (g.0, place, g.2 ++ place ∷ [])
 -- one place more that uses descriptors so: it stands in a group with such uses, or in one of its own
 abbrev pub IsAdded : List Grouped → List Grouped → Footprint → ℕ → Type 0
 IsAdded old new uses place = ((uses ≡ []) × (new ≡ old))
-    ⊎ (((i : ℕ) × (i < length old) × ((slice_index_or old i nothing).0 ≡ uses) × (new ≡ remove old i ++ with_place (slice_index_or old i nothing) place ∷ []))
-    ⊎ (new ≡ old ++ (uses, place, place ∷ []) ∷ []))
+    ⊎ (((i : ℕ) × (i < length old) × ((slice_index_or old i nothing).0 ≡ uses) × (new ≡ with_place (slice_index_or old i nothing) place ∷ remove old i))
+    ⊎ (new ≡ (uses, place, place ∷ []) ∷ old))
 
 -- numbers that rise
 abbrev pub Rise : List ℕ → Type 0

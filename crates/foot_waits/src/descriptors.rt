@@ -1,5 +1,5 @@
 //! Which places have used descriptors, in groups that have used them alike.
-ghost use Rattle.std.specs.Prelude.{◌≡◌, ◌<◌, ◌≤◌, ◌&&◌, ◌||◌, ◌++◌, ◌∷◌, ℕ, [], IfOk, MatchOption, OnOk, if◌then◌else◌, length, slice_index_or};
+ghost use Rattle.std.specs.Prelude.{◌≡◌, ◌<◌, ◌&&◌, ◌||◌, ◌++◌, ◌∷◌, ℕ, [], IfOk, MatchOption, OnOk, if◌then◌else◌, length, max, slice_index_or, true};
 ghost use Rattle.foot_waits.specs.Groups.{BeginsAt, IsAdded, from_on, latest_between, meets, nothing, told_among, told_in, with_place};
 ghost use Rattle.foot_waits.specs.Rule.{descriptor_uses, is_of_descriptors};
 ghost use Rattle.use_line.specs.Known.{is_among};
@@ -60,15 +60,16 @@ impl Group {
         }
     }
 
-    /// The latest place, if the group clashes with both of two footprints, or else 0.
-    fn latest_if_between(&self, own: &Footprint, uses: &Footprint) -> u32
-        ensures { result ≡ (if collide own.now self.now.0 && collide self.now.0 uses.now
+    /// The later of a place and the group's latest, where this counts if the group clashes with both
+    /// of two footprints.
+    fn latest_with(&self, so_far: u32, own: &Footprint, uses: &Footprint) -> u32
+        ensures { result ≡ max so_far (if collide own.now self.now.0 && collide self.now.0 uses.now
             then self.now.1 else 0) }
     {
-        if collide(own, &self.uses) && collide(&self.uses, uses) {
+        if self.latest > so_far && collide(own, &self.uses) && collide(&self.uses, uses) {
             self.latest
         } else {
-            0
+            so_far
         }
     }
 
@@ -97,7 +98,9 @@ impl Group {
 /// Who has used descriptors.
 ///
 /// There are few groups, however many places: for each descriptor those that use it, those that
-/// close it and those that take it, and one of those that look in vain for a free one.
+/// close it and those that take it, and one of those that look in vain for a free one. The group
+/// with the latest place comes first. A place that takes one clashes with all that take, close or
+/// look in vain before it. So it soon tells that none of these are waited for.
 #[derive(Drop)]
 pub(crate) struct Descriptors {
     groups: Vec<Group>,
@@ -135,7 +138,7 @@ impl Descriptors {
         None
     }
 
-    /// Adds a place that uses descriptors so. The group that it stands in comes last.
+    /// Adds a place that uses descriptors so. The group that it stands in comes first.
     pub(crate) fn add(
         &mut self,
         alloc: Global,
@@ -151,9 +154,9 @@ impl Descriptors {
             Some(index) => {
                 let mut group = self.groups.remove(index);
                 group.add(place)?;
-                self.groups.push(group)?;
+                self.groups.insert(0, group)?;
             }
-            None => self.groups.push(Group::new(alloc, uses, place)?)?,
+            None => self.groups.insert(0, Group::new(alloc, uses, place)?)?,
         }
         Ok(())
     }
@@ -164,7 +167,7 @@ impl Descriptors {
     {
         let mut latest = 0;
         for group in &self.groups {
-            latest = latest.max(group.latest_if_between(own, uses));
+            latest = group.latest_with(latest, own, uses);
         }
         latest
     }
@@ -202,6 +205,23 @@ impl Descriptors {
         Ok(())
     }
 
+    /// Whether a group that clashes with a footprint and with another group has a later place than
+    /// all of that one: then none of these is told. It passes over the rest of the groups.
+    fn is_cut(&self, own: &Footprint, group: &Group) -> bool
+        ensures { result ≡ true → from_on (latest_between own.now group.now.0 self.now) group.now.2 ≡ [] }
+    {
+        let Some(last) = group.places.last() else {
+            return false;
+        };
+        let last = *last;
+        for other in &self.groups {
+            if other.latest_with(last, own, &group.uses) > last {
+                return true;
+            }
+        }
+        false
+    }
+
     /// Adds those of one group.
     fn tell_group(
         &self,
@@ -213,7 +233,7 @@ impl Descriptors {
         ensures { OnOk result ((j : ℕ) → is_among told.new.items j ≡ (is_among told.old.items j
             || told_in self.now own.now (use_meant used.now) j group.now)) }
     {
-        if group.meets(used) {
+        if group.meets(used) && !self.is_cut(own, group) {
             let latest = self.latest_between(own, &group.uses);
             return group.tell(latest, told);
         }
