@@ -1,9 +1,9 @@
 //! A line of numbers that places use.
 ghost use Rattle.std.specs.BinaryHeap.{heap_items};
 ghost use Rattle.std.specs.Bool.{Decides};
-ghost use Rattle.use_line.specs.History.{is_number};
 ghost use Rattle.std.specs.Prelude.{◌≡◌, ◌<◌, ◌≤◌, ◌||◌, ◌==◌, ◌⊎◌, ℕ, List, true, OnOk, None, Some, suc, length, if◌then◌else◌};
-ghost use Rattle.use_line.specs.Known.{AddsTold, HasRead, IsPart, IsToldOf, Keeps};
+ghost use Rattle.use_line.specs.History.{is_number};
+ghost use Rattle.use_line.specs.Known.{AddsTold, HasRead, IsPart, Keeps};
 ghost use Rattle.use_line.specs.Known.{is_among, known_at, no_uses, read_by, written_at};
 ghost use Rattle.use_line.specs.Queue.{AddsDue, AreBelow, AreFilled, Due};
 ghost use Rattle.use_line.specs.Spans.{within, written_by};
