@@ -9,7 +9,7 @@ from typing import Callable, Dict, Iterator, List, Optional, Sequence, Set, Tupl
 import days
 import model_depends
 from drawing import Draw, Near
-from harness import Answer, Job, Outcome, Program, difference, first, shown
+from harness import Answer, Job, Outcome, Program, difference, first, read, shown
 from model import World, report, report_of, run_step
 from model_depends import Told
 from model_rounds import ALL_DESCRIPTORS, BUFFER, BYTES, DESCRIPTOR, AnyItem, Item, Use, common
@@ -128,6 +128,15 @@ def broken(program: Program, seeds: Sequence[int]) -> List[Outcome]:
     return [Outcome("pairs that are turned around give another report, by {}".format(program.compiler), fault)]
 
 
+def of_example(name: str = "each_item_orders_two_places") -> List[Outcome]:
+    """Of an example each pair but that of a ring's order, which has no value of its own, gives another report when it is turned around."""
+    trace, text = read(name + ".trace"), read(name + ".depends")
+    led = all_before(waits_of(text))
+    pairs = [(int(place), int(before)) for place, before in re.findall(rb"^(\d+) after=(\d+) on=(?!order of )", text, re.M)]
+    same = ["{} after {}".format(*it) for it in pairs if not breaks(trace, *it, led, random.Random(name))]
+    return [Outcome("pairs of {} that are turned around".format(name), first(same) if pairs else "there are none")]
+
+
 # The definition.
 
 
@@ -185,4 +194,4 @@ def jobs(programs: List[Program]) -> List[Job]:
     found: List[Job] = [partial(lot, "the dependencies by {}".format(it.compiler), partial(of_text, it), seeds) for it, seeds in texts]
     found += [partial(lot, "orders that keep the pairs", partial(of_orders, programs[0]), seeds[:ORDERED]) for seeds in lots]
     found += [partial(lot, "the pairs by their definition", of_definition, seeds[:DEFINED]) for seeds in lots]
-    return [*found, partial(broken, programs[0], [seed for seeds in lots for seed in seeds[:ORDERED]])]
+    return [*found, of_example, partial(broken, programs[0], [seed for seeds in lots for seed in seeds[:ORDERED]])]
