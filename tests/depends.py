@@ -94,6 +94,17 @@ def of_orders(program: Program, seed: int) -> Optional[str]:
     return next(("in the order {} another report".format(it) for it in orders(trace, waits, seed) if report_in(trace, it) != wanted), None)
 
 
+def of_rounds(program: Program, seed: int) -> Optional[str]:
+    """The rounds of a drawn trace and its span, where there are fewer rounds."""
+    trace = drawn(seed)
+    texts = [program.run(it, trace).output for it in (["rounds", "--window", str(1 + seed % 70)], ["depends"])]
+    numbers = [re.search(it, text, re.M) for it, text in zip((rb"^rounds (\d+)$", rb"^span (\d+)\b"), texts)]
+    if None in numbers:
+        return "there is no text"
+    rounds, span = (int(it[1]) for it in numbers)
+    return None if span <= rounds else "{} rounds, and a span of {}".format(rounds, span)
+
+
 def all_before(waits: Waits) -> Waits:
     """All to whom each place is led."""
     led: Waits = {}
@@ -193,5 +204,6 @@ def jobs(programs: List[Program]) -> List[Job]:
     texts = [(program, it) for program in programs for it in (lots if program is programs[0] else lots[:1])]
     found: List[Job] = [partial(lot, "the dependencies by {}".format(it.compiler), partial(of_text, it), seeds) for it, seeds in texts]
     found += [partial(lot, "orders that keep the pairs", partial(of_orders, programs[0]), seeds[:ORDERED]) for seeds in lots]
+    found += [partial(lot, "rounds at least as many as the span", partial(of_rounds, programs[0]), seeds[:ORDERED]) for seeds in lots]
     found += [partial(lot, "the pairs by their definition", of_definition, seeds[:DEFINED]) for seeds in lots]
     return [*found, of_example, partial(broken, programs[0], [seed for seeds in lots for seed in seeds[:ORDERED]])]

@@ -23,6 +23,7 @@ PLAIN = (
     "examples/README.md",
     "docs/README.md",
     "docs/GUIDE.md",
+    "docs/DEPENDS.md",
     "docs/GUARANTEES.md",
     "docs/ADDING-AN-OPCODE.md",
     "docs/PROVING.md",
