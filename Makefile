@@ -1,4 +1,4 @@
-# make install PREFIX=/usr/local    installs the proved program, the recorder, manual pages, examples and licences
+# make install PREFIX=/usr/local    installs the proved program, the recorder, the player, manual pages, documents and licences
 # make deb                          packs the proved program for Debian, with dpkg-deb(1)
 # The program is built and proved first, by ./test, or by `rt run -- --help` in crates/uring_replay.
 PREFIX ?= /usr/local
@@ -22,20 +22,23 @@ manuals:
 	mkdir -p $(BUILD)/man
 	tools/manual uring_replay 1 $(VERSION) "replay recorded io_uring submissions" docs/GUIDE.md > $(BUILD)/man/uring_replay.1
 	tools/manual uring_record 1 $(VERSION) "record what a program submits through io_uring" docs/RECORDING.md > $(BUILD)/man/uring_record.1
+	tools/manual uring_play 1 $(VERSION) "play a trace on a real system" docs/PLAYING.md > $(BUILD)/man/uring_play.1
 	tools/manual uring-trace 5 $(VERSION) "traces of io_uring submissions, and reports" docs/FORMAT.md > $(BUILD)/man/uring-trace.5
 
 install: install-program
 	$(MAKE) -C tools
-	install -D -m 755 tools/out/uring_record $(ROOT)/bin/uring_record
-	install -D -m 644 $(BUILD)/man/uring_record.1 $(ROOT)/share/man/man1/uring_record.1
+	install -m 755 tools/out/uring_record tools/out/uring_play $(ROOT)/bin
+	install -m 644 $(BUILD)/man/uring_record.1 $(BUILD)/man/uring_play.1 $(ROOT)/share/man/man1
 
 install-program: $(PROGRAM) manuals
 	install -D -m 755 $(PROGRAM) $(ROOT)/bin/uring_replay
 	install -D -m 644 $(BUILD)/man/uring_replay.1 $(ROOT)/share/man/man1/uring_replay.1
 	install -D -m 644 $(BUILD)/man/uring-trace.5 $(ROOT)/share/man/man5/uring-trace.5
-	install -d $(SHARE)/examples
-	install -m 644 README.md CHANGELOG.md LICENSE-MIT LICENSE-APACHE $(SHARE)
-	install -m 644 examples/read_four_bytes.* examples/appends_wait_for_each_other.* examples/recorded/qemu_disk_image.* $(SHARE)/examples
+	install -d $(SHARE)/docs $(SHARE)/examples/recorded
+	install -m 644 README.md CHANGELOG.md CONTRIBUTING.md LICENSE-MIT LICENSE-APACHE $(SHARE)
+	install -m 644 docs/*.md docs/*.svg $(SHARE)/docs
+	install -m 644 examples/README.md examples/read_four_bytes.* examples/appends_wait_for_each_other.* $(SHARE)/examples
+	install -m 644 examples/recorded/qemu_disk_image.* $(SHARE)/examples/recorded
 
 deb: $(PROGRAM)
 	rm -rf $(STAGE)

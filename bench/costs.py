@@ -21,6 +21,19 @@ KINDS = {
     "appends": "appends {n}",
     "files": "files 192 1024",
 }
+# What each kind is.
+ABOUT = {
+    "rw": "reads and writes of 64 bytes at random in 64 MB",
+    "rings": "the same in 64 files, a ring each",
+    "one_file": "writes that overlap",
+    "paths": "opens, creates, renames and removals in 1,000 directories",
+    "chains": "chains of 4, drains, some that break",
+    "big": "transfers of 1 MB",
+    "position": "reads of 4,096 bytes at the position of a file of 16 MB",
+    "pages": "reads, writes and fixed transfers of pages of 4,096 bytes in 64 MB",
+    "appends": "writes of 64 bytes at the end",
+    "files": "writes of 1 MiB to 64 files",
+}
 
 
 class Cost(NamedTuple):

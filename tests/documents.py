@@ -13,7 +13,7 @@ import needs
 from harness import EXAMPLES, TOP, Job, Outcome, Program, first, skipped
 
 # These have transcripts (```console), which are run; the README is for a first look, and short.
-RUN = ("README.md", "docs/GUIDE.md")
+RUN = ("README.md", "docs/GUIDE.md", "docs/PLAYING.md")
 MOST_LINES = {"README.md": 150}
 # In these no sentence outside tables and code is longer.
 PLAIN = (
@@ -22,16 +22,23 @@ PLAIN = (
     "CONTRIBUTING.md",
     "examples/README.md",
     "docs/README.md",
-    "docs/GUIDE.md",
-    "docs/DEPENDS.md",
-    "docs/GUARANTEES.md",
+    "docs/ACCESS.md",
     "docs/ADDING-AN-OPCODE.md",
-    "docs/PROVING.md",
-    "docs/MODEL.md",
+    "docs/DEPENDS.md",
+    "docs/DESIGN.md",
+    "docs/FORMAT.md",
     "docs/GLOSSARY.md",
-    "docs/PROFILE.md",
-    "docs/LINUX.md",
+    "docs/GUARANTEES.md",
+    "docs/GUIDE.md",
     "docs/INTERLEAVING.md",
+    "docs/LINUX.md",
+    "docs/MODEL.md",
+    "docs/NEXT.md",
+    "docs/PERFORMANCE.md",
+    "docs/PLAYING.md",
+    "docs/PROFILE.md",
+    "docs/PROVING.md",
+    "docs/RECORDING.md",
     "docs/TESTING.md",
 )
 MOST_WORDS = 35

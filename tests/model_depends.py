@@ -1,4 +1,4 @@
-"""What `depends` tells of a trace, by docs/DEPENDS.md alone: for which earlier places each place waits, and by what the two depend on each other."""
+"""What `depends` tells of a trace, by docs/DEPENDS.md and docs/FORMAT.md alone: for which earlier places each place waits, and by what they conflict."""
 from bisect import bisect_left
 from itertools import groupby
 from typing import Any, Dict, Iterator, List, NamedTuple, Optional, Sequence, Tuple

@@ -1,4 +1,4 @@
-"""What `rounds` tells of a trace, by docs/ROUNDS.md alone: the round of each place, and for whom and by what it waited."""
+"""What `rounds` tells of a trace, by docs/ACCESS.md and docs/FORMAT.md alone: the round of each place, and for whom and by what it waited."""
 from typing import Any, Dict, Iterable, Iterator, List, NamedTuple, Optional, Sequence, Tuple, Union
 
 from model import AT_POSITION, CREAT, LAST, READS, TRUNC, WRITES, Chain, Entry, Fill, Step, World, run_step, visible

@@ -11,13 +11,18 @@ from harness import BUILT, TOP, Job, Outcome, Program, first, skipped
 INSTALLED = (
     "bin/uring_replay",
     "bin/uring_record",
+    "bin/uring_play",
     "share/man/man1/uring_replay.1",
     "share/man/man1/uring_record.1",
+    "share/man/man1/uring_play.1",
     "share/man/man5/uring-trace.5",
     "share/doc/uring-replay/README.md",
+    "share/doc/uring-replay/docs/README.md",
+    "share/doc/uring-replay/docs/layers.svg",
     "share/doc/uring-replay/LICENSE-MIT",
     "share/doc/uring-replay/LICENSE-APACHE",
     "share/doc/uring-replay/examples/read_four_bytes.trace",
+    "share/doc/uring-replay/examples/recorded/qemu_disk_image.trace",
 )
 # What a package has of these, and what it has besides: manual pages are compressed there, and only the proved program is packed.
 PACKED = ("./usr/bin/uring_replay", "./usr/share/man/man1/uring_replay.1.gz", "./usr/share/doc/uring-replay/copyright")
