@@ -1,10 +1,13 @@
 """Small inputs of large cost: what each may take, beside another run of the same program or beside its report."""
 import math
+import os
+import subprocess
+import sys
 from functools import partial
-from typing import List
+from typing import List, Sequence
 
-from harness import Answer, Job, Outcome, Program, difference, shown
-from traces import AT_FDCWD, FIXED_FILE, READ_FIXED, RENAMEAT, WRITE_FIXED
+from harness import TOP, Answer, Job, Outcome, Program, difference, shown
+from traces import AT_FDCWD, FIXED_FILE, READ, READ_FIXED, RENAMEAT, WRITE, WRITE_FIXED
 from traces import description, directory, enter, entry, file, fill, head, ring, two_paths
 
 PAGE = 4_096
@@ -16,6 +19,22 @@ WRITTEN, HASHED, MOST_DOUBLED = 8, 1 << 26, 5
 # each of its bytes, which is 2 and was 3; and how many times the processor time of as long a report with names that are printed as
 # they are it may take where they are not, which is about 1 and was 3.
 MOVED, NAME, MOST_MEMORY, MOST_ESCAPED = 1_000, 250, 2.5, 1.7
+# Traces of bench/ with few pairs a place: their words, with {} for the number of places, and that number. How many times the processor
+# time of `serial` their dependencies may take, and how many times that of a tenth of the places.
+FEW_PAIRS = (
+    *(("serial_rounds.py --write {} --entries {{}}".format(it), 100_000) for it in ("disjoint", "appends", "range", "chain", "drains", "opens")),
+    *(("workloads.py {} {{}}".format(it), 100_000) for it in ("rings", "one_file", "paths", "chains", "appends")),
+    *(("workloads.py {}".format(it), 100_000) for it in ("rw {} 64 1", "position {} 1")),
+    *(("workloads.py {}".format(it), 30_000) for it in ("pages {} 1", "files {} 1")),
+    ("workloads.py big {} 1", 2_000),
+)
+MOST_BESIDE_SERIAL, MOST_OF_TEN = 3, 20
+# How many reads lie within each other, in how many KiB of memory their dependencies are told, and how many times the processor time of as
+# many that lie side by side that may take.
+NESTED, NESTED_MEMORY, MOST_NESTED = 10_000, 100_000, 3
+# Of how many reads of all of a file and as many writes of parts of it each write waits for each read; and how many times the processor
+# time of half as many, which have a quarter of the pairs, they may take.
+CROSSED, MOST_OF_FOUR = 1_000, 8
 
 
 def doubled(pattern: bytes) -> bytes:
@@ -71,5 +90,73 @@ def deep_trees(program: Program) -> List[Outcome]:
     ]
 
 
+def benched(words: str, count: int) -> bytes:
+    """A trace that a script of bench/ writes."""
+    script, *given = words.format(count).split()
+    return subprocess.run([sys.executable, os.path.join(TOP, "bench", script), *given], stdout=subprocess.PIPE, check=True).stdout
+
+
+def least(program: Program, words: Sequence[str], trace: bytes) -> float:
+    return min(program.seconds(words, trace) for _ in range(3))
+
+
+def few_pairs(program: Program, words: str, count: int) -> List[Outcome]:
+    """The dependencies of many places that have few each take little more time than their replay, and a time that goes with the places."""
+    trace = benched(words, count)
+    took, serial, tenth = least(program, ["depends"], trace), least(program, ["serial"], trace), least(program, ["depends"], benched(words, count // 10))
+    label = "depends of {}, beside {{}}, by {}".format(words.format(count), program.compiler)
+    slow = "{:.2f} seconds, and {:.2f} for {}"
+    return [
+        Outcome(label.format("serial"), None if took < MOST_BESIDE_SERIAL * serial < math.inf else slow.format(took, serial, "serial")),
+        Outcome(label.format("a tenth"), None if took < MOST_OF_TEN * tenth < math.inf else slow.format(took, tenth, "a tenth")),
+    ]
+
+
+def transfers(size: int, entries: Sequence[bytes]) -> bytes:
+    """A file of zeros that is open in slot 0, and entries."""
+    return head(1, 1, 1, 1) + file(b"/f", size) + description(1) + ring([1]) + enter(0, entries)
+
+
+def without_pairs(count: int) -> bytes:
+    """Lines that `depends` tells of so many places of which none waits."""
+    return b"places %d\npairs 0\nspan 1 to place 0\nparallelism %d.00\n" % (count, count)
+
+
+def nested_reads(program: Program) -> List[Outcome]:
+    """Reads within each other, of which none waits, take as much time and memory as reads side by side."""
+    nested = transfers(2 * NESTED, [entry(READ, FIXED_FILE, offset=it, length=2 * (NESTED - it)) for it in range(NESTED)])
+    beside = transfers(2 * NESTED, [entry(READ, FIXED_FILE, offset=2 * it, length=2) for it in range(NESTED)])
+    given = program.run(["depends"], nested, shell='ulimit -v {}; exec "$@"'.format(NESTED_MEMORY))
+    one, other = (least(program, ["depends"], it) for it in (nested, beside))
+    slow = "{:.2f} seconds, and {:.2f} for reads side by side".format(one, other)
+    return [
+        Outcome("depends of nested reads, the memory, by {}".format(program.compiler), None if without_pairs(NESTED) in given.output else shown(given)),
+        Outcome("depends of nested reads, the time, by {}".format(program.compiler), None if one < MOST_NESTED * other < math.inf else slow),
+    ]
+
+
+def crossed(count: int) -> bytes:
+    """Reads of all of a file, and as many writes of a few bytes of it side by side."""
+    reads = [entry(READ, FIXED_FILE, length=1024 * count) for _ in range(count)]
+    return transfers(1024 * count, [*reads, *(entry(WRITE, FIXED_FILE, offset=1024 * it, length=8, side=b"abcdefgh") for it in range(count))])
+
+
+def many_pairs(program: Program) -> List[Outcome]:
+    """Where each write waits for each read the memory goes with the text, in which each pair is told, and the time with the pairs."""
+    trace = crossed(CROSSED)
+    ample = program.run(["depends"], trace)
+    fact = b"\npairs %d\nspan 2 to place %d\nparallelism %d.00\n" % (CROSSED * CROSSED, CROSSED, CROSSED)
+    limit = int(MOST_MEMORY * len(ample.output)) >> 10
+    large = difference(program.run(["depends"], trace, shell='ulimit -v {}; exec "$@"'.format(limit)), ample)
+    one, other = (least(program, ["depends"], it) for it in (trace, crossed(CROSSED // 2)))
+    slow = "{:.2f} seconds, and {:.2f} for half as many".format(one, other)
+    return [
+        Outcome("depends of reads that each write waits for, by {}".format(program.compiler), None if fact in ample.output else shown(ample)),
+        Outcome("the same, the memory, by {}".format(program.compiler), shown(ample) if ample.status else large),
+        Outcome("the same, the time, by {}".format(program.compiler), None if one < MOST_OF_FOUR * other < math.inf else slow),
+    ]
+
+
 def jobs(programs: List[Program]) -> List[Job]:
-    return [partial(it, programs[0]) for it in (doubled_buffers, deep_trees)]
+    tried = [partial(it, programs[0]) for it in (doubled_buffers, deep_trees, nested_reads, many_pairs)]
+    return [*tried, *(partial(few_pairs, programs[0], words, count) for words, count in FEW_PAIRS)]

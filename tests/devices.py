@@ -7,7 +7,7 @@ from harness import Answer, Input, Job, Outcome, Program, Words, fault, first, i
 from shims import Shim
 
 TRACES = ("read_four_bytes", "open_write_close_chain_then_empty_slot", "fallocate_and_ftruncate_tests", "side_bytes_of_read")
-MODES = (["serial"], ["serial", "--sums"], ["check"], ["run"], ["compare"], ["rounds"], ["diff"])
+MODES = (["serial"], ["serial", "--sums"], ["check"], ["run"], ["compare"], ["rounds"], ["depends"], ["diff"])
 WORDS_ALONE: List[Words] = [["--help"], ["run", "--help"], ["serial", "a", "extra"], ["run", "--workers", "65"], ["serial", b"\xff"]]
 FAILURES = ("fail", "interrupt", "block", "zero")
 INPUT, OUTPUT, ERRORS = 0, 1, 2

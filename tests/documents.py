@@ -24,6 +24,7 @@ PLAIN = (
     "docs/README.md",
     "docs/ACCESS.md",
     "docs/ADDING-AN-OPCODE.md",
+    "docs/DEPENDS.md",
     "docs/DESIGN.md",
     "docs/FORMAT.md",
     "docs/GLOSSARY.md",

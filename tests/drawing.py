@@ -37,6 +37,8 @@ class Draw:
     tables, accesses, buffer_sizes, counts = range(5), (0, 1, 2, 2, 2), LENGTHS, (0, 1, 7, 33, 5_000, LAST)
     offsets, great_offsets, each_great, each_at_position, each_fill = OFFSETS, GREAT_OFFSETS, 12, 3, 5
     ranges, great_ranges = (1, 100, 5_000), (0, 1, 100, 5_000, GREATEST_SIZE, 1 << 63)
+    # Where there is a table of descriptors: of how many transfers one goes through it, and of how many OPENATs and CLOSEs one is of it.
+    each_through_table, each_of_table = 4, 3
 
     def __init__(self, seed: int) -> None:
         self.source = random.Random(seed)
@@ -118,7 +120,7 @@ class Draw:
         fields = self.fields(opcode, number)
         flags = self.some(self.flags)
         if opcode in OF_FILES:
-            is_slot = not self.table or not self.rarely(4)
+            is_slot = not self.table or not self.rarely(self.each_through_table)
             flags |= FIXED_FILE * is_slot
             there = self.slots[number] if is_slot else self.table
             fields["fd"] = self.source.randrange(-1, 6) if self.rarely(20) or not there else self.source.randrange(there)
@@ -177,7 +179,7 @@ class Draw:
 
     def index(self, number: int) -> int:
         """A file index: most often of a slot, or none where there are descriptors."""
-        if self.table and self.rarely(3):
+        if self.table and self.rarely(self.each_of_table):
             return 0
         return LAST if self.rarely(100) else 6 if self.rarely(20) else self.source.randrange(1, max(self.slots[number], 1) + 1)
 
@@ -210,6 +212,17 @@ class Near(Draw):
         sizes = [self.one((0, 20, 20, 20, GREATEST_SIZE - 3, GREATEST_SIZE, GREATEST_SIZE)) for _ in range(2)]
         self.paths = [b"/a", b"/b", b"/a/c"]
         return [directory(b"/a"), *(file(path, size) for path, size in zip(self.paths[1:], sizes))], [(0, False), (1, False), (2, True), (3, True)]
+
+
+class Opens(Near):
+    """Draws a trace whose steps take, close and use ordinary descriptors."""
+
+    records, tables, each_through_table, each_of_table = 14, (2, 3, 4, 6), 1, 1
+    weights = {READ: 8, WRITE: 4, FSYNC: 4, OPENAT: 24, CLOSE: 16, UNLINKAT: 2}
+
+    def __init__(self, seed: int) -> None:
+        super().__init__(seed)
+        self.version = 2
 
 
 def changed(seed: int) -> bytes:

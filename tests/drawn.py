@@ -1,6 +1,6 @@
 """Drawn traces, such traces with bytes changed, and drawn pairs of reports: the program gives what a second replayer (model.py) and a
-second comparison (model_diff.py) give, and tells of its rounds what model_rounds.py tells. These give what the examples say, and what
-kernels gave. Half of the seeds are the same in every run, the others those of the day (`./test --day` draws them again)."""
+second comparison (model_diff.py) give, and tells of its rounds what model_rounds.py tells. These give what the examples say (model_depends.py
+too), and what kernels gave. Half of the seeds are the same in every run, the others those of the day (`./test --day` draws them again)."""
 import os
 import re
 from functools import partial
@@ -8,6 +8,7 @@ from typing import Callable, List, Optional
 
 import days
 import model
+import model_depends
 import model_diff
 import model_rounds
 from drawing import Draw, Near, changed, two_reports
@@ -77,17 +78,26 @@ def model_of_examples() -> List[Outcome]:
             there = [it for it in (front + kind for kind in ("sums", "report", "refused")) if it in names]
             told = of_example(at, trace, there[0]) if there else of_recorded(at, front)
             outcomes.append(Outcome("the model of {}".format(trace), told))
-            if {front + "rounds", front + "waits", front + "dot"} & set(names):
-                outcomes.append(Outcome("the model of the rounds of {}".format(trace), rounds_of_example(at, front, names)))
+            if {front + it for it in ("rounds", "waits", "dot", "depends")} & set(names):
+                outcomes.append(Outcome("the model of what {} tells".format(trace), told_of_example(at, front, names)))
     return outcomes
 
 
-def rounds_of_example(at: str, front: str, names: List[str]) -> Optional[str]:
-    """How the model differs from what stands beside an example of its rounds, if it does."""
+# What stands beside an example by these endings, as a model gives it.
+MODELS = {
+    "waits": lambda trace: model_rounds.rounds(trace, 64),
+    "dot": lambda trace: model_rounds.graph(trace, 64),
+    "depends": model_depends.depends,
+    "depends.dot": model_depends.graph,
+}
+
+
+def told_of_example(at: str, front: str, names: List[str]) -> Optional[str]:
+    """How the models differ from what stands beside an example of its rounds and dependencies, if they do."""
     trace, told = read(at, front + "trace"), []
-    for ending, give in (("waits", model_rounds.rounds), ("dot", model_rounds.graph)):
+    for ending, give in MODELS.items():
         if front + ending in names:
-            told.append(difference(Answer(0, give(trace, 64), b""), Answer(0, read(at, front + ending), b"")))
+            told.append(difference(Answer(0, give(trace), b""), Answer(0, read(at, front + ending), b"")))
     for line in read(at, front + "rounds").decode().splitlines() if front + "rounds" in names else ():
         window, wanted = line.removeprefix("window ").split(":")
         numbers = re.findall(r"^\d+ round=(\d+)", model_rounds.rounds(trace, int(window)).decode(), re.M)

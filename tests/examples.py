@@ -10,7 +10,9 @@ WORKERS = (1, 2, 4, 64)
 WINDOWS = (1, 2, 64, 4096)
 # What the second program compares with, and what `run`, which has no rounds where little is carried, is run with.
 FEW_PAIRS = ((2, 2), (4, 64))
-ENDINGS = (".trace", ".report", ".sums", ".check", ".rounds", ".waits", ".dot", ".refused")
+ENDINGS = (".trace", ".report", ".sums", ".check", ".rounds", ".waits", ".dot", ".depends", ".depends.dot", ".refused")
+# What is told beside few examples, and the ending of the file that has it.
+TOLD = ((["rounds"], ".waits"), (["rounds", "--window", "64", "--dot"], ".dot"), (["depends"], ".depends"), (["depends", "--dot"], ".depends.dot"))
 
 
 def names() -> List[str]:
@@ -38,9 +40,9 @@ def commands(is_first: bool) -> Iterable[Tuple[List[str], str]]:
     yield ["compare", "--workers", "2", "--window", "4"], ""
 
 
-def of_rounds(name: str) -> Iterable[Tuple[List[str], str]]:
-    """The same for `rounds`, which has an answer beside few examples; what is refused is refused there too."""
-    for words, ending in ((["rounds"], ".waits"), (["rounds", "--window", "64", "--dot"], ".dot")):
+def told(name: str) -> Iterable[Tuple[List[str], str]]:
+    """The same for `rounds` and `depends`, which have an answer beside few examples; what is refused is refused there too."""
+    for words, ending in TOLD:
         if any(os.path.exists(os.path.join(EXAMPLES, name + it)) for it in (ending, ".refused")):
             yield words, ending
 
@@ -50,7 +52,7 @@ def tried(program: Program, name: str, is_first: bool) -> List[Outcome]:
     trace = os.path.join(EXAMPLES, name + ".trace")
     is_refused = os.path.exists(os.path.join(EXAMPLES, name + ".refused"))
     outcomes = []
-    for words, ending in [*commands(is_first), *of_rounds(name)]:
+    for words, ending in [*commands(is_first), *told(name)]:
         label = "{} {} by {}".format(name, spoken(words), program.compiler)
         try:
             if is_refused:
@@ -81,9 +83,9 @@ def strays() -> List[Outcome]:
     outcomes = [] if names() else [Outcome("examples", "there is no trace in examples/")]
     for at, _, files in os.walk(EXAMPLES):
         for file in sorted(files):
-            name, ending = os.path.splitext(os.path.join(at, file))
-            if ending in ENDINGS and not os.path.exists(name + ".trace"):
-                outcomes.append(Outcome(os.path.relpath(name + ending, EXAMPLES), "it belongs to no trace"))
+            name, dot, ending = file.partition(".")
+            if dot + ending in ENDINGS and not os.path.exists(os.path.join(at, name + ".trace")):
+                outcomes.append(Outcome(os.path.relpath(os.path.join(at, file), EXAMPLES), "it belongs to no trace"))
     return outcomes
 
 

@@ -21,6 +21,8 @@ COMMANDS: Dict[Tuple[str, ...], bytes] = {
     ("check",): read(EXAMPLE + ".check"),
     ("rounds",): b"uring-rounds 1\n0 round=0\nrounds 1\nwidest 1\nmean 1.00\nlongest 1 to place 0\nend\n",
     ("rounds", "--dot"): b"digraph rounds {\n  0 [label=\"0 in round 0\"];\n}\n",
+    ("depends",): b"uring-depends 1\n0\nplaces 1\npairs 0\nspan 1 to place 0\nparallelism 1.00\nbytes 4\nspan-bytes 4 to place 0\nparallelism-bytes 1.00\nend\n",
+    ("depends", "--dot"): b"digraph depends {\n  0 [label=\"0\"];\n}\n",
 }
 HELP = "\n\nFor more information, try '--help'.\n"
 IS_AN_INPUT = Answer(2, b"", ("error: the output is an input: name another file" + HELP).encode())
@@ -98,7 +100,7 @@ def not_opened(program: Program) -> List[Outcome]:
     for name, why in cases:
         path = at.path(name)
         wanted = Answer(3, b"", "cannot open {}: {}\n".format(path, why).encode())
-        for words in (["serial"], ["run", "--eager"], ["check"], ["rounds"], ["diff"]):
+        for words in (["serial"], ["run", "--eager"], ["check"], ["rounds"], ["depends"], ["diff"]):
             at.ask("a file that cannot be opened", [*words, path], wanted, given=TRACE)
         at.ask("a second file that cannot be opened", ["diff", os.path.join(EXAMPLES, EXAMPLE + ".report"), path], wanted)
         at.ask("and no output", ["check", path, "--output", at.path("out")], wanted)
@@ -294,7 +296,7 @@ def at_terminals(program: Program) -> List[Outcome]:
     """A terminal as the input is none, where no file is named; at one as standard error a second line says what to do."""
     at = Folder(program)
     ours, theirs = pty.openpty()
-    for words in (["serial"], ["run"], ["compare"], ["rounds"], ["check"], ["diff"], ["serial", "-o", at.path("out")]):
+    for words in (["serial"], ["run"], ["compare"], ["rounds"], ["depends"], ["check"], ["diff"], ["serial", "-o", at.path("out")]):
         ran = subprocess.run([program.file, *words], stdin=theirs, stdout=subprocess.PIPE, stderr=subprocess.PIPE, timeout=60)
         at.said("no input at a terminal: {}".format(words[0]), difference(Answer(ran.returncode, ran.stdout, ran.stderr), Answer(2, b"", NO_INPUT.encode())))
     ran = subprocess.run([program.file, "check", TRACE], stdin=theirs, stdout=subprocess.PIPE, stderr=subprocess.PIPE, timeout=60)
@@ -364,7 +366,7 @@ def examples_of_help(program: Program) -> List[Outcome]:
     at = Folder(program)
     at.put("a.trace", read(EXAMPLE + ".trace"))
     at.put("b.report", read(EXAMPLE + ".report"))
-    for command in ("serial", "run", "compare", "rounds", "check", "diff"):
+    for command in ("serial", "run", "compare", "rounds", "depends", "check", "diff"):
         said = program.run([command, "--help"], b"").output.decode("utf-8", "replace")
         found = re.search(r"^Example: uring_replay ([^|\n]*)", said, re.M)
         if command == "diff":

@@ -19,7 +19,7 @@ TRACES = (
     "side_bytes_of_read",
 )
 ROUNDS = ["--workers", "2", "--window", "4"]
-MODES = (["serial"], ["serial", "--sums"], ["check"], ["run", *ROUNDS], ["compare", *ROUNDS], ["rounds"], ["diff"])
+MODES = (["serial"], ["serial", "--sums"], ["check"], ["run", *ROUNDS], ["compare", *ROUNDS], ["rounds"], ["depends"], ["diff"])
 WORDS_ALONE: List[Words] = [["serial", "a", "extra"], ["run", "--workers", "65"], ["--help"], ["serial", "--help"], ["serial", b"\xff"]]
 # So many files are written side by side, each by so much that a worker is worth its thread.
 HEAVY = (2, 8)

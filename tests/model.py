@@ -606,14 +606,20 @@ def visible(text: bytes) -> str:
 def report(text: bytes, has_sums: bool = True) -> bytes:
     """The report of a trace; or it is Refused."""
     world = World(text)
+    replies = {chain.first + at: run_step(world, chain, at) for chain in world.chains for at in range(len(chain.steps))}
+    return report_of(world, replies, has_sums)
+
+
+def report_of(world: World, replies: Dict[int, Reply], has_sums: bool = True) -> bytes:
+    """The report of a world in which every place has run, and of their replies."""
     lines: List[List[str]] = [[] for _ in world.slots]
     for chain in world.chains:
-        for at, step in enumerate(chain.steps):
-            reply = run_step(world, chain, at)
+        for place, step in enumerate(chain.steps, chain.first):
             if isinstance(step, Entry):
+                reply = replies[place]
                 shown = " data={}{}".format(reply.data.hex(), "+" if reply.moved > SHOWN else "") if reply.data else ""
                 posted = "posted" if reply.posted else "silent"
-                lines[chain.ring].append("{} user={} res={} {}{}".format(chain.first + at, step.user_data, reply.result, posted, shown))
+                lines[chain.ring].append("{} user={} res={} {}{}".format(place, step.user_data, reply.result, posted, shown))
     whole = ["uring-report 1"]
     for ring, its in enumerate(lines):
         whole += ["ring {}".format(ring), *its]

@@ -7,7 +7,7 @@ import traces
 from harness import Answer, Job, Outcome, Program, Words, difference, fault, read, refused, reports_refused, shown, spoken, two_reports
 
 EXAMPLE = "read_four_bytes"
-SUBCOMMANDS = ("serial", "run", "compare", "rounds", "check", "diff")
+SUBCOMMANDS = ("serial", "run", "compare", "rounds", "depends", "check", "diff")
 WRONG: List[Words] = [
     [], ["bogus"], [""], ["Serial"], ["--sums"], ["version"], ["--output", "out", "serial"],
     ["serial", "a", "extra"], ["serial", "--workers", "2"], ["serial", "--sums", "--sums"], ["serial", "--eager"],
@@ -25,6 +25,8 @@ WRONG: List[Words] = [
     ["compare", "--window", "0"], ["compare", "--window", "4097"],
     ["rounds", "a", "extra"], ["rounds", "--eager"], ["rounds", "--sums"], ["rounds", "--workers", "2"], ["rounds", "--window", "0"], ["rounds", "--window", "4097"],
     ["rounds", "--dot", "--dot"],
+    ["depends", "a", "extra"], ["depends", "--eager"], ["depends", "--sums"], ["depends", "--workers", "2"], ["depends", "--window", "2"],
+    ["depends", "--dot", "--dot"],
     ["diff", "a", "b", "extra"], ["diff", "--eager"], ["diff", "--sums"], ["diff", "--workers", "2"],
 ]
 GOOD: List[Words] = [
@@ -115,7 +117,7 @@ def outputs(program: Program) -> List[Outcome]:
     """Outputs that are closed, full, or cannot be written."""
     outcomes: List[Outcome] = []
     ask = asker(program, outcomes)
-    for words in (["serial"], ["serial", "--sums"], ["run"], ["compare"], ["rounds"], ["rounds", "--dot"], ["check"], ["--help"], ["serial", "--help"]):
+    for words in (["serial"], ["serial", "--sums"], ["run"], ["compare"], ["rounds"], ["rounds", "--dot"], ["depends"], ["check"], ["--help"], ["serial", "--help"]):
         ask("a full output", fault("write"), words, 'exec "$@" > /dev/full')
         ask("a closed output", fault("write"), words, 'exec "$@" >&-')
         ask("an output that is only read", fault("write"), words, 'exec "$@" 1< /dev/null')
@@ -132,7 +134,7 @@ def inputs(program: Program) -> List[Outcome]:
     outcomes: List[Outcome] = []
     ask = asker(program, outcomes)
     front = read(EXAMPLE + ".trace")[:100]
-    for words in (["serial"], ["run"], ["compare"], ["rounds"], ["check"]):
+    for words in (["serial"], ["run"], ["compare"], ["rounds"], ["depends"], ["check"]):
         ask("a directory", fault("read"), words, 'exec "$@" < /')
         ask("a closed input", fault("read"), words, 'exec "$@" <&-')
         ask("an input that is only written", fault("read"), words, 'exec "$@" 0> /dev/null')
