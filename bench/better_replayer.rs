@@ -1,5 +1,5 @@
-//! A replayer of recorded io_uring submissions without contracts or proofs that spares no effort for speed. What it shows is how
-//! quick such a program can be. std only, one thread, x86-64 Linux:
+//! A replayer of recorded io_uring submissions without contracts or proofs that spares no effort for speed: how quick such a
+//! program can be. std only, one thread, x86-64 Linux:
 //!
 //!     rustc -O -C target-cpu=x86-64-v2 better_replayer.rs
 //!     better_replayer serial [--sums] | check    < TRACE
@@ -13,12 +13,12 @@
 //! What it does not do:
 //!
 //! - A READ does not copy the bytes that no report shows, so it keeps no reply that a comparison could look at.
-//! - A refused trace has been run up to its fault.
-//! - There are no rounds, no threads and no other processors.
-//! - Bytes of the trace are written while a shared reference to the trace lives, which the rules of Rust forbid. A file's bytes
-//!   are read nowhere else, and no compiler has made anything of it.
-//! - Lines are written without a check of bounds into room that was made for the longest.
-//! - Where memory lacks the program is aborted.
+//! - It does not check a trace as a whole first: a refused one has been run up to its fault.
+//! - It has no rounds and no threads.
+//! - It does not keep to Rust's rules on references: a file's bytes are written in the trace while a shared reference to the
+//!   trace lives. These bytes are read by way of the file alone.
+//! - It does not check bounds where it writes a line: room for the longest line is made for each entry.
+//! - It does not answer out of memory: it aborts.
 
 use std::arch::x86_64::{__m128i, _mm_and_si128, _mm_loadu_si128, _mm_set1_epi8, _mm_shuffle_epi8};
 use std::arch::x86_64::{_mm_srli_epi16, _mm_storeu_si128, _mm_unpackhi_epi8, _mm_unpacklo_epi8};
@@ -131,7 +131,7 @@ impl Replies<'_> {
 
     /// A line, straight into room that is there: `answer` makes `LINE` bytes for each entry of a record.
     #[inline(always)]
-    fn reply(&mut self, k: u32, _ring: u8, reply: Reply) {
+    fn reply(&mut self, k: u32, reply: Reply) {
         let Reply { user_data, res, shown, posted } = reply;
         debug_assert!(self.text.capacity() - self.text.len() >= LINE);
         // SAFETY: the longest line has 128 bytes, and no store goes more than 16 beyond it.

@@ -6,6 +6,7 @@ import subprocess
 import sys
 from typing import List, NamedTuple
 
+from answers import same
 from costs import KINDS, made_by, written
 
 # Each kind is run with so many entries, and with twice as many; `big` has a 250th part, `files` this many.
@@ -39,9 +40,10 @@ def instructions(words: List[str], trace: str) -> int:
 
 
 def counted(commands: List[List[str]], kind: str, times: int, entries: int, folder: str) -> Counted:
-    """Each command on a trace of so many times the entries."""
+    """Each command on a trace of so many times the entries, to which all give the same answers."""
     words = made_by(KINDS[kind], times * entries, times * FILES)
     trace = written(words, folder)
+    same(list(dict.fromkeys(command[0] for command in commands)), trace)
     return Counted([instructions(command, trace) for command in commands], int(words[1]))
 
 

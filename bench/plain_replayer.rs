@@ -59,7 +59,7 @@ impl Replies {
         n.min(33) as u8
     }
 
-    fn reply(&mut self, k: u32, _ring: u8, reply: Reply) {
+    fn reply(&mut self, k: u32, reply: Reply) {
         while self.list.len() < k as usize {
             self.list.push(Kept { reply: Reply { user_data: 0, res: 0, shown: 0, posted: false }, head: 0 });
         }

@@ -1218,7 +1218,7 @@ fn renameat<'t>(w: &mut World<'t>, e: Sqe<'t>, side: &'t [u8]) -> Outcome {
     done(0)
 }
 
-/// What a place of an entry answers.
+/// What the entry at a place answers. `shown` is how many bytes of data the report shows; 33 says 32 and more.
 struct Reply {
     user_data: u64,
     res: i32,
@@ -1226,6 +1226,7 @@ struct Reply {
     posted: bool,
 }
 
+/// What an entry does where its chain runs.
 fn perform<'t>(head: &Head, w: &mut World<'t>, k: u32, text: &'t [u8], s: &Step, out: &mut Replies) -> Outcome {
     let e = Sqe::at(text, s.at as usize);
     let side = side_at(text, s.at as usize);
@@ -1245,6 +1246,7 @@ fn perform<'t>(head: &Head, w: &mut World<'t>, k: u32, text: &'t [u8], s: &Step,
     }
 }
 
+/// A Fill's bytes go into its buffer.
 fn fill(w: &mut World, text: &[u8], s: &Step) {
     let at = s.at as usize;
     let buffer = &mut w.rings[usize::from(s.ring)].buffers[u16_at(text, at + 2) as usize];
@@ -1269,11 +1271,11 @@ fn replay<'t>(head: &Head, w: &mut World<'t>, text: &'t [u8], steps: &[Step], fi
         let user_data = e.user_data();
         if s.bits & DOOMED != 0 {
             let (res, posted) = (-i32::from(s.errno), s.bits & POSTED != 0);
-            out.reply(k, s.ring, Reply { user_data, res, shown: 0, posted });
+            out.reply(k, Reply { user_data, res, shown: 0, posted });
             continue;
         }
         if let Some(posted) = broken {
-            out.reply(k, s.ring, Reply { user_data, res: -ECANCELED, shown: 0, posted });
+            out.reply(k, Reply { user_data, res: -ECANCELED, shown: 0, posted });
             continue;
         }
         let (res, shown, failed) = perform(head, w, k, text, s, out).unwrap_or_else(|errno| (-errno, 0, true));
@@ -1281,7 +1283,7 @@ fn replay<'t>(head: &Head, w: &mut World<'t>, text: &'t [u8], steps: &[Step], fi
         if failed && e.flags() & IO_HARDLINK == 0 && s.bits & LAST == 0 {
             broken = Some(loud);
         }
-        out.reply(k, s.ring, Reply { user_data, res, shown, posted: loud || failed });
+        out.reply(k, Reply { user_data, res, shown, posted: loud || failed });
     }
 }
 
