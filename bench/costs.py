@@ -8,7 +8,7 @@ from typing import List, NamedTuple
 HERE = os.path.dirname(os.path.abspath(__file__))
 TOP = os.path.dirname(HERE)
 BUILT = os.path.join(TOP, "crates", "uring_replay", "out", "uring_replay")
-# What each kind is made by, with n for the number of entries, and few for a 250th part of it.
+# What each kind is made by, with n for the number of entries, few for a 250th part of it, and long for the number of `files`.
 KINDS = {
     "rw": "rw {n} 64 64",
     "rings": "rings {n}",
@@ -19,7 +19,7 @@ KINDS = {
     "position": "position {n} 16",
     "pages": "pages {n} 64",
     "appends": "appends {n}",
-    "files": "files 192 1024",
+    "files": "files {long} 1024",
 }
 # What each kind is.
 ABOUT = {
@@ -66,10 +66,14 @@ def least(programs: List[List[str]], trace: str, best: int) -> List[Cost]:
     return costs
 
 
-def written(words: str, entries: int, folder: str) -> str:
+def made_by(words: str, entries: int, long: int = 192) -> List[str]:
+    """The words of `workloads.py` that make a trace of so many entries; the second is how many it really has."""
+    return words.format(n=entries, few=max(entries // 250, 1), long=long).split()
+
+
+def written(words: List[str], folder: str) -> str:
     """Writes the trace that these words of `workloads.py` make."""
     trace = os.path.join(folder, "measured.trace")
-    made_by = words.format(n=entries, few=max(entries // 250, 1)).split()
     with open(trace, "wb") as out:
-        subprocess.run([sys.executable, "-B", os.path.join(HERE, "workloads.py"), *made_by], stdout=out, check=True)
+        subprocess.run([sys.executable, "-B", os.path.join(HERE, "workloads.py"), *words], stdout=out, check=True)
     return trace

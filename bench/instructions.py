@@ -1,0 +1,54 @@
+"""How many instructions programs take for an entry, by callgrind of valgrind(1): unlike times, they hardly change from run to run."""
+import os
+import re
+import shutil
+import subprocess
+import sys
+from typing import List, NamedTuple
+
+from answers import same
+from costs import KINDS, made_by, written
+
+# Each kind is run with so many entries, and with twice as many; `big` has a 250th part, `files` this many.
+ENTRIES, FILES = 20_000, 96
+COUNT = ["valgrind", "--tool=callgrind", "--callgrind-out-file=" + os.devnull]
+
+
+class Counted(NamedTuple):
+    """The instructions of programs on one trace, and its entries."""
+
+    instructions: List[int]
+    entries: int
+
+
+def lacking() -> bool:
+    """Says where valgrind lacks."""
+    if shutil.which(COUNT[0]):
+        return False
+    print("skipped: instructions are counted by valgrind(1), which is not there", file=sys.stderr)
+    return True
+
+
+def instructions(words: List[str], trace: str) -> int:
+    """Those of one run, in user space."""
+    with open(trace, "rb") as given:
+        ran = subprocess.run([*COUNT, *words], stdin=given, stdout=subprocess.DEVNULL, stderr=subprocess.PIPE, check=False)
+    found = re.search(rb"Collected : (\d+)", ran.stderr)
+    if ran.returncode or not found:
+        sys.exit("{} ended with status {} under valgrind".format(" ".join(words), ran.returncode))
+    return int(found.group(1))
+
+
+def counted(commands: List[List[str]], kind: str, times: int, entries: int, folder: str) -> Counted:
+    """Each command on a trace of so many times the entries, to which all give the same answers."""
+    words = made_by(KINDS[kind], times * entries, times * FILES)
+    trace = written(words, folder)
+    same(list(dict.fromkeys(command[0] for command in commands)), trace)
+    return Counted([instructions(command, trace) for command in commands], int(words[1]))
+
+
+def an_entry(commands: List[List[str]], kind: str, entries: int, folder: str) -> List[int]:
+    """The instructions of each command for an entry: what the second half of the entries adds, so without start and items."""
+    fewer, more = [counted(commands, kind, times, entries, folder) for times in (1, 2)]
+    added = more.entries - fewer.entries
+    return [round((b - a) / added) for a, b in zip(fewer.instructions, more.instructions)]
