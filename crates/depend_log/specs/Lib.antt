@@ -1,1 +1,4 @@
+pub mod Places
+pub mod Running
+pub mod Shared
 pub mod Waits

@@ -34,9 +34,10 @@ pub fn dependencies_are_enough()
     dependencies_suffice::<Replays>();
 }
 
-/// A place waits directly for an earlier one where both use an atom that one of them writes, and no
-/// place between them does so with both. Each place for which one waits directly is one that it
-/// depends on; and to wait for all of these is to wait for all that it depends on.
+/// A place waits directly for an earlier one where both use an atom of one part of the world that one
+/// of them writes, and no place between them does so with both. All descriptors are one part, and
+/// every other atom is one. Each place for which one waits directly is one that it depends on; and to
+/// wait for all of these is to wait for all that it depends on.
 pub fn direct_waits_are_enough()
     ensures each { (t : Trace) → WaitsAreDependencies t }
     ensures suffice { (t : Trace) → WaitsSuffice t }

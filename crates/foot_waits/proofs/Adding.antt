@@ -1,7 +1,7 @@
 -- Lists that a loop adds to.
 use Rattle.std.specs.Prelude.{◌≡◌, ℕ, zero, suc, ◌<◌, ◌≤◌, List, [], ◌∷◌, ◌++◌, map, length, refl}
 use Rattle.std.specs.List.{AllByRecursion}
-use Rattle.std.proofs.Common.{take, get_or, sym, ap, ◌∙◌, arith}
+use Rattle.std.proofs.Common.{take, get_or, sym, ap, arith}
 
 pub map_next : {A B : Type 0} (f : A → B) (xs : List A) (i : ℕ) (x : A) → i < length xs → x ≡ get_or xs i x → map f (take (suc i) xs) ≡ map f (take i xs) ++ f x ∷ []
 map_next f [] i x lt e = absurd (omega arith)

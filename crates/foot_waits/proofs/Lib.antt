@@ -1,5 +1,9 @@
 pub mod Numbering
-pub mod Spots
 pub mod Adding
+pub mod Parts
+pub mod Grouping
+pub mod Spots
 pub mod Told
+pub mod Renaming
 pub mod Bridge
+pub mod Stepping

@@ -13,8 +13,10 @@ use Rattle.std.proofs.lemmas.Slice.Eq.{bytes_eq-Decides}
 use Rattle.world_parts.specs.Items.{Atom, chain_flag, ring_order, slot_at, descriptor_at, description_at, position_of, size_of, byte_at, name_at, names_in, buffer_size, buffer_byte, Item, one, file_bytes, buffer_bytes, all_names, all_bytes_and_sizes, all_positions, all_descriptions, all_descriptors, Use, Footprint, member_of, same_atom, has_atom, writes_atom}
 use Rattle.use_line.specs.Spans.{within, covers, used_by, written_by}
 use Rattle.foot_waits.specs.Names.{AreApart, name_key, number_at}
+use Rattle.foot_waits.specs.Rule.{is_of_descriptors}
 use Rattle.foot_waits.specs.Spots.{AllFit, AtomFits, ItemFits, Numbers, has_number, high_in, inner_in, inner_of, item_known, low_in, place_of, row_in, row_of, sort_in, sort_of, span_for, spot, spot_at}
 use Rattle.foot_waits.proofs.Numbering.{key_apart}
+use Rattle.foot_waits.proofs.Parts.{no_member}
 
 -- rows apart
 in_rows : (a b low high place : ℕ) → place < 2 ^ 64 → high ≤ 2 ^ 64 → within (a * 2 ^ 64 + low) (a * 2 ^ 64 + high) (b * 2 ^ 64 + place) ≡ (a == b && within low high place)
@@ -94,8 +96,14 @@ module _ (t : Numbers) (apart : AreApart t) where
   member_is all_descriptors _ f g = refl
   member_is _ a f g = absurd (let no₁ : false ≡ true = f.narrow in cc)
 
+  none_within : (b : ℕ) → within 0 0 b ≡ false
+  none_within b = grind (arith, nat_tests)
+
   pub covers_is : (u : Use) (a : Atom) → ItemFits t u.item → AtomFits t a → covers (span_for t u) (spot_at t a) ≡ member_of u.item a
-  covers_is u a f g = in_spots (sort_in u.item) (row_in u.item) (sort_of a) (row_of a) (low_in t u.item) (high_in t u.item) (place_of t a) f.row g.row g.place f.high ∙ member_is u.item a f g
+  covers_is u a f g = elim (cases_Bool (is_of_descriptors u.item)) [
+    | inl d ↦ rw d (none_within (spot_at t a) ∙ sym (no_member u.item a d g.other))
+    | inr o ↦ rw o (in_spots (sort_in u.item) (row_in u.item) (sort_of a) (row_of a) (low_in t u.item) (high_in t u.item) (place_of t a) f.row g.row g.place f.high ∙ member_is u.item a f g)
+  ]
 
   pub used_is : (f : Footprint) (a : Atom) → AllFit t f → AtomFits t a → used_by (map (span_for t) f) (spot_at t a) ≡ has_atom f a
   used_is [] a h g = refl
@@ -109,17 +117,23 @@ module _ (t : Numbers) (apart : AreApart t) where
   small_place : (i low high p : ℕ) (c : Bool) → (c && within low high p) ≡ true → high ≤ 2 ^ 64 → p < 2 ^ 64
   small_place i low high p c h le = let w = and_parts c (within low high p) h in let e : within low high p ≡ true = w.1 in grind (arith, nat_tests)
 
-  pub atom_fits : (x : Item) (a : Atom) → ItemFits t x → is_narrow_use (record { item = x; written = true }) ≡ true → member_of x a ≡ true → AtomFits t a
-  atom_fits (one b) a f n h =
+  pub atom_fits : (x : Item) (a : Atom) → ItemFits t x → is_narrow_use (record { item = x; written = true }) ≡ true → member_of x a ≡ true → is_of_descriptors (one a) ≡ false → AtomFits t a
+  atom_fits (one b) a f n h o =
       let same : b ≡ a = same_atom-eq b a (holds_true (same_atom b a) h) in
       let high : place_of t b + 1 ≤ 2 ^ 64 = f.high in
-      subst (λ c. AtomFits t c) same (record { row = f.row; inner = f.inner; place = omega (arith, high); known = f.known })
-  atom_fits (file_bytes i low high) (byte_at j p) f n h =
+      record {
+        row = subst (λ c. row_of c < 2 ^ 48) same f.row;
+        inner = subst (λ c. inner_of c < 2 ^ 32) same f.inner;
+        place = subst (λ c. place_of t c < 2 ^ 64) same (omega (arith, high));
+        known = subst (λ c. has_number t c ≡ true) same f.known;
+        other = o;
+      }
+  atom_fits (file_bytes i low high) (byte_at j p) f n h o =
       let w = and_parts (i == j) (within low high p) h in
       let same : i ≡ j = eqb-true i j w.0 in
-      record { row = subst (λ r. r < 2 ^ 48) same f.row; inner = lit< tt; place = small_place i low high p (i == j) h f.high; known = refl }
-  atom_fits (file_bytes i low high) _ f n h = absurd cc
-  atom_fits (buffer_bytes r b low high) (buffer_byte q c p) f n h =
+      record { row = subst (λ r. r < 2 ^ 48) same f.row; inner = lit< tt; place = small_place i low high p (i == j) h f.high; known = refl; other = o }
+  atom_fits (file_bytes i low high) _ f n h o = absurd cc
+  atom_fits (buffer_bytes r b low high) (buffer_byte q c p) f n h o =
       let w = and_parts (r == q && b == c) (within low high p) h in
       let v = and_parts (r == q) (b == c) w.0 in
       let one₁ : r ≡ q = eqb-true r q v.0 in
@@ -129,7 +143,8 @@ module _ (t : Numbers) (apart : AreApart t) where
         inner = subst (λ y. y < 2 ^ 32) two f.inner;
         place = small_place r low high p (r == q && b == c) h f.high;
         known = refl;
+        other = o;
       }
-  atom_fits (buffer_bytes r b low high) _ f n h = absurd cc
-  atom_fits all_descriptors a f n h = absurd cc
-  atom_fits _ a f n h = absurd (let no₁ : false ≡ true = f.narrow in cc)
+  atom_fits (buffer_bytes r b low high) _ f n h o = absurd cc
+  atom_fits all_descriptors a f n h o = absurd cc
+  atom_fits _ a f n h o = absurd (let no₁ : false ≡ true = f.narrow in cc)

@@ -1,4 +1,5 @@
 pub mod Names
-pub mod Spots
-pub mod Told
 pub mod Rule
+pub mod Spots
+pub mod Groups
+pub mod Told

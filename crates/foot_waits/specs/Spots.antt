@@ -1,11 +1,12 @@
 -- A view of code: where items lie on the line.
-use Rattle.std.specs.Prelude.{◌≡◌, ℕ, ◌<◌, ◌≤◌, ◌+◌, ◌*◌, ◌^◌, Bool, List, Option, Some, None, is_some, true}
+use Rattle.std.specs.Prelude.{◌≡◌, ℕ, ◌<◌, ◌≤◌, ◌+◌, ◌*◌, ◌^◌, Bool, List, Option, Some, None, if◌then◌else◌, is_some, true, false}
 use Rattle.std.specs.List.{AllByRecursion}
 use Rattle.std.specs.Option.{unwrap_or}
 use Rattle.world_parts.specs.Items.{Atom, chain_flag, ring_order, slot_at, descriptor_at, description_at, position_of, size_of, byte_at, name_at, names_in, buffer_size, buffer_byte, Item, one, file_bytes, buffer_bytes, all_names, all_bytes_and_sizes, all_positions, all_descriptions, all_descriptors, Use, Footprint, reads}
 use Rattle.world_parts.specs.Cutting.{is_narrow_use}
 use Rattle.use_line.specs.declared.line.Span.{Span}
 use Rattle.foot_waits.specs.Names.{name_key, number_at}
+use Rattle.foot_waits.specs.Rule.{is_of_descriptors}
 
 abbrev pub Numbers : Type 0
 Numbers = List (List ℕ × ℕ)
@@ -62,12 +63,13 @@ has_number t _ = true
 abbrev pub spot_at : Numbers → Atom → ℕ
 spot_at t a = spot (sort_of a) (row_of a) (place_of t a)
 
--- an atom whose numbers fit
+-- an atom whose numbers fit, and that is no descriptor
 pub record AtomFits (t : Numbers) (a : Atom) : Type 0 where
   pub row : row_of a < 2 ^ 48
   pub inner : inner_of a < 2 ^ 32
   pub place : place_of t a < 2 ^ 64
   pub known : has_number t a ≡ true
+  pub other : is_of_descriptors (one a) ≡ false
 
 -- the same of an item: its sort, its row, and its places
 abbrev pub sort_in : Item → ℕ
@@ -116,9 +118,14 @@ pub record ItemFits (t : Numbers) (x : Item) : Type 0 where
   pub high : high_in t x ≤ 2 ^ 64
   pub known : item_known t x ≡ true
 
--- the range of a use on the line
+-- the range of a use on the line, where those of descriptors have no numbers
 abbrev pub span_for : Numbers → Use → Span
-span_for t u = record { low = spot (sort_in u.item) (row_in u.item) (low_in t u.item); high = spot (sort_in u.item) (row_in u.item) (high_in t u.item); written = u.written }
+span_for t u =
+    let edge : ℕ → ℕ = λ place. if is_of_descriptors u.item then 0 else spot (sort_in u.item) (row_in u.item) place in
+    record { low = edge (low_in t u.item); high = edge (high_in t u.item); written = u.written }
+
+abbrev pub no_span : Span
+no_span = record { low = 0; high = 0; written = false }
 
 -- the uses of a footprint, each of which fits, and writes no more than one atom or a range
 abbrev pub AllFit : Numbers → Footprint → Type 0

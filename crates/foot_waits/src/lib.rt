@@ -1,6 +1,7 @@
 //! For each of a list of footprints, the earlier ones that it waits for directly.
 #![tactic(auto)]
 
+mod descriptors;
 mod names;
 mod spans;
 mod waits;

@@ -1,6 +1,6 @@
 //! Numbers of names.
 ghost use Rattle.std.specs.Prelude.{◌≡◌, ℕ, List, [], IfOk, OnOk, IsSome, Some};
-ghost use Rattle.foot_waits.specs.Names.{AreApart, name_key, number_at};
+ghost use Rattle.foot_waits.specs.Names.{AreApart, KeepsNumbers, name_key, number_at};
 
 use std::alloc::{AllocError, Global};
 use std::collections::BTreeMap;
@@ -42,7 +42,7 @@ impl Names {
         name: &[u8],
     ) -> Result<(), AllocError>
         ensures known { OnOk result (IsSome (number_at self.new (name_key directory name.now))) }
-        ensures kept { OnOk result ((q : List ℕ) → IsSome (number_at self.old q) → number_at self.new q ≡ number_at self.old q) }
+        ensures kept { OnOk result (KeepsNumbers self.old self.new) }
     {
         let key = name_key(alloc, directory, name)?;
         self.add_key(key)
@@ -50,7 +50,7 @@ impl Names {
 
     fn add_key(&mut self, key: Vec<u8>) -> Result<(), AllocError>
         ensures known { OnOk result (IsSome (number_at self.new key.items)) }
-        ensures kept { OnOk result ((q : List ℕ) → IsSome (number_at self.old q) → number_at self.new q ≡ number_at self.old q) }
+        ensures kept { OnOk result (KeepsNumbers self.old self.new) }
     {
         if self.number_of(key.as_slice()).is_some() {
             return Ok(());

@@ -42,7 +42,10 @@ fn span_of(alloc: Global, names: &Names, used: &Use) -> Result<Span, AllocError>
         Item::Chain(number) => Ok(single(0, 0, u64::from(*number), written)),
         Item::Ring(ring) => Ok(single(1, 0, u64::from(*ring), written)),
         Item::Slot(ring, slot) => Ok(single(2, u128::from(*ring), u64::from(*slot), written)),
-        Item::Descriptor(number) => Ok(single(3, 0, u64::from(*number), written)),
+        Item::Descriptor(number) => {
+            let _number = *number;
+            Ok(no_range(written))
+        }
         Item::Description(number) => Ok(single(4, 0, u64::from(*number), written)),
         Item::Position(number) => Ok(single(5, 0, u64::from(*number), written)),
         Item::Size(node) => Ok(single(6, 0, u64::from(*node), written)),
@@ -60,8 +63,19 @@ fn span_of(alloc: Global, names: &Names, used: &Use) -> Result<Span, AllocError>
             let row = u128::from(*ring) * 4_294_967_296 + u128::from(*index);
             Ok(range(11, row, *low, u128::from(*high), written))
         }
-        Item::AllDescriptors if !written => Ok(range(3, 0, 0, PLACES, written)),
+        Item::AllDescriptors if !written => Ok(no_range(written)),
         _ => Err(AllocError),
+    }
+}
+
+/// What a use of descriptors has on the line, where they don't lie.
+fn no_range(written: bool) -> Span
+    ensures { result ≡ record { low = 0; high = 0; written = written } }
+{
+    Span {
+        low: 0,
+        high: 0,
+        written,
     }
 }
 

@@ -1,13 +1,18 @@
 //! For whom each of a list of footprints waits directly.
 ghost use Rattle.std.specs.Option.{option_or};
-ghost use Rattle.std.specs.Prelude.{◌≡◌, ◌==◌, None, Some, if◌then◌else◌, suc, ◌<◌, ◌^◌, ◌-◌, ℕ, IfOk, OnOk, length};
+ghost use Rattle.std.specs.Prelude.{◌≡◌, ◌==◌, None, Some, if◌then◌else◌, suc, ◌<◌, ◌^◌, ◌-◌, ℕ, IfOk, OnOk, length, map, slice_index_or};
 ghost use Rattle.std.specs.BTreeMap.{get};
 ghost use Rattle.std.specs.Ordering.{nat_cmp};
+ghost use Rattle.foot_waits.specs.Names.{KeepsNumbers};
 ghost use Rattle.foot_waits.specs.Told.{IsAt, IsFirst, TellsAll, with_told};
 ghost use Rattle.foot_waits.specs.Rule.{IsFirstUse};
+ghost use Rattle.foot_waits.specs.Rule as rule;
 ghost use Rattle.world_parts.specs.Items as items;
-ghost use Rattle.use_line.specs.Known.{HasEdges};
+ghost use Rattle.world_parts.specs.Uses.{use_meant};
+ghost use Rattle.foot_waits.specs.Spots.{no_span};
+ghost use Rattle.use_line.specs.Known.{AddsTold, HasEdges};
 
+use crate::descriptors::{Descriptors, descriptor_uses};
 use crate::names::Names;
 use crate::spans::spans_of;
 use std::alloc::{AllocError, Global};
@@ -20,27 +25,21 @@ use world_parts::{Footprint, Item, Use};
 pub struct Waits {
     names: Names,
     line: Line,
+    descriptors: Descriptors,
     place: u32,
 }
 
 impl Waits {
-    /// Before the first of a list of footprints, with the names that all of them have.
-    ///
-    /// # Errors
-    ///
-    /// Want of memory.
-    pub fn new(alloc: Global, feet: &[Footprint]) -> Result<Self, AllocError>
-        ensures { IfOk result (λ waits. (foot : ℕ → items.Footprint) → IsAt waits foot 0) }
+    /// Before the first of a list of footprints.
+    pub fn new(alloc: Global) -> Self
+        ensures { (foot : ℕ → items.Footprint) → IsAt result foot 0 }
     {
-        let mut names = Names::new(alloc);
-        for footprint in feet {
-            add_names(alloc, &mut names, footprint.uses())?;
-        }
-        Ok(Waits {
-            names,
+        Waits {
+            names: Names::new(alloc),
             line: Line::new(alloc),
+            descriptors: Descriptors::new(alloc),
             place: 0,
-        })
+        }
     }
 
     /// For whom the next footprint waits directly: of each, the number of the first use by which it
@@ -48,7 +47,7 @@ impl Waits {
     ///
     /// # Errors
     ///
-    /// Want of memory: then what is known is of no use any more.
+    /// Out of memory: then what is known is of no use any more.
     pub fn next(
         &mut self,
         alloc: Global,
@@ -61,21 +60,33 @@ impl Waits {
             → foot self.old.place ≡ footprint.now → IsAt self.old foot self.old.place
             → (j : ℕ) → IsFirstUse foot self.old.place j (get nat_cmp found j)) }
     {
+        add_names(alloc, &mut self.names, footprint.uses())?;
         let spans = spans_of(alloc, &self.names, footprint)?;
         if spans.len() >= 4_294_967_296 {
             return Err(AllocError);
         }
         self.names.are_apart();
         self.line.prepare(alloc, spans.as_slice())?;
-        let found = first_told(alloc, &self.line, spans.as_slice())?;
+        let own = descriptor_uses(alloc, footprint)?;
+        let found = first_told(
+            alloc,
+            &self.line,
+            &self.descriptors,
+            footprint.uses(),
+            &own,
+            spans.as_slice(),
+        )?;
         self.line.add(alloc, self.place, spans.as_slice())?;
+        self.descriptors.add(alloc, self.place, own)?;
         self.place += 1;
         Ok(found)
     }
 }
 
 /// Adds the names of some uses.
-fn add_names(alloc: Global, names: &mut Names, uses: &[Use]) -> Result<(), AllocError> {
+fn add_names(alloc: Global, names: &mut Names, uses: &[Use]) -> Result<(), AllocError>
+    ensures { OnOk result (KeepsNumbers names.old names.new) }
+{
     for used in uses {
         if let Item::Name(directory, name) = &used.item {
             names.add(alloc, *directory, name.as_slice())?;
@@ -84,32 +95,70 @@ fn add_names(alloc: Global, names: &mut Names, uses: &[Use]) -> Result<(), Alloc
     Ok(())
 }
 
-/// Of each earlier place for which one waits by some range, the number of the first of these.
-fn first_told(alloc: Global, line: &Line, spans: &[Span]) -> Result<BTreeMap<u32, u32>, AllocError>
+/// Of each earlier place for which one waits by some use, the number of the first of these.
+fn first_told(
+    alloc: Global,
+    line: &Line,
+    descriptors: &Descriptors,
+    uses: &[Use],
+    own: &Footprint,
+    spans: &[Span],
+) -> Result<BTreeMap<u32, u32>, AllocError>
+    requires own { own.now ≡ rule.descriptor_uses (map use_meant uses.now) }
+    requires each { length uses.now ≡ length spans.now }
     requires edges { HasEdges line.now spans.now }
     requires few { length spans.now < 2 ^ 32 }
-    ensures { IfOk result (λ found. (j : ℕ) → IsFirst line.now spans.now (length spans.now) j (get nat_cmp found j)) }
+    ensures { IfOk result (λ found. (j : ℕ) → IsFirst (line.now, descriptors.now)
+        (map use_meant uses.now) spans.now (length spans.now) j (get nat_cmp found j)) }
 {
     let mut found = BTreeMap::new(alloc);
     for index in 0..spans.len() {
-        let told = told_by(alloc, line, spans, index)?;
+        let told = told_by(alloc, line, descriptors, uses, own, spans, index)?;
         add_first(&mut found, told.as_slice(), index as u32)?;
     }
     Ok(found)
 }
 
-/// Those for whom a place waits by one of its ranges.
-fn told_by(alloc: Global, line: &Line, spans: &[Span], index: usize) -> Result<Vec<u32>, AllocError>
+/// Those for whom a place waits by one of its uses.
+fn told_by(
+    alloc: Global,
+    line: &Line,
+    descriptors: &Descriptors,
+    uses: &[Use],
+    own: &Footprint,
+    spans: &[Span],
+    index: usize,
+) -> Result<Vec<u32>, AllocError>
+    requires own { own.now ≡ rule.descriptor_uses (map use_meant uses.now) }
+    requires each { length uses.now ≡ length spans.now }
     requires edges { HasEdges line.now spans.now }
     requires within { index < length spans.now }
-    ensures { IfOk result (λ told. TellsAll line.now spans.now index told.items) }
+    ensures { IfOk result (λ told. TellsAll (line.now, descriptors.now) (map use_meant uses.now)
+        spans.now index told.items) }
 {
     let mut told = Vec::new(alloc);
+    tell_line(line, spans, index, &mut told)?;
+    descriptors.tell(&uses[index], own, &mut told)?;
+    Ok(told)
+}
+
+/// Adds those for whom a place waits by one of its ranges.
+fn tell_line(
+    line: &Line,
+    spans: &[Span],
+    index: usize,
+    told: &mut Vec<u32>,
+) -> Result<(), AllocError>
+    requires edges { HasEdges line.now spans.now }
+    requires within { index < length spans.now }
+    ensures { OnOk result (let s = slice_index_or spans.now index no_span in
+        AddsTold line.now spans.now s.written s.low s.high told.old.items told.new.items) }
+{
     let span = spans[index];
     if span.low < span.high {
-        line.tell(&span, spans, &mut told)?;
+        return line.tell(&span, spans, told);
     }
-    Ok(told)
+    Ok(())
 }
 
 /// Adds those of some places that aren't there yet, with a number.

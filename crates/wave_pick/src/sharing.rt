@@ -71,8 +71,13 @@ fn shared_in(
     }
 }
 
-/// What a use shares with the first of some others that it collides with.
-fn shared_with(alloc: Global, used: &Use, others: &[Use]) -> Result<Option<Item>, AllocError>
+/// What a use shares with the first of some others that it collides with: nothing where it collides
+/// with none.
+///
+/// # Errors
+///
+/// Out of memory.
+pub fn shared_with(alloc: Global, used: &Use, others: &[Use]) -> Result<Option<Item>, AllocError>
     ensures { IfOk result (λ found. option_map item_meant found
         ≡ model.shared_with (use_meant used.now) (map use_meant others.now)) }
 {

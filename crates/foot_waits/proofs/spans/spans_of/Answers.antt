@@ -1,5 +1,5 @@
-use Rattle.std.proofs.Common.{◌≡◌, map, take, add-one, sym, ◌∙◌, ap, arith, true, ◌∷◌, ◌++◌, []}
-use Rattle.foot_waits.specs.Spots.{AllFit, ItemFits, span_for}
+use Rattle.std.proofs.Common.{◌≡◌, map, take, add-one, sym, ◌∙◌, ap, true, ◌∷◌, ◌++◌, []}
+use Rattle.foot_waits.specs.Spots.{ItemFits, span_for}
 use Rattle.world_parts.specs.Cutting.{is_narrow_use}
 use Rattle.world_parts.specs.Uses.{use_meant}
 use Rattle.foot_waits.proofs.Adding.{all_pushed, map_next, map_pushed, take_whole}

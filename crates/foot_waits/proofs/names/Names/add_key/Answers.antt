@@ -1,6 +1,6 @@
-use Rattle.std.proofs.Common.{ℕ, List, Vec, Global, ap, sym, subst, ◌≡◌, ◌∙◌, arith, false}
+use Rattle.std.proofs.Common.{ℕ, List, Vec, Global, ap, sym, ◌≡◌, ◌∙◌}
 use Rattle.std.specs.Prelude.{None, is_some}
-use Rattle.foot_waits.specs.Names.{AreNumbered, number_at}
+use Rattle.foot_waits.specs.Names.{number_at}
 use Rattle.foot_waits.proofs.Numbering.{number_more, known_more, kept_more, numbered_more, none_is, seen}
 use Rattle.foot_waits.proofs.names.Names.add_key.Goals as goal
 
