@@ -1,2 +1,3 @@
 mod PathLemmas
 mod ToldLemmas
+mod WholeLemmas

@@ -46,7 +46,7 @@ weights_long weight ws (p ∷ ps) =
     let here = length-append ws (more ∷ []) in
     omega (arith, rest, here)
 
-spans_long : (ps : List PlaceWaits) → length (spans ps) ≡ length ps
+pub spans_long : (ps : List PlaceWaits) → length (spans ps) ≡ length ps
 spans_long ps = let long = weights_long (λ p. 1) [] ps in omega (arith, long)
 
 -- what one place more makes of what is told

@@ -1,3 +1,4 @@
 pub mod Depends
 pub mod Paths
 pub mod Told
+pub mod Whole

@@ -7,7 +7,7 @@ use Rattle.trace_format.specs.declared.trace.Trace.{Trace}
 use Rattle.replay_program.specs.declared.fault.RunFault.{RunFault}
 use Rattle.replay_program.specs.declared.fault.RunFault.TheVariants.{Different, Write}
 use Rattle.replay_program.specs.declared.words.Options.{Options}
-use Rattle.replay_program.specs.Runs.{ReadsTrace, ReplayWantsMemoryOrThread, TellsOfReading, WritesOutput, WritesPart, output_of, read_failures, reads_failed, writes_failed}
+use Rattle.replay_program.specs.Runs.{IsOutputOf, ReadsTrace, ReplayWantsMemoryOrThread, TellsOfReading, WritesOutput, WritesPart, read_failures, reads_failed, writes_failed}
 use Rattle.replay_program.specs.Transfer.{AppendsPart}
 use Rattle.replay_program.proofs.Faults.{different_is_not_write}
 
@@ -43,16 +43,16 @@ wants_writes e (inl is) = ap writes_failed is
 wants_writes e (inr is) = ap writes_failed is
 
 -- the whole output went out
-pub whole : (options : Options) (left left' written written' : Option (List ℕ)) (t : Trace) (bytes : List ℕ) (r : Result ⊤ RunFault) → ReadsTrace left left' t → bytes ≡ output_of options t
+pub whole : (options : Options) (left left' written written' : Option (List ℕ)) (t : Trace) (bytes : List ℕ) (r : Result ⊤ RunFault) → ReadsTrace left left' t → IsOutputOf options t bytes
     → OnOk r (Appends written written' bytes) → OnOk r (WritesOutput options left left' written written')
 whole options left left' written written' t bytes r read is wrote =
-    on_ok_weaker r (λ all. record { t = t; read = read; wrote = subst (Appends written written') is all }) wrote
+    on_ok_weaker r (λ all. record { t = t; output = bytes; read = read; is = is; wrote = all }) wrote
 
 -- a part of it went out
-pub part : (options : Options) (left left' written written' : Option (List ℕ)) (t : Trace) (bytes : List ℕ) (r : Result ⊤ RunFault) → ReadsTrace left left' t → bytes ≡ output_of options t
+pub part : (options : Options) (left left' written written' : Option (List ℕ)) (t : Trace) (bytes : List ℕ) (r : Result ⊤ RunFault) → ReadsTrace left left' t → IsOutputOf options t bytes
     → OnErr r (AppendsPart written written' bytes) → r ≡ Err Write → WritesPart options left left' written written'
 part options left left' written written' t bytes r read is wrote failed =
-    record { t = t; read = read; wrote = subst (AppendsPart written written') is (IfErr-at_err (λ f. AppendsPart written written' bytes) failed wrote) }
+    record { t = t; output = bytes; read = read; is = is; wrote = IfErr-at_err (λ f. AppendsPart written written' bytes) failed wrote }
 
 -- a write that failed tells that a trace was read
 pub tells_read : (left left' : Option (List ℕ)) (t : Trace) (r : Result ⊤ RunFault) → ReadsTrace left left' t → IfErr r (λ f. f ≡ Write) → IfErr r (TellsOfReading left left')

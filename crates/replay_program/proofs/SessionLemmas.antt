@@ -43,4 +43,4 @@ sequential_text t s replies shown text world answers e = e ∙ ap (λ w. report_
 -- the line of a comparison that went out in part
 pub comparison_part : (options : Options) (left left' written written' : Option (List ℕ)) (t : Trace) (workers window : ℕ) (eager : Bool) (v : Verdict) → ReadsTrace left left' t → options.mode ≡ Compare workers window eager → v ≡ verdict.Equal
     → AppendsPart written written' (verdict_line v) → WritesPart options left left' written written'
-comparison_part options left left' written written' t workers window eager v read mode equal part = record { t = t; read = read; wrote = rw mode (rw equal at part) }
+comparison_part options left left' written written' t workers window eager v read mode equal part = record { t = t; output = verdict_line v; read = read; is = rw mode (ap verdict_line equal); wrote = part }

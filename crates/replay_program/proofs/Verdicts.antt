@@ -15,7 +15,7 @@ use Rattle.replay_program.specs.Runs.{ReadsTrace, TellsOfReading, WritesOutput, 
 -- the whole line went out
 pub told_whole : (options : Options) (left left' written written' : Option (List ℕ)) (t : trace.Trace) (workers window : ℕ) (eager : Bool) (v : Verdict) (r : Result ⊤ RunFault) → ReadsTrace left left' t
     → options.mode ≡ Compare workers window eager → v ≡ Equal → ((r ≡ Ok tt) ⊎ (r ≡ Err Different) → Appends written written' (verdict_line v)) → OnOk r (WritesOutput options left left' written written')
-told_whole options left left' written written' t workers window eager v (Ok x) read mode equal whole = record { t = t; read = read; wrote = rw mode (rw equal at (whole (inl refl))) }
+told_whole options left left' written written' t workers window eager v (Ok x) read mode equal whole = record { t = t; output = verdict_line v; read = read; is = rw mode (ap verdict_line equal); wrote = whole (inl refl) }
 told_whole options left left' written written' t workers window eager v (Err f) read mode equal whole = tt
 
 -- how telling that both are equal may fail

@@ -21,7 +21,7 @@ use Rattle.clap.specs.declared.parser.matches.ArgMatches.{ArgMatches}
 use Rattle.clap.specs.declared.parser.matches.ArgMatches.TheViews.{out-ArgMatches}
 use Rattle.clap.proofs.OnLiterals.{clap_on_literals}
 use Rattle.replay_program.specs.declared.words.Mode.{Mode}
-use Rattle.replay_program.specs.declared.words.Mode.TheVariants.{Serial, Run, Compare, Rounds, Check}
+use Rattle.replay_program.specs.declared.words.Mode.TheVariants.{Serial, Run, Compare, Rounds, Depends, Check}
 use Rattle.replay_program.specs.declared.words.Options.{Options}
 use Rattle.replay_program.specs.declared.words.Task.{Task}
 use Rattle.replay_program.specs.declared.words.Task.TheVariants.{Replay, Diff}
@@ -143,6 +143,11 @@ serial_found shows.Small true = (refl, ((refl, refl), refl))
 serial_found shows.All false = (refl, (refl, refl))
 serial_found shows.All true = (refl, (refl, refl))
 
+depends_found : (dot : Bool) → AreFound (Depends dot) plain (subcommand_of replayer (codes "depends" ∷ dot_words dot))
+unfolding clap_on_literals
+depends_found false = (refl, refl, refl)
+depends_found true = (refl, refl, refl)
+
 options_found : (m : Mode) (shown : Shown) (words : List (List ℕ)) → AskForMode m shown words → AreFound m shown (subcommand_of replayer words)
 unfolding clap_on_literals
 options_found Serial shown words e = rw e (serial_found shown.sums shown.names)
@@ -156,6 +161,7 @@ options_found (Compare workers window eager) shown words e =
 options_found (Rounds window dot) shown words e =
     let l = rounds_leaves window dot e.0 e.1 e.2 in
     rw (e.4, rounds_found (decimal window) dot (e.0 ++ dot_words dot) l) (refl, e.3, l.dot_text, (l.window_text, e.2))
+options_found (Depends dot) shown words e = rw (e.1, e.0) (depends_found dot)
 options_found Check shown words e = rw e.1 (refl, e.0)
 
 -- and no file is named by them
@@ -167,6 +173,11 @@ serial_files shows.Small false = (refl, refl, refl)
 serial_files shows.Small true = (refl, refl, refl)
 serial_files shows.All false = (refl, refl, refl)
 serial_files shows.All true = (refl, refl, refl)
+
+depends_files : (dot : Bool) → HasNoFiles (subcommand_of replayer (codes "depends" ∷ dot_words dot))
+unfolding clap_on_literals
+depends_files false = (refl, refl, refl)
+depends_files true = (refl, refl, refl)
 
 files_found : (m : Mode) (shown : Shown) (words : List (List ℕ)) → AskForMode m shown words → HasNoFiles (subcommand_of replayer words)
 unfolding clap_on_literals
@@ -180,6 +191,7 @@ files_found (Compare workers window eager) shown words e =
 files_found (Rounds window dot) shown words e =
     let l = rounds_leaves window dot e.0 e.1 e.2 in
     rw (e.4, rounds_found (decimal window) dot (e.0 ++ dot_words dot) l) l.files
+files_found (Depends dot) shown words e = rw e.1 (depends_files dot)
 files_found Check shown words e = rw e.1 (refl, refl, refl)
 
 serial_taken : (sums : SumsShown) (names : Bool) → takes replayer (codes "serial" ∷ shown_words sums names) ≡ true
@@ -191,6 +203,11 @@ serial_taken shows.Small true = refl
 serial_taken shows.All false = refl
 serial_taken shows.All true = refl
 
+depends_taken : (dot : Bool) → takes replayer (codes "depends" ∷ dot_words dot) ≡ true
+unfolding clap_on_literals
+depends_taken false = refl
+depends_taken true = refl
+
 words_taken : (m : Mode) (shown : Shown) (words : List (List ℕ)) → AskForMode m shown words → takes replayer words ≡ true
 unfolding clap_on_literals
 words_taken Serial shown words e = rw e (serial_taken shown.sums shown.names)
@@ -199,6 +216,7 @@ words_taken (Run workers window eager) shown words e =
     (run_leaves workers window shown.sums shown.names e.0 e.1))
 words_taken (Compare workers window eager) shown words e = rw e.4 (compare_taken (decimal workers) (decimal window) IsPlain e.0 (compare_leaves workers window e.0 e.1))
 words_taken (Rounds window dot) shown words e = rw e.4 (rounds_taken (decimal window) dot (e.0 ++ dot_words dot) (rounds_leaves window dot e.0 e.1 e.2))
+words_taken (Depends dot) shown words e = rw e.1 (depends_taken dot)
 words_taken Check shown words e = rw e.1 refl
 
 help_found : (words : List (List ℕ)) → AskForHelp words → fault_of replayer words ≡ DisplayHelp ∷ []
@@ -294,6 +312,7 @@ name_of Serial = codes "serial"
 name_of (Run workers window eager) = codes "run"
 name_of (Compare workers window eager) = codes "compare"
 name_of (Rounds window dot) = codes "rounds"
+name_of (Depends dot) = codes "depends"
 name_of Check = codes "check"
 
 pub found_name : (m : ArgMatches) (mode : Mode) (shown : Shown) → AreFound mode shown (subcommand_rows_of m) → subcommand_name_of m ≡ Some (name_of mode)
@@ -301,6 +320,7 @@ found_name m Serial shown h = sym (named m) ∙ h.0
 found_name m (Run workers window eager) shown h = sym (named m) ∙ h.0
 found_name m (Compare workers window eager) shown h = sym (named m) ∙ h.0
 found_name m (Rounds window dot) shown h = sym (named m) ∙ h.0
+found_name m (Depends dot) shown h = sym (named m) ∙ h.0
 found_name m Check shown h = sym (named m) ∙ h.0
 
 -- a flag by the text that there is for it
@@ -341,9 +361,12 @@ run_same {a} {b} {w} {v} {c} {e} f g h = ap (λ x. Run x b c) f ∙ ap (λ x. Ru
 compare_same : {a b w v : ℕ} {c e : Bool} → a ≡ w → b ≡ v → c ≡ e → Compare a b c ≡ Compare w v e
 compare_same {a} {b} {w} {v} {c} {e} f g h = ap (λ x. Compare x b c) f ∙ ap (λ x. Compare w x c) g ∙ ap (λ x. Compare w v x) h
 
--- two names of one length
+-- names of one length
 other_names : codes "serial" ≡ codes "rounds" → ⊥
 other_names e = let first : 115 ≡ 114 = ap (λ (xs : List ℕ). slice_index xs 0) e in omega (arith, first)
+
+compared_is_no_dependence : codes "compare" ≡ codes "depends" → ⊥
+compared_is_no_dependence e = let first : 99 ≡ 100 = ap (λ (xs : List ℕ). slice_index xs 0) e in omega (arith, first)
 
 module _ (m chosen : ArgMatches) (rows : IsChosen m chosen) where
   flag_is : (id : List ℕ) (flag sums : Bool) → ReadsFlag chosen id flag → text_in id (subcommand_rows_of m) ≡ Some (flag_text sums) → flag ≡ sums
@@ -367,6 +390,7 @@ module _ (m chosen : ArgMatches) (rows : IsChosen m chosen) where
   serial_chosen given (Run w v e) shown name read h = let same : codes "serial" ≡ codes "run" = same_Some _ _ (sym name ∙ found_name m (Run w v e) shown h) in absurd (cc same)
   serial_chosen given (Compare w v e) shown name read h = let same : codes "serial" ≡ codes "compare" = same_Some _ _ (sym name ∙ found_name m (Compare w v e) shown h) in absurd (cc same)
   serial_chosen given (Rounds v dot) shown name read h = absurd (other_names (same_Some _ _ (sym name ∙ found_name m (Rounds v dot) shown h)))
+  serial_chosen given (Depends dot) shown name read h = let same : codes "serial" ≡ codes "depends" = same_Some _ _ (sym name ∙ found_name m (Depends dot) shown h) in absurd (cc same)
   serial_chosen given Check shown name read h = let same : codes "serial" ≡ codes "check" = same_Some _ _ (sym name ∙ found_name m Check shown h) in absurd (cc same)
 
   -- where it is `run`
@@ -379,6 +403,7 @@ module _ (m chosen : ArgMatches) (rows : IsChosen m chosen) where
   run_chosen workers window given eager Serial shown name a b read eagerly h = let same : codes "run" ≡ codes "serial" = same_Some _ _ (sym name ∙ found_name m Serial shown h) in absurd (cc same)
   run_chosen workers window given eager (Compare w v e) shown name a b read eagerly h = let same : codes "run" ≡ codes "compare" = same_Some _ _ (sym name ∙ found_name m (Compare w v e) shown h) in absurd (cc same)
   run_chosen workers window given eager (Rounds v dot) shown name a b read eagerly h = let same : codes "run" ≡ codes "rounds" = same_Some _ _ (sym name ∙ found_name m (Rounds v dot) shown h) in absurd (cc same)
+  run_chosen workers window given eager (Depends dot) shown name a b read eagerly h = let same : codes "run" ≡ codes "depends" = same_Some _ _ (sym name ∙ found_name m (Depends dot) shown h) in absurd (cc same)
   run_chosen workers window given eager Check shown name a b read eagerly h = let same : codes "run" ≡ codes "check" = same_Some _ _ (sym name ∙ found_name m Check shown h) in absurd (cc same)
 
   -- where it is `compare`
@@ -391,6 +416,7 @@ module _ (m chosen : ArgMatches) (rows : IsChosen m chosen) where
   compare_chosen workers window eager Serial shown name a b eagerly h = let same : codes "compare" ≡ codes "serial" = same_Some _ _ (sym name ∙ found_name m Serial shown h) in absurd (cc same)
   compare_chosen workers window eager (Run w v e) shown name a b eagerly h = let same : codes "compare" ≡ codes "run" = same_Some _ _ (sym name ∙ found_name m (Run w v e) shown h) in absurd (cc same)
   compare_chosen workers window eager (Rounds v dot) shown name a b eagerly h = let same : codes "compare" ≡ codes "rounds" = same_Some _ _ (sym name ∙ found_name m (Rounds v dot) shown h) in absurd (cc same)
+  compare_chosen workers window eager (Depends dot) shown name a b eagerly h = absurd (compared_is_no_dependence (same_Some _ _ (sym name ∙ found_name m (Depends dot) shown h)))
   compare_chosen workers window eager Check shown name a b eagerly h = let same : codes "compare" ≡ codes "check" = same_Some _ _ (sym name ∙ found_name m Check shown h) in absurd (cc same)
 
   -- where it is `rounds`
@@ -403,7 +429,18 @@ module _ (m chosen : ArgMatches) (rows : IsChosen m chosen) where
   rounds_chosen window flag Serial shown name b read h = absurd (other_names (sym (same_Some _ _ (sym name ∙ found_name m Serial shown h))))
   rounds_chosen window flag (Run w v e) shown name b read h = let same : codes "rounds" ≡ codes "run" = same_Some _ _ (sym name ∙ found_name m (Run w v e) shown h) in absurd (cc same)
   rounds_chosen window flag (Compare w v e) shown name b read h = let same : codes "rounds" ≡ codes "compare" = same_Some _ _ (sym name ∙ found_name m (Compare w v e) shown h) in absurd (cc same)
+  rounds_chosen window flag (Depends dot) shown name b read h = let same : codes "rounds" ≡ codes "depends" = same_Some _ _ (sym name ∙ found_name m (Depends dot) shown h) in absurd (cc same)
   rounds_chosen window flag Check shown name b read h = let same : codes "rounds" ≡ codes "check" = same_Some _ _ (sym name ∙ found_name m Check shown h) in absurd (cc same)
+
+  -- where it is `depends`
+  pub depends_chosen : (flag : Bool) (mode : Mode) (shown : Shown) → subcommand_name_of m ≡ Some (codes "depends") → ReadsFlag chosen (codes "dot") flag
+      → AreFound mode shown (subcommand_rows_of m) → ◌≡◌ {A = Options} (record { mode = Depends flag; shown = plain }) (record { mode = mode; shown = shown })
+  depends_chosen flag (Depends dot) shown name read h = options_same (ap Depends (flag_is (codes "dot") flag dot read h.2)) (sym h.1)
+  depends_chosen flag Serial shown name read h = let same : codes "depends" ≡ codes "serial" = same_Some _ _ (sym name ∙ found_name m Serial shown h) in absurd (cc same)
+  depends_chosen flag (Run w v e) shown name read h = let same : codes "depends" ≡ codes "run" = same_Some _ _ (sym name ∙ found_name m (Run w v e) shown h) in absurd (cc same)
+  depends_chosen flag (Compare w v e) shown name read h = absurd (compared_is_no_dependence (sym (same_Some _ _ (sym name ∙ found_name m (Compare w v e) shown h))))
+  depends_chosen flag (Rounds v dot) shown name read h = let same : codes "depends" ≡ codes "rounds" = same_Some _ _ (sym name ∙ found_name m (Rounds v dot) shown h) in absurd (cc same)
+  depends_chosen flag Check shown name read h = let same : codes "depends" ≡ codes "check" = same_Some _ _ (sym name ∙ found_name m Check shown h) in absurd (cc same)
 
 -- a number in decimal is read as that number
 pub read_number : {E : Type 0} (G : List ℕ → Result ℕ E → Type 0) (n : ℕ) (r : Option ℕ) → ReadsOne G (decimal n) r → ((u : List ℕ) (x : Result ℕ E) → G u x → ParsesUnsigned 32 10 u x) → n < 2 ^ 32 → r ≡ Some n

@@ -1,7 +1,7 @@
 -- The model: the limits of the numbers that the words may ask for.
 use Rattle.std.specs.Prelude.{◌≤◌, ⊤, ℕ}
 use Rattle.replay_program.specs.declared.words.Mode.{Mode}
-use Rattle.replay_program.specs.declared.words.Mode.TheVariants.{Serial, Run, Compare, Rounds, Check}
+use Rattle.replay_program.specs.declared.words.Mode.TheVariants.{Serial, Run, Compare, Rounds, Depends, Check}
 
 -- The numbers of workers and of places are within their limits.
 abbrev pub IsWindow : ℕ → Type 0
@@ -16,4 +16,5 @@ IsServed Serial = ⊤
 IsServed (Run workers window eager) = AreServed workers window
 IsServed (Compare workers window eager) = AreServed workers window
 IsServed (Rounds window dot) = IsWindow window
+IsServed (Depends dot) = ⊤
 IsServed Check = ⊤

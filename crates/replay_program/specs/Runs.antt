@@ -16,10 +16,11 @@ use Rattle.replay_program.specs.declared.fault.RunFault.{RunFault}
 use Rattle.replay_program.specs.declared.fault.RunFault.TheVariants.{Trace, Replay, Reports, Read, Write, Different}
 use Rattle.replay_program.specs.declared.words.Options.{Options}
 use Rattle.replay_program.specs.declared.words.Mode.{Mode}
-use Rattle.replay_program.specs.declared.words.Mode.TheVariants.{Serial, Run, Compare, Rounds, Check}
+use Rattle.replay_program.specs.declared.words.Mode.TheVariants.{Serial, Run, Compare, Rounds, Depends, Check}
 use Rattle.replay_report.specs.Report.{check_line, line, report_of}
 use Rattle.replay_report.specs.declared.showing.Shown.{Shown}
 use Rattle.round_report.specs.Rounds.{graph_text, log_of, rounds_text}
+use Rattle.depend_report.specs.Whole.{IsTextOf}
 use Rattle.replay_program.specs.Transfer.{AppendsPart}
 
 -- The report of the sequential run of a trace.
@@ -38,15 +39,16 @@ rounds_output false t window = rounds_text t (log_of t window)
 rounds_output true t window = graph_text t (log_of t window)
 
 -- The output for a trace, by the mode.
-abbrev pub mode_output : Mode → Shown → trace.Trace → List ℕ
-mode_output Serial shown t = sequential_report t shown
-mode_output (Run workers window eager) shown t = sequential_report t shown
-mode_output (Compare workers window eager) shown t = verdict_line verdict.Equal
-mode_output (Rounds window dot) shown t = rounds_output dot t window
-mode_output Check shown t = check_line t
+abbrev pub IsModeOutput : Mode → Shown → trace.Trace → List ℕ → Type 0
+IsModeOutput Serial shown t output = output ≡ sequential_report t shown
+IsModeOutput (Run workers window eager) shown t output = output ≡ sequential_report t shown
+IsModeOutput (Compare workers window eager) shown t output = output ≡ verdict_line verdict.Equal
+IsModeOutput (Rounds window dot) shown t output = output ≡ rounds_output dot t window
+IsModeOutput (Depends dot) shown t output = IsTextOf dot t output
+IsModeOutput Check shown t output = output ≡ check_line t
 
-abbrev pub output_of : Options → trace.Trace → List ℕ
-output_of options t = mode_output options.mode options.shown t
+abbrev pub IsOutputOf : Options → trace.Trace → List ℕ → Type 0
+IsOutputOf options t output = IsModeOutput options.mode options.shown t output
 
 -- The reader was read to its end, and what it had left spells the trace.
 pub record ReadsTrace (before after : Option (List ℕ)) (t : trace.Trace) : Type 0 where
@@ -65,14 +67,18 @@ pub record ReadsNoTrace (before after : Option (List ℕ)) (f : TraceFault) : Ty
 -- The reader was read to its end, and the writer took the whole output for its trace, and nothing else.
 pub record WritesOutput (options : Options) (left left' written written' : Option (List ℕ)) : Type 0 where
   pub t : trace.Trace
+  pub output : List ℕ
   pub read : ReadsTrace left left' t
-  pub wrote : Appends written written' (output_of options t)
+  pub is : IsOutputOf options t output
+  pub wrote : Appends written written' output
 
 -- The reader was read to its end, and the writer took the first bytes of the output for its trace, but not all.
 pub record WritesPart (options : Options) (left left' written written' : Option (List ℕ)) : Type 0 where
   pub t : trace.Trace
+  pub output : List ℕ
   pub read : ReadsTrace left left' t
-  pub wrote : AppendsPart written written' (output_of options t)
+  pub is : IsOutputOf options t output
+  pub wrote : AppendsPart written written' output
 
 -- The most bytes that are taken from a reader: one more than a trace may have.
 abbrev pub most_taken : ℕ
@@ -122,6 +128,7 @@ IsAlone Serial = ⊤
 IsAlone (Run workers window eager) = ⊥
 IsAlone (Compare workers window eager) = ⊥
 IsAlone (Rounds window dot) = ⊥
+IsAlone (Depends dot) = ⊤
 IsAlone Check = ⊤
 
 -- The modes that write no verdict.
@@ -130,4 +137,5 @@ IsNoComparison Serial = ⊤
 IsNoComparison (Run workers window eager) = ⊤
 IsNoComparison (Compare workers window eager) = ⊥
 IsNoComparison (Rounds window dot) = ⊤
+IsNoComparison (Depends dot) = ⊤
 IsNoComparison Check = ⊤

@@ -12,7 +12,7 @@ use Rattle.clap.specs.declared.builder.value_parser.ValueParser.TheVariants.{Sig
 use Rattle.clap.specs.declared.error.kind.ErrorKind.{ErrorKind}
 use Rattle.clap.specs.declared.error.kind.ErrorKind.TheVariants.{DisplayHelp, DisplayVersion, OutOfMemory}
 use Rattle.replay_program.specs.declared.words.Mode.{Mode}
-use Rattle.replay_program.specs.declared.words.Mode.TheVariants.{Serial, Run, Compare, Rounds, Check}
+use Rattle.replay_program.specs.declared.words.Mode.TheVariants.{Serial, Run, Compare, Rounds, Depends, Check}
 use Rattle.replay_program.specs.declared.words.Files.{Files}
 use Rattle.replay_program.specs.declared.words.Request.{Request}
 use Rattle.replay_program.specs.declared.words.Task.{Task}
@@ -66,6 +66,7 @@ AskForMode Serial shown words = words ≡ codes "serial" ∷ shown_words shown.s
 AskForMode (Run workers window eager) shown words = (chosen : List (List ℕ)) × AreRoundOptions workers window chosen × (eager ≡ false) × (words ≡ codes "run" ∷ (chosen ++ shown_words shown.sums shown.names))
 AskForMode (Compare workers window eager) shown words = (chosen : List (List ℕ)) × AreRoundOptions workers window chosen × (eager ≡ false) × (shown ≡ plain) × (words ≡ codes "compare" ∷ chosen)
 AskForMode (Rounds window dot) shown words = (chosen : List (List ℕ)) × IsNumberOption (codes "--window") 64 window chosen × IsWindow window × (shown ≡ plain) × (words ≡ codes "rounds" ∷ (chosen ++ dot_words dot))
+AskForMode (Depends dot) shown words = (shown ≡ plain) × (words ≡ codes "depends" ∷ dot_words dot)
 AskForMode Check shown words = (shown ≡ plain) × (words ≡ codes "check" ∷ [])
 
 abbrev pub AskFor : Task → List (List ℕ) → Type 0
@@ -159,6 +160,7 @@ AreFound Serial shown found = IsNamed (codes "serial") found × HasShown shown (
 AreFound (Run workers window eager) shown found = IsNamed (codes "run") found × HasShown shown (λ id. text_in id found) × HasEager eager found × HasNumbers workers window found
 AreFound (Compare workers window eager) shown found = IsNamed (codes "compare") found × (shown ≡ plain) × HasEager eager found × HasNumbers workers window found
 AreFound (Rounds window dot) shown found = IsNamed (codes "rounds") found × (shown ≡ plain) × HasDot dot found × HasWindow window found
+AreFound (Depends dot) shown found = IsNamed (codes "depends") found × (shown ≡ plain) × HasDot dot found
 AreFound Check shown found = IsNamed (codes "check") found × (shown ≡ plain)
 
 abbrev pub IsTaskFound : Task → Option (List ℕ × List Row) → Type 0
@@ -217,6 +219,9 @@ compare_command = with_rule (with_rule (with_rule (new_app (codes "compare")) wo
 abbrev pub rounds_command : App
 rounds_command = with_rule (with_rule (new_app (codes "rounds")) window_option) dot_flag
 
+abbrev pub depends_command : App
+depends_command = with_rule (new_app (codes "depends")) dot_flag
+
 abbrev pub check_command : App
 check_command = new_app (codes "check")
 
@@ -237,7 +242,8 @@ with_replays app = with_subcommand (with_subcommand (with_subcommand app (with_f
 -- The whole command line.
 abbrev pub replayer : App
 replayer =
-    let reading = with_subcommand (with_subcommand (with_replays replayer_alone) (with_files rounds_command).top) (with_files check_command).top in
+    let telling = with_subcommand (with_subcommand (with_replays replayer_alone) (with_files rounds_command).top) (with_files depends_command).top in
+    let reading = with_subcommand telling (with_files check_command).top in
     with_subcommand reading (with_rule (with_files diff_command) second_argument).top
 
 -- What the parser sees of an argument and of a subcommand; neither is one of all levels.

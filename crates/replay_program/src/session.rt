@@ -10,7 +10,8 @@ ghost use Rattle.world_parts.specs.Part.{whole};
 ghost use Rattle.replay_program.specs.Runs.{IsAlone, IsNoComparison, ReadsTrace};
 ghost use Rattle.replay_program.specs.Runs.{ReplayWantsMemoryOrThread, TellsOfReading};
 ghost use Rattle.replay_core.specs.Comparing.{WantsMemoryOrThread};
-ghost use Rattle.replay_program.specs.Runs.{WritesOutput, WritesPart, most_taken, output_of};
+ghost use Rattle.depend_report.specs.Whole.{IsTextOf};
+ghost use Rattle.replay_program.specs.Runs.{IsOutputOf, WritesOutput, WritesPart, most_taken};
 ghost use Rattle.replay_program.specs.Runs.{read_failures, rounds_output, sequential_report};
 ghost use Rattle.replay_program.specs.Runs.{verdict_line, write_failures};
 ghost use Rattle.replay_program.specs.Transfer.{AppendsPart, ConsumesUpTo};
@@ -19,6 +20,7 @@ ghost use Rattle.replay_program.specs.Limits.{IsServed, IsWindow};
 use crate::fault::RunFault;
 use crate::transfer::{Sink, Source, TextFault, read_text, write_text};
 use crate::words::{Mode, Options};
+use depend_report::{depends_graph, depends_text};
 use replay_core::parallel::replay;
 use replay_core::quick::replay_quick;
 use replay_core::round_log::log_rounds;
@@ -112,7 +114,7 @@ fn output_in_rounds<T: Threads + Wait + Sync>(
     requires trace { IsSpelled trace.now }
     requires mode { IsServed options.now.mode }
     requires report { IsNoComparison options.now.mode }
-    ensures ok { IfOk result (λ output. output.items ≡ output_of options.now trace.now) }
+    ensures ok { IfOk result (λ output. IsOutputOf options.now trace.now output.items) }
     ensures err { IfErr result ReplayWantsMemoryOrThread }
 {
     match options.mode {
@@ -310,12 +312,30 @@ fn trace_in(alloc: Global, text: Vec<u8>) -> Result<Box<Trace>, TraceFault>
 fn output_alone(alloc: Global, trace: &Trace, options: &Options) -> Result<Vec<u8>, RunFault>
     requires trace { IsSpelled trace.now }
     requires mode { IsAlone options.now.mode }
-    ensures ok { IfOk result (λ output. output.items ≡ output_of options.now trace.now) }
+    ensures ok { IfOk result (λ output. IsOutputOf options.now trace.now output.items) }
     ensures err { IfErr result (λ fault. fault ≡ RunFault.Replay ReplayFault.Memory) }
 {
     match options.mode {
         Mode::Serial => serial_report(alloc, trace, options.shown).map_err(RunFault::Replay),
+        Mode::Depends { dot } => depends_output(alloc, trace, dot).map_err(RunFault::Replay),
         _ => { check_text(alloc, trace).map_err(|_| RunFault::Replay(ReplayFault::Memory)) }
+    }
+}
+
+/// What the places of a trace wait for, as lines or as a graph.
+fn depends_output(alloc: Global, trace: &Trace, dot: bool) -> Result<Vec<u8>, ReplayFault>
+    requires { IsSpelled trace.now }
+    ensures ok { IfOk result (λ text. IsTextOf dot trace.now text.items) }
+    ensures err { IfErr result (λ fault. fault ≡ ReplayFault.Memory) }
+{
+    let text = if dot {
+        depends_graph(alloc, trace)
+    } else {
+        depends_text(alloc, trace)
+    };
+    match text {
+        Ok(text) => Ok(text),
+        Err(AllocError) => Err(ReplayFault::Memory),
     }
 }
 

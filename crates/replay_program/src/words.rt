@@ -10,7 +10,8 @@ ghost use Rattle.replay_program.specs.Words.{HasApp, HasNoFiles, HasNoNames, IsF
 ghost use Rattle.replay_program.specs.Words.{HasShown, HasSums, IsTaskFound, all_sums_flag};
 ghost use Rattle.replay_program.specs.Words.{names_flag};
 ghost use Rattle.replay_program.specs.Words.{IsRule, IsServedTask, check_command, compare_command};
-ghost use Rattle.replay_program.specs.Words.{diff_command, dot_flag, eager_flag, file_argument};
+ghost use Rattle.replay_program.specs.Words.{depends_command, diff_command, dot_flag, eager_flag};
+ghost use Rattle.replay_program.specs.Words.{file_argument};
 ghost use Rattle.replay_program.specs.Words.{kind_meant, not_text, output_option, replayer};
 ghost use Rattle.replay_program.specs.Words.{replayer_alone, rounds_command, run_command};
 ghost use Rattle.replay_program.specs.Words.{second_argument, serial_command, sums_flag};
@@ -46,6 +47,11 @@ pub enum Mode {
     /// graph.
     Rounds {
         window: u32,
+        dot: bool,
+    },
+    /// Which earlier places each place waits for, whatever runs them, as lines or, with `dot`, as a
+    /// graph.
+    Depends {
         dot: bool,
     },
     /// How many places and rings the trace has, in one line. Nothing is run.
@@ -143,7 +149,7 @@ const MOST_WORKERS: u32 = 64;
 const MOST_PLACES: u32 = 4096;
 
 /// Reads the words after the program's name: `serial` and `run`, each with `--sums`, `--all-sums` and
-/// `--names` or without, `compare`, `rounds`, with `--dot` or without, `check` or `diff`. `run` and
+/// `--names` or without, `compare`, `rounds` and `depends`, with `--dot` or without, `check` or `diff`. `run` and
 /// `compare` come with the numbers of workers and of places or without, `rounds` with that of places.
 /// Each has the names of its input and output or not. Any other words are wrong, unless they ask for
 /// help or for the version.
@@ -258,6 +264,12 @@ fn options_in(matches: &ArgMatches<'_>) -> Options
             },
             shown: PLAIN,
         },
+        Some(("depends", chosen)) => Options {
+            mode: Mode::Depends {
+                dot: chosen.get_flag("dot"),
+            },
+            shown: PLAIN,
+        },
         _ => Options {
             mode: Mode::Check,
             shown: PLAIN,
@@ -307,6 +319,7 @@ fn program<'a>(alloc: Global) -> Result<Command<'a>, AllocError>
 {
     let command = with_replays(alloc, program_alone(alloc)?)?;
     let command = with_subcommand(command, with_files(alloc, TRACE, rounds_command(alloc)))?;
+    let command = with_subcommand(command, with_files(alloc, TRACE, depends_command(alloc)))?;
     let command = with_subcommand(command, with_files(alloc, TRACE, Ok(check_command(alloc))))?;
     let reports = with_files(alloc, FIRST_REPORT, Ok(diff_command(alloc)));
     with_subcommand(command, with_second(alloc, reports))
@@ -416,6 +429,15 @@ fn rounds_command<'a>(alloc: Global) -> Result<Command<'a>, AllocError>
         .after_help("Example: uring_replay rounds a.trace --dot | dot -Tsvg > a.svg")
         .about("Show which places can run at the same time, and what blocked each other one")
         .arg(window_option(alloc))?
+        .arg(dot_flag(alloc))
+}
+
+fn depends_command<'a>(alloc: Global) -> Result<Command<'a>, AllocError>
+    ensures { IfOk result (λ command. HasApp depends_command command) }
+{
+    Command::new(alloc, "depends")
+        .after_help("Example: uring_replay depends a.trace --dot | dot -Tsvg > a.svg")
+        .about("Show which earlier places each place depends on, and how parallel the trace is")
         .arg(dot_flag(alloc))
 }
 

@@ -1,6 +1,6 @@
-use Rattle.std.proofs.Common.{ap, ◌∙◌}
+use Rattle.std.proofs.Common.{sym, subst}
 use Rattle.std.proofs.KnownBytes.{Keeps-refl}
-use Rattle.replay_program.specs.Runs.{output_of}
+use Rattle.replay_program.specs.Runs.{IsOutputOf}
 use Rattle.replay_program.proofs.Faults.{gives_nothing, not_by, by, reads, writes, adds_none}
 use Rattle.replay_program.proofs.Outputs.{is_no_write, is_no_difference, wants_no_write, wants_no_difference, wants_tells, wants_reads, wants_writes, whole, part, tells_read, reads_well, writes_alone, writes_no_difference}
 use Rattle.replay_program.proofs.SessionLemmas.{comparison_part}
@@ -79,7 +79,8 @@ pub returns : goal.returns
 returns g c =
     let t = c.in_ok-trace.trace.value in
     let read = c.in_ok-trace.ensures.ok in
-    let bytes = c.as_slice.ensures.value ∙ c.in_ok-output.ensures.ok ∙ ap (output_of c.args.options.now) c.deref-2.ensures in
+    let told = subst (λ trace. IsOutputOf c.args.options.now trace c.in_ok-output.output.items) c.deref-2.ensures c.in_ok-output.ensures.ok in
+    let bytes = subst (IsOutputOf c.args.options.now t) (sym c.as_slice.ensures.value) told in
     record {
       done = whole c.args.options.now _ _ _ _ t _ _ read bytes c.written.ensures.ok;
       part = part c.args.options.now _ _ _ _ t _ _ read bytes c.written.ensures.part;

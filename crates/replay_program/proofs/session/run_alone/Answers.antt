@@ -1,7 +1,8 @@
-use Rattle.std.proofs.Common.{inl}
+use Rattle.std.proofs.Common.{inl, sym, subst}
 use Rattle.std.proofs.KnownBytes.{Keeps-refl}
 use Rattle.replay_program.proofs.Faults.{gives_nothing, not_by, by, reads, writes, adds_none}
-use Rattle.replay_program.proofs.Outputs.{is_no_write, wants_no_write, wants_tells, wants_reads, wants_writes, tells_read, reads_well, writes_alone}
+use Rattle.replay_program.proofs.Outputs.{is_no_write, wants_no_write, wants_tells, wants_reads, wants_writes, tells_read, reads_well, writes_alone, whole, part}
+use Rattle.replay_program.specs.Runs.{IsOutputOf}
 use Rattle.replay_program.proofs.session.run_alone.Goals as goal
 
 pub returns-in_err-trace : goal.returns-in_err-trace
@@ -34,6 +35,20 @@ returns-in_err-output g c =
       read = reads _ e _ _ ended (wants_reads _ _ e (inl wants) read.read);
       write = writes _ e _ _ ended (adds_none _ _ (wants_writes e (inl wants)));
     }
+
+pub returns-clause-done : goal.returns-clause-done
+returns-clause-done g c =
+    let t = c.in_ok-trace.trace.value in
+    let told = subst (λ trace. IsOutputOf c.args.options.now trace c.in_ok-output.output.items) c.deref.ensures c.in_ok-output.ensures.ok in
+    let bytes = subst (IsOutputOf c.args.options.now t) (sym c.as_slice.ensures.value) told in
+    whole c.args.options.now _ _ _ _ t _ _ c.in_ok-trace.ensures.ok bytes c.written.ensures.ok
+
+pub returns-clause-part : goal.returns-clause-part
+returns-clause-part g c =
+    let t = c.in_ok-trace.trace.value in
+    let told = subst (λ trace. IsOutputOf c.args.options.now trace c.in_ok-output.output.items) c.deref.ensures c.in_ok-output.ensures.ok in
+    let bytes = subst (IsOutputOf c.args.options.now t) (sym c.as_slice.ensures.value) told in
+    part c.args.options.now _ _ _ _ t _ _ c.in_ok-trace.ensures.ok bytes c.written.ensures.part
 
 pub returns-clause-nothing : goal.returns-clause-nothing
 returns-clause-nothing g c = writes_alone _ _ c.written.ensures.err

@@ -1,5 +1,5 @@
 use Rattle.std.proofs.Common.{sym, ap, ◌∙◌, Some}
-use Rattle.replay_program.proofs.WordsLemmas.{serial_chosen, run_chosen, compare_chosen, rounds_chosen}
+use Rattle.replay_program.proofs.WordsLemmas.{serial_chosen, run_chosen, compare_chosen, rounds_chosen, depends_chosen}
 use Rattle.replay_program.proofs.words.options_in.Goals as goal
 
 pub returns-in-Some-serial-default-clause-options : goal.returns-in-Some-serial-default-clause-options
@@ -28,3 +28,9 @@ returns-in-Some-rounds-default-clause-options c =
     λ options asked. rounds_chosen c.args.matches.now c.in-Some-rounds-default.chosen.now found.rows c.number_in-in-Some-rounds-default.result c.get_flag-in-Some-rounds-default.result options.mode options.shown
     (sym found.name ∙ ap Some c.in-Some-rounds-default.is-rounds) c.number_in-in-Some-rounds-default.ensures.number
     (c.get_flag-in-Some-rounds-default.ensures.value, c.get_flag-in-Some-rounds-default.ensures.other) asked
+
+pub returns-in-Some-depends-default-clause-options : goal.returns-in-Some-depends-default-clause-options
+returns-in-Some-depends-default-clause-options c =
+    let found = c.in-Some-depends-default.ensures in
+    λ options asked. depends_chosen c.args.matches.now c.in-Some-depends-default.chosen.now found.rows c.get_flag-in-Some-depends-default.result options.mode options.shown
+    (sym found.name ∙ ap Some c.in-Some-depends-default.is-depends) (c.get_flag-in-Some-depends-default.ensures.value, c.get_flag-in-Some-depends-default.ensures.other) asked
