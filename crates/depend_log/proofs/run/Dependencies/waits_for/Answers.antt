@@ -20,7 +20,7 @@ add_waits-requires c =
     let mine : foot_at t d.waits.place ≡ f = ap (foot_at t) at.place ∙ sym c.requires.footprint in
     let found = c.in_ok-found.found in
     let first : (j : ℕ) → IsFirstUse (foot_at t) d.place j (get nat_cmp found j) =
-        subst (λ n. (j : ℕ) → IsFirstUse (foot_at t) n j (get nat_cmp found j)) at.place (c.in_ok-found.ensures.first (foot_at t) mine here) in
+    subst (λ n. (j : ℕ) → IsFirstUse (foot_at t) n j (get nat_cmp found j)) at.place (c.in_ok-found.ensures.first (foot_at t) mine here) in
     subst (λ feet. AllByRecursion (IsWithin f feet) found.entries) (sym c.as_slice.ensures.value)
     (entries_within t d.place f d.feet.items c.requires.footprint c.requires.run.feet found c.len.ensures.ordered first)
 
@@ -34,7 +34,7 @@ returns-clause-waits c =
     let mine : foot_at t d.waits.place ≡ f = ap (foot_at t) at.place ∙ sym c.requires.footprint in
     let found = c.in_ok-found.found in
     let first : (j : ℕ) → IsFirstUse (foot_at t) d.place j (get nat_cmp found j) =
-        subst (λ n. (j : ℕ) → IsFirstUse (foot_at t) n j (get nat_cmp found j)) at.place (c.in_ok-found.ensures.first (foot_at t) mine here) in
+    subst (λ n. (j : ℕ) → IsFirstUse (foot_at t) n j (get nat_cmp found j)) at.place (c.in_ok-found.ensures.first (foot_at t) mine here) in
     subst (λ ws. AreWaits t d.place ws) (sym (c.in_ok-add_waits.ensures ∙ (λ i. c.in_ok-waits.ensures.items i ++ waits_of f (c.as_slice.ensures.value i) found.entries)))
     (are_waits t d.place f d.feet.items c.requires.footprint c.requires.run.feet found c.len.ensures.ordered first)
 
