@@ -97,7 +97,7 @@ or_some None p = refl
 or_some (Some x) p = refl
 
 -- A use shares an item with some others exactly where it collides with one.
-pub shared_with_some : (u : Use) (g : Footprint) → is_some (shared_with u g) ≡ list_any (λ (v : Use). (u.written || v.written) && share u.item v.item) g
+shared_with_some : (u : Use) (g : Footprint) → is_some (shared_with u g) ≡ list_any (λ (v : Use). (u.written || v.written) && share u.item v.item) g
 shared_with_some u [] = refl
 shared_with_some u (v ∷ g) = or_some (shared_by u v) (shared_with u g) ∙ (λ i. by_some ((u.written || v.written) && share u.item v.item) i || shared_with_some u g i)
   where
