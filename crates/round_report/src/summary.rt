@@ -1,12 +1,11 @@
 //! What the rounds come to.
-ghost use Rattle.std.specs.Prelude.{◌≡◌, ◌++◌, ◌∷◌, [], IfOk, OnOk, codes, map};
+ghost use Rattle.std.specs.Prelude.{◌≡◌, ◌++◌, [], IfOk, OnOk, codes, map};
 ghost use Rattle.std.specs.Prelude.{◌==◌, position, replicate, string_bytes};
 ghost use Rattle.std.specs.List.{range_with_len};
 ghost use Rattle.std.specs.Option.{option_map};
 ghost use Rattle.replay_core.specs.Waits.{waited_meant};
-ghost use Rattle.round_report.specs.Summary.{greatest, hundredths, length_before, longest_line};
-ghost use Rattle.round_report.specs.Summary.{mean_of, path_lengths, round_count, summary, widest};
-ghost use Rattle.round_report.specs.Summary.{quotient_line, width};
+ghost use Rattle.round_report.specs.Summary.{greatest, length_before, longest_line, path_lengths};
+ghost use Rattle.round_report.specs.Summary.{quotient_line, round_count, summary, widest, width};
 
 use replay_core::round_log::{RoundLog, WaitedFor};
 use std::alloc::{AllocError, Global};
