@@ -74,6 +74,13 @@ fn rounds_with(window: u32, dot: bool) -> Options {
     }
 }
 
+fn depends_with(dot: bool) -> Options {
+    Options {
+        mode: Mode::Depends { dot },
+        shown: PLAIN,
+    }
+}
+
 const NO_FILES: Files<'static> = Files {
     input: None,
     second: None,
@@ -95,7 +102,7 @@ fn reads_names_of_files(rt: HostRuntime) {
 
 #[test]
 fn reads_words(rt: HostRuntime) {
-    let cases: [(&[&str], Task); 11] = [
+    let cases: [(&[&str], Task); 13] = [
         (["serial"].as_slice(), Task::Replay(SERIAL)),
         (["serial", "--sums"].as_slice(), Task::Replay(SUMS)),
         (["run"].as_slice(), Task::Replay(run_with(4, 64, PLAIN))),
@@ -119,6 +126,11 @@ fn reads_words(rt: HostRuntime) {
         (
             ["rounds", "--dot", "--window", "2"].as_slice(),
             Task::Replay(rounds_with(2, true)),
+        ),
+        (["depends"].as_slice(), Task::Replay(depends_with(false))),
+        (
+            ["depends", "--dot"].as_slice(),
+            Task::Replay(depends_with(true)),
         ),
         (["check"].as_slice(), Task::Replay(CHECK)),
         (["diff"].as_slice(), Task::Diff),
@@ -234,6 +246,25 @@ fn tells_rounds(rt: HostRuntime) {
     let text =
         "digraph rounds {\n  0 [label=\"0 in round 0\"];\n  1 [label=\"1 in round 0\"];\n}\n";
     output_on_workers(&rt, graph, text);
+}
+
+/// Neither write waits for the other, and each moves two bytes.
+#[test]
+fn tells_dependencies(rt: HostRuntime) {
+    let text = "uring-depends 1\n\
+        0\n\
+        1\n\
+        places 2\n\
+        pairs 0\n\
+        span 1 to place 0\n\
+        parallelism 2.00\n\
+        bytes 4\n\
+        span-bytes 2 to place 0\n\
+        parallelism-bytes 2.00\n\
+        end\n";
+    output_on_workers(&rt, Mode::Depends { dot: false }, text);
+    let text = "digraph depends {\n  0 [label=\"0\"];\n  1 [label=\"1\"];\n}\n";
+    output_on_workers(&rt, Mode::Depends { dot: true }, text);
 }
 
 #[test]
