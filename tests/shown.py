@@ -12,6 +12,7 @@ import traces
 from drawing import Draw
 from examples import names as examples
 from harness import EXAMPLES, TOP, Answer, Job, Outcome, Program, difference, first, read, shown, spoken
+from hostile_traces import base
 
 MODES = (["serial"], ["run", "--workers", "3"])
 
@@ -114,7 +115,7 @@ def every_opcode() -> bytes:
     """An entry of each opcode, of which each may have no side bytes."""
     lacks = (traces.RENAMEAT, traces.LINKAT)
     entries = [traces.entry(opcode, side=b"\0\0" if opcode in lacks else b"") for opcode in range(256)]
-    return traces.base([traces.enter(0, entries)])
+    return base([traces.enter(0, entries)])
 
 
 def names(program: Program) -> List[Outcome]:
