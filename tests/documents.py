@@ -127,10 +127,22 @@ def names(name: str, words: set) -> Outcome:
     return Outcome("{}: the files and names that it gives".format(name), first(sorted(set(faults))))
 
 
+def diffs(name: str) -> Outcome:
+    """Whether each line that a diff of a document adds stands in its file."""
+    faults, lines = [], set()
+    for line in (it for kind, block in FENCED.findall(text_of(name)) if kind == "diff" for it in block.splitlines()):
+        if line.startswith("+++ "):
+            with open(os.path.join(TOP, line[4:]), encoding="utf-8") as file:
+                lines = set(file.read().splitlines())
+        elif line.startswith("+") and line[1:] not in lines:
+            faults.append("no line {!r}".format(line[1:]))
+    return Outcome("{}: its diffs".format(name), first(faults))
+
+
 def written() -> List[Outcome]:
     words = words_of_sources()
     outcomes = [of_lines(it) for it in MOST_LINES] + [is_short(it) for it in PLAIN if os.path.exists(os.path.join(TOP, it))]
-    return outcomes + [outcome for it in documents() for outcome in (links(it), names(it, words))]
+    return outcomes + [outcome for it in documents() for outcome in (links(it), names(it, words), diffs(it))]
 
 
 # --- Transcripts --------------------------------------------------------------------------------------------------
