@@ -343,7 +343,7 @@ class Told(NamedTuple):
 
 
 def held_back(world: World, shown: Sequence[Place]) -> Dict[int, Held]:
-    """Those of the places looked at that are held back, and by whom."""
+    """Those of the places looked at that are blocked, and by whom."""
     reached, held = Reached(), {}
     for place in shown:
         own = [] if place.chain.is_doomed else row(world, place)
