@@ -56,8 +56,9 @@ static const char help[] =
 	"  -h, --help              this text\n"
 	"      --version           the version\n"
 	"\n"
-	"The exit status is 0 where the trace was played, 1 where it is refused, 2 for wrong\n"
-	"words, 77 where the system does not give what a play needs, and 3 for any other fault.\n";
+	"The exit status is 0 where the trace was played, 1 where it is refused, 2 for an\n"
+	"invalid command line, 77 where the system does not give what a play needs, and 3 for\n"
+	"any other fault.\n";
 
 enum word { PREPARE = 256, PREPARED, LACKING, NO_NODES, NO_LIMIT, RAW, VERSION };
 
