@@ -17,10 +17,10 @@ if __name__ == "__main__":
     sys.dont_write_bytecode = True
 
 import drawing
+import hostile_traces
 import play_contained
 import play_rows
 from harness import BUILT, EXAMPLES, TOP, Answer, Job, Outcome, Program, first, guarded, shown, skipped
-from hostile_traces import limits
 from play_drawing import UNCOUNTED, Played
 from player import MODES, UNTRIED, Player, against
 from traces import AT_FDCWD, FALLOCATE, FIXED_FILE, FSYNC, FTRUNCATE, HARDLINK, LINK, LINKAT, MKDIRAT, NOP, OPENAT, READ, RENAMEAT, SKIP, UNLINKAT
@@ -60,7 +60,7 @@ def refusal(player: Player, trace: bytes, line: bytes) -> Optional[str]:
 
 def limits(player: Player) -> List[Outcome]:
     """One past each limit of the format."""
-    each = ((name, refusal(player, over, "trace refused: {}\n".format(line).encode())) for name, _, over, line in limits())
+    each = ((name, refusal(player, over, "trace refused: {}\n".format(line).encode())) for name, _, over, line in hostile_traces.limits())
     return [Outcome("play: one past the limit {}".format(name), fault) for name, fault in each]
 
 
