@@ -34,7 +34,7 @@ TABLE, OPENED, MOST_IN_TABLE = 1_024, 10_000, 16.0
 # How many entries wait for one another, and how many times the processor time of as many disjoint ones they may take in rounds
 # of which each looks at so many, which is 2 to 4.5 and 8 to 13 times. Were each looked at in each round, it would be 50 and
 # over 1,000.
-WAITING, MOST_WAITING = 60_000, {64: 12.0, 4096: 30.0}
+WAITING, MOST_WAITING = 60_000, {64: 12.0, 4096: 60.0}
 # How many entries carry little, and how many times the processor time of `serial` they may take `run`, which is 1 to 1.8 times
 # on a busy machine. In rounds it was 3 to 19.
 LITTLE, MOST_LITTLE = 200_000, 2.5
