@@ -25,7 +25,7 @@ use Rattle.depend_log.specs.Running.{AreFeet}
 use Rattle.depend_log.specs.Shared.{IsWithin, waited_by, waits_of}
 use Rattle.depend_log.specs.Waits.{AreWaits, Waited, WaitsOn}
 
--- a use that has an atom of a footprint collides with it, where one of both writes the atom
+-- a use that has an atom of an access set collides with it, where one of both writes the atom
 meets : (u : Use) (g : Footprint) (a : Atom) → member_of u.item a ≡ true → has_atom g a ≡ true → (u.written ≡ true) ⊎ (writes_atom g a ≡ true) → list_any (λ (v : Use). (u.written || v.written) && share u.item v.item) g ≡ true
 meets u g a mine there writes =
     let q : Use → Bool = λ v. (u.written || v.written) && share u.item v.item in
@@ -62,7 +62,7 @@ kept_part (u ∷ f) a h = elim (cases_Bool (is_of_descriptors u.item)) [
   | inr e ↦ kept_part f a (rw e at h)
 ]
 
--- where two footprints clash in a part, they clash in an atom of it
+-- where two access sets clash in a part, they clash in an atom of it
 clash_atom : (f g : Footprint) (a : Atom) → clash_in (part_of a) f g ≡ true → (b : Atom) × (part_of b ≡ part_of a) × Clashes f g b
 clash_atom f g a h = elim (cases_Bool (is_of_descriptors (one a))) [
   | inl d ↦

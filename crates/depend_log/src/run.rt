@@ -86,7 +86,7 @@ impl Dependencies {
         })
     }
 
-    /// For whom the next place waits, by its footprint.
+    /// For whom the next place waits, by its access set.
     fn waits_for(
         &mut self,
         alloc: Global,

@@ -35,7 +35,7 @@ pub(crate) fn add_waits(
     Ok(())
 }
 
-/// What a use of a footprint, by its number, shares with the first use of another one that it
+/// What a use of an access set, by its number, shares with the first use of another one that it
 /// collides with.
 fn shared_by(
     alloc: Global,

@@ -13,7 +13,7 @@ use Rattle.foot_waits.proofs.Parts.{clash_collides, clash_from, collide_atom}
 use Rattle.wave_pick.proofs.Ends.{runs_as_the_model}
 use Rattle.dependencies.specs.Rule.{WaitsAreDependencies, WaitsSuffice, foot_at}
 
--- the footprint in turn is that in the model's run
+-- the access set in turn is that in the model's run
 foot_is : (t : Trace) (k : ℕ) → footprint t k (sequential (replayed t) k) ≡ foot_at t k
 foot_is t k = ap (footprint t k) ((runs_as_the_model t).worlds k)
 

@@ -22,11 +22,11 @@ impl Footprinted for Replays {
     ghost cover = { λ x. covered x.0 x.1 };
 }
 
-/// Two places depend on each other where the footprints collide that they have in the sequential
-/// run. Whatever makes each place wait for all earlier ones that it depends on, by itself or through
-/// others that it waits for: every complete list of starts and finishes in which a place starts only
-/// when all that it waits for have finished gives the world and the replies of the sequential run,
-/// which are the model's.
+/// Two places depend on each other where the access sets collide that they have in the sequential
+/// run. Whatever makes each place wait for all earlier ones that it depends on, by itself or
+/// through others that it waits for: every complete list of starts and finishes in which a place
+/// starts only when all that it waits for have finished gives the world and the replies of the
+/// sequential run, which are the model's.
 pub fn dependencies_are_enough()
     ensures suffice { (t : Trace) → IsSpelled t → DependenciesSuffice (replayed t) }
     ensures model { (t : Trace) → IsSpelled t → DueOrdersEndAsTheModel t }

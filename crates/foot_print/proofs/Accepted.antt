@@ -1,4 +1,4 @@
--- What an accepted answer says of its tests, and where footprints hold others.
+-- What an accepted answer says of its tests, and where access sets hold others.
 use native.Mathlib.Omega.{arith}
 use Rattle.std.specs.Prelude.{◌≡◌, Bool, ◌&&◌, T, ◌++◌, Option, Some, Result, Ok, Err, ok_or, is_ok, refl}
 use mathlib.Core.Path.{sym, subst, ap}

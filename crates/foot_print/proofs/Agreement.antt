@@ -1,4 +1,4 @@
--- What agreement on a footprint gives for its parts, and for the file that a number stands for.
+-- What agreement on an access set gives for its parts, and for the file that a number stands for.
 use native.Mathlib.Omega.{arith}
 use Rattle.std.proofs.lemmas.List.Folds.{list_any-append}
 use Rattle.std.specs.Prelude.{◌≡◌, ℕ, Bool, true, false, cond, ltb, T, List, [], ◌∷◌, ◌++◌, map, length, Option, Some, None, refl}

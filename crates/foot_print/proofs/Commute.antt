@@ -1,4 +1,4 @@
--- Places whose footprints don't collide commute: from the covers alone, whatever the operations are.
+-- Places whose access sets don't collide commute: from the covers alone, whatever the operations are.
 use Rattle.std.specs.Prelude.{◌≡◌, ℕ, true, false, not, T, refl}
 use mathlib.Core.Path.{sym, subst, ◌∙◌}
 use Rattle.trace_format.specs.declared.trace.Trace.{Trace}

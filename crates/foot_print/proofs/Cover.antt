@@ -1,4 +1,4 @@
--- Every operation pays what it owes, so every footprint covers its place.
+-- Every operation pays what it owes, so every access set covers its place.
 use Rattle.std.specs.Prelude.{ℕ}
 use Rattle.trace_format.specs.declared.trace.Trace.{Trace}
 use Rattle.entry_checks.specs.Operation.{Operation, nop, readv, writev, fsync, read_fixed, write_fixed, fallocate, openat, close, read, write, renameat, unlinkat, mkdirat, linkat, ftruncate}
@@ -32,6 +32,6 @@ pays t k r (mkdirat path) s w = mkdirat_owes t k r s path w
 pays t k r (linkat old new) s w = linkat_owes t k r s old new w
 pays t k r (ftruncate f n) s w = ftruncate_owes t k r s f n w
 
--- Every footprint covers its place.
+-- Every access set covers its place.
 pub all_covered : FootprintsCover
 all_covered = footprints_cover (λ o. owed_covers o (λ t k r s w. pays t k r o s w))

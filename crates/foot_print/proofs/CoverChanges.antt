@@ -1,4 +1,4 @@
--- From changes to worlds: changes that a footprint supports keep agreement on it, and change nothing else than it writes.
+-- From changes to worlds: changes that an access set supports keep agreement on it, and change nothing else than it writes.
 use Rattle.std.specs.Prelude.{◌≡◌, ℕ, Bool, cond, not, ◌&&◌, ◌==◌, max, ◌+◌, ◌<◌, ◌≤◌, leb, ◌⊎◌, T, List, [], ◌∷◌, length, Option, Some, None, refl, IfSome, slice_index_or, ◌-◌}
 use Rattle.std.specs.Option.{option_map, is_some}
 use Rattle.std.specs.Cmp.{unsigned_tied}
@@ -32,7 +32,7 @@ abbrev pub contents : ℕ → Kind → Atom
 contents i a_file = size_of i
 contents i a_directory = names_in i
 
--- A footprint supports a change in a world: it writes what the change changes, and has what decides that.
+-- An access set supports a change in a world: it writes what the change changes, and has what decides that.
 abbrev pub Supports : Footprint → World → Change → Type 0
 Supports f s (set_position d p) = T (writes_atom f (position_of d))
 Supports f s (break_chain c b) = T (writes_atom f (chain_flag c))
@@ -62,7 +62,7 @@ sized x h = grind arith
 agree_by : (f : Footprint) (s u : World) (c : Change) (g : (a : Atom) → Value a → Value a) → ((a : Atom) → value (apply c s) a ≡ g a (value s a)) → ((a : Atom) → value (apply c u) a ≡ g a (value u a)) → Agree f s u → Agree f (apply c s) (apply c u)
 agree_by f s u c g in_s in_u h = record { same = λ a m. in_s a ∙ ap (g a) (h.same a m) ∙ sym (in_u a) }
 
--- Worlds that agree on the footprint agree on it after a change that it supports in both.
+-- Worlds that agree on the access set agree on it after a change that it supports in both.
 pub agree_after_change : (f : Footprint) (s u : World) (c : Change) → Supports f s c → Supports f u c → Agree f s u → Agree f (apply c s) (apply c u)
 agree_after_change f s u (set_position d p) h k g = agree_by f s u (set_position d p) (positioned d p) (set_position-value s d p) (set_position-value u d p) g
 agree_after_change f s u (break_chain c b) h k g = agree_by f s u (break_chain c b) (flagged c b) (break_chain-value s c b) (break_chain-value u c b) g
@@ -83,7 +83,7 @@ agree_after_change f s u (write_buffer r b at new) h k g = agree_by f s u (write
 unless : {A : Type 0} (b : Bool) (x y : A) → (T b → x ≡ y) → cond b x y ≡ y
 unless b x y h = grind arith
 
--- An atom with a number that the footprint writes.
+-- An atom with a number that the access set writes.
 module _ (f : Footprint) where
   clash : (at : ℕ → Atom) (e d : ℕ) → T (e == d) → T (writes_atom f (at d)) → T (not (writes_atom f (at e))) → ⊥
   clash at e d q w n = not_both _ n (subst (λ k. T (writes_atom f (at k))) (sym (eqb→eq e d q)) w)
@@ -127,7 +127,7 @@ same_size x n h = grind arith
 zero_or_written : (f : Footprint) (x : Option (List ℕ)) (i n p : ℕ) → IfSome (option_map length x) (λ m. (q : ℕ) → n ≤ q → q < m → T (writes_atom f (byte_at i q))) → n ≤ p → T (not (writes_atom f (byte_at i p))) → 0 ≡ byte_of x p
 zero_or_written f x i n p h l k = grind (arith, past_end)
 
--- The change changes no other atom than those that the footprint writes.
+-- The change changes no other atom than those that the access set writes.
 pub kept_by_change : (f : Footprint) (s : World) (c : Change) → Supports f s c → (a : Atom) → T (not (writes_atom f a)) → value (apply c s) a ≡ value s a
 kept_by_change f s (set_position d p) h a n = set_position-value s d p a ∙ positioned_kept f d p a (value s a) h n
 kept_by_change f s (break_chain c b) h a n = break_chain-value s c b a ∙ flagged_kept f c b a (value s a) h n
@@ -175,7 +175,7 @@ kept_by_change f s (write_buffer r b at new) h a n = write_buffer-value s r b at
     kept (buffer_byte q c p) n = unless (q == r && c == b) _ _ (λ e. untouched p _ (λ l. clash f (λ k. buffer_byte k c p) q r (left (q == r) _ e) (subst (λ x. T (writes_atom f (buffer_byte r x p))) (sym (eqb→eq c b (right (q == r) _ e))) (h p l)) n))
     kept _ n = refl
 
--- A footprint supports what one supports that it holds.
+-- An access set supports what one supports that it holds.
 either_held : {A B C : Type 0} → (A → B) → A ⊎ C → B ⊎ C
 either_held g (inl a) = inl (g a)
 either_held g (inr c) = inr c

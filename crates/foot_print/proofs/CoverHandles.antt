@@ -33,7 +33,7 @@ fsync_owes t k r s f w = record {
   supports = λ u v a e q. let m = ok_require (is_some (held t u r f)) EBADF (Ok (done [])) e q in supports_effect (file_reads t r f) u (done []) e m.0 tt;
 }
 
--- What a footprint writes of some items, worlds that agree on it agree on.
+-- What an access set writes of some items, worlds that agree on it agree on.
 read_too : (xs : List Item) (a : Atom) → T (has_atom (map reads xs) a) → T (has_atom (map writes xs) a)
 read_too [] a h = h
 read_too (x ∷ xs) a h = grind (arith, read_too xs a)

@@ -1,4 +1,4 @@
--- The footprints of places that make, link, rename and remove names cover them.
+-- The access sets of places that make, link, rename and remove names cover them.
 use native.Mathlib.Omega.{arith}
 use Rattle.std.specs.Prelude.{◌≡◌, ℕ, Bool, true, false, cond, not, ◌&&◌, ◌==◌, [], ◌∷◌, ◌++◌, Option, Some, None, Result, Ok, Err, ok_or, is_some, is_none, refl}
 use Rattle.std.specs.List.{list_any}

@@ -1,4 +1,4 @@
--- The footprint of a place that opens a file covers it.
+-- The access set of a place that opens a file covers it.
 use Rattle.std.specs.Prelude.{◌≡◌, ℕ, Bool, true, false, cond, not, ◌&&◌, ◌||◌, ◌==◌, ltb, leb, ◌<◌, ◌≤◌, T, List, [], ◌∷◌, ◌++◌, map, length, Option, Some, None, Ok, ok_or, is_none, is_ok, refl, IfSome}
 use Rattle.std.specs.List.{find, range_with_len}
 use Rattle.std.specs.Option.{option_map}

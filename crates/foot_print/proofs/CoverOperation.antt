@@ -1,4 +1,4 @@
--- From the row of an operation to the place that runs it: where the row tells the operation's meaning and supports its changes, the footprint covers the place.
+-- From the row of an operation to the place that runs it: where the row tells the operation's meaning and supports its changes, the access set covers the place.
 use Rattle.std.specs.Prelude.{◌≡◌, ℕ, Bool, true, cond, ◌&&◌, leb, ltb, ◌+◌, ◌<◌, T, List, [], ◌∷◌, ◌++◌, Some, Result, Ok, Err, refl, is_ok, not}
 use Rattle.std.specs.List.{list_any}
 use mathlib.Core.Path.{sym, subst, ap, ◌∙◌}
@@ -24,7 +24,7 @@ use Rattle.foot_print.proofs.Awaiting.{awaits_unused}
 use Rattle.foot_print.proofs.CoverPlace.{Decided, footprint_same, step_reply_same, step_changes_same}
 use Rattle.foot_print.proofs.CoverChanges.{SupportsAll, supports_all_held, agree_after_changes, kept_by_changes}
 
--- A place whose operation is decided by its row, and whose footprint supports its changes, is covered by it.
+-- A place whose operation is decided by its row, and whose access set supports its changes, is covered by it.
 pub covers : (t : Trace) (k : ℕ) (s : World)
     → ((u : World) (r : ℕ) (e : Entry) (o : Operation) → turn t k s ≡ Some (runs r e o) → Agree (row_in t k r s o) s u → Decided t k r s u o)
     → ((u : World) → Unused t k u → Agree (footprint t k s) s u → SupportsAll (footprint t k s) u (step_changes t k s))
@@ -102,7 +102,7 @@ module _ (t : Trace) (k r : ℕ) (s : World) (o : Operation) where
           supports_all_held F (row t k r s (tried true) o) u y.changes (subst (Holds F) row_is holds)
           (subst (λ f. SupportsAll f u y.changes) (x.same_row true) (supports (subst (λ f. Agree f s u) row_is a) y (x.same_meaning ∙ q)))
 
--- The footprint of a place covers it where the row of the operation that it runs tells the meaning and supports the changes.
+-- The access set of a place covers it where the row of the operation that it runs tells the meaning and supports the changes.
 pub operation_covers : (t : Trace) (k : ℕ) (s : World) (r : ℕ) (e : Entry) (o : Operation) → turn t k s ≡ Some (runs r e o)
     → ((u : World) → RowTells t k r s u o) → ((u : World) → Unused t k u → Agree (row t k r s (tried true) o) s u → RowSupports t k r u o)
     → Awaits t k s → Covers t k (footprint t k s) s
@@ -129,7 +129,7 @@ operation_covers t k s r e o h tells supports w = covers t k s decides supports_
         (supports_append F (changes_of (meaning t k r s o)) _ u (supported t k r s o u F (tells u) (supports u v) (record { same = λ b m. a.same b (holds.has b m) }) holds)
         (λ z. breaks_supported (role t k) (ring_at t k) e (each (turn_uses t k s) (turn t k s)) _ z))
 
--- A footprint has all uses of another.
+-- An access set has all uses of another.
 pub record Contains (f g : Footprint) : Type 0 where
   pub uses : (p : Use → Bool) → T (list_any p g) → T (list_any p f)
 

@@ -1,4 +1,4 @@
--- From operations to places: where each operation is decided by its row, each place is decided by its footprint.
+-- From operations to places: where each operation is decided by its row, each place is decided by its access set.
 use Rattle.std.specs.Prelude.{◌≡◌, ℕ, true, false, cond, leb, [], ◌∷◌, ◌++◌, Option, Some, None, refl, if◌then◌else◌}
 use Rattle.std.specs.Option.{option_map}
 use mathlib.Core.Path.{sym, ap, ◌∙◌}

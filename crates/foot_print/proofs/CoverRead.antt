@@ -1,4 +1,4 @@
--- A read's footprint decides what it answers and changes.
+-- A read's access set decides what it answers and changes.
 use Rattle.std.proofs.lemmas.Grind.{same_number_lists}
 use Rattle.std.proofs.lemmas.List.{get_or-drop, get_or-take, length-drop, length-take}
 use Rattle.std.specs.Prelude.{◌-◌, ◌≡◌, ℕ, Bool, true, false, cond, not, ◌==◌, min, ◌+◌, ◌<◌, ◌≤◌, List, [], ◌∷◌, ◌++◌, length, take, drop, Option, Some, Result, Ok, ok_or, refl, slice_index_or, unwrap_or}

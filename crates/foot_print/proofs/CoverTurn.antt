@@ -1,4 +1,4 @@
--- What each operation owes, and how the footprints of places are covered then.
+-- What each operation owes, and how the access sets of places are covered then.
 use Rattle.std.specs.Prelude.{◌≡◌, ℕ, Bool, true, false, ◌&&◌, ◌==◌, ◌+◌, T, length, Option, Some, refl}
 use Rattle.std.specs.List.{list_any}
 use mathlib.Core.Path.{sym, subst, ◌∙◌}
@@ -37,7 +37,7 @@ idle_covers t k s x h n w = covers t k s (λ u r e o g a. absurd (subst (λ y. T
     supports u (Some (runs r e o)) g m = absurd m
     supports u _ g m = tt
 
--- Where each operation is covered, all footprints cover their places.
+-- Where each operation is covered, all access sets cover their places.
 pub footprints_cover : ((o : Operation) → OperationCovers o) → FootprintsCover
 footprints_cover operations t k s w = by (turn t k s) refl
   where

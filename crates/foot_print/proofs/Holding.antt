@@ -1,4 +1,4 @@
--- When one footprint holds another, for the atoms that pass a test.
+-- When one access set holds another, for the atoms that pass a test.
 use native.Mathlib.Omega.{arith}
 use Rattle.std.proofs.lemmas.List.Folds.{list_all-append, list_any-append}
 use Rattle.std.specs.Prelude.{ℕ, Bool, true, false, cond, ◌&&◌, ◌||◌, T, List, [], ◌∷◌, ◌++◌, Option, Result}
@@ -15,7 +15,7 @@ use Rattle.op_meaning.specs.Footprint.{as_reads, use_of, on_file}
 use Rattle.world_parts.proofs.Collision.{both, left, right}
 use Rattle.foot_print.proofs.Agreement.{in_left, in_right}
 
--- A footprint holds another, for atoms that pass a test.
+-- An access set holds another, for atoms that pass a test.
 pub record Over (p : Atom → Bool) (r f : Footprint) : Type 0 where
   pub has : (a : Atom) → T (p a) → T (has_atom f a) → T (has_atom r a)
   pub writes : (a : Atom) → T (p a) → T (writes_atom f a) → T (writes_atom r a)

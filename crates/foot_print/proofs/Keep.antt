@@ -1,4 +1,4 @@
--- Every step leaves a world, and the numbers of other places unused; so places whose footprints don't collide commute.
+-- Every step leaves a world, and the numbers of other places unused; so places whose access sets don't collide commute.
 use native.Mathlib.Omega.{arith}
 use Rattle.std.specs.Prelude.{◌≡◌, ℕ, min, Option, Some, None, Ok, refl, [], ◌∷◌}
 use mathlib.Core.Path.{sym, subst}
@@ -53,6 +53,6 @@ steps_keep_worlds t k s w = by (turn t k s) refl
     by (Some (canceled p)) h = still (Some (canceled p)) h (contents_leave t k s [] tt w.is_world)
     by (Some (runs r e o)) h = operation_steps t k s r e o h w.is_world (keeps t k r o s w)
 
--- Places whose footprints don't collide commute.
+-- Places whose access sets don't collide commute.
 pub all_commute : StepsCommute
 all_commute = steps_commute all_covered steps_keep_worlds

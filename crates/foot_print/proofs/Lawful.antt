@@ -1,4 +1,4 @@
--- The replay of a trace keeps the laws of footprints and reaches.
+-- The replay of a trace keeps the laws of access sets and may-access sets.
 use Rattle.std.specs.Prelude.{◌≡◌, ◌≢◌, ℕ, Bool, true, false, not, T, List, [], ◌++◌, Option, Some, refl}
 use mathlib.Core.Path.{sym, subst, ap}
 use native.Mathlib.Omega.{arith}

@@ -1,4 +1,4 @@
--- Footprints of places name single items and ranges.
+-- Access sets of places name single items and ranges.
 use native.Mathlib.Omega.{arith}
 use Rattle.std.specs.Prelude.{ℕ, Bool, true, false, cond, not, ◌||◌, ◌==◌, leb, ◌+◌, T, List, [], ◌∷◌, ◌++◌, map, Option, Some, None, is_ok}
 use Rattle.chain_plan.specs.declared.role.Role.{Role}

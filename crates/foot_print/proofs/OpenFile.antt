@@ -111,7 +111,7 @@ length_by_size x = grind arith
 pub length_same : (s u : World) (i : ℕ) → value s (size_of i) ≡ value u (size_of i) → length (bytes_in u i) ≡ length (bytes_in s i)
 length_same s u i z = length_by_size (bytes u i) ∙ ap (λ o. unwrap_or o 0) (sym z) ∙ sym (length_by_size (bytes s i))
 
--- Files fit too where what a footprint has agrees with a world.
+-- Files fit too where what an access set has agrees with a world.
 pub sizes_fit : (f : Footprint) (s u : World) → IsWorld s → Agree f s u → (i : ℕ) → T (has_atom f (size_of i)) → IfSome (size u i) (λ n. n ≤ file_limit)
 sizes_fit f s u w a i m = subst (λ x. IfSome x (λ n. n ≤ file_limit)) (a.same (size_of i) m) (w.files_fit i)
 

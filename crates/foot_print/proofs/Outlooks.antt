@@ -63,7 +63,7 @@ module _ (w : Item → Bool) where
   some_from : (m n : ℕ) (f : Footprint) → position_from (λ u. w u.item) m f ≡ Some n → meets_written w f ≡ true
   some_from m n f e = grind (arith, first_from, in_right, either_left)
 
--- what a place that may run an operation awaits, and its reach
+-- what a place that may run an operation awaits, and its may-access set
 module _ (order : Footprint) (t : Trace) (k r : ℕ) (s : World) (w : Item → Bool) (p : Operation) (x : Shape) (shaped : x ≡ shape p) (d : Footprint) (looked : d ≡ shape_seen t r s x) where
   told_by : d ≡ seen t r s p
   told_by = looked ∙ ap (shape_seen t r s) shaped

@@ -1,4 +1,4 @@
--- Reaches are by rows, and so are footprints.
+-- May-access sets are by rows, and so are access sets.
 use native.Mathlib.Omega.{arith}
 use Rattle.std.specs.Prelude.{◌≡◌, ℕ, cond, ◌++◌, Option, Some}
 use Rattle.std.specs.Option.{option_map}

@@ -1,4 +1,4 @@
--- The row of a place as running is decided by its own items: it is the footprint in the world in which no chain is broken.
+-- The row of a place as running is decided by its own items: it is the access set in the world in which no chain is broken.
 use Rattle.std.specs.Prelude.{◌≡◌, ℕ, T, ◌++◌, Option, Some, refl}
 use mathlib.Core.Path.{sym, subst, ap, ◌∙◌}
 use Rattle.trace_format.specs.declared.trace.Trace.{Trace}

@@ -81,7 +81,7 @@ module _ (t : Trace) (r : ℕ) (s u : World) where
   room_uses_same None h = ap (λ x. reads all_descriptors ∷ each (λ n. writes (one (descriptor_at n)) ∷ []) x) (lowest_same h)
   room_uses_same (Some n) h = refl
 
-  -- The room is told by what an earlier reach doesn't write, and by the row.
+  -- The room is told by what an earlier may-access set doesn't write, and by the row.
   room_at_same : (earlier : List Footprint) (asked : Option ℕ) → (written_by earlier all_descriptors ≡ false → (n : ℕ) → descriptor s n ≡ descriptor u n) → room_at t u r (written_by earlier) asked ≡ room_at t s r (written_by earlier) asked
   room_at_same earlier (Some n) h = refl
   room_at_same earlier None h = let same = λ (e : written_by earlier all_descriptors ≡ false). room_uses_same None (h e) in grind (arith, same)

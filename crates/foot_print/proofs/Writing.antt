@@ -1,4 +1,4 @@
--- Which atoms earlier reaches write, and that fewer or narrower reaches write less.
+-- Which atoms earlier may-access sets write, and that fewer or narrower may-access sets write less.
 use native.Mathlib.Omega.{arith}
 use Rattle.std.specs.Prelude.{◌≡◌, Bool, true, false, ◌&&◌, ◌||◌, T, List, [], ◌∷◌, refl}
 use Rattle.std.specs.List.{list_any}
@@ -45,7 +45,7 @@ module _ (t : Trace) where
   written_of_atom : (earlier : List Footprint) (x : Item) (a : Atom) → T (member_of x a) → T (list_any (λ f. writes_atom f a) earlier) → T (written_by earlier x)
   written_of_atom earlier x a h w = any_passes (λ f. writes_atom f a) (writes_some x) (λ f k. writes_of_atom x f a h k) earlier w
 
-  -- Where no earlier reach writes an item, none writes an atom of it.
+  -- Where no earlier may-access set writes an item, none writes an atom of it.
   pub unwritten : (earlier : List Footprint) (x : Item) (a : Atom) → written_by earlier x ≡ false → T (member_of x a) → NoneWrites (replayed t) earlier a
   unwritten earlier x a e h = none_writes earlier a (λ w. not_false _ e (written_of_atom earlier x a h w))
 
@@ -69,7 +69,7 @@ module _ (t : Trace) where
   pub met_thin : (f : Footprint) (thin earlier : List Footprint) → Thinner (replayed t) thin earlier → T (is_met f thin) → T (is_met f earlier)
   met_thin f thin earlier n h = any_passes (λ (u : Use). written_by thin u.item) (λ (u : Use). written_by earlier u.item) (λ (u : Use) k. written_thin u.item thin earlier n k) f h
 
-  -- Footprints collide exactly by an atom of both that one of them writes.
+  -- Access sets collide exactly by an atom of both that one of them writes.
   pub writes_touches : (f : Footprint) (a : Atom) → writes_atom f a ≡ true → has_atom f a ≡ true
   writes_touches f a e = true_of _ (writes-has f a (holds_true _ e))
 

@@ -1,4 +1,4 @@
--- A law: footprints cover their places, and steps keep worlds and commute.
+-- A law: access sets cover their places, and steps keep worlds and commute.
 use Rattle.std.specs.Prelude.{◌≡◌, ℕ, List, not, T, None, IfSome}
 use Rattle.trace_format.specs.declared.trace.Trace.{Trace}
 use Rattle.finite_maps.specs.Table.{get}
@@ -21,7 +21,7 @@ pub record Unused (t : Trace) (k : ℕ) (u : World) : Type 0 where
   pub unnamed : (d : ℕ) (n : List ℕ) → IfSome (name u d n) (λ x. ¬ (x.node ≡ made_node t k))
   pub unopened : (d : ℕ) → IfSome (opened u d) (λ o. ¬ (o.target.node ≡ made_node t k))
 
--- A footprint covers a place in a world: in any world or part of one that agrees on it the place has the same footprint and reply,
+-- An access set covers a place in a world: in any world or part of one that agrees on it the place has the same access set and reply,
 -- the worlds that the step leaves agree on it, and no other atom changes than those that it writes.
 pub record CoversAt (t : Trace) (k : ℕ) (f : Footprint) (s u : World) : Type 0 where
   pub same_footprint : footprint t k u ≡ footprint t k s
@@ -32,7 +32,7 @@ pub record CoversAt (t : Trace) (k : ℕ) (f : Footprint) (s u : World) : Type 0
 abbrev pub Covers : Trace → ℕ → Footprint → World → Type 0
 Covers t k f s = (u : World) → Unused t k u → Agree f s u → CoversAt t k f s u
 
--- Every footprint covers its place.
+-- Every access set covers its place.
 abbrev pub FootprintsCover : Type 0
 FootprintsCover = (t : Trace) (k : ℕ) (s : World) → Awaits t k s → Covers t k (footprint t k s) s
 
@@ -40,7 +40,7 @@ FootprintsCover = (t : Trace) (k : ℕ) (s : World) → Awaits t k s → Covers 
 abbrev pub StepsKeepWorlds : Type 0
 StepsKeepWorlds = (t : Trace) (k : ℕ) (s : World) → Awaits t k s → IsWorld (step_world t k s) × ((j : ℕ) → ¬ (j ≡ k) → Awaits t j s → Awaits t j (step_world t k s))
 
--- Commuting: two places whose footprints don't collide step in either order, with one world and the same replies.
+-- Commuting: two places whose access sets don't collide step in either order, with one world and the same replies.
 abbrev pub StepsCommute : Type 0
 StepsCommute = (t : Trace) (j k : ℕ) (s : World) → Awaits t j s → Awaits t k s → ¬ (j ≡ k) → T (not (collide (footprint t j s) (footprint t k s)))
     → (step_world t k (step_world t j s) ≡ step_world t j (step_world t k s))

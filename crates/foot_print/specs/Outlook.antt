@@ -1,4 +1,4 @@
--- A view of code: the reach of a place behind others, and the items by which it waits for them.
+-- A view of code: the may-access set of a place behind others, and the items by which it waits for them.
 use Rattle.std.specs.Prelude.{◌≡◌, ◌⊎◌, ℕ, Bool, true, false, ◌∷◌, ◌++◌, [], Option, Some, None, IfSome, is_some}
 use Rattle.trace_format.specs.declared.trace.Trace.{Trace}
 use Rattle.chain_plan.specs.declared.role.Role.{Role}
@@ -37,13 +37,13 @@ pub record WaitsBy (t : Trace) (k : ℕ) (s : World) (w : Item → Bool) (f : Fo
   pub runs : may_run t k s w ≡ true
   pub by : IsFirstWritten w (look_of t k s (task t k)).deciding f ⊎ ((meets_written w (look_of t k s (task t k)).deciding ≡ false) × (f ≡ running_row t k s))
 
--- The items by which a place with a reach waits, where they are told.
+-- The items by which a place with a may-access set waits, where they are told.
 abbrev pub items_awaited : Awaited → Footprint → Option Footprint
 items_awaited Reach f = Some f
 items_awaited (Items g) f = Some g
 items_awaited Untold f = None
 
--- The reach of a place, and the items by which it waits, which are told where it may run.
+-- The may-access set of a place, and the items by which it waits, which are told where it may run.
 pub record IsOutlook (t : Trace) (k : ℕ) (s : World) (w : Item → Bool) (o : Outlook) : Type 0 where
   pub reach : o.reach ≡ reach_given t k s w
   pub by : IfSome (items_awaited o.waits_by o.reach) (λ f. WaitsBy t k s w f)

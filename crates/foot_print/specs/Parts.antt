@@ -1,4 +1,4 @@
--- A law: what a place does with the part of a world that its footprint cuts out, and what the parts of a round leave.
+-- A law: what a place does with the part of a world that its access set cuts out, and what the parts of a round leave.
 use Rattle.std.specs.Prelude.{◌≡◌, ℕ, Bool, not, ◌&&◌, ◌==◌, T, List, [], ◌∷◌, map}
 use Rattle.std.specs.List.{list_all}
 use Rattle.interleaving.specs.Gather.{in_order, replies_in_order}
@@ -29,7 +29,7 @@ PlacesRunOnParts = (t : Trace) (k : ℕ) (s part : World) → Awaits t k s → I
 abbrev pub HolesKeepWorlds : Type 0
 HolesKeepWorlds = (f : Footprint) (s : World) → IsWorld s → IsWorld (holed f s)
 
--- Footprints of places name single items and ranges: a part can be cut by each.
+-- Access sets of places name single items and ranges: a part can be cut by each.
 abbrev pub FootprintsAreNarrow : Type 0
 FootprintsAreNarrow = (t : Trace) (k : ℕ) (s : World) → T (is_narrow (footprint t k s))
 
@@ -37,14 +37,14 @@ FootprintsAreNarrow = (t : Trace) (k : ℕ) (s : World) → T (is_narrow (footpr
 abbrev pub PartsAreOfTheWhole : Type 0
 PartsAreOfTheWhole = (s part : World) (f : Footprint) (out : List Footprint) → T (list_all (λ g. not (collide g f)) out) → IsPartOf (holed_by out s) f part → IsPartOf s f part
 
--- A part that was cut from a world, and one that still awaits the part's place and agrees on its footprint.
+-- A part that was cut from a world, and one that still awaits the part's place and agrees on its access set.
 pub record IsReady (t : Trace) (s u : World) (p : Part) : Type 0 where
   pub awaited : Awaits t p.place s
   pub awaits : Awaits t p.place u
   pub agrees : Agree (footprint t p.place s) s u
   pub part : IsPartOf s (footprint t p.place s) p.values
 
--- Parts of different places, whose footprints don't collide.
+-- Parts of different places, whose access sets don't collide.
 abbrev pub are_apart : Trace → World → Part → Part → Bool
 are_apart t s p q = not (q.place == p.place) && not (collide (footprint t p.place s) (footprint t q.place s))
 
@@ -52,7 +52,7 @@ abbrev pub AreReady : Trace → World → World → List Part → Type 0
 AreReady t s u [] = Unit {0}
 AreReady t s u (p ∷ ps) = IsReady t s u p × T (list_all (are_apart t s p) ps) × AreReady t s u ps
 
--- The footprints and the places of parts.
+-- The access sets and the places of parts.
 abbrev pub footprints : Trace → World → List Part → List Footprint
 footprints t s ps = map (λ (p : Part). footprint t p.place s) ps
 

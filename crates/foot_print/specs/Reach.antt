@@ -12,7 +12,7 @@ use Rattle.world_parts.specs.Items.{Item, file_bytes, chain_flag, size_of, names
 pub use Rattle.item_index.specs.Touching.{written_by}
 use Rattle.op_meaning.specs.Footprint.{Shape, idle, looking, moving, allocating, resizing, closing, opening, making, freeing, linking, renaming, shape, foreseen, row, through, file_reads, on_file, path_reads, room_uses, description_made, close_row, order_uses, turn_uses, ring_at}
 
--- Whether one of some footprints writes an atom of an item of a footprint.
+-- Whether one of some access sets writes an atom of an item of an access set.
 abbrev pub is_met : Footprint → List Footprint → Bool
 is_met f earlier = list_any (λ u. written_by earlier u.item) f
 
@@ -66,7 +66,7 @@ abbrev pub room_at : Trace → World → ℕ → (Item → Bool) → Option ℕ 
 room_at t s r w None = if w all_descriptors then writes all_descriptors ∷ [] else room_uses t s r None
 room_at t s r w (Some n) = room_uses t s r (Some n)
 
--- The room of an operation, given what the earlier reaches write.
+-- The room of an operation, given what the earlier may-access sets write.
 abbrev pub room_taken : Trace → World → ℕ → List Footprint → Operation → Footprint
 room_taken t s r earlier o = each (room_at t s r (written_by earlier)) (room_asked o)
 
@@ -142,7 +142,7 @@ wide_row t k s earlier = order_of t k ++ (unresolved_of t k s (task t k) ++ extr
 abbrev pub is_taken_to_run : Trace → ℕ → World → List Footprint → Bool
 is_taken_to_run t k s earlier = if written_by earlier (one (chain_flag (role t k).chain)) then true else (if is_canceled (turn t k s) then false else true)
 
--- The reach of a place in a world, given the reaches of the earlier places that haven't finished.
+-- The may-access set of a place in a world, given the may-access sets of the earlier places that haven't finished.
 abbrev pub reach : Trace → ℕ → World → List Footprint → Footprint
 reach t k s earlier =
     if is_taken_to_run t k s earlier then
@@ -151,7 +151,7 @@ reach t k s earlier =
     else running_row t k s)
     else order_of t k
 
--- The reaches of places in order, each given those before it; behind those of earlier places.
+-- The may-access sets of places in order, each given those before it; behind those of earlier places.
 abbrev pub reaches : Trace → World → List Footprint → List ℕ → List Footprint
 reaches t s earlier [] = earlier
 reaches t s earlier (k ∷ ks) = reaches t s (earlier ++ reach t k s earlier ∷ []) ks

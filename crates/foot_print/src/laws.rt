@@ -1,5 +1,5 @@
-//! Laws of footprints and reaches: that footprints suffice, that steps keep worlds, that places
-//! commute and run on parts, and that reaches hold what is to come.
+//! Laws of access sets and may-access sets: that access sets suffice, that steps keep worlds, that
+//! places commute and run on parts, and that may-access sets hold what is to come.
 //!
 //! They are functions without effect: a call brings the law into a proof.
 ghost use Rattle.foot_print.specs.Laws.{FootprintsCover, StepsCommute, StepsKeepWorlds};
@@ -11,8 +11,8 @@ ghost use Rattle.interleaving.specs.Laws.{Laws};
 ghost use Rattle.trace_format.specs.Text.{IsSpelled};
 ghost use Rattle.trace_format.specs.declared.trace.Trace.{Trace};
 
-/// In every world, and part of one, that agrees on a place's footprint the place has the same
-/// footprint and the same reply, gives what it writes the same values, and changes nothing else.
+/// In every world, and part of one, that agrees on a place's access set the place has the same
+/// access set and the same reply, gives what it writes the same values, and changes nothing else.
 pub fn footprints_cover()
     ensures { FootprintsCover }
 {}
@@ -23,7 +23,7 @@ pub fn steps_keep_worlds()
     ensures { StepsKeepWorlds }
 {}
 
-/// Two places whose footprints do not collide give the same world and the same replies in either
+/// Two places whose access sets do not collide give the same world and the same replies in either
 /// order.
 #[tactic(auto, using(crate::proofs::Keep::all_commute))]
 pub fn steps_commute()
@@ -36,7 +36,7 @@ pub fn cut_then_put()
     ensures { CutThenPut }
 {}
 
-/// A place that runs on the part that its footprint cuts out gives the same reply as on the world,
+/// A place that runs on the part that its access set cuts out gives the same reply as on the world,
 /// and putting the part back leaves the world that the place's step leaves, and no other.
 pub fn places_run_on_parts()
     ensures { PlacesRunOnParts }
@@ -47,7 +47,7 @@ pub fn holes_keep_worlds()
     ensures { HolesKeepWorlds }
 {}
 
-/// The footprint of a place names single items and ranges, so that a part can be cut by it.
+/// The access set of a place names single items and ranges, so that a part can be cut by it.
 #[tactic(auto, using(crate::proofs::Narrow::all_narrow))]
 pub fn footprints_are_narrow()
     ensures { FootprintsAreNarrow }
@@ -67,17 +67,17 @@ pub fn put_is_step()
     ensures { PutIsStep }
 {}
 
-/// The parts of places whose footprints do not collide, all cut out of one world, run, and put back
-/// one after another, leave the world and the replies of the places' steps in order.
+/// The parts of places whose access sets do not collide, all cut out of one world, run, and put
+/// back one after another, leave the world and the replies of the places' steps in order.
 #[tactic(auto, using(crate::proofs::Putting::round_is_steps))]
 pub fn round_is_steps()
     ensures { RoundIsSteps }
 {}
 
-/// The replay of a trace that some bytes spell keeps the laws of footprints and of reaches: the
-/// reach of a place holds its footprint, and its reach, in every world that differs only where
-/// earlier unfinished places may write; it is told by what it holds; and it shrinks as those places
-/// finish.
+/// The replay of a trace that some bytes spell keeps the laws of access sets and of may-access
+/// sets: the may-access set of a place holds its access set, and its may-access set, in every world
+/// that differs only where earlier unfinished places may write; it is told by what it holds; and it
+/// shrinks as those places finish.
 pub fn reaches_hold()
     ensures { (t : Trace) → IsSpelled t → Laws (replayed t) }
 {}

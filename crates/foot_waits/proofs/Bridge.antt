@@ -128,7 +128,7 @@ module _ (t : Numbers) (apart : AreApart t) (foot : ℕ → Footprint) (k : ℕ)
           ]),
         )
 
--- the range of a use is among those of its footprint
+-- the range of a use is among those of its access set
 span_at : (t : Numbers) (f : Footprint) (i : ℕ) → i < length f → slice_index_or (map (span_for t) f) i no_span ≡ span_for t (use_at f i)
 span_at t [] i lt = absurd (omega arith)
 span_at t (u ∷ f) zero lt = refl

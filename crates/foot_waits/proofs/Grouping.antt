@@ -140,7 +140,7 @@ any_first test xs ys h = list_any-append test xs ys ∙ or_left (list_any test x
 any_last : {X : Type 0} (test : X → Bool) (xs : List X) (y : X) → test y ≡ true → list_any test (xs ++ y ∷ []) ≡ true
 any_last test xs y h = list_any-append test xs (y ∷ []) ∙ or_right (list_any test xs) (list_any test (y ∷ [])) (or_left (test y) false h)
 
--- the latest of those that clash with two footprints
+-- the latest of those that clash with two access sets
 abbrev both_clash : Footprint → Footprint → Grouped → Bool
 both_clash own uses g = collide own g.0 && collide g.0 uses
 

@@ -1,4 +1,4 @@
--- Footprints clash in a part by an atom of it that one of them writes.
+-- Access sets clash in a part by an atom of it that one of them writes.
 use Rattle.std.specs.Prelude.{◌≡◌, ℕ, Bool, true, false, ◌&&◌, ◌||◌, List, [], ◌∷◌, filter, ◌⊎◌, refl}
 use Rattle.std.specs.List.{list_any}
 use Rattle.std.proofs.Common.{arith, sym, ◌∙◌, inl, inr}
@@ -89,7 +89,7 @@ clash_collides descriptors f g h =
 alone : (b : Bool) → (b || false) ≡ true → b ≡ true
 alone b h = grind arith
 
--- a use meets a footprint by an atom of both that one of both writes
+-- a use meets an access set by an atom of both that one of both writes
 meets_is : (u : Use) (f : Footprint) → meets u f ≡ list_any (λ v. (u.written || v.written) && share u.item v.item) f
 meets_is u [] = grind arith
 meets_is u (v ∷ f) = let same = share-sym v.item u.item in let rest = meets_is u f in grind (arith, same, rest)
@@ -142,7 +142,7 @@ no_member x a d o = false_from_ne_true (member_of x a) (λ h. of_both a o (part_
     of_both (descriptor_at n) o p = cc
     of_both _ o p = cc
 
--- what a footprint uses of the descriptors has their atoms
+-- what an access set uses of the descriptors has their atoms
 pub has_kept : (f : Footprint) (a : Atom) → part_of a ≡ descriptors → has_atom (descriptor_uses f) a ≡ has_atom f a
 has_kept f (descriptor_at n) p = has_descriptor f n
 has_kept f _ p = absurd cc

@@ -1,4 +1,4 @@
--- One footprint more.
+-- One access set more.
 use Rattle.std.specs.Prelude.{◌≡◌, ℕ, suc, ◌+◌, List, map}
 use Rattle.std.proofs.Common.{sym, ap, ◌∙◌, subst, arith, inl, inr}
 use Rattle.std.proofs.lemmas.Bool.{cases_lt}

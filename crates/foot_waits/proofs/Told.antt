@@ -1,4 +1,4 @@
--- The first of the uses by which a footprint waits for another.
+-- The first of the uses by which an access set waits for another.
 use Rattle.std.specs.Prelude.{◌≡◌, ℕ, zero, suc, ◌<◌, true, false, ◌&&◌, ◌||◌, ◌⊎◌, List, [], ◌∷◌, length, map, Option, Some, None, slice_index_or}
 use Rattle.std.specs.Bool.{Decides}
 use Rattle.std.proofs.Common.{ap, get_or, sym, ◌∙◌, subst, arith, inl, inr}

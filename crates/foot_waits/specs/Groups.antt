@@ -12,11 +12,11 @@ Grouped = Footprint × ℕ × List ℕ
 abbrev pub nothing : Grouped
 nothing = ([], 0, [])
 
--- whether a use meets one of a footprint where one of both writes
+-- whether a use meets one of an access set where one of both writes
 abbrev pub meets : Use → Footprint → Bool
 meets u f = if u.written then list_any (λ v. share v.item u.item) f else list_any (λ v. v.written && share v.item u.item) f
 
--- the latest of all that clash with both of two footprints
+-- the latest of all that clash with both of two access sets
 abbrev pub latest_between : Footprint → Footprint → List Grouped → ℕ
 latest_between own uses [] = 0
 latest_between own uses (g ∷ gs) = max (if collide own g.0 && collide g.0 uses then g.1 else 0) (latest_between own uses gs)
@@ -31,7 +31,7 @@ pub record BeginsAt (since : ℕ) (places : List ℕ) (first : ℕ) : Type 0 whe
   pub from : (i : ℕ) → first ≤ i → i < length places → since ≤ slice_index_or places i 0
   pub before : (first ≡ 0) ⊎ (slice_index_or places (first - 1) 0 < since)
 
--- whether a footprint waits by one of its uses for a place of a group, and of one of some groups
+-- whether an access set waits by one of its uses for a place of a group, and of one of some groups
 abbrev pub told_in : List Grouped → Footprint → Use → ℕ → Grouped → Bool
 told_in all own u j g = meets u g.0 && is_among (from_on (latest_between own g.0 all) g.2) j
 

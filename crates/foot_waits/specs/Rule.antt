@@ -1,4 +1,4 @@
--- The model: the parts of a world, and by which of its uses each of a list of footprints waits for earlier ones.
+-- The model: the parts of a world, and by which of its uses each of a list of access sets waits for earlier ones.
 use Rattle.std.specs.Prelude.{◌≡◌, ℕ, ◌<◌, Bool, true, false, ◌&&◌, ◌||◌, ◌⊎◌, filter, length, Option, MatchOption, slice_index_or}
 use Rattle.interleaving.specs.Direct.{IsDirect}
 use Rattle.world_parts.specs.Items.{Atom, chain_flag, descriptor_at, Item, one, all_descriptors, Use, Footprint, has_atom, writes_atom, member_of, collide}
@@ -12,7 +12,7 @@ abbrev pub part_of : Atom → Part
 part_of (descriptor_at n) = descriptors
 part_of a = single a
 
--- What a footprint uses of the descriptors.
+-- What an access set uses of the descriptors.
 abbrev pub is_of_descriptors : Item → Bool
 is_of_descriptors (one (descriptor_at n)) = true
 is_of_descriptors all_descriptors = true
@@ -21,12 +21,12 @@ is_of_descriptors _ = false
 abbrev pub descriptor_uses : Footprint → Footprint
 descriptor_uses f = filter (λ u. is_of_descriptors u.item) f
 
--- Two footprints clash in a part: both use an atom of it that one of them writes.
+-- Two access sets clash in a part: both use an atom of it that one of them writes.
 abbrev pub clash_in : Part → Footprint → Footprint → Bool
 clash_in descriptors f g = collide (descriptor_uses f) (descriptor_uses g)
 clash_in (single a) f g = (has_atom f a && has_atom g a) && (writes_atom f a || writes_atom g a)
 
--- A footprint waits directly for an earlier one by a part: they clash in it, and none between them does so with both.
+-- An access set waits directly for an earlier one by a part: they clash in it, and none between them does so with both.
 abbrev pub WaitsBy : (ℕ → Footprint) → Part → ℕ → ℕ → Type 0
 WaitsBy foot p k j = IsDirect (λ i h. clash_in p (foot i) (foot h)) k j
 
@@ -34,7 +34,7 @@ WaitsBy foot p k j = IsDirect (λ i h. clash_in p (foot i) (foot h)) k j
 abbrev pub UseWaits : (ℕ → Footprint) → ℕ → Use → ℕ → Type 0
 UseWaits foot k u j = (a : Atom) × (member_of u.item a ≡ true) × (has_atom (foot j) a ≡ true) × ((u.written ≡ true) ⊎ (writes_atom (foot j) a ≡ true)) × WaitsBy foot (part_of a) k j
 
--- The use at a number, and the first by which a footprint waits for an earlier one.
+-- The use at a number, and the first by which an access set waits for an earlier one.
 abbrev pub use_at : Footprint → ℕ → Use
 use_at f i = slice_index_or f i (record { item = one (chain_flag 0); written = false })
 

@@ -127,6 +127,6 @@ span_for t u =
 abbrev pub no_span : Span
 no_span = record { low = 0; high = 0; written = false }
 
--- the uses of a footprint, each of which fits, and writes no more than one atom or a range
+-- the uses of an access set, each of which fits, and writes no more than one atom or a range
 abbrev pub AllFit : Numbers → Footprint → Type 0
 AllFit t f = AllByRecursion (λ u. ItemFits t u.item × (is_narrow_use u ≡ true)) f

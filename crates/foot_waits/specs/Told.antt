@@ -1,4 +1,4 @@
--- A view of code: by which of its uses a footprint waits first.
+-- A view of code: by which of its uses an access set waits first.
 use Rattle.std.specs.Prelude.{◌≡◌, ℕ, ◌<◌, ◌⊎◌, true, List, Option, Some, None, MatchOption, if◌then◌else◌, map, slice_index_or}
 use Rattle.std.specs.Bool.{Decides}
 use Rattle.std.specs.Option.{option_or}
@@ -14,7 +14,7 @@ use Rattle.foot_waits.specs.declared.waits.Waits.{Waits}
 abbrev pub Past : Type 0
 Past = Uses × List Grouped
 
--- whether a footprint with these ranges waits for another by one of its uses
+-- whether an access set with these ranges waits for another by one of its uses
 abbrev pub TellsBy : Past → Footprint → List Span → ℕ → ℕ → Type 0
 TellsBy past f spans i j =
     let s = slice_index_or spans i no_span in
@@ -30,13 +30,13 @@ IsFirst past f spans n j o = MatchOption o ((i : ℕ) → i < n → ¬ (TellsBy 
 abbrev pub with_told : Option ℕ → List ℕ → ℕ → ℕ → Option ℕ
 with_told o told i j = option_or o (if is_among told j then Some i else None)
 
--- what is known after the first places of a list of footprints
+-- what is known after the first places of a list of access sets
 pub record IsAt (w : Waits) (foot : ℕ → Footprint) (n : ℕ) : Type 0 where
   pub place : w.place ≡ n
   pub keeps : Keeps w.line (λ i. map (span_for w.names) (foot i)) n
   pub groups : KeepsGroups w.descriptors foot n
   pub fit : (i : ℕ) → i < n → AllFit w.names (foot i)
 
--- a list has those for whom a footprint waits by one of its uses
+-- a list has those for whom an access set waits by one of its uses
 abbrev pub TellsAll : Past → Footprint → List Span → ℕ → List ℕ → Type 0
 TellsAll past f spans i told = (j : ℕ) → Decides (is_among told j) (TellsBy past f spans i j)

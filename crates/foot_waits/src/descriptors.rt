@@ -60,8 +60,8 @@ impl Group {
         }
     }
 
-    /// The later of a place and the group's latest, where this counts if the group clashes with both
-    /// of two footprints.
+    /// The later of a place and the group's latest, where this counts if the group clashes with
+    /// both of two access sets.
     fn latest_with(&self, so_far: u32, own: &Footprint, uses: &Footprint) -> u32
         ensures { result ≡ max so_far (if collide own.now self.now.0 && collide self.now.0 uses.now
             then self.now.1 else 0) }
@@ -161,7 +161,7 @@ impl Descriptors {
         Ok(())
     }
 
-    /// The latest place that clashes with both of two footprints.
+    /// The latest place that clashes with both of two access sets.
     fn latest_between(&self, own: &Footprint, uses: &Footprint) -> u32
         ensures { result ≡ latest_between own.now uses.now self.now }
     {
@@ -172,7 +172,7 @@ impl Descriptors {
         latest
     }
 
-    /// Adds those for whom a footprint waits by one of its uses, if that is one of descriptors,
+    /// Adds those for whom an access set waits by one of its uses, if that is one of descriptors,
     /// where `own` is all that it uses of them.
     pub(crate) fn tell(
         &self,
@@ -205,8 +205,8 @@ impl Descriptors {
         Ok(())
     }
 
-    /// Whether a group that clashes with a footprint and with another group has a later place than
-    /// all of that one: then none of these is told. It passes over the rest of the groups.
+    /// Whether a group that clashes with an access set and with another group has a later place
+    /// than all of that one: then none of these is told. It passes over the rest of the groups.
     fn is_cut(&self, own: &Footprint, group: &Group) -> bool
         ensures { result ≡ true → from_on (latest_between own.now group.now.0 self.now) group.now.2 ≡ [] }
     {
@@ -241,7 +241,7 @@ impl Descriptors {
     }
 }
 
-/// What a footprint uses of descriptors.
+/// What an access set uses of descriptors.
 pub(crate) fn descriptor_uses(alloc: Global, footprint: &Footprint) -> Result<Footprint, AllocError>
     ensures { IfOk result (λ uses. uses ≡ descriptor_uses footprint.now) }
 {

@@ -1,4 +1,4 @@
-//! For each of a list of footprints, the earlier ones that it waits for directly.
+//! For each of a list of access sets, the earlier ones that it waits for directly.
 #![tactic(auto)]
 
 mod descriptors;

@@ -1,4 +1,4 @@
-//! Where the items of footprints lie on the line.
+//! Where the items of access sets lie on the line.
 ghost use Rattle.std.specs.Prelude.{◌≡◌, ◌<◌, ◌≤◌, ◌+◌, ◌*◌, ◌^◌, true, map, IfOk};
 ghost use Rattle.foot_waits.specs.Spots.{AllFit, ItemFits, span_for, spot};
 ghost use Rattle.world_parts.specs.Cutting.{is_narrow_use};
@@ -14,7 +14,7 @@ const ROWS: u128 = 1 << 48;
 
 const PLACES: u128 = 1 << 64;
 
-/// The ranges of a footprint's uses.
+/// The ranges of an access set's uses.
 pub(crate) fn spans_of(
     alloc: Global,
     names: &Names,

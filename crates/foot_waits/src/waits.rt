@@ -1,4 +1,4 @@
-//! For whom each of a list of footprints waits directly.
+//! For whom each of a list of access sets waits directly.
 ghost use Rattle.std.specs.Option.{option_or};
 ghost use Rattle.std.specs.Prelude.{◌≡◌, ◌==◌, None, Some, if◌then◌else◌, suc, ◌<◌, ◌^◌, ◌-◌, ℕ, IfOk, OnOk, length, map, slice_index_or};
 ghost use Rattle.std.specs.BTreeMap.{get};
@@ -30,7 +30,7 @@ pub struct Waits {
 }
 
 impl Waits {
-    /// Before the first of a list of footprints.
+    /// Before the first of a list of access sets.
     pub fn new(alloc: Global) -> Self
         ensures { (foot : ℕ → items.Footprint) → IsAt result foot 0 }
     {
@@ -42,8 +42,8 @@ impl Waits {
         }
     }
 
-    /// For whom the next footprint waits directly: of each, the number of the first use by which it
-    /// does.
+    /// For whom the next access set waits directly: of each, the number of the first use by which
+    /// it does.
     ///
     /// # Errors
     ///

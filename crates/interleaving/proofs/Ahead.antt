@@ -1,4 +1,4 @@
--- A place that is clear of the reaches before it may run ahead of them.
+-- A place that is clear of the may-access sets before it may run ahead of them.
 use Rattle.std.proofs.Common.{◌≡◌, ◌≢◌, ℕ, zero, suc, ◌<◌, ◌≤◌, Bool, true, false, if◌then◌else◌, ◌==◌, inl, inr, refl, sym, ◌∙◌, ap, subst, arith}
 use Rattle.std.proofs.lemmas.Bool.{cases_Bool}
 use Rattle.interleaving.specs.System.{System, Apart, Holds, DifferOnlyBy, stepped, reaches}
@@ -90,7 +90,7 @@ module _ (m : System) (laws : Laws m) where
           ]
     ]
 
-    -- the reach of a place holds its footprint in every world that none or some of the earlier ones leave
+    -- the may-access set of a place holds its access set in every world that none or some of the earlier ones leave
     pub holds-ahead : (out : ℕ → Bool) → Covers out done → (j : ℕ) → done j ≡ false
         → Holds m (reach j s (reaches m done s j)) (foot j (stepped m out s j))
     holds-ahead out covers j d = holds-from out covers j d (differ-ahead out covers j)
@@ -98,7 +98,7 @@ module _ (m : System) (laws : Laws m) where
     pub holds-now : (j : ℕ) → done j ≡ false → Holds m (reach j s (reaches m done s j)) (foot j s)
     holds-now j d = subst (λ t. Holds m (reach j s (reaches m done s j)) (foot j t)) (stepped-none m s j) (holds-ahead (λ k. true) (λ i t. refl) j d)
 
-    -- what is clear of a place's reach is apart from its footprint to come
+    -- what is clear of a place's may-access set is apart from its access set to come
     pub apart-ahead : (out : ℕ → Bool) → Covers out done → (f : Footprint) (j : ℕ) → done j ≡ false
         → collide f (reach j s (reaches m done s j)) ≡ false → Apart m f (foot j (stepped m out s j))
     apart-ahead out covers f j d clear =

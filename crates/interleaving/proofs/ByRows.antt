@@ -1,4 +1,4 @@
--- The laws on reaches, from what the rows of each operation owe.
+-- The laws on may-access sets, from what the rows of each operation owe.
 use Rattle.std.proofs.Common.{◌≡◌, ℕ, true, false, if◌then◌else◌, List, inl, inr, refl, sym, ◌∙◌, subst, arith}
 use Rattle.std.proofs.lemmas.Bool.{cases_Bool, cond_both}
 use Rattle.interleaving.specs.System.{System, AgreeOn, Holds, DifferOnlyBy, Thinner}
@@ -17,7 +17,7 @@ module _ (m : System) (r : Rows m) (laws : RowLaws m r) where
   wide_holds_row : (j : ℕ) (s : World) (rs : List Footprint) → Bounded j (look j s) → Holds m (wide j s rs) (row j s)
   wide_holds_row j s rs b = holds_trans (wide j s rs) (accepted j s rs) (row j s) (laws.wide_holds_accepted j s rs b) (laws.accepted_holds_row j s rs)
 
-  -- what holds of each form of the reach of a place that runs holds of that reach
+  -- what holds of each form of the may-access set of a place that runs holds of that may-access set
   by_form : (P : Footprint → Type 0) (j : ℕ) (s : World) (rs : List Footprint) → (unresolved (look j s) rs ≡ true → P (wide j s rs))
       → (unresolved (look j s) rs ≡ false → disturbed (row j s) rs ≡ true → P (accepted j s rs))
       → (unresolved (look j s) rs ≡ false → disturbed (row j s) rs ≡ false → P (row j s)) → P (running_reach m r j s rs)
@@ -34,10 +34,10 @@ module _ (m : System) (r : Rows m) (laws : RowLaws m r) where
   runs-thin : (j : ℕ) (t : World) (rs thin : List Footprint) → Thinner m thin rs → runs m r j t thin ≡ true → runs m r j t rs ≡ true
   runs-thin j t rs thin thinner e = grind (arith, laws.waits_thin j rs thin thinner)
 
-  -- worlds that differ only by the reaches
+  -- worlds that differ only by the may-access sets
   module _ (j : ℕ) (s t : World) (rs : List Footprint) (fs : Ready m r j s) (ft : Ready m r j t) (known : known_by_rows m r j t rs)
       (differ : DifferOnlyBy m rs s t) where
-    -- the place runs in both or waits for one of the reaches
+    -- the place runs in both or waits for one of the may-access sets
     runs_later : runs m r j t rs ≡ runs m r j s rs
     runs_later = elim (cases_Bool (waits j rs)) [ inl w ↦ rw w | inr w ↦ runs-same j s t rs (laws.waits_no j s t rs w differ) ]
 
@@ -47,18 +47,18 @@ module _ (m : System) (r : Rows m) (laws : RowLaws m r) where
     row_later : disturbed (row j s) rs ≡ false → row j t ≡ row j s
     row_later d = laws.row_same j s t fs ft (λ a h. differ a (laws.disturbed_no (row j s) rs a d h))
 
-    -- the form of a running reach is told in the other world
+    -- the form of a running may-access set is told in the other world
     by_later : (P : Footprint → Type 0) → runs m r j s rs ≡ true → P (wide j t rs) → (unresolved (look j s) rs ≡ false → P (accepted j t rs))
         → (unresolved (look j s) rs ≡ false → disturbed (row j s) rs ≡ false → P (row j t)) → P (reach_by_rows m r j s rs)
     by_later P e vague taken own = rw e (by_form P j s rs (λ u. subst P (laws.wide_same j s t rs differ) vague)
         (λ u d. subst P (laws.accepted_same j s t rs (look_later u) differ) (taken u)) (λ u d. subst P (row_later d) (own u d)))
 
-    -- a running reach holds the row as running in the other world
+    -- a running may-access set holds the row as running in the other world
     holds_row : runs m r j s rs ≡ true → Holds m (reach_by_rows m r j s rs) (row j t)
     holds_row e = by_later (λ f. Holds m f (row j t)) e (wide_holds_row j t rs (known (runs_later ∙ e))) (λ u. laws.accepted_holds_row j t rs)
         (λ u d. holds_refl (row j t))
 
-    -- every reach holds what every place has
+    -- every may-access set holds what every place has
     holds_bare : Holds m (reach_by_rows m r j s rs) (bare j)
     holds_bare = elim (cases_Bool (runs m r j s rs)) [
       | inl e ↦ holds_trans (reach_by_rows m r j s rs) (row j t) (bare j) (holds_row e) (laws.row_holds_bare j t)

@@ -1,4 +1,4 @@
--- Steps whose footprints are apart commute.
+-- Steps whose access sets are apart commute.
 use Rattle.std.proofs.Common.{◌≡◌, ◌≢◌, ℕ, Bool, true, false, inl, inr, sym, ◌∙◌, ap, arith}
 use Rattle.std.proofs.lemmas.Bool.{cases_Bool}
 use Rattle.interleaving.specs.System.{System, AgreeOn, Apart, Holds}
@@ -19,19 +19,19 @@ module _ (m : System) (laws : Cover m) where
   pub apart_swap : (f g : Footprint) → Apart m f g → Apart m g f
   apart_swap f g h = (h.1, h.0)
 
-  -- what a held footprint writes is written by the holder, so apart from the holder is apart from the held
+  -- what a held access set writes is written by the holder, so apart from the holder is apart from the held
   pub apart_held : (f r g : Footprint) → Holds m r g → Apart m f r → Apart m f g
   apart_held f r g h apart = (
     λ a w. unless (touches g a) (touches r a) (h.0 a) (apart.0 a w),
     λ a w. apart.1 a (h.1 a w),
   )
 
-  -- a step keeps what is apart from its footprint
+  -- a step keeps what is apart from its access set
   pub kept_apart : (k : ℕ) (s : World) (g : Footprint) → IsWorld s → Unused k s → Apart m (foot k s) g → AgreeOn m g s (step k s)
   kept_apart k s g w u apart a t =
       sym (laws.others_kept k s a w u (turned (writes (foot k s) a) (touches g a) (apart.0 a) t))
 
-  -- a step that is apart from a place's footprint: that place finds what it found before
+  -- a step that is apart from a place's access set: that place finds what it found before
   module _ (j k : ℕ) (s : World) (w : IsWorld s) (uj : Unused j s) (uk : Unused k s) (ne : j ≢ k) (apart : Apart m (foot j s) (foot k s)) where
     there : IsWorld (step j s)
     there = laws.step_is_world j s w uj

@@ -61,7 +61,7 @@ module _ (m : System) (laws : Cover m) where
             ])
       ]
 
-  -- so a place that depends on none that are left out has the footprint and the reply that it has in turn
+  -- so a place that depends on none that are left out has the access set and the reply that it has in turn
   module _ (out : ℕ → Bool) (closed : Closed out) (n : ℕ) (free : FreeOf out n) where
     found : AgreeOn m (foot_in_turn m n) (sequential m n) (stepped m out m.start n)
     found = agree_here out n (follows out closed n) free

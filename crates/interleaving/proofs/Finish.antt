@@ -1,4 +1,4 @@
--- A place that is clear of the reaches before it finishes: the rest still runs to the same end.
+-- A place that is clear of the may-access sets before it finishes: the rest still runs to the same end.
 use Rattle.std.proofs.Common.{◌≡◌, ◌≢◌, ℕ, zero, suc, ◌<◌, ◌≤◌, Bool, true, false, if◌then◌else◌, ◌==◌, ◌⊎◌, inl, inr, refl, sym, ◌∙◌, ap, subst, arith}
 use Rattle.std.proofs.lemmas.Bool.{cases_Bool, cases_eq}
 use Rattle.interleaving.specs.System.{System, Apart, Holds, DifferOnlyBy, stepped, reaches, is_clear, Thinner}
@@ -68,7 +68,7 @@ module _ (m : System) (laws : Laws m) (done : ℕ → Bool) (s : m.World) (sound
       let only_this = passes_all (λ i. true) rest (λ i e. refl) refl (removing-here (λ i. true) k) (λ i ne. sym (others i ne)) n lt in
       subst (λ t. Known n t (reaches m done s n)) (sym only_this ∙ stepped-none m (step k s) n) (sound.known n d rest (λ i e. others i (not_this i e)))
 
-  -- the reach of an earlier place stays as it was
+  -- the may-access set of an earlier place stays as it was
   reach_before : (n : ℕ) → n < k → done n ≡ false → reach n (step k s) (reaches m done s n) ≡ reach n s (reaches m done s n)
   reach_before n lt d =
       let r = reach n s (reaches m done s n) in
@@ -76,7 +76,7 @@ module _ (m : System) (laws : Laws m) (done : ℕ → Bool) (s : m.World) (sound
       (known-now m laws done s sound n d)
       (kept_apart m laws.cover k s r sound.world (sound.unused k open_k) (laws.apart_from_collide (foot k s) r (clear_of n lt d)))
 
-  -- the reaches before the place stay as they were
+  -- the may-access sets before the place stay as they were
   pub reaches_before : (n : ℕ) → n ≤ k → reaches m (adding done k) (step k s) n ≡ reaches m done s n
   reaches_before zero le = refl
   reaches_before (suc n) le = elim (cases_Bool (done n)) [
@@ -84,7 +84,7 @@ module _ (m : System) (laws : Laws m) (done : ℕ → Bool) (s : m.World) (sound
     | inr d ↦ rw (adding-other done k n (omega arith), d, reaches_before n (omega arith), reach_before n (omega arith) d)
   ]
 
-  -- the step changes nothing but what the place's reach writes
+  -- the step changes nothing but what the place's may-access set writes
   differ_by_reaches : (n : ℕ) → k < n → DifferOnlyBy m (reaches m done s n) s (step k s)
   differ_by_reaches n lt a none =
       let unwritten : writes (foot k s) a ≡ false =
@@ -195,7 +195,7 @@ module _ (m : System) (laws : Laws m) (done : ℕ → Bool) (s : m.World) (sound
         | inr lt ↦ ap (reply j) (end_after j lt)
       ]
 
-  -- no reach holds what it didn't hold before
+  -- no may-access set holds what it didn't hold before
   pub holds_after : (j : ℕ) → adding done k j ≡ false
       → Holds m (reach j s (reaches m done s j)) (reach j (step k s) (reaches m (adding done k) (step k s) j))
   holds_after j o =

@@ -123,7 +123,7 @@ module _ (m : System) (laws : Laws m) where
       let parts = legal_parts n (opening m) es (e ∷ []) legal in
       shrink_next n (run m (opening m) es) e (on_course n (opening m) es (on_course_at_start n) parts.0) parts.1.0 j d
 
-  -- where the footprint of a place always collides with an earlier reach, it is free only once that place has finished
+  -- where the access set of a place always collides with an earlier may-access set, it is free only once that place has finished
   pub finished_before : (s : State m) (i k : ℕ) → i < k → ((t : m.World) (rs : List m.Footprint) → m.collide (m.foot k t) (m.reach i t rs) ≡ true)
       → is_free m s k ≡ true → has s.finished i ≡ true
   finished_before s i k lt meets free = true_from_ne_false (has s.finished i) (λ e. both_ways true

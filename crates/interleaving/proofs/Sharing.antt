@@ -1,4 +1,4 @@
--- Where footprints collide exactly by an atom of both that one of them writes, they keep the laws on collisions.
+-- Where access sets collide exactly by an atom of both that one of them writes, they keep the laws on collisions.
 use Rattle.std.proofs.Common.{◌≡◌, true, false, inl, inr, ⊎_elim, Decides}
 use Rattle.std.proofs.lemmas.Bool.{false_from_ne_true}
 use Rattle.std.proofs.lemmas.Bool.Decides.{not_from_Decides}

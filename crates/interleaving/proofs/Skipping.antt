@@ -40,7 +40,7 @@ module _ (m : System) where
   pub clear-cons : (f r : Footprint) (rs : List Footprint) → collide f r ≡ false → is_clear m f rs ≡ true → is_clear m f (r ∷ rs) ≡ true
   clear-cons f r rs e h = rw e h
 
-  -- what all the reaches have, the reach of each place has that isn't left out
+  -- what all the may-access sets have, the may-access set of each place has that isn't left out
   pub each-of : (P : Footprint → Type 0) (out : ℕ → Bool) (s : World) (n : ℕ) → AllByRecursion P (reaches m out s n)
       → (k : ℕ) → k < n → out k ≡ false → P (reach k s (reaches m out s k))
   each-of P out s zero h k lt o = absurd (omega arith)
@@ -56,12 +56,12 @@ module _ (m : System) where
   each-clear f [] h = tt
   each-clear f (r ∷ rs) h = let parts = clear-tail f r rs h in (parts.0, each-clear f rs parts.1)
 
-  -- what is clear of the reaches is clear of the reach of each place that isn't left out
+  -- what is clear of the may-access sets is clear of the may-access set of each place that isn't left out
   pub clear-of : (f : Footprint) (out : ℕ → Bool) (s : World) (n : ℕ) → is_clear m f (reaches m out s n) ≡ true
       → (k : ℕ) → k < n → out k ≡ false → collide f (reach k s (reaches m out s k)) ≡ false
   clear-of f out s n h = each-of (λ r. collide f r ≡ false) out s n (each-clear f (reaches m out s n) h)
 
-  -- what no reach of the list writes, no reach of these places writes
+  -- what no may-access set of the list writes, no may-access set of these places writes
   pub unwritten-of : (a : m.Atom) (out : ℕ → Bool) (s : World) (n : ℕ) → NoneWrites m (reaches m out s n) a
       → (k : ℕ) → k < n → out k ≡ false → m.writes (reach k s (reaches m out s k)) a ≡ false
   unwritten-of a out s n h = each-of (λ r. m.writes r a ≡ false) out s n h

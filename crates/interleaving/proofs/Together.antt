@@ -129,7 +129,7 @@ module _ (m : System) (laws : Cover m) where
     others_unused : Unused k (in_order m s ks)
     others_unused = unused_after_all s ks w (side_tail s k ks side) k (head_unused s w k ks side) side.different.0
 
-    -- it finds in its footprint after the others what it finds before them
+    -- it finds in its access set after the others what it finds before them
     others_agree : AgreeOn m (foot k s) s (in_order m s ks)
     others_agree a t = sym (rest_kept s ks w (side_tail s k ks side) a
         (λ j h. turned (writes (foot j s) a) (touches (foot k s) a) ((head_apart s w k ks side j h).1 a) t))

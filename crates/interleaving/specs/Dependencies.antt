@@ -9,7 +9,7 @@ pub data Leads (waits : ℕ → ℕ → Bool) : ℕ → ℕ → Type 0 where
   onward : (k i j : ℕ) → waits k i ≡ true → Leads waits i j → Leads waits k j
 
 module _ (m : System) where
-  -- the footprint of a place when the places run one at a time
+  -- the access set of a place when the places run one at a time
   abbrev pub foot_in_turn : ℕ → m.Footprint
   foot_in_turn k = m.foot k (sequential m k)
 

@@ -1,8 +1,8 @@
--- A law: what a system has to keep. Its footprints cover its steps, and its reaches hold every footprint to come.
+-- A law: what a system has to keep. Its access sets cover its steps, and its may-access sets hold every access set to come.
 use Rattle.std.specs.Prelude.{◌≡◌, ◌≢◌, ℕ, ◌<◌, true, false, List}
 use Rattle.interleaving.specs.System.{System, AgreeOn, Apart, Holds, DifferOnlyBy, Thinner}
 
--- footprints cover their steps
+-- access sets cover their steps
 pub record Cover (m : System) : Type 0 where
   -- a world is what its atoms hold
   pub same_world : (s t : m.World) → m.IsWorld s → m.IsWorld t → ((a : m.Atom) → m.value s a ≡ m.value t a) → s ≡ t
@@ -13,7 +13,7 @@ pub record Cover (m : System) : Type 0 where
   pub step_is_before : (j k : ℕ) (s : m.World) → m.IsWorld s → m.Unused k s → k < j → m.IsBefore j s → m.IsBefore j (m.step k s)
   pub before_unused : (j : ℕ) (s : m.World) → m.IsBefore j s → m.Unused j s
   pub step_keeps_unused : (j k : ℕ) (s : m.World) → m.IsWorld s → m.Unused k s → m.Unused j s → j ≢ k → m.Unused j (m.step k s)
-  -- two worlds that agree on the footprint are alike to the step, and it keeps what it doesn't write
+  -- two worlds that agree on the access set are alike to the step, and it keeps what it doesn't write
   pub writes_touches : (f : m.Footprint) (a : m.Atom) → m.writes f a ≡ true → m.touches f a ≡ true
   pub foot_same : (k : ℕ) (s t : m.World) → m.IsWorld s → m.IsWorld t → m.Unused k s → m.Unused k t
       → AgreeOn m (m.foot k s) s t → m.foot k t ≡ m.foot k s
@@ -23,26 +23,26 @@ pub record Cover (m : System) : Type 0 where
       → AgreeOn m (m.foot k s) s t → AgreeOn m (m.foot k s) (m.step k s) (m.step k t)
   pub others_kept : (k : ℕ) (s : m.World) (a : m.Atom) → m.IsWorld s → m.Unused k s
       → m.writes (m.foot k s) a ≡ false → m.value (m.step k s) a ≡ m.value s a
-  -- footprints that don't collide are apart
+  -- access sets that don't collide are apart
   pub apart_from_collide : (f g : m.Footprint) → m.collide f g ≡ false → Apart m f g
 
--- reaches hold what is to come
+-- may-access sets hold what is to come
 pub record Laws (m : System) : Type 0 where
   pub cover : Cover m
   pub open cover use *
-  -- what doesn't collide with a footprint doesn't collide with less
+  -- what doesn't collide with an access set doesn't collide with less
   pub collide_held : (f r r₁ : m.Footprint) → Holds m r r₁ → m.collide f r ≡ false → m.collide f r₁ ≡ false
   -- where whatever has a number has it from the start or from an earlier place, so has what the place looks up
   pub before_known : (j : ℕ) (s : m.World) (rs : List m.Footprint) → m.IsWorld s → m.IsBefore j s → m.Known j s rs
-  -- that stays so in worlds that agree on the reach, and with fewer or smaller reaches before the place
+  -- that stays so in worlds that agree on the may-access set, and with fewer or smaller may-access sets before the place
   pub known_same : (j : ℕ) (s t : m.World) (rs : List m.Footprint) → m.IsWorld s → m.IsWorld t → m.Unused j s → m.Unused j t
       → m.Known j s rs → AgreeOn m (m.reach j s rs) s t → m.Known j t rs
   pub known_thinner : (j : ℕ) (s : m.World) (rs thin : List m.Footprint) → Thinner m thin rs → m.Known j s rs → m.Known j s thin
-  -- the reach holds the footprint and the reach that the place has once some of the places before it have run
+  -- the may-access set holds the access set and the may-access set that the place has once some of the places before it have run
   pub reach_holds_foot : (j : ℕ) (s t : m.World) (rs : List m.Footprint) → m.IsWorld s → m.IsWorld t → m.Unused j s → m.Unused j t
       → m.Known j t rs → DifferOnlyBy m rs s t → Holds m (m.reach j s rs) (m.foot j t)
   pub reach_holds_reach : (j : ℕ) (s t : m.World) (rs thin : List m.Footprint) → m.IsWorld s → m.IsWorld t → m.Unused j s → m.Unused j t
       → m.Known j t rs → DifferOnlyBy m rs s t → Thinner m thin rs → Holds m (m.reach j s rs) (m.reach j t thin)
-  -- worlds that agree on the reach give the same reach
+  -- worlds that agree on the may-access set give the same may-access set
   pub reach_same : (j : ℕ) (s t : m.World) (rs : List m.Footprint) → m.IsWorld s → m.IsWorld t → m.Unused j s → m.Unused j t
       → m.Known j s rs → AgreeOn m (m.reach j s rs) s t → m.reach j t rs ≡ m.reach j s rs

@@ -39,7 +39,7 @@ module _ (m : System) where
   run s [] = s
   run s (e ∷ es) = run (happens s e) es
 
-  -- the footprint of the place collides with the reach of no earlier unfinished place
+  -- the access set of the place collides with the may-access set of no earlier unfinished place
   abbrev pub is_free : State m → ℕ → Bool
   is_free s k = is_clear m (m.foot k s.world) (reaches m (has s.finished) s.world k)
 
@@ -65,18 +65,18 @@ module _ (m : System) where
   abbrev pub EveryOrder : Type 0
   EveryOrder = (n : ℕ) (es : List Event) → AllLegal n opening es → IsComplete n (run opening es) → IsSequential n (run opening es)
 
-  -- a place whose footprint always collides with an earlier place's reach starts after that place has finished
+  -- a place whose access set always collides with an earlier place's may-access set starts after that place has finished
   abbrev pub KeepsOrder : Type 0
   KeepsOrder = (n i k : ℕ) → i < k → ((s : m.World) (rs : List m.Footprint) → m.collide (m.foot k s) (m.reach i s rs) ≡ true)
       → (before after : List Event) → AllLegal n opening (before ++ (Start k ∷ after)) → has (run opening before).finished i ≡ true
 
-  -- after legal events, the reach of an unfinished place holds its footprint in each world that some earlier unfinished places, or none, leave
+  -- after legal events, the may-access set of an unfinished place holds its access set in each world that some earlier unfinished places, or none, leave
   abbrev pub ReachesHold : Type 0
   ReachesHold = (n : ℕ) (es : List Event) → AllLegal n opening es → let s = run opening es in
       (j : ℕ) → has s.finished j ≡ false → (out : ℕ → Bool) → ((i : ℕ) → has s.finished i ≡ true → out i ≡ true)
       → Holds m (m.reach j s.world (reaches m (has s.finished) s.world j)) (m.foot j (stepped m out s.world j))
 
-  -- no legal event makes a reach hold what it didn't hold before
+  -- no legal event makes a may-access set hold what it didn't hold before
   abbrev pub ReachesShrink : Type 0
   ReachesShrink = (n : ℕ) (es : List Event) (e : Event) → AllLegal n opening (es ++ (e ∷ [])) → let s = run opening es in let t = happens s e in
       (j : ℕ) → has t.finished j ≡ false

@@ -1,4 +1,4 @@
--- A law: rounds that never overtake, each the longest beginning of what is pending in which no two footprints collide.
+-- A law: rounds that never overtake, each the longest beginning of what is pending in which no two access sets collide.
 use Rattle.std.specs.Prelude.{ℕ, zero, suc, ◌≤◌, if◌then◌else◌, List, [], ◌∷◌, take}
 use Rattle.interleaving.specs.System.{System, is_clear}
 use Rattle.interleaving.specs.Machine.{has, State, opening, run, IsSequential}

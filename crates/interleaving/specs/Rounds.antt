@@ -20,7 +20,7 @@ joined [] = []
 joined (es ∷ rest) = es ++ joined rest
 
 module _ (m : System) where
-  -- of the first w pending places, those whose footprint collides with the reach of no earlier pending place
+  -- of the first w pending places, those whose access set collides with the may-access set of no earlier pending place
   abbrev pub chosen : ℕ → ℕ → State m → List ℕ
   chosen n w s = filter (is_free m s) (take w (pending (has s.finished) n))
 
@@ -70,7 +70,7 @@ module _ (m : System) where
   abbrev pub RoundsGoOn : Type 0
   RoundsGoOn = (n w : ℕ) (s : State m) (k : ℕ) → 1 ≤ w → k < n → has s.finished k ≡ false → (j : ℕ) × (has (chosen n w s) j ≡ true)
 
-  -- a place whose footprint always collides with an earlier place's reach runs in a later round
+  -- a place whose access set always collides with an earlier place's may-access set runs in a later round
   abbrev pub RoundsKeepOrder : Type 0
   RoundsKeepOrder = (n w r i k : ℕ) → i < k → ((s : m.World) (rs : List m.Footprint) → m.collide (m.foot k s) (m.reach i s rs) ≡ true)
       → let s = rounds n w r (opening m) in has (chosen n w s) k ≡ true → has s.finished i ≡ true

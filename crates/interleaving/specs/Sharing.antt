@@ -1,4 +1,4 @@
--- A helper: what footprints share.
+-- A helper: what access sets share.
 use Rattle.std.specs.Prelude.{◌≡◌, true, ◌⊎◌}
 use Rattle.interleaving.specs.System.{System}
 

@@ -1,4 +1,4 @@
--- Where none of some reaches writes the item of one of some uses, none writes that of any of them.
+-- Where none of some may-access sets writes the item of one of some uses, none writes that of any of them.
 use Rattle.std.specs.Prelude.{◌≡◌, ℕ, ◌+◌, Bool, true, false, not, ◌&&◌, ◌||◌, List, [], ◌∷◌, Option, Some, None, slice_get, if◌then◌else◌, refl}
 use Rattle.std.specs.List.{list_any, position_from}
 use native.Mathlib.Omega.{arith}
@@ -34,7 +34,7 @@ apart a b h = (grind arith, grind arith)
 still_none : (a b r : Bool) → b ≡ false → r ≡ false → ((a && b) || r) ≡ false
 still_none a b r f g = grind arith
 
--- whether a footprint writes a part of the item of a use
+-- whether an access set writes a part of the item of a use
 abbrev writes_use : Footprint → Use → Bool
 writes_use f u = writes_item f (item_meant u.item)
 

@@ -1,4 +1,4 @@
-//! The reaches that come before a place, of those that an index has.
+//! The may-access sets that come before a place, of those that an index has.
 ghost use Rattle.std.specs.Prelude.{◌≡◌, ◌<◌, ◌&&◌, IfSome, false, if◌then◌else◌, slice_get};
 ghost use Rattle.std.specs.Prelude.{length, true};
 ghost use Rattle.std.specs.List.{list_any, position_from};
@@ -14,18 +14,18 @@ use world_parts::{Footprint, Item, Use, any_writes_some, touches_item, writes_it
 /// Of no more uses each is asked for one by one.
 const MANY: usize = 64;
 
-/// To ask for so few one by one costs no more than to walk the reaches for all of them.
+/// To ask for so few one by one costs no more than to walk the may-access sets for all of them.
 const FEW: usize = 4;
 
-/// The reaches that a place is behind.
+/// The may-access sets that a place is behind.
 #[derive(Clone, Copy)]
 pub struct Behind<'a> {
     pub(crate) ahead: &'a Ahead,
-    /// Those of the reaches in the index that are meant; with none, all of them.
+    /// Those of the may-access sets in the index that are meant; with none, all of them.
     pub(crate) among: Option<Among<'a>>,
 }
 
-/// The reaches that a table has of some places.
+/// The may-access sets that a table has of some places.
 #[derive(Clone, Copy)]
 pub(crate) struct Among<'a> {
     pub(crate) places: &'a [u32],
@@ -56,7 +56,7 @@ impl<'a> Behind<'a> {
         }
     }
 
-    /// Whether one of the reaches writes a part of an item.
+    /// Whether one of the may-access sets writes a part of an item.
     #[tactic(auto, unfolding(crate::specs::Ahead::written_before))]
     pub fn writes(&self, item: &Item) -> bool
         ensures { result ≡ written_before self.now (item_meant item.now) }
@@ -70,7 +70,7 @@ impl<'a> Behind<'a> {
         }
     }
 
-    /// Whether one of the reaches has a part of an item.
+    /// Whether one of the may-access sets has a part of an item.
     #[tactic(auto, unfolding(crate::specs::Ahead::touched_before))]
     fn touches(&self, item: &Item) -> bool
         ensures { result ≡ touched_before self.now (item_meant item.now) }
@@ -84,7 +84,7 @@ impl<'a> Behind<'a> {
         }
     }
 
-    /// Whether one of the reaches writes a part of some item of a footprint.
+    /// Whether one of the may-access sets writes a part of some item of an access set.
     pub fn meets(&self, footprint: &Footprint) -> bool
         ensures { result ≡ list_any (λ u. written_before self.now u.item) footprint.now }
     {
@@ -97,8 +97,8 @@ impl<'a> Behind<'a> {
         self.first_of(uses).is_some()
     }
 
-    /// How many uses of a footprint come before the first whose item one of the reaches writes, if
-    /// there is one.
+    /// How many uses of an access set come before the first whose item one of the may-access sets
+    /// writes, if there is one.
     pub fn first_met(&self, footprint: &Footprint) -> Option<usize>
         ensures first { result
             ≡ position_from (λ u. written_before self.now u.item) 0 footprint.now }
@@ -119,15 +119,15 @@ impl<'a> Behind<'a> {
         }
     }
 
-    /// Whether there are many uses, and some reach in the index writes the items of more than a few.
-    /// Then it costs least to walk the reaches for all of these uses at once.
+    /// Whether there are many uses, and some may-access set in the index writes the items of more
+    /// than a few. Then it costs least to walk the may-access sets for all of these uses at once.
     fn has_many(&self, uses: &[Use]) -> bool {
         let written = uses.iter().filter(|used| self.ahead.writes(&used.item));
         self.among.is_some() && uses.len() > MANY && written.count() > FEW
     }
 
-    /// The same by walks over the reaches: where they write something of some uses, each half of
-    /// these is looked at by itself.
+    /// The same by walks over the may-access sets: where they write something of some uses, each
+    /// half of these is looked at by itself.
     fn first_by_halves(&self, uses: &[Use]) -> Option<usize>
         ensures first { result
             ≡ position_from (λ u. written_before self.now (item_meant u.item)) 0 uses.now }
@@ -147,7 +147,8 @@ impl<'a> Behind<'a> {
         Some(first.len() + index)
     }
 
-    /// Whether a walk over the reaches shows that none writes a part of the item of one of some uses.
+    /// Whether a walk over the may-access sets shows that none writes a part of the item of one of
+    /// some uses.
     fn are_clear(&self, uses: &[Use]) -> bool
         ensures { result ≡ true
             → list_any (λ u. written_before self.now (item_meant u.item)) uses.now ≡ false }
@@ -166,7 +167,7 @@ impl<'a> Behind<'a> {
         uses.iter().position(|used| self.writes(&used.item))
     }
 
-    /// Whether a footprint collides with one of the reaches.
+    /// Whether an access set collides with one of the may-access sets.
     pub fn collides(&self, footprint: &Footprint) -> bool
         ensures { result ≡ list_any (λ u. if u.written then touched_before self.now u.item
             else written_before self.now u.item) footprint.now }
@@ -186,7 +187,7 @@ impl<'a> Behind<'a> {
         }
     }
 
-    /// Whether one of the reaches has a part of the item of a written one of some uses.
+    /// Whether one of the may-access sets has a part of the item of a written one of some uses.
     fn any_written_meets(&self, uses: &[Use]) -> bool
         ensures { result ≡ list_any (λ u. u.written
             && touched_before self.now (item_meant u.item)) uses.now }
@@ -209,7 +210,7 @@ impl<'a> Behind<'a> {
 }
 
 impl Among<'_> {
-    /// Whether one of the reaches writes a part of the item of one of some uses.
+    /// Whether one of the may-access sets writes a part of the item of one of some uses.
     fn writes_some(&self, uses: &[Use]) -> bool
         ensures { result ≡ one_at self.now.reaches.now self.now.places.now
             (λ f. list_any (λ u. touching.writes_item f (item_meant u.item)) uses.now) }
@@ -217,7 +218,7 @@ impl Among<'_> {
         one_writes_some(self.places, self.reaches, uses)
     }
 
-    /// Whether one of the reaches writes a part of an item: most often the latest does.
+    /// Whether one of the may-access sets writes a part of an item: most often the latest does.
     fn writes(&self, item: &Item) -> bool
         ensures { result ≡ one_at self.now.reaches.now self.now.places.now
             (λ f. touching.writes_item f (item_meant item.now)) }
@@ -225,7 +226,7 @@ impl Among<'_> {
         one_writes(self.places, self.reaches, item)
     }
 
-    /// Whether one of the reaches has a part of an item: most often the latest does.
+    /// Whether one of the may-access sets has a part of an item: most often the latest does.
     fn touches(&self, item: &Item) -> bool
         ensures { result ≡ one_at self.now.reaches.now self.now.places.now
             (λ f. touching.touches_item f (item_meant item.now)) }
@@ -264,7 +265,7 @@ fn one_touches(places: &[u32], reaches: &[Option<Footprint>], item: &Item) -> bo
         .any(|place| touches_at(reaches, *place, item))
 }
 
-/// Whether the reach of a place writes a part of an item.
+/// Whether the may-access set of a place writes a part of an item.
 fn writes_at(reaches: &[Option<Footprint>], place: u32, item: &Item) -> bool
     ensures { result ≡ at_place (λ f. touching.writes_item f (item_meant item.now))
         (slice_get reaches.now place) }
@@ -275,7 +276,7 @@ fn writes_at(reaches: &[Option<Footprint>], place: u32, item: &Item) -> bool
     }
 }
 
-/// Whether the reach of a place writes a part of the item of one of some uses.
+/// Whether the may-access set of a place writes a part of the item of one of some uses.
 fn writes_some_at(reaches: &[Option<Footprint>], place: u32, uses: &[Use]) -> bool
     ensures { result ≡ at_place (λ f. list_any (λ u.
         touching.writes_item f (item_meant u.item)) uses.now) (slice_get reaches.now place) }
@@ -286,7 +287,7 @@ fn writes_some_at(reaches: &[Option<Footprint>], place: u32, uses: &[Use]) -> bo
     }
 }
 
-/// Whether a footprint writes a part of the item of one of some uses. It takes no memory.
+/// Whether an access set writes a part of the item of one of some uses. It takes no memory.
 pub fn writes_some(footprint: &Footprint, uses: &[Use]) -> bool
     ensures { result ≡ list_any (λ u. touching.writes_item footprint.now (item_meant u.item))
         uses.now }
@@ -294,7 +295,7 @@ pub fn writes_some(footprint: &Footprint, uses: &[Use]) -> bool
     any_writes_some(footprint.uses(), uses)
 }
 
-/// Whether the reach of a place has a part of an item.
+/// Whether the may-access set of a place has a part of an item.
 fn touches_at(reaches: &[Option<Footprint>], place: u32, item: &Item) -> bool
     ensures { result ≡ at_place (λ f. touching.touches_item f (item_meant item.now))
         (slice_get reaches.now place) }

@@ -256,6 +256,6 @@ ring_at t k = of (step_at t k)
     of None = 0
     of (Some x) = x.ring
 
--- The footprint of a place in a world.
+-- The access set of a place in a world.
 abbrev pub footprint : Trace → ℕ → World → Footprint
 footprint t k s = order_uses (ring_at t k) (role t k) ++ each (turn_uses t k s) (turn t k s)

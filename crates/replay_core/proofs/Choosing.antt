@@ -50,7 +50,7 @@ module _ (t : Trace) (spelled : IsSpelled t) (window : ℕ) where
     pub chosen_within : (k : ℕ) → has (wave_after t window r) k ≡ true → (k < places t) × (has (state_after t window r).finished k ≡ false)
     chosen_within k h = let c = has-choice (Rattle.interleaving.specs.Machine.is_free (replayed t) (state_after t window r)) window (has (state_after t window r).finished) (places t) k h in (c.1, c.2)
 
--- A place of a wave with its footprint.
+-- A place of a wave with its access set.
 chosen_from : (t : Trace) (s : World) (o : Option ℕ) (c : Chosen) → option_map (λ (k : ℕ). let x : Chosen = record { place = k; footprint = footprint t k s } in x) o ≡ Some c → (o ≡ Some c.place) × (c.footprint ≡ footprint t c.place s)
 chosen_from t s None c e = (cc)
 chosen_from t s (Some k) c e = (ap (option_map (λ (x : Chosen). x.place)) e, is)

@@ -68,7 +68,7 @@ module _ (t : Trace) (s : State (replayed t)) where
           later (set ws j (Some g)) v (set-other ws j k (Some g) ne ∙ e)
           ∙ ap (λ b. Some (if b then option_or (holder_in t s k) v else v)) (sym (has-other k j ks ne))
 
-  -- The places that are held back are among these.
+  -- The places that are blocked are among these.
   pub held_within : (n : ℕ) (ks : List ℕ) (hs : List Held) → map held_meant hs ≡ held_among t s ks → ((k : ℕ) → has ks k ≡ true → k < n) → (i : ℕ) (d : Held) → i < length hs → (get_or hs i d).place < n
   held_within n [] [] e h i d lt = absurd (omega arith)
   held_within n [] (x ∷ hs) e h i d lt = (cc)

@@ -69,7 +69,7 @@ pub record IsReady (t : Trace) (p : Progress) : Type 0 where
   pub front : IsFront t p.window (state_after t p.window p.round) p.front.items p.next
   pub picked : HasPicked t (p.round + 1) p
 
--- Of the places that the round looks at, those whose number in a list is that of the round after it and that something holds back, each with its holder.
+-- Of the places that the round looks at, those whose number in a list is that of the round after it and that something blocks, each with its holder.
 abbrev pub HasTold : Trace → List ℕ → Progress → List Held → Type 0
 HasTold t numbers p held = map held_meant held ≡ held_among t (state_after t p.window p.round) (filter (has_number numbers (p.round + 1)) p.front.items)
 
@@ -78,7 +78,7 @@ pub record Begins (t : Trace) (p : Progress) : Type 0 where
   pub world : p.world ≡ whole (state_after t p.window p.round).world
   pub keeps : KeptAfter t p.round p
 
--- The places of the round that begins, each with its footprint.
+-- The places of the round that begins, each with its access set.
 abbrev pub HasChosen : Trace → Progress → Wave → Type 0
 HasChosen t p wave = wave.places ≡ map (chosen_at t (state_after t p.window p.round).world) (wave_after t p.window p.round)
 
@@ -92,7 +92,7 @@ pub record HasRun (t : Trace) (old new : Progress) : Type 0 where
 abbrev pub parts_of : List Run → List Part
 parts_of jobs = map (λ (run : Run). run.part) jobs
 
--- The footprint of the part that is out for a place, if one is.
+-- The access set of the part that is out for a place, if one is.
 abbrev pub out_for : Trace → World → List Part → ℕ → Option Footprint
 out_for t s [] k = None
 out_for t s (p ∷ ps) k = if k == p.place then Some (footprint t p.place s) else out_for t s ps k

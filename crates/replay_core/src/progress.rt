@@ -51,7 +51,7 @@ pub(crate) struct Progress {
     scheduler: Scheduler,
 }
 
-/// The places of a round, without their footprints.
+/// The places of a round, without their access sets.
 fn places_of(alloc: Global, wave: &Wave) -> Result<Vec<u32>, AllocError>
     ensures { IfOk result (λ ran. ran.items ≡ map (λ chosen. chosen.place) wave.now.places) }
 {
@@ -137,7 +137,7 @@ impl Progress {
         self.front.is_empty()
     }
 
-    /// The places of the next round, each with its footprint.
+    /// The places of the next round, each with its access set.
     fn pick(&mut self, alloc: Global, trace: &Trace, plan: &Plan) -> Result<Wave, AllocError>
         requires trace { IsSpelled trace.now }
         requires plan { plan.now ≡ roles trace.now }
@@ -157,9 +157,9 @@ impl Progress {
         )
     }
 
-    /// The places of the next round, each with its footprint; and, of those places that it looks at
-    /// and that run in the round after it, by the numbers of their rounds, those that an earlier
-    /// one holds back.
+    /// The places of the next round, each with its access set; and, of those places that it looks
+    /// at and that run in the round after it, by the numbers of their rounds, those that an earlier
+    /// one blocks.
     fn pick_telling(
         &mut self,
         alloc: Global,
@@ -389,8 +389,8 @@ impl Progress {
         self.run_picked(rt, alloc, trace, plan, workers, gate, wave)
     }
 
-    /// Runs one round, and gives, of the places that it looks at and that run in the round after it,
-    /// by the numbers of their rounds, those that an earlier one holds back.
+    /// Runs one round, and gives, of the places that it looks at and that run in the round after
+    /// it, by the numbers of their rounds, those that an earlier one blocks.
     pub(crate) fn run_telling<R: Threads + Wait + Sync, G: Gate + Sync>(
         &mut self,
         rt: &R,

@@ -1,4 +1,4 @@
-//! Footprints and reaches of places, and which of them collide.
+//! Access sets and may-access sets of places, and which of them collide.
 ghost use Rattle.std.specs.Prelude.{◌≡◌, ◌<◌};
 ghost use Rattle.chain_plan.specs.Plan.{roles};
 ghost use Rattle.trace_format.specs.Steps.{places};
@@ -12,14 +12,14 @@ use std::test::Fail;
 use trace_format::Trace;
 use world_parts::{Footprint, Item, World, collide};
 
-/// Whether a footprint writes an item.
+/// Whether an access set writes an item.
 fn is_written(alloc: Global, footprint: &Footprint, item: Item) -> Result<bool, AllocError> {
     let mut reader = Footprint::new(alloc);
     reader.reads(item)?;
     Ok(collide(footprint, &reader))
 }
 
-/// Whether a footprint that writes one item collides with one that reads another.
+/// Whether an access set that writes one item collides with one that reads another.
 fn meet(alloc: Global, written: Item, read: Item) -> Result<bool, AllocError> {
     let mut writer = Footprint::new(alloc);
     writer.writes(written)?;
@@ -45,7 +45,7 @@ fn ranges_that_share_a_byte_collide(rt: HostRuntime) -> Result<(), Fail> {
     Ok(())
 }
 
-/// Two entries, and whether the footprints of their places collide.
+/// Two entries, and whether the access sets of their places collide.
 #[derive(Clone, Copy)]
 struct Pair<'a> {
     one: Submitted<'a>,
@@ -53,7 +53,7 @@ struct Pair<'a> {
     collide: bool,
 }
 
-/// The footprint of each place, in the world that the trace starts with.
+/// The access set of each place, in the world that the trace starts with.
 fn feet(alloc: Global, trace: &Trace) -> Result<Vec<Footprint>, Fail>
     requires { IsSpelled trace.now }
 {
@@ -127,7 +127,7 @@ fn places_collide_on_what_one_writes(rt: HostRuntime) -> Result<(), Fail> {
     Ok(())
 }
 
-/// The reach of the first place, behind earlier reaches.
+/// The may-access set of the first place, behind earlier may-access sets.
 fn first_reach(alloc: Global, trace: &Trace, earlier: &[Footprint]) -> Result<Footprint, Fail>
     requires { IsSpelled trace.now }
 {
@@ -153,19 +153,20 @@ fn reach_in(
     Ok(reach(alloc, 0, trace, plan, world, earlier)?)
 }
 
-/// The reach of a read of the empty slot, behind earlier reaches.
+/// The may-access set of a read of the empty slot, behind earlier may-access sets.
 fn reached(alloc: Global, earlier: &[Footprint]) -> Result<Footprint, Fail> {
     let trace = trace_of(alloc, &[read(1, 0, 4)])?;
     first_reach(alloc, &trace, earlier)
 }
 
-/// Whether that reach writes the first byte of the first file, as a transfer that may do so does.
+/// Whether that may-access set writes the first byte of the first file, as a transfer that may do
+/// so does.
 fn reaches_the_file(alloc: Global, earlier: &[Footprint]) -> Result<bool, Fail> {
     let reached = reached(alloc, earlier)?;
     Ok(is_written(alloc, &reached, Item::Bytes(2, 0, 1))?)
 }
 
-/// The reach of a place that fills the slot.
+/// The may-access set of a place that fills the slot.
 fn filling(alloc: Global) -> Result<Footprint, AllocError> {
     let mut footprint = Footprint::new(alloc);
     footprint.writes(Item::Slot(0, 1))?;

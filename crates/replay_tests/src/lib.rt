@@ -1,4 +1,4 @@
-//! Desks, worlds, footprints and replays of small traces, and runs of the program, as tests: their
+//! Desks, worlds, access sets and replays of small traces, and runs of the program, as tests: their
 //! values are from hand.
 #![tactic(auto)]
 

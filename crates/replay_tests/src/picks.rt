@@ -1,4 +1,4 @@
-//! The first round of a trace, and what it holds back, by looking at each place of it.
+//! The first round of a trace, and what it blocks, by looking at each place of it.
 ghost use Rattle.std.specs.Prelude.{◌≡◌, ◌<◌, All, IfOk};
 ghost use Rattle.chain_plan.specs.Plan.{roles};
 ghost use Rattle.trace_format.specs.Steps.{places};
@@ -70,7 +70,7 @@ fn the_first_round_is_what_collides_with_nothing_ahead(rt: HostRuntime) -> Resul
     Ok(())
 }
 
-/// Whether those that are held back are just these places, each by that one.
+/// Whether those that are blocked are just these places, each by that one.
 fn are_held(held: &Series<Held>, wanted: &[(u32, u32)]) -> bool {
     let held = held.as_slice();
     if held.len() != wanted.len() {
@@ -101,7 +101,7 @@ fn holds_back(
     ))
 }
 
-/// Whether the first round of a trace holds back just these places, each by that one.
+/// Whether the first round of a trace blocks just these places, each by that one.
 fn are_held_at_first(
     alloc: Global,
     trace: &Trace,

@@ -14,7 +14,7 @@ use Rattle.wave_pick.specs.Lawful.{lawful}
 use Rattle.wave_pick.specs.Rounds.{state_after, NoneCollide}
 use Rattle.foot_print.proofs.Writing.{is_false, not_false}
 
--- Footprints that are apart don't collide.
+-- Access sets that are apart don't collide.
 pub apart_free : (t : Trace) (f g : Footprint) → Apart (replayed t) f g → collide f g ≡ false
 apart_free t f g h = is_false (collide f g) (λ c.
     let met = atom_of_collide f g c in

@@ -1,4 +1,4 @@
--- The places that are held back, found one after another, are those that the machine's state holds back.
+-- The places that are blocked, found one after another, are those that the machine's state blocks.
 use Rattle.std.specs.Prelude.{◌≡◌, ℕ, zero, suc, Bool, true, false, not, List, [], ◌∷◌, ◌++◌, map, take, reverse, find, Option, Some, None, refl, if◌then◌else◌}
 use Rattle.std.specs.List.{filter_map, cons_option}
 use Rattle.std.specs.Option.{option_map, option_and_then, option_to_list}
@@ -44,7 +44,7 @@ module _ (t : Trace) (s : World) where
       ap (λ hs. here ++ hs) (held_more next more ks k ∙ ap (λ vs. held_from t s next more ks ++ option_to_list (behind vs k)) (append_assoc ws (waits_at rs j ∷ []) (waiting_from t s next ks)))
       ∙ sym (append_assoc here (held_from t s next more ks) (option_to_list (behind (ws ++ waiting_from t s rs (j ∷ ks)) k)))
 
-  -- The reaches are those of these places, the latest first.
+  -- The may-access sets are those of these places, the latest first.
   abbrev reaches_of : List Waiting → List Footprint
   reaches_of ws = map (λ (w : Waiting). w.reach) (reverse ws)
 
@@ -57,7 +57,7 @@ module _ (t : Trace) (s : World) where
       ∙ sym (append_assoc (reaches_of ws) (reach t j s rs ∷ []) rs)
       ∙ ap (λ fs. fs ++ rs) (sym (ap (map (λ (v : Waiting). v.reach)) (reverse-append (w ∷ []) ws) ∙ map-append (λ (v : Waiting). v.reach) (reverse ws) (w ∷ [])))
 
-  -- A footprint that is clear of them has no holder.
+  -- An access set that is clear of them has no holder.
   clear-none : (f : Footprint) (ws : List Waiting) → is_clear (replayed t) f (map (λ (w : Waiting). w.reach) ws) ≡ true → find (λ (w : Waiting). collide f w.reach) ws ≡ None
   clear-none f [] e = refl
   clear-none f (w ∷ ws) e = elim (cases_Bool (collide f w.reach)) [

@@ -57,7 +57,7 @@ module _ (t : Trace) (spelled : IsSpelled t) (window : ℕ) (w : World) (q : ℕ
   pub all_different : AllDifferent free
   all_different = subst AllDifferent (sym free_is_wave) (different-choice (is_free (replayed t) (state_after t window q)) window done (places t))
 
-  -- Each of them has its footprint in the table.
+  -- Each of them has its access set in the table.
   pub has_footprint : (k : ℕ) → has free k ≡ true → HasReach s k (footprint_after t window q k)
   has_footprint k e =
       let in_wave = has-filter (is_free (replayed t) (state_after t window q)) (take window (pending done (places t))) k (ap (λ ks. has ks k) (sym free_is_wave) ∙ e) in

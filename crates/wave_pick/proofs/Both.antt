@@ -1,4 +1,4 @@
--- An atom of what two items share is one of both; and footprints share an item exactly where they collide.
+-- An atom of what two items share is one of both; and access sets share an item exactly where they collide.
 use Rattle.std.specs.Prelude.{◌≡◌, ℕ, Bool, true, false, ◌&&◌, ◌||◌, ◌==◌, ltb, min, max, T, [], ◌∷◌, refl, Option, Some, None, is_some, if◌then◌else◌}
 use Rattle.std.specs.List.{list_any}
 use Rattle.std.specs.Option.{option_or}

@@ -131,7 +131,7 @@ module _ (t : Trace) (spelled : IsSpelled t) (window r k : ℕ) (waits : Waits t
   abbrev earlier : List Footprint
   earlier = reaches_after t window r k
 
-  -- The reach of a place that may run has what it looks up.
+  -- The may-access set of a place that may run has what it looks up.
   deciding_in_reach : (a : Atom) → has_atom (look_after t window r k).deciding a ≡ true → has_atom (reach_after t window r k) a ≡ true
   deciding_in_reach a h =
       let laws = row_laws t all_covered in

@@ -1,4 +1,4 @@
--- Which place holds back another, and that it does.
+-- Which place blocks another, and that it does.
 use Rattle.std.specs.Prelude.{◌≡◌, ℕ, zero, suc, ◌<◌, Bool, true, false, [], ◌∷◌, reverse, find, Option, Some, None, is_some, refl}
 use Rattle.std.specs.Option.{option_map, option_and_then}
 use Rattle.std.proofs.Common.{inl, inr, sym, ap, subst, ◌∙◌, arith}
@@ -63,7 +63,7 @@ module _ (p : ℕ → Bool) (done : ℕ → Bool) where
         ]
   ]
 
--- Where two footprints collide, they share an item.
+-- Where two access sets collide, they share an item.
 shared_there : (f g : Footprint) → collide f g ≡ true → (x : Item) × (shared_of f g ≡ Some x)
 shared_there f g c = elim (shared_of f g) as (λ o. is_some o ≡ true → (x : Item) × (o ≡ Some x)) [ None ↦ λ e. (cc) | Some x ↦ λ e. (x, refl) ] (shared_where_colliding f g ∙ c)
 

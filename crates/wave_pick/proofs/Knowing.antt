@@ -1,4 +1,4 @@
--- Of a scheduler's tables: what stays of them where one place is written, and what an index with one reach more covers.
+-- Of a scheduler's tables: what stays of them where one place is written, and what an index with one may-access set more covers.
 use Rattle.std.specs.Prelude.{◌≡◌, ℕ, zero, suc, ◌<◌, Bool, true, false, ◌&&◌, ◌||◌, T, List, [], ◌∷◌, ◌++◌, map, length, slice_get, Option, Some, None, refl}
 use Rattle.std.specs.List.{list_any}
 use Rattle.std.specs.Option.{option_map}
@@ -94,7 +94,7 @@ module _ (t : Trace) (window q k : ℕ) (s later : Scheduler) (reaches : later.r
       (ap (λ v. slice_get v.items k) reaches ∙ r.reach) (λ i h. ap (λ v. slice_get v.items i) reaches ∙ r.other_reaches i h)
       (λ f. let i = index f in subst (λ a. Covers a (reach_after t window r.last k)) (sym i.1) (r.covered i.0)))
 
--- The index with one reach more.
+-- The index with one may-access set more.
 module _ (before after : Ahead) (r : Footprint) (adds : AddsReach before after r) where
   pub covers_still : (f : Footprint) → Covers before f → Covers after f
   covers_still f c = record {
@@ -108,7 +108,7 @@ module _ (before after : Ahead) (r : Footprint) (adds : AddsReach before after r
     touches = λ x h. subst T (sym (adds.touches x)) (either_right (touched before x) (touches_item r x) h);
   }
 
--- What some reaches do, as writing an item, is done where each that does so says it is.
+-- What some may-access sets do, as writing an item, is done where each that does so says it is.
 module _ (does : Footprint → Bool) where
   done_by : (b : Bool) (reaches : List Footprint) → ((y : ℕ) (g : Footprint) → slice_get reaches y ≡ Some g → T (does g) → T b) → T (list_any does reaches)
       → T b
@@ -135,7 +135,7 @@ module _ (does : Footprint → Bool) where
       at [] = refl
       at (k ∷ ks) = ap (λ b. at_place does (slice_get table k) || b) (at ks)
 
-  -- One place more, whose reach a table has or not.
+  -- One place more, whose may-access set a table has or not.
   abbrev pub by_reach : Option Footprint → Bool
   by_reach (Some f) = does f
   by_reach None = false
@@ -151,7 +151,7 @@ module _ (does : Footprint → Bool) where
       list_any-append (λ j. at_place does (slice_get table j)) ks (k ∷ [])
       ∙ (λ i. sym so i || or-false (at_place does (slice_get table k)) i) ∙ ap (λ c. b || c) (at_kept (slice_get table k) ∙ ap by_reach (sym kept))
 
-  -- So an index that covers each of the reaches that a table has of some places tells what one of these does.
+  -- So an index that covers each of the may-access sets that a table has of some places tells what one of these does.
   pub one_of_these : (s : Scheduler) (b : Bool) (table : List (Option Footprint)) (ks : List ℕ) (gs : List Footprint) → table ≡ s.reaches.items
       → HaveReaches s ks gs
       → ((y : ℕ) (g : Footprint) → slice_get gs y ≡ Some g → T (does g) → T b) → (b && one_at table ks does) ≡ list_any does gs
@@ -161,7 +161,7 @@ module _ (does : Footprint → Bool) where
   one_more : (rs : List Footprint) (r : Footprint) → list_any does (rs ++ r ∷ []) ≡ (list_any does rs || does r)
   one_more rs r = list_any-append does rs (r ∷ []) ∙ ap (λ b. list_any does rs || b) (or-false (does r))
 
--- The index of one reach more.
+-- The index of one may-access set more.
 module _ (s later : Scheduler) (exact : later.exact ≡ s.exact) (reaches : List Footprint) (i : IsIndex s reaches) (r : Footprint) where
   pub index_grew : AddsReach s.ahead later.ahead r → IsIndex later (reaches ++ r ∷ [])
   index_grew adds = record {
@@ -176,7 +176,7 @@ module _ (s later : Scheduler) (exact : later.exact ≡ s.exact) (reaches : List
     ];
   }
 
-  -- So it is where it has more than the reaches before, and covers this one already.
+  -- So it is where it has more than the may-access sets before, and covers this one already.
   pub index_covers : s.exact ≡ false → later.ahead ≡ s.ahead → Covers s.ahead r → IsIndex later (reaches ++ r ∷ [])
   index_covers others same c = record {
     alone = λ e. not_both (sym exact ∙ e) others;
@@ -186,7 +186,7 @@ module _ (s later : Scheduler) (exact : later.exact ≡ s.exact) (reaches : List
     ]);
   }
 
--- An index covers each reach that it has.
+-- An index covers each may-access set that it has.
 pub covers_each : (s : Scheduler) (gs : List Footprint) → IsIndex s gs → (y : ℕ) (g : Footprint) → slice_get gs y ≡ Some g → Covers s.ahead g
 covers_each s gs i y g e = elim (cases_Bool s.exact) [
   | inl exact ↦
@@ -198,7 +198,7 @@ covers_each s gs i y g e = elim (cases_Bool s.exact) [
   | inr others ↦ i.among others y g e
 ]
 
--- What a table has as the reach of a place.
+-- What a table has as the may-access set of a place.
 pub kept_some : (o : Option (Option Footprint)) (f : Footprint) → Some f ≡ kept_reach o → o ≡ Some (Some f)
 kept_some (Some (Some g)) f e = ap Some (sym e)
 kept_some (Some None) f e = (cc)

@@ -92,7 +92,7 @@ module _ (s later : Scheduler) (k : ℕ) (old new : Listed) (there : slice_get s
     rest = rest;
   }
 
--- A place has a new reach, and those that rest on it are woken.
+-- A place has a new may-access set, and those that rest on it are woken.
 pub renews_waking : (k : ℕ) (f : Footprint) (s mid later : Scheduler) → mid.reaches.items ≡ set s.reaches.items k (Some f) → mid ≡ record s { reaches = mid.reaches } → Wakes k mid later → Renews k f s later
 renews_waking k f s mid later reaches same w = record {
   reaches = ap (λ (x : Scheduler). x.reaches.items) w.rest ∙ reaches;
@@ -106,7 +106,7 @@ renews_waking k f s mid later reaches same w = record {
       ∙ ap (λ v. record s { reaches = v; again = later.again; resting = later.resting }) (sym (ap (λ (x : Scheduler). x.reaches) w.rest));
 }
 
--- It has the reach that it had.
+-- It has the may-access set that it had.
 pub renews_same : (k : ℕ) (f : Footprint) (s later : Scheduler) → later.reaches.items ≡ set s.reaches.items k (Some f) → later ≡ record s { reaches = later.reaches } → HasReach s k f → Renews k f s later
 renews_same k f s later reaches same had = record {
   reaches = reaches;
@@ -185,7 +185,7 @@ one_taken reach was e d = cc
 pub none_taken : {Y : Type 0} (reach : Footprint) {x : Option Footprint} → ◌≡◌ {A = Option (Option Footprint)} (Some x) (Some (Some reach)) → x ≡ None → Y
 none_taken reach e d = (cc)
 
--- What is seen of a place is kept: its reach is added, then kept, and it is listed.
+-- What is seen of a place is kept: its may-access set is added, then kept, and it is listed.
 pub keeps_so : (k : ℕ) (v : View) (s : Scheduler) (ahead : Ahead) (added : ℕ) (mid later : Scheduler) → AddsReach s.ahead ahead v.reach → Renews k v.reach (record s { ahead = ahead; added = added }) mid → (on : List ℕ) → Lists k on mid later
     → (IsAgain mid k → IsAgain later k) ⊎ ((r : Rest) × ((v.rest ≡ Some r) × ((i : ℕ) → has r.on.items i ≡ true → IsListed later i k)))
     → Keeps k v s later

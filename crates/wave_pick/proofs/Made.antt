@@ -1,4 +1,4 @@
--- The reach of an earlier place writes nothing that a place makes.
+-- The may-access set of an earlier place writes nothing that a place makes.
 use Rattle.std.specs.Prelude.{◌≡◌, ℕ, suc, Bool, true, false, cond, not, ◌||◌, ◌+◌, ◌<◌, ◌≤◌, ltb, leb, length, T, List, [], ◌∷◌, ◌++◌, map, Option, Some, None, refl}
 use Rattle.std.proofs.Common.{inl, inr, sym, subst, arith}
 use Rattle.std.proofs.lemmas.Bool.{cond_both}
@@ -22,7 +22,7 @@ use Rattle.foot_print.proofs.Lawful.{row_laws}
 use Rattle.foot_print.proofs.Writing.{is_false, atom_of_writes}
 use Rattle.wave_pick.specs.Waiting.{made_of}
 
--- All atoms of a footprint are of no place behind k.
+-- All atoms of an access set are of no place behind k.
 record UpTo (t : Trace) (k : ℕ) (f : Footprint) : Type 0 where
   bound : (a : Atom) → T (has_atom f a) → T (is_earlier t (suc k) a)
 
@@ -167,7 +167,7 @@ module _ (t : Trace) where
       wide_bound : Bound (wide_row t k s earlier)
       wide_bound = all (order_of t k) _ order (all (unresolved_of t k s (task t k)) _ (unresolved_of_bound (task t k)) (extras_bound (task t k)))
 
-      -- A reach has nothing of later places.
+      -- A may-access set has nothing of later places.
       reach_bound : Known t k s earlier → Bound (reach t k s earlier)
       reach_bound known =
           cond_both (is_taken_to_run t k s earlier) _ _ Bound
@@ -217,7 +217,7 @@ module _ (t : Trace) where
     makes_unmet (making p) = own_unmet
     makes_unmet _ = refl
 
-    -- The reach of an earlier place writes nothing that a turn makes.
+    -- The may-access set of an earlier place writes nothing that a turn makes.
     pub made_unmet : (x : Option Turn) → is_met (made_of t k x) (reach t i s earlier ∷ []) ≡ false
     made_unmet (Some (runs r e o)) = makes_unmet (shape o)
     made_unmet _ = refl

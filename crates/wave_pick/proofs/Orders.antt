@@ -41,7 +41,7 @@ two_members t c i k lt within first second =
     let all = members_stay t c (suc k) (places t) (omega arith) in
     le-leb 2 (length (below t (places t) c)) (omega (arith, early, between, late, all))
 
--- What every place has, its reach has.
+-- What every place has, its may-access set has.
 pub in_reach : (p : Use → Bool) (t : Trace) (k : ℕ) (s : World) (earlier : List Footprint) → T (list_any p (order_of t k)) → T (list_any p (reach t k s earlier))
 in_reach p t k s earlier h =
     let P : Footprint → Type 0 = λ f. T (list_any p f) in
@@ -51,7 +51,7 @@ in_reach p t k s earlier h =
     (λ _. cond_both (is_met (running_row t k s) earlier) _ _ P (λ _. in_left p (order_of t k) _ h) (λ _. in_left p (order_of t k) _ h)))
     (λ _. h)
 
--- The reach of a place that may run, by what earlier reaches write of the items that decide its others, and of its row.
+-- The may-access set of a place that may run, by what earlier may-access sets write of the items that decide its others, and of its row.
 module _ (t : Trace) (k : ℕ) (s : World) (earlier : List Footprint) (run : is_taken_to_run t k s earlier ≡ true) where
   pub wide_reach : is_met (look_of t k s (task t k)).deciding earlier ≡ true → reach t k s earlier ≡ wide_row t k s earlier
   wide_reach d = cond-true _ _ _ run ∙ cond-true _ _ _ d
@@ -87,7 +87,7 @@ module _ (t : Trace) (i k : ℕ) (s : World) (earlier : List Footprint) where
   earlier_writes a h w = true_of _ (second_writes-collide (footprint t k s) (reach t i s earlier) a
       (in_left (λ (u : Use). member_of u.item a) (order_of t k) _ h) (in_reach (λ (u : Use). u.written && member_of u.item a) t i s earlier w))
 
--- The footprint of the later place collides with the reach of the earlier one.
+-- The access set of the later place collides with the may-access set of the earlier one.
 pub always_collide : (t : Trace) (i k : ℕ) → i < k → k < places t → InOrder t i k → (s : World) (earlier : List Footprint) → collide (footprint t k s) (reach t i s earlier) ≡ true
 always_collide t i k lt within (inl same) s earlier =
     let c = (role t k).chain in

@@ -29,7 +29,7 @@ use Rattle.wave_pick.proofs.Seeing.{has-got}
 use Rattle.wave_pick.proofs.Within.{before_pending, not_in_more, pending_has}
 use Rattle.wave_pick.proofs.Lists.{all_or, not_both, set-here, set-other}
 
--- A place that waits from one round to the next with the same reach.
+-- A place that waits from one round to the next with the same may-access set.
 stays_so : (t : Trace) (window p k : ℕ) → Waits t window (suc p) k → reach_after t window (suc p) k ≡ reach_after t window p k → StaysAsIs t window p (suc p) k
 stays_so t window p k waits e = record {
   waits = waits;
@@ -98,7 +98,7 @@ module _ (t : Trace) (spelled : IsSpelled t) (window : ℕ) (w : World) (q : ℕ
     not_earlier : has (take x first) k ≡ false
     not_earlier = false_from_ne_true _ (λ h. let low = (has_earlier k h).0 in absurd (omega (arith, low)))
 
-    -- The table has the reaches of those before it.
+    -- The table has the may-access sets of those before it.
     table_has : (s : Scheduler) (ks : List ℕ) → ((j : ℕ) → has ks j ≡ true → HasReach s j (reach_of j)) → HaveReaches s ks (map reach_of ks)
     table_has s [] all = refl
     table_has s (j ∷ ks) all = λ i. all j (Rattle.interleaving.proofs.Members.has-here j ks) i ∷ table_has s ks (λ n h. all n (Rattle.interleaving.proofs.Members.has-later n j ks h)) i
@@ -113,7 +113,7 @@ module _ (t : Trace) (spelled : IsSpelled t) (window : ℕ) (w : World) (q : ℕ
         (subst (λ n. AreBefore t window n k (take x first) s) (sym same) (are_before s free h))
         (subst (λ n. IsIndex s (map (reach_after t window n) (take x first))) (sym same) h.index))
 
-    -- The reaches before it.
+    -- The may-access sets before it.
     before_is : reaches_from t (world_after t window q) [] (take x first) ≡ reaches_after t window q k
     before_is = ap (reaches_from t (world_after t window q) []) before_it ∙ pending_reaches t (world_after t window q) done k
 

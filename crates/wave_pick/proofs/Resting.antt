@@ -1,4 +1,4 @@
--- What rests on earlier places rests on them while these wait with one reach.
+-- What rests on earlier places rests on them while these wait with one may-access set.
 use Rattle.std.proofs.Common.{◌≡◌, ℕ, zero, suc, ◌≤◌, true, false, List, [], ◌∷◌, inl, inr, sym, ap, subst, ◌∙◌, arith}
 use Rattle.std.proofs.lemmas.Bool.{cases_eq}
 use Rattle.interleaving.specs.Machine.{State, has, opening}
@@ -36,7 +36,7 @@ same_reach t window r q i le h = h.same q le (omega arith)
 pub all_before : (t : Trace) → IsSpelled t → (window r q : ℕ) (is : List ℕ) → AllStay t window r (suc q) is → AllStay t window r q is
 all_before t spelled window r q is h i e = stays_before t spelled window r q i (h i e)
 
--- What tells that one of some places holds back another one, whose reach stays, and goes on from round to round while that one waits and the others stay as they are.
+-- What tells that one of some places blocks another one, whose may-access set stays, and goes on from round to round while that one waits and the others stay as they are.
 module _ (t : Trace) (spelled : IsSpelled t) (window r : ℕ) (is : List ℕ) (k : ℕ) (P : ℕ → Type 0) where
   pub record GoesOn : Type 0 where
     pub waits : Waits t window r k

@@ -1,4 +1,4 @@
--- A place rests on some of which one has a reach that writes one of the items by which it waits.
+-- A place rests on some of which one has a may-access set that writes one of the items by which it waits.
 use Rattle.std.proofs.Common.{◌≡◌, ℕ, suc, ◌<◌, ◌≤◌, Bool, true, false, List, [], ◌∷◌, ◌++◌, inl, inr, refl, sym, ap, ◌∙◌, arith}
 use Rattle.interleaving.proofs.Members.{has-here}
 use Rattle.interleaving.specs.Machine.{has}
@@ -62,7 +62,7 @@ module _ (t : Trace) (spelled : IsSpelled t) (window r i k : ℕ) (waits : Waits
     next = decided_next;
   })
 
--- A place that may run, of which the same item is the first that the reach of the earlier one writes.
+-- A place that may run, of which the same item is the first that the may-access set of the earlier one writes.
 module _ (t : Trace) (spelled : IsSpelled t) (window r i k : ℕ) (known rest : Footprint) (first : Use) (lt : i < k) (now : Waits t window r i) (waits : Waits t window r k)
     (run : is_taken_to_run t k (world_after t window r) (reaches_after t window r k) ≡ true) (is : List ℕ) (is_one : has is i ≡ true) (h : WriteForAll t window r is k)
     (deciding : (look_after t window r k).deciding ≡ known ++ first ∷ rest) (unmet : is_met known (reaches_after t window r k) ≡ false)

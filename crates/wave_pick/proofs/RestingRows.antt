@@ -1,4 +1,4 @@
--- What a place keeps that rests on some whose reaches write for all: whether it may run, whether a descriptor is written, and its rows.
+-- What a place keeps that rests on some whose may-access sets write for all: whether it may run, whether a descriptor is written, and its rows.
 use Rattle.std.proofs.Common.{◌≡◌, ℕ, suc, ◌<◌, ◌≤◌, true, false, if◌then◌else◌, List, [], ◌∷◌, ◌++◌, inl, inr, refl, sym, ap, subst, ◌∙◌, arith}
 use Rattle.std.specs.Prelude.{T, ◌&&◌, leb, Option, Some, None}
 use Rattle.std.proofs.lemmas.Bool.{cases_Bool, cond-true, cond-false}
@@ -33,11 +33,11 @@ use Rattle.wave_pick.proofs.Waiting.{until, turn_stays, look_next}
 use Rattle.wave_pick.proofs.Wide.{extras_same, wide_stays, unresolved_in_world}
 use Rattle.wave_pick.proofs.Witness.{row_witness_holds, written_before}
 
--- Where no reach before it writes its chain's flag, a place may run unless it is canceled.
+-- Where no may-access set before it writes its chain's flag, a place may run unless it is canceled.
 settled_runs : (t : Trace) (window r k : ℕ) → ChainIsSettled t window r k → is_taken_to_run t k (world_after t window r) (reaches_after t window r k) ≡ (if is_canceled (turn t k (world_after t window r)) then false else true)
 settled_runs t window r k e = cond-false _ _ _ e
 
--- A place whose reach writes the flag of a later one's chain holds that one back, where it is of a chain of two or more.
+-- A place whose may-access set writes the flag of a later one's chain holds that one back, where it is of a chain of two or more.
 module _ (t : Trace) (window r i k : ℕ) where
   abbrev flag : Atom
   flag = chain_flag (role t k).chain
@@ -48,7 +48,7 @@ module _ (t : Trace) (window r i k : ℕ) where
       let there = subst (λ (a : Atom). T (has_atom (reach_after t window r i) a)) (sym (same_atom-eq flag c.0 c.2)) (writes-has (reach_after t window r i) c.0 c.1) in
       true_of _ (first_writes-collide (footprint_after t window r k) (reach_after t window r i) flag (in_left (λ (u : Use). u.written && member_of u.item flag) (order_of t k) _ (writes_chain t k two)) there)
 
--- One of some places holds back one whose row another of them writes: that one, or the one that writes the flag of its chain.
+-- One of some places blocks one whose row another of them writes: that one, or the one that writes the flag of its chain.
 module _ (t : Trace) (window r i k : ℕ) (is : List ℕ) (is_one : has is i ≡ true) where
   pub holds_by_row : is_taken_to_run t k (world_after t window r) (reaches_after t window r k) ≡ true → WriteForAll t window r is k → WritesRow t window r i k → OneHolds t window r is k
   holds_by_row run h w = elim (cases_Bool (is_canceled (turn t k (world_after t window r)))) [
@@ -79,7 +79,7 @@ write_alone t window r i k lt now h = record {
     one_writes : (x : Item) → written_by (reach_after t window r i ∷ []) x ≡ true → OneWrites t window r (i ∷ []) k x
     one_writes x w = record { place = i; is_one = has-here i []; is_before = lt; waits = now; writes = w }
 
--- Where a turn doesn't take the lowest free descriptor, what it may make and its room are told by neither world nor reaches.
+-- Where a turn doesn't take the lowest free descriptor, what it may make and its room are told by neither world nor may-access sets.
 same_extras : (t : Trace) (k : ℕ) (s u : World) (earlier later : List Footprint) (x : Option Turn) → turn_takes_lowest x ≡ false → extras_of t k u later x ≡ extras_of t k s earlier x
 same_extras t k s u earlier later x e = extras_same t k s u earlier later x (λ r y o is. room r o (ap turn_takes_lowest (sym is) ∙ e))
   where
@@ -89,7 +89,7 @@ same_extras t k s u earlier later x e = extras_same t k s u earlier later x (λ 
     room r _ h = refl
 
 module _ (t : Trace) (spelled : IsSpelled t) (window : ℕ) where
-  -- Where no reach before a place writes a descriptor, none does while it waits.
+  -- Where no may-access set before a place writes a descriptor, none does while it waits.
   unwritten_stays : (r q k : ℕ) → r ≤ q → Waits t window q k → descriptors_wait t window r k ≡ false → descriptors_wait t window q k ≡ false
   unwritten_stays r q k le waits e =
       until t spelled window k (λ n. descriptors_wait t window n k ≡ false) r (λ n _ later h.

@@ -22,7 +22,7 @@ use Rattle.foot_print.proofs.Unmet.{unmet_part}
 use Rattle.foot_print.proofs.Writing.{is_false, not_false}
 use Rattle.wave_pick.specs.Waiting.{made_of, RowItems}
 
--- One footprint has the atoms of another.
+-- One access set has the atoms of another.
 record Has (g f : Footprint) : Type 0 where
   has : (a : Atom) → T (has_atom f a) → T (has_atom g a)
 
@@ -56,7 +56,7 @@ module _ (t : Trace) (k r : ℕ) (s : World) where
       at None = has_nothing []
       at (Some n) = has_both (reads (one (description_at n)) ∷ []) (each (of_file c) (handle_of s n)) (reads (one (description_at n)) ∷ []) (each (of_file d) (handle_of s n)) (has_self (reads (one (description_at n)) ∷ [])) (of_handle (handle_of s n))
 
-  -- What an operation has as accepted, and its room where no reach before it writes a descriptor.
+  -- What an operation has as accepted, and its room where no may-access set before it writes a descriptor.
   abbrev shape_items : Shape → Footprint
   shape_items x = shape_row t k r s foreseen x ++ each (room_at t s r (written_by [])) (shape_asked x)
 

@@ -44,7 +44,7 @@ has-got [] (suc y) i e = (cc)
 has-got (x ∷ xs) zero i e = let same : x ≡ i = cc in ap (λ j. has (j ∷ xs) i) same ∙ has-here i xs
 has-got (x ∷ xs) (suc y) i e = has-later i x xs (has-got xs y i e)
 
--- The reaches of the places that wait, in order, are those that the machine has, turned round.
+-- The may-access sets of the places that wait, in order, are those that the machine has, turned round.
 pub reaches_turned : (t : Trace) (window q n : ℕ) → reverse (map (reach_after t window q) (pending (has (state_after t window q).finished) n)) ≡ reaches_after t window q n
 reaches_turned t window q zero = refl
 reaches_turned t window q (suc n) =
@@ -61,7 +61,7 @@ reaches_turned t window q (suc n) =
           (ap (λ gs. reach_after t window q n ∷ gs) before)
     ]
 
--- A footprint that some reach writes isn't clear of them.
+-- An access set that some may-access set writes isn't clear of them.
 pub met_not_clear : (t : Trace) (f : Footprint) (rs : List Footprint) → is_met f rs ≡ true → false ≡ is_clear (replayed t) f rs
 met_not_clear t f rs e = ap not (sym (met_all f rs e)) ∙ clear_is t f rs
 
@@ -99,7 +99,7 @@ module _ (t : Trace) (spelled : IsSpelled t) (window q k : ℕ) (earlier : List 
   place_before : (y i : ℕ) → slice_get earlier y ≡ Some i → (i < k) × Waits t window q i
   place_before y i e = has-pending (has (state_after t window q).finished) k i (ap (λ ks. has ks i) (sym b.places_are) ∙ has-got earlier y i e)
 
-  -- A place that no reach before it writes rests on one that holds it back.
+  -- A place that no may-access set before it writes rests on one that holds it back.
   pub unmet_rests : (f : Footprint) → f ≡ footprint_after t window q k → is_met f rs ≡ false → (on : List ℕ) → RestsOnCollision f earlier s.reaches.items on → RestsOnThese t window q on k
   unmet_rests f e unmet on r =
       let i = r.place in
@@ -171,7 +171,7 @@ module _ (t : Trace) (spelled : IsSpelled t) (window q k : ℕ) (earlier : List 
             rests = rests_together t spelled window q i k on r.items r.writer.1.0 first.0 first.1 b.waits (waits r.items r.waits_by) for_all (ap (λ h. is_met r.items (h ∷ [])) (sym reach_is) ∙ met);
           }
 
--- A look at a place whose footprint this is, behind an index.
+-- A look at a place whose access set this is, behind an index.
 module _ (t : Trace) (spelled : IsSpelled t) (window q k : ℕ) (earlier : List ℕ) (s : Scheduler) (a : AreBefore t window q k earlier s) (b : Behind) (is : IsBehind (map (reach_after t window q) earlier) b) (f : Footprint) (foot : f ≡ footprint_after t window q k) where
   abbrev before : List Footprint
   before = reaches_after t window q k

@@ -19,7 +19,7 @@ use Rattle.wave_pick.proofs.Lists.{not_both}
 module _ (m : System) where
   open m use {World, Footprint, reach, collide}
 
-  -- a footprint that collides with the reach of no place that isn't done is clear of these reaches
+  -- an access set that collides with the may-access set of no place that isn't done is clear of these may-access sets
   pub clear_of_all : (f : Footprint) (done : ℕ → Bool) (s : World) (n : ℕ) → ((i : ℕ) → i < n → done i ≡ false → collide f (reach i s (reaches m done s i)) ≡ false) → is_clear m f (reaches m done s n) ≡ true
   clear_of_all f done s zero all = refl
   clear_of_all f done s (suc n) all =
@@ -56,7 +56,7 @@ module _ (m : System) (laws : Laws m) where
   open_before : (s : State m) (es : List Event) (k : ℕ) → has (run m s es).finished k ≡ false → has s.finished k ≡ false
   open_before s es k d = false_from_ne_true (has s.finished k) (λ f. not_both (stays_finished m s es k f) d)
 
-  -- what thinner lists keep, the reaches before a waiting place keep
+  -- what thinner lists keep, the may-access sets before a waiting place keep
   module _ (P : List Footprint → Type 0) (thin : (rs less : List Footprint) → Thinner m less rs → P rs → P less) (k : ℕ) where
     keeps_event : (n : ℕ) (s : State m) (e : Event) → OnCourse m n s → IsLegal m n s e → has (happens m s e).finished k ≡ false
         → P (reaches m (has s.finished) s.world k) → P (reaches m (has (happens m s e).finished) (happens m s e).world k)
@@ -92,7 +92,7 @@ module _ (m : System) (laws : Laws m) where
         subst (λ (x : State m). P (reaches m (has x.finished) x.world k)) (sym (rounds-more m n w r (opening m)))
         (keeps_events P thin k n s (in_turn (chosen m n w s)) (between_rounds n w r).on (one_round n w r (between_rounds n w r)).0 next h)
 
-    -- of what the place may touch, the round changes nothing that no earlier reach writes
+    -- of what the place may touch, the round changes nothing that no earlier may-access set writes
     pub keeps_value : (a : Atom) → NoneWrites m (reaches m (has s.finished) s.world k) a
         → touches (reach k s.world (reaches m (has s.finished) s.world k)) a ≡ true → value (rounds m n w (suc r) (opening m)).world a ≡ value s.world a
     keeps_value a none touched =

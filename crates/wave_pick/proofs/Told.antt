@@ -1,4 +1,4 @@
--- Of the first places that wait, those that are asked for and held back, by the reaches that a table has.
+-- Of the first places that wait, those that are asked for and blocked, by the may-access sets that a table has.
 use Rattle.std.specs.Prelude.{◌≡◌, ℕ, Bool, true, false, List, [], ◌∷◌, ◌++◌, map, take, filter, find, reverse, slice_get, Option, Some, None, refl, if◌then◌else◌}
 use Rattle.std.specs.Option.{option_map, option_and_then, option_to_list}
 use Rattle.std.proofs.Common.{inl, inr, ap, sym, subst, ◌∙◌}
@@ -41,7 +41,7 @@ find-same : (p q : ℕ → Bool) (xs : List ℕ) → ((k : ℕ) → has xs k ≡
 find-same p q [] h = refl
 find-same p q (x ∷ xs) h = λ i. if h x (has-here x xs) i then Some x else find-same p q xs (λ k m. h k (has-later k x xs m)) i
 
--- The latest of some places whose reach, as a table has it, collides with a footprint.
+-- The latest of some places whose may-access set, as a table has it, collides with an access set.
 module _ (k : ℕ) (f : Footprint) (earlier : List ℕ) (table : List (Option Footprint)) where
   abbrev found : Option ℕ
   found = find (λ i. collides_with f (kept_reach (slice_get table i))) (reverse earlier)
@@ -70,7 +70,7 @@ module _ (k : ℕ) (f : Footprint) (earlier : List ℕ) (table : List (Option Fo
       ap (λ v. with_holder k (option_map (λ (x : Item). let h : Holder = record { place = i; item = x } in h) v)) (is ∙ ap (shared_of f) same)
       ∙ ap (with_holder k) (holder_by reach there (Some i) e)
 
-  -- No place is found of which the table has no reach.
+  -- No place is found of which the table has no may-access set.
   pub told_lost : (i : ℕ) → found ≡ Some i → kept_reach (slice_get table i) ≡ None → IsTold k f earlier table None
   told_lost i e lost = λ reach there. absurd (none-some _ (sym lost ∙ ap kept_reach (found_reach reach there i e)))
 

@@ -36,7 +36,7 @@ module _ (t : Trace) (k : ℕ) where
   extras_same s u earlier later (Some (runs r e o)) room = ap (λ f. makes t k o ++ f) (room r e o refl)
   extras_same s u earlier later _ room = refl
 
-  -- The room is told by whether a reach before the place writes a descriptor, and by the descriptors.
+  -- The room is told by whether a may-access set before the place writes a descriptor, and by the descriptors.
   extras_by_writing : (s : World) (earlier others : List Footprint) → written_by earlier all_descriptors ≡ written_by others all_descriptors → (x : Option Turn) → extras_of t k s earlier x ≡ extras_of t k s others x
   extras_by_writing s earlier others same x = extras_same s s others earlier x (λ r e o _. room r o)
     where
@@ -86,7 +86,7 @@ module _ (t : Trace) (spelled : IsSpelled t) (window r k : ℕ) (waits : Waits t
   abbrev deciding : Footprint
   deciding = (look_after t window r k).deciding
 
-  -- The extras where the reach has them.
+  -- The extras where the may-access set has them.
   extras_stay : ((a : Atom) → has_atom (extras_of t k s earlier (task t k)) a ≡ true → has_atom (reach_after t window r k) a ≡ true) → extras_of t k u earlier (task t k) ≡ extras_of t k s earlier (task t k)
   extras_stay within = extras_in_world t k s u earlier (task t k) (λ a none h. sym (keeps_value (replayed t) (lawful t spelled) (places t) window r k waits a none (within a h)))
 

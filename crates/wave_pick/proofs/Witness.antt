@@ -1,4 +1,4 @@
--- A place whose reach writes an item of the row of a later one holds that one back.
+-- A place whose may-access set writes an item of the row of a later one holds that one back.
 use Rattle.std.proofs.Common.{◌≡◌, ℕ, ◌<◌, true, if◌then◌else◌, [], ◌∷◌, ap, subst, ◌∙◌}
 use Rattle.std.specs.Prelude.{◌&&◌, ◌||◌, T}
 use Rattle.std.specs.List.{list_any}
@@ -30,7 +30,7 @@ use Rattle.wave_pick.proofs.Made.{made_unmet}
 use Rattle.wave_pick.proofs.RowItems.{rows_meet_the_same}
 use Rattle.wave_pick.proofs.Staying.{between_rounds}
 
--- What the reach of an earlier place that waits writes, the reaches before the later one write.
+-- What the may-access set of an earlier place that waits writes, the may-access sets before the later one write.
 module _ (t : Trace) (window r i k : ℕ) (lt : i < k) (waits : Waits t window r i) where
   pub written_before : (x : Item) → written_by (reach_after t window r i ∷ []) x ≡ true → written_by (reaches_after t window r k) x ≡ true
   written_before x h = true_from_ne_false _ (λ e.
@@ -42,7 +42,7 @@ module _ (t : Trace) (window r i k : ℕ) (lt : i < k) (waits : Waits t window r
   met_before f h = true_of _ (any_passes (λ (u : Use). written_by (reach_after t window r i ∷ []) u.item) (λ (u : Use). written_by (reaches_after t window r k) u.item)
       (λ (u : Use) m. holds_true _ (written_before u.item (true_of _ m))) f (holds_true _ h))
 
--- A footprint that has an item that another writes collides with that other one.
+-- An access set that has an item that another writes collides with that other one.
 met_collides : (f g : Footprint) → T (is_met f (g ∷ [])) → T (collide f g)
 met_collides f g h = any_passes (λ (v : Use). written_by (g ∷ []) v.item) (λ (v : Use). list_any (λ (w : Use). (v.written || w.written) && share v.item w.item) g)
     (λ (v : Use) m. any_passes (λ (w : Use). w.written && share w.item v.item) (λ (w : Use). (v.written || w.written) && share v.item w.item)

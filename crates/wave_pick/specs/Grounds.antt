@@ -10,7 +10,7 @@ use Rattle.foot_print.specs.declared.reaching.Outlook.{Outlook}
 use Rattle.wave_pick.specs.declared.scheduler.Ground.{Ground}
 use Rattle.wave_pick.specs.declared.scheduler.Ground.TheVariants.{Collides, WritesSome, Writes}
 
--- Whether a footprint writes one of some items.
+-- Whether an access set writes one of some items.
 abbrev pub writes_one_of : Footprint → Footprint → Bool
 writes_one_of f g = list_any (λ u. writes_item g u.item) f
 
@@ -19,7 +19,7 @@ ground_holds (Collides f) g = collide f.now g
 ground_holds (WritesSome f) g = writes_one_of f.now g
 ground_holds (Writes x) g = writes_item g (item_meant x.now)
 
--- A place is one of those before, and its reach, as a table has it, does something.
+-- A place is one of those before, and its may-access set, as a table has it, does something.
 pub record IsGround (does : Footprint → Bool) (earlier : List ℕ) (reaches : List (Option Footprint)) (i : ℕ) : Type 0 where
   pub at : ℕ
   pub reach : Footprint
@@ -41,7 +41,7 @@ pub record AddsGround (asked : Bool) (does : Footprint → Bool) (earlier : List
   pub each : AreEarlier earlier old → AreEarlier earlier new
   pub found : asked ≡ true → HasGround does earlier reaches new
 
--- The place of a list has a reach that collides with a footprint.
+-- The place of a list has a may-access set that collides with an access set.
 pub record RestsOnCollision (f : Footprint) (earlier : List ℕ) (reaches : List (Option Footprint)) (on : List ℕ) : Type 0 where
   pub place : ℕ
   pub alone : on ≡ place ∷ []

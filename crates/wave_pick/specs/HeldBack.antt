@@ -1,4 +1,4 @@
--- A view of code: the places that are held back, each with the one that holds it back, and how they are found one after another.
+-- A view of code: the places that are blocked, each with the one that holds it back, and how they are found one after another.
 use Rattle.std.specs.Prelude.{◌≡◌, ℕ, Bool, true, false, List, [], ◌∷◌, ◌++◌, map, take, find, reverse, Option, Some, None, if◌then◌else◌}
 use Rattle.std.specs.List.{filter_map}
 use Rattle.std.specs.Option.{option_map, option_and_then, option_to_list}
@@ -29,11 +29,11 @@ shared_if x y = if items.share x y then Some (shared_item x y) else None
 abbrev pub held_meant : Held → ℕ × Holder
 held_meant h = (h.place, record { place = h.holder; item = item_meant h.item })
 
--- The latest of some places whose reach collides with a footprint, with what the two share.
+-- The latest of some places whose may-access set collides with an access set, with what the two share.
 abbrev pub holder_of : items.Footprint → List Waiting → Option Holder
 holder_of f ws = option_and_then (λ w. option_map (λ x. record { place = w.place; item = x }) (shared_of f w.reach)) (find (λ w. items.collide f w.reach) (reverse ws))
 
--- These places with their reaches, behind earlier reaches.
+-- These places with their may-access sets, behind earlier may-access sets.
 abbrev pub waiting_from : Trace → World → List items.Footprint → List ℕ → List Waiting
 waiting_from t s rs [] = []
 waiting_from t s rs (k ∷ ks) = record { place = k; reach = reach t k s rs } ∷ waiting_from t s (reach t k s rs ∷ rs) ks
@@ -42,17 +42,17 @@ waiting_from t s rs (k ∷ ks) = record { place = k; reach = reach t k s rs } �
 abbrev pub with_holder : ℕ → Option Holder → Option (ℕ × Holder)
 with_holder k o = option_map (λ h. (k, h)) o
 
--- Those of these places that one of some earlier ones, or of these, holds back.
+-- Those of these places that one of some earlier ones, or of these, blocks.
 abbrev pub held_from : Trace → World → List items.Footprint → List Waiting → List ℕ → List (ℕ × Holder)
 held_from t s rs ws [] = []
 held_from t s rs ws (k ∷ ks) =
     option_to_list (with_holder k (holder_of (footprint t k s) ws)) ++ held_from t s (reach t k s rs ∷ rs) (ws ++ record { place = k; reach = reach t k s rs } ∷ []) ks
 
--- Of these places, in order, those that something holds back, each with its holder.
+-- Of these places, in order, those that something blocks, each with its holder.
 abbrev pub held_among : (t : Trace) → State (replayed t) → List ℕ → List (ℕ × Holder)
 held_among t s ks = filter_map (λ k. with_holder k (holder_in t s k)) ks
 
--- In each state of the machine with this world and these first pending places: those of them that something holds back, each with its holder.
+-- In each state of the machine with this world and these first pending places: those of them that something blocks, each with its holder.
 abbrev pub AreHeldBack : Trace → ℕ → World → List ℕ → List Held → Type 0
 AreHeldBack t window w first held =
     (s : State (replayed t)) → w ≡ s.world → first ≡ take window (pending (has s.finished) (places t)) → map held_meant held ≡ held_among t s first

@@ -1,4 +1,4 @@
--- A law: which place holds back another, and by what both hang together.
+-- A law: which place blocks another, and by what both hang together.
 use Rattle.std.specs.Prelude.{◌≡◌, ℕ, ◌<◌, true, ◌&&◌, Some, None, is_some}
 use Rattle.trace_format.specs.declared.trace.Trace.{Trace}
 use Rattle.world_parts.specs.Items.{Atom, Item, member_of, share, Footprint, collide}
@@ -10,7 +10,7 @@ use Rattle.wave_pick.specs.Holding.{shared_item, shared_of, Holder, holder_in}
 abbrev pub SharedIsBoth : Type 0
 SharedIsBoth = (x y : Item) (a : Atom) → share x y ≡ true → member_of (shared_item x y) a ≡ (member_of x a && member_of y a)
 
--- Two footprints share an item so exactly where they collide.
+-- Two access sets share an item so exactly where they collide.
 abbrev pub SharedWhereColliding : Type 0
 SharedWhereColliding = (f g : Footprint) → is_some (shared_of f g) ≡ collide f g
 

@@ -1,4 +1,4 @@
--- The model: which place holds back a waiting one, and what the two share.
+-- The model: which place blocks a waiting one, and what the two share.
 use Rattle.std.specs.Prelude.{ℕ, ◌&&◌, ◌||◌, min, max, [], ◌∷◌, reverse, find, Option, Some, None, if◌then◌else◌}
 use Rattle.std.specs.Option.{option_map, option_or, option_and_then}
 use Rattle.interleaving.specs.System.{reaches}
@@ -33,24 +33,24 @@ abbrev pub shared_with : Use → Footprint → Option Item
 shared_with u [] = None
 shared_with u (v ∷ vs) = option_or (shared_by u v) (shared_with u vs)
 
--- What the first use of a footprint that collides with one of another shares with that one.
+-- What the first use of an access set that collides with one of another shares with that one.
 abbrev pub shared_of : Footprint → Footprint → Option Item
 shared_of [] g = None
 shared_of (u ∷ us) g = option_or (shared_with u g) (shared_of us g)
 
--- The place that holds back a waiting one, and the item that both use.
+-- The place that blocks a waiting one, and the item that both use.
 pub record Holder : Type 0 where
   pub place : ℕ
   pub item : Item
 
--- The reach of a place behind those of the pending places before it.
+-- The may-access set of a place behind those of the pending places before it.
 abbrev pub reach_in : (t : Trace) → State (replayed t) → ℕ → Footprint
 reach_in t s i = reach t i s.world (reaches (replayed t) (has s.finished) s.world i)
 
--- The latest of the pending places before a place whose reach collides with its footprint.
+-- The latest of the pending places before a place whose may-access set collides with its access set.
 abbrev pub latest_in : (t : Trace) → State (replayed t) → ℕ → Option ℕ
 latest_in t s k = find (λ i. collide (footprint t k s.world) (reach_in t s i)) (reverse (pending (has s.finished) k))
 
--- That place, with what its reach and the footprint share.
+-- That place, with what its may-access set and the access set share.
 abbrev pub holder_in : (t : Trace) → State (replayed t) → ℕ → Option Holder
 holder_in t s k = option_and_then (λ i. option_map (λ x. record { place = i; item = x }) (shared_of (footprint t k s.world) (reach_in t s i))) (latest_in t s k)

@@ -1,4 +1,4 @@
--- The model: when one waiting place holds back another.
+-- The model: when one waiting place blocks another.
 use Rattle.std.specs.Prelude.{◌≡◌, ℕ, ◌<◌, true, false, List}
 use Rattle.interleaving.specs.System.{reaches}
 use Rattle.interleaving.specs.Machine.{has}
@@ -14,7 +14,7 @@ use Rattle.wave_pick.specs.Rounds.{state_after}
 abbrev pub Waits : Trace → ℕ → ℕ → ℕ → Type 0
 Waits t window r k = has (state_after t window r).finished k ≡ false
 
--- The world after r rounds; there the footprint of a place, the reaches of the waiting places before it, and its own reach.
+-- The world after r rounds; there the access set of a place, the may-access sets of the waiting places before it, and its own may-access set.
 abbrev pub world_after : Trace → ℕ → ℕ → World
 world_after t window r = (state_after t window r).world
 
@@ -27,7 +27,7 @@ reaches_after t window r k = reaches (replayed t) (has (state_after t window r).
 abbrev pub reach_after : Trace → ℕ → ℕ → ℕ → Footprint
 reach_after t window r k = reach t k (world_after t window r) (reaches_after t window r k)
 
--- One place holds back a later one: it waits, and its reach collides with the footprint of the later one.
+-- One place blocks a later one: it waits, and its may-access set collides with the access set of the later one.
 pub record HoldsBack (t : Trace) (window r i k : ℕ) : Type 0 where
   pub is_before : i < k
   pub waits : Waits t window r i

@@ -14,7 +14,7 @@ use Rattle.foot_print.specs.Replayed.{replayed}
 abbrev pub state_after : (t : Trace) → ℕ → ℕ → State (replayed t)
 state_after t window r = machine.rounds (replayed t) (places t) window r (opening (replayed t))
 
--- The places of the round after r rounds: of the first pending ones, as many as the window has, those whose footprint collides with the reach of no earlier pending place.
+-- The places of the round after r rounds: of the first pending ones, as many as the window has, those whose access set collides with the may-access set of no earlier pending place.
 abbrev pub wave_after : Trace → ℕ → ℕ → List ℕ
 wave_after t window r = chosen (replayed t) (places t) window (state_after t window r)
 

@@ -28,7 +28,7 @@ use Rattle.wave_pick.specs.declared.scheduler.View.{View}
 abbrev pub IsAgain : Scheduler → ℕ → Type 0
 IsAgain s k = slice_get s.again.items k ≡ Some true
 
--- The table has this reach of a place.
+-- The table has this may-access set of a place.
 abbrev pub HasReach : Scheduler → ℕ → Footprint → Type 0
 HasReach s k f = slice_get s.reaches.items k ≡ Some (Some f)
 
@@ -49,17 +49,17 @@ pub record RestsListed (t : Trace) (window r k : ℕ) (s : Scheduler) : Type 0 w
   pub these : RestsOnThese t window r on k
   pub listed : (i : ℕ) → has on i ≡ true → IsListed s i k
 
--- What is known of a place in the round after r others: its reach there, and, unless it is to be looked at again, on which places it rests.
+-- What is known of a place in the round after r others: its may-access set there, and, unless it is to be looked at again, on which places it rests.
 pub record IsKnown (t : Trace) (window r k : ℕ) (s : Scheduler) : Type 0 where
   pub reach : HasReach s k (reach_after t window r k)
   pub rests : IsAgain s k ⊎ RestsListed t window r k s
 
--- An index has all that a footprint writes and touches.
+-- An index has all that an access set writes and touches.
 pub record Covers (ahead : Ahead) (f : Footprint) : Type 0 where
   pub writes : (x : Item) → T (writes_item f x) → T (written ahead x)
   pub touches : (x : Item) → T (touches_item f x) → T (touched ahead x)
 
--- In the round after the last one a place that was seen then rests still while it isn't known that the reach of one of the others has changed; unless the index is made anew, it has its reach.
+-- In the round after the last one a place that was seen then rests still while it isn't known that the may-access set of one of the others has changed; unless the index is made anew, it has its may-access set.
 pub record RestsStill (t : Trace) (window q k : ℕ) (exact : Bool) (s : Scheduler) : Type 0 where
   pub last : ℕ
   pub next : q ≡ suc last
@@ -86,21 +86,21 @@ pub record AreFirst (t : Trace) (window : ℕ) (w : World) (q : ℕ) (ks : List 
   pub world : w ≡ world_after t window q
   pub first : ks ≡ take window (pending (has (state_after t window q).finished) (places t))
 
--- The table has these reaches of these places.
+-- The table has these may-access sets of these places.
 abbrev pub HaveReaches : Scheduler → List ℕ → List Footprint → Type 0
 HaveReaches s ks fs = map (slice_get s.reaches.items) ks ≡ map (λ f. Some (Some f)) fs
 
--- The index has these reaches: alone, or with others.
+-- The index has these may-access sets: alone, or with others.
 pub record IsIndex (s : Scheduler) (reaches : List Footprint) : Type 0 where
   pub alone : s.exact ≡ true → ((x : Item) → written s.ahead x ≡ written_by reaches x) × ((x : Item) → touched s.ahead x ≡ touched_by reaches x)
   pub among : s.exact ≡ false → (y : ℕ) (g : Footprint) → slice_get reaches y ≡ Some g → Covers s.ahead g
 
--- What these reaches touch and write is before a place.
+-- What these may-access sets touch and write is before a place.
 pub record IsBehind (reaches : List Footprint) (b : Behind) : Type 0 where
   pub writes : (x : Item) → written_before b x ≡ written_by reaches x
   pub touches : (x : Item) → touched_before b x ≡ touched_by reaches x
 
--- A place that waits after q rounds, and the places that wait before it, whose reaches the table has.
+-- A place that waits after q rounds, and the places that wait before it, whose may-access sets the table has.
 pub record AreBefore (t : Trace) (window q k : ℕ) (earlier : List ℕ) (s : Scheduler) : Type 0 where
   pub waits : Waits t window q k
   pub places_are : earlier ≡ pending (has (state_after t window q).finished) k
@@ -112,7 +112,7 @@ pub record IsView (t : Trace) (window q k : ℕ) (v : View) : Type 0 where
   pub rests : (r : Rest) → v.rest ≡ Some r → RestsOnThese t window q r.on.items k
   pub free : v.free ≡ is_clear (replayed t) (footprint_after t window q k) (reaches_after t window q k)
 
--- A look at a place: where the index has the reaches before it, what is seen of it is right.
+-- A look at a place: where the index has the may-access sets before it, what is seen of it is right.
 abbrev pub Sees : Trace → World → ℕ → List ℕ → Scheduler → View → Type 0
 Sees t w k earlier s v = (window : ℕ) → w ≡ world_after t window s.round → AreBefore t window s.round k earlier s → IsIndex s (map (reach_after t window s.round) earlier) → IsView t window s.round k v
 
@@ -134,18 +134,18 @@ pub record IsSameRound (s later : Scheduler) : Type 0 where
   pub again : length later.again.items ≡ length s.again.items
   pub resting : length later.resting.items ≡ length s.resting.items
 
--- An index has one reach more.
+-- An index has one may-access set more.
 pub record AddsReach (before after : Ahead) (f : Footprint) : Type 0 where
   pub writes : (x : Item) → written after x ≡ (written before x || writes_item f x)
   pub touches : (x : Item) → touched after x ≡ (touched before x || touches_item f x)
 
--- The index is as it was, or made anew of the reaches of the places before: it has these still, and is exact then.
+-- The index is as it was, or made anew of the may-access sets of the places before: it has these still, and is exact then.
 pub record Freshens (earlier : List ℕ) (s later : Scheduler) : Type 0 where
   pub index : (reaches : List Footprint) → HaveReaches s earlier reaches → IsIndex s reaches → IsIndex later reaches
   pub others : later.exact ≡ false → (s.exact ≡ false) × (later.ahead ≡ s.ahead)
   pub rest : later ≡ record s { ahead = later.ahead; exact = later.exact; added = later.added }
 
--- A place is passed over: an index that is exact has its reach more, another one stays.
+-- A place is passed over: an index that is exact has its may-access set more, another one stays.
 pub record Passes (k : ℕ) (s later : Scheduler) : Type 0 where
   pub exact : s.exact ≡ true → (f : Footprint) → HasReach s k f → AddsReach s.ahead later.ahead f
   pub others : s.exact ≡ false → later.ahead ≡ s.ahead
@@ -166,7 +166,7 @@ pub record Wakes (i : ℕ) (s later : Scheduler) : Type 0 where
   pub others : (j : ℕ) → j ≢ i → slice_get later.resting.items j ≡ slice_get s.resting.items j
   pub rest : later ≡ record s { again = later.again; resting = later.resting }
 
--- The table has a new reach of a place; those that are listed with it are to be looked at, unless it had that reach.
+-- The table has a new may-access set of a place; those that are listed with it are to be looked at, unless it had that may-access set.
 pub record Renews (i : ℕ) (f : Footprint) (s later : Scheduler) : Type 0 where
   pub reaches : later.reaches.items ≡ set s.reaches.items i (Some f)
   pub many_again : length later.again.items ≡ length s.again.items
@@ -196,7 +196,7 @@ pub record Keeps (k : ℕ) (v : View) (s later : Scheduler) : Type 0 where
   pub woken : (j : ℕ) → j ≢ k → j < length s.again.items → IsListed s k j → IsAgain later j ⊎ (HasReach s k v.reach × IsListed later k j)
   pub rests : (IsAgain s k → IsAgain later k) ⊎ ((r : Rest) × ((v.rest ≡ Some r) × ((i : ℕ) → has r.on.items i ≡ true → IsListed later i k)))
 
--- The places that run are given with their reaches, and those that are listed with one of them are to be looked at; what is kept of others stays.
+-- The places that run are given with their may-access sets, and those that are listed with one of them are to be looked at; what is kept of others stays.
 pub record Releases (free : List ℕ) (s later : Scheduler) (chosen : List Chosen) : Type 0 where
   pub same : IsSameRound s later
   pub ahead : later.ahead ≡ s.ahead

@@ -13,31 +13,31 @@ use Rattle.wave_pick.specs.Orders.{InOrder}
 use Rattle.wave_pick.specs.Rounds.{state_after, wave_after}
 use Rattle.wave_pick.specs.Holds.{Waits, world_after, footprint_after, reaches_after, reach_after, HoldsBack}
 
--- After r rounds a place has this footprint, which is its reach too, and no reach before it writes an item of it.
+-- After r rounds a place has this access set, which is its may-access set too, and no may-access set before it writes an item of it.
 pub record Settled (t : Trace) (window r k : ℕ) (f : Footprint) : Type 0 where
   pub footprint_is : footprint_after t window r k ≡ f
   pub reach_is : reach_after t window r k ≡ f
   pub unmet : is_met f (reaches_after t window r k) ≡ false
 
--- Where no reach before it writes an item of its footprint, a place has that footprint, also as its reach, until it runs: both may be kept.
+-- Where no may-access set before it writes an item of its access set, a place has that access set, also as its may-access set, until it runs: both may be kept.
 abbrev pub RowStays : Trace → Type 0
 RowStays t = (window r q k : ℕ) → r ≤ q → Waits t window q k → is_met (footprint_after t window r k) (reaches_after t window r k) ≡ false
     → Settled t window q k (footprint_after t window r k)
 
--- A place that one other holds back isn't in the next round: it needn't be looked at while that one is known.
+-- A place that one other blocks isn't in the next round: it needn't be looked at while that one is known.
 abbrev pub WitnessHolds : Trace → Type 0
 WitnessHolds t = (window r i k : ℕ) → HoldsBack t window r i k → has (wave_after t window r) k ≡ false
 
--- Of two places of one chain, or of one ring where one of them is a barrier, the earlier one holds back the later one in every world until it runs: it may be kept as the one that does.
+-- Of two places of one chain, or of one ring where one of them is a barrier, the earlier one blocks the later one in every world until it runs: it may be kept as the one that does.
 abbrev pub OrderHolds : Trace → Type 0
 OrderHolds t = (window r i k : ℕ) → i < k → k < places t → InOrder t i k → Waits t window r i → HoldsBack t window r i k
 
--- Of the first pending places, as many as the window has, those that none holds back are in the next round.
+-- Of the first pending places, as many as the window has, those that none blocks are in the next round.
 abbrev pub OthersRun : Trace → Type 0
 OthersRun t = (window r k : ℕ) → has (take window (pending (has (state_after t window r).finished) (places t))) k ≡ true
     → ((i : ℕ) → ¬ (HoldsBack t window r i k)) → has (wave_after t window r) k ≡ true
 
--- No reach before the place writes its chain's flag: the earlier members have run, or it is none of a chain.
+-- No may-access set before the place writes its chain's flag: the earlier members have run, or it is none of a chain.
 abbrev pub ChainIsSettled : Trace → ℕ → ℕ → ℕ → Type 0
 ChainIsSettled t window r k = written_by (reaches_after t window r k) (one (chain_flag (role t k).chain)) ≡ false
 
@@ -55,23 +55,23 @@ CanceledUsesOrder t = (window r k : ℕ) → ChainIsSettled t window r k → is_
 abbrev pub look_after : Trace → ℕ → ℕ → ℕ → Look
 look_after t window r k = look_of t k (world_after t window r) (task t k)
 
--- A place that may run, where no reach before it writes an item that decides its others.
+-- A place that may run, where no may-access set before it writes an item that decides its others.
 pub record IsDecided (t : Trace) (window r k : ℕ) : Type 0 where
   pub may_run : is_taken_to_run t k (world_after t window r) (reaches_after t window r k) ≡ true
   pub unmet : is_met (look_after t window r k).deciding (reaches_after t window r k) ≡ false
 
--- What it looks up is the same after the next round, and still no reach before it writes an item that decides: what it looks up may be kept while it may run.
+-- What it looks up is the same after the next round, and still no may-access set before it writes an item that decides: what it looks up may be kept while it may run.
 abbrev pub DecidedStays : Trace → Type 0
 DecidedStays t = (window r k : ℕ) → Waits t window (suc r) k → IsDecided t window r k
     → (look_after t window (suc r) k ≡ look_after t window r k) × (is_met (look_after t window (suc r) k).deciding (reaches_after t window (suc r) k) ≡ false)
 
--- Of a place that may run, the items that decide are found one after another: those before the first one that a reach before it writes, and that one, stay the first ones. So while the reach of a waiting place writes that one, nothing has to be looked up.
+-- Of a place that may run, the items that decide are found one after another: those before the first one that a may-access set before it writes, and that one, stay the first ones. So while the may-access set of a waiting place writes that one, nothing has to be looked up.
 abbrev pub DecidingBegins : Trace → Type 0
 DecidingBegins t = (window r k : ℕ) (known rest : Footprint) (first : Use) → Waits t window (suc r) k → is_taken_to_run t k (world_after t window r) (reaches_after t window r k) ≡ true
     → (look_after t window r k).deciding ≡ known ++ first ∷ rest → is_met known (reaches_after t window r k) ≡ false
     → ((others : Footprint) × ((look_after t window (suc r) k).deciding ≡ known ++ first ∷ others)) × (is_met known (reaches_after t window (suc r) k) ≡ false)
 
--- Whether a reach before the place writes some descriptor: while one does, the lowest free one isn't known.
+-- Whether a may-access set before the place writes some descriptor: while one does, the lowest free one isn't known.
 abbrev pub descriptors_wait : Trace → ℕ → ℕ → ℕ → Bool
 descriptors_wait t window r k = written_by (reaches_after t window r k) all_descriptors
 
@@ -87,7 +87,7 @@ pub record ReachRowsStay (t : Trace) (window r k : ℕ) : Type 0 where
   pub wide : wide_after t window (suc r) k ≡ wide_after t window r k
   pub accepted : is_met (look_after t window r k).deciding (reaches_after t window r k) ≡ false → accepted_after t window (suc r) k ≡ accepted_after t window r k
 
--- That is so for a place that may run, where it stays the same whether a reach before it writes a descriptor: a reach that is one of these rows may be kept.
+-- That is so for a place that may run, where it stays the same whether a may-access set before it writes a descriptor: a may-access set that is one of these rows may be kept.
 abbrev pub WideStays : Trace → Type 0
 WideStays t = (window r k : ℕ) → Waits t window (suc r) k → is_taken_to_run t k (world_after t window r) (reaches_after t window r k) ≡ true
     → descriptors_wait t window (suc r) k ≡ descriptors_wait t window r k → ReachRowsStay t window r k
@@ -97,7 +97,7 @@ abbrev pub made_of : Trace → ℕ → Option Turn → Footprint
 made_of t k (Some (runs r e o)) = makes t k o
 made_of t k _ = []
 
--- Where a place looks up the same in two worlds, its row as running meets the same reaches in both, so far as these write nothing that it makes.
+-- Where a place looks up the same in two worlds, its row as running meets the same may-access sets in both, so far as these write nothing that it makes.
 abbrev pub RowItems : Trace → Type 0
 RowItems t = (k : ℕ) (s u : World) (earlier : List Footprint) → look_of t k u (task t k) ≡ look_of t k s (task t k) → is_met (made_of t k (task t k)) earlier ≡ false
     → is_met (running_row t k u) earlier ≡ is_met (running_row t k s) earlier
@@ -106,22 +106,22 @@ RowItems t = (k : ℕ) (s u : World) (earlier : List Footprint) → look_of t k 
 abbrev pub row_after : Trace → ℕ → ℕ → ℕ → Footprint
 row_after t window r k = running_row t k (world_after t window r)
 
--- One place writes the row of a later one: it waits, and its reach writes an item of that row.
+-- One place writes the row of a later one: it waits, and its may-access set writes an item of that row.
 pub record WritesRow (t : Trace) (window r i k : ℕ) : Type 0 where
   pub is_before : i < k
   pub waits : Waits t window r i
   pub writes : is_met (row_after t window r k) (reach_after t window r i ∷ []) ≡ true
 
--- A reach that writes an item that decides the others writes the row.
+-- A may-access set that writes an item that decides the others writes the row.
 abbrev pub DecidingInRow : Trace → Type 0
 DecidingInRow t = (window r i k : ℕ) → i < k → Waits t window r i → is_met (look_after t window r k).deciding (reach_after t window r i ∷ []) ≡ true → WritesRow t window r i k
 
--- Where it does, the reach of the later one isn't its row, and it is held back unless it is canceled.
+-- Where it does, the may-access set of the later one isn't its row, and it is blocked unless it is canceled.
 abbrev pub RowWitnessHolds : Trace → Type 0
 RowWitnessHolds t = (window r i k : ℕ) → WritesRow t window r i k
     → (is_met (row_after t window r k) (reaches_after t window r k) ≡ true) × (is_canceled (turn t k (world_after t window r)) ≡ false → HoldsBack t window r i k)
 
--- While the later one looks up the same, a reach that writes an item of its row as it was writes its row: the row needn't be made anew.
+-- While the later one looks up the same, a may-access set that writes an item of its row as it was writes its row: the row needn't be made anew.
 abbrev pub RowWitnessStays : Trace → Type 0
 RowWitnessStays t = (window r q i k : ℕ) → i < k → Waits t window q i → look_after t window q k ≡ look_after t window r k
     → is_met (row_after t window r k) (reach_after t window q i ∷ []) ≡ true → WritesRow t window q i k

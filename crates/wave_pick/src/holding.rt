@@ -1,4 +1,4 @@
-//! Which of the first pending places are held back, and by which place and item.
+//! Which of the first pending places are blocked, and by which place and item.
 ghost use Rattle.std.specs.Prelude.{◌≡◌, ◌<◌, [], All, IfOk, None, find, map, reverse, take};
 ghost use Rattle.std.specs.Prelude.{if◌then◌else◌};
 ghost use Rattle.std.specs.Option.{option_copied, option_map};
@@ -17,11 +17,11 @@ use std::alloc::{AllocError, Global};
 use trace_format::{Series, Trace};
 use world_parts::{Footprint, Item, World, collide};
 
-/// A pending place that an earlier one holds back, so that it isn't in the next round.
+/// A pending place that an earlier one blocks, so that it isn't in the next round.
 #[derive(Drop)]
 pub struct Held {
     pub place: u32,
-    /// The latest earlier pending place whose reach collides with its footprint.
+    /// The latest earlier pending place whose may-access set collides with its access set.
     pub holder: u32,
     /// What the two share.
     pub item: Item,
@@ -34,9 +34,9 @@ pub(crate) struct Waiting {
     reach: Footprint,
 }
 
-/// Of the first `window` pending places, in recorded order, those that an earlier pending one holds
-/// back: each with the latest of these, and the item that they share. No more of the pending places
-/// are looked at.
+/// Of the first `window` pending places, in recorded order, those that an earlier pending one
+/// blocks: each with the latest of these, and the item that they share. No more of the pending
+/// places are looked at.
 ///
 /// The others are those that [`crate::pick`] gives.
 ///
@@ -61,7 +61,7 @@ pub fn held_back(
     Ok(Series::from_vec(held))
 }
 
-/// Those of some places that an earlier one of them holds back.
+/// Those of some places that an earlier one of them blocks.
 fn held_places(
     alloc: Global,
     trace: &Trace,
@@ -91,7 +91,7 @@ fn held_places(
     Ok(held)
 }
 
-/// A place as held back by one of some earlier ones, where it collides with one.
+/// A place as blocked by one of some earlier ones, where it collides with one.
 fn held_by(
     alloc: Global,
     place: u32,
@@ -117,7 +117,7 @@ fn held_by(
     }))
 }
 
-/// The latest of some places whose reach collides with a footprint.
+/// The latest of some places whose may-access set collides with an access set.
 fn latest<'a>(footprint: &Footprint, earlier: &'a [Waiting]) -> Option<&'a Waiting>
     ensures { option_copied result
         ≡ find (λ w. items.collide footprint.now w.reach) (reverse earlier.now) }

@@ -1,7 +1,7 @@
 //! Laws of running places out of order.
 //!
-//! A place starts when its footprint collides with the reach of no earlier place that has not
-//! finished, and what it does to the world happens when it finishes. They are functions without
+//! A place starts when its access set collides with the may-access set of no earlier place that has
+//! not finished, and what it does to the world happens when it finishes. They are functions without
 //! effect: a call brings the law into a proof.
 ghost use Rattle.foot_print.specs.Replayed.{replayed};
 ghost use Rattle.interleaving.specs.Machine.{EveryOrder, ReachesHold, ReachesShrink};
@@ -50,10 +50,10 @@ pub fn sequential_run_is_the_models()
     ensures { (t : Trace) → RunsAsTheModel t }
 {}
 
-/// Reaches foresee, in every state that legal starts and finishes lead to: the reach of an
-/// unfinished place holds its footprint in each world that some of the earlier unfinished places,
-/// or none, leave when they run; and no legal start or finish makes a reach hold what it didn't
-/// hold before.
+/// May-access sets foresee, in every state that legal starts and finishes lead to: the may-access
+/// set of an unfinished place holds its access set in each world that some of the earlier
+/// unfinished places, or none, leave when they run; and no legal start or finish makes a may-access
+/// set hold what it didn't hold before.
 pub fn reaches_hold_and_shrink()
     ensures hold { (t : Trace) → IsSpelled t → ReachesHold (replayed t) }
     ensures shrink { (t : Trace) → IsSpelled t → ReachesShrink (replayed t) }
@@ -98,13 +98,13 @@ pub fn rounds_are_numbered()
     ensures rise { (t : Trace) → IsSpelled t → LinksAndDrainsRise t }
 {}
 
-/// What is known of a place stays so while it waits, from round to round: where no reach before it
-/// writes an item of its footprint, that footprint, which is also its reach; where none writes the
-/// flag of its chain, whether it runs or is canceled; and while it may run, where none writes an
-/// item that decides its others, what it looks up. Of a place that may run, the items that decide
-/// stay up to the first one that a reach before it writes; and where it stays the same whether a
-/// reach before it writes a descriptor, so do its wide row and, once it is decided, its row as
-/// accepted.
+/// What is known of a place stays so while it waits, from round to round: where no may-access set
+/// before it writes an item of its access set, that access set, which is also its may-access set;
+/// where none writes the flag of its chain, whether it runs or is canceled; and while it may run,
+/// where none writes an item that decides its others, what it looks up. Of a place that may run,
+/// the items that decide stay up to the first one that a may-access set before it writes; and where
+/// it stays the same whether a may-access set before it writes a descriptor, so do its wide row
+/// and, once it is decided, its row as accepted.
 pub fn waiting_places_stay_known()
     ensures row { (t : Trace) → IsSpelled t → RowStays t }
     ensures turn { (t : Trace) → IsSpelled t → TurnStays t }
@@ -114,17 +114,17 @@ pub fn waiting_places_stay_known()
     ensures wide { (t : Trace) → IsSpelled t → WideStays t }
 {}
 
-/// A waiting place whose reach collides with the footprint of a later one keeps that one out of the
-/// next round: so does each earlier member of its chain, and a barrier and the other places of its
-/// ring. Of the first pending places, as many as the window has, those run in the next round that
-/// no place keeps out so.
+/// A waiting place whose may-access set collides with the access set of a later one keeps that one
+/// out of the next round: so does each earlier member of its chain, and a barrier and the other
+/// places of its ring. Of the first pending places, as many as the window has, those run in the
+/// next round that no place keeps out so.
 pub fn witnesses_hold_back()
     ensures hold { (t : Trace) → WitnessHolds t }
     ensures order { (t : Trace) → OrderHolds t }
     ensures others { (t : Trace) → OthersRun t }
 {}
 
-/// What two items share has just the atoms of both, and two footprints share an item exactly where
+/// What two items share has just the atoms of both, and two access sets share an item exactly where
 /// they collide. After each number of rounds, the holder of a place holds it back by such an item,
 /// and no later place does; and where it has no holder, nothing holds it back.
 pub fn holders_hold_back()
@@ -134,10 +134,11 @@ pub fn holders_hold_back()
     ensures none { (t : Trace) → NoneIsHeldBack t }
 {}
 
-/// With the same look, the rows of a place in two worlds meet the same reaches, apart from what the
-/// place makes. So a waiting place whose reach writes an item that decides or another one of the
-/// row of a later place keeps that one out of the next round, unless it is canceled; and while the
-/// later one looks up the same, a reach that writes an item of its row as it was writes its row.
+/// With the same look, the rows of a place in two worlds meet the same may-access sets, apart from
+/// what the place makes. So a waiting place whose may-access set writes an item that decides or
+/// another one of the row of a later place keeps that one out of the next round, unless it is
+/// canceled; and while the later one looks up the same, a may-access set that writes an item of its
+/// row as it was writes its row.
 pub fn rows_meet_the_same()
     ensures items { (t : Trace) → RowItems t }
     ensures deciding { (t : Trace) → DecidingInRow t }
@@ -145,16 +146,17 @@ pub fn rows_meet_the_same()
     ensures stay { (t : Trace) → IsSpelled t → RowWitnessStays t }
 {}
 
-/// A waiting place may rest on one earlier place: while that one waits with the same reach, it
-/// holds back the other, whose reach stays the same, so that the other needn't be looked at. One
-/// whose footprint no reach before it writes rests on any that holds it back. One that may run
-/// rests on a place whose reach writes one of the items by which it waits: those of its row where
-/// it is decided, else those that decide, up to the first one that is written. That place's reach
-/// must also write the flag of its chain and, where it takes the lowest free descriptor, some
-/// descriptor, if any reach before it does. What rests so in one round rests so in the next. A place
-/// may also rest on some earlier ones together, of which one writes an item by which it waits, one
-/// the flag of its chain and one a descriptor: while all of them wait with the same reaches, one of
-/// them holds it back, and its reach stays the same.
+/// A waiting place may rest on one earlier place: while that one waits with the same may-access
+/// set, it blocks the other, whose may-access set stays the same, so that the other needn't be
+/// looked at. One whose access set no may-access set before it writes rests on any that holds it
+/// back. One that may run rests on a place whose may-access set writes one of the items by which it
+/// waits: those of its row where it is decided, else those that decide, up to the first one that is
+/// written. That place's may-access set must also write the flag of its chain and, where it takes
+/// the lowest free descriptor, some descriptor, if any may-access set before it does. What rests so
+/// in one round rests so in the next. A place may also rest on some earlier ones together, of which
+/// one writes an item by which it waits, one the flag of its chain and one a descriptor: while all
+/// of them wait with the same may-access sets, one of them holds it back, and its may-access set
+/// stays the same.
 pub fn waiting_places_rest()
     ensures unmet { (t : Trace) → IsSpelled t → RestsUnmet t }
     ensures decided { (t : Trace) → IsSpelled t → RestsDecided t }

@@ -16,15 +16,15 @@ use world_parts::{Footprint, World};
 #[derive(Drop)]
 pub(crate) struct Seen {
     pub(crate) footprint: Footprint,
-    /// Its reach, where an earlier reach writes an item of its footprint; else that footprint is
-    /// its reach.
+    /// Its may-access set, where an earlier may-access set writes an item of its access set; else
+    /// that access set is its may-access set.
     pub(crate) wider: Option<Footprint>,
-    /// Whether its footprint collides with the reach of an earlier place.
+    /// Whether its access set collides with the may-access set of an earlier place.
     pub(crate) collides: bool,
 }
 
 impl Seen {
-    /// The reach of the place.
+    /// The may-access set of the place.
     pub(crate) fn into_reach(self) -> Footprint
         ensures { result ≡ unwrap_or self.wider self.footprint }
     {
@@ -32,7 +32,8 @@ impl Seen {
     }
 }
 
-/// Looks at a place, and adds its reach: what it uses, where no earlier reach writes any of that.
+/// Looks at a place, and adds its may-access set: what it uses, where no earlier may-access set
+/// writes any of that.
 pub(crate) fn look_at(
     alloc: Global,
     trace: &Trace,

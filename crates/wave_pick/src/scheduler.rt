@@ -34,8 +34,8 @@ use world_parts::{Footprint, Item, World, collide, same_uses, writes_item};
 const NEAR: usize = 64;
 
 /// So many places that ran in a round are many, however many wait: then as many or more are looked
-/// at in the next one, and to ask an index that is exact costs less than to ask the reaches. So many
-/// looks in one round are many, too.
+/// at in the next one, and to ask an index that is exact costs less than to ask the may-access
+/// sets. So many looks in one round are many, too.
 const MANY: usize = 16;
 
 /// What is seen of a place in a round.
@@ -43,15 +43,15 @@ const MANY: usize = 16;
 pub(crate) struct View {
     reach: Footprint,
     rest: Option<Rest>,
-    /// Whether it may run in this round; then its reach is its footprint.
+    /// Whether it may run in this round; then its may-access set is its access set.
     free: bool,
 }
 
 /// On what a place rests.
 #[derive(Drop)]
 pub(crate) struct Rest {
-    /// Places before it: while all of them wait with the reaches that they have, it has the reach
-    /// that it has, and has to wait.
+    /// Places before it: while all of them wait with the may-access sets that they have, it has the
+    /// may-access set that it has, and has to wait.
     on: Vec<u32>,
     /// Where the first of them lies among those before it.
     at: usize,
@@ -70,17 +70,17 @@ struct Found {
 pub struct Scheduler {
     /// How many rounds there have been.
     round: u32,
-    /// Of each place that waits the reach that it had when it was looked at last.
+    /// Of each place that waits the may-access set that it had when it was looked at last.
     reaches: Vec<Option<Footprint>>,
     /// Whether each place is to be looked at: it hasn't been yet, or something may have changed.
     again: Vec<bool>,
     /// Of each place those that were found to rest on it.
     resting: Vec<Vec<u32>>,
-    /// The reaches of places that wait, and of some that have run.
+    /// The may-access sets of places that wait, and of some that have run.
     ahead: Ahead,
-    /// Whether it has no more than the reaches before the place that is looked at.
+    /// Whether it has no more than the may-access sets before the place that is looked at.
     exact: bool,
-    /// How many reaches it has, how many places wait, and how many ran in the last round.
+    /// How many may-access sets it has, how many places wait, and how many ran in the last round.
     added: usize,
     waiting: usize,
     ran: usize,
@@ -148,7 +148,7 @@ impl Scheduler {
 
     /// The places of the next round, as `pick` gives them; and, of those places among the first
     /// ones whose number in a list is the one that is asked for, those that an earlier place that
-    /// waits holds back before the round, as [`crate::held_back`] gives them. No others are asked.
+    /// waits blocks before the round, as [`crate::held_back`] gives them. No others are asked.
     ///
     /// # Errors
     ///
@@ -236,8 +236,8 @@ impl Scheduler {
         })
     }
 
-    /// Where the index has more reaches of places that have run than of places that wait, or many
-    /// have run, it is made anew, from the first place on.
+    /// Where the index has more may-access sets of places that have run than of places that wait,
+    /// or many have run, it is made anew, from the first place on.
     fn begin(&mut self, alloc: Global) -> Result<(), AllocError>
         ensures index { OnOk result (self.new.exact ≡ true → IsIndex self.new []) }
         ensures others { OnOk result (self.new.exact ≡ false → self.new.ahead ≡ self.old.ahead) }
@@ -292,8 +292,8 @@ impl Scheduler {
         Ok(free)
     }
 
-    /// Where so many looks have been many, and the index has more than the reaches of the places
-    /// before, it is made anew of these.
+    /// Where so many looks have been many, and the index has more than the may-access sets of the
+    /// places before, it is made anew of these.
     fn freshen(&mut self, alloc: Global, earlier: &[u32], looks: usize) -> Result<(), AllocError>
         ensures { OnOk result (Freshens earlier.now self.old self.new) }
     {
@@ -306,7 +306,7 @@ impl Scheduler {
         Ok(())
     }
 
-    /// Passes over a place that rests: where the index is exact, its reach is added.
+    /// Passes over a place that rests: where the index is exact, its may-access set is added.
     fn pass(&mut self, alloc: Global, place: u32) -> Result<(), AllocError>
         requires { place < length self.old.reaches.items }
         ensures { OnOk result (Passes place self.old self.new) }
@@ -321,7 +321,7 @@ impl Scheduler {
         Ok(())
     }
 
-    /// The reaches before the place that is looked at.
+    /// The may-access sets before the place that is looked at.
     fn behind<'a>(&'a self, earlier: &'a [u32]) -> Behind<'a>
         ensures { (reaches : List items.Footprint) → HaveReaches self.now earlier.now reaches
             → IsIndex self.now reaches → IsBehind reaches result }
@@ -393,8 +393,8 @@ impl Scheduler {
         }
     }
 
-    /// Keeps the reach of a place. Where it had another one, those that rest on it are to be looked
-    /// at again.
+    /// Keeps the may-access set of a place. Where it had another one, those that rest on it are to
+    /// be looked at again.
     #[tactic(auto, using(crate::proofs::Listing::renews_same, crate::proofs::Listing::renews_waking))]
     fn renew(&mut self, alloc: Global, place: u32, reach: Footprint)
         requires place { place < length self.old.reaches.items }
@@ -408,7 +408,7 @@ impl Scheduler {
         }
     }
 
-    /// Whether a place had this reach when it was looked at last.
+    /// Whether a place had this may-access set when it was looked at last.
     fn has_reach(&self, place: u32, reach: &Footprint) -> bool
         ensures { result ≡ true → HasReach self.now place reach.now }
     {
@@ -442,7 +442,7 @@ impl Scheduler {
         flag(&mut self.again, woken.as_slice());
     }
 
-    /// The places that run, each with its footprint. Those that rest on them are to be looked at
+    /// The places that run, each with its access set. Those that rest on them are to be looked at
     /// again.
     fn release(&mut self, alloc: Global, free: &[u32]) -> Result<Vec<Chosen>, AllocError>
         requires places { All (λ k. k < length self.old.reaches.items) free.now }
@@ -482,7 +482,7 @@ fn flag(again: &mut Vec<bool>, places: &[u32])
     }
 }
 
-/// The index of the reaches that a table has of some places.
+/// The index of the may-access sets that a table has of some places.
 fn index_of(
     alloc: Global,
     places: &[u32],
@@ -515,7 +515,7 @@ impl View {
 /// What a place before another one does so that the other rests on it, or on it and others.
 #[derive(Drop)]
 enum Ground<'a> {
-    /// Its reach collides with this footprint.
+    /// Its may-access set collides with this access set.
     Collides(&'a Footprint),
     /// It writes one of these items.
     WritesSome(&'a Footprint),
@@ -524,7 +524,7 @@ enum Ground<'a> {
 }
 
 impl Ground<'_> {
-    /// Whether a place with this reach does.
+    /// Whether a place with this may-access set does.
     fn holds(&self, reach: &Footprint) -> bool
         ensures { result ≡ ground_holds self.now reach.now }
     {
@@ -585,7 +585,7 @@ fn ground_at(
     Some(Found { place, at })
 }
 
-/// On which place one rests that collides with reaches before it and meets none.
+/// On which place one rests that collides with may-access sets before it and meets none.
 fn collides_on(
     alloc: Global,
     footprint: &Footprint,
@@ -664,7 +664,7 @@ fn add_writer(
     Ok(true)
 }
 
-/// No place has a reach.
+/// No place has a may-access set.
 fn no_reaches(alloc: Global, places: u32) -> Result<Vec<Option<Footprint>>, AllocError>
     ensures { IfOk result (λ reaches. length reaches.items ≡ places) }
 {

@@ -1,4 +1,4 @@
-//! What two footprints share.
+//! What two access sets share.
 ghost use Rattle.std.specs.Prelude.{◌≡◌, IfOk, false, filter, map, true};
 ghost use Rattle.std.specs.Option.{option_map};
 ghost use Rattle.wave_pick.specs.HeldBack.{is_single, shared_if};
@@ -8,7 +8,7 @@ ghost use Rattle.world_parts.specs.Uses.{item_meant, use_meant};
 use std::alloc::{AllocError, Global};
 use world_parts::{Footprint, Item, Use, share};
 
-/// What the first use of a footprint that collides with one of another shares with that one.
+/// What the first use of an access set that collides with one of another shares with that one.
 ///
 /// # Errors
 ///

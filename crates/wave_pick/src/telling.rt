@@ -1,5 +1,5 @@
-//! Which of the first places that wait, asked by number, are held back, by the reaches that a table
-//! has of them.
+//! Which of the first places that wait, asked by number, are blocked, by the may-access sets that a
+//! table has of them.
 ghost use Rattle.std.specs.Prelude.{◌≡◌, ◌<◌, All, IfOk, find, reverse, slice_get};
 ghost use Rattle.std.specs.Option.{option_copied, option_map};
 ghost use Rattle.chain_plan.specs.Plan.{roles};
@@ -17,7 +17,7 @@ use std::alloc::{AllocError, Global};
 use trace_format::Trace;
 use world_parts::{Footprint, World, collide};
 
-/// Of the first places that wait, those with a number that an earlier one of them holds back.
+/// Of the first places that wait, those with a number that an earlier one of them blocks.
 pub(crate) fn told_held(
     alloc: Global,
     trace: &Trace,
@@ -57,8 +57,8 @@ fn has_number(numbers: &[u32], place: u32, number: u32) -> bool
     }
 }
 
-/// A place as held back by the latest of some earlier ones whose reach collides with its footprint,
-/// where one does.
+/// A place as blocked by the latest of some earlier ones whose may-access set collides with its
+/// access set, where one does.
 fn held_at(
     alloc: Global,
     place: u32,
@@ -85,7 +85,7 @@ fn held_at(
     }))
 }
 
-/// The latest of some places whose reach collides with a footprint.
+/// The latest of some places whose may-access set collides with an access set.
 fn latest_at<'a>(
     footprint: &Footprint,
     earlier: &'a [u32],
@@ -100,7 +100,7 @@ fn latest_at<'a>(
         .find(|place| collides_at(footprint, reaches, **place))
 }
 
-/// Whether a table has a reach of a place, and it collides with a footprint.
+/// Whether a table has a may-access set of a place, and it collides with an access set.
 fn collides_at(footprint: &Footprint, reaches: &[Option<Footprint>], place: u32) -> bool
     ensures { result ≡ collides_with footprint.now (kept_reach (slice_get reaches.now place)) }
 {
@@ -110,7 +110,7 @@ fn collides_at(footprint: &Footprint, reaches: &[Option<Footprint>], place: u32)
     }
 }
 
-/// The reach that a table has of a place, if it has one.
+/// The may-access set that a table has of a place, if it has one.
 pub(crate) fn reach_at(reaches: &[Option<Footprint>], place: u32) -> Option<&Footprint>
     ensures { option_copied result ≡ kept_reach (slice_get reaches.now place) }
 {

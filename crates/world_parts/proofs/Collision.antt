@@ -1,4 +1,4 @@
--- Two footprints that don't collide share no atom that one of them writes.
+-- Two access sets that don't collide share no atom that one of them writes.
 use Rattle.std.specs.Prelude.{◌≡◌, ℕ, Bool, true, not, ◌&&◌, ◌||◌, ◌⊎◌, T, List, [], ◌∷◌}
 use Rattle.std.specs.List.{list_any}
 use Rattle.std.specs.Str.{bytes_eq}
@@ -58,7 +58,7 @@ pub any_passes : {A : Type 0} (p q : A → Bool) → ((x : A) → T (p x) → T 
 any_passes p q f [] h = absurd h
 any_passes p q f (x ∷ xs) h = grind (arith, f x, any_passes p q f xs)
 
--- Footprints that have an atom which one of them writes collide.
+-- Access sets that have an atom which one of them writes collide.
 pub first_writes-collide : (f g : Footprint) (a : Atom) → T (writes_atom f a) → T (has_atom g a) → T (collide f g)
 first_writes-collide f g a h k =
     any_passes _ _ (λ (u : Use) m. any_passes _ (λ (v : Use). (u.written || v.written) && share u.item v.item)
@@ -69,13 +69,13 @@ second_writes-collide f g a h k =
     any_passes _ _ (λ (u : Use) m. any_passes _ (λ (v : Use). (u.written || v.written) && share u.item v.item)
     (λ (v : Use) n. grind (arith, member-share u.item v.item a)) g k) f h
 
--- Of two footprints that don't collide, each writes nothing that the other has.
+-- Of two access sets that don't collide, each writes nothing that the other has.
 pub first_unwritten : (f g : Footprint) (a : Atom) → T (not (collide f g)) → T (has_atom g a) → T (not (writes_atom f a))
 first_unwritten f g a h m = grind (arith, first_writes-collide)
 
 pub second_unwritten : (f g : Footprint) (a : Atom) → T (not (collide f g)) → T (has_atom f a) → T (not (writes_atom g a))
 second_unwritten f g a h m = grind (arith, second_writes-collide)
 
--- What a footprint writes, it has.
+-- What an access set writes, it has.
 pub writes-has : (f : Footprint) (a : Atom) → T (writes_atom f a) → T (has_atom f a)
 writes-has f a h = any_passes _ _ (λ (u : Use) m. right u.written _ m) f h

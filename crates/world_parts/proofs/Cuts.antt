@@ -1,4 +1,4 @@
--- What cutting by a footprint takes and leaves, use by use.
+-- What cutting by an access set takes and leaves, use by use.
 use Rattle.std.specs.Prelude.{◌≡◌, ℕ, zero, suc, Bool, ◌+◌, ◌<◌, T, List, [], ◌∷◌, ◌++◌, map, take, length, get_or, refl, ◌⊎◌}
 use mathlib.Core.Path.{sym, subst, ap, ◌∙◌}
 use mathlib.Core.Logic.{inl, inr}
@@ -16,13 +16,13 @@ use Rattle.world_parts.specs.Copying.{IsShadow, IsCopied}
 use Rattle.world_parts.proofs.Collision.{left, right}
 use Rattle.world_parts.proofs.Copies.{one_item, nothing_moved}
 
--- Each use of a narrow footprint is narrow.
+-- Each use of a narrow access set is narrow.
 pub narrow_at : (us : List code_use.Use) (i : ℕ) (u : code_use.Use) → i < length us → u ≡ get_or us i u → T (is_narrow (map use_meant us)) → T (is_narrow_use (use_meant u))
 narrow_at [] i u h e n = absurd (omega arith)
 narrow_at (v ∷ us) zero u h e n = subst (λ x. T (is_narrow_use (use_meant x))) (sym e) (left (is_narrow_use (use_meant v)) _ n)
 narrow_at (v ∷ us) (suc i) u h e n = narrow_at us i u (omega arith) e (right (is_narrow_use (use_meant v)) _ n)
 
--- The atoms of a footprint with one more use.
+-- The atoms of an access set with one more use.
 has_more : (us : List code_use.Use) (u : code_use.Use) (a : Atom) → T (has_atom (map use_meant (us ++ u ∷ [])) a) → T (has_atom (map use_meant us) a) ⊎ T (member_of (item_meant u.item) a)
 has_more [] u a h = grind arith
 has_more (v ∷ us) u a h = grind (arith, has_more us u a)
@@ -39,7 +39,7 @@ agree_more s p q us i u h e g c = record {
     more : take (i + 1) us ≡ take i us ++ u ∷ []
     more = ap (λ n. take n us) (add-one i) ∙ take-suc us i u h ∙ ap (λ x. take i us ++ x ∷ []) (sym e)
 
--- The world that is left, by the uses of a footprint.
+-- The world that is left, by the uses of an access set.
 pub world_left : (w s q : World) (f : Footprint) (us vs : List code_use.Use) → s ≡ w → us ≡ vs → map use_meant vs ≡ f → q ≡ holed (map use_meant us) s → q ≡ holed f w
 world_left w s q f us vs e g h k = k ∙ (λ i. holed ((ap (map use_meant) g ∙ h) i) (e i))
 

@@ -1,4 +1,4 @@
--- Footprints as the code has them.
+-- Access sets as the code has them.
 use Rattle.std.specs.Prelude.{◌≡◌, Bool, false, ◌&&◌, ◌||◌, List, [], ◌∷◌, map, refl}
 use Rattle.std.specs.List.{list_any}
 use mathlib.Core.Path.{ap, ◌∙◌}

@@ -1,4 +1,4 @@
--- Putting back the written uses of a footprint makes the world that has the part's values there and the old ones elsewhere.
+-- Putting back the written uses of an access set makes the world that has the part's values there and the old ones elsewhere.
 use Rattle.std.specs.Prelude.{◌≡◌, ℕ, Bool, true, false, max, ◌&&◌, ◌==◌, T, List, [], ◌∷◌, length, map, Option, None, refl, slice_index_or, ◌⊎◌, unwrap_or, if◌then◌else◌}
 use Rattle.std.specs.Option.{option_map, is_some}
 use mathlib.Core.Path.{sym, subst, ap, ◌∙◌}
@@ -199,7 +199,7 @@ module _ (w u : World) where
       all_uses (λ x t. with_item x u t) (λ us t. with_items us u t) (λ t. refl) (λ x us t. refl) Ready ready_still (λ a. true)
       (λ x n g t r. (let h = item_step t r x n g in (h.0, λ a c m. h.1 a m))) us n g t r
 
-  -- What the footprint doesn't write is as before.
+  -- What the access set doesn't write is as before.
   module _ (f : items.Footprint) (s : World) (puts : PutsTo f s u w) where
     either : (a : Atom) → (T (writes_atom f a) × (value w a ≡ value u a)) ⊎ (value w a ≡ value s a)
     either a = elim (decided (writes_atom f a)) [ inl h ↦ inl (h, puts.given a h) | inr n ↦ inr (puts.kept a n) ]

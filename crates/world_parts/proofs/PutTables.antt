@@ -58,7 +58,7 @@ rewritten-none m i f h = sym (same-assign number_keys m i (option_map (rewritten
 pub rewritten_at-none : (m : Table pair_cmp (List ℕ)) (r b : ℕ) (f : List ℕ → List ℕ) → None ≡ option_map length (get m (r, b)) → m ≡ rewritten_at f m r b
 rewritten_at-none m r b f h = sym (same-assign pair_keys m (r, b) (option_map f (get m (r, b))) (grind arith))
 
--- The world after both rounds is any world that has the part's values where the footprint writes.
+-- The world after both rounds is any world that has the part's values where the access set writes.
 pub put_meets : {A E : Type 0} (r : Result A E) (us : List Use) (s u t : World) (found : Option Footprint) → Some (map use_meant us) ≡ found → IsWorld s → IfSome found (λ f. T (is_narrow f))
     → IfSome found (λ f. (after : World) × IsWorld after × PutsTo f s u after) → OnOk r (t ≡ with_items us u (with_nodes us u s)) → IfSome found (λ f. (after : World) → PutsTo f s u after → OnOk r (t ≡ after))
 put_meets r us s u t found e before narrow fits made = subst (λ o. IfSome o (λ f. (after : World) → PutsTo f s u after → OnOk r (t ≡ after))) e

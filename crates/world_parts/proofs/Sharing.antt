@@ -1,4 +1,4 @@
--- Items that share have an atom in common; so fewer or narrower reaches write less, and footprints collide exactly by an atom that one of them writes.
+-- Items that share have an atom in common; so fewer or narrower may-access sets write less, and access sets collide exactly by an atom that one of them writes.
 use Rattle.std.specs.Prelude.{◌≡◌, ℕ, Bool, true, false, refl, ◌&&◌, ◌||◌, ltb, min, max, T, [], ◌∷◌, ◌⊎◌}
 use Rattle.std.specs.List.{list_any}
 use native.Mathlib.Omega.{arith}
@@ -64,7 +64,7 @@ further P a b h = grind arith
 written_first : (a m r : Bool) (Q : Type 0) → T a ⊎ Q → T m → T ((a && m) || r) ⊎ Q
 written_first a m r Q h k = grind arith
 
--- An atom that two colliding footprints have and one of them writes.
+-- An atom that two colliding access sets have and one of them writes.
 atom_of_use : (u : Use) (g : Footprint) → T (list_any (collides u) g) → (a : Atom) × T (member_of u.item a) × T (has_atom g a) × (T u.written ⊎ T (writes_atom g a))
 atom_of_use u [] h = absurd h
 atom_of_use u (v ∷ g) h = elim (one_of (collides u v) _ h) [

@@ -1,4 +1,4 @@
--- The model: parts of a world, cut out by a footprint and put back.
+-- The model: parts of a world, cut out by an access set and put back.
 use Rattle.std.specs.Prelude.{◌≡◌, ℕ, ◌-◌, Bool, true, false, not, T, List, [], ◌∷◌, ◌++◌, replicate, Option, None, ◌⊎◌, if◌then◌else◌}
 use Rattle.std.specs.List.{list_all}
 use Rattle.finite_maps.specs.Table.{insert, number_keys}
@@ -44,7 +44,7 @@ holed_by (f ∷ fs) s = holed_by fs (holed f s)
 abbrev pub Shows : {A : Type 0} → Option A → Option A → Type 0
 Shows x y = (x ≡ None) ⊎ (x ≡ y)
 
--- A part's world agrees with the whole one on the footprint, and shows no node, description or name that the whole one doesn't have.
+-- A part's world agrees with the whole one on the access set, and shows no node, description or name that the whole one doesn't have.
 pub record IsPartOf (s : World) (f : Footprint) (part : World) : Type 0 where
   pub agrees : Agree f s part
   pub nodes : (i : ℕ) → Shows (kind part i) (kind s i)
@@ -55,7 +55,7 @@ pub record IsPartOf (s : World) (f : Footprint) (part : World) : Type 0 where
 abbrev pub cut_from : Divided → ℕ → Footprint → Divided
 cut_from d k f = record { world = holed f d.world; out = insert number_keys.total d.out k f }
 
--- A world has a part's values where its footprint writes, and another's elsewhere.
+-- A world has a part's values where its access set writes, and another's elsewhere.
 pub record PutsTo (f : Footprint) (before part after : World) : Type 0 where
   pub given : (a : Atom) → T (writes_atom f a) → value after a ≡ value part a
   pub kept : (a : Atom) → T (not (writes_atom f a)) → value after a ≡ value before a

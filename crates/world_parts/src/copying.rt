@@ -234,7 +234,7 @@ impl State {
         }
     }
 
-    /// Copies what a narrow footprint names.
+    /// Copies what a narrow access set names.
     ///
     /// # Errors
     ///

@@ -54,8 +54,8 @@ impl State {
 }
 
 impl World {
-    /// Leaves zeros where a footprint writes ranges of bytes, and notes that the part of a place is
-    /// out.
+    /// Leaves zeros where an access set writes ranges of bytes, and notes that the part of a place
+    /// is out.
     fn take_out(&mut self, place: u32, footprint: Footprint) -> Result<(), AllocError>
         requires home { get self.old.out place ≡ None }
         ensures { OnOk result (self.new ≡ cut_from self.old place footprint) }
@@ -65,7 +65,7 @@ impl World {
         Ok(())
     }
 
-    /// Takes a part out for a place: what its footprint names. Bytes that are written leave zeros
+    /// Takes a part out for a place: what its access set names. Bytes that are written leave zeros
     /// behind, all else stays; whole pages are shared.
     ///
     /// # Errors

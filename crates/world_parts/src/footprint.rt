@@ -72,7 +72,7 @@ impl Model for Footprint {
 }
 
 impl Footprint {
-    /// A footprint without items.
+    /// An access set without items.
     pub fn new(alloc: Global) -> Self
         ensures { result ≡ [] }
     {
@@ -125,7 +125,7 @@ impl Footprint {
         })
     }
 
-    /// Adds the items of another footprint.
+    /// Adds the items of another access set.
     ///
     /// # Errors
     ///
@@ -229,7 +229,7 @@ fn make_reads(uses: &mut [Use])
     }
 }
 
-/// Whether two footprints share an item, of a range a byte, that at least one of them writes. It
+/// Whether two access sets share an item, of a range a byte, that at least one of them writes. It
 /// takes no memory.
 pub fn collide(one: &Footprint, other: &Footprint) -> bool
     ensures { result ≡ items.collide one.now other.now }
@@ -257,7 +257,7 @@ fn shares_one(item: &Item, uses: &[Use]) -> bool
     uses.iter().any(|used| share(item, &used.item))
 }
 
-/// Whether a footprint writes a part of an item. It takes no memory.
+/// Whether an access set writes a part of an item. It takes no memory.
 pub fn writes_item(footprint: &Footprint, item: &Item) -> bool
     ensures { result ≡ list_any (λ u. u.written && items.share u.item (item_meant item.now))
         footprint.now }
@@ -273,7 +273,7 @@ fn any_writes(uses: &[Use], item: &Item) -> bool
         .any(|used| used.written && share(&used.item, item))
 }
 
-/// Whether a footprint has a part of an item. It takes no memory.
+/// Whether an access set has a part of an item. It takes no memory.
 pub fn touches_item(footprint: &Footprint, item: &Item) -> bool
     ensures { result ≡ list_any (λ u. items.share u.item (item_meant item.now)) footprint.now }
 {
@@ -287,7 +287,7 @@ fn any_touches(uses: &[Use], item: &Item) -> bool
     uses.iter().any(|used| share(&used.item, item))
 }
 
-/// Whether two footprints have the same uses in the same order. It takes no memory.
+/// Whether two access sets have the same uses in the same order. It takes no memory.
 pub fn same_uses(one: &Footprint, other: &Footprint) -> bool
     ensures { result ≡ true → one.now ≡ other.now }
 {

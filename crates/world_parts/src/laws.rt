@@ -1,4 +1,4 @@
-//! Laws of worlds and of footprints.
+//! Laws of worlds and of access sets.
 ghost use Rattle.world_parts.specs.Laws.{AtomsMakeTheWorld, CollideDecides};
 ghost use Rattle.world_parts.specs.Paths.{ListsEachPathOnce, ListsItsPaths, StartsHaveFileNames};
 
@@ -7,7 +7,7 @@ pub fn values_make_the_world()
     ensures { AtomsMakeTheWorld }
 {}
 
-/// Two footprints collide exactly where they share an item, of a range a byte, that one of them
+/// Two access sets collide exactly where they share an item, of a range a byte, that one of them
 /// writes.
 pub fn collide_decides()
     ensures { CollideDecides }

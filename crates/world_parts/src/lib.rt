@@ -1,4 +1,4 @@
-//! The world that a replay changes, the items of a footprint, and the parts that footprints cut
+//! The world that a replay changes, the items of an access set, and the parts that access sets cut
 //! out.
 #![tactic(auto)]
 

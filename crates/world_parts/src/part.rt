@@ -8,7 +8,7 @@ use std::alloc::{AllocError, Global};
 use std::collections::BTreeMap;
 use std::marker::Model;
 
-/// The world of a replay, and the footprints of the parts that are out of it, by their places.
+/// The world of a replay, and the access sets of the parts that are out of it, by their places.
 #[derive(Drop)]
 pub struct World {
     pub(crate) state: Box<State>,
@@ -29,7 +29,7 @@ impl Model for World {
 }
 
 /// A part of a world that was cut out for a place: a small world in which the items of the place's
-/// footprint have their values.
+/// access set have their values.
 #[derive(Drop)]
 pub struct Part {
     pub place: u32,

@@ -241,8 +241,8 @@ impl State {
 }
 
 impl World {
-    /// Puts a part back: the world has its values where its footprint writes. It costs by the
-    /// footprint and the part, and bytes move as whole pages, but for those within one page.
+    /// Puts a part back: the world has its values where its access set writes. It costs by the
+    /// access set and the part, and bytes move as whole pages, but for those within one page.
     ///
     /// # Errors
     ///

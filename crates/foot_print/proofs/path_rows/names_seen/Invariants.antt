@@ -7,7 +7,7 @@ use Rattle.foot_print.proofs.Walking.{leads, names_read}
 use Rattle.op_meaning.specs.Footprint.{path_reads}
 use Rattle.foot_print.proofs.path_rows.names_seen.Given as goal
 
--- the steps that are left make the footprint and the place of the whole walk
+-- the steps that are left make the access set and the place of the whole walk
 abbrev pub invariant-loop-step : goal.invariant-loop-step
 invariant-loop-step l = record {
   can : (goal.iterator-loop-step).can_next l.step-iterator;

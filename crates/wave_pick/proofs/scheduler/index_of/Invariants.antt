@@ -4,7 +4,7 @@ use Rattle.item_index.specs.Touching.{touches_item, writes_item}
 use Rattle.world_parts.specs.Items.{Item}
 use Rattle.wave_pick.proofs.scheduler.index_of.Given as goal
 
--- the index has the reaches of the places so far
+-- the index has the may-access sets of the places so far
 abbrev pub invariant-loop-place : goal.invariant-loop-place
 invariant-loop-place l = record {
   written : (x : Item) → written l.ahead x ≡ one_at l.reaches (take l.place-index l.places) (λ f. writes_item f x);

@@ -1,4 +1,4 @@
--- None of the reaches writes the item of one of the uses.
+-- None of the may-access sets writes the item of one of the uses.
 use Rattle.std.proofs.Common.{sym, ◌∙◌}
 use Rattle.item_index.proofs.Clear.{none_written_before, off}
 use Rattle.item_index.proofs.behind.Behind.are_clear.Goals as goal
