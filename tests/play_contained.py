@@ -16,9 +16,9 @@ CLIMBING = (b"/..", b"//..", b"/../bait", b"/../made", b"/../../made", b"../made
 PLAIN = (b"/a", b"/new", b"new")
 NOWHERE = AT_FDCWD & 0xffffffff
 MODES: Sequence[Tuple[str, Sequence[str]]] = (("raw", ["--raw"]), ("as it stands", []), ("chains", ["-e"]), ("strict", ["-e", "--strict"]), ("rounds", ["-e", "-r"]),
-                                              ("threads", ["-e", "-r", "--async"]))
+                                              ("threads", ["-e", "-r", "--async"]), ("flight", ["-e", "-D", "--async"]))
 # Without chroot nothing but the guard on paths, opcodes and numbers holds.
-ALONE = MODES[1:5]
+ALONE = (*MODES[1:5], MODES[6])
 # The opcodes with a path, or two, or a number, are more than those that the profile serves; none of the others is ever played.
 OPCODES = 256
 
@@ -97,8 +97,8 @@ def baited(top: str) -> str:
 def played(player: Player, program: Program, trace: bytes, words: Sequence[str], inner: str) -> Answer:
     if "-e" not in words:
         return player.play(words, trace, inner)
-    rounds = program.run(["rounds"], trace).output if "-r" in words else b""
-    return player.steered(trace, program.run(["serial"], trace).output, [it for it in words if it not in ("-e", "-r")], rounds, inner)
+    rounds, depends = (program.run([command], trace).output if word in words else b"" for command, word in (("rounds", "-r"), ("depends", "-D")))
+    return player.steered(trace, program.run(["serial"], trace).output, [it for it in words if it not in ("-e", "-r", "-D")], rounds, inner, depends)
 
 
 def contained(player: Player, program: Program, mode: str, words: Sequence[str], place: str) -> List[Outcome]:

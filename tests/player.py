@@ -11,7 +11,8 @@ from shims import Shim
 
 SOURCES, SHARED = (os.path.join(TOP, "tools", it) for it in ("uring_play", "shared"))
 UNTRIED, SECONDS = 77, 120
-MODES = ("chains", "rounds", "threads")
+# One chain at a time; in rounds; in rounds in threads of the kernel's; each chain once all that it waits for has finished, in threads.
+MODES = ("chains", "rounds", "threads", "flight")
 SECTIONS = ("entries", "tree", "slots", "buffers")
 
 
@@ -70,20 +71,24 @@ class Player:
         ran = subprocess.run(command, input=given, stdout=subprocess.PIPE, stderr=subprocess.PIPE, timeout=SECONDS, env=self.environment)
         return Answer(ran.returncode, ran.stdout, ran.stderr)
 
-    def steered(self, trace: bytes, report: bytes, words: Sequence[str] = (), rounds: bytes = b"", directory: str = "") -> Answer:
-        """Plays a trace by its report and, where there are any, its rounds."""
+    def steered(self, trace: bytes, report: bytes, words: Sequence[str] = (), rounds: bytes = b"", directory: str = "", depends: bytes = b"") -> Answer:
+        """Plays a trace by its report and, where there are any, its rounds or its dependencies."""
         with tempfile.TemporaryDirectory(dir=self.folder.name) as folder:
-            expected, in_rounds = os.path.join(folder, "expected"), os.path.join(folder, "rounds")
-            for path, text in ((expected, report), (in_rounds, rounds)):
-                with open(path, "wb") as file:
-                    file.write(text)
-            return self.play(["--expected", expected, *(["--rounds", in_rounds] if rounds else []), *words], trace, directory)
+            given: List[str] = []
+            for option, text in (("--expected", report), ("--rounds", rounds), ("--depends", depends)):
+                if text or option == "--expected":
+                    path = os.path.join(folder, option[2:])
+                    given += [option, path]
+                    with open(path, "wb") as file:
+                        file.write(text)
+            return self.play([*given, *words], trace, directory)
 
-    def compared(self, program: Program, trace: bytes, report: bytes, mode: str, directory: str) -> Compared:
+    def compared(self, program: Program, trace: bytes, report: bytes, mode: str, directory: str, words: Sequence[str] = ()) -> Compared:
         """Plays a trace in a mode, and holds it against its report."""
-        rounds = program.run(["rounds"], trace).output if mode != "chains" else b""
-        got = self.steered(trace, report, ["--async"] if mode == "threads" else [], rounds, directory)
-        return against(program, report, got)
+        rounds = program.run(["rounds"], trace).output if mode in ("rounds", "threads") else b""
+        depends = program.run(["depends"], trace).output if mode == "flight" else b""
+        in_threads = ["--async"] if mode in ("threads", "flight") else []
+        return against(program, report, self.steered(trace, report, [*in_threads, *words], rounds, directory, depends))
 
 
 def against(program: Program, report: bytes, got: Answer) -> Compared:
@@ -100,7 +105,7 @@ def against(program: Program, report: bytes, got: Answer) -> Compared:
     for section, line in zip(SECTIONS, lines[-len(SECTIONS):]):
         counts[section] = [int(it) for it in line.replace(",", "").split()[1::2]]
     is_well = found.status == 0 and not found.errors and not any(it[1] for it in counts.values())
-    words = [it.split("outside=")[1] for it in got.output.decode("utf-8", "replace").splitlines() if " outside=" in it]
+    words = [it.split("outside=")[1].split()[0] for it in got.output.decode("utf-8", "replace").splitlines() if " outside=" in it]
     differing = [it for it in lines[:-len(SECTIONS)] if not it.startswith("~")]
     fault = None if is_well else "{} {}".format(shown(found), differing[:4])
     return Compared(fault, None, counts, words)

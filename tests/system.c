@@ -3,6 +3,7 @@
  * SYSTEM_STUCK_AT=N: the Nth call of io_uring_enter(2) that submits says so and does not, so that its entries never end.
  * SYSTEM_RINGS=ERROR: io_uring_setup(2) fails with the error.
  * SYSTEM_LACKING=N: the kernel says that it does not serve the opcode N (IORING_REGISTER_PROBE).
+ * SYSTEM_THREADS=1: the kernel refuses entries with IOSQE_ASYNC (EINVAL).
  * SYSTEM_ROOT=ERROR: chroot(2) and unshare(2) fail with the error. */
 #define _GNU_SOURCE
 #include <dlfcn.h>
@@ -11,6 +12,7 @@
 #include <sched.h>
 #include <stdarg.h>
 #include <stdlib.h>
+#include <sys/mman.h>
 #include <sys/syscall.h>
 #include <unistd.h>
 
@@ -27,6 +29,15 @@ static int fail(long error)
     return -1;
 }
 
+static void *real_mmap(void *address, size_t size, int protection, int flags, int file, off_t offset)
+{
+    static void *(*real)(void *, size_t, int, int, int, off_t);
+
+    if (!real)
+        real = (void *(*)(void *, size_t, int, int, int, off_t))dlsym(RTLD_NEXT, "mmap");
+    return real(address, size, protection, flags, file, offset);
+}
+
 int chroot(const char *path)
 {
     int (*real)(const char *) = (int (*)(const char *))dlsym(RTLD_NEXT, "chroot");
@@ -39,6 +50,30 @@ int unshare(int flags)
     int (*real)(int) = (int (*)(int))dlsym(RTLD_NEXT, "unshare");
 
     return setting("SYSTEM_ROOT") ? fail(setting("SYSTEM_ROOT")) : real(flags);
+}
+
+/* The entries of the ring that was mapped last. */
+static struct io_uring_sqe *entries;
+static size_t entry_count;
+
+void *mmap(void *address, size_t size, int protection, int flags, int file, off_t offset)
+{
+    void *mapped = real_mmap(address, size, protection, flags, file, offset);
+
+    if (mapped != MAP_FAILED && offset == (off_t)IORING_OFF_SQES && flags & MAP_SHARED) {
+        entries = mapped;
+        entry_count = size / sizeof *entries;
+    }
+    return mapped;
+}
+
+/* No kernel has the opcode, so that it refuses them. */
+static void refuse_threads(void)
+{
+    for (size_t at = 0; at < entry_count; at++) {
+        if (entries[at].flags & IOSQE_ASYNC)
+            entries[at] = (struct io_uring_sqe){ .opcode = 255, .user_data = entries[at].user_data };
+    }
 }
 
 long syscall(long number, ...)
@@ -54,6 +89,8 @@ long syscall(long number, ...)
     va_end(list);
     if (!real)
         real = (long (*)(long, ...))dlsym(RTLD_NEXT, "syscall");
+    if (number == SYS_io_uring_enter && setting("SYSTEM_THREADS"))
+        refuse_threads();
     if (number == SYS_io_uring_setup && setting("SYSTEM_RINGS"))
         return fail(setting("SYSTEM_RINGS"));
     if (number == SYS_io_uring_enter && (unsigned)words[1] && ++submissions == setting("SYSTEM_STUCK_AT"))

@@ -265,8 +265,9 @@ enum apart why_as_right(const struct entry *entry)
 		return APART_EITHER;
 	if (is_by_tests(entry, expected, result))
 		return APART_TESTS;
-	/* In rounds: another open that fails has the last free number for a moment. */
-	if (options.rounds && opcode == OP_OPENAT && expected < 0 && result == -EMFILE)
+	/* Beside others: another open that fails has the last free number for a moment. */
+	if ((options.rounds || options.depends) && opcode == OP_OPENAT && expected < 0 &&
+	    result == -EMFILE)
 		return APART_OPENS;
 	return NOT_APART;
 }

@@ -8,7 +8,7 @@
 #include <time.h>
 #include <unistd.h>
 
-struct options options = { .directory = ".", .patience = 30 };
+struct options options = { .directory = ".", .patience = 30, .in_flight = 64 };
 FILE *messages;
 void (*at_death)(void);
 
@@ -127,10 +127,10 @@ const char *shown(const char *path)
 	return text ? text : path;
 }
 
-double now(void)
+u64 now(void)
 {
 	struct timespec time;
 
 	clock_gettime(CLOCK_MONOTONIC, &time);
-	return (double)time.tv_sec + (double)time.tv_nsec * 1e-9;
+	return (u64)time.tv_sec * 1000000000ULL + (u64)time.tv_nsec;
 }

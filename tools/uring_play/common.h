@@ -19,7 +19,9 @@ struct options {
 	const char *output;    /* the file of the results, or NULL for standard output */
 	const char *directory; /* where the fresh directory is made */
 	const char *expected;  /* the report of the replay, or NULL */
-	const char *rounds;    /* the text of the rounds, or NULL: one chain at a time */
+	const char *rounds;    /* the text of the rounds, or NULL */
+	const char *depends;   /* the text of the dependencies, or NULL */
+	u32 in_flight;	       /* how many chains are in flight at once, at most */
 	u32 patience;	       /* seconds to wait for a completion */
 	bool async;	       /* each entry runs in a thread of the kernel's */
 	bool keep;	       /* the directory is left as it is */
@@ -59,8 +61,8 @@ void write_path(FILE *file, const char *path);
 /* A path so written, for a message; it is valid until the next call. */
 const char *shown(const char *path);
 
-/* Seconds of the monotonic clock. */
-double now(void);
+/* Nanoseconds of the monotonic clock. */
+u64 now(void);
 
 /* A little-endian number of so many bytes. */
 static inline u64 number_at(const u8 *bytes, u64 count)

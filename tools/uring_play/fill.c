@@ -17,22 +17,30 @@
 #define FLAG_NO_ACCESS_TIME 01000000U
 #define FLAG_DIRECT 040000U
 
-enum { ARENA = 64 << 20, GREAT = 4 << 20, FOLDED = 64 << 20, PAGE = 4096 };
+enum { ARENAS = 4, ARENA = 64 << 20, GREAT = 4 << 20, FOLDED = 64 << 20, PAGE = 4096 };
 /* A process has some 65,000 mappings at most, and a great read some 33. */
 enum { BEHIND_FIELDS = 48, CROWDED = 256, MODE_OF_FILES = 0644, MODE_OF_DIRECTORIES = 0755 };
 /* Low enough that vectors of many bytes stay below the end of all addresses, where it is free. */
-#define LOW_ADDRESS ((void *)(1UL << 45))
+#define LOW_ADDRESS ((u8 *)(1UL << 45))
 
 struct mapping {
 	void *memory;
 	size_t size;
 };
-static u8 *arena;
-static u64 arena_used;
+/* Memory that is given out from its start on, and is free again once nobody holds it. What does not
+ * fit has a mapping of its own. */
+struct arena {
+	u8 *memory;
+	u64 used;
+	u32 holders;
+	struct mapping *mappings;
+	u64 mapping_count, mapping_room;
+};
+static struct arena arenas[ARENAS];
+static u32 arena_number; /* which is given out */
 static int folded = -1;
-static struct mapping *mappings;
-static u64 mapping_count, mapping_room, mapped_bytes;
-static u8 **read_into; /* by place, for reads that are in flight */
+static u64 mapped_bytes; /* behind the arenas */
+static u8 **read_into;	 /* by place, for reads that are in flight */
 
 /* --- Memory -------------------------------------------------------------------------------------
  */
@@ -49,38 +57,88 @@ static u8 *map(void *hint, u64 size)
 
 void prepare_memory(void)
 {
-	arena = map(LOW_ADDRESS, ARENA);
+	for (u32 at = 0; at < ARENAS; at++)
+		arenas[at].memory = map(LOW_ADDRESS + (u64)at * ARENA, ARENA);
 	folded = move_up(memfd_create("uring_play", MFD_CLOEXEC));
 	if (folded < 0 || ftruncate(folded, FOLDED))
 		die("memory for great reads: %s", strerror(errno));
 	read_into = allocate(trace.places * sizeof *read_into);
 }
 
+static bool is_full(const struct arena *arena)
+{
+	return arena->mapping_count >= CROWDED || arena->used > ARENA / 2;
+}
+
+/* The first arena that has room, if there is one: else the one that is given out. */
+static u32 roomy(void)
+{
+	for (u32 at = 0; at < ARENAS; at++) {
+		if (!is_full(&arenas[at]))
+			return at;
+	}
+	return arena_number;
+}
+
+u32 hold_memory(void)
+{
+	if (is_full(&arenas[arena_number]))
+		arena_number = roomy();
+	arenas[arena_number].holders++;
+	return arena_number;
+}
+
+bool is_crowded(void)
+{
+	return is_full(&arenas[arena_number]) && is_full(&arenas[roomy()]);
+}
+
+void let_memory_go(u32 number)
+{
+	struct arena *arena = &arenas[number];
+
+	if (--arena->holders)
+		return;
+	while (arena->mapping_count) {
+		arena->mapping_count--;
+		munmap(arena->mappings[arena->mapping_count].memory,
+		       arena->mappings[arena->mapping_count].size);
+	}
+	arena->used = 0;
+	bool is_free = true;
+	for (u32 at = 0; at < ARENAS; at++)
+		is_free &= !arenas[at].mapping_count;
+	if (is_free)
+		mapped_bytes = 0;
+}
+
 static u8 *map_for_now(u64 size)
 {
-	u8 *memory = map((u8 *)LOW_ADDRESS + ARENA + mapped_bytes, size);
+	struct arena *arena = &arenas[arena_number];
+	u8 *memory = map(LOW_ADDRESS + (u64)ARENAS * ARENA + mapped_bytes, size);
 
 	mapped_bytes += (size + PAGE) & ~(u64)(PAGE - 1);
-	GROW(mappings, mapping_count, mapping_room);
-	mappings[mapping_count++] = (struct mapping){ memory, size };
+	GROW(arena->mappings, arena->mapping_count, arena->mapping_room);
+	arena->mappings[arena->mapping_count++] = (struct mapping){ memory, size };
 	return memory;
 }
 
 static u8 *memory_of(u64 size)
 {
+	struct arena *arena = &arenas[arena_number];
 	u64 room = (size + 16) & ~15ULL;
 
-	if (arena_used + room > ARENA)
+	if (arena->used + room > ARENA)
 		return map_for_now(room);
-	arena_used += room;
-	return arena + arena_used - room;
+	arena->used += room;
+	return arena->memory + arena->used - room;
 }
 
 /* Memory that is read into. Where there is much of it, it is the same pages over and over behind
  * the first one, of which alone something is told. */
 static u8 *memory_to_read(u64 size)
 {
-	if (size <= GREAT && arena_used + size < ARENA)
+	if (size <= GREAT && arenas[arena_number].used + size < ARENA)
 		return memory_of(size);
 	u64 room = (size + PAGE) & ~(u64)(PAGE - 1);
 	u8 *memory = map_for_now(PAGE + room);
@@ -90,21 +148,6 @@ static u8 *memory_to_read(u64 size)
 			die("memory for great reads: %s", strerror(errno));
 	}
 	return memory;
-}
-
-bool is_crowded(void)
-{
-	return mapping_count >= CROWDED;
-}
-
-void forget_memory(void)
-{
-	while (mapping_count) {
-		mapping_count--;
-		munmap(mappings[mapping_count].memory, mappings[mapping_count].size);
-	}
-	arena_used = 0;
-	mapped_bytes = 0;
 }
 
 /* A silent read brought all that it asked for, where the answers say that it did. */

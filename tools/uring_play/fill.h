@@ -8,11 +8,13 @@
 
 /* Room that entries need before they are played. */
 void prepare_memory(void);
-/* Fills a submission entry. The memory is there until `forget_memory`. */
+/* Takes memory for what is filled until the next call: it is there until it is let go of. */
+u32 hold_memory(void);
+void let_memory_go(u32 number);
+/* Fills a submission entry. */
 void fill_entry(struct entry *entry, struct io_uring_sqe *sqe);
 /* Keeps the first bytes that a played read brought. */
 void keep_data(struct entry *entry);
-void forget_memory(void);
 /* Whether so much memory is in use that no more entries should be filled, where that can wait. */
 bool is_crowded(void);
 

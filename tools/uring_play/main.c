@@ -3,9 +3,13 @@
  *
  * docs/PLAYING.md says how it is used, README.md how it works. */
 #include "answers.h"
+#include "depends.h"
 #include "fill.h"
+#include "flight.h"
+#include "keeper.h"
 #include "lacks.h"
 #include "numbers.h"
+#include "pieces.h"
 #include "play.h"
 #include "results.h"
 #include "rings.h"
@@ -39,6 +43,10 @@ static const char help[] =
 	"                          otherwise is left out, made up for and marked outside\n"
 	"  -r, --rounds FILE       the text of uring_replay rounds: each round is submitted at\n"
 	"                          once (needs --expected)\n"
+	"  -D, --depends FILE      the text of uring_replay depends: each chain starts once all\n"
+	"                          that it waits for has finished (needs --expected)\n"
+	"  -i, --in-flight N       how many chains are in flight at once, 1 to 4096 (64; needs\n"
+	"                          --depends)\n"
 	"  -a, --async             each entry runs in a thread of the kernel's\n"
 	"  -s, --strict            results that are as right as the expected ones are compared\n"
 	"  -o, --output FILE       the results (standard output)\n"
@@ -66,6 +74,8 @@ static const struct option long_options[] = {
 	{ "directory", required_argument, NULL, 'd' },
 	{ "expected", required_argument, NULL, 'e' },
 	{ "rounds", required_argument, NULL, 'r' },
+	{ "depends", required_argument, NULL, 'D' },
+	{ "in-flight", required_argument, NULL, 'i' },
 	{ "async", no_argument, NULL, 'a' },
 	{ "strict", no_argument, NULL, 's' },
 	{ "output", required_argument, NULL, 'o' },
@@ -121,6 +131,8 @@ static const char **file_of(int word)
 		return &options.expected;
 	case 'r':
 		return &options.rounds;
+	case 'D':
+		return &options.depends;
 	case 'o':
 		return &options.output;
 	default:
@@ -152,6 +164,8 @@ static void take_option(int word)
 		*file_of(word) = optarg;
 	else if (word == 'p')
 		options.patience = take_number("--patience", optarg, 1, MOST_PATIENCE);
+	else if (word == 'i')
+		options.in_flight = take_number("--in-flight", optarg, 1, MOST_AT_ONCE);
 	else if (word == LACKING)
 		options.lacking[take_number("--lacking", optarg, 0, OPCODES - 1)] = true;
 	else if (word == 'h')
@@ -162,28 +176,48 @@ static void take_option(int word)
 		die_with(STATUS_WORDS, "try uring_play --help");
 }
 
-static void take_words(int count, char **words)
+/* Ends the player where options do not go together. */
+static void test_options(bool is_number_given)
 {
-	int word;
-
-	while ((word = getopt_long(count, words, "d:e:r:aso:p:kqh", long_options, NULL)) != -1)
-		take_option(word);
-	if (count - optind > 1)
-		die_with(STATUS_WORDS, "there is more than one trace; try uring_play --help");
-	options.trace = optind < count ? words[optind] : NULL;
-	if (options.rounds && !options.expected)
-		die_with(STATUS_WORDS, "--rounds needs --expected");
+	if (options.rounds && options.depends)
+		die_with(STATUS_WORDS, "--rounds and --depends do not go together");
+	if ((options.rounds || options.depends) && !options.expected)
+		die_with(STATUS_WORDS, "%s needs --expected",
+			 options.rounds ? "--rounds" : "--depends");
+	if (is_number_given && !options.depends)
+		die_with(STATUS_WORDS, "--in-flight needs --depends");
 	if (options.raw && options.expected)
 		die_with(STATUS_WORDS, "--raw goes without --expected");
 	if (options.prepare && options.prepared)
 		die_with(STATUS_WORDS, "--prepare and --prepared do not go together");
 }
 
+static void take_words(int count, char **words)
+{
+	bool is_number_given = false;
+	int word;
+
+	while ((word = getopt_long(count, words, "d:e:r:D:i:aso:p:kqh", long_options, NULL)) !=
+	       -1) {
+		is_number_given |= word == 'i';
+		take_option(word);
+	}
+	if (count - optind > 1)
+		die_with(STATUS_WORDS, "there is more than one trace; try uring_play --help");
+	options.trace = optind < count ? words[optind] : NULL;
+	test_options(is_number_given);
+}
+
 /* --- The order of things ------------------------------------------------------------------------
  */
 
-/* Reads the trace and what is said of it; gives the rounds, or NULL. */
-static u32 *read_inputs(u32 *round_count)
+/* What is said of the order of the places. */
+static struct {
+	u32 *rounds, round_count;
+	struct waits waits;
+} order;
+
+static void read_inputs(void)
 {
 	u64 length;
 	u8 *bytes = read_whole(options.trace, MOST_BYTES, &length);
@@ -191,7 +225,18 @@ static u32 *read_inputs(u32 *round_count)
 	read_trace(bytes, length);
 	if (options.expected)
 		read_expected(options.expected);
-	return options.rounds ? read_rounds(options.rounds, round_count) : NULL;
+	if (options.rounds)
+		order.rounds = read_rounds(options.rounds, &order.round_count);
+	if (options.depends)
+		order.waits = read_depends(options.depends);
+}
+
+/* How many entries a ring has to take at once at least, beside its longest record. */
+static u32 most_at_once(void)
+{
+	if (options.rounds)
+		return widest_of(order.rounds, order.round_count);
+	return options.depends ? (u32)min64(options.in_flight, trace.places) : 0;
 }
 
 /* Opens the descriptions of the trace. A position that the file system cannot have is another one
@@ -243,37 +288,26 @@ static void summary(void)
 		    (unsigned long long)counts.unsaid);
 }
 
-static void play(const u32 *rounds, u32 round_count)
+static void play(void)
 {
-	double before = now();
-
-	if (rounds)
-		play_rounds(rounds, round_count);
+	if (options.rounds)
+		play_rounds(order.rounds, order.round_count);
+	else if (options.depends)
+		play_in_flight(&order.waits);
 	else
 		play_chains();
-	counts.seconds = now() - before;
+	counts.seconds = (double)play_time() * 1e-9;
 }
 
-/* Plays the trace, one chain at a time or in rounds. */
-int main(int count, char **words)
+/* Makes all that the trace starts with. */
+static void set_the_scene(void)
 {
-	u32 round_count = 0;
-
-	take_words(count, words);
-	umask(022);
-	u32 *rounds = read_inputs(&round_count);
-	prepare_numbers();
-	heed_signals();
-	enter_directory();
-	watch();
-	if (options.prepare) {
-		lay_out();
-		fprintf(results_file(), "%s\n", laid_out_at());
-		deliver_results();
-		return 0;
-	}
-	open_rings(rounds ? widest_of(rounds, round_count) : 0);
+	open_rings(most_at_once());
 	try_kernel();
+	if (options.async)
+		try_threads();
+	if (options.depends)
+		watch_rings();
 	try_file_system();
 	lay_out();
 	int *descriptions = open_descriptions();
@@ -282,7 +316,29 @@ int main(int count, char **words)
 	limit_sizes();
 	enter_table(descriptions);
 	close_descriptions(descriptions);
-	play(rounds, round_count);
+	free(descriptions);
+}
+
+/* Plays the trace, one chain at a time, in rounds or in flight. */
+int main(int count, char **words)
+{
+	take_words(count, words);
+	umask(022);
+	read_inputs();
+	prepare_numbers();
+	heed_signals();
+	enter_directory();
+	if (options.depends)
+		start_keeper();
+	watch();
+	if (options.prepare) {
+		lay_out();
+		fprintf(results_file(), "%s\n", laid_out_at());
+		deliver_results();
+		return 0;
+	}
+	set_the_scene();
+	play();
 	let_open();
 	write_results();
 	close_rings();

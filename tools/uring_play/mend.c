@@ -205,26 +205,35 @@ static bool change_names(const struct entry *entry, const struct fields *it)
 	return is_done;
 }
 
-bool mend(const struct entry *entry)
+static bool is_of_names(const struct entry *entry)
+{
+	return entry->apart == APART_LACKS && is_on_names(entry->sqe[0]);
+}
+
+bool is_to_mend(const struct entry *entry)
+{
+	struct fields it = fields_of(entry);
+
+	if (!entry->is_expected)
+		return false;
+	return is_of_names(entry) ? !entry->expected : change_of(entry, &it) != NO_CHANGE;
+}
+
+void mend(const struct entry *entry)
 {
 	struct fields it = fields_of(entry);
 	bool is_own = false, is_done = false;
-	bool is_names = entry->apart == APART_LACKS && is_on_names(it.opcode);
-	enum change change = is_names ? NO_CHANGE : change_of(entry, &it);
 
-	if ((is_names && entry->expected) || (!is_names && change == NO_CHANGE))
-		return false;
 	let_open();
-	if (is_names) {
+	if (is_of_names(entry)) {
 		is_done = change_names(entry, &it);
 	} else {
 		int file = file_of(entry, &is_own);
-		is_done = file >= 0 && change_file(file, change, entry);
+		is_done = file >= 0 && change_file(file, change_of(entry, &it), entry);
 		if (file >= 0 && is_own)
 			close(file);
 	}
 	if (!is_done)
 		cannot(entry);
 	let_none_open();
-	return true;
 }

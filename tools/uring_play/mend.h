@@ -9,8 +9,10 @@ bool can_be_mended(u8 opcode);
 /* Whether the kernel leaves the position elsewhere: a write at the position that is cut at the
  * greatest size, by the answers. */
 bool is_cut(const struct entry *entry);
-/* Puts the world where the answers have it, behind an entry that was not played, or whose position
- * the kernel leaves elsewhere. True where something was done. */
-bool mend(const struct entry *entry);
+/* Whether the world is to be put where the answers have it, behind an entry that was not played, or
+ * whose position the kernel leaves elsewhere. */
+bool is_to_mend(const struct entry *entry);
+/* Puts it there. Nothing else may be in flight. */
+void mend(const struct entry *entry);
 
 #endif

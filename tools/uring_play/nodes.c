@@ -1,4 +1,5 @@
 #include "nodes.h"
+#include "keeper.h"
 #include "numbers.h"
 #include "tree.h"
 
@@ -64,6 +65,10 @@ void hold_node(const char *path, u64 node)
 
 	if (options.no_nodes || is_lost)
 		return;
+	if (is_kept_apart()) {
+		keep_node(path, node);
+		return;
+	}
 	descriptor = try_move_up(openat(tree_root, path, O_PATH | O_NOFOLLOW | O_CLOEXEC));
 	if (descriptor < 0 && (errno == EMFILE || errno == ENFILE))
 		release_nodes();
@@ -92,6 +97,8 @@ bool node_of(const struct stat *status, u64 *node)
 {
 	const struct known *it;
 
+	if (is_kept_apart())
+		return kept_node_of(status->st_dev, status->st_ino, node);
 	if (!table_size || is_lost)
 		return false;
 	it = place_of(status->st_dev, status->st_ino);
@@ -101,6 +108,7 @@ bool node_of(const struct stat *status, u64 *node)
 
 void release_nodes(void)
 {
+	end_keeper();
 	while (held_count)
 		close(held[--held_count]);
 	is_lost = true;

@@ -1,15 +1,8 @@
-/* The play: one chain at a time, or in rounds. */
+/* The play: one chain at a time, or in rounds. (In flight: flight.h.) */
 #ifndef PLAY_H
 #define PLAY_H
 
 #include "common.h"
-
-/* What came of it, for the summary. */
-struct counts {
-	u64 played, unplayed, mended, unsaid;
-	double seconds;
-};
-extern struct counts counts;
 
 /* Each chain is submitted, and waited for, before the next one is. */
 void play_chains(void);

@@ -34,6 +34,10 @@ static void write_entry(FILE *file, const struct entry *entry)
 	fprintf(file, " op=%u", entry->sqe[0]);
 	if (entry->apart != NOT_APART)
 		fprintf(file, " outside=%s", apart_words[entry->apart]);
+	if (options.depends && entry->is_submitted)
+		fprintf(file, " submitted=%" PRIu64, entry->submitted);
+	if (options.depends && entry->state == ENTRY_POSTED)
+		fprintf(file, " completed=%" PRIu64, entry->completed);
 	fputc('\n', file);
 }
 

@@ -7,6 +7,7 @@
 #include <errno.h>
 #include <stdlib.h>
 #include <string.h>
+#include <sys/epoll.h>
 #include <sys/mman.h>
 #include <sys/syscall.h>
 #include <sys/uio.h>
@@ -16,7 +17,9 @@
 /* Younger than many a header. */
 #define OP_FIXED_FD_INSTALL 54
 #define SETUP_SUBMIT_ALL (1U << 7)
+#define EPOLL_PWAIT2 441
 enum { PAGE = 4096, MOST_QUEUED = 32768, FEWEST_QUEUED = 8, MOST_TRIES = 20 };
+#define SECOND 1000000000ULL
 /* Buffers are pinned: a trace of few bytes may have more of them than there is memory. */
 #define MOST_PINNED (1ULL << 31)
 
@@ -29,6 +32,7 @@ struct ring {
 };
 static struct ring rings[MOST_RINGS];
 static bool is_slot_shown;
+static int all_rings = -1; /* a descriptor that is ready where a ring has a completion */
 
 /* --- Set-up -------------------------------------------------------------------------------------
  */
@@ -107,6 +111,17 @@ void open_rings(u32 fewest)
 	for (u32 number = 0; number < trace.ring_count; number++) {
 		u32 longest = trace.rings[number].longest;
 		open_ring(&rings[number], (longest > fewest ? longest : fewest) + 1);
+	}
+}
+
+void watch_rings(void)
+{
+	struct epoll_event event = { .events = EPOLLIN };
+
+	all_rings = move_up(epoll_create1(EPOLL_CLOEXEC));
+	for (u32 number = 0; number < trace.ring_count; number++) {
+		if (epoll_ctl(all_rings, EPOLL_CTL_ADD, rings[number].descriptor, &event))
+			die("rings cannot be waited for: %s", strerror(errno));
 	}
 }
 
@@ -211,6 +226,11 @@ u32 room_of(u32 ring)
 	return rings[ring].entries;
 }
 
+u32 completion_room_of(u32 ring)
+{
+	return rings[ring].completion_mask + 1;
+}
+
 struct io_uring_sqe *next_sqe(u32 number, u32 at)
 {
 	struct ring *ring = &rings[number];
@@ -219,9 +239,10 @@ struct io_uring_sqe *next_sqe(u32 number, u32 at)
 }
 
 /* One call, with a limit of time where it waits. */
-static int enter(const struct ring *ring, u32 count, u32 wanted, u32 milliseconds)
+static int enter(const struct ring *ring, u32 count, u32 wanted, u64 nanoseconds)
 {
-	struct __kernel_timespec time = { milliseconds / 1000, milliseconds % 1000 * 1000000LL };
+	struct __kernel_timespec time = { (i64)(nanoseconds / SECOND),
+					  (i64)(nanoseconds % SECOND) };
 	struct io_uring_getevents_arg argument = { .ts = (u64)(uintptr_t)&time };
 	long done;
 
@@ -262,8 +283,31 @@ bool wait_for(u32 number, u32 count, u32 milliseconds)
 
 	if (completions_of(ring) >= count)
 		return true;
-	enter(ring, 0, count, milliseconds);
+	enter(ring, 0, count, milliseconds * (SECOND / 1000));
 	return completions_of(ring) >= count;
+}
+
+/* One ring is waited for by a call of its own, several through the descriptor that looks at all. */
+void wait_for_any(const u32 *wanted, u64 nanoseconds)
+{
+	struct __kernel_timespec time = { (i64)(nanoseconds / SECOND),
+					  (i64)(nanoseconds % SECOND) };
+	struct epoll_event event;
+	u32 count = 0, last = 0;
+
+	for (u32 number = 0; number < trace.ring_count; number++) {
+		if (!wanted[number])
+			continue;
+		if (completions_of(&rings[number]))
+			return;
+		count++;
+		last = number;
+	}
+	go_on();
+	if (count == 1)
+		enter(&rings[last], 0, 1, nanoseconds);
+	else if (syscall(EPOLL_PWAIT2, all_rings, &event, 1, &time, NULL, 0) < 0 && errno != EINTR)
+		die("epoll_pwait2: %s", strerror(errno));
 }
 
 u32 take_completions(u32 number, void (*each)(const struct io_uring_cqe *))
@@ -277,15 +321,39 @@ u32 take_completions(u32 number, void (*each)(const struct io_uring_cqe *))
 	return taken;
 }
 
-/* --- Slots --------------------------------------------------------------------------------------
+/* --- Entries of the player's own ----------------------------------------------------------------
  */
 
-static int installed;
+static int own_result;
 
-static void take_installed(const struct io_uring_cqe *it)
+static void take_own(const struct io_uring_cqe *it)
 {
-	if (it->user_data == OF_SLOT)
-		installed = it->res;
+	if (it->user_data == OF_PLAYER)
+		own_result = it->res;
+}
+
+/* Runs an entry by itself; nothing else may be in flight. */
+static int run_own(u32 number, const struct io_uring_sqe *it)
+{
+	struct io_uring_sqe *sqe = next_sqe(number, 0);
+
+	*sqe = *it;
+	sqe->user_data = OF_PLAYER;
+	own_result = -ETIME;
+	submit(number, 1);
+	wait_for(number, 1, options.patience * 1000);
+	take_completions(number, take_own);
+	return own_result;
+}
+
+void try_threads(void)
+{
+	const struct io_uring_sqe nop = { .flags = FLAG_ASYNC };
+	int result = trace.ring_count ? run_own(0, &nop) : 0;
+
+	if (result < 0)
+		die_with(STATUS_UNTRIED, "the kernel runs no entry in a thread of its own: %s",
+			 strerror(-result));
 }
 
 bool shows_slots(void)
@@ -295,16 +363,9 @@ bool shows_slots(void)
 
 int slot_file(u32 number, u32 slot)
 {
-	struct io_uring_sqe *sqe = next_sqe(number, 0);
+	const struct io_uring_sqe install = { .opcode = OP_FIXED_FD_INSTALL,
+					      .flags = FLAG_FIXED,
+					      .fd = (i32)slot };
 
-	memset(sqe, 0, sizeof *sqe);
-	sqe->opcode = OP_FIXED_FD_INSTALL;
-	sqe->flags = FLAG_FIXED;
-	sqe->fd = (i32)slot;
-	sqe->user_data = OF_SLOT;
-	installed = -ETIME;
-	submit(number, 1);
-	wait_for(number, 1, options.patience * 1000);
-	take_completions(number, take_installed);
-	return installed;
+	return run_own(number, &install);
 }

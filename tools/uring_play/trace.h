@@ -71,6 +71,8 @@ enum apart {
 	APARTS
 };
 
+struct piece;
+
 struct entry {
 	const u8 *sqe;
 	const u8 *side;
@@ -83,6 +85,8 @@ struct entry {
 	enum state state;
 	enum apart apart;
 	i32 result;
+	struct piece *piece;	  /* in which it is in flight */
+	u64 submitted, completed; /* nanoseconds from the start of the play */
 	u8 data[DATA_SHOWN + 1];
 	u64 data_length;
 };

@@ -1,0 +1,306 @@
+"""The player in flight: what may run at once does, each answer is the one that is proved, and a race that one chain at a time does not show is found."""
+import os
+import random
+import signal
+import struct
+import subprocess
+import time
+from functools import partial
+from typing import Callable, List, Sequence, Tuple
+
+import play
+from harness import EXAMPLES, Answer, Job, Outcome, Program, first, shown, skipped
+from mounted import Passthrough
+from player import UNTRIED, Player, against
+from traces import CLOSE, DRAIN, FIXED_FILE, HARDLINK, LINK, NOP, OPENAT, READ, SKIP, WRITE, AT_FDCWD
+from traces import description, enter, entry, fill, file, head, ring
+
+# A race has to be found in so many of so many plays.
+PLAYS, FOUND = 10, 9
+SLOTS = 32
+
+
+def files(count: int, size: int = 100) -> bytes:
+    return b"".join(file(b"/%d" % it, size, b"o" * size) for it in range(count))
+
+
+def descriptions(count: int) -> bytes:
+    return b"".join(description(it + 1) for it in range(count))
+
+
+def shared_blocks() -> bytes:
+    """One write to each of sixteen files. None conflicts with another; but in the planted file system two of them share a block."""
+    writes = [entry(WRITE, FIXED_FILE, it, length=64, side=bytes([65 + it]) * 64) for it in range(16)]
+    return head(16, 16, 1, 1) + files(16) + descriptions(16) + ring(list(range(1, 17))) + enter(0, writes)
+
+
+def planted(player: Player, program: Program) -> List[Outcome]:
+    """A file system that reads, sleeps and writes back: its lost writes are found in flight, and by no chain at a time."""
+    name, trace = "flight: a planted race", shared_blocks()
+    report, depends = (program.run(it, trace).output for it in (["serial", "--sums"], ["depends"]))
+    outcomes = []
+    with Passthrough(["planted"]) as there:
+        if there.lacking:
+            return skipped(name, there.lacking)
+        for label, words, texts, least, most in (("in flight", [], depends, FOUND, PLAYS), ("in threads", ["--async"], depends, FOUND, PLAYS),
+                                                 ("one in flight", ["--in-flight", "1"], depends, 0, 0), ("one chain at a time", [], b"", 0, 0)):
+            each = [against(program, report, player.steered(trace, report, words, b"", there.mount, texts)) for _ in range(PLAYS)]
+            found = sum(it.counts["tree"][1] > 0 for it in each)
+            others = [it.fault for it in each if it.fault and not it.counts["tree"][1]]
+            fault = first(others) or (None if least <= found <= most else "found in {} of {} plays".format(found, PLAYS))
+            outcomes.append(Outcome("{}: {}".format(name, label), fault, first([it.untried for it in each if it.untried])))
+    return outcomes
+
+
+def passed_through(player: Player, program: Program, words: Sequence[str]) -> List[Outcome]:
+    """Without the plant nothing differs."""
+    name = "flight: through a file system in user space{}".format("".join(" " + it for it in words))
+    traces = [play.Played(seed).trace() for seed in range(12)] + [shared_blocks()]
+    with Passthrough(words) as there:
+        if there.lacking:
+            return skipped(name, there.lacking)
+        each = [player.compared(program, it, program.run(["serial", "--sums"], it).output, mode, there.mount) for it in traces for mode in ("chains", "flight")]
+    return [Outcome(name, first([it.fault for it in each if it.fault]), first([it.untried for it in each if it.untried]))]
+
+
+# --- Queues that are full ---------------------------------------------------------------------------------------------
+
+def crowd(source: random.Random, rings: int, records: int, longest: int) -> bytes:
+    """Chains of many lengths on some rings, linked softly and hard, silent, drained, with failures; each reads and writes files of its own and of all."""
+    def member(flags: int) -> bytes:
+        slot = source.randrange(SLOTS + 2)
+        if source.randrange(2):
+            return entry(READ, FIXED_FILE | flags, slot, offset=source.randrange(110), length=source.randrange(64))
+        length = source.randrange(1, 32)
+        return entry(WRITE, FIXED_FILE | flags, slot, offset=source.randrange(64), length=length, side=bytes([source.randrange(256)]) * length)
+
+    def chain() -> List[bytes]:
+        count = source.choice((1, 1, 1, 1, 2, 3, longest))
+        link, silent = source.choice((LINK, HARDLINK)), source.choice((0, 0, SKIP))
+        drained = DRAIN if source.randrange(40) == 0 else 0
+        return [member((link if it + 1 < count else 0) | silent | (drained if it == 0 else 0)) for it in range(count)]
+
+    records_ = [enter(source.randrange(rings), [it for _ in range(source.randrange(1, 9)) for it in chain()]) for _ in range(records)]
+    slots = ring(list(range(1, SLOTS + 1)))
+    return head(SLOTS, SLOTS, rings, len(records_)) + files(SLOTS) + descriptions(SLOTS) + slots * rings + b"".join(records_)
+
+
+def crowded(player: Player, program: Program, seed: int) -> List[Outcome]:
+    """Queues that fill and empty, at any number in flight: no completion is lost, and none differs."""
+    source = random.Random(seed)
+    trace = crowd(source, *source.choice(((1, 150, 40), (3, 150, 7), (64, 200, 3))))
+    report, outcomes = program.run(["serial", "--sums"], trace).output, []
+    for number, words in ((1, []), (3, ["--async"]), (64, []), (4096, ["--async"])):
+        found = player.compared(program, trace, report, "flight", player.directories()[seed % len(player.directories())], ["--in-flight", str(number), *words])
+        outcomes.append(Outcome("flight: full queues {}, {} in flight".format(seed, number), found.fault, found.untried))
+    return outcomes
+
+
+def wide(player: Player, program: Program) -> List[Outcome]:
+    """As many as the most at once, and chains of as many members as a record takes, which are silent: the queues of completions are full, and fills
+    of buffers stand between."""
+    reads = [enter(0, [entry(READ, FIXED_FILE, length=4)]) for _ in range(9_000)]
+    long = [enter(1, [entry(READ, FIXED_FILE | LINK | SKIP, length=4)] * 32_000 + [entry(NOP)])]
+    fills = [fill(0, 0, it % 16, b"x") for it in range(200)]
+    body = b"".join([*reads[:4_500], *fills, *long, *reads[4_500:]])
+    trace = head(1, 1, 2, len(reads) + len(fills) + len(long)) + file(b"/a", 10, b"0123456789") + description(1) + ring([1], [(4096, 16)]) + ring([1]) + body
+    report, outcomes = program.run(["serial", "--sums"], trace).output, []
+    for words in (["--in-flight", "4096"], ["--in-flight", "7"]):
+        found = player.compared(program, trace, report, "flight", player.directories()[-1], words)
+        outcomes.append(Outcome("flight: many and long ones, {}".format(" ".join(words)), found.fault, found.untried))
+    return outcomes
+
+
+def at_once(player: Player, program: Program) -> List[Outcome]:
+    """As many as are asked for are in flight at once, and no more, by their times."""
+    trace = shared_blocks()
+    report, depends = (program.run(it, trace).output for it in (["serial", "--sums"], ["depends"]))
+    outcomes = []
+    with Passthrough(["planted"]) as there:
+        if there.lacking:
+            return skipped("flight: how many are in flight", there.lacking)
+        for most in (1, 2, 5):
+            got = player.steered(trace, report, ["--in-flight", str(most)], b"", there.mount, depends)
+            spans = times(got.output)
+            # What comes together is taken at one time, before more is submitted.
+            deepest = max((sum(one <= at < end for one, end in spans) for at, _ in spans), default=0)
+            outcomes.append(Outcome("flight: {} in flight at once".format(most), None if deepest == most and len(spans) == 16 else "{} of {}".format(deepest, len(spans))))
+    return outcomes
+
+
+def times(results: bytes) -> List[Tuple[int, int]]:
+    """When each entry was submitted and completed."""
+    found = []
+    for line in results.split(b"\n"):
+        facts = dict(it.split(b"=", 1) for it in line.split() if b"=" in it)
+        if b"submitted" in facts and b"completed" in facts:
+            found.append((int(facts[b"submitted"]), int(facts[b"completed"])))
+    return found
+
+
+# --- Texts that are none ----------------------------------------------------------------------------------------------
+
+def chained() -> bytes:
+    """Two chains, of which the second waits for the first by a file, and a fill."""
+    chains = [entry(WRITE, FIXED_FILE | LINK, length=4, side=b"abcd"), entry(READ, FIXED_FILE, length=9), entry(READ, FIXED_FILE | LINK, length=4), entry(NOP)]
+    return head(1, 1, 1, 2) + file(b"/a", 10, b"0123456789") + description(1) + ring([1], [(4096, 16)]) + enter(0, chains) + fill(0, 0, 0, b"x")
+
+
+def line_of(text: bytes, word: bytes) -> bytes:
+    return next(it for it in text.split(b"\n") if it.startswith(word))
+
+
+def refused_texts(text: bytes, other: bytes) -> List[Tuple[str, bytes, str]]:
+    """Texts that are not the dependencies of the trace: what is wrong, the text, and what is said."""
+    lines = text.split(b"\n")
+    pair = next(it for it in lines if b" after=" in it)
+    place = int(pair.split()[0])
+
+    def instead(old: bytes, new: bytes) -> bytes:
+        return text.replace(old + b"\n", new + b"\n", 1)
+
+    return [
+        ("nothing", b"\n", "does not begin with uring-depends 1"),
+        ("a report", b"uring-report 1\nring 0\nend\n", "does not begin with uring-depends 1"),
+        ("rounds", b"uring-rounds 1\n0 round=0\nend\n", "does not begin with uring-depends 1"),
+        ("its heading alone", b"uring-depends 1\n", "it tells of 0 places, and the trace has 5"),
+        ("cut short", text[: len(text) // 2].rsplit(b"\n", 1)[0] + b"\n", ""),
+        ("cut within a line", text[:-2], "is not there, or does not end"),
+        ("without its end", text[: -len(b"end\n")], "is not there, or does not end"),
+        ("with more behind", text + b"end\n", "it goes on behind its end"),
+        ("another trace's", other, ""),
+        ("a place that is not there", instead(b"places 5", b"5\nplaces 5"), "is of a place that the trace does not have"),
+        ("a place of many digits", instead(lines[1], b"99999999999999999999999"), "has too great a number"),
+        ("a place left out", instead(lines[1], b""), ""),
+        ("a place twice", instead(lines[1], lines[1] + b"\n" + lines[1]), "is out of order"),
+        ("a pair twice", instead(pair, pair + b"\n" + pair), "is out of order"),
+        ("a pair that waits for itself", instead(pair, b"%d after=%d on=order of ring 0" % (place, place)), "waits for a place that is not earlier"),
+        ("a pair that waits for a later place", instead(pair, b"%d after=4 on=order of ring 0" % place), "waits for a place that is not earlier"),
+        ("a pair that waits for no number", instead(pair, b"%d after=x on=order of ring 0" % place), "has no number where one belongs"),
+        ("a pair that waits for less than none", instead(pair, b"%d after=-1 on=order of ring 0" % place), "has no number where one belongs"),
+        ("a pair without an item", instead(pair, pair.split(b" on=")[0]), "does not tell the item"),
+        ("a pair in other words", instead(pair, pair.replace(b"after", b"behind")), "is neither PLACE nor PLACE after=EARLIER on=ITEM"),
+        ("a pair of a chain left out", instead(pair, b"%d" % place), ""),
+        ("another number of places", instead(b"places 5", b"places 6"), "tells another number of places than the trace has"),
+        ("another number of pairs", instead(line_of(text, b"pairs"), b"pairs 77"), "tells another number of pairs than there are"),
+        ("another number of bytes", instead(line_of(text, b"bytes"), b"bytes 1"), "tells another number of bytes than the report"),
+        ("no span", text.replace(b"\nspan ", b"\nspam ", 1), "does not begin with span"),
+        ("a graph", b"digraph depends {\n}\n", "does not begin with uring-depends 1"),
+    ]
+
+
+def texts(player: Player, program: Program) -> List[Outcome]:
+    trace, other = chained(), play.read(os.path.join(EXAMPLES, "appends_wait_for_each_other.trace"))
+    report = program.run(["serial", "--sums"], trace).output
+    text, other_text = (program.run(["depends"], it).output for it in (trace, other))
+    outcomes = [Outcome("flight: the text that is right", against(program, report, player.steered(trace, report, [], b"", "", text)).fault)]
+    for label, wrong, said in refused_texts(text, other_text):
+        got = player.steered(trace, report, [], b"", "", wrong)
+        is_well = got.status == 3 and not got.output and got.errors.startswith(b"uring_play: ") and said.encode() in got.errors and got.errors.count(b"\n") == 1
+        outcomes.append(Outcome("flight: a text that is {}".format(label), None if is_well and wrong != text else shown(got)))
+    return outcomes
+
+
+def changed_texts(player: Player, program: Program, seed: int) -> List[Outcome]:
+    """Texts with bytes changed: each is refused by a line, or played; nothing hangs or breaks."""
+    source = random.Random(seed)
+    trace, faults = play.Played(seed).trace(), []
+    report, text = (program.run(it, trace).output for it in (["serial", "--sums"], ["depends"]))
+    for number in range(12):
+        wrong = bytearray(text)
+        for _ in range(source.randrange(1, 4)):
+            at = source.randrange(len(wrong))
+            wrong[at : at + source.randrange(2)] = bytes(source.choice(b"0123456789 \n\0ae=") for _ in range(source.randrange(3)))
+        got = player.steered(trace, report, [], b"", "", bytes(wrong))
+        is_told = got.status == 3 and got.errors.startswith(b"uring_play: ") and not got.output
+        faults += [] if got.status == 0 or is_told else ["{}: {}".format(number, shown(got))]
+    return [Outcome("flight: changed texts {}".format(seed), first(faults))]
+
+
+# --- Systems and users ------------------------------------------------------------------------------------------------
+
+def words(player: Player, program: Program) -> List[Outcome]:
+    trace, outcomes = os.path.join(EXAMPLES, "read_four_bytes.trace"), []
+    cases: List[Tuple[List[str], int]] = [
+        (["--in-flight", "8", trace], 2), (["--depends", trace, trace], 2), (["--depends", trace, "--expected", trace, "--rounds", trace, trace], 2),
+        *((["--depends", trace, "--expected", trace, "--in-flight", it, trace], 2) for it in ("0", "4097", "x", "-1", "")),
+        (["--depends", "/nonexistent", "--expected", trace, trace], 3),
+    ]
+    for given, wanted in cases:
+        got = player.play(given)
+        is_well = got.status == wanted and not got.output and got.errors.startswith(b"uring_play: ")
+        outcomes.append(Outcome("flight: {}".format(" ".join(os.path.basename(it) for it in given)), None if is_well else shown(got)))
+    return outcomes
+
+
+def on_less(player: Player, program: Program) -> List[Outcome]:
+    """A kernel that runs nothing in threads, entries that never end, and a play without nodes."""
+    trace, outcomes = shared_blocks(), []
+    report, depends = (program.run(it, trace).output for it in (["serial", "--sums"], ["depends"]))
+    refused = player.with_less(threads=1).steered(trace, report, ["--async"], b"", "", depends)
+    is_well = refused.status == UNTRIED and b"no entry in a thread" in refused.errors and not refused.output
+    outcomes.append(Outcome("flight: a kernel without threads", None if is_well else shown(refused)))
+    got = player.with_less(stuck_at=2).steered(trace, report, ["--patience", "1", "--in-flight", "2"], b"", "", depends)
+    lines = got.output.split(b"\n")
+    told = [sum(b" res=64 posted" in it for it in lines) == 2, sum(b" silent " in it for it in lines) == 2, got.output.count(b"outside=stuck") == 12]
+    is_well = got.status == 3 and all(told) and b" not ended in 1 second" in got.errors and got.output.endswith(b"\nend\n")
+    outcomes.append(Outcome("flight: entries that never end", None if is_well else shown(got)))
+    plain = against(program, report, player.steered(trace, report, ["--no-nodes"], b"", "", depends))
+    outcomes.append(Outcome("flight: without nodes", plain.fault, plain.untried))
+    few = Program(player.program, "").run(["-q", "-d", player.folder.name, os.path.join(EXAMPLES, "read_four_bytes.trace")], b"", shell='ulimit -n 40; exec "$@"')
+    outcomes.append(Outcome("flight: too few descriptors", None if few.status == 3 and b"too few" in few.errors else shown(few)))
+    return outcomes
+
+
+def full_table(player: Player, program: Program) -> List[Outcome]:
+    """Opens that take the last descriptors, and some that fail, beside reads by numbers that are free: what the player opens itself takes none of them."""
+    opens = [entry(OPENAT, fd=AT_FDCWD, own_flags=0o102, side=b"/new%d" % it) for it in range(4)]
+    reads = [entry(READ, fd=it, length=4) for it in range(5)]
+    steps = [enter(0, [it]) for it in [*opens, *reads, entry(CLOSE, fd=1), *opens[:2], *reads]]
+    trace = head(1, 1, 1, len(steps), 3, 2) + file(b"/a", 10, b"0123456789") + description(1) + struct.pack("<3I", 1, 0, 0) + ring() + b"".join(steps)
+    report, faults = program.run(["serial", "--sums"], trace).output, []
+    for number in range(20):
+        found = player.compared(program, trace, report, "flight", player.directories()[number % len(player.directories())])
+        faults += [found.fault] if found.fault else []
+    return [Outcome("flight: a full table", first(faults))]
+
+
+def interrupted(player: Player, program: Program, number: int) -> List[Outcome]:
+    """A signal in flight ends the player as it would; neither the directory nor the process that holds nodes stays."""
+    reads = [enter(0, [entry(READ, FIXED_FILE, length=1 << 30)]) for _ in range(20_000)]
+    trace = head(1, 1, 1, len(reads)) + file(b"/a", 1 << 40) + description(1) + ring([1]) + b"".join(reads)
+    report, depends = (program.run([it], trace).output for it in ("serial", "depends"))
+    paths = [os.path.join(player.folder.name, "interrupted-{}-{}".format(it, number)) for it in ("expected", "depends", "trace")]
+    for path, text in zip(paths, (report, depends, trace)):
+        with open(path, "wb") as opened:
+            opened.write(text)
+    command = [player.program, "-d", player.folder.name, "-e", paths[0], "-D", paths[1], "--async", paths[2]]
+    started = subprocess.Popen(command, stdin=subprocess.DEVNULL, stdout=subprocess.DEVNULL, stderr=subprocess.PIPE)
+    time.sleep(2)
+    children = played_by(started.pid)
+    started.send_signal(number)
+    status = started.wait(60)
+    said = started.stderr.read()
+    started.stderr.close()
+    left = [it for it in children if os.path.exists("/proc/{}".format(it))]
+    is_well = status == -number and len(children) == 1 and not left
+    return [Outcome("flight: signal {}".format(number), None if is_well else "status {}, {} of {} stay, {!r}".format(status, left, children, said))]
+
+
+def played_by(process: int) -> List[int]:
+    with open("/proc/{0}/task/{0}/children".format(process)) as file_:
+        return [int(it) for it in file_.read().split()]
+
+
+def jobs(programs: List[Program]) -> List[Job]:
+    player = Player()
+    lacking = player.lacking() or player.lacking_in_system(play.TRACE)
+    if lacking:
+        return [lambda: skipped("the player in flight", lacking)]
+    program = programs[0]
+    each: Sequence[Callable[[Player, Program], List[Outcome]]] = (planted, wide, at_once, texts, words, on_less, full_table)
+    found: List[Job] = [partial(it, player, program) for it in each]
+    found += [partial(passed_through, player, program, it) for it in ((), ("cached",), ("writeback", "cached"))]
+    found += [partial(crowded, player, program, seed) for seed in range(4)]
+    found += [partial(changed_texts, player, program, seed) for seed in range(4)]
+    return found + [partial(interrupted, player, program, it) for it in (signal.SIGTERM, signal.SIGINT)]

@@ -1,0 +1,360 @@
+#include "flight.h"
+#include "chains.h"
+#include "fill.h"
+#include "mend.h"
+#include "pieces.h"
+#include "rings.h"
+#include "trace.h"
+#include "watch.h"
+
+#include <stdlib.h>
+#include <string.h>
+
+/* Nanoseconds after which it is looked whether pieces have ended in silence, or something hangs. */
+#define LOOK_AGAIN 100000000ULL
+#define SECOND 1000000000ULL
+
+/* Some members of a chain: they are submitted together, or one is left out. */
+struct part {
+	struct entry *first;
+	u32 count;
+	bool is_left;
+};
+/* What starts as a whole: a chain, in parts one after another, or the fill of a buffer. */
+struct unit {
+	const struct record *fill; /* or NULL */
+	u32 next_part, end_part;
+	u32 waiting;	     /* for how many it still waits: each pair counts */
+	struct piece *piece; /* what is in flight of it */
+};
+
+static struct unit *units;
+static u32 unit_count, finished;
+static struct part *parts;
+static u32 part_count;
+/* The units that wait for a unit: those of unit U are from later_from[U] on. */
+static u64 *later_from;
+static u32 *later;
+/* Those that wait for none any more: a heap, the first of the trace on top. */
+static u32 *ready, ready_count;
+/* Those that are in flight; and those that go on only where nothing is. */
+static u32 *flying, flying_count;
+static u32 *quiet, quiet_count;
+/* Of each ring: entries that are filled and not submitted, and those that may still post. */
+static u32 filled[MOST_RINGS], reserved[MOST_RINGS];
+static u64 looked_at, heard_last;
+
+/* --- What there is to do ------------------------------------------------------------------------
+ */
+
+static void add_part(struct entry *first, u32 count, bool is_left)
+{
+	parts[part_count++] = (struct part){ first, count, is_left };
+}
+
+/* Makes the units, in the order of the trace; gives of each place its unit. */
+static u32 *make_units(void)
+{
+	u32 *unit_of = allocate(trace.places * sizeof *unit_of);
+
+	units = allocate(trace.places * sizeof *units);
+	parts = allocate(trace.places * sizeof *parts);
+	for (u32 number = 0; number < trace.record_count; number++) {
+		const struct record *record = &trace.records[number];
+		if (record->kind == 2) {
+			unit_of[record->place] = unit_count;
+			units[unit_count++].fill = record;
+		}
+		for (u32 from = 0, count; from < record->count; from += count) {
+			count = chain_length(record, from);
+			units[unit_count].next_part = part_count;
+			plan_chain(record->entries + from, count, add_part);
+			units[unit_count].end_part = part_count;
+			for (u32 at = 0; at < count; at++)
+				unit_of[record->place + from + at] = unit_count;
+			unit_count++;
+		}
+		go_on();
+	}
+	return unit_of;
+}
+
+/* Each pair of units of which the later one waits for the earlier one. */
+static void each_pair(const struct waits *waits, const u32 *unit_of,
+		      void (*each)(u32 earlier, u32 unit))
+{
+	for (u32 place = 0; place < trace.places; place++) {
+		for (u64 at = waits->starts[place]; at < waits->starts[place + 1]; at++) {
+			u32 earlier = unit_of[waits->earlier[at]];
+			if (earlier != unit_of[place])
+				each(earlier, unit_of[place]);
+		}
+	}
+}
+
+static void count_pair(u32 earlier, u32 unit)
+{
+	later_from[earlier + 1]++;
+	units[unit].waiting++;
+}
+
+/* The last of each is put first, so that in the end each count is where it begins. */
+static void put_pair(u32 earlier, u32 unit)
+{
+	later[--later_from[earlier + 1]] = unit;
+}
+
+/* Turns pairs around: of each unit those that wait for it. */
+static void turn_around(const struct waits *waits, const u32 *unit_of)
+{
+	later_from = allocate((unit_count + 2ULL) * sizeof *later_from);
+	later = allocate(waits->starts[trace.places] * sizeof *later);
+	each_pair(waits, unit_of, count_pair);
+	for (u32 at = 0; at < unit_count; at++)
+		later_from[at + 1] += later_from[at];
+	later_from[unit_count + 1] = later_from[unit_count];
+	each_pair(waits, unit_of, put_pair);
+	later_from++;
+}
+
+/* --- The heap of those that may start -----------------------------------------------------------
+ */
+
+static void swap(u32 *one, u32 *other)
+{
+	u32 it = *one;
+
+	*one = *other;
+	*other = it;
+}
+
+static void add_ready(u32 unit)
+{
+	u32 at = ready_count++;
+
+	ready[at] = unit;
+	for (; at && ready[at] < ready[(at - 1) / 2]; at = (at - 1) / 2)
+		swap(&ready[at], &ready[(at - 1) / 2]);
+}
+
+static void drop_first_ready(void)
+{
+	u32 at = 0;
+
+	ready[0] = ready[--ready_count];
+	while (2 * at + 1 < ready_count) {
+		u32 below = 2 * at + 1;
+		if (below + 1 < ready_count && ready[below + 1] < ready[below])
+			below++;
+		if (ready[at] <= ready[below])
+			return;
+		swap(&ready[at], &ready[below]);
+		at = below;
+	}
+}
+
+/* --- Going on -----------------------------------------------------------------------------------
+ */
+
+static void finish(u32 number)
+{
+	finished++;
+	for (u64 at = later_from[number]; at < later_from[number + 1]; at++) {
+		if (!--units[later[at]].waiting)
+			add_ready(later[at]);
+	}
+}
+
+/* Whether the rings and the memory have room for a part. A ring never has more to post than its
+ * queue of completions takes. */
+static bool has_room(const struct part *part)
+{
+	u32 ring = part->first->ring, most = part->count + 1;
+
+	return filled[ring] + most <= room_of(ring) &&
+	       reserved[ring] + most <= completion_room_of(ring) &&
+	       flying_count < options.in_flight && !is_crowded();
+}
+
+static void fly(u32 number, const struct part *part)
+{
+	u32 ring = part->first->ring;
+	bool is_without = is_doomed(part->first, part->count);
+	struct piece *piece = fill_piece(part->first, part->count, is_without, filled[ring]);
+
+	units[number].piece = piece;
+	filled[ring] += piece->sent;
+	reserved[ring] += piece->sent;
+	flying[flying_count++] = number;
+}
+
+/* Goes on with a unit, of which nothing is in flight, as far as that can be; false where there is
+ * no room. What is made up for is so where nothing else is in flight. */
+static bool advance(u32 number)
+{
+	struct unit *unit = &units[number];
+
+	if (unit->fill)
+		put_bytes(unit->fill);
+	while (unit->next_part < unit->end_part) {
+		const struct part *part = &parts[unit->next_part];
+		if (!part->is_left && !has_room(part))
+			return false;
+		if (part->is_left && is_to_mend(part->first) && flying_count) {
+			quiet[quiet_count++] = number;
+			return true;
+		}
+		unit->next_part++;
+		if (!part->is_left) {
+			fly(number, part);
+			return true;
+		}
+		look_at(part->first);
+	}
+	finish(number);
+	return true;
+}
+
+/* Starts what may start. Nothing does while something waits for a moment without anything in
+ * flight. */
+static void start_some(void)
+{
+	while (ready_count && !quiet_count) {
+		u32 number = ready[0];
+		drop_first_ready();
+		if (!advance(number)) {
+			add_ready(number);
+			return;
+		}
+	}
+}
+
+static void submit_filled(void)
+{
+	for (u32 ring = 0; ring < trace.ring_count; ring++) {
+		if (filled[ring])
+			submit(ring, filled[ring]);
+		filled[ring] = 0;
+	}
+}
+
+/* --- What has ended -----------------------------------------------------------------------------
+ */
+
+static bool is_any_to_mend(const struct piece *piece)
+{
+	for (u32 at = 0; at < piece->count; at++) {
+		if (is_to_mend(&piece->first[at]))
+			return true;
+	}
+	return false;
+}
+
+/* What has ended of a unit is looked at, and it may go on. */
+static void land(u32 number)
+{
+	struct unit *unit = &units[number];
+
+	end_piece(unit->piece);
+	unit->piece = NULL;
+	add_ready(number);
+}
+
+/* Takes those that have ended from what is in flight. */
+static void land_some(bool is_look)
+{
+	u32 kept = 0, count = flying_count;
+	u64 time = is_look ? play_time() : 0;
+
+	for (u32 at = 0; at < count; at++) {
+		struct piece *piece = units[flying[at]].piece;
+		if (is_look && !piece->is_over && is_silent_long(piece, time)) {
+			piece->is_over = true;
+			counts.unsaid++;
+		}
+		if (!piece->is_over) {
+			flying[kept++] = flying[at];
+			continue;
+		}
+		reserved[piece->first->ring] -= piece->sent;
+		if (is_any_to_mend(piece))
+			quiet[quiet_count++] = flying[at];
+		else
+			land(flying[at]);
+	}
+	flying_count = kept;
+}
+
+/* Goes on with what waited for a moment in which nothing is in flight. */
+static void use_quiet(void)
+{
+	u32 count = quiet_count;
+
+	if (flying_count)
+		return;
+	quiet_count = 0;
+	for (u32 at = 0; at < count; at++) {
+		if (units[quiet[at]].piece)
+			land(quiet[at]);
+		else
+			add_ready(quiet[at]);
+	}
+}
+
+static void hear_all(void)
+{
+	u32 taken = 0;
+
+	for (u32 ring = 0; ring < trace.ring_count; ring++) {
+		if (reserved[ring])
+			taken += hear_ring(ring);
+	}
+	if (taken)
+		heard_last = play_time();
+}
+
+/* Takes what has come, or waits until something has; gives up where nothing comes. */
+static void wait_for_some(void)
+{
+	u32 before = flying_count;
+
+	hear_all();
+	land_some(false);
+	if (!flying_count || flying_count < before)
+		return;
+	wait_for_any(reserved, LOOK_AGAIN);
+	hear_all();
+	u64 time = play_time();
+	bool is_look = time - looked_at >= LOOK_AGAIN;
+	if (is_look)
+		looked_at = time;
+	land_some(is_look);
+	if (flying_count && time - heard_last >= options.patience * SECOND) {
+		say("place %u has not ended in %u seconds", units[flying[0]].piece->first->place,
+		    options.patience);
+		give_up();
+	}
+}
+
+void play_in_flight(const struct waits *waits)
+{
+	u32 *unit_of = make_units();
+
+	turn_around(waits, unit_of);
+	free(unit_of);
+	ready = allocate(unit_count * sizeof *ready);
+	flying = allocate(options.in_flight * sizeof *flying);
+	quiet = allocate(unit_count * sizeof *quiet);
+	make_pieces(options.in_flight);
+	for (u32 number = 0; number < unit_count; number++) {
+		if (!units[number].waiting)
+			add_ready(number);
+	}
+	while (finished < unit_count) {
+		start_some();
+		submit_filled();
+		wait_for_some();
+		use_quiet();
+		go_on();
+	}
+}
