@@ -264,6 +264,18 @@ def nodes_in(picture: bytes, tag: str) -> int:
     return sum(it.tag.endswith("}" + tag) for it in xml.etree.ElementTree.fromstring(picture).iter())
 
 
+# Ten reads of 100 bytes, of 1 to 10 microseconds, the last of which ends 1 millisecond after the first began; and an entry without times.
+TIMED = b"uring-report 1\nring 0\n" + b"".join(b"%d user=0 res=100 posted op=22 submitted=%d completed=%d\n" % (it, 990_000 * (it == 9), 990_000 * (it == 9) + 1_000 * (it + 1))
+                                              for it in range(10)) + b"10 user=0 op=0\nend\n"
+
+
+def is_table(got: Tuple[int, bytes]) -> Optional[str]:
+    rows = {tuple(it.split()[:-1]): it.split()[-1] for it in got[1].decode().splitlines()[1:]}
+    wanted = {("all", "entries"): "10", ("all", "seconds"): "0.001", ("all", "entries/s"): "10000", ("all", "MB/s"): "1.0", ("READ", "entries"): "10",
+              ("READ", "50%", "us"): "5.0", ("READ", "99%", "us"): "10.0", ("READ", "99.9%", "us"): "10.0"}
+    return None if got[0] == 0 and rows == wanted else "status {}, {}".format(got[0], rows)
+
+
 def pictures(program: Program) -> List[Outcome]:
     """The pictures are those of the examples; each place has its box, and what is no text of rounds is refused."""
     outcomes = []
@@ -283,6 +295,7 @@ def pictures(program: Program) -> List[Outcome]:
         for label, given, wanted in (("a text of times", timed, 0), ("a report without times", texts[1], 1), ("a trace", b"URINGTRC", 1)):
             status, _ = timeline([], given)
             outcomes.append(Outcome("tools/uring_timeline: {}".format(label), None if status == wanted else "status {}, wanted {}".format(status, wanted)))
+        outcomes.append(Outcome("tools/uring_timeline --table", is_table(timeline(["--table"], TIMED))))
     return outcomes
 
 

@@ -1,4 +1,5 @@
 """The player in flight: what may run at once does, each answer is the one that is proved, and a race that one chain at a time does not show is found."""
+import json
 import os
 import random
 import signal
@@ -217,6 +218,86 @@ def changed_texts(player: Player, program: Program, seed: int) -> List[Outcome]:
     return [Outcome("flight: changed texts {}".format(seed), first(faults))]
 
 
+# --- Times ------------------------------------------------------------------------------------------------------------
+
+SPACED, MILLISECONDS = 12, 15
+
+
+def spaced() -> Tuple[bytes, bytes]:
+    """A trace of reads, and results in which one is submitted each 15 milliseconds, the third of them a chain, and the last without a time."""
+    entries = [entry(READ, FIXED_FILE, length=4)] * 2 + [entry(READ, FIXED_FILE | LINK, length=4)] + [entry(READ, FIXED_FILE, length=4)] * (SPACED - 3)
+    trace = head(1, 1, 1, 1) + file(b"/a", 10, b"0123456789") + description(1) + ring([1]) + enter(0, entries)
+    lines = [b"%d user=0 res=4 posted op=22 submitted=%d completed=1" % (it, 7_000 + it * MILLISECONDS * 1_000_000) for it in range(SPACED - 1)]
+    return trace, b"\n".join([b"uring-report 1", b"ring 0", *lines, b"%d user=0 op=22" % (SPACED - 1), b"end", b""])
+
+
+def paced(player: Player, program: Program) -> List[Outcome]:
+    """Entries are submitted at their times and no sooner, or as soon as may be; and the results are times for another play."""
+    trace, recorded = spaced()
+    report, depends = (program.run(it, trace).output for it in (["serial", "--sums"], ["depends"]))
+    outcomes, path = [], os.path.join(player.folder.name, "times")
+    for label, given in (("recorded times", recorded), ("times of a play", b"")):
+        with open(path, "wb") as opened:
+            opened.write(given or got.output) # (of the play before)
+        got = player.steered(trace, report, ["--pace", path], b"", "", depends)
+        starts = [at for at, _ in times(got.output)]
+        soon = [it for it in range(SPACED - 1) if it != 3 and starts[it] < it * MILLISECONDS * 1_000_000 - 10_000]
+        compared = against(program, report, got)
+        fault = compared.fault or (None if not soon and starts[3] == starts[2] else "{} were too soon: {}".format(soon, starts))
+        outcomes.append(Outcome("flight: at {}".format(label), fault, compared.untried))
+    quick = times(player.steered(trace, report, [], b"", "", depends).output)
+    fault = None if len(quick) == SPACED and quick[-1][0] < MILLISECONDS * 1_000_000 * SPACED else str(quick)
+    return [*outcomes, Outcome("flight: as soon as may be", fault)]
+
+
+def wrong_times(player: Player, program: Program) -> List[Outcome]:
+    trace, recorded = spaced()
+    report, depends = (program.run(it, trace).output for it in (["serial", "--sums"], ["depends"]))
+    cases = (
+        ("a trace", trace, "does not begin with uring-report 1"), ("a report", report, "no entry has submitted="),
+        ("another trace's", recorded.replace(b"4 user=0", b"4 user=5"), "is another entry"), ("a place too many", recorded.replace(b"4 user=0", b"44 user=0"), "is not in the trace"),
+        ("a time that is no number", recorded.replace(b"submitted=7000", b"submitted=x"), "is no number"),
+        ("a time below none", recorded.replace(b"submitted=7000", b"submitted=-7"), "is no number"),
+        ("a time of many digits", recorded.replace(b"submitted=7000", b"submitted=" + b"9" * 30), "is no number"),
+        ("a time and more", recorded.replace(b"submitted=7000", b"submitted=7000.5"), "is no number"),
+        ("a place twice", recorded.replace(b"ring 0\n", b"ring 0\n4 user=0 submitted=9\n"), "told twice"),
+        ("a time a day later", recorded.replace(b"submitted=7000", b"submitted=%d" % (10**14)), "more than a day"),
+        ("a last line that does not end", recorded[:-6], ""),
+    )
+    outcomes, path = [], os.path.join(player.folder.name, "wrong-times")
+    for label, text, said in cases:
+        with open(path, "wb") as opened:
+            opened.write(text)
+        got = player.steered(trace, report, ["--pace", path], b"", "", depends)
+        is_well = got.status == 3 and not got.output and got.errors.startswith(b"uring_play: ") and said.encode() in got.errors
+        outcomes.append(Outcome("flight: times that are {}".format(label), None if is_well else shown(got)))
+    return outcomes
+
+
+def share_of(sizes: List[int], thousandth: int) -> int:
+    return sorted(sizes)[max(-(-len(sizes) * thousandth // 1_000), 1) - 1]
+
+
+def summed_up(player: Player, program: Program) -> List[Outcome]:
+    """The summary, as lines and as JSON: its figures are those of the results."""
+    trace, recorded = spaced()
+    report, depends = (program.run(it, trace).output for it in (["serial", "--sums"], ["depends"]))
+    path, loud, outcomes = os.path.join(player.folder.name, "summed-times"), player.with_summary(), []
+    with open(path, "wb") as opened:
+        opened.write(recorded)
+    got = loud.steered(trace, report, ["--json", "--pace", path], b"", "", depends)
+    told, sizes = json.loads(got.errors), [end - start for start, end in times(got.output)]
+    wanted = {str(name): share_of(sizes, share) for name, share in ((50, 500), (99, 990), (99.9, 999), (100, 1_000))}
+    is_well = told["entries"] == SPACED and told["bytes"] == 4 * SPACED and told["not_played"] == 0 and list(told["opcodes"]) == ["READ"]
+    is_well = is_well and told["opcodes"]["READ"] == {"entries": SPACED, "bytes": 4 * SPACED, "latency_ns": wanted} and sorted(told["delay_ns"]) == ["100", "50", "99", "99.9"]
+    is_well = is_well and abs(told["entries"] / told["seconds"] - told["entries_per_second"]) < 1
+    outcomes.append(Outcome("flight: the summary as JSON", None if is_well else "{} {}".format(told, wanted)))
+    lines = loud.steered(trace, report, ["--pace", path], b"", "", depends).errors.decode().splitlines()
+    starts = ("{} entries in ".format(SPACED), "{} bytes moved (".format(4 * SPACED), " ", "READ   ", "submitted behind their times: 50% ")
+    is_well = len(lines) == len(starts) and all(it.startswith("uring_play: " + start) for it, start in zip(lines, starts))
+    return [*outcomes, Outcome("flight: the summary", None if is_well else repr(lines))]
+
+
 # --- Systems and users ------------------------------------------------------------------------------------------------
 
 def words(player: Player, program: Program) -> List[Outcome]:
@@ -225,6 +306,7 @@ def words(player: Player, program: Program) -> List[Outcome]:
         (["--in-flight", "8", trace], 2), (["--depends", trace, trace], 2), (["--depends", trace, "--expected", trace, "--rounds", trace, trace], 2),
         *((["--depends", trace, "--expected", trace, "--in-flight", it, trace], 2) for it in ("0", "4097", "x", "-1", "")),
         (["--depends", "/nonexistent", "--expected", trace, trace], 3),
+        (["--pace", trace, trace], 2), (["--json", trace], 2), (["--json", "--depends", trace, "--expected", trace, trace], 2),
     ]
     for given, wanted in cases:
         got = player.play(given)
@@ -240,9 +322,9 @@ def on_less(player: Player, program: Program) -> List[Outcome]:
     refused = player.with_less(threads=1).steered(trace, report, ["--async"], b"", "", depends)
     is_well = refused.status == UNTRIED and b"no entry in a thread" in refused.errors and not refused.output
     outcomes.append(Outcome("flight: a kernel without threads", None if is_well else shown(refused)))
-    got = player.with_less(stuck_at=2).steered(trace, report, ["--patience", "1", "--in-flight", "2"], b"", "", depends)
+    got = player.with_less(stuck_at=2).steered(trace, report, ["--patience", "1", "--in-flight", "1"], b"", "", depends)
     lines = got.output.split(b"\n")
-    told = [sum(b" res=64 posted" in it for it in lines) == 2, sum(b" silent " in it for it in lines) == 2, got.output.count(b"outside=stuck") == 12]
+    told = [sum(b" res=64 posted" in it for it in lines) == 1, sum(b" silent " in it for it in lines) == 1, got.output.count(b"outside=stuck") == 14]
     is_well = got.status == 3 and all(told) and b" not ended in 1 second" in got.errors and got.output.endswith(b"\nend\n")
     outcomes.append(Outcome("flight: entries that never end", None if is_well else shown(got)))
     plain = against(program, report, player.steered(trace, report, ["--no-nodes"], b"", "", depends))
@@ -298,7 +380,7 @@ def jobs(programs: List[Program]) -> List[Job]:
     if lacking:
         return [lambda: skipped("the player in flight", lacking)]
     program = programs[0]
-    each: Sequence[Callable[[Player, Program], List[Outcome]]] = (planted, wide, at_once, texts, words, on_less, full_table)
+    each: Sequence[Callable[[Player, Program], List[Outcome]]] = (planted, wide, at_once, texts, words, on_less, full_table, paced, wrong_times, summed_up)
     found: List[Job] = [partial(it, player, program) for it in each]
     found += [partial(passed_through, player, program, it) for it in ((), ("cached",), ("writeback", "cached"))]
     found += [partial(crowded, player, program, seed) for seed in range(4)]

@@ -35,6 +35,7 @@ class Player:
         self.program = os.path.join(self.folder.name, "uring_play")
         self.system = Shim("system", 0)
         self.environment = dict(os.environ)
+        self.words = ["--quiet"]
 
     def directories(self) -> List[str]:
         return [self.folder.name, *([self.shared.name] if self.shared else [])]
@@ -66,8 +67,14 @@ class Player:
         other.environment = {**self.environment, "LD_PRELOAD": self.system.file, **{"SYSTEM_" + it.upper(): str(value) for it, value in settings.items()}}
         return other
 
+    def with_summary(self) -> "Player":
+        """The same player, which tells its summary."""
+        other = copy.copy(self)
+        other.words = []
+        return other
+
     def play(self, words: Sequence[str], given: bytes = b"", directory: str = "") -> Answer:
-        command = [self.program, "--quiet", "--directory", directory or self.folder.name, *words]
+        command = [self.program, *self.words, "--directory", directory or self.folder.name, *words]
         ran = subprocess.run(command, input=given, stdout=subprocess.PIPE, stderr=subprocess.PIPE, timeout=SECONDS, env=self.environment)
         return Answer(ran.returncode, ran.stdout, ran.stderr)
 

@@ -73,6 +73,70 @@ void read_expected(const char *path)
 	}
 }
 
+/* --- When entries were submitted ----------------------------------------------------------------
+ */
+
+/* A play is not longer than a day. */
+#define MOST_TIME (86400ULL * 1000000000ULL)
+static u64 *times;
+
+/* The number of a fact of a line, with a space or the line's end behind it; else what a fact that
+ * is not there has. */
+static bool number_of(const char *line, const char *end, const char *name, u64 *number)
+{
+	const char *at = fact(line, end, name);
+	u64 value = 0;
+
+	if (!at || *at < '0' || *at > '9')
+		return false;
+	for (; at < end && *at >= '0' && *at <= '9'; at++) {
+		if (value > UINT64_MAX / 10 - 1)
+			return false;
+		value = 10 * value + (u64)(*at - '0');
+	}
+	*number = value;
+	return at == end || *at == ' ';
+}
+
+static bool take_time(u64 place, const char *line, const char *end)
+{
+	const struct entry *entry = trace.by_place[place];
+	u64 user;
+
+	if (!entry || !number_of(line, end, "user=", &user) || user != fields_of(entry).user)
+		die("place %" PRIu64 " of the times is another entry; are they another trace's?",
+		    place);
+	if (!fact(line, end, "submitted="))
+		return false;
+	if (times[place] != NO_TIME || !number_of(line, end, "submitted=", &times[place]))
+		die("the time of place %" PRIu64 " is no number, or told twice", place);
+	return true;
+}
+
+u64 *read_times(const char *path)
+{
+	u64 first = NO_TIME;
+
+	times = allocate(trace.places * sizeof *times);
+	memset(times, 0xff, trace.places * sizeof *times);
+	if (!read_lines(path, "uring-report 1", 't', take_time))
+		die("%s: no entry has submitted=", path);
+	for (u32 place = 0; place < trace.places; place++)
+		first = min64(first, times[place]);
+	for (u32 place = 0; place < trace.places; place++) {
+		if (times[place] == NO_TIME)
+			continue;
+		times[place] -= first;
+		if (times[place] > MOST_TIME)
+			die("%s: place %u was submitted more than a day behind the first", path,
+			    place);
+	}
+	return times;
+}
+
+/* --- Rounds -------------------------------------------------------------------------------------
+ */
+
 /* What `memset` below leaves. */
 #define NO_ROUND UINT32_MAX
 static u32 *rounds, round_count;

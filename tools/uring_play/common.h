@@ -21,17 +21,19 @@ struct options {
 	const char *expected;  /* the report of the replay, or NULL */
 	const char *rounds;    /* the text of the rounds, or NULL */
 	const char *depends;   /* the text of the dependencies, or NULL */
-	u32 in_flight;	       /* how many chains are in flight at once, at most */
-	u32 patience;	       /* seconds to wait for a completion */
-	bool async;	       /* each entry runs in a thread of the kernel's */
-	bool keep;	       /* the directory is left as it is */
-	bool prepare;	       /* the tree is laid out, and nothing is played */
-	bool prepared;	       /* the directory itself has the tree already */
-	bool no_nodes;	       /* no handles are held, and nodes are not told */
-	bool raw;	       /* entries are played as they stand, all fields of them */
-	bool strict;	       /* results that are as right are told as different */
-	bool no_limit;	       /* the size of files is not limited to 2^40 */
-	bool quiet;	       /* no summary */
+	const char *pace; /* results with the times of submission, or NULL: as soon as may be */
+	u32 in_flight;	  /* how many chains are in flight at once, at most */
+	u32 patience;	  /* seconds to wait for a completion */
+	bool async;	  /* each entry runs in a thread of the kernel's */
+	bool keep;	  /* the directory is left as it is */
+	bool prepare;	  /* the tree is laid out, and nothing is played */
+	bool prepared;	  /* the directory itself has the tree already */
+	bool no_nodes;	  /* no handles are held, and nodes are not told */
+	bool raw;	  /* entries are played as they stand, all fields of them */
+	bool strict;	  /* results that are as right are told as different */
+	bool no_limit;	  /* the size of files is not limited to 2^40 */
+	bool quiet;	  /* no summary */
+	bool json;	  /* the summary is JSON */
 	bool lacking[OPCODES]; /* opcodes that are taken as ones that the kernel lacks */
 };
 extern struct options options;

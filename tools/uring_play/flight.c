@@ -1,4 +1,5 @@
 #include "flight.h"
+#include "answers.h"
 #include "chains.h"
 #include "fill.h"
 #include "mend.h"
@@ -24,6 +25,7 @@ struct part {
 struct unit {
 	const struct record *fill; /* or NULL */
 	u32 next_part, end_part;
+	u64 due;	     /* when it starts at the soonest, from the start of the play */
 	u32 waiting;	     /* for how many it still waits: each pair counts */
 	struct piece *piece; /* what is in flight of it */
 };
@@ -43,6 +45,7 @@ static u32 *quiet, quiet_count;
 /* Of each ring: entries that are filled and not submitted, and those that may still post. */
 static u32 filled[MOST_RINGS], reserved[MOST_RINGS];
 static u64 looked_at, heard_last;
+static u64 next_due; /* of the first that waits for its time alone; NO_TIME if there is none */
 
 /* --- What there is to do ------------------------------------------------------------------------
  */
@@ -120,6 +123,14 @@ static void turn_around(const struct waits *waits, const u32 *unit_of)
 /* --- The heap of those that may start -----------------------------------------------------------
  */
 
+/* Whether a unit starts before another: it is due earlier, or is earlier in the trace. */
+static bool is_before(u32 one, u32 other)
+{
+	u64 due = units[one].due, other_due = units[other].due;
+
+	return due != other_due ? due < other_due : one < other;
+}
+
 static void swap(u32 *one, u32 *other)
 {
 	u32 it = *one;
@@ -133,7 +144,7 @@ static void add_ready(u32 unit)
 	u32 at = ready_count++;
 
 	ready[at] = unit;
-	for (; at && ready[at] < ready[(at - 1) / 2]; at = (at - 1) / 2)
+	for (; at && is_before(ready[at], ready[(at - 1) / 2]); at = (at - 1) / 2)
 		swap(&ready[at], &ready[(at - 1) / 2]);
 }
 
@@ -144,9 +155,9 @@ static void drop_first_ready(void)
 	ready[0] = ready[--ready_count];
 	while (2 * at + 1 < ready_count) {
 		u32 below = 2 * at + 1;
-		if (below + 1 < ready_count && ready[below + 1] < ready[below])
+		if (below + 1 < ready_count && is_before(ready[below + 1], ready[below]))
 			below++;
-		if (ready[at] <= ready[below])
+		if (!is_before(ready[below], ready[at]))
 			return;
 		swap(&ready[at], &ready[below]);
 		at = below;
@@ -219,8 +230,13 @@ static bool advance(u32 number)
  * flight. */
 static void start_some(void)
 {
+	next_due = NO_TIME;
 	while (ready_count && !quiet_count) {
 		u32 number = ready[0];
+		if (units[number].due && units[number].due > play_time()) {
+			next_due = units[number].due;
+			return;
+		}
 		drop_first_ready();
 		if (!advance(number)) {
 			add_ready(number);
@@ -313,6 +329,14 @@ static void hear_all(void)
 		heard_last = play_time();
 }
 
+/* How long is waited at most: until something is due, or it is looked whether something hangs. */
+static u64 until_due(void)
+{
+	u64 time = play_time();
+
+	return next_due > time ? min64(next_due - time, LOOK_AGAIN) : 0;
+}
+
 /* Takes what has come, or waits until something has; gives up where nothing comes. */
 static void wait_for_some(void)
 {
@@ -320,27 +344,40 @@ static void wait_for_some(void)
 
 	hear_all();
 	land_some(false);
-	if (!flying_count || flying_count < before)
+	if (flying_count < before || (!flying_count && next_due == NO_TIME))
 		return;
-	wait_for_any(reserved, LOOK_AGAIN);
+	wait_for_any(reserved, until_due());
 	hear_all();
 	u64 time = play_time();
 	bool is_look = time - looked_at >= LOOK_AGAIN;
 	if (is_look)
 		looked_at = time;
 	land_some(is_look);
-	if (flying_count && time - heard_last >= options.patience * SECOND) {
+	if (!flying_count)
+		heard_last = time;
+	if (time - heard_last >= options.patience * SECOND) {
 		say("place %u has not ended in %u seconds", units[flying[0]].piece->first->place,
 		    options.patience);
 		give_up();
 	}
 }
 
-void play_in_flight(const struct waits *waits)
+/* A unit is due when the first of its entries was submitted that has a time. */
+static void set_times(const u64 *times, const u32 *unit_of)
+{
+	for (u32 place = trace.places; place-- > 0;) {
+		if (times[place] != NO_TIME)
+			units[unit_of[place]].due = times[place];
+	}
+}
+
+void play_in_flight(const struct waits *waits, const u64 *times)
 {
 	u32 *unit_of = make_units();
 
 	turn_around(waits, unit_of);
+	if (times)
+		set_times(times, unit_of);
 	free(unit_of);
 	ready = allocate(unit_count * sizeof *ready);
 	flying = allocate(options.in_flight * sizeof *flying);

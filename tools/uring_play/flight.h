@@ -4,7 +4,8 @@
 
 #include "depends.h"
 
-/* Plays with at most --in-flight chains at once. */
-void play_in_flight(const struct waits *waits);
+/* Plays with at most --in-flight chains at once, each not before its time, if there are times
+ * (read_times). */
+void play_in_flight(const struct waits *waits, const u64 *times);
 
 #endif

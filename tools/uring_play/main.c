@@ -4,6 +4,7 @@
  * docs/PLAYING.md says how it is used, README.md how it works. */
 #include "answers.h"
 #include "depends.h"
+#include "figures.h"
 #include "fill.h"
 #include "flight.h"
 #include "keeper.h"
@@ -22,6 +23,7 @@
 #include <getopt.h>
 #include <stdlib.h>
 #include <string.h>
+#include <sys/prctl.h>
 #include <sys/resource.h>
 #include <sys/stat.h>
 #include <unistd.h>
@@ -47,12 +49,15 @@ static const char help[] =
 	"                          that it waits for has finished (needs --expected)\n"
 	"  -i, --in-flight N       how many chains are in flight at once, 1 to 4096 (64; needs\n"
 	"                          --depends)\n"
+	"  -t, --pace FILE         results with submitted=, of a recording or of a play: no entry\n"
+	"                          is submitted before its time (needs --depends)\n"
 	"  -a, --async             each entry runs in a thread of the kernel's\n"
 	"  -s, --strict            results that are as right as the expected ones are compared\n"
 	"  -o, --output FILE       the results (standard output)\n"
 	"  -p, --patience SECONDS  how long a completion is waited for, 1 to 86400 (30)\n"
 	"  -k, --keep              the directory is left as it is\n"
 	"  -q, --quiet             no summary\n"
+	"  -j, --json              the summary is a line of JSON (needs --depends)\n"
 	"      --prepare           the tree is laid out, its directory is told, and nothing is\n"
 	"                          played\n"
 	"      --prepared          --directory has the tree already: it is played in it itself\n"
@@ -76,6 +81,8 @@ static const struct option long_options[] = {
 	{ "rounds", required_argument, NULL, 'r' },
 	{ "depends", required_argument, NULL, 'D' },
 	{ "in-flight", required_argument, NULL, 'i' },
+	{ "pace", required_argument, NULL, 't' },
+	{ "json", no_argument, NULL, 'j' },
 	{ "async", no_argument, NULL, 'a' },
 	{ "strict", no_argument, NULL, 's' },
 	{ "output", required_argument, NULL, 'o' },
@@ -107,6 +114,8 @@ static bool *switch_of(int word)
 		return &options.keep;
 	case 'q':
 		return &options.quiet;
+	case 'j':
+		return &options.json;
 	case PREPARE:
 		return &options.prepare;
 	case PREPARED:
@@ -133,6 +142,8 @@ static const char **file_of(int word)
 		return &options.rounds;
 	case 'D':
 		return &options.depends;
+	case 't':
+		return &options.pace;
 	case 'o':
 		return &options.output;
 	default:
@@ -184,8 +195,13 @@ static void test_options(bool is_number_given)
 	if ((options.rounds || options.depends) && !options.expected)
 		die_with(STATUS_WORDS, "%s needs --expected",
 			 options.rounds ? "--rounds" : "--depends");
-	if (is_number_given && !options.depends)
-		die_with(STATUS_WORDS, "--in-flight needs --depends");
+	if ((is_number_given || options.pace || options.json) && !options.depends)
+		die_with(STATUS_WORDS, "%s needs --depends",
+			 is_number_given ? "--in-flight"
+			 : options.pace	 ? "--pace"
+					 : "--json");
+	if (options.json && options.quiet)
+		die_with(STATUS_WORDS, "--json and --quiet do not go together");
 	if (options.raw && options.expected)
 		die_with(STATUS_WORDS, "--raw goes without --expected");
 	if (options.prepare && options.prepared)
@@ -197,7 +213,7 @@ static void take_words(int count, char **words)
 	bool is_number_given = false;
 	int word;
 
-	while ((word = getopt_long(count, words, "d:e:r:D:i:aso:p:kqh", long_options, NULL)) !=
+	while ((word = getopt_long(count, words, "d:e:r:D:i:t:aso:p:kqjh", long_options, NULL)) !=
 	       -1) {
 		is_number_given |= word == 'i';
 		take_option(word);
@@ -215,6 +231,7 @@ static void take_words(int count, char **words)
 static struct {
 	u32 *rounds, round_count;
 	struct waits waits;
+	u64 *times;
 } order;
 
 static void read_inputs(void)
@@ -229,6 +246,8 @@ static void read_inputs(void)
 		order.rounds = read_rounds(options.rounds, &order.round_count);
 	if (options.depends)
 		order.waits = read_depends(options.depends);
+	if (options.pace)
+		order.times = read_times(options.pace);
 }
 
 /* How many entries a ring has to take at once at least, beside its longest record. */
@@ -275,25 +294,12 @@ static void limit_sizes(void)
 		die("the limit of file sizes: %s", strerror(errno));
 }
 
-static void summary(void)
-{
-	if (options.quiet)
-		return;
-	say("%llu entries in %.3f s (%.0f a second); %llu not played, %llu made up for",
-	    (unsigned long long)counts.played, counts.seconds,
-	    (double)counts.played / (counts.seconds > 0 ? counts.seconds : 1e-9),
-	    (unsigned long long)counts.unplayed, (unsigned long long)counts.mended);
-	if (counts.unsaid)
-		say("%llu chains were taken as ended since nothing more came",
-		    (unsigned long long)counts.unsaid);
-}
-
 static void play(void)
 {
 	if (options.rounds)
 		play_rounds(order.rounds, order.round_count);
 	else if (options.depends)
-		play_in_flight(&order.waits);
+		play_in_flight(&order.waits, order.times);
 	else
 		play_chains();
 	counts.seconds = (double)play_time() * 1e-9;
@@ -308,6 +314,8 @@ static void set_the_scene(void)
 		try_threads();
 	if (options.depends)
 		watch_rings();
+	if (options.pace)
+		prctl(PR_SET_TIMERSLACK, 1UL);
 	try_file_system();
 	lay_out();
 	int *descriptions = open_descriptions();
@@ -345,6 +353,6 @@ int main(int count, char **words)
 	leave_table();
 	take_away();
 	deliver_results();
-	summary();
+	write_summary(order.times);
 	return 0;
 }

@@ -304,6 +304,8 @@ void wait_for_any(const u32 *wanted, u64 nanoseconds)
 		last = number;
 	}
 	go_on();
+	if (!count && all_rings < 0)
+		return;
 	if (count == 1)
 		enter(&rings[last], 0, 1, nanoseconds);
 	else if (syscall(EPOLL_PWAIT2, all_rings, &event, 1, &time, NULL, 0) < 0 && errno != EINTR)

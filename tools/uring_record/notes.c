@@ -1,5 +1,6 @@
 #include "notes.h"
 #include "memory.h"
+#include "opcodes.h"
 
 #include <inttypes.h>
 #include <stdio.h>
@@ -24,25 +25,6 @@ static u64 note_count, note_room;
 static const char *const flag_names[] = { "FIXED_FILE",	      "IO_DRAIN", "IO_LINK",
 					  "IO_HARDLINK",      "ASYNC",	  "BUFFER_SELECT",
 					  "CQE_SKIP_SUCCESS", "bit 7" };
-
-static const char *const names[] = {
-	[OP_NOP] = "NOP",
-	[OP_READV] = "READV",
-	[OP_WRITEV] = "WRITEV",
-	[OP_FSYNC] = "FSYNC",
-	[OP_READ_FIXED] = "READ_FIXED",
-	[OP_WRITE_FIXED] = "WRITE_FIXED",
-	[OP_FALLOCATE] = "FALLOCATE",
-	[OP_OPENAT] = "OPENAT",
-	[OP_CLOSE] = "CLOSE",
-	[OP_READ] = "READ",
-	[OP_WRITE] = "WRITE",
-	[OP_RENAMEAT] = "RENAMEAT",
-	[OP_UNLINKAT] = "UNLINKAT",
-	[OP_MKDIRAT] = "MKDIRAT",
-	[OP_LINKAT] = "LINKAT",
-	[OP_FTRUNCATE] = "FTRUNCATE",
-};
 
 /* The note with a text, which is added where it is new. */
 static struct note *note_of(const char *what)
@@ -125,8 +107,8 @@ static void say_opcodes(void)
 	for (unsigned at = 0; at < 256; at++) {
 		if (!counts.opcodes[at])
 			continue;
-		if (is_served((u8)at))
-			fprintf(stderr, " %s %" PRIu64, names[at], counts.opcodes[at]);
+		if (name_of_opcode(at))
+			fprintf(stderr, " %s %" PRIu64, name_of_opcode(at), counts.opcodes[at]);
 		else
 			fprintf(stderr, " opcode-%u %" PRIu64, at, counts.opcodes[at]);
 	}
