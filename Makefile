@@ -1,4 +1,4 @@
-# make install PREFIX=/usr/local    installs the proved program, the recorder, the player, manual pages, documents and licences
+# make install PREFIX=/usr/local    installs the proved program, the tools, manual pages, documents and licences
 # make deb                          packs the proved program for Debian, with dpkg-deb(1)
 # The program is built and proved first, by ./test, or by `rt run -- --help` in crates/uring_replay.
 PREFIX ?= /usr/local
@@ -7,6 +7,8 @@ PROGRAM = crates/uring_replay/out/uring_replay
 VERSION = $(shell sed -n 's/^## \([0-9.]*\).*/\1/p' CHANGELOG.md | head -n 1)
 ROOT = $(DESTDIR)$(PREFIX)
 SHARE = $(ROOT)/share/doc/uring-replay
+# What the tools in Python share, and with what they draw traces.
+SHARED = tools/shared/playing.py tools/shared/trace_parts.py tests/traces.py tests/model.py tests/drawing.py tests/play_drawing.py
 BUILD = out
 STAGE = $(BUILD)/deb
 
@@ -23,12 +25,16 @@ manuals:
 	tools/manual uring_replay 1 $(VERSION) "replay recorded io_uring submissions" docs/GUIDE.md > $(BUILD)/man/uring_replay.1
 	tools/manual uring_record 1 $(VERSION) "record what a program submits through io_uring" docs/RECORDING.md > $(BUILD)/man/uring_record.1
 	tools/manual uring_play 1 $(VERSION) "play a trace on a real system" docs/PLAYING.md > $(BUILD)/man/uring_play.1
+	tools/manual uring_minimise 1 $(VERSION) "make a trace that differs as short as it can be" docs/FINDING.md > $(BUILD)/man/uring_minimise.1
+	tools/manual uring_campaign 1 $(VERSION) "play drawn traces on some systems" docs/FINDING.md > $(BUILD)/man/uring_campaign.1
 	tools/manual uring-trace 5 $(VERSION) "traces of io_uring submissions, and reports" docs/FORMAT.md > $(BUILD)/man/uring-trace.5
 
 install: install-program
 	$(MAKE) -C tools
-	install -m 755 tools/out/uring_record tools/out/uring_play $(ROOT)/bin
-	install -m 644 $(BUILD)/man/uring_record.1 $(BUILD)/man/uring_play.1 $(ROOT)/share/man/man1
+	install -m 755 tools/out/uring_record tools/out/uring_play tools/uring_minimise tools/uring_campaign tools/uring_timeline $(ROOT)/bin
+	install -m 644 $(patsubst %,$(BUILD)/man/%.1,uring_record uring_play uring_minimise uring_campaign) $(ROOT)/share/man/man1
+	install -d $(ROOT)/share/uring-replay
+	install -m 644 $(SHARED) $(ROOT)/share/uring-replay
 
 install-program: $(PROGRAM) manuals
 	install -D -m 755 $(PROGRAM) $(ROOT)/bin/uring_replay

@@ -26,6 +26,7 @@ PLAIN = (
     "docs/ADDING-AN-OPCODE.md",
     "docs/DEPENDS.md",
     "docs/DESIGN.md",
+    "docs/FINDING.md",
     "docs/FORMAT.md",
     "docs/GLOSSARY.md",
     "docs/GUARANTEES.md",

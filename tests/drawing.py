@@ -33,7 +33,7 @@ LINES = (b"", b" ", b"tree", b"slots", b"buffers x", b"dir", b"slot 1", b"descri
 class Draw:
     """Draws a trace from a source of random numbers."""
 
-    names, weights, flags, records, most_slots, longest = NAMES, WEIGHTS, FLAGS, 9, 6, 6_000
+    names, weights, flags, records, most_slots, longest, most_described = NAMES, WEIGHTS, FLAGS, 9, 6, 6_000, 6
     tables, accesses, buffer_sizes, counts = range(5), (0, 1, 2, 2, 2), LENGTHS, (0, 1, 7, 33, 5_000, LAST)
     offsets, great_offsets, each_great, each_at_position, each_fill = OFFSETS, GREAT_OFFSETS, 12, 3, 5
     ranges, great_ranges = (1, 100, 5_000), (0, 1, 100, 5_000, GREATEST_SIZE, 1 << 63)
@@ -65,7 +65,7 @@ class Draw:
 
     def trace(self) -> bytes:
         items, nodes = self.items()
-        described = [self.described(nodes) for _ in range(self.source.randrange(1, 7))]
+        described = [self.described(nodes) for _ in range(self.source.randrange(1, self.most_described + 1))]
         self.table = self.one(self.tables) if self.version == 2 else 0
         table = descriptor_table(self.handles(len(described), self.table))
         rings = [self.ring(len(described)) for _ in range(self.source.randrange(1, 4))]

@@ -10,8 +10,9 @@ from functools import partial
 from typing import Callable, List, Sequence, Tuple
 
 import play
-from harness import EXAMPLES, Answer, Job, Outcome, Program, first, shown, skipped
+from harness import EXAMPLES, Job, Outcome, Program, first, shown, skipped
 from mounted import Passthrough
+from play_drawing import Wide
 from player import UNTRIED, Player, against
 from traces import CLOSE, DRAIN, FIXED_FILE, HARDLINK, LINK, NOP, OPENAT, READ, SKIP, WRITE, AT_FDCWD
 from traces import description, enter, entry, fill, file, head, ring
@@ -62,6 +63,19 @@ def passed_through(player: Player, program: Program, words: Sequence[str]) -> Li
             return skipped(name, there.lacking)
         each = [player.compared(program, it, program.run(["serial", "--sums"], it).output, mode, there.mount) for it in traces for mode in ("chains", "flight")]
     return [Outcome(name, first([it.fault for it in each if it.fault]), first([it.untried for it in each if it.untried]))]
+
+
+def much(player: Player, program: Program, seeds: range) -> List[Outcome]:
+    """Drawn traces of many steps that mostly use different things: nothing differs, and most is compared."""
+    faults, entries, outside = [], 0, 0
+    for seed in seeds:
+        trace = Wide(seed).trace()
+        report, place = program.run(["serial", "--sums"], trace).output, player.directories()[seed % len(player.directories())]
+        found = player.compared(program, trace, report, "flight", place)
+        faults += ["wide {} in {}: {}".format(seed, place, found.fault)] if found.fault else []
+        entries, outside = entries + sum(found.counts["entries"]), outside + found.counts["entries"][2]
+    name = "flight: wide traces {} to {}".format(seeds.start, seeds.stop - 1)
+    return [Outcome(name, first(faults) or (None if 100 * outside < (100 - play.COMPARED) * entries else "of {} entries {} are outside".format(entries, outside)))]
 
 
 # --- Queues that are full ---------------------------------------------------------------------------------------------
@@ -384,5 +398,6 @@ def jobs(programs: List[Program]) -> List[Job]:
     found: List[Job] = [partial(it, player, program) for it in each]
     found += [partial(passed_through, player, program, it) for it in ((), ("cached",), ("writeback", "cached"))]
     found += [partial(crowded, player, program, seed) for seed in range(4)]
+    found += [partial(much, player, program, range(at, at + 8)) for at in (0, 8)]
     found += [partial(changed_texts, player, program, seed) for seed in range(4)]
     return found + [partial(interrupted, player, program, it) for it in (signal.SIGTERM, signal.SIGINT)]

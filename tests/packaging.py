@@ -12,9 +12,14 @@ INSTALLED = (
     "bin/uring_replay",
     "bin/uring_record",
     "bin/uring_play",
+    "bin/uring_minimise",
+    "bin/uring_campaign",
+    "bin/uring_timeline",
     "share/man/man1/uring_replay.1",
     "share/man/man1/uring_record.1",
     "share/man/man1/uring_play.1",
+    "share/man/man1/uring_minimise.1",
+    "share/man/man1/uring_campaign.1",
     "share/man/man5/uring-trace.5",
     "share/doc/uring-replay/README.md",
     "share/doc/uring-replay/docs/README.md",
@@ -26,7 +31,7 @@ INSTALLED = (
 )
 # What a package has of these, and what it has besides: manual pages are compressed there, and only the proved program is packed.
 PACKED = ("./usr/bin/uring_replay", "./usr/share/man/man1/uring_replay.1.gz", "./usr/share/doc/uring-replay/copyright")
-LEFT_OUT = ("uring_record", "uring_play")
+LEFT_OUT = ("uring_record", "uring_play", "uring_minimise", "uring_campaign")
 
 
 def made(words: Sequence[str], out: str) -> str:
@@ -53,7 +58,18 @@ def installed() -> List[Outcome]:
             ran = subprocess.run([os.path.join(root, "bin/uring_replay"), "check"], stdin=given, stdout=subprocess.PIPE)
         if ran.stdout != b"ok 1 places 1 rings\n":
             faults.append("the program gives {!r}".format(ran.stdout))
+        faults += tools_alone(root)
         return [Outcome(label, first(faults)), *pages(os.path.join(root, "share/man"))]
+
+
+def tools_alone(root: str) -> List[str]:
+    """Whether the tools in Python find what they share where they are installed: a job is drawn, and fails for want of a player alone."""
+    lines = subprocess.run([os.path.join(root, "bin/uring_campaign"), "jobs", "--into", root + "/made", "--system", "a=" + root, "--traces", "1", "--mode", "chains",
+                            "--replayer", os.path.join(root, "bin/uring_replay"), "--player", "/nonexistent"], stdout=subprocess.PIPE, stderr=subprocess.STDOUT)
+    ran = subprocess.run(["sh", "-c", lines.stdout.decode()], stdout=subprocess.PIPE, stderr=subprocess.STDOUT)
+    least = subprocess.run([os.path.join(root, "bin/uring_minimise"), "--help"], stdout=subprocess.PIPE, stderr=subprocess.STDOUT)
+    faults = [] if ran.stdout == b"uring_campaign: /nonexistent: No such file or directory\n" else ["uring_campaign says {!r}".format(ran.stdout[-200:])]
+    return faults + ([] if least.returncode == 0 else ["uring_minimise says {!r}".format(least.stdout[-200:])])
 
 
 def pages(folder: str) -> List[Outcome]:
