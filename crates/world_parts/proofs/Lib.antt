@@ -31,5 +31,6 @@ pub mod PutTables
 pub mod Members
 pub mod Ways
 pub mod Listed
+pub mod Rising
 pub mod FileNames
 pub mod Crossing

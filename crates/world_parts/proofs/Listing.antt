@@ -1,8 +1,10 @@
 -- A loop that lists the names of a tree: what it has listed, and what the pending names stand for, are all paths.
-use Rattle.std.proofs.Common.{◌≡◌, ℕ, suc, ◌<◌, List, [], ◌∷◌, ◌++◌, length, Some, ap, sym, ◌∙◌, arith, append_assoc}
+use Rattle.std.proofs.Common.{◌≡◌, ℕ, suc, ◌<◌, List, [], ◌∷◌, ◌++◌, length, take, drop, Some, ap, sym, subst, ◌∙◌, arith, append_assoc}
 use Rattle.std.specs.List.{flat_map}
+use Rattle.std.specs.List.Sorted.{IsPermutation}
 use Rattle.std.proofs.lemmas.Grind.{flat_map-append}
-use Rattle.std.proofs.lemmas.List.{append-nil}
+use Rattle.std.proofs.lemmas.List.{append-nil, take-append-drop}
+use Rattle.std.proofs.lemmas.List.Sorted.{length_permutation, IsPermutation-trans, IsPermutation-cons, IsPermutation-append_left, IsPermutation-append_right, IsPermutation-append_comm}
 use Rattle.sqe_codec.specs.Answers.{each}
 use Rattle.file_tree.specs.Tree.{Tree, Names, names}
 use Rattle.world_parts.specs.Image.{paths_below}
@@ -55,3 +57,34 @@ module _ {X E : Type 0} (f : X → List E) where
   -- no element is left
   pub all_listed : (left : List X) (before whole : List E) → left ≡ [] → before ++ flat_map f left ≡ whole → before ≡ whole
   all_listed left before whole e inv = sym (append-nil before) ∙ ap (λ xs. before ++ flat_map f xs) (sym e) ∙ inv
+
+module _ (tree : Tree) where
+  paths_pending-append : (ps qs : List Pending) → paths_pending tree (ps ++ qs) ≡ paths_pending tree qs ++ paths_pending tree ps
+  paths_pending-append [] qs = sym (append-nil (paths_pending tree qs))
+  paths_pending-append (p ∷ ps) qs = ap (λ l. l ++ paths_of tree p) (paths_pending-append ps qs) ∙ append_assoc (paths_pending tree qs) (paths_pending tree ps) (paths_of tree p)
+
+  -- pending names of which the last ones are turned stand for the same paths in another order
+  pub turned : (first last : ℕ) (ps qs : List Pending) → qs ≡ take first ps ++ (drop last (drop first ps) ++ take last (drop first ps)) → IsPermutation (paths_pending tree ps) (paths_pending tree qs)
+  turned first last ps qs e =
+      let pp : List Pending → List (List ℕ × ℕ) = paths_pending tree in
+      let a = take first ps in
+      let ys = drop first ps in
+      let b = take last ys in
+      let c = drop last ys in
+      let old : pp ps ≡ (pp c ++ pp b) ++ pp a = ap pp (sym (take-append-drop first ps)) ∙ paths_pending-append a ys ∙ ap (λ l. l ++ pp a) (ap pp (sym (take-append-drop last ys)) ∙ paths_pending-append b c) in
+      let new : pp qs ≡ (pp b ++ pp c) ++ pp a = ap pp e ∙ paths_pending-append a (c ++ b) ∙ ap (λ l. l ++ pp a) (paths_pending-append c b) in
+      subst (λ l. IsPermutation l (pp qs)) (sym old) (subst (λ l. IsPermutation ((pp c ++ pp b) ++ pp a) l) (sym new) (IsPermutation-append_left (pp a) (pp c ++ pp b) (pp b ++ pp c) (IsPermutation-append_comm (pp c) (pp b))))
+
+-- one of the paths that are left is listed, and others take its place
+pub listed_more : {A : Type 0} (whole listed below old new : List A) (x : A) → IsPermutation whole (listed ++ x ∷ (below ++ old)) → IsPermutation (below ++ old) new → IsPermutation whole ((listed ++ x ∷ []) ++ new)
+listed_more whole listed below old new x h k =
+    subst (IsPermutation whole) (sym (append_assoc listed (x ∷ []) new))
+    (IsPermutation-trans whole (listed ++ x ∷ (below ++ old)) (listed ++ x ∷ new) h (IsPermutation-append_right listed (x ∷ (below ++ old)) (x ∷ new) (IsPermutation-cons x (below ++ old) new k)))
+
+-- the next name that is pending stands for its path and for those below it
+pub next_stands : (tree : Tree) (old popped : List Pending) (p : Pending) → old ≡ popped ++ p ∷ [] → paths_pending tree old ≡ (p.path.items, p.node) ∷ (paths_below p.levels tree p.path.items p.node ++ paths_pending tree popped)
+next_stands tree old popped p e = ap (paths_pending tree) e ∙ paths_pending-push tree popped p
+
+-- others in place of those below it are fewer
+pub fewer_left : {A : Type 0} (old rest new : List A) (x : A) → old ≡ x ∷ rest → IsPermutation rest new → length new < length old
+fewer_left old rest new x e h = omega (arith, ap length e, length_permutation rest new h)

@@ -25,7 +25,7 @@ impl Model for FullPath {
 }
 
 /// The order of two byte strings.
-fn order_of(bytes: &[u8], others: &[u8]) -> Ordering
+pub(crate) fn order_of(bytes: &[u8], others: &[u8]) -> Ordering
     ensures { result ≡ slice_cmp nat_cmp bytes.now others.now }
 {
     let both = bytes.len().min(others.len());

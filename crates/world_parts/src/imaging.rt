@@ -1,15 +1,16 @@
 //! What the report shows of a world.
-ghost use Rattle.std.specs.Prelude.{◌≡◌, ◌↔◌, [], ◌∷◌, ◌++◌, unwrap_or, IfOk, IsTrue, OnOk};
+ghost use Rattle.std.specs.Prelude.{◌≡◌, ◌+◌, ◌≤◌, ◌↔◌, [], ◌∷◌, ◌++◌, length, take, drop, unwrap_or};
+ghost use Rattle.std.specs.Prelude.{IfOk, IsTrue, OnOk};
 ghost use Rattle.extent_bytes.specs.Bytes.{range_of};
 ghost use Rattle.finite_maps.specs.Table.{number_keys, text_keys};
 ghost use Rattle.finite_maps.specs.Maps.{seen_table, table_of};
 ghost use Rattle.world_parts.specs.Image.{all_paths, image_of, paths_below};
-ghost use Rattle.world_parts.specs.Pending.{AddsPaths, paths_at};
+ghost use Rattle.world_parts.specs.Pending.{AddsInSomeOrder, AddsPaths, Rise, paths_at, paths_listed};
 ghost use Rattle.file_tree.specs.Tree.{Tree};
 ghost use Rattle.world_parts.specs.World.{buffer, bytes};
 
 use crate::broken::Flag;
-use crate::full_path::FullPath;
+use crate::full_path::{FullPath, order_of};
 use crate::image::{BufferEntry, DescriptorEntry, Image, NameEntry, SlotEntry};
 use crate::state::State;
 use indexmap::IndexMap;
@@ -17,11 +18,12 @@ use std::alloc::{AllocError, Global};
 use std::collections::BTreeMap;
 use trace_format::Series;
 
-/// A name that is still to be listed: its full path, its node, and how many levels below it are
-/// listed too.
+/// A name that is still to be listed: its full path, of which so many bytes are the path of its
+/// directory, its node, and how many levels below it are listed too.
 #[derive(Drop)]
 struct Pending {
     path: Vec<u8>,
+    front: usize,
     node: u32,
     levels: usize,
 }
@@ -59,8 +61,65 @@ fn push_name(
         (paths_at levels tree directory.now (name.now, node))) }
 {
     let path = joined(alloc, directory, name)?;
-    pending.push(Pending { path, node, levels })?;
+    let front = directory.len();
+    pending.push(Pending {
+        path,
+        front,
+        node,
+        levels,
+    })?;
     Ok(())
+}
+
+/// Whether a name comes before those below another name of its directory that was listed: it is that
+/// name with more behind it, and the first byte of this comes before a slash.
+fn comes_between(name: &Pending, listed: &Pending) -> bool {
+    if name.front != listed.front {
+        return false;
+    }
+    let (Some(own), Some(other)) = (listed.path.get(listed.front..), name.path.get(name.front..))
+    else {
+        return false;
+    };
+    match other.strip_prefix(own) {
+        Some(more) => matches!(more.first(), Some(byte) if *byte < b'/'),
+        None => false,
+    }
+}
+
+/// Where those of the pending names begin that come before the names below a listed one.
+fn first_between(pending: &[Pending], listed: &Pending) -> usize
+    ensures { result ≤ length pending.now }
+{
+    let mut first = pending.len();
+    while first > 0 {
+        if !comes_between(&pending[first - 1], listed) {
+            break;
+        }
+        first -= 1;
+    }
+    first
+}
+
+/// Turns the names from one on, so that so many of them come last.
+fn turn(pending: &mut [Pending], first: usize, last: usize)
+    requires { first + last ≤ length pending.old }
+    ensures turned { pending.new ≡ take first pending.old
+        ++ (drop last (drop first pending.old) ++ take last (drop first pending.old)) }
+    ensures len { length pending.new ≡ length pending.old }
+{
+    pending[first..].rotate_left(last);
+}
+
+/// Whether paths that rise still do with this one behind them.
+fn rises(listed: &[NameEntry], path: &[u8], node: u32) -> bool
+    ensures { IsTrue result → Rise (paths_listed listed.now)
+        → Rise (paths_listed listed.now ++ (path.now, node) ∷ []) }
+{
+    match listed.last() {
+        Some(last) => order_of(last.path.as_slice(), path).is_lt(),
+        None => true,
+    }
 }
 
 /// Whether the same chains broke, and in the same way.
@@ -202,15 +261,69 @@ impl State {
         let mut pending = Vec::new(alloc);
         // No path has more directories than there are nodes.
         self.push_names(alloc, &mut pending, &[], 0, self.nodes.node_count())?;
-        while let Some(Pending { path, node, levels }) = pending.pop() {
-            self.push_names(alloc, &mut pending, &path, node, levels)?;
-            paths.insert(FullPath::new(path), node)?;
+        while let Some(next) = pending.pop() {
+            self.push_names(alloc, &mut pending, &next.path, next.node, next.levels)?;
+            paths.insert(FullPath::new(next.path), next.node)?;
         }
         Ok(paths)
     }
 
+    /// Makes the names below a listed one pending, beneath those that come before them.
+    fn push_below(
+        &self,
+        alloc: Global,
+        pending: &mut Vec<Pending>,
+        listed: &Pending,
+    ) -> Result<(), AllocError>
+        ensures { OnOk result (AddsInSomeOrder self.now.nodes pending.old.items pending.new.items
+            (paths_below listed.now.levels self.now.nodes listed.now.path.items listed.now.node)) }
+    {
+        let others = pending.len();
+        self.push_names(alloc, pending, &listed.path, listed.node, listed.levels)?;
+        if pending.len() > others {
+            let first = first_between(&pending[..others], listed);
+            turn(pending, first, others - first);
+        }
+        Ok(())
+    }
+
+    /// Lists the names by a walk that comes to their paths in order, and no two long paths are
+    /// compared but one with the next. Whether the paths rise: they do unless a name has a slash.
+    fn walk_names(&self, alloc: Global, entries: &mut Vec<NameEntry>) -> Result<bool, AllocError>
+        requires { entries.old.items ≡ [] }
+        ensures { IfOk result
+            (λ rise. IsTrue rise → entries.new.items ≡ (image_of self.now).names) }
+    {
+        let mut pending = Vec::new(alloc);
+        self.push_names(alloc, &mut pending, &[], 0, self.nodes.node_count())?;
+        while let Some(next) = pending.pop() {
+            if !rises(entries.as_slice(), &next.path, next.node) {
+                return Ok(false);
+            }
+            self.push_below(alloc, &mut pending, &next)?;
+            entries.push(NameEntry {
+                path: Series::from_vec(next.path),
+                node: next.node,
+                size: self.size(next.node),
+            })?;
+        }
+        Ok(true)
+    }
+
     /// Lists the names.
     fn list_names(&self, alloc: Global, entries: &mut Vec<NameEntry>) -> Result<(), AllocError>
+        requires { entries.old.items ≡ [] }
+        ensures { OnOk result (entries.new.items ≡ (image_of self.now).names) }
+    {
+        if self.walk_names(alloc, entries)? {
+            return Ok(());
+        }
+        entries.clear();
+        self.sort_names(alloc, entries)
+    }
+
+    /// Lists the names by a map of their paths.
+    fn sort_names(&self, alloc: Global, entries: &mut Vec<NameEntry>) -> Result<(), AllocError>
         requires { entries.old.items ≡ [] }
         ensures { OnOk result (entries.new.items ≡ (image_of self.now).names) }
     {

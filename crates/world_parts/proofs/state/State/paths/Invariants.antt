@@ -6,8 +6,8 @@ use Rattle.world_parts.specs.Pending.{paths_pending}
 use Rattle.world_parts.proofs.state.State.paths.Given as goal
 
 -- the paths so far, and those of the names that are pending, are all paths
-abbrev pub invariant-loop-path : goal.invariant-loop-path
-invariant-loop-path l = by_path (seen_table text_keys.total (λ path. path) l.paths.entries) (paths_pending l.self.nodes l.pending.items) ≡ all_paths l.self.nodes
+abbrev pub invariant-loop-next : goal.invariant-loop-next
+invariant-loop-next l = by_path (seen_table text_keys.total (λ path. path) l.paths.entries) (paths_pending l.self.nodes l.pending.items) ≡ all_paths l.self.nodes
 
-abbrev pub decreases-loop-path : goal.decreases-loop-path
-decreases-loop-path l = length (paths_pending l.self.nodes l.pending.items)
+abbrev pub decreases-loop-next : goal.decreases-loop-next
+decreases-loop-next l = length (paths_pending l.self.nodes l.pending.items)

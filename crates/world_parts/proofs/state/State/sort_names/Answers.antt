@@ -8,7 +8,7 @@ use Rattle.file_tree.specs.Tree.{Tree}
 use Rattle.world_parts.specs.declared.image.NameEntry.{NameEntry}
 use Rattle.world_parts.specs.Image.{all_paths, name_entry}
 use Rattle.finite_maps.proofs.Ordered.{seen_entries_of}
-use Rattle.world_parts.proofs.state.State.list_names.Goals as goal
+use Rattle.world_parts.proofs.state.State.sort_names.Goals as goal
 
 abbrev seen : List ℕ × ℕ → List ℕ × ℕ
 seen e = (e.0, e.1)

@@ -1,7 +1,7 @@
 use Rattle.std.proofs.Common.{◌≡◌, ◌∷◌, [], ◌++◌}
 use Rattle.std.specs.List.{flat_map}
 use Rattle.world_parts.specs.Image.{image_of, name_entry}
-use Rattle.world_parts.proofs.state.State.list_names.Given as goal
+use Rattle.world_parts.proofs.state.State.sort_names.Given as goal
 
 -- the lines so far, and those of the paths that are left
 abbrev pub invariant-loop-path : goal.invariant-loop-path
