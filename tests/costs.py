@@ -16,9 +16,9 @@ BUFFER = 1 << 30
 # compare what that gives, which is 2.5 times: some 600 nanoseconds a page of 4,096 bytes, of which hashing takes 18,000.
 WRITTEN, HASHED, MOST_DOUBLED = 8, 1 << 26, 5
 # How many directories are moved one into another, with names of so many bytes; how many bytes of memory the report may take for
-# each of its bytes, which is 2 and was 3; and how many times the processor time of as long a report with names that are printed as
-# they are it may take where they are not, which is about 1 and was 3.
-MOVED, NAME, MOST_MEMORY, MOST_ESCAPED = 1_000, 250, 2.5, 1.7
+# each of its bytes, which is 2 and was 3; and how many times the processor time of the sum of 64 MiB it may take, which is 0.12 and
+# was 0.6, and as long a report with names that are not printed as they are, which is 0.3 and was 0.9.
+MOVED, NAME, MOST_MEMORY, MOST_VISIBLE, MOST_ESCAPED = 1_000, 250, 2.5, 0.35, 0.7
 # Traces of bench/ with few pairs a place: their words, with {} for the number of places, and that number. How many times the processor
 # time of `serial` their dependencies may take, and how many times that of a tenth of the places.
 FEW_PAIRS = (
@@ -48,11 +48,15 @@ def doubled(pattern: bytes) -> bytes:
     return head(1, 1, 1, 2) + file(b"/f") + description(1) + ring([1], [(PAGE, BUFFER)]) + fill(0, 0, 0, pattern) + enter(0, entries)
 
 
+def time_of_sum(program: Program) -> float:
+    """The processor time of the sum of 64 MiB, beside which others are measured."""
+    alone = head(rings=1, records=1) + ring([], [(PAGE, HASHED)]) + fill(0, 0, 0, b"x")
+    return min(program.seconds(["serial", "--sums"], alone) for _ in range(3))
+
+
 def doubled_buffers(program: Program) -> List[Outcome]:
     """What a doubled buffer leaves is compared in a time that goes with its pages, whether its first page lies in the trace or apart."""
-    outcomes = []
-    alone = head(rings=1, records=1) + ring([], [(PAGE, HASHED)]) + fill(0, 0, 0, b"x")
-    hashed = min(program.seconds(["serial", "--sums"], alone) for _ in range(3))
+    outcomes, hashed = [], time_of_sum(program)
     for name, pattern in (("a page of the trace", bytes(range(256)) * 16), ("a few bytes", b"abc")):
         trace = doubled(pattern)
         label = "a buffer doubled from {}, {{}}, by {}".format(name, program.compiler)
@@ -76,18 +80,19 @@ def moved_in(count: int, byte: bytes) -> bytes:
 
 
 def deep_trees(program: Program) -> List[Outcome]:
-    """The report of a tree that renames made deep takes little more memory than its bytes, and little more time where none of the
-    bytes of its names is printed as it is: each is told by four then, so half as many names give as long a report."""
+    """The report of a tree that renames made deep takes little more memory than its bytes, and little time, also where none of the bytes
+    of its names is printed as it is: each is told by four then, so half as many names give as long a report."""
     visible, escaped = moved_in(MOVED, b"m"), moved_in(MOVED // 2, b"\1")
     ample = program.run(["serial"], visible)
     limit = int(MOST_MEMORY * len(ample.output)) >> 10
     large = difference(program.run(["serial"], visible, shell='ulimit -v {}; exec "$@"'.format(limit)), ample)
-    one, other = (min(program.seconds(["serial"], it) for _ in range(3)) for it in (visible, escaped))
-    slow = "{:.2f} seconds, and {:.2f} with names that are printed".format(other, one)
-    return [
-        Outcome("a tree made deep by renames, the memory, by {}".format(program.compiler), shown(ample) if ample.status else large),
-        Outcome("such a tree with names that are escaped, by {}".format(program.compiler), None if other < MOST_ESCAPED * one < math.inf else slow),
-    ]
+    outcomes = [Outcome("a tree made deep by renames, the memory, by {}".format(program.compiler), shown(ample) if ample.status else large)]
+    hashed = time_of_sum(program)
+    for name, trace, most in (("printed", visible, MOST_VISIBLE), ("escaped", escaped, MOST_ESCAPED)):
+        took = min(program.seconds(["serial"], trace) for _ in range(3))
+        slow = "{:.2f} seconds, and {:.2f} to hash 64 MiB".format(took, hashed)
+        outcomes.append(Outcome("such a tree with names that are {}, by {}".format(name, program.compiler), None if took < most * hashed < math.inf else slow))
+    return outcomes
 
 
 def benched(words: str, count: int) -> bytes:

@@ -1,3 +1,4 @@
+pub mod Ascii
 mod RingEntriesLemmas
 pub mod ReportLemmas
 mod SumLemmas

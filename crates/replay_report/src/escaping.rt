@@ -5,7 +5,6 @@ ghost use Rattle.replay_report.specs.Report.{escaped, escaped_byte};
 
 use crate::entry_line::digit;
 use std::alloc::{AllocError, Global};
-use std::str;
 
 /// So many bytes are looked at together: where all of them stand for themselves, they are copied.
 const BLOCK: usize = 256;
@@ -14,26 +13,35 @@ const BLOCK: usize = 256;
 pub fn escaped(alloc: Global, path: &[u8]) -> Result<String, AllocError>
     ensures { IfOk result (λ text. string_bytes text ≡ escaped path.now) }
 {
-    let mut text = String::with_capacity(alloc, path.len())?;
+    let mut text = Vec::with_capacity(alloc, path.len())?;
+    push_escaped(&mut text, path)?;
+    Ok(String::from_utf8(text).unwrap())
+}
+
+/// Adds a path with its unprintable bytes by their numbers.
+pub(crate) fn push_escaped(text: &mut Vec<u8>, path: &[u8]) -> Result<(), AllocError>
+    ensures { OnOk result (text.new.items ≡ text.old.items ++ escaped path.now) }
+{
     let mut done = 0;
     while done < path.len() {
         let end = done + BLOCK.min(path.len() - done);
-        push_block(&mut text, &path[done..end])?;
+        push_block(text, &path[done..end])?;
         done = end;
     }
-    Ok(text)
+    Ok(())
 }
 
 /// A part of a path.
-fn push_block(text: &mut String, bytes: &[u8]) -> Result<(), AllocError>
-    ensures { OnOk result (string_bytes text.new ≡ string_bytes text.old ++ escaped bytes.now) }
+fn push_block(text: &mut Vec<u8>, bytes: &[u8]) -> Result<(), AllocError>
+    ensures { OnOk result (text.new.items ≡ text.old.items ++ escaped bytes.now) }
 {
-    if are_visible(bytes)
-        && let Ok(visible) = str::from_utf8(bytes)
-    {
-        return text.push_str(visible);
+    if are_visible(bytes) {
+        return text.extend_from_slice(bytes);
     }
-    push_bytes(text, bytes)
+    for byte in bytes {
+        push_byte(text, *byte)?;
+    }
+    Ok(())
 }
 
 /// Whether all of some bytes stand for themselves. Each is looked at, so that many are at once.
@@ -56,32 +64,12 @@ fn is_visible(byte: u8) -> bool
     byte >= 0x21 && byte <= 0x7e && byte != b'\\'
 }
 
-/// Bytes of a path, one after another.
-fn push_bytes(text: &mut String, bytes: &[u8]) -> Result<(), AllocError>
-    ensures { OnOk result (string_bytes text.new ≡ string_bytes text.old ++ escaped bytes.now) }
-{
-    for byte in bytes {
-        push_byte(text, *byte)?;
-    }
-    Ok(())
-}
-
-fn push_byte(text: &mut String, byte: u8) -> Result<(), AllocError>
-    ensures { OnOk result (string_bytes text.new ≡ string_bytes text.old ++ escaped_byte byte) }
+fn push_byte(text: &mut Vec<u8>, byte: u8) -> Result<(), AllocError>
+    ensures { OnOk result (text.new.items ≡ text.old.items ++ escaped_byte byte) }
 {
     if is_visible(byte) {
-        text.push(byte as char)
+        text.extend_from_slice(&[byte])
     } else {
-        push_digits(text, byte)
+        text.extend_from_slice(&[b'\\', b'x', digit(byte >> 4), digit(byte & 0x0f)])
     }
-}
-
-/// A byte by its two digits.
-fn push_digits(text: &mut String, byte: u8) -> Result<(), AllocError>
-    ensures { OnOk result (string_bytes text.new
-        ≡ string_bytes text.old ++ (codes "\\x" ++ encode_lower (byte ∷ []))) }
-{
-    text.push_str("\\x")?;
-    text.push(digit(byte >> 4) as char)?;
-    text.push(digit(byte & 0x0f) as char)
 }

@@ -8,12 +8,12 @@ ghost use Rattle.sqe_codec.specs.Answers.{each};
 ghost use Rattle.replay_report.specs.Sums.{AreMade, AreSumsOf, AreTreeSums, held, shown_of};
 ghost use Rattle.world_parts.specs.World.{buffer, bytes, size};
 ghost use Rattle.replay_report.specs.Report.{IsLong, IsSized, buffer_line, buffer_sum};
-ghost use Rattle.replay_report.specs.Report.{description_text, descriptor_line, escaped};
+ghost use Rattle.replay_report.specs.Report.{description_text, descriptor_line};
 ghost use Rattle.replay_report.specs.Report.{file_sum, large_sum, line, name_line, slot_line, sum_text};
 ghost use Rattle.replay_report.specs.Report.{world_lines};
 ghost use Rattle.world_parts.specs.Image.{image_of};
 
-use crate::escaping::escaped;
+use crate::escaping::push_escaped;
 use crate::made::Made;
 use crate::showing::SumsShown;
 use crate::sums::{Holder, MOST_SUMMED, Sums};
@@ -62,8 +62,7 @@ fn push_tables(
     push_descriptors(text, descriptors)
 }
 
-/// The lines of the names, each of which is made apart: where paths are long, they are most of the
-/// report.
+/// The lines of the names.
 fn push_names(
     alloc: Global,
     text: &mut Vec<u8>,
@@ -77,52 +76,59 @@ fn push_names(
         ≡ text.old.items ++ flat_map (name_line world.now (shown_of sums.entry)) names.now) }
 {
     for name in names {
-        let mut line = String::new(alloc);
-        push_name(alloc, &mut line, world, name, sums)?;
-        text.extend_from_slice(line.as_bytes())?;
+        push_name(alloc, text, world, name, sums)?;
     }
     Ok(())
 }
 
+/// The line of a name, whose path goes to the text at once: where paths are long, they are most of
+/// the report.
 fn push_name(
     alloc: Global,
-    text: &mut String,
+    text: &mut Vec<u8>,
     world: &State,
     name: &NameEntry,
     sums: Made<'_>,
 ) -> Result<(), AllocError>
     requires sums { AreMade world.now sums }
     requires name { IsSized world.now name.now }
-    ensures { OnOk result (string_bytes text.new
-        ≡ string_bytes text.old ++ name_line world.now (shown_of sums.entry) name.now) }
+    ensures { OnOk result (text.new.items
+        ≡ text.old.items ++ name_line world.now (shown_of sums.entry) name.now) }
 {
     match name.size {
         None => {
-            let path = escaped(alloc, name.path.as_slice())?;
-            writeln!(text, "dir {path}")
+            text.extend_from_slice(b"dir ")?;
+            push_escaped(text, name.path.as_slice())?;
+            text.extend_from_slice(b"\n")
         }
         Some(len) => {
-            push_file(alloc, text, name.path.as_slice(), name.node, len)?;
-            push_file_sum(alloc, text, world, name.node, len, sums)?;
-            text.push_str("\n")
+            text.extend_from_slice(b"file ")?;
+            push_escaped(text, name.path.as_slice())?;
+            let mut facts = String::new(alloc);
+            push_file(alloc, &mut facts, world, name.node, len, sums)?;
+            text.extend_from_slice(facts.as_bytes())
         }
     }
 }
 
-/// The name of a file, its node and its size.
+/// What follows the path of a file: its node, its size and its sum.
 fn push_file(
     alloc: Global,
     text: &mut String,
-    path: &[u8],
+    world: &State,
     node: u32,
-    size: u64,
+    len: u64,
+    sums: Made<'_>,
 ) -> Result<(), AllocError>
+    requires sums { AreMade world.now sums }
+    requires len { size world.now node ≡ Some len }
     ensures { OnOk result (string_bytes text.new ≡ string_bytes text.old
-        ++ codes "file " ++ escaped path.now ++ codes " node=" ++ decimal node ++ codes " size="
-        ++ decimal size) }
+        ++ line (codes " node=" ++ decimal node ++ codes " size=" ++ decimal len
+        ++ each (file_sum (shown_of sums.entry)) (bytes world.now node))) }
 {
-    let path = escaped(alloc, path)?;
-    write!(text, "file {path} node={node} size={size}")
+    write!(text, " node={node} size={len}")?;
+    push_file_sum(alloc, text, world, node, len, sums)?;
+    text.push_str("\n")
 }
 
 /// The sum of a file of this length, where sums are asked for. A large file isn't read.

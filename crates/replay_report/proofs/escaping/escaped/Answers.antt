@@ -1,21 +1,12 @@
-use Rattle.std.proofs.Common.{◌≡◌, ℕ, ◌+◌, ◌-◌, ◌≤◌, List, ◌++◌, take, drop, arith, ap, sym, ◌∙◌}
-use Rattle.std.proofs.lemmas.Grind.{flat_map-append}
-use Rattle.extent_bytes.specs.Bytes.{range_of}
-use Rattle.replay_report.specs.Report.{escaped, escaped_byte}
-use Rattle.replay_report.proofs.SumLemmas.{one_piece_more}
+use Rattle.std.proofs.Common.{ℕ, List, ◌++◌, ap, sym, subst, ◌∙◌}
+use Rattle.std.specs.Str.{IsAscii}
+use Rattle.std.proofs.lemmas.Str.{IsUtf8-from_ascii}
+use Rattle.replay_report.specs.Report.{escaped}
+use Rattle.replay_report.proofs.Ascii.{escaped_is_ascii}
 use Rattle.replay_report.proofs.escaping.escaped.Goals as goal
 
--- a path up to a byte, and from there on
-escaped_more : (path : List ℕ) (low high : ℕ) → low ≤ high → escaped (take high path) ≡ escaped (take low path) ++ escaped (take (high - low) (drop low path))
-unfolding range_of
-escaped_more path low high le = ap escaped (one_piece_more path low high le) ∙ flat_map-append escaped_byte (take low path) (take (high - low) (drop low path))
-
-pub loop-done-preserved : goal.loop-done-preserved
-loop-done-preserved c =
+pub unwrap-requires : goal.unwrap-requires
+unwrap-requires c =
     let path : List ℕ = c.args.path.now in
-    let low : ℕ = c.loop-done.done in
-    let high : ℕ = c.loop-done.done + c.min.result in
-    record {
-      within = omega (arith, c.min.ensures);
-      made = c.in_ok-push_block.ensures ∙ ap (λ text. text ++ escaped (take (high - low) (drop low path))) c.loop-done.invariant.made ∙ sym (escaped_more path low high (omega arith));
-    }
+    c.from_utf8.ensures.succeeds (IsUtf8-from_ascii c.push_escaped.new.text.items
+    (subst IsAscii (sym (c.in_ok-push_escaped.ensures ∙ ap (λ text. text ++ escaped path) c.in_ok-text.ensures.items)) (escaped_is_ascii path)))

@@ -1,11 +1,11 @@
-use Rattle.std.proofs.Common.{◌≡◌, ◌≤◌, ◌-◌, length, take, string_bytes}
+use Rattle.std.proofs.Common.{◌≡◌, ◌≤◌, ◌-◌, ◌++◌, length, take}
 use Rattle.replay_report.specs.Report.{escaped}
-use Rattle.replay_report.proofs.escaping.escaped.Given as goal
+use Rattle.replay_report.proofs.escaping.push_escaped.Given as goal
 
 abbrev pub invariant-loop-done : goal.invariant-loop-done
 invariant-loop-done l = record {
   within : l.done ≤ length l.path;
-  made : string_bytes l.text ≡ escaped (take l.done l.path);
+  made : l.text.items ≡ l.fn.text.items ++ escaped (take l.done l.path);
 }
 
 abbrev pub decreases-loop-done : goal.decreases-loop-done
