@@ -38,17 +38,17 @@ item_atom : (t : Numbers) (x : Item) (b : ℕ) → is_of_descriptors x ≡ false
     → (a : Atom) × (spot_at t a ≡ b) × (member_of x a ≡ true) × AtomFits t a
 item_atom t (one a) b o f h =
     let high : place_of t a + 1 ≤ 2 ^ 64 = f.high in
-    let p = place_in ((sort_of a * 2 ^ 48 + row_of a) * 2 ^ 64) (place_of t a) (place_of t a + 1) b h in
+    let p = place_in ((row_of a * 16 + sort_of a) * 2 ^ 64) (place_of t a) (place_of t a + 1) b h in
     let w : within (place_of t a) (place_of t a + 1) p.0 ≡ true = p.2 in
     let same : p.0 ≡ place_of t a = grind (arith, nat_tests) in
-    (a, ap (λ z. (sort_of a * 2 ^ 48 + row_of a) * 2 ^ 64 + z) (sym same) ∙ p.1, true_of (same_atom a a) (same_atom_refl a), record { row = f.row; inner = f.inner; place = omega (arith, high); known = f.known; other = o })
+    (a, ap (λ z. (row_of a * 16 + sort_of a) * 2 ^ 64 + z) (sym same) ∙ p.1, true_of (same_atom a a) (same_atom_refl a), record { row = f.row; inner = f.inner; place = omega (arith, high); known = f.known; other = o })
 item_atom t (file_bytes i low high) b o f h =
-    let p = place_in ((7 * 2 ^ 48 + i) * 2 ^ 64) low high b h in
+    let p = place_in (((256 + i) * 16 + 7) * 2 ^ 64) low high b h in
     let me : (i == i) ≡ true = grind (arith, nat_tests) in
     let le : high ≤ 2 ^ 64 = f.high in
     (byte_at i p.0, p.1, and_from (i == i) (within low high p.0) me p.2, record { row = f.row; inner = lit< tt; place = omega (arith, p.3, le); known = refl; other = refl })
 item_atom t (buffer_bytes r c low high) b o f h =
-    let p = place_in ((11 * 2 ^ 48 + (r * 2 ^ 32 + c)) * 2 ^ 64) low high b h in
+    let p = place_in (((256 + (r * 2 ^ 32 + c)) * 16 + 11) * 2 ^ 64) low high b h in
     let one₁ : (r == r) ≡ true = grind (arith, nat_tests) in
     let two : (c == c) ≡ true = grind (arith, nat_tests) in
     let le : high ≤ 2 ^ 64 = f.high in

@@ -1,15 +1,11 @@
 -- Numbers of names: one name more.
-use Rattle.std.specs.Prelude.{◌≡◌, ℕ, ◌+◌, ◌/◌, ◌%◌, true, false, List, [], ◌∷◌, map, refl, Option, Some, None, is_some, if◌then◌else◌}
+use Rattle.std.specs.Prelude.{◌≡◌, ℕ, ◌+◌, ◌/◌, ◌%◌, true, false, List, [], ◌∷◌, map, refl, Some, None, is_some, if◌then◌else◌}
 use Rattle.std.specs.Map.{lookup}
-use Rattle.std.specs.BTreeMap.{insert_entry, is_at}
+use Rattle.indexmap.specs.IndexMap.{insert_entry}
 use Rattle.std.specs.Str.{bytes_eq}
-use Rattle.std.specs.declared.cmp.Ordering.TheVariants.{Less, Equal, Greater}
-use Rattle.std.specs.Ordering.{nat_cmp, is_eq, match_ordering}
-use Rattle.std.specs.Cmp.Lexicographic.{slice_cmp}
 use Rattle.std.specs.Option.{IsSome}
 use Rattle.std.proofs.Common.{sym, ap, ◌∙◌, subst, arith, inl, inr, ◌⊎◌}
 use Rattle.std.proofs.lemmas.Bool.{cases_Bool}
-use Rattle.std.proofs.lemmas.Map.Text.{is_eq-slice_cmp}
 use Rattle.std.proofs.lemmas.Slice.Eq.{bytes_eq-Decides}
 use Rattle.foot_waits.specs.Names.{AreNumbered, name_key, number_at}
 
@@ -18,39 +14,34 @@ module _ {K : Type 0} (text : K → List ℕ) where
   abbrev pub seen : List (K × ℕ) → List (List ℕ × ℕ)
   seen es = map (λ e. (text e.0, e.1)) es
 
-  pub number_found : (q : List ℕ) (es : List (K × ℕ)) → lookup (is_at (λ x. slice_cmp nat_cmp q (text x))) es ≡ number_at (seen es) q
+  pub number_found : (q : List ℕ) (es : List (K × ℕ)) → lookup (λ x. bytes_eq q (text x)) es ≡ number_at (seen es) q
   number_found q [] = refl
-  number_found q (e ∷ es) = rw (is_eq-slice_cmp q (text e.0), number_found q es) refl
+  number_found q (e ∷ es) = rw (number_found q es) refl
 
   pub number_more : (k : K) (v : ℕ) (es : List (K × ℕ)) (q : List ℕ) → number_at (seen es) (text k) ≡ None
-      → number_at (seen (insert_entry (λ x y. slice_cmp nat_cmp (text x) (text y)) es k v)) q ≡ (if bytes_eq q (text k) then Some v else number_at (seen es) q)
+      → number_at (seen (insert_entry (λ x y. bytes_eq (text x) (text y)) es k v)) q ≡ (if bytes_eq q (text k) then Some v else number_at (seen es) q)
   number_more k v [] q none = refl
   number_more k v (e ∷ es) q none =
       let other : bytes_eq (text k) (text e.0) ≡ false = (elim (cases_Bool (bytes_eq (text k) (text e.0))) [ inl t ↦ absurd (let some : Some e.1 ≡ None = rw t at none in cc) | inr f ↦ f ]) in
       let rest : number_at (seen es) (text k) ≡ None = rw other at none in
       let later = number_more k v es q rest in
-      elim (slice_cmp nat_cmp (text k) (text e.0)) as (λ o. slice_cmp nat_cmp (text k) (text e.0) ≡ o
-      → number_at (seen (match_ordering o ((k, v) ∷ e ∷ es) ((e.0, v) ∷ es) (e ∷ insert_entry (λ x y. slice_cmp nat_cmp (text x) (text y)) es k v))) q ≡ (if bytes_eq q (text k) then Some v else number_at (seen (e ∷ es)) q)) [
-        | Less ↦ λ o. refl
-        | Equal ↦ λ o. absurd (let t : bytes_eq (text k) (text e.0) ≡ true = sym (is_eq-slice_cmp (text k) (text e.0)) ∙ ap is_eq o in let both : true ≡ false = sym t ∙ other in cc)
-        | Greater ↦ λ o. elim (cases_Bool (bytes_eq q (text e.0))) [
-          | inl here ↦
-              let is : q ≡ text e.0 = (bytes_eq-Decides q (text e.0)).0 here in
-              let not_key : bytes_eq q (text k) ≡ false = (elim (cases_Bool (bytes_eq q (text k))) [
-                | inl t ↦ absurd (let same : q ≡ text k = (bytes_eq-Decides q (text k)).0 t in
-                    let u : bytes_eq (text k) (text e.0) ≡ true = (bytes_eq-Decides (text k) (text e.0)).1 (sym same ∙ is) in
-                    let both : true ≡ false = sym u ∙ other in cc)
-                | inr f ↦ f
-              ]) in
-              rw (here, not_key) refl
-          | inr far ↦ rw far later
-        ]
-      ] refl
+      rw other (elim (cases_Bool (bytes_eq q (text e.0))) [
+        | inl here ↦
+            let is : q ≡ text e.0 = (bytes_eq-Decides q (text e.0)).0 here in
+            let not_key : bytes_eq q (text k) ≡ false = (elim (cases_Bool (bytes_eq q (text k))) [
+              | inl t ↦ absurd (let same : q ≡ text k = (bytes_eq-Decides q (text k)).0 t in
+                  let u : bytes_eq (text k) (text e.0) ≡ true = (bytes_eq-Decides (text k) (text e.0)).1 (sym same ∙ is) in
+                  let both : true ≡ false = sym u ∙ other in cc)
+              | inr f ↦ f
+            ]) in
+            rw (here, not_key) refl
+        | inr far ↦ rw far later
+      ])
 
 -- one key more, with the next number
 module _ (old new : List (List ℕ × ℕ)) (key : List ℕ) (next : ℕ) (law : (q : List ℕ) → number_at new q ≡ (if bytes_eq q key then Some next else number_at old q)) where
-  pub known_more : IsSome (number_at new key)
-  known_more = let t : bytes_eq key key ≡ true = (bytes_eq-Decides key key).1 refl in rw (law key, t) refl
+  pub known_more : number_at new key ≡ Some next
+  known_more = let t : bytes_eq key key ≡ true = (bytes_eq-Decides key key).1 refl in law key ∙ rw t refl
 
   pub kept_more : number_at old key ≡ None → (q : List ℕ) → IsSome (number_at old q) → number_at new q ≡ number_at old q
   kept_more none q some = elim (cases_Bool (bytes_eq q key)) [
@@ -87,7 +78,3 @@ key_apart d e m n k =
     let c : d / 256 % 256 ≡ e / 256 % 256 = cc in
     let f : d % 256 ≡ e % 256 = cc in
     (omega arith, cc)
-
-pub none_is : (o : Option ℕ) → is_some o ≡ false → o ≡ None
-none_is None e = refl
-none_is (Some x) e = absurd cc

@@ -27,17 +27,42 @@ in_rows a b low high place p h = elim (cases_order a b) [
   ]
 ]
 
-same_row : (s r q k : ℕ) → r < 2 ^ 48 → k < 2 ^ 48 → (s * 2 ^ 48 + r == q * 2 ^ 48 + k) ≡ (s == q && r == k)
+same_row : (s r q k : ℕ) → s < 16 → q < 16 → (r * 16 + s == k * 16 + q) ≡ (s == q && r == k)
 same_row s r q k a b = grind (arith, nat_tests)
 
-in_spots : (s r q k low high place : ℕ) → r < 2 ^ 48 → k < 2 ^ 48 → place < 2 ^ 64 → high ≤ 2 ^ 64 → within (spot s r low) (spot s r high) (spot q k place) ≡ ((s == q && r == k) && within low high place)
-in_spots s r q k low high place a b p h = in_rows (s * 2 ^ 48 + r) (q * 2 ^ 48 + k) low high place p h ∙ ap (λ c. c && within low high place) (same_row s r q k a b)
+in_spots : (s r q k low high place : ℕ) → s < 16 → q < 16 → place < 2 ^ 64 → high ≤ 2 ^ 64 → within (spot s r low) (spot s r high) (spot q k place) ≡ ((s == q && r == k) && within low high place)
+in_spots s r q k low high place a b p h = in_rows (r * 16 + s) (k * 16 + q) low high place p h ∙ ap (λ c. c && within low high place) (same_row s r q k a b)
 
 one_place : (p q : ℕ) → within p (p + 1) q ≡ (p == q)
 one_place p q = grind (arith, nat_tests)
 
-same_inner : (r b q c : ℕ) → b < 2 ^ 32 → c < 2 ^ 32 → (r * 2 ^ 32 + b == q * 2 ^ 32 + c) ≡ (r == q && b == c)
+same_inner : (r b q c : ℕ) → b < 2 ^ 32 → c < 2 ^ 32 → (256 + (r * 2 ^ 32 + b) == 256 + (q * 2 ^ 32 + c)) ≡ (r == q && b == c)
 same_inner r b q c x y = grind (arith, nat_tests)
+
+same_node : (i j : ℕ) → (256 + i == 256 + j) ≡ (i == j)
+same_node i j = grind (arith, nat_tests)
+
+-- there are few sorts
+sort_small : (a : Atom) → sort_of a < 16
+sort_small (chain_flag c) = lit< tt
+sort_small (ring_order c) = lit< tt
+sort_small (slot_at r n) = lit< tt
+sort_small (descriptor_at n) = lit< tt
+sort_small (description_at n) = lit< tt
+sort_small (position_of n) = lit< tt
+sort_small (size_of n) = lit< tt
+sort_small (byte_at i p) = lit< tt
+sort_small (name_at d n) = lit< tt
+sort_small (names_in n) = lit< tt
+sort_small (buffer_size r b) = lit< tt
+sort_small (buffer_byte r b p) = lit< tt
+
+sort_in_small : (x : Item) → sort_in x < 16
+sort_in_small (one a) = sort_small a
+sort_in_small (file_bytes i low high) = lit< tt
+sort_in_small (buffer_bytes r b low high) = lit< tt
+sort_in_small all_descriptors = lit< tt
+sort_in_small _ = lit< tt
 
 module _ (t : Numbers) (apart : AreApart t) where
   -- two names have one number just where they are one
@@ -78,7 +103,7 @@ module _ (t : Numbers) (apart : AreApart t) where
   one_is (description_at n) (description_at m) f g = one_place n m
   one_is (position_of n) (position_of m) f g = one_place n m
   one_is (size_of n) (size_of m) f g = one_place n m
-  one_is (byte_at i p) (byte_at j q) f g = ap (λ z. i == j && z) (one_place p q)
+  one_is (byte_at i p) (byte_at j q) f g = (λ k. same_node i j k && one_place p q k)
   one_is (name_at d n) (name_at e m) f g = one_place (place_of t (name_at d n)) (place_of t (name_at e m)) ∙ names_is d e n m f.known g.known
   one_is (names_in n) (names_in m) f g = one_place n m
   one_is (buffer_size r b) (buffer_size q c) f g = ap (λ z. r == q && z) (one_place b c)
@@ -87,7 +112,7 @@ module _ (t : Numbers) (apart : AreApart t) where
 
   member_is : (x : Item) (a : Atom) → ItemFits t x → AtomFits t a → Lies x a
   member_is (one b) a f g = one_is b a f g
-  member_is (file_bytes i low high) (byte_at j p) f g = refl
+  member_is (file_bytes i low high) (byte_at j p) f g = ap (λ z. z && within low high p) (same_node i j)
   member_is (file_bytes i low high) _ f g = refl
   member_is (buffer_bytes r b low high) (buffer_byte q c p) f g = ap (λ z. z && within low high p) (same_inner r b q c f.inner g.inner)
   member_is (buffer_bytes r b low high) _ f g = refl
@@ -101,7 +126,7 @@ module _ (t : Numbers) (apart : AreApart t) where
   pub covers_is : (u : Use) (a : Atom) → ItemFits t u.item → AtomFits t a → covers (span_for t u) (spot_at t a) ≡ member_of u.item a
   covers_is u a f g = elim (cases_Bool (is_of_descriptors u.item)) [
     | inl d ↦ rw d (none_within (spot_at t a) ∙ sym (no_member u.item a d g.other))
-    | inr o ↦ rw o (in_spots (sort_in u.item) (row_in u.item) (sort_of a) (row_of a) (low_in t u.item) (high_in t u.item) (place_of t a) f.row g.row g.place f.high ∙ member_is u.item a f g)
+    | inr o ↦ rw o (in_spots (sort_in u.item) (row_in u.item) (sort_of a) (row_of a) (low_in t u.item) (high_in t u.item) (place_of t a) (sort_in_small u.item) (sort_small a) g.place f.high ∙ member_is u.item a f g)
   ]
 
   pub used_is : (f : Footprint) (a : Atom) → AllFit t f → AtomFits t a → used_by (map (span_for t) f) (spot_at t a) ≡ has_atom f a
@@ -130,7 +155,7 @@ module _ (t : Numbers) (apart : AreApart t) where
   atom_fits (file_bytes i low high) (byte_at j p) f n h o =
       let w = and_parts (i == j) (within low high p) h in
       let same : i ≡ j = eqb-true i j w.0 in
-      record { row = subst (λ r. r < 2 ^ 48) same f.row; inner = lit< tt; place = small_place i low high p (i == j) h f.high; known = refl; other = o }
+      record { row = subst (λ r. 256 + r < 2 ^ 48) same f.row; inner = lit< tt; place = small_place i low high p (i == j) h f.high; known = refl; other = o }
   atom_fits (file_bytes i low high) _ f n h o = absurd cc
   atom_fits (buffer_bytes r b low high) (buffer_byte q c p) f n h o =
       let w = and_parts (r == q && b == c) (within low high p) h in
@@ -138,7 +163,7 @@ module _ (t : Numbers) (apart : AreApart t) where
       let one₁ : r ≡ q = eqb-true r q v.0 in
       let two : b ≡ c = eqb-true b c v.1 in
       record {
-        row = subst (λ x. x * 2 ^ 32 + c < 2 ^ 48) one₁ (subst (λ y. r * 2 ^ 32 + y < 2 ^ 48) two f.row);
+        row = subst (λ x. 256 + (x * 2 ^ 32 + c) < 2 ^ 48) one₁ (subst (λ y. 256 + (r * 2 ^ 32 + y) < 2 ^ 48) two f.row);
         inner = subst (λ y. y < 2 ^ 32) two f.inner;
         place = small_place r low high p (r == q && b == c) h f.high;
         known = refl;

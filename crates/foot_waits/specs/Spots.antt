@@ -28,9 +28,9 @@ sort_of (buffer_byte r b p) = 11
 
 abbrev pub row_of : Atom → ℕ
 row_of (slot_at r n) = r
-row_of (byte_at i p) = i
+row_of (byte_at i p) = 256 + i
 row_of (buffer_size r b) = r
-row_of (buffer_byte r b p) = r * 2 ^ 32 + b
+row_of (buffer_byte r b p) = 256 + (r * 2 ^ 32 + b)
 row_of _ = 0
 
 abbrev pub place_of : Numbers → Atom → ℕ
@@ -47,9 +47,9 @@ place_of t (names_in d) = d
 place_of t (buffer_size r b) = b
 place_of t (buffer_byte r b p) = p
 
--- the number on the line
+-- the number on the line; those of bytes, which are used in ranges, come after all others
 abbrev pub spot : ℕ → ℕ → ℕ → ℕ
-spot sort row place = (sort * 2 ^ 48 + row) * 2 ^ 64 + place
+spot sort row place = (row * 16 + sort) * 2 ^ 64 + place
 
 -- of the atoms of a sort in a buffer, the number of the buffer
 abbrev pub inner_of : Atom → ℕ
@@ -81,8 +81,8 @@ sort_in _ = 12
 
 abbrev pub row_in : Item → ℕ
 row_in (one a) = row_of a
-row_in (file_bytes i low high) = i
-row_in (buffer_bytes r b low high) = r * 2 ^ 32 + b
+row_in (file_bytes i low high) = 256 + i
+row_in (buffer_bytes r b low high) = 256 + (r * 2 ^ 32 + b)
 row_in _ = 0
 
 abbrev pub inner_in : Item → ℕ

@@ -1,15 +1,15 @@
 //! Numbers of names.
-ghost use Rattle.std.specs.Prelude.{◌≡◌, ℕ, List, [], IfOk, OnOk, IsSome, Some};
+ghost use Rattle.std.specs.Prelude.{◌≡◌, ℕ, List, [], IfOk, OnOk, None, Some};
 ghost use Rattle.foot_waits.specs.Names.{AreApart, KeepsNumbers, name_key, number_at};
 
+use indexmap::IndexMap;
 use std::alloc::{AllocError, Global};
-use std::collections::BTreeMap;
 use std::marker::Model;
 
 /// A number for each of some names of directories.
 #[derive(Drop)]
 pub(crate) struct Names {
-    numbers: BTreeMap<Vec<u8>, u64>,
+    numbers: IndexMap<Vec<u8>, u64>,
     next: u64,
 }
 
@@ -29,38 +29,42 @@ impl Names {
         ensures { result ≡ [] }
     {
         Names {
-            numbers: BTreeMap::new(alloc),
+            numbers: IndexMap::new(alloc),
             next: 0,
         }
     }
 
-    /// Gives a name of a directory a number, if it has none.
-    pub(crate) fn add(
+    /// The number of a name of a directory, which it gets if it has none.
+    pub(crate) fn number(
         &mut self,
         alloc: Global,
         directory: u32,
         name: &[u8],
-    ) -> Result<(), AllocError>
-        ensures known { OnOk result (IsSome (number_at self.new (name_key directory name.now))) }
+    ) -> Result<u64, AllocError>
+        ensures number { IfOk result (λ number. number_at self.new (name_key directory name.now)
+            ≡ Some number) }
         ensures kept { OnOk result (KeepsNumbers self.old self.new) }
     {
         let key = name_key(alloc, directory, name)?;
-        self.add_key(key)
+        match self.number_of(key.as_slice()) {
+            Some(number) => Ok(number),
+            None => self.add(key),
+        }
     }
 
-    fn add_key(&mut self, key: Vec<u8>) -> Result<(), AllocError>
-        ensures known { OnOk result (IsSome (number_at self.new key.items)) }
+    /// Gives a key without a number the next one.
+    fn add(&mut self, key: Vec<u8>) -> Result<u64, AllocError>
+        requires { number_at self.old key.items ≡ None }
+        ensures number { IfOk result (λ number. number_at self.new key.items ≡ Some number) }
         ensures kept { OnOk result (KeepsNumbers self.old self.new) }
     {
-        if self.number_of(key.as_slice()).is_some() {
-            return Ok(());
-        }
-        let Some(after) = self.next.checked_add(1) else {
+        let number = self.next;
+        let Some(after) = number.checked_add(1) else {
             return Err(AllocError);
         };
-        self.numbers.insert(key, self.next)?;
+        self.numbers.insert(key, number)?;
         self.next = after;
-        Ok(())
+        Ok(number)
     }
 
     /// The number of a key.
@@ -76,26 +80,13 @@ impl Names {
     {
         let _ = &self.numbers;
     }
-
-    /// The number of a name of a directory.
-    pub(crate) fn number(
-        &self,
-        alloc: Global,
-        directory: u32,
-        name: &[u8],
-    ) -> Result<Option<u64>, AllocError>
-        ensures { IfOk result (λ number. number ≡ number_at self.now (name_key directory name.now)) }
-    {
-        let key = name_key(alloc, directory, name)?;
-        Ok(self.number_of(key.as_slice()))
-    }
 }
 
 /// A directory's number in four bytes, and a name.
 fn name_key(alloc: Global, directory: u32, name: &[u8]) -> Result<Vec<u8>, AllocError>
     ensures { IfOk result (λ key. key.items ≡ name_key directory name.now) }
 {
-    let mut key = Vec::with_capacity(alloc, name.len())?;
+    let mut key = Vec::with_capacity(alloc, 4)?;
     key.push((directory / 16_777_216) as u8)?;
     key.push((directory / 65_536 % 256) as u8)?;
     key.push((directory / 256 % 256) as u8)?;

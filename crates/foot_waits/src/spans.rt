@@ -1,5 +1,6 @@
-//! Where the items of access sets lie on the line.
-ghost use Rattle.std.specs.Prelude.{◌≡◌, ◌<◌, ◌≤◌, ◌+◌, ◌*◌, ◌^◌, true, map, IfOk};
+//! Where the items of footprints lie on the line.
+ghost use Rattle.std.specs.Prelude.{◌≡◌, ◌<◌, ◌≤◌, ◌+◌, ◌*◌, ◌^◌, true, map, IfOk, OnOk};
+ghost use Rattle.foot_waits.specs.Names.{KeepsNumbers};
 ghost use Rattle.foot_waits.specs.Spots.{AllFit, ItemFits, span_for, spot};
 ghost use Rattle.world_parts.specs.Cutting.{is_narrow_use};
 ghost use Rattle.world_parts.specs.Uses.{item_meant, use_meant};
@@ -9,21 +10,25 @@ use std::alloc::{AllocError, Global};
 use use_line::Span;
 use world_parts::{Footprint, Item, Use};
 
-/// How many rows a sort has, and how many numbers a row.
-const ROWS: u128 = 1 << 48;
+/// How many sorts there are, and how many numbers a row has.
+const SORTS: u128 = 16;
 
 const PLACES: u128 = 1 << 64;
 
-/// The ranges of an access set's uses.
+/// How many rows of a sort the line keeps number by number.
+const SINGLE_ROWS: u128 = 256;
+
+/// The ranges of an access set's uses. Names without a number get one.
 pub(crate) fn spans_of(
     alloc: Global,
-    names: &Names,
+    names: &mut Names,
     footprint: &Footprint,
 ) -> Result<Vec<Span>, AllocError>
-    ensures spans { IfOk result (λ spans. spans.items ≡ map (span_for names.now) footprint.now) }
-    ensures fit { IfOk result (λ spans. AllFit names.now footprint.now) }
+    ensures kept { OnOk result (KeepsNumbers names.old names.new) }
+    ensures spans { IfOk result (λ spans. spans.items ≡ map (span_for names.new) footprint.now) }
+    ensures fit { IfOk result (λ spans. AllFit names.new footprint.now) }
 {
-    let mut spans = Vec::new(alloc);
+    let mut spans = Vec::with_capacity(alloc, footprint.len())?;
     for used in footprint.uses() {
         let span = span_of(alloc, names, used)?;
         spans.push(span)?;
@@ -31,10 +36,11 @@ pub(crate) fn spans_of(
     Ok(spans)
 }
 
-/// The range of a use, if the names know its name and it is one range.
-fn span_of(alloc: Global, names: &Names, used: &Use) -> Result<Span, AllocError>
-    ensures span { IfOk result (λ span. span ≡ span_for names.now (use_meant used.now)) }
-    ensures fits { IfOk result (λ span. ItemFits names.now (item_meant used.now.item)) }
+/// The range of a use, if it is one range.
+fn span_of(alloc: Global, names: &mut Names, used: &Use) -> Result<Span, AllocError>
+    ensures kept { OnOk result (KeepsNumbers names.old names.new) }
+    ensures span { IfOk result (λ span. span ≡ span_for names.new (use_meant used.now)) }
+    ensures fits { IfOk result (λ span. ItemFits names.new (item_meant used.now.item)) }
     ensures narrow { IfOk result (λ span. is_narrow_use (use_meant used.now) ≡ true) }
 {
     let written = used.written;
@@ -50,18 +56,17 @@ fn span_of(alloc: Global, names: &Names, used: &Use) -> Result<Span, AllocError>
         Item::Position(number) => Ok(single(5, 0, u64::from(*number), written)),
         Item::Size(node) => Ok(single(6, 0, u64::from(*node), written)),
         Item::Bytes(node, low, high) => {
-            Ok(range(7, u128::from(*node), *low, u128::from(*high), written))
+            let row = SINGLE_ROWS + u128::from(*node);
+            Ok(range(7, row, *low, u128::from(*high), written))
         }
         Item::Name(directory, name) => {
-            match names.number(alloc, *directory, name.as_slice())? {
-                Some(number) => Ok(single(8, 0, number, written)),
-                None => Err(AllocError),
-            }
+            let number = names.number(alloc, *directory, name.as_slice())?;
+            Ok(single(8, 0, number, written))
         }
         Item::Names(directory) => Ok(single(9, 0, u64::from(*directory), written)),
         Item::Buffer(ring, index, low, high) => {
-            let row = u128::from(*ring) * 4_294_967_296 + u128::from(*index);
-            Ok(range(11, row, *low, u128::from(*high), written))
+            let buffer = u128::from(*ring) * 4_294_967_296 + u128::from(*index);
+            Ok(range(11, SINGLE_ROWS + buffer, *low, u128::from(*high), written))
         }
         Item::AllDescriptors if !written => Ok(no_range(written)),
         _ => Err(AllocError),
@@ -95,7 +100,7 @@ fn range(sort: u128, row: u128, low: u64, high: u128, written: bool) -> Span
     requires high { high ≤ 2 ^ 64 }
     ensures { result ≡ record { low = spot sort row low; high = spot sort row high; written = written } }
 {
-    let start = (sort * ROWS + row) * PLACES;
+    let start = (row * SORTS + sort) * PLACES;
     Span {
         low: start + u128::from(low),
         high: start + high,

@@ -3,7 +3,6 @@ ghost use Rattle.std.specs.Option.{option_or};
 ghost use Rattle.std.specs.Prelude.{◌≡◌, ◌==◌, None, Some, if◌then◌else◌, suc, ◌<◌, ◌^◌, ◌-◌, ℕ, IfOk, OnOk, length, map, slice_index_or};
 ghost use Rattle.std.specs.BTreeMap.{get};
 ghost use Rattle.std.specs.Ordering.{nat_cmp};
-ghost use Rattle.foot_waits.specs.Names.{KeepsNumbers};
 ghost use Rattle.foot_waits.specs.Told.{IsAt, IsFirst, TellsAll, with_told};
 ghost use Rattle.foot_waits.specs.Rule.{IsFirstUse};
 ghost use Rattle.foot_waits.specs.Rule as rule;
@@ -18,7 +17,7 @@ use crate::spans::spans_of;
 use std::alloc::{AllocError, Global};
 use std::collections::BTreeMap;
 use use_line::{Line, Span};
-use world_parts::{Footprint, Item, Use};
+use world_parts::{Footprint, Use};
 
 /// What is known of the places so far.
 #[derive(Drop)]
@@ -60,8 +59,7 @@ impl Waits {
             → foot self.old.place ≡ footprint.now → IsAt self.old foot self.old.place
             → (j : ℕ) → IsFirstUse foot self.old.place j (get nat_cmp found j)) }
     {
-        add_names(alloc, &mut self.names, footprint.uses())?;
-        let spans = spans_of(alloc, &self.names, footprint)?;
+        let spans = spans_of(alloc, &mut self.names, footprint)?;
         if spans.len() >= 4_294_967_296 {
             return Err(AllocError);
         }
@@ -80,18 +78,6 @@ impl Waits {
         self.place += 1;
         Ok(found)
     }
-}
-
-/// Adds the names of some uses.
-fn add_names(alloc: Global, names: &mut Names, uses: &[Use]) -> Result<(), AllocError>
-    ensures { OnOk result (KeepsNumbers names.old names.new) }
-{
-    for used in uses {
-        if let Item::Name(directory, name) = &used.item {
-            names.add(alloc, *directory, name.as_slice())?;
-        }
-    }
-    Ok(())
 }
 
 /// Of each earlier place for which one waits by some use, the number of the first of these.

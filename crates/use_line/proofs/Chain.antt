@@ -6,7 +6,7 @@ use Rattle.std.proofs.lemmas.Bool.{cases_Bool, cases_eq}
 use Rattle.std.proofs.lemmas.Bool.Decides.{nat_tests}
 use Rattle.use_line.specs.Spans.{within}
 use Rattle.use_line.specs.Steps.{AllBelow, HasSet, IsCopy, step_at}
-use Rattle.use_line.specs.Known.{HasRead, IsLinked, known_at, read_at, readers_at, readers_below, written_at}
+use Rattle.use_line.specs.Known.{HasRead, IsLinked, range_at, read_at, readers_at, readers_below, written_at}
 use Rattle.use_line.specs.declared.read.Read.{Read}
 
 -- no read, no readers
@@ -106,7 +106,7 @@ module _ (w readers now : List (ℕ × Option ℕ)) (reads : List Read) (r : Rea
 -- a range that a place has written
 module _ (w w₁ readers now : List (ℕ × Option ℕ)) (reads : List Read) (low high : ℕ) (clear : HasSet readers now low high None) where
   pub written_known : (place : ℕ) → HasSet w w₁ low high (Some place) → (b : ℕ)
-      → known_at (record { writers = w₁; readers = now; reads = reads }) b ≡ (if within low high b then written_at place else known_at (record { writers = w; readers = readers; reads = reads }) b)
+      → range_at (record { writers = w₁; readers = now; reads = reads }) b ≡ (if within low high b then written_at place else range_at (record { writers = w; readers = readers; reads = reads }) b)
   written_known place wrote b = elim (cases_Bool (within low high b)) [
     | inl t ↦
         let new : step_at w₁ b ≡ Some place = rw t at (wrote b) in

@@ -1,16 +1,16 @@
 -- Values of numbers, by keys that rise: one key more, and one less.
-use Rattle.std.specs.Prelude.{◌≡◌, ◌≢◌, ℕ, ◌<◌, ◌≤◌, Bool, true, false, not, ◌&&◌, ◌||◌, ◌==◌, leb, ltb, List, [], ◌∷◌, ◌++◌, filter, cond, length, refl, is_some, if◌then◌else◌, Option}
+use Rattle.std.specs.Prelude.{◌≡◌, ◌≢◌, ℕ, ◌-◌, ◌<◌, ◌≤◌, Bool, true, false, not, ◌&&◌, ◌||◌, ◌==◌, leb, ltb, List, [], ◌∷◌, ◌++◌, filter, cond, length, refl, is_some, if◌then◌else◌, suc, Option, None}
 use Rattle.std.specs.List.{AllByRecursion}
 use Rattle.std.specs.Map.{lookup, remove_entry}
 use Rattle.std.specs.BTreeMap.{insert_entry, is_at}
 use Rattle.std.specs.Cmp.{nat_cmp_is}
 use Rattle.std.specs.declared.cmp.Ordering.TheVariants.{Less, Equal, Greater}
 use Rattle.std.specs.Ordering.{nat_cmp, is_eq, is_lt, is_le}
-use Rattle.std.proofs.Common.{sym, ap, ◌∙◌, arith, inl, inr}
+use Rattle.std.proofs.Common.{sym, ap, ◌∙◌, subst, arith, inl, inr}
 use Rattle.std.proofs.lemmas.Bool.{cases_Bool, cases_order, cases_eq, cases_lt, cond-true, cond-false}
 use Rattle.std.proofs.lemmas.Bool.Decides.{nat_tests}
 use Rattle.use_line.specs.Spans.{within}
-use Rattle.use_line.specs.Steps.{NoneInside, Rises, has_key, step_from}
+use Rattle.use_line.specs.Steps.{IsLevel, NoneInside, Rises, has_key, step_from}
 
 abbrev Entries : Type 0
 Entries = List (ℕ × Option ℕ)
@@ -238,19 +238,24 @@ module _ (k to : ℕ) (less : k < to) where
           cond-false (leb k b) (step_from w rest b) d f ∙ under f ∙ sym (cond-false (within k to b) w (step_from d old b) outside)
     ]
 
-    -- a key more
-    pub put_at : (d : Option ℕ) (es : Entries) (b : ℕ) → Rises es → has_key es k ≡ false → has_key es to ≡ true → NoneInside k to es → Changed d es (insert_entry nat_cmp es k w) b
-    put_at d [] b r here end none = absurd cc
-    put_at d (e ∷ es) b r here end none = elim (cases_order k e.0) [
-      | inl same ↦ absurd (grind (arith, nat_tests))
+    -- a key more, or something else at one
+    pub put_at : (d : Option ℕ) (es : Entries) (b : ℕ) → Rises es → has_key es to ≡ true → NoneInside k to es → Changed d es (insert_entry nat_cmp es k w) b
+    put_at d [] b r end none = absurd cc
+    put_at d (e ∷ es) b r end none = elim (cases_order k e.0) [
+      | inl same ↦
+          let above : AllByRecursion (λ q. k < q.0) es = subst (λ n. AllByRecursion (λ q. n < q.0) es) (sym same) r.0 in
+          let there : has_key es to ≡ true = grind (arith, nat_tests, less) in
+          rw (cmp_same k e.0 same) (subst (λ n. Changed d (e ∷ es) ((n, w) ∷ es) b) same
+          (at_head d e.1 es (e ∷ es) b r.1 above (none_inside_rest e es none) there
+          (λ t. let up : leb e.0 b ≡ true = grind (arith, nat_tests) in rw up refl)
+          (λ f. let past : leb e.0 b ≡ false = grind (arith, nat_tests) in rw past refl)))
       | inr rest ↦ elim rest [
         | inl less₁ ↦
             let above : AllByRecursion (λ q. k < q.0) (e ∷ es) = (less₁, all_from (λ q m. omega (arith, less₁, m)) es r.0) in
             rw (cmp_less k e.0 less₁) (at_head d d (e ∷ es) (e ∷ es) b r above none end (λ t. refl) (λ f. let past : leb e.0 b ≡ false = grind (arith, nat_tests) in rw past refl))
         | inr under ↦
-            let mine : has_key es k ≡ false = grind (arith, nat_tests) in
             let there : has_key es to ≡ true = grind (arith, nat_tests) in
-            rw (cmp_more k e.0 under) (past_head d e es _ b under (put_at e.1 es b r.1 mine there (none_inside_rest e es none)))
+            rw (cmp_more k e.0 under) (past_head d e es _ b under (put_at e.1 es b r.1 there (none_inside_rest e es none)))
       ]
     ]
 
@@ -306,3 +311,29 @@ level_from k to less d (x ∷ es) b r none t = elim (cases_lt k x.0) [
       let there : leb x.0 b ≡ true = grind (arith, nat_tests) in
       rw (here, there) (level_from k to less x.1 es b r.1 (none_inside_rest k to less x es none) t)
 ]
+
+-- the last of the keys up to a number
+module _ (at : ℕ) (es : Entries) where
+  pub last_up : (before : Entries) (k : ℕ) (v : Option ℕ) → Rises es → filter (λ e. leb e.0 at) es ≡ before ++ (k, v) ∷ []
+      → (k ≤ at) × (has_key es k ≡ true) × ((b : ℕ) → k < b → b ≤ at → has_key es b ≡ false) × ((b : ℕ) → k ≤ b → b ≤ at → step_from None es b ≡ v)
+  last_up before k v r e =
+      let l = last_passes (λ x. leb x at) es before k v r e in
+      let passes : leb k at ≡ true = l.passes in
+      let le : k ≤ at = grind (arith, nat_tests) in
+      let free : (b : ℕ) → k < b → b ≤ at → has_key es b ≡ false = λ b more less. l.none_after b more (grind (arith, nat_tests, less)) in
+      let level : (b : ℕ) → k ≤ b → b ≤ at → step_from None es b ≡ step_from None es k = λ b more less. level_from k (suc at) (omega (arith, le)) None es b r (λ j up under. free j up (omega (arith, under))) (grind (arith, nat_tests, more, less)) in
+      (le, l.stands, free, λ b more less. level b more less ∙ sym (level at le (omega arith)) ∙ step_last None es before at k v r e)
+
+  pub none_up : filter (λ e. leb e.0 at) es ≡ [] → (b : ℕ) → b ≤ at → (has_key es b ≡ false) × (step_from None es b ≡ None)
+  none_up e b le =
+      let free : (j : ℕ) → j ≤ at → has_key es j ≡ false = λ j less. none_passes (λ x. leb x at) es e j (grind (arith, nat_tests, less)) in
+      (free b le, step_before None es b (each_key (λ j. b < j) es (λ j t. elim (cases_lt b j) [ inl lt ↦ lt | inr ge ↦ absurd (let f = free j (omega (arith, ge, le)) in grind arith) ])))
+
+-- from a number on, where one value stands from an earlier one on
+pub level_at : (es : Entries) (k start high : ℕ) (v : Option ℕ) → k ≤ start → start < high → ((b : ℕ) → k ≤ b → b ≤ high - 1 → step_from None es b ≡ v)
+    → IsLevel es start high × (v ≡ step_from None es start)
+level_at es k start high v from to all =
+    let here : step_from None es start ≡ v = all start from (omega (arith, to)) in (
+      (λ b t. let more : start ≤ b = grind (arith, nat_tests) in let less : b < high = grind (arith, nat_tests) in all b (omega (arith, from, more)) (omega (arith, less)) ∙ sym here),
+      sym here,
+    )

@@ -4,3 +4,4 @@ pub mod Chain
 pub mod Clips
 pub mod Telling
 pub mod Direct
+mod Singles

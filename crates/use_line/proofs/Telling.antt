@@ -8,7 +8,7 @@ use Rattle.std.proofs.lemmas.Bool.Decides.{nat_tests}
 use Rattle.std.proofs.lemmas.List.Folds.{list_any_more}
 use Rattle.use_line.specs.History.{is_number}
 use Rattle.use_line.specs.Spans.{within, covers, used_by, written_by}
-use Rattle.use_line.specs.Known.{HasRead, IsLinked, IsPart, IsToldOf, Keeps, Known, Uses, is_among, is_none, known_at, read_by, readers_at, told_of, written_at}
+use Rattle.use_line.specs.Known.{HasRead, IsLinked, IsPart, IsToldBy, Keeps, Known, RangeUses, Uses, is_among, is_none, known_at, range_at, read_by, readers_at, told_of, written_at}
 use Rattle.use_line.specs.Queue.{AddsDue, Due, is_due}
 use Rattle.use_line.specs.Steps.{step_at}
 use Rattle.use_line.specs.declared.clip.Clip.{Clip}
@@ -46,11 +46,11 @@ all_next P (y ∷ xs) zero d lt h p = (p, tt)
 all_next P (y ∷ xs) (suc i) d lt h p = (h.0, all_next P xs i d (omega arith) h.1 p)
 
 -- of one part
-module _ (u : Uses) (own : List Span) (low high : ℕ) (less : low < high) (part : IsPart u own low high) where
+module _ (u : RangeUses) (own : List Span) (low high : ℕ) (less : low < high) (part : IsPart u own low high) where
   first : within low high low ≡ true
   first = grind (arith, nat_tests, less)
 
-  due_told : (written : Bool) (told told₁ : List ℕ) (q : List Clip) → ((b j : ℕ) → within low high b ≡ true → told_of (known_at u b) written (written_by own b) j ≡ is_number j (step_at u.writers low))
+  due_told : (written : Bool) (told told₁ : List ℕ) (q : List Clip) → ((b j : ℕ) → within low high b ≡ true → told_of (range_at u b) written (written_by own b) j ≡ is_number j (step_at u.writers low))
       → ((j : ℕ) → is_among told₁ j ≡ (is_among told j || is_number j (step_at u.writers low))) → AddsDue u own written low high told q told₁ q
   due_told written told told₁ q each more j = (
     (λ d. elim d [
@@ -70,14 +70,14 @@ module _ (u : Uses) (own : List Span) (low high : ℕ) (less : low < high) (part
   )
 
   -- a part that nobody has read since
-  told_unread : (written w : Bool) (b j : ℕ) → step_at u.readers low ≡ None → within low high b ≡ true → told_of (known_at u b) written w j ≡ is_number j (step_at u.writers low)
+  told_unread : (written w : Bool) (b j : ℕ) → step_at u.readers low ≡ None → within low high b ≡ true → told_of (range_at u b) written w j ≡ is_number j (step_at u.writers low)
   told_unread written w b j none t =
       let here : readers_at u.reads (step_at u.readers b) b ≡ [] = rw (part.readers b t, none) (below_none u.reads (length u.reads) b) in
       rw (here, part.writers b t) refl
 
   module _ (linked : IsLinked u) (i : ℕ) (is : step_at u.readers low ≡ Some i) where
     told_read : (written w : Bool) (b j : ℕ) → within low high b ≡ true
-        → told_of (known_at u b) written w j ≡ (if written then is_among (readers_at u.reads (Some i) b) j else (if w then false else is_number j (step_at u.writers low)))
+        → told_of (range_at u b) written w j ≡ (if written then is_among (readers_at u.reads (Some i) b) j else (if w then false else is_number j (step_at u.writers low)))
     told_read written w b j t =
         let there : step_at u.readers b ≡ Some i = part.readers b t ∙ is in
         let under : i < length u.reads = subst (λ o. IfSome o (λ k. k < length u.reads)) is (linked.latest low) in
@@ -115,7 +115,7 @@ module _ (u : Uses) (own : List Span) (low high : ℕ) (less : low < high) (part
         | inr t ↦
             let b : ℕ = t.0 in
             let mine : written_by own b ≡ true = part.same b t.1 ∙ w in
-            let at : told_of (known_at u b) false true j ≡ true = subst (λ x. told_of (known_at u b) false x j ≡ true) mine t.2 in
+            let at : told_of (range_at u b) false true j ≡ true = subst (λ x. told_of (range_at u b) false x j ≡ true) mine t.2 in
             absurd (let no₁ : false ≡ true = sym (told_read false true b j t.1) ∙ at in cc)
       ]),
     )
@@ -127,10 +127,10 @@ module _ (u : Uses) (own : List Span) (low high : ℕ) (less : low < high) (part
   due_unread written told told₁ q none more = due_told written told told₁ q (λ b j t. told_unread written (written_by own b) b j none t) more
 
 -- of two ranges that touch
-pub told_joined : (u : Uses) (own : List Span) (written : Bool) (low to high : ℕ) (told mid told₁ : List ℕ) (middle q₁ : List Clip) → low < to → to ≤ high
-    → ((j : ℕ) → (Due u.reads mid middle j → (is_among told j ≡ true) ⊎ IsToldOf u own written to high j) × ((is_among told j ≡ true) ⊎ IsToldOf u own written to high j → Due u.reads mid middle j))
+pub told_joined : (u : RangeUses) (own : List Span) (written : Bool) (low to high : ℕ) (told mid told₁ : List ℕ) (middle q₁ : List Clip) → low < to → to ≤ high
+    → ((j : ℕ) → (Due u.reads mid middle j → (is_among told j ≡ true) ⊎ IsToldBy (range_at u) own written to high j) × ((is_among told j ≡ true) ⊎ IsToldBy (range_at u) own written to high j → Due u.reads mid middle j))
     → AddsDue u own written low to mid middle told₁ q₁
-    → (j : ℕ) → (Due u.reads told₁ q₁ j → (is_among told j ≡ true) ⊎ IsToldOf u own written low high j) × ((is_among told j ≡ true) ⊎ IsToldOf u own written low high j → Due u.reads told₁ q₁ j)
+    → (j : ℕ) → (Due u.reads told₁ q₁ j → (is_among told j ≡ true) ⊎ IsToldBy (range_at u) own written low high j) × ((is_among told j ≡ true) ⊎ IsToldBy (range_at u) own written low high j → Due u.reads told₁ q₁ j)
 told_joined u own written low to high told mid told₁ middle q₁ less under before more j = (
   (λ d. elim ((more j).0 d) [
     | inl m ↦ elim ((before j).0 m) [

@@ -1,5 +1,5 @@
 -- A view of code: what is known of each number, and whom a use of it waits for.
-use Rattle.std.specs.Prelude.{◌≡◌, ℕ, zero, suc, ◌<◌, Bool, true, false, ◌&&◌, ◌||◌, ◌⊎◌, ◌==◌, not, length, List, [], ◌∷◌, Option, Some, if◌then◌else◌, slice_index_or}
+use Rattle.std.specs.Prelude.{◌≡◌, ℕ, zero, suc, ◌<◌, ◌/◌, ◌%◌, ◌^◌, ltb, Bool, true, false, ◌&&◌, ◌||◌, ◌⊎◌, ◌==◌, not, length, List, [], ◌∷◌, Option, None, Some, if◌then◌else◌, slice_index_or}
 use Rattle.std.specs.List.{list_any}
 use Rattle.std.specs.Bool.{Decides}
 use Rattle.interleaving.specs.Direct.{clash_on, IsDirect}
@@ -23,14 +23,14 @@ readers_below reads (suc n) latest b =
 abbrev pub readers_at : List Read → Option ℕ → ℕ → List ℕ
 readers_at reads latest b = readers_below reads (length reads) latest b
 
--- who wrote each number, which read of it is the latest, and all reads
-pub record Uses : Type 0 where
+-- of the numbers that are used in ranges, who wrote each, which read of it is the latest, and all reads
+pub record RangeUses : Type 0 where
   pub writers : List (ℕ × Option ℕ)
   pub readers : List (ℕ × Option ℕ)
   pub reads : List Read
 
 -- each read is upon older ones alone, and the latest ones are among all
-pub record IsLinked (u : Uses) : Type 0 where
+pub record IsLinked (u : RangeUses) : Type 0 where
   pub latest : AllBelow u.readers (length u.reads)
   pub older : (k : ℕ) → k < length u.reads → AllBelow (read_at u.reads k).older k
 
@@ -38,11 +38,32 @@ pub record IsLinked (u : Uses) : Type 0 where
 abbrev pub Known : Type 0
 Known = Option ℕ × List ℕ
 
+abbrev pub range_at : RangeUses → ℕ → Known
+range_at u b = (step_at u.writers b, readers_at u.reads (step_at u.readers b) b)
+
+abbrev pub no_ranges : RangeUses
+no_ranges = record { writers = []; readers = []; reads = [] }
+
+-- of the numbers that are used one by one, in rows
+abbrev pub nothing_known : Known
+nothing_known = (None, [])
+
+abbrev pub row_at : List Known → ℕ → Known
+row_at row i = slice_index_or row i nothing_known
+
+abbrev pub spot_at : List (List Known) → ℕ → Known
+spot_at rows b = row_at (slice_index_or rows (b / 2 ^ 64) []) (b % 2 ^ 64)
+
+-- of all numbers: those below a limit are used one by one
+pub record Uses : Type 0 where
+  pub spots : List (List Known)
+  pub ranges : RangeUses
+
 abbrev pub known_at : Uses → ℕ → Known
-known_at u b = (step_at u.writers b, readers_at u.reads (step_at u.readers b) b)
+known_at u b = if ltb b (2 ^ 76) then spot_at u.spots b else range_at u.ranges b
 
 abbrev pub no_uses : Uses
-no_uses = record { writers = []; readers = []; reads = [] }
+no_uses = record { spots = []; ranges = no_ranges }
 
 abbrev pub is_among : List ℕ → ℕ → Bool
 is_among js j = list_any (λ i. i == j) js
@@ -57,8 +78,11 @@ told_of p written own j =
     if is_none p.1 then is_number j p.0 else (if written then is_among p.1 j else (if own then false else is_number j p.0))
 
 -- of the numbers of a range, whom a use waits for
+abbrev pub IsToldBy : (ℕ → Known) → List Span → Bool → ℕ → ℕ → ℕ → Type 0
+IsToldBy known own written low high j = (b : ℕ) × (within low high b ≡ true) × (told_of (known b) written (written_by own b) j ≡ true)
+
 abbrev pub IsToldOf : Uses → List Span → Bool → ℕ → ℕ → ℕ → Type 0
-IsToldOf u own written low high j = (b : ℕ) × (within low high b ≡ true) × (told_of (known_at u b) written (written_by own b) j ≡ true)
+IsToldOf u own written low high j = IsToldBy (known_at u) own written low high j
 
 -- of each number stands who has used it among the first places
 pub record Keeps (u : Uses) (spans : ℕ → List Span) (n : ℕ) : Type 0 where
@@ -71,8 +95,11 @@ abbrev pub written_at : ℕ → Known
 written_at place = (Some place, [])
 
 -- whom a use waits for by a range, beside those who are told already
+abbrev pub AddsToldBy : (ℕ → Known) → List Span → Bool → ℕ → ℕ → List ℕ → List ℕ → Type 0
+AddsToldBy known own written low high before after = (j : ℕ) → Decides (is_among after j) ((is_among before j ≡ true) ⊎ IsToldBy known own written low high j)
+
 abbrev pub AddsTold : Uses → List Span → Bool → ℕ → ℕ → List ℕ → List ℕ → Type 0
-AddsTold u own written low high before after = (j : ℕ) → Decides (is_among after j) ((is_among before j ≡ true) ⊎ IsToldOf u own written low high j)
+AddsTold u own written low high before after = AddsToldBy (known_at u) own written low high before after
 
 -- whether a range has the number that only reads it
 abbrev pub read_by : List Span → ℕ → Bool
@@ -90,7 +117,7 @@ WaitsIn all k written low high j = (b : ℕ) × (within low high b ≡ true) × 
     × ((written ≡ true) ⊎ (written_by (all j) b ≡ true))
 
 -- all numbers of a range have one writer, one latest read, and some ranges write all of them or none
-pub record IsPart (u : Uses) (own : List Span) (low high : ℕ) : Type 0 where
+pub record IsPart (u : RangeUses) (own : List Span) (low high : ℕ) : Type 0 where
   pub writers : IsLevel u.writers low high
   pub readers : IsLevel u.readers low high
   pub same : (b : ℕ) → within low high b ≡ true → written_by own b ≡ written_by own low

@@ -2,7 +2,7 @@
 use Rattle.std.specs.Prelude.{◌≡◌, ℕ, suc, ◌<◌, ◌-◌, ◌*◌, Bool, true, ◌&&◌, ◌⊎◌, List, Some, slice_index_or}
 use Rattle.std.specs.List.{All, list_any, sum_by}
 use Rattle.use_line.specs.Spans.{within}
-use Rattle.use_line.specs.Known.{IsToldOf, Uses, is_among, readers_at}
+use Rattle.use_line.specs.Known.{IsToldBy, RangeUses, is_among, range_at, readers_at}
 use Rattle.use_line.specs.declared.clip.Clip.{Clip}
 use Rattle.use_line.specs.declared.line.Span.{Span}
 use Rattle.use_line.specs.declared.read.Read.{Read}
@@ -39,6 +39,6 @@ IsNext q c low =
     d ≡ slice_index_or q 0 d
 
 -- of the numbers of a range, those whom a use waits for are told or due, beside those before
-abbrev pub AddsDue : Uses → List Span → Bool → ℕ → ℕ → List ℕ → List Clip → List ℕ → List Clip → Type 0
+abbrev pub AddsDue : RangeUses → List Span → Bool → ℕ → ℕ → List ℕ → List Clip → List ℕ → List Clip → Type 0
 AddsDue u own written low high told q told₁ q₁ = (j : ℕ)
-    → (Due u.reads told₁ q₁ j → Due u.reads told q j ⊎ IsToldOf u own written low high j) × (Due u.reads told q j ⊎ IsToldOf u own written low high j → Due u.reads told₁ q₁ j)
+    → (Due u.reads told₁ q₁ j → Due u.reads told q j ⊎ IsToldBy (range_at u) own written low high j) × (Due u.reads told q j ⊎ IsToldBy (range_at u) own written low high j → Due u.reads told₁ q₁ j)

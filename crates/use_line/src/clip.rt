@@ -73,8 +73,8 @@ pub(crate) fn add_older(
 {
     let mut end = high;
     while low < end {
-        let start = older.start(low, end);
-        if let Some(read) = older.value(start) {
+        let (start, value) = older.last_part(low, end);
+        if let Some(read) = value {
             queue.push(Clip {
                 read,
                 low: start,

@@ -3,7 +3,9 @@
 
 mod clip;
 mod line;
+mod ranges;
 mod read;
+mod spots;
 mod steps;
 
 pub use line::{Line, Span};

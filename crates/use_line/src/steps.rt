@@ -1,5 +1,5 @@
 //! A value for each number, kept by the numbers at which it changes.
-ghost use Rattle.std.specs.Prelude.{◌≡◌, ◌<◌, ◌≤◌, ℕ, [], true, false, IfOk, OnOk, MatchOption};
+ghost use Rattle.std.specs.Prelude.{◌≡◌, ◌<◌, ◌≤◌, ℕ, [], true, false, None, IfOk, OnOk, MatchOption};
 ghost use Rattle.std.specs.Result.{OnErr};
 ghost use Rattle.use_line.specs.Steps.{HasSet, IsCopy, IsLevel, NoneInside, has_key, step_at};
 
@@ -34,12 +34,16 @@ impl Steps {
         }
     }
 
-    /// The value of a number.
-    pub(crate) fn value(&self, at: u128) -> Option<u32>
-        ensures { result ≡ step_at self.now at }
+    /// The last key up to a number, and what stands there.
+    fn last_up_to(&self, at: u128) -> Option<(u128, Option<u32>)>
+        ensures { MatchOption result
+            ((b : ℕ) → b ≤ at → (has_key self.now b ≡ false) × (step_at self.now b ≡ None))
+            (λ e. (e.0 ≤ at) × (has_key self.now e.0 ≡ true)
+            × ((b : ℕ) → e.0 < b → b ≤ at → has_key self.now b ≡ false)
+            × ((b : ℕ) → e.0 ≤ b → b ≤ at → step_at self.now b ≡ e.1)) }
     {
         match self.entries.range(..=at).next_back() {
-            Some((_, value)) => *value,
+            Some((key, value)) => Some((*key, *value)),
             None => None,
         }
     }
@@ -58,16 +62,29 @@ impl Steps {
         }
     }
 
-    /// From where on all numbers of a range up to its end have one value.
-    pub(crate) fn start(&self, low: u128, high: u128) -> u128
+    /// From where on all numbers of a range up to its end have one value, and which.
+    pub(crate) fn last_part(&self, low: u128, high: u128) -> (u128, Option<u32>)
         requires { low < high }
-        ensures from { low ≤ result }
-        ensures to { result < high }
-        ensures level { IsLevel self.now result high }
+        ensures from { low ≤ result.0 }
+        ensures to { result.0 < high }
+        ensures level { IsLevel self.now result.0 high }
+        ensures value { result.1 ≡ step_at self.now result.0 }
     {
-        match self.entries.range(low..high).next_back() {
-            Some((key, _)) => *key,
-            None => low,
+        match self.last_up_to(high - 1) {
+            Some((key, value)) => (key.max(low), value),
+            None => (low, None),
+        }
+    }
+
+    /// The value of a number, unless a key begins there.
+    fn value_between(&self, at: u128) -> Option<Option<u32>>
+        ensures { MatchOption result (has_key self.now at ≡ true)
+            (λ value. (has_key self.now at ≡ false) × (value ≡ step_at self.now at)) }
+    {
+        match self.last_up_to(at) {
+            Some((key, _)) if key == at => None,
+            Some((_, value)) => Some(value),
+            None => Some(None),
         }
     }
 
@@ -76,10 +93,9 @@ impl Steps {
         ensures same { OnOk result ((b : ℕ) → step_at self.new b ≡ step_at self.old b) }
         ensures key { OnOk result (has_key self.new at ≡ true) }
     {
-        if self.entries.contains_key(&at) {
+        let Some(value) = self.value_between(at) else {
             return Ok(());
-        }
-        let value = self.value(at);
+        };
         self.entries.insert(at, value)?;
         Ok(())
     }
@@ -112,11 +128,24 @@ impl Steps {
         ensures { OnOk result (HasSet self.old self.new low high value) }
     {
         self.split_at(high)?;
-        while let Some(key) = self.last_between(low, high) {
+        while let Some(key) = self.last_between(low + 1, high) {
             self.entries.remove(&key);
         }
         self.entries.insert(low, value)?;
         Ok(())
+    }
+
+    /// Takes the values of the numbers of a range away.
+    pub(crate) fn clear(&mut self, low: u128, high: u128) -> Result<(), AllocError>
+        requires { low < high }
+        ensures set { OnOk result (HasSet self.old self.new low high None) }
+        ensures none { OnErr result (self.new ≡ []) }
+    {
+        let (start, value) = self.last_part(low, high);
+        if start == low && value.is_none() {
+            return Ok(());
+        }
+        self.set(low, high, None)
     }
 
     /// The values of the numbers of a range: no other number has one.
@@ -127,8 +156,7 @@ impl Steps {
         let mut copy = Steps::new(alloc);
         let mut end = high;
         while low < end {
-            let start = self.start(low, end);
-            let value = self.value(start);
+            let (start, value) = self.last_part(low, end);
             if value.is_some() {
                 copy.set(start, end, value)?;
             }

@@ -15,10 +15,10 @@ loop-end-preserved-in_ok-push c =
     let mid = heap_items c.loop-end.queue in
     let more = heap_items c.push.new.self in
     let inv = c.loop-end.invariant in
-    let s = c.start-start.ensures in
-    let start : ℕ = c.start-start.result in
+    let s = c.last_part-start.ensures in
+    let start : ℕ = c.last_part-start.result.0 in
     let i : ℕ = c.in-Some.read in
-    let is = sym c.value.ensures ∙ c.in-Some.is in
+    let is = sym s.value ∙ c.in-Some.is in
     let p = c.in_ok-push.ensures.permutation in
     record {
       from = s.from;
@@ -34,9 +34,9 @@ loop-end-preserved c =
     let q = heap_items c.args.queue.now in
     let mid = heap_items c.loop-end.queue in
     let inv = c.loop-end.invariant in
-    let s = c.start-start.ensures in
-    let start : ℕ = c.start-start.result in
-    let none = sym c.value.ensures ∙ c.in_default.is in
+    let s = c.last_part-start.ensures in
+    let start : ℕ = c.last_part-start.result.0 in
+    let none = sym s.value ∙ c.in_default.is in
     record {
       from = s.from;
       to = omega (arith, s.to, inv.to);

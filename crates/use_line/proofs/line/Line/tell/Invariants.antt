@@ -1,19 +1,14 @@
-use Rattle.std.proofs.Common.{◌≡◌, ◌≤◌, ◌⊎◌, ℕ, true, length}
-use Rattle.std.specs.BinaryHeap.{heap_items}
-use Rattle.use_line.specs.Known.{IsToldOf, is_among}
-use Rattle.use_line.specs.Queue.{AreBelow, AreFilled, Due}
+use Rattle.std.proofs.Common.{◌≤◌, ◌-◌}
+use Rattle.use_line.specs.Known.{AddsTold}
 use Rattle.use_line.proofs.line.Line.tell.Given as goal
 
--- those of the parts from here on are told, or due
-abbrev pub invariant-loop-end : goal.invariant-loop-end
-invariant-loop-end l = record {
-  from : l.span.low ≤ l.end;
-  to : l.end ≤ l.span.high;
-  filled : AreFilled (heap_items l.queue);
-  below : AreBelow (length l.self.reads) (heap_items l.queue);
-  due : (j : ℕ) → (Due l.self.reads l.told.items (heap_items l.queue) j → (is_among l.fn.told.items j ≡ true) ⊎ IsToldOf l.self l.own l.span.written l.end l.span.high j)
-      × ((is_among l.fn.told.items j ≡ true) ⊎ IsToldOf l.self l.own l.span.written l.end l.span.high j → Due l.self.reads l.told.items (heap_items l.queue) j);
+-- those of the numbers so far are told
+abbrev pub invariant-loop-number : goal.invariant-loop-number
+invariant-loop-number l = record {
+  from : l.span.low ≤ l.number;
+  to : l.number ≤ l.span.high;
+  told : AddsTold l.self l.own l.span.written l.span.low l.number l.fn.told.items l.told.items;
 }
 
-abbrev pub decreases-loop-end : goal.decreases-loop-end
-decreases-loop-end l = l.end
+abbrev pub decreases-loop-number : goal.decreases-loop-number
+decreases-loop-number l = l.span.high - l.number

@@ -19,7 +19,7 @@ loop-key-preserved c =
     let last = rw (← c.self.view_is) at c.loop-key.invariant.last in
     record {
       last = rw c.remove.ensures.entries (keys_cut k es c.args.high (λ e. omega (arith, e, found.1)) ∙ last);
-      outside = λ b out. rw c.remove.ensures.entries (cut_at k c.args.high found.1 None es b c.self.invariant found.2 last (grind (arith, nat_tests, found.0)) ∙ (rw c.self.view_is (c.loop-key.invariant.outside b out)));
+      outside = λ b out. rw c.remove.ensures.entries (cut_at k c.args.high found.1 None es b c.self.invariant found.2 last (let above = found.0 in grind (arith, nat_tests, above)) ∙ (rw c.self.view_is (c.loop-key.invariant.outside b out)));
     }
 
 pub loop-key-smaller : goal.loop-key-smaller
@@ -36,7 +36,7 @@ returns c = λ b.
     let last = rw (← c.self-2.view_is) at c.loop-key.invariant.last in
     let none = rw (← c.self-2.view_is) at c.in_default.ensures in
     rw c.in_ok-insert.ensures.entries (put_at c.args.low c.args.high c.requires c.args.value None es b c.self-2.invariant
-    (none c.args.low (omega arith) c.requires) last (λ k more under. none k (omega (arith, more)) under)
+    last (λ k more under. none k (omega (arith, more)) under)
     ∙ (elim (cases_Bool (within c.args.low c.args.high b)) [
       | inl t ↦ rw t refl
       | inr f ↦ rw f (rw c.self-2.view_is (c.loop-key.invariant.outside b f))

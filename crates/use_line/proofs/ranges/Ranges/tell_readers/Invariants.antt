@@ -1,7 +1,7 @@
 use Rattle.std.proofs.Common.{ℕ, length}
 use Rattle.std.specs.BinaryHeap.{heap_items}
 use Rattle.use_line.specs.Queue.{AreBelow, AreFilled, Due, weight}
-use Rattle.use_line.proofs.line.Line.tell_readers.Given as goal
+use Rattle.use_line.proofs.ranges.Ranges.tell_readers.Given as goal
 
 -- the same are told or due
 abbrev pub invariant-loop-clip : goal.invariant-loop-clip

@@ -2,7 +2,7 @@ use Rattle.std.proofs.Common.{add-one, arith, length, subst, take, ◌≡◌, �
 use Rattle.std.proofs.Math.Seq.{take-length}
 use Rattle.use_line.specs.declared.line.Span.{Span}
 use Rattle.use_line.proofs.Telling.{AreOutside, IsOutside, all_next, later, outside_same, outside_up}
-use Rattle.use_line.proofs.line.last_edge.Goals as goal
+use Rattle.use_line.proofs.ranges.last_edge.Goals as goal
 
 pub loop-span-preserved : goal.loop-span-preserved
 loop-span-preserved c =

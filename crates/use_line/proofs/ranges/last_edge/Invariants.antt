@@ -1,6 +1,6 @@
 use Rattle.std.proofs.Common.{◌<◌, ◌≤◌, take}
 use Rattle.use_line.proofs.Telling.{AreOutside}
-use Rattle.use_line.proofs.line.last_edge.Given as goal
+use Rattle.use_line.proofs.ranges.last_edge.Given as goal
 
 -- none of the ranges so far begins or ends past the edge
 abbrev pub invariant-loop-span : goal.invariant-loop-span
