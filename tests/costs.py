@@ -28,7 +28,7 @@ FEW_PAIRS = (
     *(("workloads.py {}".format(it), 30_000) for it in ("pages {} 1", "files {} 1")),
     ("workloads.py big {} 1", 2_000),
 )
-MOST_BESIDE_SERIAL, MOST_OF_TEN = 60, 40
+MOST_BESIDE_SERIAL, MOST_OF_TEN = 30, 40
 # How many reads lie within each other, in how many KiB of memory their dependencies are told, and how many times the processor time of as
 # many that lie side by side that may take.
 NESTED, NESTED_MEMORY, MOST_NESTED = 10_000, 100_000, 3
