@@ -15,7 +15,7 @@ POSITION = (1 << 64) - 1
 START = AT_FDCWD & 0xFFFFFFFF
 WINDOW = ["--window", "4096"]
 # How many mixes are drawn, in how many lots, of how many entries; and the seconds of processor time that one may take, which are up
-# to 0.7 and 1.5. With each place that rests on none looked at in each round such a mix took `compare` 54.
+# to 0.95 and 2.2 of 200 mixes. With each place that rests on none looked at in each round such a mix took `compare` 54.
 MIXES, LOTS, ENTRIES = 20, 4, 4_000
 MOST_OF_MIX = {"compare": 5.0, "rounds": 10.0}
 # How many seconds a trace may take in which steps wait in a way of its own, which is up to 0.1 and 0.3; it was 3 to 10, and over 7.
