@@ -107,8 +107,10 @@ static void say_opcodes(void)
 {
 	say("%-12s %8s %12s %9s %9s %9s us", "", "entries", "bytes", "50%", "99%", "99.9%");
 	for (u32 opcode = 0; opcode < OPCODES; opcode++) {
+		if (!name_of_opcode(opcode))
+			continue;
 		struct figures it = figures_of(opcode);
-		if (it.count && name_of_opcode(opcode))
+		if (it.count)
 			say("%-12s %8" PRIu64 " %12" PRIu64 " %9.1f %9.1f %9.1f",
 			    name_of_opcode(opcode), it.count, it.bytes,
 			    microseconds(at_share(&it, 500)), microseconds(at_share(&it, 990)),
@@ -162,8 +164,10 @@ static void write_opcodes(void)
 
 	fputs("\"opcodes\":{", messages);
 	for (u32 opcode = 0; opcode < OPCODES; opcode++) {
+		if (!name_of_opcode(opcode))
+			continue;
 		struct figures it = figures_of(opcode);
-		if (it.count && name_of_opcode(opcode)) {
+		if (it.count) {
 			fprintf(messages,
 				"%s\"%s\":{\"entries\":%" PRIu64 ",\"bytes\":%" PRIu64 ",", before,
 				name_of_opcode(opcode), it.count, it.bytes);

@@ -39,8 +39,9 @@ static u64 *later_from;
 static u32 *later;
 /* Those that wait for none any more: a heap, the first of the trace on top. */
 static u32 *ready, ready_count;
-/* Those that are in flight; and those that go on only where nothing is. */
-static u32 *flying, flying_count;
+/* What is in flight; and the units that go on only where nothing is. */
+static struct piece **flying;
+static u32 flying_count;
 static u32 *quiet, quiet_count;
 /* Of each ring: entries that are filled and not submitted, and those that may still post. */
 static u32 filled[MOST_RINGS], reserved[MOST_RINGS];
@@ -194,9 +195,11 @@ static void fly(u32 number, const struct part *part)
 	struct piece *piece = fill_piece(part->first, part->count, is_without, filled[ring]);
 
 	units[number].piece = piece;
+	piece->owner = number;
+	piece->index = flying_count;
 	filled[ring] += piece->sent;
 	reserved[ring] += piece->sent;
-	flying[flying_count++] = number;
+	flying[flying_count++] = piece;
 }
 
 /* Goes on with a unit, of which nothing is in flight, as far as that can be; false where there is
@@ -276,29 +279,44 @@ static void land(u32 number)
 	add_ready(number);
 }
 
-/* Takes those that have ended from what is in flight. */
-static void land_some(bool is_look)
+/* Takes a piece that has ended from what is in flight. */
+static void bring_down(struct piece *piece)
 {
-	u32 kept = 0, count = flying_count;
-	u64 time = is_look ? play_time() : 0;
+	reserved[piece->first->ring] -= piece->sent;
+	flying[piece->index] = flying[--flying_count];
+	flying[piece->index]->index = piece->index;
+	piece->is_over = true;
+	if (is_any_to_mend(piece))
+		quiet[quiet_count++] = piece->owner;
+	else
+		land(piece->owner);
+}
 
-	for (u32 at = 0; at < count; at++) {
-		struct piece *piece = units[flying[at]].piece;
-		if (is_look && !piece->is_over && is_silent_long(piece, time)) {
-			piece->is_over = true;
-			counts.unsaid++;
-		}
-		if (!piece->is_over) {
-			flying[kept++] = flying[at];
+/* Takes those that have ended from what is in flight; true where there were some. */
+static bool bring_down_ended(void)
+{
+	struct piece *piece = take_ended();
+	bool is_any = piece != NULL;
+
+	for (; piece; piece = take_ended())
+		bring_down(piece);
+	return is_any;
+}
+
+/* Takes those that have ended in silence, now and then. */
+static void bring_down_silent(void)
+{
+	u64 time = play_time();
+
+	if (time - looked_at < LOOK_AGAIN)
+		return;
+	looked_at = time;
+	for (u32 at = flying_count; at-- > 0;) {
+		if (!is_silent_long(flying[at], time))
 			continue;
-		}
-		reserved[piece->first->ring] -= piece->sent;
-		if (is_any_to_mend(piece))
-			quiet[quiet_count++] = flying[at];
-		else
-			land(flying[at]);
+		counts.unsaid++;
+		bring_down(flying[at]);
 	}
-	flying_count = kept;
 }
 
 /* Goes on with what waited for a moment in which nothing is in flight. */
@@ -340,23 +358,17 @@ static u64 until_due(void)
 /* Takes what has come, or waits until something has; gives up where nothing comes. */
 static void wait_for_some(void)
 {
-	u32 before = flying_count;
-
 	hear_all();
-	land_some(false);
-	if (flying_count < before || (!flying_count && next_due == NO_TIME))
+	if (bring_down_ended() || (!flying_count && next_due == NO_TIME))
 		return;
 	wait_for_any(reserved, until_due());
 	hear_all();
-	u64 time = play_time();
-	bool is_look = time - looked_at >= LOOK_AGAIN;
-	if (is_look)
-		looked_at = time;
-	land_some(is_look);
+	bring_down_ended();
+	bring_down_silent();
 	if (!flying_count)
-		heard_last = time;
-	if (time - heard_last >= options.patience * SECOND) {
-		say("place %u has not ended in %u seconds", units[flying[0]].piece->first->place,
+		heard_last = play_time();
+	if (play_time() - heard_last >= options.patience * SECOND) {
+		say("place %u has not ended in %u seconds", flying[0]->first->place,
 		    options.patience);
 		give_up();
 	}

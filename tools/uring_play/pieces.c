@@ -22,6 +22,7 @@ struct counts counts;
 
 static struct piece *pieces;
 static u32 *free_pieces, free_count; /* numbers of those that are not in use */
+static struct piece *ended;	     /* those that have ended and were not taken */
 static u64 last_number;		     /* of the NOPs behind pieces */
 static u64 began_at;		     /* by the clock */
 static u64 heard_at;		     /* when completions were taken last */
@@ -56,6 +57,24 @@ static bool is_refused(const struct piece *piece)
 		result == -ENOENT || result == -ENAMETOOLONG);
 }
 
+static void end_if(struct piece *piece, bool is_over)
+{
+	if (!is_over || piece->is_over)
+		return;
+	piece->is_over = true;
+	piece->next_ended = ended;
+	ended = piece;
+}
+
+struct piece *take_ended(void)
+{
+	struct piece *piece = ended;
+
+	if (piece)
+		ended = piece->next_ended;
+	return piece;
+}
+
 /* What a completion says of its piece. Where the member that breaks a chain may be silent, the
  * others are, and so is the NOP. */
 static void hear(struct piece *piece, const struct entry *entry)
@@ -66,14 +85,13 @@ static void hear(struct piece *piece, const struct entry *entry)
 	piece->posted++;
 	piece->heard_at = heard_at;
 	if (!piece->has_silent)
-		piece->is_over |= piece->posted == piece->count;
+		end_if(piece, piece->posted == piece->count);
 	if (!may_be_silent)
 		return;
 	bool is_soft = is_failure(entry, entry->result) && !is_last && !(entry->sqe[1] & FLAG_HARD);
-	piece->is_over |= is_soft && surely_breaks(entry);
+	end_if(piece, is_soft && surely_breaks(entry));
 	piece->is_heard |= is_soft || !entry->is_expected;
-	if (entry == piece->first && is_refused(piece))
-		piece->is_over = true;
+	end_if(piece, entry == piece->first && is_refused(piece));
 }
 
 /* The NOP behind a piece: its number has the piece's own in its low bits. */
@@ -81,7 +99,7 @@ static void hear_end(u64 number)
 {
 	struct piece *piece = &pieces[(number - OF_END) % MOST_AT_ONCE];
 
-	piece->is_over |= piece->first && piece->end_number == number;
+	end_if(piece, piece->first && piece->end_number == number);
 }
 
 static void take_completion(const struct io_uring_cqe *it)

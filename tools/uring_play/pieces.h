@@ -26,7 +26,9 @@ struct piece {
 	bool is_doomed;	 /* by the answers no member runs */
 	bool is_heard;	 /* a member that may be silent was not, and may have ended it */
 	u64 end_number;
-	u64 heard_at; /* when it was submitted, or something of it came last */
+	u64 heard_at;	  /* when it was submitted, or something of it came last */
+	u32 owner, index; /* of flight.c: whose it is, and where it stands there */
+	struct piece *next_ended;
 };
 
 /* Makes room for so many pieces at once; times are told from now on. */
@@ -36,6 +38,9 @@ u64 play_time(void);
 /* Fills the queue of its ring behind the first `filled` entries. A piece with members that may be
  * silent has a NOP behind it, unless the queue is too short. */
 struct piece *fill_piece(struct entry *first, u32 count, bool is_doomed, u32 filled);
+/* Takes a piece that has ended, as a completion told, and was not taken before; NULL if there is
+ * none. */
+struct piece *take_ended(void);
 /* Whether a piece is taken as ended since for a while nothing has come that might. */
 bool is_silent_long(const struct piece *piece, u64 time);
 /* Looks at what came of each member of a piece that has ended, and lets go of it. */

@@ -49,6 +49,7 @@ static void play_members(struct entry *first, u32 count, bool is_left)
 	struct piece *piece = fill_piece(first, count, is_doomed(first, count), 0);
 	submit(first->ring, piece->sent);
 	wait_for_piece(piece);
+	take_ended();
 	end_piece(piece);
 }
 
