@@ -239,10 +239,11 @@ SPACED, MILLISECONDS = 12, 15
 
 def spaced() -> Tuple[bytes, bytes]:
     """A trace of reads, and results in which one is submitted each 15 milliseconds, the third of them a chain, and the last without a time."""
-    entries = [entry(READ, FIXED_FILE, length=4)] * 2 + [entry(READ, FIXED_FILE | LINK, length=4)] + [entry(READ, FIXED_FILE, length=4)] * (SPACED - 3)
+    entries = [entry(READ, FIXED_FILE, length=4)] * 2 + [entry(READ, FIXED_FILE | LINK, length=4)] + [entry(READ, FIXED_FILE, length=4)] * (SPACED - 4)
+    entries.append(entry(READ, FIXED_FILE, length=4, user_data=(1 << 64) - 1))
     trace = head(1, 1, 1, 1) + file(b"/a", 10, b"0123456789") + description(1) + ring([1]) + enter(0, entries)
     lines = [b"%d user=0 res=4 posted op=22 submitted=%d completed=1" % (it, 7_000 + it * MILLISECONDS * 1_000_000) for it in range(SPACED - 1)]
-    return trace, b"\n".join([b"uring-report 1", b"ring 0", *lines, b"%d user=0 op=22" % (SPACED - 1), b"end", b""])
+    return trace, b"\n".join([b"uring-report 1", b"ring 0", *lines, b"%d user=18446744073709551615 op=22" % (SPACED - 1), b"end", b""])
 
 
 def paced(player: Player, program: Program) -> List[Outcome]:
@@ -341,11 +342,30 @@ def on_less(player: Player, program: Program) -> List[Outcome]:
     told = [sum(b" res=64 posted" in it for it in lines) == 1, sum(b" silent " in it for it in lines) == 1, got.output.count(b"outside=stuck") == 14]
     is_well = got.status == 3 and all(told) and b" not ended in 1 second" in got.errors and got.output.endswith(b"\nend\n")
     outcomes.append(Outcome("flight: entries that never end", None if is_well else shown(got)))
+    for label, texts in (("in flight", depends), ("one chain at a time", b"")):
+        late, never = (player.with_less(busy=it).steered(trace, report, [], b"", "", texts) for it in (3, 10**6))
+        fault = against(program, report, late).fault or (None if never.status == 3 and b"the kernel took 0 of " in never.errors else shown(never))
+        outcomes.append(Outcome("flight: a kernel that is busy, {}".format(label), fault))
     plain = against(program, report, player.steered(trace, report, ["--no-nodes"], b"", "", depends))
     outcomes.append(Outcome("flight: without nodes", plain.fault, plain.untried))
     few = Program(player.program, "").run(["-q", "-d", player.folder.name, os.path.join(EXAMPLES, "read_four_bytes.trace")], b"", shell='ulimit -n 40; exec "$@"')
     outcomes.append(Outcome("flight: too few descriptors", None if few.status == 3 and b"too few" in few.errors else shown(few)))
     return outcomes
+
+
+def made_up_for(player: Player, program: Program) -> List[Outcome]:
+    """What a kernel lacks is made up for where it belongs: between what it waits for and what waits for it."""
+    faults, count = [], 0
+    for seed in range(12):
+        trace = (Wide if seed % 2 else play.Played)(seed).trace()
+        report, depends = (program.run(it, trace).output for it in (["serial", "--sums"], ["depends"]))
+        lacking = [word for it in play.UNCOUNTED for word in ("--lacking", str(it))]
+        got = player.steered(trace, report, ["--async", *lacking], b"", player.directories()[0], depends)
+        plain = got._replace(errors=b"")  # (what lacks is told, unless the player is quiet)
+        found = against(program, report, plain)
+        count += found.words.count("lacks")
+        faults += ["{}: {}".format(seed, found.fault)] if found.fault else []
+    return [Outcome("flight: what a kernel lacks", first(faults) or (None if count > 100 else "only {} lack".format(count)))]
 
 
 def full_table(player: Player, program: Program) -> List[Outcome]:
@@ -394,7 +414,7 @@ def jobs(programs: List[Program]) -> List[Job]:
     if lacking:
         return [lambda: skipped("the player in flight", lacking)]
     program = programs[0]
-    each: Sequence[Callable[[Player, Program], List[Outcome]]] = (planted, wide, at_once, texts, words, on_less, full_table, paced, wrong_times, summed_up)
+    each: Sequence[Callable[[Player, Program], List[Outcome]]] = (planted, wide, at_once, texts, words, on_less, made_up_for, full_table, paced, wrong_times, summed_up)
     found: List[Job] = [partial(it, player, program) for it in each]
     found += [partial(passed_through, player, program, it) for it in ((), ("cached",), ("writeback", "cached"))]
     found += [partial(crowded, player, program, seed) for seed in range(4)]

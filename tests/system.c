@@ -1,6 +1,7 @@
 /* Between the player and the C library, a system that gives less: cc -shared -fPIC -o system.so system.c -ldl; LD_PRELOAD=./system.so PROGRAM ..
  *
  * SYSTEM_STUCK_AT=N: the Nth call of io_uring_enter(2) that submits says so and does not, so that its entries never end.
+ * SYSTEM_BUSY=N: the first N calls of io_uring_enter(2) that submit fail with EAGAIN.
  * SYSTEM_RINGS=ERROR: io_uring_setup(2) fails with the error.
  * SYSTEM_LACKING=N: the kernel says that it does not serve the opcode N (IORING_REGISTER_PROBE).
  * SYSTEM_THREADS=1: the kernel refuses entries with IOSQE_ASYNC (EINVAL).
@@ -79,7 +80,7 @@ static void refuse_threads(void)
 long syscall(long number, ...)
 {
     static long (*real)(long, ...);
-    static long submissions;
+    static long submissions, busy;
     long words[6], result;
     va_list list;
 
@@ -93,6 +94,8 @@ long syscall(long number, ...)
         refuse_threads();
     if (number == SYS_io_uring_setup && setting("SYSTEM_RINGS"))
         return fail(setting("SYSTEM_RINGS"));
+    if (number == SYS_io_uring_enter && (unsigned)words[1] && busy++ < setting("SYSTEM_BUSY"))
+        return fail(EAGAIN);
     if (number == SYS_io_uring_enter && (unsigned)words[1] && ++submissions == setting("SYSTEM_STUCK_AT"))
         return words[1];
     result = real(number, words[0], words[1], words[2], words[3], words[4], words[5]);

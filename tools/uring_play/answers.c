@@ -90,9 +90,10 @@ static bool number_of(const char *line, const char *end, const char *name, u64 *
 	if (!at || *at < '0' || *at > '9')
 		return false;
 	for (; at < end && *at >= '0' && *at <= '9'; at++) {
-		if (value > UINT64_MAX / 10 - 1)
+		u64 digit = (u64)(*at - '0');
+		if (value > (UINT64_MAX - digit) / 10)
 			return false;
-		value = 10 * value + (u64)(*at - '0');
+		value = 10 * value + digit;
 	}
 	*number = value;
 	return at == end || *at == ' ';

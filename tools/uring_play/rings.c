@@ -47,16 +47,21 @@ static void *map_part(const struct ring *ring, size_t size, u64 offset)
 	return part;
 }
 
+static void pause_for_a_while(void)
+{
+	const struct timespec a_while = { 0, 50000000 };
+
+	go_on();
+	nanosleep(&a_while, NULL);
+}
+
 /* Whether a call that wanted memory is to be tried again: what a user may lock is let go some time
  * after an earlier ring, or one of another program, has ended. */
 static bool is_tried_again(u32 *tries)
 {
-	const struct timespec a_while = { 0, 50000000 };
-
 	if (errno != ENOMEM || ++*tries > MOST_TRIES)
 		return false;
-	go_on();
-	nanosleep(&a_while, NULL);
+	pause_for_a_while();
 	return true;
 }
 
@@ -255,7 +260,8 @@ static int enter(const struct ring *ring, u32 count, u32 wanted, u64 nanoseconds
 		else
 			done = syscall(__NR_io_uring_enter, ring->descriptor, count, 0, 0, NULL, 0);
 	} while (done < 0 && errno == EINTR);
-	if (done < 0 && errno == ETIME)
+	bool is_later = count && (errno == EAGAIN || errno == EBUSY);
+	if (done < 0 && (errno == ETIME || is_later))
 		return 0;
 	if (done < 0)
 		die("io_uring_enter: %s", strerror(errno));
@@ -267,9 +273,15 @@ void submit(u32 number, u32 count)
 	struct ring *ring = &rings[number];
 
 	__atomic_store_n(ring->queue_tail, *ring->queue_tail + count, __ATOMIC_RELEASE);
-	int taken = enter(ring, count, 0, 0);
-	if ((u32)taken != count)
-		die("the kernel took %d of %u entries", taken, count);
+	u32 taken = 0;
+	/* One that took some has cut a chain, but one that took none may do so later. */
+	for (u32 tries = 0; !taken && tries <= MOST_TRIES; tries++) {
+		if (tries)
+			pause_for_a_while();
+		taken = (u32)enter(ring, count, 0, 0);
+	}
+	if (taken != count)
+		die("the kernel took %u of %u entries", taken, count);
 }
 
 static u32 completions_of(const struct ring *ring)
