@@ -208,19 +208,19 @@ def collected(player: Player, program: Program) -> List[Outcome]:
         outcomes.append(Outcome("uring_campaign: its counts", wrong_counts(page, jobs_)))
         found = sorted(it for it in os.listdir(os.path.join(folder, "found")) if it.endswith(".trace"))
         sizes = [places_in(program, play.read(os.path.join(folder, "found", it))) for it in found]
-        is_well = found and all(it.startswith("wrong.WRITE-N-posted-N-posted-") for it in found) and sizes == [1] and len(page.links) == 4
+        is_well = found and all(it.startswith("wrong.WRITE-N-posted-N-posted-") for it in found) and sizes == [1] and len(page.links) == 5
         outcomes.append(Outcome("uring_campaign: what differs is minimised and linked", None if is_well else "{} {} {}".format(found, sizes, page.links)))
     return outcomes
 
 
 def wrong_counts(page: Page, told_: Sequence[Dict]) -> Optional[str]:
     """What is wrong with the table by opcode, held against the jobs."""
-    rows = {row[0]: row[1:] for row in page.rows if len(row) == 7 and row[0].isupper()}
+    rows = {row[0]: row[1:] for row in page.rows if len(row) == 9 and row[0].isupper()}
     for column, system in enumerate(("right", "wrong")):
         each = [it for it in told_ if it["system"] == system]
         for opcode in {name for it in each for name in it["entries"]}:
             found = [it["entries"][opcode] for it in each if opcode in it["entries"]]
-            equal, different, outside = (rows.get(opcode) or ["", "", ""] * 2)[3 * column : 3 * column + 3]
+            equal, different, _, outside = (rows.get(opcode) or [""] * 8)[4 * column : 4 * column + 4]
             left = sum(int(it.split()[1]) for it in outside.split(", ") if it)
             wanted = (sum(it["equal"] for it in found), sum(it["different"] for it in found), sum(count for it in found for count in it["outside"].values()))
             if (int(equal or -1), int(different or -1), left) != wanted:

@@ -319,19 +319,18 @@ static void bring_down_silent(void)
 	}
 }
 
-/* Goes on with what waited for a moment in which nothing is in flight. */
+/* Where nothing is in flight, makes up for all that waited for such a moment. */
 static void use_quiet(void)
 {
-	u32 count = quiet_count;
-
-	if (flying_count)
-		return;
-	quiet_count = 0;
-	for (u32 at = 0; at < count; at++) {
-		if (units[quiet[at]].piece)
-			land(quiet[at]);
-		else
-			add_ready(quiet[at]);
+	while (quiet_count && !flying_count) {
+		u32 number = quiet[--quiet_count];
+		struct unit *unit = &units[number];
+		if (unit->piece) {
+			land(number);
+			continue;
+		}
+		look_at(parts[unit->next_part++].first);
+		add_ready(number);
 	}
 }
 
