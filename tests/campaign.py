@@ -112,7 +112,7 @@ def refusals(player: Player, program: Program) -> List[Outcome]:
         ("a refused trace", [*usual, *folder, os.path.join(EXAMPLES, "wrong_magic.trace"), made], 1), ("no trace", [*usual, *folder, "/nonexistent", made], 3),
         ("no replayer", [*usual, *folder, "--replayer", "/nonexistent", trace, made], 3), ("no player", [*usual, *folder, "--player", "/nonexistent", trace, made], 3),
         ("no directory", [*usual, "--directory", "/nonexistent", trace, made], 3), ("no words", [], 2), ("no tries", [*usual, "--tries", "0", trace, made], 2),
-        ("no time", [*usual, "--seconds", "0", trace, made], 2), ("a mode that is none", [*usual, "--mode", "x", trace, made], 2), ("help", ["--help"], 0),
+        ("itself", [*usual, *folder, trace, trace], 2), ("no time", [*usual, "--seconds", "0", trace, made], 2), ("a mode that is none", [*usual, "--mode", "x", trace, made], 2), ("help", ["--help"], 0),
         ("no io_uring", [*usual, *folder, "--player", untried(player), trace, made], 77),
     )
     outcomes = []
@@ -263,6 +263,14 @@ def campaign_words(player: Player, program: Program) -> List[Outcome]:
         got = ran([CAMPAIGN, *words])
         is_well = got.status == wanted and b"Traceback" not in got.errors and (wanted != 3 or got.errors.startswith(b"uring_campaign: "))
         outcomes.append(Outcome("uring_campaign {}".format(" ".join(os.path.basename(it) for it in words)), None if is_well else shown(got)))
+    for text in ("{", "[]", "{}", '{"system": "a", "mode": "chains", "plays": "x"}'):
+        with tempfile.TemporaryDirectory(dir=player.folder.name) as folder:
+            os.mkdir(os.path.join(folder, "jobs"))
+            with open(os.path.join(folder, "jobs", "a.json"), "w", encoding="utf-8") as opened:
+                opened.write(text)
+            got = ran([CAMPAIGN, "page", folder])
+            is_well = got.status == 3 and got.errors.endswith(b"a.json: it is not what a job has written\n")
+            outcomes.append(Outcome("uring_campaign page of {}".format(text), None if is_well else shown(got)))
     # A system whose plays fail is counted, and the rest goes on.
     lost = ran([CAMPAIGN, *("lost=/nonexistent/x" if it == place else it for it in one)])
     jobs_ = [json.loads(play.read(os.path.join(into, "jobs", it))) for it in os.listdir(os.path.join(into, "jobs")) if it.startswith("lost")]
