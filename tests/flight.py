@@ -126,6 +126,18 @@ def wide(player: Player, program: Program) -> List[Outcome]:
     return outcomes
 
 
+def great(player: Player, program: Program) -> List[Outcome]:
+    """Reads that ask for much at the end of a file, more of them than a process has mappings for: memory is waited for, in flight and in rounds."""
+    reads = [enter(0, [entry(READ, FIXED_FILE, offset=10, length=1 << 30)]) for _ in range(6_000)]
+    trace = head(1, 1, 1, len(reads)) + file(b"/a", 10, b"0123456789") + description(1) + ring([1]) + b"".join(reads)
+    report, rounds, depends = (program.run(it, trace).output for it in (["serial", "--sums"], ["rounds", "--window", "4096"], ["depends"]))
+    outcomes = []
+    for label, words, texts in (("in rounds", [], (rounds, b"")), ("in flight", ["--in-flight", "4096"], (b"", depends)), ("in threads", ["--in-flight", "4096", "--async"], (b"", depends))):
+        found = against(program, report, player.steered(trace, report, words, texts[0], "", texts[1]))
+        outcomes.append(Outcome("flight: great reads {}".format(label), found.fault, found.untried))
+    return outcomes
+
+
 def at_once(player: Player, program: Program) -> List[Outcome]:
     """As many as are asked for are in flight at once, and no more, by their times."""
     trace = shared_blocks()
@@ -414,7 +426,7 @@ def jobs(programs: List[Program]) -> List[Job]:
     if lacking:
         return [lambda: skipped("the player in flight", lacking)]
     program = programs[0]
-    each: Sequence[Callable[[Player, Program], List[Outcome]]] = (planted, wide, at_once, texts, words, on_less, made_up_for, full_table, paced, wrong_times, summed_up)
+    each: Sequence[Callable[[Player, Program], List[Outcome]]] = (planted, wide, great, at_once, texts, words, on_less, made_up_for, full_table, paced, wrong_times, summed_up)
     found: List[Job] = [partial(it, player, program) for it in each]
     found += [partial(passed_through, player, program, it) for it in ((), ("cached",), ("writeback", "cached"))]
     found += [partial(crowded, player, program, seed) for seed in range(4)]

@@ -19,7 +19,7 @@
 
 enum { ARENAS = 4, ARENA = 64 << 20, GREAT = 4 << 20, FOLDED = 64 << 20, PAGE = 4096 };
 /* A process has some 65,000 mappings at most, and a great read some 33. */
-enum { BEHIND_FIELDS = 48, CROWDED = 256, MODE_OF_FILES = 0644, MODE_OF_DIRECTORIES = 0755 };
+enum { BEHIND_FIELDS = 48, CROWDED = 64, MODE_OF_FILES = 0644, MODE_OF_DIRECTORIES = 0755 };
 /* Low enough that vectors of many bytes stay below the end of all addresses, where it is free. */
 #define LOW_ADDRESS ((u8 *)(1UL << 45))
 
@@ -90,7 +90,12 @@ u32 hold_memory(void)
 
 bool is_crowded(void)
 {
-	return is_full(&arenas[arena_number]) && is_full(&arenas[roomy()]);
+	return is_full(&arenas[arena_number]);
+}
+
+bool has_memory(void)
+{
+	return !is_full(&arenas[roomy()]);
 }
 
 void let_memory_go(u32 number)

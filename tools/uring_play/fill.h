@@ -15,7 +15,9 @@ void let_memory_go(u32 number);
 void fill_entry(struct entry *entry, struct io_uring_sqe *sqe);
 /* Keeps the first bytes that a played read brought. */
 void keep_data(struct entry *entry);
-/* Whether so much memory is in use that no more entries should be filled, where that can wait. */
+/* Whether so much of what is held is in use that no more entries should be filled with it, where
+ * that can wait; and whether there is more to be held. */
 bool is_crowded(void);
+bool has_memory(void);
 
 #endif

@@ -185,7 +185,7 @@ static bool has_room(const struct part *part)
 
 	return filled[ring] + most <= room_of(ring) &&
 	       reserved[ring] + most <= completion_room_of(ring) &&
-	       flying_count < options.in_flight && !is_crowded();
+	       flying_count < options.in_flight && has_memory();
 }
 
 static void fly(u32 number, const struct part *part)
