@@ -272,8 +272,9 @@ def paced(player: Player, program: Program) -> List[Outcome]:
         compared = against(program, report, got)
         fault = compared.fault or (None if not soon and starts[3] == starts[2] else "{} were too soon: {}".format(soon, starts))
         outcomes.append(Outcome("flight: at {}".format(label), fault, compared.untried))
-    quick = times(player.steered(trace, report, [], b"", "", depends).output)
-    fault = None if len(quick) == SPACED and quick[-1][0] < MILLISECONDS * 1_000_000 * SPACED else str(quick)
+    # A machine that does much else may hold a play up; so the quickest of some counts.
+    quick = min((times(player.steered(trace, report, [], b"", "", depends).output) for _ in range(5)), key=lambda it: it[-1])
+    fault = None if len(quick) == SPACED and quick[-1][0] < MILLISECONDS * 1_000_000 * (SPACED - 2) else str(quick)
     return [*outcomes, Outcome("flight: as soon as may be", fault)]
 
 
@@ -393,6 +394,25 @@ def full_table(player: Player, program: Program) -> List[Outcome]:
     return [Outcome("flight: a full table", first(faults))]
 
 
+def many_nodes(player: Player, program: Program) -> List[Outcome]:
+    """More new files than may be open: none is held any more, and none is told, but all else is as it must be."""
+    made = [enter(0, [entry(OPENAT, fd=AT_FDCWD, own_flags=0o102, file_index=1, side=b"/f%d" % it), entry(CLOSE, file_index=1)]) for it in range(400)]
+    trace = head(0, 0, 1, len(made)) + ring([0]) + b"".join(made)
+    report, depends = (program.run(it, trace).output for it in (["serial", "--sums"], ["depends"]))
+    outcomes = []
+    for limit in (200, 20_000):
+        paths = [os.path.join(player.folder.name, "nodes-{}".format(it)) for it in ("expected", "depends")]
+        for path, text in zip(paths, (report, depends)):
+            with open(path, "wb") as opened:
+                opened.write(text)
+        words = ["-q", "-d", player.folder.name, "-e", paths[0], "-D", paths[1]]
+        got = Program(player.program, "").run(words, trace, shell='ulimit -n {}; exec "$@"'.format(limit))
+        found, told = against(program, report, got), got.output.count(b" node=")
+        fault = found.fault or (None if told == (400 if limit > 400 else 0) else "{} nodes are told".format(told))
+        outcomes.append(Outcome("flight: new files, at most {} open".format(limit), fault, found.untried))
+    return outcomes
+
+
 def interrupted(player: Player, program: Program, number: int) -> List[Outcome]:
     """A signal in flight ends the player as it would; neither the directory nor the process that holds nodes stays."""
     reads = [enter(0, [entry(READ, FIXED_FILE, length=1 << 30)]) for _ in range(20_000)]
@@ -404,8 +424,11 @@ def interrupted(player: Player, program: Program, number: int) -> List[Outcome]:
             opened.write(text)
     command = [player.program, "-d", player.folder.name, "-e", paths[0], "-D", paths[1], "--async", paths[2]]
     started = subprocess.Popen(command, stdin=subprocess.DEVNULL, stdout=subprocess.DEVNULL, stderr=subprocess.PIPE)
-    time.sleep(2)
-    children = played_by(started.pid)
+    children, end = [], time.monotonic() + 60
+    while not children and time.monotonic() < end:
+        time.sleep(0.2)
+        children = played_by(started.pid)
+    time.sleep(1)
     started.send_signal(number)
     status = started.wait(60)
     said = started.stderr.read()
@@ -426,7 +449,7 @@ def jobs(programs: List[Program]) -> List[Job]:
     if lacking:
         return [lambda: skipped("the player in flight", lacking)]
     program = programs[0]
-    each: Sequence[Callable[[Player, Program], List[Outcome]]] = (planted, wide, great, at_once, texts, words, on_less, made_up_for, full_table, paced, wrong_times, summed_up)
+    each: Sequence[Callable[[Player, Program], List[Outcome]]] = (planted, wide, great, at_once, texts, words, on_less, made_up_for, full_table, many_nodes, paced, wrong_times, summed_up)
     found: List[Job] = [partial(it, player, program) for it in each]
     found += [partial(passed_through, player, program, it) for it in ((), ("cached",), ("writeback", "cached"))]
     found += [partial(crowded, player, program, seed) for seed in range(4)]
