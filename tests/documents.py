@@ -13,7 +13,7 @@ import needs
 from harness import EXAMPLES, TOP, Job, Outcome, Program, first, skipped
 
 # These have transcripts (```console), which are run; the README is for a first look, and short.
-RUN = ("README.md", "docs/GUIDE.md", "docs/PLAYING.md")
+RUN = ("README.md", "docs/GUIDE.md", "docs/PLAYING.md", "docs/FINDING.md")
 MOST_LINES = {"README.md": 150}
 # In these no sentence outside tables and code is longer.
 PLAIN = (
@@ -49,6 +49,8 @@ TOOLS = (("-luring", "liburing"), ("parallel ", "parallel"), ("dot -", "dot"), (
 FENCED = re.compile(r"^```(\w*)\n(.*?)^```$", re.S | re.M)
 LINK = re.compile(r"\[[^\]]*\]\(([^)#\s]+)(?:#[^)]*)?\)")
 CODE = re.compile(r"`([^`\n]+)`")
+# Words of commands that need the tools.
+OF_TOOLS = ("uring_record", "uring_play", "uring_minimise", "uring_campaign", "demo/lines")
 # A file of the repository: not a header of the kernel, and not one that a transcript makes.
 FILE = re.compile(r"(?<![\w-])(?!linux/|sys/|asm-generic/|demo/)\b[\w.-]+(?:/[\w.-]+)+\.(?:rt|antt|py|c|h|md|trace|txt)")
 # A name of the code, as documents write it: with an underscore, or Type::name.
@@ -232,7 +234,7 @@ def transcripts(name: str, program: Program) -> List[Outcome]:
             continue
         found = steps(body)
         reason = next((tool + " is not here" for it in found for word, tool in TOOLS if word in it.command and lacks(tool)), None)
-        if not reason and no_recorder and any("uring_record" in it.command or "uring_play" in it.command for it in found):
+        if not reason and no_recorder and any(word in it.command for it in found for word in OF_TOOLS):
             reason = no_recorder
         if not reason and is_lacking and "demo/" in body:
             reason = "an earlier transcript was skipped"
