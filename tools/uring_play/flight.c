@@ -303,12 +303,13 @@ static bool bring_down_ended(void)
 	return is_any;
 }
 
-/* Takes those that have ended in silence, now and then. */
+/* Takes those that have ended in silence, now and then. As long as anything comes, what is not
+ * heard may only be waiting. */
 static void bring_down_silent(void)
 {
 	u64 time = play_time();
 
-	if (time - looked_at < LOOK_AGAIN)
+	if (time - looked_at < LOOK_AGAIN || time - heard_last < 2 * LOOK_AGAIN)
 		return;
 	looked_at = time;
 	for (u32 at = flying_count; at-- > 0;) {
