@@ -163,7 +163,7 @@ class Page(html.parser.HTMLParser):
             self.faults.append("</{}> ends another".format(tag))
 
     def handle_data(self, data: str) -> None:
-        if self.open and self.open[-1] in ("td", "th"):
+        if "td" in self.open or "th" in self.open:
             self.rows[-1][-1] += data
 
     def close(self) -> None:
@@ -215,16 +215,19 @@ def collected(player: Player, program: Program) -> List[Outcome]:
 
 def wrong_counts(page: Page, told_: Sequence[Dict]) -> Optional[str]:
     """What is wrong with the table by opcode, held against the jobs."""
-    rows = {row[0]: row[1:] for row in page.rows if len(row) == 9 and row[0].isupper()}
+    rows = {row[0]: row[1:] for row in page.rows if len(row) == 3 and row[0].isupper()}
     for column, system in enumerate(("right", "wrong")):
         each = [it for it in told_ if it["system"] == system]
         for opcode in {name for it in each for name in it["entries"]}:
             found = [it["entries"][opcode] for it in each if opcode in it["entries"]]
-            equal, different, _, outside = (rows.get(opcode) or [""] * 8)[4 * column : 4 * column + 4]
-            left = sum(int(it.split()[1]) for it in outside.split(", ") if it)
+            text = (rows.get(opcode) or ["", ""])[column]
+            counts = re.match(r"(\d+) equal(?:, (\d+) different(?: \([\d ]+\))?)?(?:left out: (.*))?$", text)
+            if not counts:
+                return "{} on {}: {!r}".format(opcode, system, text)
+            left = sum(int(it.split()[1]) for it in (counts[3] or "").split(", ") if it)
             wanted = (sum(it["equal"] for it in found), sum(it["different"] for it in found), sum(count for it in found for count in it["outside"].values()))
-            if (int(equal or -1), int(different or -1), left) != wanted:
-                return "{} on {}: {} {} {}, wanted {}".format(opcode, system, equal, different, outside, wanted)
+            if (int(counts[1]), int(counts[2] or 0), left) != wanted:
+                return "{} on {}: {!r}, wanted {}".format(opcode, system, text, wanted)
         if (system == "wrong") != any(it["entries"].get("WRITE", {}).get("different") for it in each):
             return "{} has the other's writes".format(system)
     return None
