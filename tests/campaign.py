@@ -52,7 +52,7 @@ def places_in(program: Program, trace: bytes) -> int:
     return int(program.run(["check"], trace).output.split()[1])
 
 
-def minimised(player: Player, program: Program, name: str, trace: bytes, words: Sequence[str]) -> Tuple[Answer, Dict[str, bytes]]:
+def minimised(player: Player, program: Program, trace: bytes, words: Sequence[str]) -> Tuple[Answer, Dict[str, bytes]]:
     """Minimises a trace, and gives what was said and what was written."""
     with tempfile.TemporaryDirectory(dir=player.folder.name) as folder:
         given, made = os.path.join(folder, "given"), os.path.join(folder, "least.trace")
@@ -68,7 +68,7 @@ def least(player: Player, program: Program) -> List[Outcome]:
     outcomes, wrong = [], wrong_player(player)
     drawn = next(it for it in (play.Played(seed).trace() for seed in range(100)) if b" res=8 " not in told(program, it) and is_shown(program, it))
     for name, trace in (("fio", read("recorded", "fio_polled_queue_three_files.trace")), ("drawn", drawn)):
-        got, written = minimised(player, program, name, trace, ["--player", wrong])
+        got, written = minimised(player, program, trace, ["--player", wrong])
         if got.status:
             outcomes.append(Outcome("uring_minimise: {}".format(name), shown(got)))
             continue
@@ -97,7 +97,7 @@ def raced(player: Player, program: Program) -> List[Outcome]:
     with Passthrough(["planted"]) as there:
         if there.lacking:
             return skipped(name, there.lacking)
-        got, written = minimised(player, program, "race", flight.shared_blocks(), ["--mode", "flight", "--tries", "3", "--directory", there.mount])
+        got, written = minimised(player, program, flight.shared_blocks(), ["--mode", "flight", "--tries", "8", "--directory", there.mount])
     places = places_in(program, written["trace"]) if "trace" in written else 0
     is_well = got.status == 0 and 2 <= places < FEW and got.output.startswith(b"kept: file\n") and b" 1 different" in written["diff"]
     return [Outcome(name, None if is_well else "{} places, {}".format(places, shown(got)))]
