@@ -14,7 +14,7 @@ from harness import EXAMPLES, Job, Outcome, Program, first, shown, skipped
 from mounted import Passthrough
 from play_drawing import Wide
 from player import UNTRIED, Player, against
-from traces import CLOSE, DRAIN, FIXED_FILE, HARDLINK, LINK, NOP, OPENAT, READ, SKIP, WRITE, AT_FDCWD
+from traces import AT_FDCWD, CLOSE, DRAIN, FIXED_FILE, HARDLINK, LINK, MKDIRAT, NOP, OPENAT, READ, SKIP, WRITE
 from traces import description, enter, entry, fill, file, head, ring
 
 # A race has to be found in so many of so many plays.
@@ -394,6 +394,20 @@ def full_table(player: Player, program: Program) -> List[Outcome]:
     return [Outcome("flight: a full table", first(faults))]
 
 
+def slow_names(player: Player, program: Program) -> List[Outcome]:
+    """Where looking a name up takes long, an open holds its number for long: what the player opens itself takes none of the trace's."""
+    made = [entry(MKDIRAT, fd=AT_FDCWD, side=b"/d%d" % it) for it in range(24)]
+    opened = [it for _ in range(12) for it in (entry(OPENAT, fd=AT_FDCWD, side=b"/a"), entry(CLOSE, fd=1))]
+    steps = [enter(number, [it]) for pair in zip(made, opened) for number, it in enumerate(pair)]
+    trace = head(1, 1, 2, len(steps), 4, 2) + file(b"/a", 10, b"0123456789") + description(1) + struct.pack("<4I", 1, 0, 0, 0) + ring() * 2 + b"".join(steps)
+    report = program.run(["serial", "--sums"], trace).output
+    with Passthrough(["slow"]) as there:
+        if there.lacking:
+            return skipped("flight: slow names", there.lacking)
+        found = [player.compared(program, trace, report, "flight", there.mount) for _ in range(3)]
+    return [Outcome("flight: slow names", first([it.fault for it in found if it.fault]), first([it.untried for it in found if it.untried]))]
+
+
 def many_nodes(player: Player, program: Program) -> List[Outcome]:
     """More new files than may be open: none is held any more, and none is told, but all else is as it must be."""
     made = [enter(0, [entry(OPENAT, fd=AT_FDCWD, own_flags=0o102, file_index=1, side=b"/f%d" % it), entry(CLOSE, file_index=1)]) for it in range(400)]
@@ -449,7 +463,7 @@ def jobs(programs: List[Program]) -> List[Job]:
     if lacking:
         return [lambda: skipped("the player in flight", lacking)]
     program = programs[0]
-    each: Sequence[Callable[[Player, Program], List[Outcome]]] = (planted, wide, great, at_once, texts, words, on_less, made_up_for, full_table, many_nodes, paced, wrong_times, summed_up)
+    each: Sequence[Callable[[Player, Program], List[Outcome]]] = (planted, wide, great, at_once, texts, words, on_less, made_up_for, full_table, slow_names, many_nodes, paced, wrong_times, summed_up)
     found: List[Job] = [partial(it, player, program) for it in each]
     found += [partial(passed_through, player, program, it) for it in ((), ("cached",), ("writeback", "cached"))]
     found += [partial(crowded, player, program, seed) for seed in range(4)]

@@ -1,9 +1,10 @@
-/* A file system in user space that passes everything on to a folder: cc -pthread -o passthrough passthrough.c; ./passthrough FOLDER MOUNT [writeback] [cached] [planted]
+/* A file system in user space that passes everything on to a folder: cc -pthread -o passthrough passthrough.c; ./passthrough FOLDER MOUNT [writeback] [cached] [slow] [planted]
  *
  * It speaks the protocol of /dev/fuse (linux/fuse.h) itself, on eight threads, and needs no library. It says `mounted` once it is, and ends where it is
  * unmounted or its standard input ends.
  *
  * writeback: the kernel keeps what is written, and sends it later. cached: it keeps names and attributes for a second.
+ * slow: each look-up of a name takes two milliseconds, for which an open holds its number.
  * planted: two files share a block. A write to one of them reads what the other one has, sleeps, writes, and writes back what it has read; so a write to
  * the other one in between is lost. */
 #define _GNU_SOURCE
@@ -36,7 +37,7 @@ static struct node nodes[NODES];
 static uint64_t node_count = FUSE_ROOT_ID + 1;
 static pthread_mutex_t lock = PTHREAD_MUTEX_INITIALIZER;
 static int fuse, folder;
-static bool is_writeback, is_cached, is_planted;
+static bool is_writeback, is_cached, is_slow, is_planted;
 static const char *mount_point;
 
 struct request {
@@ -364,6 +365,8 @@ static bool serve_names(const struct request *it)
 
     switch (it->head->opcode) {
     case FUSE_LOOKUP:
+        if (is_slow)
+            usleep(2000);
         reply_entry(it, it->name, 0);
         return true;
     case FUSE_MKDIR:
@@ -511,11 +514,12 @@ int main(int count, char **words)
     for (int at = 3; at < count; at++) {
         is_writeback |= !strcmp(words[at], "writeback");
         is_cached |= !strcmp(words[at], "cached");
+        is_slow |= !strcmp(words[at], "slow");
         is_planted |= !strcmp(words[at], "planted");
     }
     folder = count < 3 ? -1 : open(words[1], O_RDONLY | O_DIRECTORY | O_CLOEXEC);
     if (folder < 0 || fstat(folder, &status)) {
-        fprintf(stderr, "passthrough FOLDER MOUNT [writeback] [cached] [planted]\n");
+        fprintf(stderr, "passthrough FOLDER MOUNT [writeback] [cached] [slow] [planted]\n");
         return 2;
     }
     umask(0);
