@@ -19,9 +19,8 @@ use Rattle.foot_print.specs.Replayed.{replayed}
 use Rattle.wave_pick.specs.Lawful.{lawful}
 use Rattle.wave_pick.specs.Rounds.{state_after, wave_after, round_of, rounds, waves}
 use Rattle.wave_pick.specs.Holding.{Holder, holder_in}
-use Rattle.wave_pick.specs.Telling.{has_number, is_number}
-use Rattle.wave_pick.specs.HeldBack.{held_meant, with_holder, held_among}
-use Rattle.wave_pick.specs.declared.holding.Held.{Held}
+use Rattle.round_scheduler.specs.Telling.{has_number, is_number, held_meant, with_holder, held_among}
+use Rattle.round_scheduler.specs.declared.telling.Held.{Held}
 use Rattle.wave_pick.proofs.Numbers.{at_place, number_is, rounds_numbered}
 use Rattle.replay_core.specs.declared.progress.Progress.{Progress}
 use Rattle.replay_core.specs.declared.round_log.WaitedFor.{WaitedFor}

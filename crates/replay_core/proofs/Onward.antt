@@ -5,13 +5,12 @@ use Rattle.interleaving.specs.Rounds.{pending}
 use Rattle.trace_format.specs.declared.trace.Trace.{Trace}
 use Rattle.trace_format.specs.Steps.{places}
 use Rattle.world_parts.specs.Part.{whole}
-use Rattle.wave_pick.specs.HeldBack.{held_among, held_meant}
 use Rattle.wave_pick.specs.Picking.{IsNextWave}
 use Rattle.wave_pick.specs.Rounds.{state_after}
-use Rattle.wave_pick.specs.Scheduling.{AreFirst}
-use Rattle.wave_pick.specs.Telling.{has_number}
-use Rattle.wave_pick.specs.declared.holding.Held.{Held}
-use Rattle.wave_pick.specs.declared.scheduler.Scheduler.{Scheduler}
+use Rattle.round_scheduler.specs.Scheduling.{AreFirst}
+use Rattle.round_scheduler.specs.Telling.{has_number, held_among, held_meant}
+use Rattle.round_scheduler.specs.declared.telling.Held.{Held}
+use Rattle.round_scheduler.specs.declared.scheduler.Scheduler.{Scheduler}
 use Rattle.wave_pick.specs.declared.wave.Wave.{Wave}
 use Rattle.replay_core.specs.declared.progress.Progress.{Progress}
 use Rattle.replay_core.specs.Progressing.{HasChosen, HasPicked, HasRun, HasTold, IsFront, IsReady, KeptAfter, Stands}

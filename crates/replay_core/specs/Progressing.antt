@@ -14,13 +14,12 @@ use Rattle.op_meaning.specs.declared.reply.Reply.{Reply}
 use Rattle.op_meaning.specs.Footprint.{footprint}
 use Rattle.foot_print.specs.Replayed.{replayed}
 use Rattle.foot_print.specs.Parts.{AreReady, footprints}
-use Rattle.wave_pick.specs.declared.holding.Held.{Held}
+use Rattle.round_scheduler.specs.declared.telling.Held.{Held}
 use Rattle.wave_pick.specs.declared.wave.Wave.{Wave}
-use Rattle.wave_pick.specs.HeldBack.{held_among, held_meant}
 use Rattle.wave_pick.specs.Picking.{chosen_at}
 use Rattle.wave_pick.specs.Rounds.{state_after, wave_after, round_of, waves}
-use Rattle.wave_pick.specs.Scheduling.{Remembers}
-use Rattle.wave_pick.specs.Telling.{has_number}
+use Rattle.round_scheduler.specs.Scheduling.{Remembers}
+use Rattle.round_scheduler.specs.Telling.{has_number, held_among, held_meant}
 use Rattle.replay_core.specs.declared.run.Run.{Run}
 use Rattle.replay_core.specs.declared.progress.Progress.{Progress}
 use Rattle.replay_core.specs.Jobs.{AreOf}

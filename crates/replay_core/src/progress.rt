@@ -21,12 +21,13 @@ use crate::serial::Replay;
 use chain_plan::Plan;
 use extent_bytes::ReadBytes;
 use op_meaning::{Replies, Reply};
+use round_scheduler::{Held, Scheduler};
 use std::alloc::{AllocError, Global};
 use std::snapshot::Snapshot;
 use std::sync::Wait;
 use std::thread::Threads;
 use trace_format::{Series, Trace};
-use wave_pick::{Held, Scheduler, Wave};
+use wave_pick::Wave;
 use world_parts::{Part, World};
 
 /// What a replay has after its rounds so far.

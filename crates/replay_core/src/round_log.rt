@@ -7,7 +7,7 @@ ghost use Rattle.replay_core.specs.Waits.{IsRoundLog, waited_meant};
 ghost use Rattle.replay_core.specs.Noted.{AreAllNoted, AreNoted, noted};
 ghost use Rattle.trace_format.specs.Steps.{places};
 ghost use Rattle.trace_format.specs.Text.{IsSpelled};
-ghost use Rattle.wave_pick.specs.HeldBack.{held_meant};
+ghost use Rattle.round_scheduler.specs.Telling.{held_meant};
 ghost use Rattle.wave_pick.specs.Rounds as wave_rounds;
 
 use crate::gate::NoGate;
@@ -16,11 +16,11 @@ use crate::progress::Progress;
 use crate::round::RoundFault;
 use crate::serial::ReplayFault;
 use chain_plan::Plan;
+use round_scheduler::Held;
 use std::alloc::{AllocError, Global};
 use std::sync::Wait;
 use std::thread::Threads;
 use trace_format::{Series, Trace};
-use wave_pick::Held;
 use world_parts::Item;
 
 /// The place that another one waited for, and the item that both use.
@@ -39,7 +39,7 @@ pub struct RoundLog {
 }
 
 /// The rounds of a trace for a window, as [`crate::parallel::replay`] runs them, and for each place
-/// the latest one that held it back in the round before its own, with the item that both use.
+/// the latest one that blocked it in the round before its own, with the item that both use.
 ///
 /// # Errors
 ///

@@ -1,4 +1,4 @@
-//! The first round of a trace, and what it blocks, by looking at each place of it.
+//! The first round of a trace, by a look at each place of it.
 ghost use Rattle.std.specs.Prelude.{◌≡◌, ◌<◌, All, IfOk};
 ghost use Rattle.chain_plan.specs.Plan.{roles};
 ghost use Rattle.trace_format.specs.Steps.{places};
@@ -8,8 +8,8 @@ use crate::text::six_places;
 use chain_plan::Plan;
 use std::alloc::{AllocError, Global};
 use std::test::Fail;
-use trace_format::{Series, Trace};
-use wave_pick::{Held, Wave, held_back, pick};
+use trace_format::Trace;
+use wave_pick::{Wave, pick};
 use world_parts::World;
 
 /// All places of a trace.
@@ -67,56 +67,5 @@ fn is_first_round(alloc: Global, trace: &Trace, wanted: &[u32]) -> Result<bool, 
 fn the_first_round_is_what_collides_with_nothing_ahead(rt: HostRuntime) -> Result<(), Fail> {
     let trace = six_places(rt.alloc())?;
     assert!(rt; is_first_round(rt.alloc(), &trace, &[0, 2, 4])?);
-    Ok(())
-}
-
-/// Whether those that are blocked are just these places, each by that one.
-fn are_held(held: &Series<Held>, wanted: &[(u32, u32)]) -> bool {
-    let held = held.as_slice();
-    if held.len() != wanted.len() {
-        return false;
-    }
-    for (there, (place, holder)) in held.iter().zip(wanted) {
-        if there.place != *place || there.holder != *holder {
-            return false;
-        }
-    }
-    true
-}
-
-fn holds_back(
-    alloc: Global,
-    trace: &Trace,
-    plan: &Plan,
-    world: &World,
-    wanted: &[(u32, u32)],
-) -> Result<bool, AllocError>
-    requires trace { IsSpelled trace.now }
-    requires plan { plan.now ≡ roles trace.now }
-{
-    let all = all_places(alloc, trace)?;
-    Ok(are_held(
-        &held_back(alloc, trace, plan, world, all.as_slice(), 64)?,
-        wanted,
-    ))
-}
-
-/// Whether the first round of a trace blocks just these places, each by that one.
-fn are_held_at_first(
-    alloc: Global,
-    trace: &Trace,
-    wanted: &[(u32, u32)],
-) -> Result<bool, AllocError>
-    requires { IsSpelled trace.now }
-{
-    let plan = Plan::of(alloc, trace)?;
-    let world = World::of(alloc, trace)?;
-    holds_back(alloc, trace, &plan, &world, wanted)
-}
-
-#[test]
-fn the_latest_place_that_collides_holds_another_back(rt: HostRuntime) -> Result<(), Fail> {
-    let trace = six_places(rt.alloc())?;
-    assert!(rt; are_held_at_first(rt.alloc(), &trace, &[(1, 0), (3, 2), (5, 4)])?);
     Ok(())
 }

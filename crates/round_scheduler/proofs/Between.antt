@@ -19,18 +19,18 @@ use Rattle.foot_print.proofs.Unmet.{unmet_reach}
 use Rattle.wave_pick.specs.Lawful.{lawful}
 use Rattle.wave_pick.specs.Picking.{chosen_at, free_from}
 use Rattle.wave_pick.specs.Rounds.{state_after, wave_after}
-use Rattle.wave_pick.specs.Scheduling.{AreFirst, Covers, HasReach, HasRoom, HaveSeen, IsAgain, IsIndex, Releases, Remembers, RestsListed, RestsStill}
+use Rattle.round_scheduler.specs.Scheduling.{AreFirst, Covers, HasReach, HasRoom, HaveSeen, IsAgain, IsIndex, Releases, Remembers, RestsListed, RestsStill}
 use Rattle.wave_pick.specs.Holds.{Waits, world_after, footprint_after, reaches_after, reach_after}
-use Rattle.wave_pick.specs.declared.scheduler.Scheduler.{Scheduler}
+use Rattle.round_scheduler.specs.declared.scheduler.Scheduler.{Scheduler}
 use Rattle.wave_pick.specs.declared.wave.Chosen.{Chosen}
-use Rattle.wave_pick.proofs.Knowing.{covers_each, listed_so, on_so, waits_so}
+use Rattle.round_scheduler.proofs.Knowing.{covers_each, listed_so, on_so, waits_so}
 use Rattle.wave_pick.proofs.Looked.{pending_free, take_pending}
 use Rattle.wave_pick.proofs.Lists.{all_or, not_both}
-use Rattle.wave_pick.proofs.Passing.{earlier_has}
+use Rattle.round_scheduler.proofs.Passing.{earlier_has}
 use Rattle.wave_pick.proofs.Resting.{waits_on}
-use Rattle.wave_pick.proofs.Seeing.{met_not_clear}
+use Rattle.wave_pick.proofs.Clear.{met_not_clear}
 use Rattle.wave_pick.proofs.Staying.{waited}
-use Rattle.wave_pick.proofs.Within.{fewer, first_within, place_of, within_first}
+use Rattle.round_scheduler.proofs.Within.{fewer, first_within, place_of, within_first}
 
 -- Before the first look.
 pub begins : (t : Trace) (window : ℕ) (s begun : Scheduler) → Remembers t window s → (begun.exact ≡ true → IsIndex begun []) → (begun.exact ≡ false → begun.ahead ≡ s.ahead) → begun ≡ record s { ahead = begun.ahead; exact = begun.exact; added = begun.added } → HaveSeen t window s.round [] begun []

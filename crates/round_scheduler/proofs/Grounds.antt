@@ -7,7 +7,7 @@ use Rattle.world_parts.specs.Items.{Item, chain_flag, one, all_descriptors, Foot
 use Rattle.item_index.specs.Touching.{writes_item}
 use Rattle.foot_print.specs.Outlook.{items_awaited}
 use Rattle.foot_print.specs.declared.reaching.Outlook.{Outlook}
-use Rattle.wave_pick.specs.Grounds.{writes_one_of, AddsGround, IsGround, RestsOnGrounds}
+use Rattle.round_scheduler.specs.Grounds.{writes_one_of, AddsGround, IsGround, RestsOnGrounds}
 use Rattle.wave_pick.proofs.Lists.{not_both}
 use Rattle.wave_pick.proofs.Resting.{only}
 

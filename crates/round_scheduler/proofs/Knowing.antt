@@ -1,5 +1,5 @@
 -- Of a scheduler's tables: what stays of them where one place is written, and what an index with one may-access set more covers.
-use Rattle.std.specs.Prelude.{◌≡◌, ℕ, zero, suc, ◌<◌, Bool, true, false, ◌&&◌, ◌||◌, T, List, [], ◌∷◌, ◌++◌, map, length, slice_get, Option, Some, None, refl}
+use Rattle.std.specs.Prelude.{◌≡◌, ℕ, zero, suc, ◌<◌, Bool, true, false, ◌&&◌, ◌||◌, T, List, [], ◌∷◌, ◌++◌, map, length, slice_get, Option, Some, refl}
 use Rattle.std.specs.List.{list_any}
 use Rattle.std.specs.Option.{option_map}
 use Rattle.interleaving.specs.Machine.{has}
@@ -17,9 +17,8 @@ use Rattle.item_index.specs.Ahead.{at_place, one_at, touched, written}
 use Rattle.item_index.specs.Touching.{touches_item, writes_item}
 use Rattle.item_index.specs.declared.ahead.Ahead.{Ahead}
 use Rattle.wave_pick.specs.Holds.{reach_after}
-use Rattle.wave_pick.specs.Scheduling.{AddsReach, Covers, Flags, HasReach, HaveReaches, IsAgain, IsIndex, IsKnown, IsListed, RestsListed, RestsStill}
-use Rattle.wave_pick.specs.Telling.{kept_reach}
-use Rattle.wave_pick.specs.declared.scheduler.Scheduler.{Scheduler}
+use Rattle.round_scheduler.specs.Scheduling.{AddsReach, Covers, Flags, HasReach, HaveReaches, IsAgain, IsIndex, IsKnown, IsListed, RestsListed, RestsStill}
+use Rattle.round_scheduler.specs.declared.scheduler.Scheduler.{Scheduler}
 use Rattle.interleaving.proofs.Members.{has-snoc}
 use mathlib.Core.Bool.{or-false}
 use Rattle.wave_pick.proofs.Lists.{not_both, set-here, get-push}
@@ -135,22 +134,6 @@ module _ (does : Footprint → Bool) where
       at [] = refl
       at (k ∷ ks) = ap (λ b. at_place does (slice_get table k) || b) (at ks)
 
-  -- One place more, whose may-access set a table has or not.
-  abbrev pub by_reach : Option Footprint → Bool
-  by_reach (Some f) = does f
-  by_reach None = false
-
-  at_kept : (o : Option (Option Footprint)) → at_place does o ≡ by_reach (kept_reach o)
-  at_kept (Some (Some f)) = refl
-  at_kept (Some None) = refl
-  at_kept None = refl
-
-  pub one_at_more : (table : List (Option Footprint)) (ks : List ℕ) (k : ℕ) (b : Bool) → b ≡ one_at table ks does → (o : Option Footprint) → o ≡ kept_reach (slice_get table k)
-      → one_at table (ks ++ k ∷ []) does ≡ (b || by_reach o)
-  one_at_more table ks k b so o kept =
-      list_any-append (λ j. at_place does (slice_get table j)) ks (k ∷ [])
-      ∙ (λ i. sym so i || or-false (at_place does (slice_get table k)) i) ∙ ap (λ c. b || c) (at_kept (slice_get table k) ∙ ap by_reach (sym kept))
-
   -- So an index that covers each of the may-access sets that a table has of some places tells what one of these does.
   pub one_of_these : (s : Scheduler) (b : Bool) (table : List (Option Footprint)) (ks : List ℕ) (gs : List Footprint) → table ≡ s.reaches.items
       → HaveReaches s ks gs
@@ -197,9 +180,3 @@ covers_each s gs i y g e = elim (cases_Bool s.exact) [
       }
   | inr others ↦ i.among others y g e
 ]
-
--- What a table has as the may-access set of a place.
-pub kept_some : (o : Option (Option Footprint)) (f : Footprint) → Some f ≡ kept_reach o → o ≡ Some (Some f)
-kept_some (Some (Some g)) f e = ap Some (sym e)
-kept_some (Some None) f e = (cc)
-kept_some None f e = (cc)

@@ -11,14 +11,14 @@ use Rattle.interleaving.specs.Gather.{AllDifferent}
 use Rattle.interleaving.proofs.Members.{has-front, has-middle, has-other, has-snoc}
 use Rattle.world_parts.specs.Items.{Footprint}
 use Rattle.item_index.specs.declared.ahead.Ahead.{Ahead}
-use Rattle.wave_pick.specs.Scheduling.{AddsReach, Flags, HasReach, IsAgain, IsListed, Keeps, Lists, Releases, Renews, Wakes}
-use Rattle.wave_pick.specs.declared.scheduler.Rest.{Rest}
-use Rattle.wave_pick.specs.declared.scheduler.Scheduler.{Scheduler}
-use Rattle.wave_pick.specs.declared.scheduler.View.{View}
+use Rattle.round_scheduler.specs.Scheduling.{AddsReach, Flags, HasReach, IsAgain, IsListed, Keeps, Lists, Releases, Renews, Wakes}
+use Rattle.round_scheduler.specs.declared.scheduler.Rest.{Rest}
+use Rattle.round_scheduler.specs.declared.scheduler.Scheduler.{Scheduler}
+use Rattle.round_scheduler.specs.declared.scheduler.View.{View}
 use Rattle.wave_pick.specs.declared.wave.Chosen.{Chosen}
-use Rattle.wave_pick.proofs.Knowing.{listed_so}
+use Rattle.round_scheduler.proofs.Knowing.{listed_so}
 use Rattle.wave_pick.proofs.Lists.{set-here, set-other}
-use Rattle.wave_pick.proofs.Within.{not_in_more}
+use Rattle.round_scheduler.proofs.Within.{not_in_more}
 
 abbrev Listed : Type 0
 Listed = Vec ℕ Global
@@ -68,16 +68,6 @@ module _ (k : ℕ) (on : List ℕ) (s mid : Scheduler) where
     listed = λ i j l. listed_so (ap (λ (x : Scheduler). slice_get x.resting.items i) rest) (so.listed i j l);
     rests = inr (λ i e. listed_so (ap (λ (x : Scheduler). slice_get x.resting.items i) rest) (so.here i e));
     rest = rest ∙ ap (λ (x : Scheduler). record x { again = later.again }) so.rest ∙ (λ i. record s { again = later.again; resting = sym (ap (λ (x : Scheduler). x.resting) rest) i });
-  }
-
-  pub lists_some : (some : List ℕ) → ListsSoFar k some s mid → Lists k on s mid
-  lists_some some so = record {
-    many_again = ap (λ (x : Scheduler). length x.again.items) so.rest;
-    many_resting = so.many;
-    still = λ j ne e. ap (λ (x : Scheduler). slice_get x.again.items j) so.rest ∙ e;
-    listed = so.listed;
-    rests = inl (λ e. ap (λ (x : Scheduler). slice_get x.again.items k) so.rest ∙ e);
-    rest = so.rest ∙ (λ i. record s { again = sym (ap (λ (x : Scheduler). x.again) so.rest) i; resting = mid.resting });
   }
 
 -- Those of a list are to be looked at, and the list is empty.

@@ -18,15 +18,15 @@ use Rattle.foot_print.specs.Replayed.{replayed}
 use Rattle.wave_pick.specs.Picking.{free_from, reaches_from}
 use Rattle.wave_pick.specs.Resting.{AllStay, OneHolds, RestsOnAll, StaysAsIs}
 use Rattle.wave_pick.specs.Rounds.{state_after}
-use Rattle.wave_pick.specs.Scheduling.{AddsReach, AreBefore, AreFirst, Covers, Freshens, HasReach, HasRoom, HaveReaches, HaveSeen, IsAgain, IsIndex, IsKnown, IsListed, IsSameRound, IsView, Keeps, RestsStill, Sees}
+use Rattle.round_scheduler.specs.Scheduling.{AddsReach, AreBefore, AreFirst, Covers, Freshens, HasReach, HasRoom, HaveReaches, HaveSeen, IsAgain, IsIndex, IsKnown, IsListed, IsSameRound, IsView, Keeps, RestsStill, Sees}
 use Rattle.wave_pick.specs.Holds.{Waits, world_after, footprint_after, reaches_after, reach_after}
-use Rattle.wave_pick.specs.declared.scheduler.Scheduler.{Scheduler}
-use Rattle.wave_pick.specs.declared.scheduler.View.{View}
-use Rattle.wave_pick.proofs.Knowing.{covers_still, index_covers, index_grew, known_so, on_so, still_so, waits_so}
+use Rattle.round_scheduler.specs.declared.scheduler.Scheduler.{Scheduler}
+use Rattle.round_scheduler.specs.declared.scheduler.View.{View}
+use Rattle.round_scheduler.proofs.Knowing.{covers_still, index_covers, index_grew, known_so, on_so, still_so, waits_so}
 use Rattle.wave_pick.proofs.Looked.{free_more, pending_reaches, take_pending}
 use Rattle.wave_pick.proofs.Resting.{rests_on_all_stays}
-use Rattle.wave_pick.proofs.Seeing.{has-got}
-use Rattle.wave_pick.proofs.Within.{before_pending, not_in_more, pending_has}
+use Rattle.round_scheduler.proofs.Seeing.{has-got}
+use Rattle.round_scheduler.proofs.Within.{before_pending, not_in_more, pending_has}
 use Rattle.wave_pick.proofs.Lists.{all_or, not_both, set-here, set-other}
 
 -- A place that waits from one round to the next with the same may-access set.

@@ -27,14 +27,14 @@ use Rattle.item_index.specs.Ahead.{touched_before, written_before}
 use Rattle.item_index.specs.declared.behind.Behind.{Behind}
 use Rattle.foot_print.proofs.Foreseeing.{given_is_reach}
 use Rattle.foot_print.proofs.Unmet.{unmet_reach}
-use Rattle.wave_pick.specs.Grounds.{HasGround, RestsOnCollision, RestsOnGrounds}
+use Rattle.round_scheduler.specs.Grounds.{HasGround, RestsOnCollision, RestsOnGrounds}
 use Rattle.wave_pick.specs.Resting.{OneWrites, WriteForAll}
 use Rattle.wave_pick.specs.Rounds.{state_after}
-use Rattle.wave_pick.specs.Scheduling.{AreBefore, IsBehind, IsView, RestsOnThese}
-use Rattle.wave_pick.specs.declared.scheduler.Scheduler.{Scheduler}
+use Rattle.round_scheduler.specs.Scheduling.{AreBefore, IsBehind, IsView, RestsOnThese}
+use Rattle.round_scheduler.specs.declared.scheduler.Scheduler.{Scheduler}
 use Rattle.wave_pick.specs.Holds.{Waits, world_after, footprint_after, reaches_after, reach_after}
-use Rattle.wave_pick.specs.declared.scheduler.Rest.{Rest}
-use Rattle.wave_pick.proofs.Clear.{clear_is, met_all}
+use Rattle.round_scheduler.specs.declared.scheduler.Rest.{Rest}
+use Rattle.wave_pick.proofs.Clear.{clear_is, met_not_clear}
 use Rattle.wave_pick.proofs.Resting.{only, rests_unmet, together}
 use Rattle.wave_pick.proofs.RestingItems.{rests_together}
 
@@ -60,10 +60,6 @@ reaches_turned t window q (suc n) =
       )
           (ap (λ gs. reach_after t window q n ∷ gs) before)
     ]
-
--- An access set that some may-access set writes isn't clear of them.
-pub met_not_clear : (t : Trace) (f : Footprint) (rs : List Footprint) → is_met f rs ≡ true → false ≡ is_clear (replayed t) f rs
-met_not_clear t f rs e = ap not (sym (met_all f rs e)) ∙ clear_is t f rs
 
 module _ (t : Trace) (spelled : IsSpelled t) (window q k : ℕ) (earlier : List ℕ) (s : Scheduler) (b : AreBefore t window q k earlier s) where
   abbrev rs : List Footprint

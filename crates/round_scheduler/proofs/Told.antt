@@ -1,8 +1,9 @@
 -- Of the first places that wait, those that are asked for and blocked, by the may-access sets that a table has.
 use Rattle.std.specs.Prelude.{◌≡◌, ℕ, Bool, true, false, List, [], ◌∷◌, ◌++◌, map, take, filter, find, reverse, slice_get, Option, Some, None, refl, if◌then◌else◌}
+use Rattle.std.specs.List.{filter_map, cons_option}
 use Rattle.std.specs.Option.{option_map, option_and_then, option_to_list}
 use Rattle.std.proofs.Common.{inl, inr, ap, sym, subst, ◌∙◌}
-use Rattle.std.proofs.lemmas.List.{append-nil, reverse-append}
+use Rattle.std.proofs.lemmas.List.{append-nil, map-append, reverse-append}
 use Rattle.std.proofs.lemmas.List.Elements.{filter-append, filter_map-append}
 use Rattle.std.proofs.lemmas.List.Folds.{find_at}
 use Rattle.std.proofs.lemmas.Option.{none-some, same_Some}
@@ -15,19 +16,24 @@ use Rattle.world_parts.specs.World.{World}
 use Rattle.world_parts.specs.Items.{Item, Footprint, collide}
 use Rattle.op_meaning.specs.Footprint.{footprint}
 use Rattle.foot_print.specs.Replayed.{replayed}
-use Rattle.wave_pick.specs.HeldBack.{held_among, held_meant, with_holder}
 use Rattle.wave_pick.specs.Holding.{Holder, shared_of, reach_in, holder_in}
 use Rattle.wave_pick.specs.Picking.{IsNextWave}
 use Rattle.wave_pick.specs.Rounds.{state_after}
-use Rattle.wave_pick.specs.Scheduling.{AreFirst, HaveSeen, Remembers}
-use Rattle.wave_pick.specs.Telling.{AreTold, HasReaches, IsSettled, IsTold, Settles, Surveys, collides_with, kept_reach, latest_holder}
-use Rattle.wave_pick.specs.declared.holding.Held.{Held}
-use Rattle.wave_pick.specs.declared.scheduler.Scheduler.{Scheduler}
+use Rattle.round_scheduler.specs.Scheduling.{AreFirst, HaveSeen, Remembers}
+use Rattle.round_scheduler.specs.Telling.{AreTold, HasReaches, IsSettled, IsTold, Settles, Surveys, collides_with, kept_reach, latest_holder, held_among, held_meant, with_holder}
+use Rattle.round_scheduler.specs.declared.telling.Held.{Held}
+use Rattle.round_scheduler.specs.declared.scheduler.Scheduler.{Scheduler}
 use Rattle.wave_pick.specs.declared.wave.Wave.{Wave}
-use Rattle.wave_pick.proofs.Behind.{filter_map-one, meant-found}
 use Rattle.wave_pick.proofs.Looked.{is_round, take_pending}
-use Rattle.wave_pick.proofs.Seeing.{has-got}
-use Rattle.wave_pick.proofs.Within.{before_pending}
+use Rattle.round_scheduler.proofs.Seeing.{has-got}
+use Rattle.round_scheduler.proofs.Within.{before_pending}
+
+meant-found : (hs : List Held) (o : Option Held) → map held_meant (hs ++ option_to_list o) ≡ map held_meant hs ++ option_to_list (option_map held_meant o)
+meant-found hs None = map-append held_meant hs []
+meant-found hs (Some h) = map-append held_meant hs (h ∷ [])
+
+filter_map-one : {A B : Type 0} (h : A → Option B) (x : A) → filter_map h (x ∷ []) ≡ option_to_list (h x)
+filter_map-one h x = elim (h x) as (λ o. cons_option o [] ≡ option_to_list o) [ None ↦ refl | Some y ↦ refl ]
 
 has-reverse : (xs : List ℕ) (k : ℕ) → has (reverse xs) k ≡ true → has xs k ≡ true
 has-reverse [] k h = h
@@ -98,7 +104,7 @@ module _ (t : Trace) (s : State (replayed t)) (n : ℕ) (first : List ℕ) (are 
       → map held_meant (hs ++ option_to_list o) ≡ told_so (earlier ++ k ∷ [])
   told_here here hs o before told =
       let mine = told (reach_in t s) (λ j m. there j (has-take x first j m)) ∙ ap (with_holder k) holder_is in
-      meant-found t s.world hs o
+      meant-found hs o
       ∙ (λ i. before i ++ option_to_list (mine i))
       ∙ sym (told_more ∙ ap (λ b. told_so earlier ++ held_among t s (if b then k ∷ [] else [])) here ∙ ap (λ hs. told_so earlier ++ hs) (filter_map-one (λ j. with_holder j (holder_in t s j)) k))
 

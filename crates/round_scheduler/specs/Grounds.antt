@@ -7,8 +7,8 @@ use Rattle.world_parts.specs.Uses.{item_meant}
 use Rattle.item_index.specs.Touching.{writes_item}
 use Rattle.foot_print.specs.Outlook.{items_awaited}
 use Rattle.foot_print.specs.declared.reaching.Outlook.{Outlook}
-use Rattle.wave_pick.specs.declared.scheduler.Ground.{Ground}
-use Rattle.wave_pick.specs.declared.scheduler.Ground.TheVariants.{Collides, WritesSome, Writes}
+use Rattle.round_scheduler.specs.declared.scheduler.Ground.{Ground}
+use Rattle.round_scheduler.specs.declared.scheduler.Ground.TheVariants.{Collides, WritesSome, Writes}
 
 -- Whether an access set writes one of some items.
 abbrev pub writes_one_of : Footprint → Footprint → Bool

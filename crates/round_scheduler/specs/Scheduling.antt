@@ -20,9 +20,9 @@ use Rattle.wave_pick.specs.Resting.{RestsOnAll}
 use Rattle.wave_pick.specs.Rounds.{state_after}
 use Rattle.wave_pick.specs.Holds.{Waits, world_after, footprint_after, reaches_after, reach_after}
 use Rattle.wave_pick.specs.declared.wave.Chosen.{Chosen}
-use Rattle.wave_pick.specs.declared.scheduler.Scheduler.{Scheduler}
-use Rattle.wave_pick.specs.declared.scheduler.Rest.{Rest}
-use Rattle.wave_pick.specs.declared.scheduler.View.{View}
+use Rattle.round_scheduler.specs.declared.scheduler.Scheduler.{Scheduler}
+use Rattle.round_scheduler.specs.declared.scheduler.Rest.{Rest}
+use Rattle.round_scheduler.specs.declared.scheduler.View.{View}
 
 -- A place is to be looked at.
 abbrev pub IsAgain : Scheduler → ℕ → Type 0

@@ -1,19 +1,32 @@
 -- A view of code: which of the first places that wait are blocked, so far as they are asked for, by the may-access sets that a table has of them.
 use Rattle.std.specs.Prelude.{◌≡◌, ℕ, Bool, true, false, ◌==◌, List, [], map, filter, find, reverse, slice_get, Option, Some, None}
+use Rattle.std.specs.List.{filter_map}
 use Rattle.std.specs.Option.{option_map, option_and_then}
 use Rattle.interleaving.specs.Machine.{State, has}
 use Rattle.interleaving.specs.Rounds.{pending}
 use Rattle.trace_format.specs.declared.trace.Trace.{Trace}
 use Rattle.world_parts.specs.World.{World}
 use Rattle.world_parts.specs.Items.{Footprint, collide}
+use Rattle.world_parts.specs.Uses.{item_meant}
 use Rattle.foot_print.specs.Replayed.{replayed}
-use Rattle.wave_pick.specs.HeldBack.{held_among, held_meant, with_holder}
-use Rattle.wave_pick.specs.Holding.{Holder, shared_of, reach_in}
+use Rattle.wave_pick.specs.Holding.{Holder, shared_of, reach_in, holder_in}
 use Rattle.wave_pick.specs.Picking.{chosen_at, free_from}
-use Rattle.wave_pick.specs.Scheduling.{AreFirst, HaveSeen, Remembers}
-use Rattle.wave_pick.specs.declared.holding.Held.{Held}
-use Rattle.wave_pick.specs.declared.scheduler.Scheduler.{Scheduler}
+use Rattle.round_scheduler.specs.Scheduling.{AreFirst, HaveSeen, Remembers}
+use Rattle.round_scheduler.specs.declared.telling.Held.{Held}
+use Rattle.round_scheduler.specs.declared.scheduler.Scheduler.{Scheduler}
 use Rattle.wave_pick.specs.declared.wave.Wave.{Wave}
+
+-- The place that is meant, with its holder.
+abbrev pub held_meant : Held → ℕ × Holder
+held_meant h = (h.place, record { place = h.holder; item = item_meant h.item })
+
+-- A place with its holder, if it has one.
+abbrev pub with_holder : ℕ → Option Holder → Option (ℕ × Holder)
+with_holder k o = option_map (λ h. (k, h)) o
+
+-- Of these places, in order, those that something blocks, each with its holder.
+abbrev pub held_among : (t : Trace) → State (replayed t) → List ℕ → List (ℕ × Holder)
+held_among t s ks = filter_map (λ k. with_holder k (holder_in t s k)) ks
 
 -- Whether a number is the one that is asked for.
 abbrev pub is_number : ℕ → Option ℕ → Bool

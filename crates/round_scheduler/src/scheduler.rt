@@ -1,33 +1,32 @@
 //! The next round, by what is kept of the places that wait.
 ghost use Rattle.std.specs.Prelude.{◌≡◌, ◌+◌, ◌<◌, [], ℕ, List, true, false, All, IfOk, IfSome, OnOk};
-ghost use Rattle.std.specs.Prelude.{Some, filter, length, map, replicate, take};
+ghost use Rattle.std.specs.Prelude.{Some, filter, length, map, take};
 ghost use Rattle.chain_plan.specs.Plan.{roles};
 ghost use Rattle.item_index.specs.Ahead.{one_at, touched, written, written_before};
 ghost use Rattle.item_index.specs.Touching as touching;
 ghost use Rattle.trace_format.specs.Steps.{places};
 ghost use Rattle.trace_format.specs.Text.{IsSpelled};
-ghost use Rattle.wave_pick.specs.Grounds.{ground_holds, AddsGround, IsGround};
-ghost use Rattle.wave_pick.specs.Grounds.{RestsOnCollision, RestsOnGrounds};
-ghost use Rattle.wave_pick.specs.HeldBack.{held_among, held_meant};
+ghost use Rattle.round_scheduler.specs.Grounds.{ground_holds, AddsGround, IsGround};
+ghost use Rattle.round_scheduler.specs.Grounds.{RestsOnCollision, RestsOnGrounds};
 ghost use Rattle.wave_pick.specs.Picking.{IsNextWave};
 ghost use Rattle.wave_pick.specs.Rounds.{state_after};
-ghost use Rattle.wave_pick.specs.Scheduling.{AreFirst, Flags, Freshens, HasReach, HasRoom};
-ghost use Rattle.wave_pick.specs.Scheduling.{HaveReaches, IsBehind, IsIndex, IsSameRound, Keeps, Lists};
-ghost use Rattle.wave_pick.specs.Scheduling.{LooksOver, Passes, Releases, Remembers};
-ghost use Rattle.wave_pick.specs.Scheduling.{Renews, Sees, Wakes};
-ghost use Rattle.wave_pick.specs.Telling.{Settles, Surveys, has_number};
+ghost use Rattle.round_scheduler.specs.Scheduling.{AreFirst, Flags, Freshens, HasReach, HasRoom};
+ghost use Rattle.round_scheduler.specs.Scheduling.{HaveReaches, IsBehind, IsIndex, IsSameRound, Keeps, Lists};
+ghost use Rattle.round_scheduler.specs.Scheduling.{LooksOver, Passes, Releases, Remembers};
+ghost use Rattle.round_scheduler.specs.Scheduling.{Renews, Sees, Wakes};
+ghost use Rattle.round_scheduler.specs.Telling.{Settles, Surveys, has_number, held_among};
+ghost use Rattle.round_scheduler.specs.Telling.{held_meant};
 ghost use Rattle.world_parts.specs.Items as items;
 ghost use Rattle.world_parts.specs.Uses.{item_meant};
 
-use crate::holding::Held;
-use crate::telling::{reach_at, told_held};
-use crate::wave::{Chosen, Wave};
+use crate::telling::{Held, reach_at, told_held};
 use chain_plan::{Plan, Role};
 use foot_print::{Outlook, foot_in, outlook_in};
 use item_index::{Ahead, Behind, writes_some};
 use std::alloc::{AllocError, Global};
 use std::mem;
 use trace_format::{Series, Trace};
+use wave_pick::{Chosen, Wave};
 use world_parts::{Footprint, Item, World, collide, same_uses, writes_item};
 
 /// Among so many places before one the latest on which it rests is looked for first.
@@ -99,7 +98,7 @@ impl Scheduler {
         ensures round { IfOk result (λ scheduler. scheduler.round ≡ 0) }
     {
         let reaches = no_reaches(alloc, trace.places())?;
-        let again = all_again(alloc, trace.places())?;
+        let again = vec![in alloc; true; trace.places() as usize]?;
         let resting = none_resting(alloc, trace.places())?;
         let ahead = Ahead::new(alloc)?;
         Ok(Scheduler {
@@ -115,7 +114,7 @@ impl Scheduler {
         })
     }
 
-    /// The places of the next round, as [`crate::pick`] gives them.
+    /// The places of the next round, as [`wave_pick::pick`] gives them.
     ///
     /// # Errors
     ///
@@ -673,17 +672,6 @@ fn no_reaches(alloc: Global, places: u32) -> Result<Vec<Option<Footprint>>, Allo
         reaches.push(None)?;
     }
     Ok(reaches)
-}
-
-/// Each place is to be looked at.
-fn all_again(alloc: Global, places: u32) -> Result<Vec<bool>, AllocError>
-    ensures { IfOk result (λ again. again.items ≡ replicate places true) }
-{
-    let mut again = Vec::new(alloc);
-    for _place in 0..places {
-        again.push(true)?;
-    }
-    Ok(again)
 }
 
 /// No place rests on one.

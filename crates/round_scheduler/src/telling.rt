@@ -5,17 +5,25 @@ ghost use Rattle.std.specs.Option.{option_copied, option_map};
 ghost use Rattle.chain_plan.specs.Plan.{roles};
 ghost use Rattle.trace_format.specs.Steps.{places};
 ghost use Rattle.trace_format.specs.Text.{IsSpelled};
-ghost use Rattle.wave_pick.specs.HeldBack.{held_meant};
-ghost use Rattle.wave_pick.specs.Telling.{AreTold, IsTold, has_number};
-ghost use Rattle.wave_pick.specs.Telling.{collides_with, kept_reach};
+ghost use Rattle.round_scheduler.specs.Telling.{AreTold, IsTold, has_number};
+ghost use Rattle.round_scheduler.specs.Telling.{collides_with, held_meant, kept_reach};
 
-use crate::holding::Held;
-use crate::sharing::shared_of;
 use chain_plan::Plan;
 use foot_print::foot_in;
 use std::alloc::{AllocError, Global};
 use trace_format::Trace;
-use world_parts::{Footprint, World, collide};
+use wave_pick::shared_of;
+use world_parts::{Footprint, Item, World, collide};
+
+/// A pending place that an earlier one blocks, so that it isn't in the next round.
+#[derive(Drop)]
+pub struct Held {
+    pub place: u32,
+    /// The latest earlier pending place whose may-access set collides with its access set.
+    pub holder: u32,
+    /// What the two share.
+    pub item: Item,
+}
 
 /// Of the first places that wait, those with a number that an earlier one of them blocks.
 pub(crate) fn told_held(

@@ -1,8 +1,8 @@
 //! What two access sets share.
 ghost use Rattle.std.specs.Prelude.{◌≡◌, IfOk, false, filter, map, true};
 ghost use Rattle.std.specs.Option.{option_map};
-ghost use Rattle.wave_pick.specs.HeldBack.{is_single, shared_if};
 ghost use Rattle.wave_pick.specs.Holding as model;
+ghost use Rattle.wave_pick.specs.Sharing.{is_single, shared_if};
 ghost use Rattle.world_parts.specs.Uses.{item_meant, use_meant};
 
 use std::alloc::{AllocError, Global};
@@ -13,7 +13,7 @@ use world_parts::{Footprint, Item, Use, share};
 /// # Errors
 ///
 /// Out of memory.
-pub(crate) fn shared_of(
+pub fn shared_of(
     alloc: Global,
     one: &Footprint,
     other: &Footprint,

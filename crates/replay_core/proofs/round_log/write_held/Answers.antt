@@ -6,8 +6,8 @@ use Rattle.std.proofs.lemmas.List.{length_push, length-map, map-set, drop_all}
 use Rattle.std.proofs.lemmas.Option.{slice_get_read, slice_get-map, get_or_from_slice_get}
 use Rattle.std.proofs.lemmas.Iterator.Adapters.{YieldsList-from_vec}
 use Rattle.std.proofs.lemmas.Iterator.Consumers.{YieldsList-turn, YieldsList-end}
-use Rattle.wave_pick.specs.HeldBack.{held_meant}
-use Rattle.wave_pick.specs.declared.holding.Held.{Held}
+use Rattle.round_scheduler.specs.Telling.{held_meant}
+use Rattle.round_scheduler.specs.declared.telling.Held.{Held}
 use Rattle.replay_core.specs.declared.round_log.WaitedFor.{WaitedFor}
 use Rattle.replay_core.specs.Waits.{waited_meant}
 use Rattle.replay_core.specs.Noted.{noted}

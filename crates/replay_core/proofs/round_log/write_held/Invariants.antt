@@ -1,6 +1,6 @@
 use Rattle.std.proofs.Common.{◌≡◌, map, drop, length}
 use Rattle.std.specs.Option.{option_map}
-use Rattle.wave_pick.specs.HeldBack.{held_meant}
+use Rattle.round_scheduler.specs.Telling.{held_meant}
 use Rattle.replay_core.specs.Waits.{waited_meant}
 use Rattle.replay_core.specs.Noted.{noted}
 use Rattle.replay_core.proofs.round_log.write_held.Given as goal

@@ -1,10 +1,10 @@
 use Rattle.std.proofs.Common.{take, get_or, ap, subst, sym, refl, rules}
 use Rattle.std.proofs.lemmas.List.{take_more}
-use Rattle.wave_pick.specs.Scheduling.{Flags}
-use Rattle.wave_pick.proofs.Knowing.{flags_more, flags_past}
+use Rattle.round_scheduler.specs.Scheduling.{Flags}
+use Rattle.round_scheduler.proofs.Knowing.{flags_more, flags_past}
 use Rattle.wave_pick.proofs.Lists.{not_both}
-use Rattle.wave_pick.proofs.scheduler.flag.Goals.{in-Some, in_default}
-use Rattle.wave_pick.proofs.scheduler.flag.Goals as goal
+use Rattle.round_scheduler.proofs.scheduler.flag.Goals.{in-Some, in_default}
+use Rattle.round_scheduler.proofs.scheduler.flag.Goals as goal
 
 pub loop-place-preserved : goal.loop-place-preserved
 loop-place-preserved c =

@@ -1,6 +1,6 @@
 use Rattle.std.proofs.Common.{take}
-use Rattle.wave_pick.specs.Scheduling.{Flags}
-use Rattle.wave_pick.proofs.scheduler.flag.Given as goal
+use Rattle.round_scheduler.specs.Scheduling.{Flags}
+use Rattle.round_scheduler.proofs.scheduler.flag.Given as goal
 
 -- the places so far are flagged
 abbrev pub invariant-loop-place : goal.invariant-loop-place

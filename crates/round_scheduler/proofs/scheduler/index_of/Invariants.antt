@@ -2,7 +2,7 @@ use Rattle.std.proofs.Common.{◌≡◌, take}
 use Rattle.item_index.specs.Ahead.{one_at, touched, written}
 use Rattle.item_index.specs.Touching.{touches_item, writes_item}
 use Rattle.world_parts.specs.Items.{Item}
-use Rattle.wave_pick.proofs.scheduler.index_of.Given as goal
+use Rattle.round_scheduler.proofs.scheduler.index_of.Given as goal
 
 -- the index has the may-access sets of the places so far
 abbrev pub invariant-loop-place : goal.invariant-loop-place

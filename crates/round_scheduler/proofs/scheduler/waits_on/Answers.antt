@@ -3,10 +3,10 @@ use Rattle.std.specs.Prelude.{◌&&◌}
 use Rattle.item_index.specs.Ahead.{written_before}
 use Rattle.item_index.specs.Touching.{writes_item}
 use Rattle.world_parts.specs.Items.{chain_flag, one, all_descriptors}
-use Rattle.wave_pick.specs.Grounds.{AddsGround}
-use Rattle.wave_pick.proofs.Grounds.{rests_on_grounds}
-use Rattle.wave_pick.proofs.scheduler.waits_on.Goals.{then-outlook, else-outlook}
-use Rattle.wave_pick.proofs.scheduler.waits_on.Goals as goal
+use Rattle.round_scheduler.specs.Grounds.{AddsGround}
+use Rattle.round_scheduler.proofs.Grounds.{rests_on_grounds}
+use Rattle.round_scheduler.proofs.scheduler.waits_on.Goals.{then-outlook, else-outlook}
+use Rattle.round_scheduler.proofs.scheduler.waits_on.Goals as goal
 
 pub returns : goal.returns
 returns c =

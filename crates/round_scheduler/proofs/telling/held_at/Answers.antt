@@ -2,8 +2,8 @@ use Rattle.std.proofs.Common.{Some, ap, sym, ◌∙◌}
 use Rattle.std.specs.Prelude.{None}
 use Rattle.std.specs.Option.{option_copied, option_map}
 use Rattle.world_parts.specs.Uses.{item_meant}
-use Rattle.wave_pick.proofs.Told.{told_lost, told_none, told_some}
-use Rattle.wave_pick.proofs.telling.held_at.Goals as goal
+use Rattle.round_scheduler.proofs.Told.{told_lost, told_none, told_some}
+use Rattle.round_scheduler.proofs.telling.held_at.Goals as goal
 
 pub returns-in_default : goal.returns-in_default
 returns-in_default c = told_none c.args.place c.args.footprint.now c.args.earlier.now c.args.reaches.now (sym c.latest_at.ensures ∙ sym c.copied.ensures ∙ c.in_default.is)

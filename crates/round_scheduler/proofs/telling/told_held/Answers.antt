@@ -4,11 +4,10 @@ use Rattle.std.proofs.lemmas.List.{append-nil, take_more}
 use Rattle.std.proofs.lemmas.Option.{slice_get-get_or}
 use Rattle.chain_plan.proofs.Walk.{length-roles}
 use Rattle.op_meaning.specs.Footprint.{footprint}
-use Rattle.wave_pick.specs.HeldBack.{held_among, held_meant}
-use Rattle.wave_pick.specs.Telling.{IsTold, has_number}
-use Rattle.wave_pick.proofs.Told.{told_past, told_here}
-use Rattle.wave_pick.proofs.telling.told_held.Goals.{then-has_number+in_ok-footprint+in_ok-found, in-Some+in_ok-push, in_default, else-has_number}
-use Rattle.wave_pick.proofs.telling.told_held.Goals as goal
+use Rattle.round_scheduler.specs.Telling.{IsTold, has_number, held_among, held_meant}
+use Rattle.round_scheduler.proofs.Told.{told_past, told_here}
+use Rattle.round_scheduler.proofs.telling.told_held.Goals.{then-has_number+in_ok-footprint+in_ok-found, in-Some+in_ok-push, in_default, else-has_number}
+use Rattle.round_scheduler.proofs.telling.told_held.Goals as goal
 
 pub role-requires : goal.role-requires
 role-requires c = rw (c.requires.plan, length-roles) (c.requires.places c.loop-index.index 0 c.loop-index-test.true)

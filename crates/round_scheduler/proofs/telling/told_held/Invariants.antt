@@ -2,10 +2,9 @@ use Rattle.std.proofs.Common.{◌≡◌, ℕ, map, take, filter}
 use Rattle.interleaving.specs.Machine.{State, has}
 use Rattle.interleaving.specs.Rounds.{pending}
 use Rattle.foot_print.specs.Replayed.{replayed}
-use Rattle.wave_pick.specs.HeldBack.{held_among, held_meant}
 use Rattle.wave_pick.specs.Holding.{reach_in}
-use Rattle.wave_pick.specs.Telling.{HasReaches, has_number}
-use Rattle.wave_pick.proofs.telling.told_held.Given as goal
+use Rattle.round_scheduler.specs.Telling.{HasReaches, has_number, held_among, held_meant}
+use Rattle.round_scheduler.proofs.telling.told_held.Given as goal
 
 -- those of the places so far that are asked for are told
 abbrev pub invariant-loop-index : goal.invariant-loop-index

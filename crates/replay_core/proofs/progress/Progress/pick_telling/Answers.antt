@@ -1,9 +1,8 @@
 use Rattle.std.proofs.Common.{◌≡◌, ◌+◌, map, filter, take, arith}
 use Rattle.std.proofs.lemmas.Result.{IfOk-weaker}
-use Rattle.wave_pick.specs.HeldBack.{held_among, held_meant}
 use Rattle.wave_pick.specs.Picking.{IsNextWave}
 use Rattle.wave_pick.specs.Rounds.{state_after}
-use Rattle.wave_pick.specs.Telling.{has_number}
+use Rattle.round_scheduler.specs.Telling.{has_number, held_among, held_meant}
 use Rattle.replay_core.specs.Progressing.{HasChosen, HasTold}
 use Rattle.replay_core.proofs.Onward.{are_first, are_places, has_chosen, has_told}
 use Rattle.replay_core.proofs.progress.Progress.pick_telling.Goals as goal

@@ -5,7 +5,7 @@ use Rattle.world_parts.specs.Uses.{item_meant, use_meant}
 use Rattle.world_parts.specs.declared.footprint.Use.{Use}
 use Rattle.item_index.specs.Touching.{writes_item}
 use Rattle.world_parts.proofs.FootprintCode.{any-meant}
-use Rattle.wave_pick.proofs.scheduler.Ground.holds.Goals as goal
+use Rattle.round_scheduler.proofs.scheduler.Ground.holds.Goals as goal
 
 -- Whether one of the items is written is what the call gave.
 is_some : (g f : items.Footprint) (uses : List Use) (some : Bool) → some ≡ list_any (λ u. writes_item g (item_meant u.item)) uses → map use_meant uses ≡ f

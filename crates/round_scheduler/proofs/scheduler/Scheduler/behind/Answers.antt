@@ -1,8 +1,8 @@
 use Rattle.std.proofs.Common.{◌∙◌}
 use Rattle.item_index.specs.Ahead.{touched, written}
 use Rattle.item_index.specs.Touching.{touches_item, writes_item}
-use Rattle.wave_pick.proofs.Knowing.{one_of_these}
-use Rattle.wave_pick.proofs.scheduler.Scheduler.behind.Goals as goal
+use Rattle.round_scheduler.proofs.Knowing.{one_of_these}
+use Rattle.round_scheduler.proofs.scheduler.Scheduler.behind.Goals as goal
 
 pub returns-else-self : goal.returns-else-self
 returns-else-self c = λ reaches there i.

@@ -1,8 +1,8 @@
 use Rattle.std.proofs.Common.{◌∙◌, refl}
 use Rattle.item_index.specs.Ahead.{one_at}
 use Rattle.item_index.specs.Touching.{touches_item, writes_item}
-use Rattle.wave_pick.proofs.Knowing.{one_at_is}
-use Rattle.wave_pick.proofs.scheduler.Scheduler.freshen.Goals as goal
+use Rattle.round_scheduler.proofs.Knowing.{one_at_is}
+use Rattle.round_scheduler.proofs.scheduler.Scheduler.freshen.Goals as goal
 
 pub returns : goal.returns
 returns c =

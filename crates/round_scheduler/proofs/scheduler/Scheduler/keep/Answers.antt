@@ -1,8 +1,8 @@
 use Rattle.std.proofs.Common.{◌∙◌, inl, inr, ap}
 use Rattle.std.proofs.lemmas.Result.{on_ok_weaker}
 use Rattle.interleaving.specs.Machine.{has}
-use Rattle.wave_pick.proofs.Listing.{keeps_so, lists_none}
-use Rattle.wave_pick.proofs.scheduler.Scheduler.keep.Goals as goal
+use Rattle.round_scheduler.proofs.Listing.{keeps_so, lists_none}
+use Rattle.round_scheduler.proofs.scheduler.Scheduler.keep.Goals as goal
 
 pub returns-in-Some : goal.returns-in-Some
 returns-in-Some c =

@@ -1,8 +1,8 @@
 use Rattle.std.proofs.Common.{◌∙◌, Some, take, get_or, ap, refl, sym, rules}
 use Rattle.std.proofs.lemmas.List.{take_all, take_more}
 use Rattle.std.proofs.lemmas.Option.{slice_get-get_or}
-use Rattle.wave_pick.proofs.Listing.{ListsSoFar, lists_all, lists_more}
-use Rattle.wave_pick.proofs.scheduler.Scheduler.list.Goals as goal
+use Rattle.round_scheduler.proofs.Listing.{ListsSoFar, lists_all, lists_more}
+use Rattle.round_scheduler.proofs.scheduler.Scheduler.list.Goals as goal
 
 pub loop-one-preserved : goal.loop-one-preserved
 loop-one-preserved c =

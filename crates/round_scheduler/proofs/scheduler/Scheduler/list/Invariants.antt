@@ -1,6 +1,6 @@
 use Rattle.std.proofs.Common.{take}
-use Rattle.wave_pick.proofs.Listing.{ListsSoFar}
-use Rattle.wave_pick.proofs.scheduler.Scheduler.list.Given as goal
+use Rattle.round_scheduler.proofs.Listing.{ListsSoFar}
+use Rattle.round_scheduler.proofs.scheduler.Scheduler.list.Given as goal
 
 -- the place is listed with those so far
 abbrev pub invariant-loop-one : goal.invariant-loop-one

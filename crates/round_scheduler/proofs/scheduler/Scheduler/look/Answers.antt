@@ -3,8 +3,8 @@ use Rattle.chain_plan.proofs.Walk.{length-roles}
 use Rattle.op_meaning.specs.Footprint.{footprint}
 use Rattle.item_index.specs.Ahead.{written_before}
 use Rattle.foot_print.specs.Outlook.{IsOutlook}
-use Rattle.wave_pick.proofs.Seeing.{seen_met, seen_held, seen_free}
-use Rattle.wave_pick.proofs.scheduler.Scheduler.look.Goals as goal
+use Rattle.round_scheduler.proofs.Seeing.{seen_met, seen_held, seen_free}
+use Rattle.round_scheduler.proofs.scheduler.Scheduler.look.Goals as goal
 
 pub role-role-requires : goal.role-role-requires
 role-role-requires c = rw (c.requires.plan, length-roles) c.requires.place

@@ -4,11 +4,11 @@ use Rattle.std.proofs.lemmas.List.{take_more}
 use Rattle.std.proofs.lemmas.Option.{slice_get-get_or}
 use Rattle.trace_format.specs.Steps.{places}
 use Rattle.std.proofs.lemmas.List.Elements.{All-push}
-use Rattle.wave_pick.specs.Scheduling.{HasRoom, IsAgain}
-use Rattle.wave_pick.specs.declared.scheduler.Scheduler.{Scheduler}
-use Rattle.wave_pick.proofs.Passing.{fresh_step, look_step, pass_step, same_fresh, same_on, same_rest, seen_view}
-use Rattle.wave_pick.proofs.scheduler.Scheduler.look_over.Goals.{then-index+in_ok-freshen+in_ok-view+in_ok-keep, then-view+in_ok-push, else-view, else-index+in_ok-pass}
-use Rattle.wave_pick.proofs.scheduler.Scheduler.look_over.Goals as goal
+use Rattle.round_scheduler.specs.Scheduling.{HasRoom, IsAgain}
+use Rattle.round_scheduler.specs.declared.scheduler.Scheduler.{Scheduler}
+use Rattle.round_scheduler.proofs.Passing.{fresh_step, look_step, pass_step, same_fresh, same_on, same_rest, seen_view}
+use Rattle.round_scheduler.proofs.scheduler.Scheduler.look_over.Goals.{then-index+in_ok-freshen+in_ok-view+in_ok-keep, then-view+in_ok-push, else-view, else-index+in_ok-pass}
+use Rattle.round_scheduler.proofs.scheduler.Scheduler.look_over.Goals as goal
 
 pub loop-index-preserved : goal.loop-index-preserved
 loop-index-preserved c =

@@ -1,7 +1,7 @@
 use Rattle.std.proofs.Common.{ℕ, ◌<◌, [], All, take}
 use Rattle.trace_format.specs.Steps.{places}
-use Rattle.wave_pick.specs.Scheduling.{AreFirst, HaveSeen, IsSameRound}
-use Rattle.wave_pick.proofs.scheduler.Scheduler.look_over.Given as goal
+use Rattle.round_scheduler.specs.Scheduling.{AreFirst, HaveSeen, IsSameRound}
+use Rattle.round_scheduler.proofs.scheduler.Scheduler.look_over.Given as goal
 
 -- the places so far have been looked at, or passed over
 abbrev pub invariant-loop-index : goal.invariant-loop-index

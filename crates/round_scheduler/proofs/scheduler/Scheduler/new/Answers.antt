@@ -3,12 +3,12 @@ use Rattle.std.specs.List.{slice_get}
 use Rattle.std.proofs.lemmas.List.{get_or-replicate, length-replicate}
 use Rattle.std.proofs.lemmas.Option.{slice_get-get_or}
 use Rattle.trace_format.specs.Steps.{places}
-use Rattle.wave_pick.proofs.scheduler.Scheduler.new.Goals as goal
+use Rattle.round_scheduler.proofs.scheduler.Scheduler.new.Goals as goal
 
 pub returns-clause-remembers : goal.returns-clause-remembers
 returns-clause-remembers c = λ window.
     let count = places c.args.trace.now in
-    let all : c.in_ok-again.again.items ≡ replicate count true = c.in_ok-again.ensures ∙ ap (λ n. replicate n true) c.places-2.ensures.places in
+    let all : c.in_ok-again.again.items ≡ replicate count true = c.in_ok-again.ensures.items_if_clones_equal (λ y h. h) ∙ ap (λ n. replicate n true) c.places-2.ensures.places in
     let many = length-replicate count true in
     record {
       room = record {

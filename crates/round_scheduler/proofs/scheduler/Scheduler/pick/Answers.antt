@@ -1,10 +1,10 @@
 use Rattle.std.proofs.Common.{take}
 use Rattle.std.proofs.lemmas.Result.{IfOk-weaker}
 use Rattle.wave_pick.specs.Picking.{IsNextWave}
-use Rattle.wave_pick.specs.Scheduling.{Remembers}
-use Rattle.wave_pick.specs.Telling.{Settles}
-use Rattle.wave_pick.proofs.Told.{next_wave, settled}
-use Rattle.wave_pick.proofs.scheduler.Scheduler.pick.Goals as goal
+use Rattle.round_scheduler.specs.Scheduling.{Remembers}
+use Rattle.round_scheduler.specs.Telling.{Settles}
+use Rattle.round_scheduler.proofs.Told.{next_wave, settled}
+use Rattle.round_scheduler.proofs.scheduler.Scheduler.pick.Goals as goal
 
 pub returns-clause-wave : goal.returns-clause-wave
 returns-clause-wave c =

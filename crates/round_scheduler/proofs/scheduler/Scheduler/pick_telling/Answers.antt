@@ -1,9 +1,8 @@
 use Rattle.std.proofs.Common.{map, ap, take, ◌∙◌}
-use Rattle.wave_pick.specs.HeldBack.{held_meant}
-use Rattle.wave_pick.specs.Telling.{IsSettled, has_number}
-use Rattle.wave_pick.proofs.Told.{all_told, next_wave, settled}
-use Rattle.wave_pick.proofs.scheduler.Scheduler.pick_telling.Goals.{After-drop-free-2}
-use Rattle.wave_pick.proofs.scheduler.Scheduler.pick_telling.Goals as goal
+use Rattle.round_scheduler.specs.Telling.{IsSettled, has_number, held_meant}
+use Rattle.round_scheduler.proofs.Told.{all_told, next_wave, settled}
+use Rattle.round_scheduler.proofs.scheduler.Scheduler.pick_telling.Goals.{After-drop-free-2}
+use Rattle.round_scheduler.proofs.scheduler.Scheduler.pick_telling.Goals as goal
 
 is_settled : (c : After-drop-free-2) → IsSettled c.args.trace.now c.args.window c.args.world.now.world (take c.args.window c.args.pending.now) c.settle.new.self c.in_ok-wave.wave
 is_settled c = settled c.args.trace.now c.args.window c.args.world.now.world c.args.self.now c.survey.new.self c.args.pending.now c.first_of-first.result.now c.first_of-first.ensures

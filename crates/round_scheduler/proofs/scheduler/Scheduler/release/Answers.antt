@@ -2,10 +2,10 @@ use Rattle.std.proofs.Common.{◌<◌, ◌++◌, ◌∷◌, ◌∙◌, [], Some,
 use Rattle.std.proofs.lemmas.List.{take_more}
 use Rattle.std.proofs.Math.ListN.{set}
 use Rattle.std.proofs.lemmas.Option.{slice_get-get_or}
-use Rattle.wave_pick.specs.Scheduling.{Releases}
-use Rattle.wave_pick.proofs.Listing.{one_taken, none_taken, release_step}
-use Rattle.wave_pick.proofs.scheduler.Scheduler.release.Goals.{in-Some+in_ok-push, in_default}
-use Rattle.wave_pick.proofs.scheduler.Scheduler.release.Goals as goal
+use Rattle.round_scheduler.specs.Scheduling.{Releases}
+use Rattle.round_scheduler.proofs.Listing.{one_taken, none_taken, release_step}
+use Rattle.round_scheduler.proofs.scheduler.Scheduler.release.Goals.{in-Some+in_ok-push, in_default}
+use Rattle.round_scheduler.proofs.scheduler.Scheduler.release.Goals as goal
 
 pub loop-place-preserved : goal.loop-place-preserved
 loop-place-preserved c =

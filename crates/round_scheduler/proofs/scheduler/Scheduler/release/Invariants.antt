@@ -1,6 +1,6 @@
 use Rattle.std.proofs.Common.{take}
-use Rattle.wave_pick.specs.Scheduling.{Releases}
-use Rattle.wave_pick.proofs.scheduler.Scheduler.release.Given as goal
+use Rattle.round_scheduler.specs.Scheduling.{Releases}
+use Rattle.round_scheduler.proofs.scheduler.Scheduler.release.Given as goal
 
 -- the places so far are released
 abbrev pub invariant-loop-place : goal.invariant-loop-place

@@ -1,7 +1,7 @@
 use Rattle.std.proofs.Common.{◌≡◌, suc, map, [], refl, sym, ◌∙◌, arith}
 use Rattle.wave_pick.specs.Picking.{chosen_at, free_from}
-use Rattle.wave_pick.proofs.Between.{chosen_are, remembers_on}
-use Rattle.wave_pick.proofs.scheduler.Scheduler.settle.Goals as goal
+use Rattle.round_scheduler.proofs.Between.{chosen_are, remembers_on}
+use Rattle.round_scheduler.proofs.scheduler.Scheduler.settle.Goals as goal
 
 pub returns-clause-settles : goal.returns-clause-settles
 returns-clause-settles c = λ window w first a seen.

@@ -1,9 +1,9 @@
 use Rattle.std.proofs.Common.{[], ap, sym, subst}
 use Rattle.std.proofs.lemmas.Result.{IfOk-weaker}
-use Rattle.wave_pick.specs.Scheduling.{AreFirst, HaveSeen, LooksOver}
-use Rattle.wave_pick.specs.Telling.{Surveys}
-use Rattle.wave_pick.proofs.Between.{begins}
-use Rattle.wave_pick.proofs.scheduler.Scheduler.survey.Goals as goal
+use Rattle.round_scheduler.specs.Scheduling.{AreFirst, HaveSeen, LooksOver}
+use Rattle.round_scheduler.specs.Telling.{Surveys}
+use Rattle.round_scheduler.proofs.Between.{begins}
+use Rattle.round_scheduler.proofs.scheduler.Scheduler.survey.Goals as goal
 
 pub returns-clause-seen : goal.returns-clause-seen
 returns-clause-seen c =

@@ -1,8 +1,8 @@
 use Rattle.std.proofs.Common.{Some, refl, sym, ap, subst, ◌∙◌}
 use Rattle.std.proofs.lemmas.Option.{slice_get-get_or}
-use Rattle.wave_pick.specs.Scheduling.{Flags}
-use Rattle.wave_pick.proofs.Listing.{wakes_list}
-use Rattle.wave_pick.proofs.scheduler.Scheduler.wake.Goals as goal
+use Rattle.round_scheduler.specs.Scheduling.{Flags}
+use Rattle.round_scheduler.proofs.Listing.{wakes_list}
+use Rattle.round_scheduler.proofs.scheduler.Scheduler.wake.Goals as goal
 
 pub returns : goal.returns
 returns c =

@@ -1,0 +1,3 @@
+pub mod Grounds
+pub mod Scheduling
+pub mod Telling
