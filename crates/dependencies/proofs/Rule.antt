@@ -6,7 +6,7 @@ use Rattle.interleaving.specs.Dependencies.{depends_on}
 use Rattle.interleaving.proofs.Direct.{leads_where_clashing}
 use Rattle.trace_format.specs.declared.trace.Trace.{Trace}
 use Rattle.world_parts.specs.Items.{Atom, collide}
-use Rattle.op_meaning.specs.Footprint.{footprint}
+use Rattle.foot_print.specs.Footprint.{footprint}
 use Rattle.foot_print.specs.Replayed.{replayed}
 use Rattle.foot_waits.specs.Rule.{clash_in, part_of}
 use Rattle.foot_waits.proofs.Parts.{clash_collides, clash_from, collide_atom}

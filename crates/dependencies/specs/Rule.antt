@@ -3,7 +3,7 @@ use Rattle.std.specs.Prelude.{◌≡◌, ℕ, ◌<◌, Bool, true}
 use Rattle.interleaving.specs.Dependencies.{Suffices, depends_on}
 use Rattle.trace_format.specs.declared.trace.Trace.{Trace}
 use Rattle.world_parts.specs.Items.{Atom, Footprint}
-use Rattle.op_meaning.specs.Footprint.{footprint}
+use Rattle.foot_print.specs.Footprint.{footprint}
 use Rattle.op_meaning.specs.Step.{run_world}
 use Rattle.foot_print.specs.Replayed.{replayed}
 use Rattle.foot_waits.specs.Rule.{WaitsBy, part_of}

@@ -12,7 +12,7 @@ use Rattle.world_parts.specs.World.{World, slot, descriptor}
 use Rattle.op_meaning.specs.Meaning.{slot_count, held, Handle, handle, handle_of}
 use Rattle.sqe_codec.specs.Answers.{each}
 use Rattle.world_parts.specs.Items.{Atom, slot_at, descriptor_at, description_at, value, one, member_of, Use, reads, Footprint, has_atom, Agree}
-use Rattle.op_meaning.specs.Footprint.{as_reads, held_item, file_reads, of_file, of_description, on_file}
+use Rattle.foot_print.specs.Footprint.{as_reads, held_item, file_reads, of_file, of_description, on_file}
 use Rattle.world_parts.proofs.Collision.{both, either_left, either_right, same_atom_refl}
 use Rattle.world_parts.proofs.Trees.{some_apart, some_same}
 

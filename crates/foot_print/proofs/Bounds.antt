@@ -18,7 +18,8 @@ use Rattle.file_tree.specs.Tree.{target, Target, kind_of_node}
 use Rattle.file_tree.specs.Walk.{Place, walk, walk_from, names_from, directory_at, fits_name, starts_at_root, is_directory}
 use Rattle.op_meaning.specs.Meaning.{made_node, made_description, slot_count, Handle, handle_of, held, is_file, allocation, Allocation}
 use Rattle.world_parts.specs.Items.{Atom, description_at, position_of, size_of, byte_at, name_at, names_in, buffer_byte, Item, one, file_bytes, buffer_bytes, member_of, Use, reads, writes, Footprint, has_atom}
-use Rattle.op_meaning.specs.Footprint.{Shape, idle, looking, moving, allocating, resizing, closing, opening, making, freeing, linking, renaming, shape, foreseen, transfer_row, shape_row, allocation_uses, open_uses, use_of, held_item, file_reads, of_file, of_description, on_file, range_of, transfer_range, position_written, position_use, span_use, path_reads, name_written, directory_names, read_content, write_content, allocated_content, resized_content}
+use Rattle.foot_print.specs.Footprint.{foreseen, transfer_row, shape_row, allocation_uses, open_uses, use_of, held_item, file_reads, of_file, of_description, on_file, range_of, transfer_range, position_written, position_use, span_use, path_reads, name_written, directory_names, read_content, write_content, allocated_content, resized_content}
+use Rattle.op_meaning.specs.Shape.{Shape, idle, looking, moving, allocating, resizing, closing, opening, making, freeing, linking, renaming, shape}
 use Rattle.foot_print.specs.Reach.{taken}
 use Rattle.foot_print.specs.Replayed.{IsBefore, is_earlier}
 use Rattle.world_parts.proofs.Collision.{same_atom-eq}

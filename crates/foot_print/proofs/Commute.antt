@@ -5,7 +5,7 @@ use Rattle.trace_format.specs.declared.trace.Trace.{Trace}
 use Rattle.world_parts.specs.World.{World}
 use Rattle.op_meaning.specs.Step.{step_world}
 use Rattle.world_parts.specs.Items.{Atom, value, Footprint, has_atom, writes_atom, collide, Agree}
-use Rattle.op_meaning.specs.Footprint.{footprint}
+use Rattle.foot_print.specs.Footprint.{footprint}
 use Rattle.foot_print.specs.Laws.{Awaits, CoversAt, Covers, FootprintsCover, StepsKeepWorlds, StepsCommute}
 use Rattle.world_parts.proofs.Collision.{first_unwritten, second_unwritten, writes-has}
 use Rattle.world_parts.proofs.Values.{atoms_make_the_world}

@@ -15,7 +15,8 @@ use Rattle.file_tree.specs.Walk.{Place, names_on, walk}
 use Rattle.file_tree.specs.declared.walk.Place as code
 use Rattle.foot_print.specs.Reach.{file_seen, shape_seen}
 use Rattle.foot_print.specs.Rest.{at_place, content_of, moved_of, written_name, rest, rest_in}
-use Rattle.op_meaning.specs.Footprint.{Taken, held_item, file_reads, of_file, of_description, on_file, position_written, read_content, write_content, through, transfer_row, path_reads, name_written, name_freed, linkat_row, renameat_row, allocated_content, resized_content, room_uses, room_where, made_where, description_made, opened_at, directory_made, Shape, shape, idle, looking, moving, allocating, resizing, closing, opening, making, freeing, linking, renaming, shape_row, row_in, tried, as_reads}
+use Rattle.foot_print.specs.Footprint.{Taken, held_item, file_reads, of_file, of_description, on_file, position_written, read_content, write_content, through, transfer_row, path_reads, name_written, name_freed, linkat_row, renameat_row, allocated_content, resized_content, room_uses, room_where, made_where, description_made, opened_at, directory_made, shape_row, row_in, tried, as_reads}
+use Rattle.op_meaning.specs.Shape.{Shape, shape, idle, looking, moving, allocating, resizing, closing, opening, making, freeing, linking, renaming}
 use Rattle.op_meaning.specs.Handles.{handle_meant}
 use Rattle.op_meaning.specs.Lookups.{file_found, Finds, new_place_found, place_found}
 use Rattle.op_meaning.specs.Meaning.{handle, handle_of, held, is_file, meaning, Handle}

@@ -11,7 +11,7 @@ use Rattle.entry_checks.specs.Operation.{nop, fsync, close, File, in_slot, at_de
 use Rattle.world_parts.specs.World.{World, slot, set_slot, set_descriptor}
 use Rattle.op_meaning.specs.Meaning.{done, slot_count, held}
 use Rattle.world_parts.specs.Items.{Atom, slot_at, descriptor_at, Item, one, reads, writes, has_atom, writes_atom, Agree}
-use Rattle.op_meaning.specs.Footprint.{held_item, file_reads}
+use Rattle.foot_print.specs.Footprint.{held_item, file_reads}
 use Rattle.foot_print.specs.Laws.{Awaits}
 use Rattle.world_parts.proofs.Collision.{either_left, true_of, same_atom_refl}
 use Rattle.foot_print.proofs.Agreement.{held_same}

@@ -14,7 +14,7 @@ use Rattle.file_tree.specs.Tree.{a_directory, Target}
 use Rattle.file_tree.specs.Walk.{Place, walk, is_directory}
 use Rattle.op_meaning.specs.Meaning.{Effect, done, made_node, new_directory, has_names, may_remove, goes_below, exchange_meaning, exchanged, move_meaning, moved_name, may_replace, rename_to}
 use Rattle.world_parts.specs.Items.{name_at, names_in, one, reads, writes, Footprint, Agree, Holds}
-use Rattle.op_meaning.specs.Footprint.{tried, made_where, name_written, path_reads, directory_names}
+use Rattle.foot_print.specs.Footprint.{tried, made_where, name_written, path_reads, directory_names}
 use Rattle.foot_print.specs.Laws.{Awaits, Unused}
 use Rattle.world_parts.proofs.Collision.{either_left, same_atom_refl}
 use Rattle.foot_print.proofs.Agreement.{agree_left, agree_right, agree_head}

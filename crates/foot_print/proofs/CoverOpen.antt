@@ -16,7 +16,7 @@ use Rattle.extent_bytes.specs.Bytes.{resized}
 use Rattle.file_tree.specs.Walk.{Place, walk, is_directory}
 use Rattle.op_meaning.specs.Meaning.{Effect, made_node, made_description, slot_count, lowest_free, room, filled, may_open, found_or_made, open_changes, opened_with, open_as}
 use Rattle.world_parts.specs.Items.{slot_at, descriptor_at, description_at, position_of, size_of, byte_at, one, all_descriptors, reads, writes, Footprint, has_atom, writes_atom, Agree, Holds}
-use Rattle.op_meaning.specs.Footprint.{tried, row, made_where, name_written, path_reads, range_of, room_uses, description_made, open_uses}
+use Rattle.foot_print.specs.Footprint.{tried, row, made_where, name_written, path_reads, range_of, room_uses, description_made, open_uses}
 use Rattle.foot_print.specs.Laws.{Awaits, Unused}
 use Rattle.world_parts.proofs.Collision.{both, either_left}
 use Rattle.foot_print.proofs.Agreement.{agree_left, agree_right}

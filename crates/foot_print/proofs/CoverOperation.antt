@@ -14,9 +14,9 @@ use Rattle.entry_checks.specs.Check.{has, io_hardlink, skip_success}
 use Rattle.chain_plan.specs.Chain.{role}
 use Rattle.world_parts.specs.World.{World, Change, break_chain, apply, apply_all, loud, quiet}
 use Rattle.op_meaning.specs.Meaning.{Effect, meaning}
-use Rattle.op_meaning.specs.Step.{runs, turn, step_world, step_changes, changes_in, changes_of, breaks}
+use Rattle.op_meaning.specs.Step.{runs, turn, step_world, step_changes, changes_in, changes_of, breaks, ring_at}
 use Rattle.world_parts.specs.Items.{Atom, chain_flag, member_of, value, one, Use, writes, Footprint, has_atom, writes_atom, Agree, Holds}
-use Rattle.op_meaning.specs.Footprint.{tried, row, row_in, as_reads, order_uses, turn_uses, ring_at, footprint}
+use Rattle.foot_print.specs.Footprint.{tried, row, row_in, as_reads, order_uses, turn_uses, footprint}
 use Rattle.foot_print.specs.Laws.{Awaits, Unused, Covers}
 use Rattle.world_parts.proofs.Collision.{either_left, either_right, true_of, same_atom_refl}
 use Rattle.foot_print.proofs.Agreement.{in_left, in_right, agree_taken}

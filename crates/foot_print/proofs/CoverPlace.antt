@@ -8,10 +8,10 @@ use Rattle.entry_checks.specs.Operation.{Operation}
 use Rattle.chain_plan.specs.Chain.{role}
 use Rattle.world_parts.specs.World.{World, Broken}
 use Rattle.op_meaning.specs.Meaning.{meaning}
-use Rattle.op_meaning.specs.Step.{Turn, runs, turn_under, turn, reply_of, changes_in, step_reply, step_changes, run_reply, changes_of, breaks, failed}
+use Rattle.op_meaning.specs.Step.{Turn, runs, turn_under, turn, reply_of, changes_in, step_reply, step_changes, run_reply, changes_of, breaks, failed, ring_at}
 use Rattle.sqe_codec.specs.Answers.{each}
 use Rattle.world_parts.specs.Items.{chain_flag, one, writes, Agree}
-use Rattle.op_meaning.specs.Footprint.{use_of, row_in, order_uses, turn_uses, ring_at, footprint}
+use Rattle.foot_print.specs.Footprint.{use_of, row_in, order_uses, turn_uses, footprint}
 use Rattle.op_meaning.proofs.Turns.{of_flag}
 use Rattle.foot_print.proofs.Agreement.{agree_left, agree_right, agree_head, agree_tail}
 

@@ -13,7 +13,7 @@ use Rattle.world_parts.specs.World.{World, IsWorld, bytes, position, set_positio
 use Rattle.file_tree.specs.Tree.{byte_of}
 use Rattle.op_meaning.specs.Meaning.{Effect, done, Handle, handle, can_read, is_file, is_bad_offset, Destination, read_effect, read_meaning, bytes_in, delivered}
 use Rattle.world_parts.specs.Items.{size_of, byte_at, position_of, value, one, reads, writes, Footprint, Agree}
-use Rattle.op_meaning.specs.Footprint.{of_file, range_of, transfer_range, position_written, read_row}
+use Rattle.foot_print.specs.Footprint.{of_file, range_of, transfer_range, position_written, read_row}
 use Rattle.foot_print.proofs.OpenFile.{on_file_alike, length_same, bounded, in_range}
 use Rattle.foot_print.proofs.Agreement.{agree_left, agree_head, agree_tail, handle_same, agree_on_content}
 

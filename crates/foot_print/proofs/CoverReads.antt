@@ -15,7 +15,7 @@ use Rattle.trace_format.specs.Sides.{most_moved}
 use Rattle.world_parts.specs.World.{World}
 use Rattle.op_meaning.specs.Meaning.{Effect, done, Handle, handle, can_read, is_file, is_bad_offset, Destination, reply, into, delivered, advance, transfer_start, bytes_in, read_effect, readable, read_meaning, span_start, span_destination}
 use Rattle.world_parts.specs.Items.{position_of, buffer_byte, member_of, one, buffer_bytes, Use, writes, Footprint, writes_atom}
-use Rattle.op_meaning.specs.Footprint.{on_file, position_written, position_use, read_row, span_use, read_content}
+use Rattle.foot_print.specs.Footprint.{on_file, position_written, position_use, read_row, span_use, read_content}
 use Rattle.foot_print.specs.Laws.{Awaits}
 use Rattle.world_parts.proofs.Collision.{both, either_left, left, right, true_of}
 use Rattle.foot_print.proofs.Agreement.{in_left, in_right, agree_left}

@@ -12,7 +12,7 @@ use Rattle.entry_checks.specs.Operation.{fallocate, ftruncate, File, file_limit}
 use Rattle.world_parts.specs.World.{World, bytes, size, Change, apply, set_size, zero_bytes}
 use Rattle.op_meaning.specs.Meaning.{Effect, done, Handle, handle, can_write, bytes_in, Allocation, allocation, extend, reserve, punch, zero_extend, zero_within, allocate, extended}
 use Rattle.world_parts.specs.Items.{size_of, byte_at, value, member_of, one, Use, writes, Footprint, writes_atom, Agree}
-use Rattle.op_meaning.specs.Footprint.{range_of, would_extend, allocation_uses, on_file}
+use Rattle.foot_print.specs.Footprint.{range_of, would_extend, allocation_uses, on_file}
 use Rattle.foot_print.specs.Laws.{Awaits}
 use Rattle.world_parts.proofs.Collision.{both, either_left, either_right, left, right}
 use Rattle.foot_print.proofs.Agreement.{agree_head}

@@ -8,9 +8,9 @@ use Rattle.sqe_codec.specs.Answers.{each}
 use Rattle.entry_checks.specs.Operation.{Operation}
 use Rattle.chain_plan.specs.Chain.{role}
 use Rattle.world_parts.specs.World.{World}
-use Rattle.op_meaning.specs.Step.{Turn, filled, runs, turn, changes_in}
+use Rattle.op_meaning.specs.Step.{Turn, filled, runs, turn, changes_in, ring_at}
 use Rattle.world_parts.specs.Items.{buffer_byte, member_of, within, Use}
-use Rattle.op_meaning.specs.Footprint.{order_uses, turn_uses, ring_at, footprint}
+use Rattle.foot_print.specs.Footprint.{order_uses, turn_uses, footprint}
 use Rattle.foot_print.specs.Laws.{Awaits, Covers, FootprintsCover}
 use Rattle.world_parts.proofs.Collision.{both, either_left}
 use Rattle.foot_print.proofs.Agreement.{in_right}

@@ -11,7 +11,7 @@ use Rattle.world_parts.specs.World.{World, name}
 use Rattle.file_tree.specs.Tree.{Target}
 use Rattle.file_tree.specs.Walk.{Place, walk, walk_from, names_from, names_on, directory_at, fits_name, starts_at_root}
 use Rattle.world_parts.specs.Items.{name_at, one, Use, reads, Footprint, Agree}
-use Rattle.op_meaning.specs.Footprint.{path_reads}
+use Rattle.foot_print.specs.Footprint.{path_reads}
 use Rattle.foot_print.proofs.Agreement.{agree_head, agree_tail}
 use Rattle.world_parts.proofs.ChangesOfNames.{Leads}
 use Rattle.foot_print.proofs.Accepted.{err_apart, ok_require}

@@ -18,7 +18,7 @@ use Rattle.trace_format.specs.Sides.{most_moved}
 use Rattle.world_parts.specs.World.{World, IsWorld, bytes, size, buffer}
 use Rattle.op_meaning.specs.Meaning.{Effect, done, Handle, handle, can_write, is_bad_offset, write_start, write_effect, writable, write_meaning, bytes_in, span_start, span_bytes}
 use Rattle.world_parts.specs.Items.{Atom, member_of, size_of, byte_at, position_of, buffer_byte, within, one, Use, writes, Footprint, writes_atom, Agree}
-use Rattle.op_meaning.specs.Footprint.{Taken, tried, is_foreseen, use_of, on_file, transfer_range, position_written, position_use, would_extend, write_row, span_use}
+use Rattle.foot_print.specs.Footprint.{Taken, tried, is_foreseen, use_of, on_file, transfer_range, position_written, position_use, would_extend, write_row, span_use}
 use Rattle.foot_print.specs.Laws.{Awaits}
 use Rattle.world_parts.proofs.Collision.{both, either_left, either_right, left, right}
 use Rattle.foot_print.proofs.Agreement.{in_left, agree_left, agree_right, agree_head, agree_tail, handle_same}

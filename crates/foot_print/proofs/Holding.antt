@@ -11,7 +11,7 @@ use Rattle.entry_checks.specs.Operation.{File}
 use Rattle.world_parts.specs.World.{World}
 use Rattle.op_meaning.specs.Meaning.{Handle}
 use Rattle.world_parts.specs.Items.{Atom, Item, member_of, Use, writes, Footprint, has_atom, writes_atom}
-use Rattle.op_meaning.specs.Footprint.{as_reads, use_of, on_file}
+use Rattle.foot_print.specs.Footprint.{as_reads, use_of, on_file}
 use Rattle.world_parts.proofs.Collision.{both, left, right}
 use Rattle.foot_print.proofs.Agreement.{in_left, in_right}
 

@@ -13,7 +13,7 @@ use Rattle.world_parts.specs.World.{World, IsWorld}
 use Rattle.world_parts.specs.Start.{start}
 use Rattle.op_meaning.specs.Step.{Turn, filled, runs, turn_under, step_world}
 use Rattle.world_parts.specs.Items.{Atom, chain_flag, descriptor_at, one, all_descriptors, member_of, Use, Footprint, has_atom, Agree}
-use Rattle.op_meaning.specs.Footprint.{footprint, turn_uses}
+use Rattle.foot_print.specs.Footprint.{footprint, turn_uses}
 use Rattle.foot_print.specs.Laws.{Awaits, CoversAt, FootprintsCover}
 use Rattle.foot_print.specs.Reach.{makes, task, is_canceled, look_of, extras_of, unresolved_of, order_of, running_row, reach}
 use Rattle.foot_print.proofs.Awaiting.{awaits_unused}

@@ -11,8 +11,9 @@ use Rattle.world_parts.specs.World.{World}
 use Rattle.world_parts.specs.Items.{Atom, chain_flag, descriptor_at, position_of, size_of, name_at, names_in, Item, one, buffer_bytes, Use, reads, writes, Footprint}
 use Rattle.world_parts.specs.Cutting.{is_narrow_use, is_narrow}
 use Rattle.op_meaning.specs.Meaning.{meaning, made_node, span_start, Handle, handle, held, allocation, lowest_free}
-use Rattle.op_meaning.specs.Step.{Turn, runs, turn}
-use Rattle.op_meaning.specs.Footprint.{Shape, idle, looking, moving, allocating, resizing, closing, opening, making, freeing, linking, renaming, shape, transfer_row, shape_row, use_of, as_reads, Taken, tried, is_foreseen, held_item, file_reads, range_of, transfer_range, position_written, of_description, on_file, span_use, position_use, would_extend, allocation_uses, path_reads, name_written, made_where, room_where, room_uses, description_made, open_uses, openat_row, row_in, order_uses, turn_uses, ring_at, read_content, directory_made, name_freed}
+use Rattle.op_meaning.specs.Step.{Turn, runs, turn, ring_at}
+use Rattle.foot_print.specs.Footprint.{transfer_row, shape_row, use_of, as_reads, Taken, tried, is_foreseen, held_item, file_reads, range_of, transfer_range, position_written, of_description, on_file, span_use, position_use, would_extend, allocation_uses, path_reads, name_written, made_where, room_where, room_uses, description_made, open_uses, openat_row, row_in, order_uses, turn_uses, read_content, directory_made, name_freed}
+use Rattle.op_meaning.specs.Shape.{Shape, idle, looking, moving, allocating, resizing, closing, opening, making, freeing, linking, renaming, shape}
 use Rattle.foot_print.specs.Parts.{FootprintsAreNarrow}
 use Rattle.foot_print.proofs.Holding.{all_append, all_each, all_each_ok}
 use Rattle.foot_print.proofs.CoverWrites.{content}

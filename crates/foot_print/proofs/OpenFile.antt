@@ -17,7 +17,7 @@ use Rattle.file_tree.specs.Tree.{Kind, a_directory, Node, kind_of_node, bytes_of
 use Rattle.file_tree.specs.Walk.{is_directory}
 use Rattle.op_meaning.specs.Meaning.{Effect, Handle, handle, handle_of, held, can_write, is_file, bytes_in}
 use Rattle.world_parts.specs.Items.{description_at, size_of, value, one, Use, reads, Footprint, has_atom, Agree, byte_at, within}
-use Rattle.op_meaning.specs.Footprint.{range_of, on_file, of_file, of_description, file_reads}
+use Rattle.foot_print.specs.Footprint.{range_of, on_file, of_file, of_description, file_reads}
 use Rattle.world_parts.proofs.Collision.{true_of, both, either_left}
 use Rattle.foot_print.proofs.Agreement.{in_right, agree_left, agree_right, agree_head, agree_tail, handle_same, agree_on_content, held_same}
 

@@ -16,8 +16,9 @@ use Rattle.chain_plan.specs.declared.role.Role.{Role}
 use Rattle.chain_plan.specs.Chain.{role}
 use Rattle.world_parts.specs.Items.{Item, Footprint, one, chain_flag}
 use Rattle.world_parts.specs.World.{World, Broken, broken}
-use Rattle.op_meaning.specs.Footprint.{Shape, shape, order_uses, ring_at, row_in, turn_uses}
-use Rattle.op_meaning.specs.Step.{Turn, filled, refused, canceled, runs, posts, running_turn, turn_under}
+use Rattle.foot_print.specs.Footprint.{order_uses, row_in, turn_uses}
+use Rattle.op_meaning.specs.Shape.{Shape, shape}
+use Rattle.op_meaning.specs.Step.{Turn, filled, refused, canceled, runs, posts, running_turn, turn_under, ring_at}
 use Rattle.op_meaning.proofs.Turns.{by_flag, under_flag}
 use Rattle.foot_print.specs.Reach.{is_canceled, look_of, order_of, shape_seen, seen, task, running_row}
 use Rattle.foot_print.specs.Foreseen.{meets_written, may_run, unresolved_given, decided_given, operation_given, reach_given, member_given, member_runs}

@@ -12,7 +12,7 @@ use Rattle.world_parts.specs.Items.{Item, file_bytes, buffer_bytes, Use, Footpri
 use Rattle.world_parts.specs.Cutting.{zeros_in, holed, Shows, IsPartOf, PutsTo}
 use Rattle.op_meaning.specs.Meaning.{made_node, made_description}
 use Rattle.op_meaning.specs.Step.{step_world}
-use Rattle.op_meaning.specs.Footprint.{footprint}
+use Rattle.foot_print.specs.Footprint.{footprint}
 use Rattle.foot_print.specs.Laws.{Unused, CoversAt}
 use Rattle.foot_print.specs.Parts.{PlacesRunOnParts, HolesKeepWorlds}
 use Rattle.world_parts.proofs.Collision.{writes-has}

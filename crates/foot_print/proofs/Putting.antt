@@ -10,7 +10,7 @@ use Rattle.world_parts.specs.Items.{Atom, value, Footprint, has_atom, collide}
 use Rattle.world_parts.specs.Part.{Part}
 use Rattle.world_parts.specs.Cutting.{holed, holed_by, PutsTo}
 use Rattle.op_meaning.specs.Step.{step_world, step_reply}
-use Rattle.op_meaning.specs.Footprint.{footprint}
+use Rattle.foot_print.specs.Footprint.{footprint}
 use Rattle.foot_print.specs.Laws.{CoversAt}
 use Rattle.foot_print.specs.Parts.{IsReady, are_apart, AreReady, footprints, places, PutIsStep, PutsAll, none_left, then_put, RoundIsSteps}
 use Rattle.foot_print.specs.Replayed.{replayed}

@@ -14,7 +14,7 @@ use Rattle.sqe_codec.specs.Answers.{each}
 use Rattle.entry_checks.specs.Operation.{Operation}
 use Rattle.world_parts.specs.World.{World, Broken, broken}
 use Rattle.op_meaning.specs.Step.{Turn, runs, running_turn}
-use Rattle.op_meaning.specs.Footprint.{footprint, turn_uses}
+use Rattle.foot_print.specs.Footprint.{footprint, turn_uses}
 use Rattle.op_meaning.proofs.Turns.{by_flag, under_flag}
 use Rattle.foot_print.specs.Reach.{task, is_canceled, order_of}
 use Rattle.foot_print.specs.Replayed.{replayed, rows}

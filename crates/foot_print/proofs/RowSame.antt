@@ -8,7 +8,7 @@ use Rattle.finite_maps.specs.Table.{empty}
 use Rattle.world_parts.specs.World.{World, IsWorld}
 use Rattle.op_meaning.specs.Step.{Turn, runs}
 use Rattle.world_parts.specs.Items.{Atom, chain_flag, value, has_atom, Agree}
-use Rattle.op_meaning.specs.Footprint.{footprint, row_in, turn_uses}
+use Rattle.foot_print.specs.Footprint.{footprint, row_in, turn_uses}
 use Rattle.foot_print.specs.Laws.{Awaits, FootprintsCover}
 use Rattle.foot_print.proofs.Awaiting.{awaits_unused}
 use Rattle.foot_print.specs.Reach.{task, order_of, running_row}

@@ -11,7 +11,8 @@ use Rattle.file_tree.specs.Tree.{Target}
 use Rattle.file_tree.specs.Walk.{Place, walk}
 use Rattle.op_meaning.specs.Meaning.{meaning, made_node, allocation, Allocation, extend, zero_extend}
 use Rattle.world_parts.specs.Items.{Atom, description_at, position_of, size_of, byte_at, name_at, names_in, same_atom, Item, one, file_bytes, all_names, all_bytes_and_sizes, all_descriptors, member_of, Use, reads, writes, Footprint, has_atom, writes_atom}
-use Rattle.op_meaning.specs.Footprint.{Shape, idle, looking, moving, allocating, resizing, closing, opening, making, freeing, linking, renaming, shape, transfer_row, shape_row, tried, foreseen, use_of, span_use, write_row, allocation_uses, path_reads, name_written, made_where, room_uses, description_made, open_uses, openat_row, mkdirat_row, row_in, would_extend}
+use Rattle.foot_print.specs.Footprint.{transfer_row, shape_row, tried, foreseen, use_of, span_use, write_row, allocation_uses, path_reads, name_written, made_where, room_uses, description_made, open_uses, openat_row, mkdirat_row, row_in, would_extend}
+use Rattle.op_meaning.specs.Shape.{Shape, idle, looking, moving, allocating, resizing, closing, opening, making, freeing, linking, renaming, shape}
 use Rattle.foot_print.specs.Reach.{written_by, shape_makes, shape_asked, room_at, node_made, room_taken}
 use Rattle.world_parts.proofs.Collision.{same_atom-eq}
 use Rattle.foot_print.proofs.Holding.{Over, always, drop_false, over_self, over_nothing, over_all, over_first, over_second, over_both, over_written, over_reads, over_taken, over_on_file}

@@ -10,7 +10,8 @@ use Rattle.world_parts.specs.World.{World, descriptor}
 use Rattle.file_tree.specs.Walk.{Place, walk}
 use Rattle.op_meaning.specs.Meaning.{meaning, Handle, lowest_free}
 use Rattle.world_parts.specs.Items.{Atom, descriptor_at, one, all_descriptors, reads, writes, Footprint, has_atom, Agree}
-use Rattle.op_meaning.specs.Footprint.{Shape, idle, looking, moving, allocating, resizing, closing, opening, making, freeing, linking, renaming, shape, through, tried, foreseen, transfer_row, shape_row, as_reads, on_file, position_written, position_use, span_use, path_reads, name_written, room_uses, row_in, read_content, write_content, allocated_content, resized_content, opened_at, directory_made, name_freed}
+use Rattle.foot_print.specs.Footprint.{through, tried, foreseen, transfer_row, shape_row, as_reads, on_file, position_written, position_use, span_use, path_reads, name_written, room_uses, row_in, read_content, write_content, allocated_content, resized_content, opened_at, directory_made, name_freed}
+use Rattle.op_meaning.specs.Shape.{Shape, idle, looking, moving, allocating, resizing, closing, opening, making, freeing, linking, renaming, shape}
 use Rattle.foot_print.specs.Reach.{written_by, shape_seen, shape_asked, room_asked, room_at, seen, file_seen, taken, room_taken}
 use Rattle.foot_print.proofs.Agreement.{agree_left, agree_right, has_atom-as_reads, handle_same}
 use Rattle.foot_print.proofs.CoverWalk.{walk_same, path_reads_same}

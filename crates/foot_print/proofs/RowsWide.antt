@@ -12,7 +12,8 @@ use Rattle.file_tree.specs.Tree.{Target}
 use Rattle.file_tree.specs.Walk.{Place, walk, is_directory, names_on}
 use Rattle.op_meaning.specs.Meaning.{made_node, Handle, handle, held}
 use Rattle.world_parts.specs.Items.{Atom, description_at, position_of, size_of, byte_at, name_at, names_in, Item, one, file_bytes, all_bytes_and_sizes, member_of, Use, reads, writes, Footprint, has_atom, writes_atom}
-use Rattle.op_meaning.specs.Footprint.{Shape, idle, looking, moving, allocating, resizing, closing, opening, making, freeing, linking, renaming, shape, foreseen, transfer_row, shape_row, open_uses, openat_row, file_reads, of_description, on_file, range_of, position_written, position_use, span_use, path_reads, name_written, read_content, write_content, allocated_content, transfer_range, directory_made, name_freed}
+use Rattle.foot_print.specs.Footprint.{foreseen, transfer_row, shape_row, open_uses, openat_row, file_reads, of_description, on_file, range_of, position_written, position_use, span_use, path_reads, name_written, read_content, write_content, allocated_content, transfer_range, directory_made, name_freed}
+use Rattle.op_meaning.specs.Shape.{Shape, idle, looking, moving, allocating, resizing, closing, opening, making, freeing, linking, renaming, shape}
 use Rattle.foot_print.specs.Reach.{unresolved_shape, taken, all_files, any_name, unresolved_file, unresolved_row}
 use Rattle.foot_print.specs.Replayed.{is_earlier}
 use Rattle.world_parts.proofs.Collision.{both, left, right, either_left, same_atom-eq}

@@ -6,7 +6,7 @@ use Rattle.world_parts.specs.World.{World, IsWorld, name, opened}
 use Rattle.world_parts.specs.Items.{Atom, value, Footprint, writes_atom, collide, Agree}
 use Rattle.op_meaning.specs.Meaning.{made_node, made_description}
 use Rattle.op_meaning.specs.Step.{step_world, step_reply}
-use Rattle.op_meaning.specs.Footprint.{footprint}
+use Rattle.foot_print.specs.Footprint.{footprint}
 
 -- A world in which the numbers that a place makes are unused.
 pub record Awaits (t : Trace) (k : ℕ) (s : World) : Type 0 where

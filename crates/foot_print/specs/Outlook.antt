@@ -5,7 +5,7 @@ use Rattle.chain_plan.specs.declared.role.Role.{Role}
 use Rattle.entry_checks.specs.Operation.{Operation, openat}
 use Rattle.world_parts.specs.World.{World, broken}
 use Rattle.world_parts.specs.Items.{Item, one, chain_flag, Use, Footprint}
-use Rattle.op_meaning.specs.Footprint.{row_in}
+use Rattle.foot_print.specs.Footprint.{row_in}
 use Rattle.op_meaning.specs.Step.{Turn, runs}
 use Rattle.foot_print.specs.Reach.{seen, look_of, task, running_row}
 use Rattle.foot_print.specs.Foreseen.{meets_written, may_run, member_runs, reach_given}

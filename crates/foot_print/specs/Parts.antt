@@ -8,7 +8,7 @@ use Rattle.world_parts.specs.Items.{Footprint, collide, Agree}
 use Rattle.world_parts.specs.Part.{Part}
 use Rattle.world_parts.specs.Cutting.{holed, holed_by, is_narrow, IsPartOf, PutsTo}
 use Rattle.op_meaning.specs.Step.{step_world, step_reply}
-use Rattle.op_meaning.specs.Footprint.{footprint}
+use Rattle.foot_print.specs.Footprint.{footprint}
 use Rattle.foot_print.specs.Laws.{Awaits}
 use Rattle.foot_print.specs.Replayed.{replayed}
 

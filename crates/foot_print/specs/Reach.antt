@@ -7,10 +7,11 @@ use Rattle.entry_checks.specs.Operation.{Operation, File, file_limit}
 use Rattle.chain_plan.specs.Chain.{role}
 use Rattle.world_parts.specs.World.{World}
 use Rattle.op_meaning.specs.Meaning.{made_node, made_description}
-use Rattle.op_meaning.specs.Step.{Turn, filled, canceled, runs, turn, turn_under}
+use Rattle.op_meaning.specs.Step.{Turn, filled, canceled, runs, turn, turn_under, ring_at}
 use Rattle.world_parts.specs.Items.{Item, file_bytes, chain_flag, size_of, names_in, one, all_names, all_bytes_and_sizes, all_positions, all_descriptions, all_descriptors, reads, writes, Footprint}
 pub use Rattle.item_index.specs.Touching.{written_by}
-use Rattle.op_meaning.specs.Footprint.{Shape, idle, looking, moving, allocating, resizing, closing, opening, making, freeing, linking, renaming, shape, foreseen, row, through, file_reads, on_file, path_reads, room_uses, description_made, close_row, order_uses, turn_uses, ring_at}
+use Rattle.foot_print.specs.Footprint.{foreseen, row, through, file_reads, on_file, path_reads, room_uses, description_made, close_row, order_uses, turn_uses}
+use Rattle.op_meaning.specs.Shape.{Shape, idle, looking, moving, allocating, resizing, closing, opening, making, freeing, linking, renaming, shape}
 
 -- Whether one of some access sets writes an atom of an item of an access set.
 abbrev pub is_met : Footprint → List Footprint → Bool

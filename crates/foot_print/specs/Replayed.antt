@@ -11,7 +11,7 @@ use Rattle.world_parts.specs.Start.{start}
 use Rattle.op_meaning.specs.declared.reply.Reply.{Reply}
 use Rattle.op_meaning.specs.Step.{turn, step_world, step_reply}
 use Rattle.world_parts.specs.Items.{Atom, chain_flag, description_at, position_of, size_of, byte_at, name_at, names_in, Value, value, one, Footprint, has_atom, writes_atom, collide}
-use Rattle.op_meaning.specs.Footprint.{footprint}
+use Rattle.foot_print.specs.Footprint.{footprint}
 use Rattle.foot_print.specs.Reach.{Look, look_of, task, is_canceled, is_taken_to_run, is_met, written_by, order_of, running_row, accepted_row, wide_row, reach}
 
 -- The numbers that a place makes are unused; so are those of every later place.

@@ -10,7 +10,8 @@ use Rattle.file_tree.specs.Walk.{Place}
 use Rattle.file_tree.specs.declared.walk.Place as code
 use Rattle.foot_print.specs.declared.attempt.Taken as attempts
 use Rattle.foot_print.specs.declared.attempt.Taken.TheVariants.{Tried, Foreseen}
-use Rattle.op_meaning.specs.Footprint.{Taken, tried, foreseen, as_reads, room_where, made_where, file_reads, of_file, position_written, read_content, write_content, allocated_content, resized_content, through, room_uses, description_made, opened_at, directory_made, name_freed, close_row, Shape, shape, idle, looking, moving, allocating, resizing, closing, opening, making, freeing, linking, renaming}
+use Rattle.foot_print.specs.Footprint.{Taken, tried, foreseen, as_reads, room_where, made_where, file_reads, of_file, position_written, read_content, write_content, allocated_content, resized_content, through, room_uses, description_made, opened_at, directory_made, name_freed, close_row}
+use Rattle.op_meaning.specs.Shape.{Shape, shape, idle, looking, moving, allocating, resizing, closing, opening, making, freeing, linking, renaming}
 use Rattle.op_meaning.specs.Handles.{handle_meant}
 use Rattle.op_meaning.specs.Lookups.{file_found, new_place_found, place_found}
 use Rattle.op_meaning.specs.Meaning.{meaning, Handle}

@@ -3,8 +3,8 @@ use Rattle.std.specs.Option.{option_map}
 use Rattle.entry_checks.specs.Meant.{file_meant, flags_meant, path_meant, span_meant}
 use Rattle.foot_print.specs.declared.shape.Shape.{Shape}
 use Rattle.foot_print.specs.declared.shape.Shape.TheVariants as code
-use Rattle.op_meaning.specs.Footprint as model
-use Rattle.op_meaning.specs.Footprint.{idle, looking, moving, allocating, resizing, closing, opening, making, freeing, linking, renaming}
+use Rattle.op_meaning.specs.Shape as model
+use Rattle.op_meaning.specs.Shape.{idle, looking, moving, allocating, resizing, closing, opening, making, freeing, linking, renaming}
 
 abbrev pub shape_meant : Shape → model.Shape
 shape_meant code.Idle = idle

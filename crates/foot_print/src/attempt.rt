@@ -1,7 +1,7 @@
 //! Operations as their uses are taken.
 ghost use Rattle.std.specs.Prelude.{◌≡◌};
 ghost use Rattle.foot_print.specs.Rest.{taken_meant};
-ghost use Rattle.op_meaning.specs.Footprint as rows;
+ghost use Rattle.foot_print.specs.Footprint as rows;
 
 use op_meaning::Site;
 

@@ -3,7 +3,8 @@ ghost use Rattle.std.specs.Prelude.{◌≡◌, ◌++◌, OnOk};
 ghost use Rattle.entry_checks.specs.Meant.{meant};
 ghost use Rattle.foot_print.specs.Rest.{rest, rest_in, taken_meant};
 ghost use Rattle.foot_print.specs.Shapes.{shape_meant};
-ghost use Rattle.op_meaning.specs.Footprint.{foreseen, row_in, shape};
+ghost use Rattle.foot_print.specs.Footprint.{foreseen, row_in};
+ghost use Rattle.op_meaning.specs.Shape.{shape};
 ghost use Rattle.op_meaning.specs.Lookups.{Finds};
 ghost use Rattle.op_meaning.specs.Site.{IsSite};
 

@@ -3,7 +3,7 @@ ghost use Rattle.std.specs.Prelude.{◌≡◌, ◌++◌, IfOk, OnOk};
 ghost use Rattle.entry_checks.specs.Meant.{path_meant};
 ghost use Rattle.foot_print.specs.Reach.{shape_seen};
 ghost use Rattle.foot_print.specs.Shapes.{shape_meant};
-ghost use Rattle.op_meaning.specs.Footprint as rows;
+ghost use Rattle.foot_print.specs.Footprint as rows;
 ghost use Rattle.op_meaning.specs.Lookups.{Finds, FindsPlaces};
 
 use crate::file_rows::file_seen;

@@ -8,7 +8,7 @@ use Rattle.file_tree.specs.Found.{walk_meant}
 use Rattle.file_tree.specs.Walk.{walk}
 use Rattle.file_tree.specs.declared.walk.Place.{Place}
 use Rattle.world_parts.specs.World.{World}
-use Rattle.op_meaning.specs.Footprint.{Shape, moving, allocating, resizing, opening, making, freeing, linking, renaming}
+use Rattle.op_meaning.specs.Shape.{Shape, moving, allocating, resizing, opening, making, freeing, linking, renaming}
 use Rattle.op_meaning.specs.Handles.{opened_meant}
 use Rattle.op_meaning.specs.Meaning.{handle}
 use Rattle.op_meaning.specs.declared.handles.OpenFile.{OpenFile}

@@ -4,7 +4,7 @@ ghost use Rattle.entry_checks.specs.Meant.{meant};
 ghost use Rattle.entry_checks.specs.Operation.{asked};
 ghost use Rattle.op_meaning.specs.Deciding.{Decides};
 ghost use Rattle.op_meaning.specs.Decision.{effect_of, IsWithinLimits};
-ghost use Rattle.op_meaning.specs.Footprint.{shape};
+ghost use Rattle.op_meaning.specs.Shape.{shape};
 ghost use Rattle.op_meaning.specs.Lookups.{Finds, Tells};
 ghost use Rattle.op_meaning.specs.Meaning.{meaning};
 ghost use Rattle.op_meaning.specs.NameChanges.{decision_meant};

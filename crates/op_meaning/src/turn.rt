@@ -7,7 +7,7 @@ ghost use Rattle.entry_checks.specs.Meant.{meant};
 ghost use Rattle.entry_checks.specs.Operation.{asked};
 ghost use Rattle.op_meaning.specs.Step as step;
 ghost use Rattle.op_meaning.specs.Turns.{IsShort, kind_meant, turn_meant};
-ghost use Rattle.op_meaning.specs.Footprint.{ring_at};
+ghost use Rattle.op_meaning.specs.Step.{ring_at};
 ghost use Rattle.trace_format.specs.Sides.{is_side_of, most_moved};
 ghost use Rattle.trace_format.specs.Steps.{places};
 ghost use Rattle.trace_format.specs.Text.{IsSpelled};

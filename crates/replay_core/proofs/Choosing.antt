@@ -11,7 +11,7 @@ use Rattle.trace_format.specs.Steps.{places}
 use Rattle.trace_format.specs.Text.{IsSpelled}
 use Rattle.world_parts.specs.World.{World, IsWorld}
 use Rattle.world_parts.specs.Items.{Footprint, collide}
-use Rattle.op_meaning.specs.Footprint.{footprint}
+use Rattle.foot_print.specs.Footprint.{footprint}
 use Rattle.foot_print.specs.Laws.{Awaits}
 use Rattle.foot_print.specs.Replayed.{replayed}
 use Rattle.wave_pick.specs.Lawful.{lawful}

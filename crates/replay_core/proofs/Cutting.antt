@@ -16,7 +16,7 @@ use Rattle.world_parts.specs.Part.{Part, Divided}
 use Rattle.world_parts.specs.Cutting.{holed, holed_by, cut_from, IsPartOf}
 use Rattle.world_parts.proofs.Collision.{both}
 use Rattle.world_parts.proofs.Holes.{part_of_whole}
-use Rattle.op_meaning.specs.Footprint.{footprint}
+use Rattle.foot_print.specs.Footprint.{footprint}
 use Rattle.foot_print.specs.Laws.{Awaits}
 use Rattle.foot_print.specs.Parts.{IsReady, are_apart, footprints, places}
 use Rattle.foot_print.proofs.Putting.{ready_more}

@@ -17,7 +17,7 @@ use Rattle.world_parts.proofs.Collision.{left, not_both}
 use Rattle.op_meaning.specs.declared.reply.Reply.{Reply}
 use Rattle.op_meaning.specs.Step.{step_world, step_reply}
 use Rattle.op_meaning.specs.Runs.{run_on}
-use Rattle.op_meaning.specs.Footprint.{footprint}
+use Rattle.foot_print.specs.Footprint.{footprint}
 use Rattle.foot_print.specs.Parts.{are_apart, AreReady, footprints, PutSteps}
 use Rattle.foot_print.specs.Parts as parts
 use Rattle.foot_print.specs.Replayed.{replayed}

@@ -11,7 +11,7 @@ use Rattle.world_parts.specs.Items.{Footprint}
 use Rattle.world_parts.specs.Part.{Part, Divided, whole}
 use Rattle.world_parts.specs.Cutting.{holed_by}
 use Rattle.op_meaning.specs.declared.reply.Reply.{Reply}
-use Rattle.op_meaning.specs.Footprint.{footprint}
+use Rattle.foot_print.specs.Footprint.{footprint}
 use Rattle.foot_print.specs.Replayed.{replayed}
 use Rattle.foot_print.specs.Parts.{AreReady, footprints}
 use Rattle.round_scheduler.specs.declared.telling.Held.{Held}

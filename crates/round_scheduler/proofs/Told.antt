@@ -14,7 +14,7 @@ use Rattle.trace_format.specs.declared.trace.Trace.{Trace}
 use Rattle.trace_format.specs.Steps.{places}
 use Rattle.world_parts.specs.World.{World}
 use Rattle.world_parts.specs.Items.{Item, Footprint, collide}
-use Rattle.op_meaning.specs.Footprint.{footprint}
+use Rattle.foot_print.specs.Footprint.{footprint}
 use Rattle.foot_print.specs.Replayed.{replayed}
 use Rattle.wave_pick.specs.Holding.{Holder, shared_of, reach_in, holder_in}
 use Rattle.wave_pick.specs.Picking.{IsNextWave}

@@ -8,7 +8,7 @@ use Rattle.trace_format.specs.Text.{IsSpelled}
 use Rattle.world_parts.specs.Items.{Footprint, collide}
 use Rattle.world_parts.proofs.Collision.{true_of}
 use Rattle.world_parts.proofs.Sharing.{atom_of_collide}
-use Rattle.op_meaning.specs.Footprint.{footprint}
+use Rattle.foot_print.specs.Footprint.{footprint}
 use Rattle.foot_print.specs.Replayed.{replayed}
 use Rattle.wave_pick.specs.Lawful.{lawful}
 use Rattle.wave_pick.specs.Rounds.{state_after, NoneCollide}

@@ -17,7 +17,8 @@ use Rattle.world_parts.specs.Items.{Atom, slot_at, descriptor_at, description_at
 use Rattle.world_parts.proofs.Collision.{true_of}
 use Rattle.world_parts.proofs.Sharing.{holds_true}
 use Rattle.op_meaning.specs.Meaning.{slot_count, Handle, handle_of, is_file}
-use Rattle.op_meaning.specs.Footprint.{Shape, idle, looking, moving, allocating, resizing, closing, opening, making, freeing, linking, renaming, shape, of_file, of_description, path_reads}
+use Rattle.foot_print.specs.Footprint.{of_file, of_description, path_reads}
+use Rattle.op_meaning.specs.Shape.{Shape, idle, looking, moving, allocating, resizing, closing, opening, making, freeing, linking, renaming, shape}
 use Rattle.op_meaning.specs.Step.{Turn, runs}
 use Rattle.foot_print.specs.Reach.{is_met, shape_seen, seen, file_seen, is_taken_to_run, look_of, task}
 use Rattle.foot_print.specs.Replayed.{replayed}

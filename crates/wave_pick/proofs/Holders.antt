@@ -10,7 +10,7 @@ use Rattle.interleaving.specs.Rounds.{pending}
 use Rattle.interleaving.proofs.Skipping.{below_suc}
 use Rattle.trace_format.specs.declared.trace.Trace.{Trace}
 use Rattle.world_parts.specs.Items.{Item, Footprint, collide}
-use Rattle.op_meaning.specs.Footprint.{footprint}
+use Rattle.foot_print.specs.Footprint.{footprint}
 use Rattle.foot_print.specs.Replayed.{replayed}
 use Rattle.wave_pick.specs.Rounds.{state_after}
 use Rattle.wave_pick.specs.Holding.{shared_of, Holder, reach_in, latest_in, holder_in}

@@ -12,8 +12,9 @@ use Rattle.world_parts.specs.Items.{Atom, chain_flag, ring_order, slot_at, descr
 use Rattle.world_parts.proofs.Collision.{left, true_of, writes-has, same_atom-eq}
 use Rattle.world_parts.proofs.Sharing.{holds_true}
 use Rattle.op_meaning.specs.Meaning.{made_node, made_description, slot_count, span_start, lowest_free}
-use Rattle.op_meaning.specs.Footprint.{Shape, idle, looking, moving, allocating, resizing, closing, opening, making, freeing, linking, renaming, shape, use_of, held_item, file_reads, span_use, description_made, ring_at}
-use Rattle.op_meaning.specs.Step.{Turn, filled, runs}
+use Rattle.foot_print.specs.Footprint.{use_of, held_item, file_reads, span_use, description_made}
+use Rattle.op_meaning.specs.Shape.{Shape, idle, looking, moving, allocating, resizing, closing, opening, making, freeing, linking, renaming, shape}
+use Rattle.op_meaning.specs.Step.{Turn, filled, runs, ring_at}
 use Rattle.foot_print.specs.Reach.{shape_makes, room_asked, room_at, unresolved_shape, written_by, is_met, node_made, makes, all_files, any_name, unresolved_file, unresolved_of, extras_of, task, look_of, order_of, running_row, accepted_row, wide_row, is_taken_to_run, reach}
 use Rattle.foot_print.specs.Replayed.{is_earlier, Known}
 use Rattle.foot_print.proofs.Cover.{all_covered}

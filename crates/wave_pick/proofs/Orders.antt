@@ -12,7 +12,8 @@ use Rattle.world_parts.specs.World.{World}
 use Rattle.world_parts.specs.Items.{Atom, chain_flag, ring_order, one, member_of, Use, writes, Footprint, has_atom, writes_atom, collide}
 use Rattle.world_parts.proofs.Collision.{both, either_left, either_right, true_of, first_writes-collide, second_writes-collide, writes-has}
 use Rattle.world_parts.proofs.Sharing.{holds_true}
-use Rattle.op_meaning.specs.Footprint.{footprint, ring_at}
+use Rattle.foot_print.specs.Footprint.{footprint}
+use Rattle.op_meaning.specs.Step.{ring_at}
 use Rattle.foot_print.specs.Reach.{is_taken_to_run, is_met, look_of, task, order_of, running_row, accepted_row, wide_row, reach}
 use Rattle.foot_print.proofs.Agreement.{in_left}
 use Rattle.wave_pick.specs.Orders.{InOrder}

@@ -12,7 +12,8 @@ use Rattle.world_parts.specs.World.{World}
 use Rattle.world_parts.specs.Items.{Atom, descriptor_at, description_at, size_of, names_in, one, all_descriptors, member_of, Use, reads, writes, Footprint, has_atom}
 use Rattle.world_parts.proofs.Collision.{either_left, same_atom-eq}
 use Rattle.op_meaning.specs.Meaning.{meaning, made_node, Handle, held, handle_of, is_file, allocation, Allocation, extend, lowest_free}
-use Rattle.op_meaning.specs.Footprint.{Shape, idle, looking, moving, allocating, resizing, closing, opening, making, freeing, linking, renaming, shape, tried, foreseen, transfer_row, shape_row, as_reads, would_extend, of_file, of_description, on_file, file_reads, position_use, span_use, write_row, allocation_uses, path_reads, name_written, made_where, room_uses, description_made, open_uses, row, row_in, turn_uses, write_content}
+use Rattle.foot_print.specs.Footprint.{tried, foreseen, transfer_row, shape_row, as_reads, would_extend, of_file, of_description, on_file, file_reads, position_use, span_use, write_row, allocation_uses, path_reads, name_written, made_where, room_uses, description_made, open_uses, row, row_in, turn_uses, write_content}
+use Rattle.op_meaning.specs.Shape.{Shape, idle, looking, moving, allocating, resizing, closing, opening, making, freeing, linking, renaming, shape}
 use Rattle.op_meaning.specs.Step.{Turn, filled, runs}
 use Rattle.foot_print.specs.Reach.{shape_asked, room_asked, room_at, written_by, is_met, taken, makes, room_taken, Look, look_of, task, order_of, running_row}
 use Rattle.foot_print.proofs.Agreement.{in_left, in_right, has_atom-as_reads}

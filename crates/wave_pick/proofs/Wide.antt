@@ -12,7 +12,7 @@ use Rattle.world_parts.specs.World.{World}
 use Rattle.world_parts.specs.Items.{Atom, descriptor_at, value, all_descriptors, member_of, Use, writes, Footprint, has_atom}
 use Rattle.world_parts.proofs.Collision.{true_of}
 use Rattle.world_parts.proofs.Sharing.{holds_true}
-use Rattle.op_meaning.specs.Footprint.{room_uses}
+use Rattle.foot_print.specs.Footprint.{room_uses}
 use Rattle.op_meaning.specs.Step.{Turn, runs}
 use Rattle.foot_print.specs.Reach.{written_by, is_met, is_taken_to_run, makes, room_taken, task, look_of, extras_of, unresolved_of, order_of, running_row, accepted_row, wide_row}
 use Rattle.foot_print.specs.Replayed.{replayed}

@@ -6,7 +6,7 @@ use Rattle.interleaving.specs.Machine.{State, has}
 use Rattle.interleaving.specs.Rounds.{pending}
 use Rattle.trace_format.specs.declared.trace.Trace.{Trace}
 use Rattle.world_parts.specs.Items.{Item, one, file_bytes, buffer_bytes, all_names, all_bytes_and_sizes, all_positions, all_descriptions, share, Use, Footprint, collide}
-use Rattle.op_meaning.specs.Footprint.{footprint}
+use Rattle.foot_print.specs.Footprint.{footprint}
 use Rattle.foot_print.specs.Reach.{reach}
 use Rattle.foot_print.specs.Replayed.{replayed}
 

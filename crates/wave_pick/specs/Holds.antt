@@ -5,7 +5,7 @@ use Rattle.interleaving.specs.Machine.{has}
 use Rattle.trace_format.specs.declared.trace.Trace.{Trace}
 use Rattle.world_parts.specs.World.{World}
 use Rattle.world_parts.specs.Items.{Footprint, collide}
-use Rattle.op_meaning.specs.Footprint.{footprint}
+use Rattle.foot_print.specs.Footprint.{footprint}
 use Rattle.foot_print.specs.Reach.{reach}
 use Rattle.foot_print.specs.Replayed.{replayed}
 use Rattle.wave_pick.specs.Rounds.{state_after}

@@ -4,7 +4,7 @@ use Rattle.interleaving.specs.Machine.{Event, Start, has, opening, run, AllLegal
 use Rattle.trace_format.specs.declared.trace.Trace.{Trace}
 use Rattle.trace_format.specs.Steps.{places}
 use Rattle.chain_plan.specs.Chain.{role}
-use Rattle.op_meaning.specs.Footprint.{ring_at}
+use Rattle.op_meaning.specs.Step.{ring_at}
 use Rattle.foot_print.specs.Replayed.{replayed}
 use Rattle.wave_pick.specs.Rounds.{state_after, wave_after, rounds}
 

@@ -7,7 +7,7 @@ use Rattle.interleaving.specs.Rounds as machine
 use Rattle.trace_format.specs.declared.trace.Trace.{Trace}
 use Rattle.trace_format.specs.Steps.{places}
 use Rattle.world_parts.specs.Items.{collide}
-use Rattle.op_meaning.specs.Footprint.{footprint}
+use Rattle.foot_print.specs.Footprint.{footprint}
 use Rattle.foot_print.specs.Replayed.{replayed}
 
 -- The machine's state after r rounds.

@@ -4,7 +4,7 @@ use Rattle.file_tree.specs.Found.{walk_meant}
 use Rattle.file_tree.specs.Steps.{steps_left}
 use Rattle.file_tree.specs.Walk.{walk}
 use Rattle.foot_print.proofs.Walking.{leads, names_read}
-use Rattle.op_meaning.specs.Footprint.{path_reads}
+use Rattle.foot_print.specs.Footprint.{path_reads}
 use Rattle.foot_print.proofs.path_rows.names_seen.Given as goal
 
 -- the steps that are left make the access set and the place of the whole walk

@@ -6,7 +6,8 @@ use Rattle.foot_print.specs.Reach.{seen}
 use Rattle.foot_print.specs.Rest.{rest, rest_in}
 use Rattle.foot_print.proofs.Completing.{behind_order, completes}
 use Rattle.item_index.specs.Ahead.{written_before}
-use Rattle.op_meaning.specs.Footprint.{foreseen, shape, shape_row}
+use Rattle.foot_print.specs.Footprint.{foreseen, shape_row}
+use Rattle.op_meaning.specs.Shape.{shape}
 use Rattle.foot_print.proofs.reaching.decided_outlook.Goals as goal
 
 pub returns-then-not-meets-clause-reach : goal.returns-then-not-meets-clause-reach

@@ -4,7 +4,7 @@ use Rattle.foot_print.specs.Reach.{shape_seen}
 use Rattle.foot_print.specs.Shapes.{shape_meant}
 use Rattle.foot_print.proofs.Outlooks as outlooks
 use Rattle.item_index.specs.Ahead.{written_before}
-use Rattle.op_meaning.specs.Footprint.{order_uses}
+use Rattle.foot_print.specs.Footprint.{order_uses}
 use Rattle.foot_print.proofs.reaching.operation_outlook.Goals as goal
 
 pub returns-in-Some : goal.returns-in-Some

@@ -6,7 +6,7 @@ use Rattle.foot_print.proofs.Outlooks.{filled_outlook, members_outlook, refused_
 use Rattle.foot_print.specs.Reach.{is_canceled}
 use Rattle.foot_print.specs.declared.reaching.Awaited.TheVariants.{Reach}
 use Rattle.item_index.specs.Ahead.{written_before}
-use Rattle.op_meaning.specs.Footprint.{order_uses, turn_uses}
+use Rattle.foot_print.specs.Footprint.{order_uses, turn_uses}
 use Rattle.op_meaning.specs.Step.{filled}
 use Rattle.op_meaning.specs.Turns.{kind_meant}
 use Rattle.op_meaning.specs.declared.turn.TurnKind.{TurnKind}

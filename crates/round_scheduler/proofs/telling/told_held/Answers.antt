@@ -3,7 +3,7 @@ use Rattle.std.specs.Option.{option_map, option_to_list}
 use Rattle.std.proofs.lemmas.List.{append-nil, take_more}
 use Rattle.std.proofs.lemmas.Option.{slice_get-get_or}
 use Rattle.chain_plan.proofs.Walk.{length-roles}
-use Rattle.op_meaning.specs.Footprint.{footprint}
+use Rattle.foot_print.specs.Footprint.{footprint}
 use Rattle.round_scheduler.specs.Telling.{IsTold, has_number, held_among, held_meant}
 use Rattle.round_scheduler.proofs.Told.{told_past, told_here}
 use Rattle.round_scheduler.proofs.telling.told_held.Goals.{then-has_number+in_ok-footprint+in_ok-found, in-Some+in_ok-push, in_default, else-has_number}

@@ -1,5 +1,5 @@
 use Rattle.std.proofs.Common.{◌≡◌, ◌+◌, ◌∙◌, length, sym, ap, subst, arith}
-use Rattle.op_meaning.specs.Footprint.{footprint}
+use Rattle.foot_print.specs.Footprint.{footprint}
 use Rattle.op_meaning.specs.Step.{run_world}
 use Rattle.dependencies.specs.Rule.{foot_at}
 use Rattle.foot_waits.specs.Told.{IsAt}

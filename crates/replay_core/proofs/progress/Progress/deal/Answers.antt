@@ -9,7 +9,7 @@ use Rattle.chain_plan.proofs.Walk.{length-roles}
 use Rattle.trace_format.specs.Steps.{places}
 use Rattle.world_parts.specs.Part.{Part}
 use Rattle.world_parts.specs.Cutting.{is_narrow, cut_from}
-use Rattle.op_meaning.specs.Footprint.{footprint}
+use Rattle.foot_print.specs.Footprint.{footprint}
 use Rattle.foot_print.specs.Parts as parts
 use Rattle.foot_print.proofs.Narrow.{all_narrow}
 use Rattle.replay_core.specs.declared.progress.Progress.{Progress}

@@ -1,6 +1,6 @@
 use Rattle.std.proofs.Common.{subst, ap, ◌∙◌}
 use Rattle.chain_plan.proofs.Walk.{length-roles}
-use Rattle.op_meaning.specs.Footprint.{footprint}
+use Rattle.foot_print.specs.Footprint.{footprint}
 use Rattle.item_index.specs.Ahead.{written_before}
 use Rattle.foot_print.specs.Outlook.{IsOutlook}
 use Rattle.round_scheduler.proofs.Seeing.{seen_met, seen_held, seen_free}

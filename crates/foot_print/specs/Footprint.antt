@@ -3,15 +3,14 @@ use Rattle.std.specs.Prelude.{ℕ, Bool, true, false, not, ◌&&◌, ◌||◌, �
 use Rattle.chain_plan.specs.declared.role.Role.{Role}
 use Rattle.trace_format.specs.declared.trace.Trace.{Trace}
 use Rattle.sqe_codec.specs.Answers.{each, each_ok}
-use Rattle.entry_checks.specs.Operation.{Operation, nop, readv, writev, fsync, read_fixed, write_fixed, fallocate, openat, close, read, write, renameat, unlinkat, mkdirat, linkat, ftruncate, File, in_slot, at_descriptor, Span, Path, OpenFlags, file_limit, at_position}
-use Rattle.trace_format.specs.Sides.{most_moved}
+use Rattle.entry_checks.specs.Operation.{Operation, File, in_slot, at_descriptor, Span, Path, OpenFlags, file_limit, at_position}
 use Rattle.chain_plan.specs.Chain.{role}
-use Rattle.trace_format.specs.Steps.{Step, step_at}
 use Rattle.world_parts.specs.World.{World}
 use Rattle.file_tree.specs.Tree.{Target}
 use Rattle.file_tree.specs.Walk.{Place, walk, names_on, is_directory}
 use Rattle.op_meaning.specs.Meaning.{meaning, made_node, made_description, slot_count, span_start, Handle, handle, handle_of, held, is_file, bytes_in, allocation, Allocation, extend, reserve, punch, zero_extend, zero_within, lowest_free}
-use Rattle.op_meaning.specs.Step.{Turn, filled, refused, canceled, runs, turn}
+use Rattle.op_meaning.specs.Shape.{Shape, idle, looking, moving, allocating, resizing, closing, opening, making, freeing, linking, renaming, shape}
+use Rattle.op_meaning.specs.Step.{Turn, filled, refused, canceled, runs, turn, ring_at}
 use Rattle.world_parts.specs.Items.{chain_flag, ring_order, slot_at, descriptor_at, description_at, position_of, size_of, name_at, names_in, Item, one, file_bytes, buffer_bytes, all_descriptors, Use, reads, writes, Footprint}
 
 abbrev pub use_of : Bool → Item → Use
@@ -173,38 +172,6 @@ linkat_row s old new = path_reads s old ++ path_reads s new ++ each_ok name_writ
 abbrev pub renameat_row : World → Path → Path → Footprint
 renameat_row s old new = path_reads s old ++ path_reads s new ++ each_ok name_written (walk s.nodes old) ++ each_ok (name_freed true) (walk s.nodes new)
 
--- What the uses of an operation depend on. A transfer moves so many bytes into its file or out of it, through a span of a buffer or none.
-pub data Shape : Type 0 where
-  idle : Shape
-  looking : (file : File) → Shape
-  moving : (into_file : Bool) (file : File) (offset count : ℕ) (span : Option Span) → Shape
-  allocating : (file : File) (offset size mode : ℕ) → Shape
-  resizing : (file : File) (size : ℕ) → Shape
-  closing : (file : File) → Shape
-  opening : (path : Path) (flags : OpenFlags) (slot : Option ℕ) → Shape
-  making : (path : Path) → Shape
-  freeing : (path : Path) (removes_directory : Bool) → Shape
-  linking : (old new : Path) → Shape
-  renaming : (old new : Path) → Shape
-
-abbrev pub shape : Operation → Shape
-shape nop = idle
-shape (readv f o n) = moving false f o (min n most_moved) None
-shape (writev f o new) = moving true f o (length new) None
-shape (fsync f) = looking f
-shape (read_fixed f o x) = moving false f o (min x.length most_moved) (Some x)
-shape (write_fixed f o x) = moving true f o (min x.length most_moved) (Some x)
-shape (fallocate f o n mode) = allocating f o n mode
-shape (openat p g asked) = opening p g asked
-shape (close f) = closing f
-shape (read f o n) = moving false f o (min n most_moved) None
-shape (write f o new) = moving true f o (length new) None
-shape (renameat old new flags) = renaming old new
-shape (unlinkat p removes) = freeing p removes
-shape (mkdirat p) = making p
-shape (linkat old new) = linking old new
-shape (ftruncate f n) = resizing f n
-
 -- A transfer's uses with those of its span, which a read of the file writes.
 abbrev pub through : Bool → Trace → ℕ → Option Span → Footprint → Footprint
 through w t r None f = f
@@ -248,13 +215,6 @@ turn_uses t k s (filled r b at new) = writes (buffer_bytes r b at (at + length n
 turn_uses t k s (refused e posted) = []
 turn_uses t k s (canceled posted) = []
 turn_uses t k s (runs r e o) = row_in t k r s o
-
-abbrev pub ring_at : Trace → ℕ → ℕ
-ring_at t k = of (step_at t k)
-  where
-    of : Option Step → ℕ
-    of None = 0
-    of (Some x) = x.ring
 
 -- The access set of a place in a world.
 abbrev pub footprint : Trace → ℕ → World → Footprint

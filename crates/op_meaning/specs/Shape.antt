@@ -1,0 +1,36 @@
+-- The model: the shape of an operation, by which what it uses goes.
+use Rattle.std.specs.Prelude.{ℕ, Bool, true, false, min, Option, Some, None, length}
+use Rattle.entry_checks.specs.Operation.{Operation, nop, readv, writev, fsync, read_fixed, write_fixed, fallocate, openat, close, read, write, renameat, unlinkat, mkdirat, linkat, ftruncate, File, Span, Path, OpenFlags}
+use Rattle.trace_format.specs.Sides.{most_moved}
+
+-- What the uses of an operation depend on. A transfer moves so many bytes into its file or out of it, through a span of a buffer or none.
+pub data Shape : Type 0 where
+  idle : Shape
+  looking : (file : File) → Shape
+  moving : (into_file : Bool) (file : File) (offset count : ℕ) (span : Option Span) → Shape
+  allocating : (file : File) (offset size mode : ℕ) → Shape
+  resizing : (file : File) (size : ℕ) → Shape
+  closing : (file : File) → Shape
+  opening : (path : Path) (flags : OpenFlags) (slot : Option ℕ) → Shape
+  making : (path : Path) → Shape
+  freeing : (path : Path) (removes_directory : Bool) → Shape
+  linking : (old new : Path) → Shape
+  renaming : (old new : Path) → Shape
+
+abbrev pub shape : Operation → Shape
+shape nop = idle
+shape (readv f o n) = moving false f o (min n most_moved) None
+shape (writev f o new) = moving true f o (length new) None
+shape (fsync f) = looking f
+shape (read_fixed f o x) = moving false f o (min x.length most_moved) (Some x)
+shape (write_fixed f o x) = moving true f o (min x.length most_moved) (Some x)
+shape (fallocate f o n mode) = allocating f o n mode
+shape (openat p g asked) = opening p g asked
+shape (close f) = closing f
+shape (read f o n) = moving false f o (min n most_moved) None
+shape (write f o new) = moving true f o (length new) None
+shape (renameat old new flags) = renaming old new
+shape (unlinkat p removes) = freeing p removes
+shape (mkdirat p) = making p
+shape (linkat old new) = linking old new
+shape (ftruncate f n) = resizing f n
