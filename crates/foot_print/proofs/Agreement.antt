@@ -12,9 +12,8 @@ use Rattle.world_parts.specs.World.{World, slot, descriptor}
 use Rattle.op_meaning.specs.Meaning.{slot_count, held, Handle, handle, handle_of}
 use Rattle.sqe_codec.specs.Answers.{each}
 use Rattle.world_parts.specs.Items.{Atom, slot_at, descriptor_at, description_at, value, one, member_of, Use, reads, Footprint, has_atom, Agree}
-use Rattle.foot_print.specs.Footprint.{as_reads, held_item, file_reads, of_file, of_description, on_file}
+use Rattle.foot_print.specs.Footprint.{as_reads, held_item, file_reads, file_seen, of_file, content_of}
 use Rattle.world_parts.proofs.Collision.{both, either_left, either_right, same_atom_refl}
-use Rattle.world_parts.proofs.Trees.{some_apart, some_same}
 
 pub in_left : {A : Type 0} (p : A → Bool) (xs ys : List A) → T (list_any p xs) → T (list_any p (xs ++ ys))
 in_left p xs ys h = rw list_any-append (either_left _ _ h)
@@ -55,23 +54,15 @@ held_same t s u r (at_descriptor n) h =
       | false ↦ λ k. refl
     ] h
 
--- Where two worlds agree on what an operation has of an open file, its handle is the same, and they agree on what it has of the file.
-pub handle_same : (t : Trace) (s u : World) (r : ℕ) (f : File) (content : ℕ → Handle → Footprint) → Agree (on_file t s r f content) s u → handle t u r f ≡ handle t s r f
-handle_same t s u r f content a =
+-- Where two worlds agree on what leads to an open file, it is the same.
+pub handle_same : (t : Trace) (s u : World) (r : ℕ) (f : File) → Agree (file_seen t s r f) s u → handle t u r f ≡ handle t s r f
+handle_same t s u r f a =
     ap (λ d. option_and_then (handle_of u) d) (held_same t s u r f (agree_left s u _ _ a)) ∙ at_description (held t s r f) (agree_right s u (file_reads t r f) _ a)
   where
-    at_description : (d : Option ℕ) → Agree (each (of_description s content) d) s u → option_and_then (handle_of u) d ≡ option_and_then (handle_of s) d
+    at_description : (d : Option ℕ) → Agree (each (λ n. reads (one (description_at n)) ∷ []) d) s u → option_and_then (handle_of u) d ≡ option_and_then (handle_of s) d
     at_description None k = refl
     at_description (Some d) k = ap (λ o. option_map (λ x. record { description = d; opened = x }) o) (sym (agree_head s u (description_at d) false _ k))
 
 -- What two worlds agree on of the file.
-pub agree_on_content : (t : Trace) (s u : World) (r : ℕ) (f : File) (content : ℕ → Handle → Footprint) → Agree (on_file t s r f content) s u → (h : Handle) → handle t s r f ≡ Some h → Agree (of_file content h) s u
-agree_on_content t s u r f content a h e = within (held t s r f) e (agree_right s u (file_reads t r f) _ a)
-  where
-    of_handle : (d : ℕ) (o : Option Handle) → o ≡ Some h → Agree (each (of_file content) o) s u → Agree (of_file content h) s u
-    of_handle d None e k = absurd (some_apart (sym e))
-    of_handle d (Some g) e k = subst (λ x. Agree (of_file content x) s u) (some_same g h e) k
-
-    within : (d : Option ℕ) → option_and_then (handle_of s) d ≡ Some h → Agree (each (of_description s content) d) s u → Agree (of_file content h) s u
-    within None e k = absurd (some_apart (sym e))
-    within (Some d) e k = of_handle d (handle_of s d) e (agree_tail s u (reads (one (description_at d))) (each (of_file content) (handle_of s d)) k)
+pub agree_on_content : (s u : World) (c : ℕ → Handle → Footprint) (x : Option Handle) → Agree (content_of c x) s u → (h : Handle) → x ≡ Some h → Agree (of_file c h) s u
+agree_on_content s u c x a h e = subst (λ y. Agree (content_of c y) s u) e a

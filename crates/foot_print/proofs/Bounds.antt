@@ -16,10 +16,10 @@ use Rattle.finite_maps.specs.Table.{get}
 use Rattle.world_parts.specs.World.{World, IsWorld, Description, Opened, opened, opened_by, kind, names, name}
 use Rattle.file_tree.specs.Tree.{target, Target, kind_of_node}
 use Rattle.file_tree.specs.Walk.{Place, walk, walk_from, names_from, directory_at, fits_name, starts_at_root, is_directory}
-use Rattle.op_meaning.specs.Meaning.{made_node, made_description, slot_count, Handle, handle_of, held, is_file, allocation, Allocation}
+use Rattle.op_meaning.specs.Meaning.{made_node, made_description, slot_count, Handle, handle, handle_of, held, is_file, allocation, Allocation, found}
 use Rattle.world_parts.specs.Items.{Atom, description_at, position_of, size_of, byte_at, name_at, names_in, buffer_byte, Item, one, file_bytes, buffer_bytes, member_of, Use, reads, writes, Footprint, has_atom}
-use Rattle.foot_print.specs.Footprint.{foreseen, transfer_row, shape_row, allocation_uses, open_uses, use_of, held_item, file_reads, of_file, of_description, on_file, range_of, transfer_range, position_written, position_use, span_use, path_reads, name_written, directory_names, read_content, write_content, allocated_content, resized_content}
-use Rattle.op_meaning.specs.Shape.{Shape, idle, looking, moving, allocating, resizing, closing, opening, making, freeing, linking, renaming, shape}
+use Rattle.foot_print.specs.Footprint.{foreseen, shape_row, look_reads, uses, file_seen, content_of, moved_content, moved_uses, opened_at, directory_made, name_freed, allocation_uses, open_uses, use_of, held_item, file_reads, range_of, transfer_range, position_written, position_use, span_use, path_reads, name_written, directory_names, allocated_content, resized_content}
+use Rattle.op_meaning.specs.Shape.{Shape, idle, looking, moving, allocating, resizing, closing, opening, making, freeing, linking, renaming, shape, Look, at_nothing, at_file, at_path, at_paths, look}
 use Rattle.foot_print.specs.Reach.{taken}
 use Rattle.foot_print.specs.Replayed.{IsBefore, is_earlier}
 use Rattle.world_parts.proofs.Collision.{same_atom-eq}
@@ -84,38 +84,48 @@ module _ (t : Trace) (k : ℕ) (s : World) (w : IsWorld s) (before : IsBefore t 
     abbrev BoundContent : (ℕ → Handle → Footprint) → Type 0
     BoundContent c = (i : ℕ) (h : Handle) → T (ltb i (made_node t k)) → T (ltb h.description (made_description t k)) → Bound (c i h)
 
-    bound_file : (f : File) (c : ℕ → Handle → Footprint) → BoundContent c → Bound (on_file t s r f c)
-    bound_file f c h = bound_all (file_reads t r f) _ (bound_held false r f) (at (held t s r f) (held_leads f))
+    bound_seen : (f : File) → Bound (file_seen t s r f)
+    bound_seen f = bound_all (file_reads t r f) _ (bound_held false r f) (at (held t s r f) (held_leads f))
       where
-        content : (d : ℕ) → T (ltb d (made_description t k)) → (y : Option Description) → IfSome (option_map (opened_by s) y) (λ (o : Opened). IsSome o.target.kind)
-            → Bound (each (of_file c) (option_map (λ (o : Opened). record { description = d; opened = o }) (option_map (opened_by s) y)))
-        content d e None l = bound_nothing
-        content d e (Some y) l = elim (is_file (opened_by s y)) as (λ b. Bound (cond b (c y.node (record { description = d; opened = opened_by s y })) [])) [ true ↦ h y.node (record { description = d; opened = opened_by s y }) (node_before y.node l) e | false ↦ bound_nothing ]
-
-        at : (x : Option ℕ) → IfSome x (λ d. IsSome (opened s d)) → Bound (each (of_description s c) x)
+        at : (x : Option ℕ) → IfSome x (λ d. IsSome (opened s d)) → Bound (each (λ d. reads (one (description_at d)) ∷ []) x)
         at None l = bound_nothing
-        at (Some d) l = bound_all (reads (one (description_at d)) ∷ []) _ (bound_one (description_at d) false (description_before d l)) (content d (description_before d l) (get s.descriptions d) (w.descriptions_lead d))
+        at (Some d) l = bound_one (description_at d) false (description_before d l)
 
-    bound_transfer : (f : File) (o : ℕ) (c : ℕ → Handle → Footprint) → BoundContent c → Bound (on_file t s r f c ++ position_use t s r f o)
-    bound_transfer f o c h = bound_all (on_file t s r f c) _ (bound_file f c h) (at (held t s r f) (held_leads f))
+    -- What is open is of earlier places.
+    abbrev Before : Option Handle → Type 0
+    Before x = IfSome x (λ h. T (ltb h.opened.target.node (made_node t k)) × T (ltb h.description (made_description t k)))
+
+    handle_before : (f : File) → Before (handle t s r f)
+    handle_before f = at (held t s r f) (held_leads f)
       where
-        of_handle : (d : ℕ) → T (ltb d (made_description t k)) → (x : Option Opened) → Bound (each (λ h. position_written h o) (option_map (λ (y : Opened). record { description = d; opened = y }) x))
-        of_handle d e None = bound_nothing
-        of_handle d e (Some y) = bound_position o (record { description = d; opened = y }) e
+        leads : (d : ℕ) → T (ltb d (made_description t k)) → (y : Option Description) → IfSome (option_map (opened_by s) y) (λ o. IsSome o.target.kind) → Before (option_map (λ (o : Opened). record { description = d; opened = o }) (option_map (opened_by s) y))
+        leads d e None l = tt
+        leads d e (Some y) l = (node_before y.node l, e)
 
-        at : (x : Option ℕ) → IfSome x (λ d. IsSome (opened s d)) → Bound (each (λ h. position_written h o) (option_and_then (handle_of s) x))
-        at None l = bound_nothing
-        at (Some d) l = of_handle d (description_before d l) (opened s d)
+        at : (x : Option ℕ) → IfSome x (λ d. IsSome (opened s d)) → Before (option_and_then (handle_of s) x)
+        at None l = tt
+        at (Some d) l = leads d (description_before d l) (get s.descriptions d) (w.descriptions_lead d)
+
+    bound_content : (c : ℕ → Handle → Footprint) → BoundContent c → (x : Option Handle) → Before x → Bound (content_of c x)
+    bound_content c b None l = bound_nothing
+    bound_content c b (Some h) l = elim (is_file h.opened) as (λ v. Bound (cond v (c h.opened.target.node h) [])) [ true ↦ b h.opened.target.node h l.0 l.1 | false ↦ bound_nothing ]
+
+    bound_positions : (o : ℕ) (x : Option Handle) → Before x → Bound (position_use o x)
+    bound_positions o None l = bound_nothing
+    bound_positions o (Some h) l = bound_position o h l.1
 
     bound_transferred : (v : Bool) (b : Bool) (i o n : ℕ) → T (ltb i (made_node t k)) → Bound (record { item = transfer_range i b o n; written = v } ∷ [])
     bound_transferred v true i o n e = bound_range i 0 (min file_limit file_limit) v e
     bound_transferred v false i o n e = bound_range i o (min (o + n) file_limit) v e
 
-    bound_moved : (w : Bool) (f : File) (o n : ℕ) → Bound (transfer_row t s r foreseen w f o n)
-    bound_moved false f o n = bound_transfer f o (read_content o n) (λ i h e d. bound_all (reads (one (size_of i)) ∷ []) (reads (transfer_range i (o == at_position) o n) ∷ position_written h o) (bound_one (size_of i) false e)
-        (bound_all (reads (transfer_range i (o == at_position) o n) ∷ []) (position_written h o) (bound_transferred false (o == at_position) i o n e) (bound_position o h d)))
-    bound_moved true f o n = bound_transfer f o (write_content s foreseen o n) (λ i h e d. bound_all (writes (one (size_of i)) ∷ []) (writes (transfer_range i (h.opened.append || o == at_position) o n) ∷ position_written h o) (bound_one (size_of i) true e)
-        (bound_all (writes (transfer_range i (h.opened.append || o == at_position) o n) ∷ []) (position_written h o) (bound_transferred true (h.opened.append || o == at_position) i o n e) (bound_position o h d)))
+    bound_moved_content : (w : Bool) (o n : ℕ) → BoundContent (moved_content s foreseen w o n)
+    bound_moved_content false o n i h e d = bound_all (reads (one (size_of i)) ∷ []) (reads (transfer_range i (o == at_position) o n) ∷ position_written h o) (bound_one (size_of i) false e)
+        (bound_all (reads (transfer_range i (o == at_position) o n) ∷ []) (position_written h o) (bound_transferred false (o == at_position) i o n e) (bound_position o h d))
+    bound_moved_content true o n i h e d = bound_all (writes (one (size_of i)) ∷ []) (writes (transfer_range i (h.opened.append || o == at_position) o n) ∷ position_written h o) (bound_one (size_of i) true e)
+        (bound_all (writes (transfer_range i (h.opened.append || o == at_position) o n) ∷ []) (position_written h o) (bound_transferred true (h.opened.append || o == at_position) i o n e) (bound_position o h d))
+
+    bound_moved : (w : Bool) (o n : ℕ) (x : Option Handle) → Before x → Bound (moved_uses s foreseen w o n x)
+    bound_moved w o n x l = bound_all (content_of (moved_content s foreseen w o n) x) _ (bound_content (moved_content s foreseen w o n) (bound_moved_content w o n) x l) (bound_positions o x l)
 
     bound_span : (v : Bool) (x : Span) → Bound (span_use v t r x)
     bound_span v x = grind (arith, bound_nothing, bound_buffer)
@@ -127,8 +137,8 @@ module _ (t : Trace) (k : ℕ) (s : World) (w : IsWorld s) (before : IsBefore t 
     bound_cut i n e = bound_all (writes (one (size_of i)) ∷ []) (writes (range_of i n file_limit) ∷ []) (bound_one (size_of i) true e) (bound_range i n (min file_limit file_limit) true e)
 
     -- Walks.
-    abbrev look : ℕ × List ℕ → Use
-    look e = reads (one (name_at e.0 e.1))
+    abbrev name_read : ℕ × List ℕ → Use
+    name_read e = reads (one (name_at e.0 e.1))
 
     -- A component leads to a directory of an earlier place, or to an error.
     leads_down : (P : Result ℕ Errno → Type 0) → ((e : Errno) → P (Err e)) → ((x : ℕ) → T (ltb x (made_node t k)) → P (Ok x))
@@ -137,12 +147,12 @@ module _ (t : Trace) (k : ℕ) (s : World) (w : IsWorld s) (before : IsBefore t 
     leads_down P fails next (Some i) l =
         elim (is_directory (kind s i)) as (λ b. P (cond b (Ok i) (Err ENOTDIR))) [ true ↦ next i (node_before i l) | false ↦ fails _ ]
 
-    bound_names : (ns : List (List ℕ)) (d : ℕ) → T (ltb d (made_node t k)) → Bound (map look (names_from s.nodes d ns))
+    bound_names : (ns : List (List ℕ)) (d : ℕ) → T (ltb d (made_node t k)) → Bound (map name_read (names_from s.nodes d ns))
     bound_names [] d e = bound_nothing
     bound_names (n ∷ ns) d e =
-        elim (fits_name n) as (λ b. Bound (map look (cond b ((d, n) ∷ each_ok (λ x. names_from s.nodes x ns) (directory_at (name s d n))) []))) [
-          | true ↦ bound_all (look (d, n) ∷ []) _ (bound_one (name_at d n) false e)
-              (leads_down (λ r. Bound (map look (each_ok (λ x. names_from s.nodes x ns) r))) (λ x. bound_nothing) (bound_names ns)
+        elim (fits_name n) as (λ b. Bound (map name_read (cond b ((d, n) ∷ each_ok (λ x. names_from s.nodes x ns) (directory_at (name s d n))) []))) [
+          | true ↦ bound_all (name_read (d, n) ∷ []) _ (bound_one (name_at d n) false e)
+              (leads_down (λ r. Bound (map name_read (each_ok (λ x. names_from s.nodes x ns) r))) (λ x. bound_nothing) (bound_names ns)
               (option_and_then (λ m. get m n) (names s d)) (w.tree.names_lead d n))
           | false ↦ bound_nothing
         ]
@@ -151,7 +161,7 @@ module _ (t : Trace) (k : ℕ) (s : World) (w : IsWorld s) (before : IsBefore t 
     root_before = lt→ltb 0 (made_node t k) (omega arith)
 
     bound_path : (p : Path) → Bound (path_reads s p)
-    bound_path p = elim (starts_at_root p) as (λ b. Bound (map look (cond b (names_from s.nodes 0 (components p.text)) []))) [ true ↦ bound_names (components p.text) 0 root_before | false ↦ bound_nothing ]
+    bound_path p = elim (starts_at_root p) as (λ b. Bound (map name_read (cond b (names_from s.nodes 0 (components p.text)) []))) [ true ↦ bound_names (components p.text) 0 root_before | false ↦ bound_nothing ]
 
     -- Where a walk ends, its directory and what the last name leads to are of earlier places.
     abbrev Placed : Result Place Errno → Type 0
@@ -194,24 +204,31 @@ module _ (t : Trace) (k : ℕ) (s : World) (w : IsWorld s) (before : IsBefore t 
     bound_opened g q e None l = elim g.create as (λ b. Bound (cond b (name_written q ++ []) [])) [ true ↦ bound_all (name_written q) [] (bound_name q e) bound_nothing | false ↦ bound_nothing ]
     bound_opened g q e (Some y) l = elim (g.truncate && not (is_directory y.kind)) as (λ b. Bound (cond b (writes (one (size_of y.node)) ∷ writes (range_of y.node 0 file_limit) ∷ []) [])) [ true ↦ bound_cut y.node 0 l | false ↦ bound_nothing ]
 
-    bound_paths : (old new : Path) → Bound (path_reads s old ++ path_reads s new)
-    bound_paths old new = bound_all (path_reads s old) _ (bound_path old) (bound_path new)
+    bound_look : (l : Look) → Bound (look_reads t r s l)
+    bound_look at_nothing = bound_nothing
+    bound_look (at_file f) = bound_seen f
+    bound_look (at_path p) = bound_path p
+    bound_look (at_paths old new) = bound_all (path_reads s old) _ (bound_path old) (bound_path new)
+
+    bound_freed : (removes : Bool) (x : Result Place Errno) → Placed x → Bound (each_ok (name_freed removes) x)
+    bound_freed removes x l = bound_place (name_freed removes) (λ q e m. bound_all (name_written q) _ (bound_name q e) (bound_removed removes q.target m)) x l
+
+    bound_uses : (x : Shape) → Bound (uses t k r s foreseen x (found t r s (look x)))
+    bound_uses idle = bound_nothing
+    bound_uses (looking f) = bound_held false r f
+    bound_uses (moving w f o n None) = bound_moved w o n (handle t s r f) (handle_before f)
+    bound_uses (moving w f o n (Some x)) = bound_all _ (span_use (not w) t r x) (bound_moved w o n (handle t s r f) (handle_before f)) (bound_span (not w) x)
+    bound_uses (allocating f o n mode) = bound_content (allocated_content s foreseen o n mode) (λ i h e d. bound_allocation i o (o + n) (allocation mode) e) (handle t s r f) (handle_before f)
+    bound_uses (resizing f n) = bound_content (resized_content n) (λ i h e d. bound_cut i n e) (handle t s r f) (handle_before f)
+    bound_uses (closing f) = bound_held true r f
+    bound_uses (opening p g asked) = bound_place (opened_at t k foreseen g) (λ q e l. bound_opened g q e q.target l) (walk s.nodes p) (placed p)
+    bound_uses (making p) = bound_place (directory_made t k foreseen) (λ q e l. bound_all (name_written q) [] (bound_name q e) bound_nothing) (walk s.nodes p) (placed p)
+    bound_uses (freeing p removes) = bound_freed removes (walk s.nodes p) (placed p)
+    bound_uses (linking old new) = bound_place name_written (λ q e l. bound_name q e) (walk s.nodes new) (placed new)
+    bound_uses (renaming old new) = bound_all (each_ok name_written (walk s.nodes old)) _ (bound_place name_written (λ q e l. bound_name q e) (walk s.nodes old) (placed old)) (bound_freed true (walk s.nodes new) (placed new))
 
     shape_bound : (x : Shape) → Bound (shape_row t k r s foreseen x)
-    shape_bound idle = bound_nothing
-    shape_bound (looking f) = bound_held false r f
-    shape_bound (moving w f o n None) = bound_moved w f o n
-    shape_bound (moving w f o n (Some x)) = bound_all _ (span_use (not w) t r x) (bound_moved w f o n) (bound_span (not w) x)
-    shape_bound (allocating f o n mode) = bound_file f (allocated_content s foreseen o n mode) (λ i h e d. bound_allocation i o (o + n) (allocation mode) e)
-    shape_bound (resizing f n) = bound_file f (resized_content n) (λ i h e d. bound_cut i n e)
-    shape_bound (closing f) = bound_held true r f
-    shape_bound (opening p g asked) = bound_all ((path_reads s p ++ []) ++ []) _ (bound_all (path_reads s p ++ []) [] (bound_all (path_reads s p) [] (bound_path p) bound_nothing) bound_nothing) (bound_place (λ (q : Place). open_uses t k foreseen g q q.target) (λ q e l. bound_opened g q e q.target l) (walk s.nodes p) (placed p))
-    shape_bound (making p) = bound_all (path_reads s p) _ (bound_path p) (bound_place (λ (q : Place). name_written q ++ []) (λ q e l. bound_all (name_written q) [] (bound_name q e) bound_nothing) (walk s.nodes p) (placed p))
-    shape_bound (freeing p removes) = bound_all (path_reads s p) _ (bound_path p) (bound_place (λ (q : Place). name_written q ++ cond removes (directory_names q.target) []) (λ q e l. bound_all (name_written q) _ (bound_name q e) (bound_removed removes q.target l)) (walk s.nodes p) (placed p))
-    shape_bound (linking old new) = bound_all (path_reads s old ++ path_reads s new) _ (bound_paths old new) (bound_place name_written (λ q e l. bound_name q e) (walk s.nodes new) (placed new))
-    shape_bound (renaming old new) = bound_all (path_reads s old ++ path_reads s new ++ each_ok name_written (walk s.nodes old)) _
-        (bound_all (path_reads s old ++ path_reads s new) _ (bound_paths old new) (bound_place name_written (λ q e l. bound_name q e) (walk s.nodes old) (placed old)))
-        (bound_place (λ (q : Place). name_written q ++ directory_names q.target) (λ q e l. bound_all (name_written q) _ (bound_name q e) (bound_directory q.target l)) (walk s.nodes new) (placed new))
+    shape_bound x = bound_all (look_reads t r s (look x)) _ (bound_look (look x)) (bound_uses x)
 
     pub taken_bound : (o : Operation) (a : Atom) → T (has_atom (taken t k r s o) a) → T (is_earlier t k a)
     taken_bound o = shape_bound (shape o)

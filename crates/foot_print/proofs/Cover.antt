@@ -1,8 +1,11 @@
--- Every operation pays what it owes, so every access set covers its place.
-use Rattle.std.specs.Prelude.{ℕ}
+-- The laws of every operation, so every access set covers its place.
+use native.Mathlib.Omega.{arith}
+use Rattle.std.specs.Prelude.{◌≡◌, ℕ, min, Ok}
 use Rattle.trace_format.specs.declared.trace.Trace.{Trace}
+use Rattle.trace_format.specs.Sides.{most_moved}
 use Rattle.entry_checks.specs.Operation.{Operation, nop, readv, writev, fsync, read_fixed, write_fixed, fallocate, openat, close, read, write, renameat, unlinkat, mkdirat, linkat, ftruncate}
-use Rattle.world_parts.specs.World.{World}
+use Rattle.world_parts.specs.World.{World, IsWorld}
+use Rattle.op_meaning.specs.Meaning.{Effect, meaning, reply, span_destination, span_bytes}
 use Rattle.foot_print.specs.Laws.{Awaits, FootprintsCover}
 use Rattle.foot_print.proofs.CoverOperation.{Owes, owed_covers}
 use Rattle.foot_print.proofs.CoverTurn.{footprints_cover}
@@ -12,26 +15,39 @@ use Rattle.foot_print.proofs.CoverReads.{read_owes, readv_owes, read_fixed_owes}
 use Rattle.foot_print.proofs.CoverWrites.{write_owes, writev_owes, write_fixed_owes}
 use Rattle.foot_print.proofs.CoverNames.{unlinkat_owes, renameat_owes, mkdirat_owes, linkat_owes}
 use Rattle.foot_print.proofs.CoverOpen.{openat_owes}
+use Rattle.foot_print.proofs.KeepNames.{Keeps, mkdirat_keeps, linkat_keeps, unlinkat_keeps}
+use Rattle.foot_print.proofs.KeepRenames.{renameat_keeps}
+use Rattle.foot_print.proofs.KeepOpen.{openat_keeps}
+use Rattle.foot_print.proofs.KeepContents.{AllOfContents, contents_leave, read_contents, write_contents, fallocate_contents, ftruncate_contents, close_contents}
 
--- What every operation owes.
-pub pays : (t : Trace) (k r : ℕ) (o : Operation) (s : World) → Awaits t k s → Owes t k r o s
-pays t k r nop s w = nop_owes t k r s w
-pays t k r (readv f o n) s w = readv_owes t k r s f o n w
-pays t k r (writev f o new) s w = writev_owes t k r s f o new w
-pays t k r (fsync f) s w = fsync_owes t k r s f w
-pays t k r (read_fixed f o x) s w = read_fixed_owes t k r s f o x w
-pays t k r (write_fixed f o x) s w = write_fixed_owes t k r s f o x w
-pays t k r (fallocate f o n mode) s w = fallocate_owes t k r s f o n mode w
-pays t k r (openat path flags asked) s w = openat_owes t k r s path flags asked w
-pays t k r (close f) s w = close_owes t k r s f w
-pays t k r (read f o n) s w = read_owes t k r s f o n w
-pays t k r (write f o new) s w = write_owes t k r s f o new w
-pays t k r (renameat old new flags) s w = renameat_owes t k r s old new flags w
-pays t k r (unlinkat path removes) s w = unlinkat_owes t k r s path removes w
-pays t k r (mkdirat path) s w = mkdirat_owes t k r s path w
-pays t k r (linkat old new) s w = linkat_owes t k r s old new w
-pays t k r (ftruncate f n) s w = ftruncate_owes t k r s f n w
+-- What an operation owes in a world: what it uses tells what it does and supports it, and it keeps a world.
+pub record OpLaws (t : Trace) (k r : ℕ) (s : World) (o : Operation) : Type 0 where
+  pub owes : Owes t k r o s
+  pub keeps : Keeps t k r s o
+
+-- An operation that only changes contents keeps a world.
+of_contents : (t : Trace) (k r : ℕ) (s : World) (o : Operation) → Owes t k r o s → IsWorld s → ((x : Effect) → meaning t k r s o ≡ Ok x → AllOfContents x.changes) → OpLaws t k r s o
+of_contents t k r s o owes w c = record { owes = owes; keeps = λ x e. contents_leave t k s x.changes (c x e) w }
+
+-- The laws of each operation.
+pub laws : (t : Trace) (k r : ℕ) (o : Operation) (s : World) → Awaits t k s → OpLaws t k r s o
+laws t k r nop s w = of_contents t k r s nop (nop_owes t k r s w) w.is_world (λ x e. grind arith)
+laws t k r (readv f o n) s w = of_contents t k r s (readv f o n) (readv_owes t k r s f o n w) w.is_world (read_contents t s r f o (min n most_moved) (Ok reply))
+laws t k r (writev f o new) s w = of_contents t k r s (writev f o new) (writev_owes t k r s f o new w) w.is_world (write_contents t s r f o (Ok new))
+laws t k r (fsync f) s w = of_contents t k r s (fsync f) (fsync_owes t k r s f w) w.is_world (λ x e. grind arith)
+laws t k r (read_fixed f o z) s w = of_contents t k r s (read_fixed f o z) (read_fixed_owes t k r s f o z w) w.is_world (read_contents t s r f o (min z.length most_moved) (span_destination t r z))
+laws t k r (write_fixed f o z) s w = of_contents t k r s (write_fixed f o z) (write_fixed_owes t k r s f o z w) w.is_world (write_contents t s r f o (span_bytes t s r z))
+laws t k r (fallocate f o n mode) s w = of_contents t k r s (fallocate f o n mode) (fallocate_owes t k r s f o n mode w) w.is_world (λ x e. fallocate_contents t s r f o n mode x w.is_world e)
+laws t k r (openat p g asked) s w = record { owes = openat_owes t k r s p g asked w; keeps = openat_keeps t k r s p g asked w }
+laws t k r (close f) s w = of_contents t k r s (close f) (close_owes t k r s f w) w.is_world (close_contents t s r f)
+laws t k r (read f o n) s w = of_contents t k r s (read f o n) (read_owes t k r s f o n w) w.is_world (read_contents t s r f o (min n most_moved) (Ok reply))
+laws t k r (write f o new) s w = of_contents t k r s (write f o new) (write_owes t k r s f o new w) w.is_world (write_contents t s r f o (Ok new))
+laws t k r (renameat old new flags) s w = record { owes = renameat_owes t k r s old new flags w; keeps = renameat_keeps t k r s old new flags w.is_world }
+laws t k r (unlinkat p removes) s w = record { owes = unlinkat_owes t k r s p removes w; keeps = unlinkat_keeps t k r s p removes w.is_world }
+laws t k r (mkdirat p) s w = record { owes = mkdirat_owes t k r s p w; keeps = mkdirat_keeps t k r s p w }
+laws t k r (linkat old new) s w = record { owes = linkat_owes t k r s old new w; keeps = linkat_keeps t k r s old new w.is_world }
+laws t k r (ftruncate f n) s w = of_contents t k r s (ftruncate f n) (ftruncate_owes t k r s f n w) w.is_world (ftruncate_contents t s r f n)
 
 -- Every access set covers its place.
 pub all_covered : FootprintsCover
-all_covered = footprints_cover (λ o. owed_covers o (λ t k r s w. pays t k r o s w))
+all_covered = footprints_cover (λ o. owed_covers o (λ t k r s w. (laws t k r o s w).owes))

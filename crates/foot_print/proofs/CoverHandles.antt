@@ -20,17 +20,17 @@ use Rattle.foot_print.proofs.CoverOperation.{Owes}
 
 pub nop_owes : (t : Trace) (k r : ℕ) (s : World) → Awaits t k s → Owes t k r nop s
 nop_owes t k r s w = record {
-  tells = λ u b a. record { same_meaning = refl; same_row = λ c. refl };
-  supports = λ u v a e q. supports_effect [] u (done []) e q tt;
+  tells = λ u b a d. record { same_meaning = refl; same_uses = λ c. refl };
+  supports = λ u v a d e q. supports_effect [] u (done []) e q tt;
 }
 
 pub fsync_owes : (t : Trace) (k r : ℕ) (s : World) (f : File) → Awaits t k s → Owes t k r (fsync f) s
 fsync_owes t k r s f w = record {
-  tells = λ u b a. record {
-    same_meaning = ap (λ x. require (is_some x) EBADF >> Ok (done [])) (held_same t s u r f a);
-    same_row = λ c. refl;
+  tells = λ u b a d. record {
+    same_meaning = ap (λ x. require (is_some x) EBADF >> Ok (done [])) (held_same t s u r f d);
+    same_uses = λ c. refl;
   };
-  supports = λ u v a e q. let m = ok_require (is_some (held t u r f)) EBADF (Ok (done [])) e q in supports_effect (file_reads t r f) u (done []) e m.0 tt;
+  supports = λ u v a d e q. let m = ok_require (is_some (held t u r f)) EBADF (Ok (done [])) e q in supports_effect (file_reads t r f) u (done []) e m.0 tt;
 }
 
 -- What an access set writes of some items, worlds that agree on it agree on.
@@ -53,20 +53,20 @@ there_first b x h = grind arith
 
 pub close_owes : (t : Trace) (k r : ℕ) (s : World) (f : File) → Awaits t k s → Owes t k r (close f) s
 close_owes t k r s (at_descriptor n) w = record {
-  tells = λ u b a. record {
-    same_meaning = ap (λ x. require (is_some x) EBADF >> Ok (done (set_descriptor n None ∷ []))) (held_same t s u r (at_descriptor n) (agree_written s u (held_item t r (at_descriptor n)) a));
-    same_row = λ c. refl;
+  tells = λ u b a d. record {
+    same_meaning = ap (λ x. require (is_some x) EBADF >> Ok (done (set_descriptor n None ∷ []))) (held_same t s u r (at_descriptor n) (agree_written s u (held_item t r (at_descriptor n)) d));
+    same_uses = λ c. refl;
   };
-  supports = λ u v a e q.
+  supports = λ u v a d e q.
       let m = ok_require (is_some (held t u r (at_descriptor n))) EBADF (Ok (done (set_descriptor n None ∷ []))) e q in
       supports_effect (map writes (held_item t r (at_descriptor n))) u (done (set_descriptor n None ∷ [])) e m.0 (writes_descriptor t r n (there_first _ _ m.1), tt);
 }
 close_owes t k r s (in_slot n) w = record {
-  tells = λ u b a. record {
-    same_meaning = after_require (ltb n (slot_count t r)) EINVAL _ _ (λ h. ap (λ x. require (is_some x) EBADF >> Ok (done (set_slot r n None ∷ []))) (slot_same u h a));
-    same_row = λ c. refl;
+  tells = λ u b a d. record {
+    same_meaning = after_require (ltb n (slot_count t r)) EINVAL _ _ (λ h. ap (λ x. require (is_some x) EBADF >> Ok (done (set_slot r n None ∷ []))) (slot_same u h d));
+    same_uses = λ c. refl;
   };
-  supports = λ u v a e q.
+  supports = λ u v a d e q.
       let m = ok_require (ltb n (slot_count t r)) EINVAL _ e q in
       let l = ok_require (is_some (slot u r n)) EBADF _ e m.0 in
       supports_effect (map writes (held_item t r (in_slot n))) u (done (set_slot r n None ∷ [])) e l.0 (writes_slot t r n m.1, tt);

@@ -16,22 +16,22 @@ use Rattle.extent_bytes.specs.Bytes.{resized}
 use Rattle.file_tree.specs.Walk.{Place, walk, is_directory}
 use Rattle.op_meaning.specs.Meaning.{Effect, made_node, made_description, slot_count, lowest_free, room, filled, may_open, found_or_made, open_changes, opened_with, open_as}
 use Rattle.world_parts.specs.Items.{slot_at, descriptor_at, description_at, position_of, size_of, byte_at, one, all_descriptors, reads, writes, Footprint, has_atom, writes_atom, Agree, Holds}
-use Rattle.foot_print.specs.Footprint.{tried, row, made_where, name_written, path_reads, range_of, room_uses, description_made, open_uses}
+use Rattle.foot_print.specs.Footprint.{tried, made_where, name_written, range_of, room_uses, description_made, open_uses, opened_at}
 use Rattle.foot_print.specs.Laws.{Awaits, Unused}
 use Rattle.world_parts.proofs.Collision.{both, either_left}
-use Rattle.foot_print.proofs.Agreement.{agree_left, agree_right}
+use Rattle.foot_print.proofs.Agreement.{agree_left}
 use Rattle.world_parts.proofs.Changes.{rewriting-kind}
 use Rattle.world_parts.proofs.ChangesOfNames.{Leads, naming-kind}
 use Rattle.world_parts.proofs.ChangesOfMaking.{made-kind}
 use Rattle.foot_print.proofs.CoverChanges.{SupportsAll}
-use Rattle.foot_print.proofs.CoverOperation.{RowTells, RowSupports, Owes}
-use Rattle.foot_print.proofs.CoverWalk.{walk_same, path_reads_same, walk_leads}
+use Rattle.foot_print.proofs.CoverOperation.{used, RowTells, RowSupports, Owes}
+use Rattle.foot_print.proofs.CoverWalk.{walk_leads}
 use Rattle.foot_print.proofs.CoverNames.{name_supported}
 use Rattle.foot_print.proofs.Awaiting.{node_unused}
 use Rattle.foot_print.proofs.OpenFile.{sizes_fit}
 use Rattle.foot_print.proofs.Accepted.{err_apart, ok_same, ok_bind, ok_then, holds_left, holds_right, holds_over, holds_ok}
 
--- The room of openat is decided by what its row has of slots and descriptors.
+-- The room of openat is decided by what it has of slots and descriptors.
 module _ (t : Trace) (s u : World) (r : ℕ) where
   lowest_same : Agree (room_uses t s r None) s u → lowest_free t u ≡ lowest_free t s
   lowest_same a = λ i. find (λ n. is_none (sym (a.same (descriptor_at n) tt) i)) (range_with_len 0 (length t.descriptors))
@@ -45,20 +45,15 @@ module _ (t : Trace) (s u : World) (r : ℕ) where
   room_uses_same (Some n) a = refl
 
 openat_tells : (t : Trace) (k r : ℕ) (s u : World) (p : Path) (g : OpenFlags) (asked : Option ℕ) → RowTells t k r s u (openat p g asked)
-openat_tells t k r s u p g asked x a =
+openat_tells t k r s u p g asked x a d =
     let made = made_where (tried x) (description_made t k) in
-    let at_place = each_ok (λ (q : Place). open_uses t k (tried x) g q q.target) (walk s.nodes p) in
-    let before = agree_left s u (path_reads s p ++ room_uses t s r asked) made (agree_left s u (path_reads s p ++ room_uses t s r asked ++ made) at_place a) in
-    let path = agree_left s u (path_reads s p) (room_uses t s r asked) before in
-    let rooms = agree_right s u (path_reads s p) (room_uses t s r asked) before in
-    let walked = walk_same s u p path in
-    let in_room = room_same t s u r asked rooms in
+    let rooms = agree_left s u (room_uses t s r asked) made (agree_left s u (room_uses t s r asked ++ made) _ d) in
     record {
-      same_meaning = λ i. in_room i >>= λ at. walked i >>= λ q. may_open g q.target >> Ok (open_as t k r g at q);
-      same_row = λ y i. path_reads_same s u p path i ++ room_uses_same t s u r asked rooms i ++ made_where (tried y) (description_made t k) ++ each_ok (λ (q : Place). open_uses t k (tried y) g q q.target) (walked i);
+      same_meaning = ap (λ z. z >>= λ at. walk s.nodes p >>= λ q. may_open g q.target >> Ok (open_as t k r g at q)) (room_same t s u r asked rooms);
+      same_uses = λ y i. room_uses_same t s u r asked rooms i ++ made_where (tried y) (description_made t k) ++ each_ok (opened_at t k (tried y) g) (walk s.nodes p);
     }
 
--- The row writes the room that is filled.
+-- The room that is filled is written.
 room_supported : (t : Trace) (s z : World) (r d : ℕ) (asked : Option ℕ) (at : File) (f : Footprint) → room t s r asked ≡ Ok at → Holds f (room_uses t s r asked) → SupportsAll f z (filled r at d).changes
 room_supported t s z r d None at f h w = by (lowest_free t s) h w
   where
@@ -118,7 +113,7 @@ module _ (t : Trace) (k : ℕ) (s : World) (g : OpenFlags) (w : Unused t k s) (q
   target_supported z l c h = grind (arith, make_supported, found_supported, cuts_a_file, second_test)
 
 openat_supports : (t : Trace) (k r : ℕ) (s : World) (p : Path) (g : OpenFlags) (asked : Option ℕ) → Unused t k s
-    → ((i : ℕ) → T (has_atom (row t k r s (tried true) (openat p g asked)) (size_of i)) → IfSome (size s i) (λ n. n ≤ file_limit)) → RowSupports t k r s (openat p g asked)
+    → ((i : ℕ) → T (has_atom (used t k r s true (openat p g asked)) (size_of i)) → IfSome (size s i) (λ n. n ≤ file_limit)) → RowSupports t k r s (openat p g asked)
 openat_supports t k r s p g asked w fits e h =
     let at = ok_bind (room t s r asked) _ e h in
     let q = ok_bind (walk s.nodes p) _ e at.2 in
@@ -126,16 +121,16 @@ openat_supports t k r s p g asked w fits e h =
     let made = description_made t k in
     let uses : Place → Footprint = λ x. open_uses t k (tried true) g x x.target in
     let places = each_ok uses (walk s.nodes p) in
-    let looks = path_reads s p ++ room_uses t s r asked in
-    let row_is = looks ++ made ++ places in
-    let rooms = holds_over row_is looks (room_uses t s r asked) (holds_over row_is (looks ++ made) looks (holds_left (looks ++ made) places) (holds_left looks made)) (holds_right (path_reads s p) (room_uses t s r asked)) in
-    let describes = holds_over row_is (looks ++ made) made (holds_left (looks ++ made) places) (holds_right looks made) in
-    let here = holds_over row_is places (uses q.0) (holds_right (looks ++ made) places) (holds_ok uses (walk s.nodes p) q.0 q.1) in
+    let room = room_uses t s r asked in
+    let row_is = room ++ made ++ places in
+    let rooms = holds_over row_is (room ++ made) room (holds_left (room ++ made) places) (holds_left room made) in
+    let describes = holds_over row_is (room ++ made) made (holds_left (room ++ made) places) (holds_right room made) in
+    let here = holds_over row_is places (uses q.0) (holds_right (room ++ made) places) (holds_ok uses (walk s.nodes p) q.0 q.1) in
     subst (λ (x : Effect). SupportsAll row_is s x.changes) (ok_same (open_as t k r g at.0 q.0) e last.0)
     (target_supported t k s g w q.0 row_is fits (filled r at.0 (made_description t k)).changes (λ z. room_supported t s z r (made_description t k) asked at.0 row_is at.1 rooms) describes q.0.target (walk_leads s p q.0 q.1) last.1 here)
 
 pub openat_owes : (t : Trace) (k r : ℕ) (s : World) (p : Path) (g : OpenFlags) (asked : Option ℕ) → Awaits t k s → Owes t k r (openat p g asked) s
 openat_owes t k r s p g asked w = record {
   tells = λ u. openat_tells t k r s u p g asked;
-  supports = λ u v a. openat_supports t k r u p g asked v (sizes_fit (row t k r u (tried true) (openat p g asked)) s u w.is_world (subst (λ f. Agree f s u) (sym ((openat_tells t k r s u p g asked true a).same_row true)) a));
+  supports = λ u v a d. openat_supports t k r u p g asked v (sizes_fit (used t k r u true (openat p g asked)) s u w.is_world d);
 }

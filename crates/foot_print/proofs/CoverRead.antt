@@ -6,16 +6,15 @@ use mathlib.Core.Path.{sym, ap, ◌∙◌}
 use native.Mathlib.Omega.{arith}
 use Rattle.sqe_codec.specs.declared.errno.Errno.{Errno}
 use Rattle.sqe_codec.specs.declared.errno.Errno.TheVariants.{EBADF, EISDIR, EINVAL}
-use Rattle.trace_format.specs.declared.trace.Trace.{Trace}
-use Rattle.sqe_codec.specs.Answers.{each, ◌>>=◌, ◌>>◌, require}
-use Rattle.entry_checks.specs.Operation.{File, at_position, file_limit}
+use Rattle.sqe_codec.specs.Answers.{◌>>=◌, ◌>>◌, require}
+use Rattle.entry_checks.specs.Operation.{at_position, file_limit}
 use Rattle.world_parts.specs.World.{World, IsWorld, bytes, position, set_position}
 use Rattle.file_tree.specs.Tree.{byte_of}
-use Rattle.op_meaning.specs.Meaning.{Effect, done, Handle, handle, can_read, is_file, is_bad_offset, Destination, read_effect, read_meaning, bytes_in, delivered}
+use Rattle.op_meaning.specs.Meaning.{Effect, done, Handle, can_read, is_file, is_bad_offset, Destination, read_effect, read_meaning, bytes_in, delivered}
 use Rattle.world_parts.specs.Items.{size_of, byte_at, position_of, value, one, reads, writes, Footprint, Agree}
-use Rattle.foot_print.specs.Footprint.{of_file, range_of, transfer_range, position_written, read_row}
-use Rattle.foot_print.proofs.OpenFile.{on_file_alike, length_same, bounded, in_range}
-use Rattle.foot_print.proofs.Agreement.{agree_left, agree_head, agree_tail, handle_same, agree_on_content}
+use Rattle.foot_print.specs.Footprint.{of_file, content_of, range_of, transfer_range, position_written, read_content}
+use Rattle.foot_print.proofs.OpenFile.{length_same, bounded, in_range}
+use Rattle.foot_print.proofs.Agreement.{agree_left, agree_head, agree_tail, agree_on_content}
 
 -- A slice is decided by the length and the bytes in its range.
 pub slice_same : (n at : ℕ) (xs ys : List ℕ) → length xs ≡ length ys → ((p : ℕ) → at ≤ p → p < at + n → p < length xs → slice_index_or xs p 0 ≡ slice_index_or ys p 0) → take n (drop at xs) ≡ take n (drop at ys)
@@ -49,9 +48,9 @@ read_with : World → ℕ → ℕ → ℕ → Result Destination Errno → Optio
 unfolding read_from
 read_with s r o n span x = (ok_or x EBADF >>= λ h. require (can_read h.opened.access) EBADF >> (require (is_file h.opened) EISDIR >> Ok h)) >>= read_from s r o n span
 
-reads_with : (t : Trace) (s : World) (r : ℕ) (f : File) (o n : ℕ) (span : Result Destination Errno) → read_meaning s r (handle t s r f) o n span ≡ read_with s r o n span (handle t s r f)
+reads_with : (s : World) (r : ℕ) (x : Option Handle) (o n : ℕ) (span : Result Destination Errno) → read_meaning s r x o n span ≡ read_with s r o n span x
 unfolding read_with
-reads_with t s r f o n span = refl
+reads_with s r x o n span = refl
 
 -- The effect of a read is the same where worlds agree on its content.
 effect_same : (s u : World) (r : ℕ) (h : Handle) (o n : ℕ) (to : Destination) → IsWorld s → Agree (content o n h.opened.target.node h) s u → read_effect u r h o n to ≡ read_effect s r h o n to
@@ -92,17 +91,10 @@ with_same : (s u : World) (r o n : ℕ) (span : Result Destination Errno) (x : O
 unfolding read_with
 with_same s u r o n span x w a = let same = λ (h : Handle). from_same s u r o n span h w in grind (arith, same)
 
--- A read answers and changes the same in every world that agrees on its row.
-pub read_same : (t : Trace) (s u : World) (r : ℕ) (f : File) (o n : ℕ) (span : Result Destination Errno) → IsWorld s → Agree (read_row t s r f o n) s u → read_meaning u r (handle t u r f) o n span ≡ read_meaning s r (handle t s r f) o n span
+-- A read answers and changes the same in every world that agrees on what it has of the file.
+pub read_same : (s u : World) (r : ℕ) (x : Option Handle) (o n : ℕ) (span : Result Destination Errno) → IsWorld s → Agree (content_of (read_content o n) x) s u → read_meaning u r x o n span ≡ read_meaning s r x o n span
 unfolding content
-read_same t s u r f o n span w a =
-    reads_with t u r f o n span
-    ∙ ap (read_with u r o n span) (handle_same t s u r f (content o n) (agree_left s u _ _ a))
-    ∙ with_same s u r o n span (handle t s r f) w (agree_on_content t s u r f (content o n) (agree_left s u _ _ a))
-    ∙ sym (reads_with t s r f o n span)
-
-pub read_row_same : (t : Trace) (s u : World) (r : ℕ) (f : File) (o n : ℕ) → Agree (read_row t s r f o n) s u → read_row t u r f o n ≡ read_row t s r f o n
-unfolding content
-read_row_same t s u r f o n a =
-    let same = on_file_alike t s u r f (content o n) (content o n) (content o n) (λ h k. refl) (agree_left s u _ _ a) in
-    λ i. same i ++ each (λ h. position_written h o) (handle_same t s u r f (content o n) (agree_left s u _ _ a) i)
+read_same s u r x o n span w a =
+    reads_with u r x o n span
+    ∙ with_same s u r o n span x w (agree_on_content s u (content o n) x a)
+    ∙ sym (reads_with s r x o n span)

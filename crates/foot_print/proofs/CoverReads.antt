@@ -2,7 +2,7 @@
 use Rattle.std.specs.Prelude.{◌≡◌, ℕ, Bool, true, false, cond, not, ◌&&◌, ◌==◌, leb, min, ◌+◌, ◌<◌, ◌≤◌, T, List, [], ◌∷◌, ◌++◌, length, take, drop, Option, Some, None, Result, Ok, ok_or, refl}
 use Rattle.std.specs.List.{list_any}
 use Rattle.std.specs.Option.{option_map}
-use mathlib.Core.Path.{sym, subst, ap, ◌∙◌}
+use mathlib.Core.Path.{sym, subst, ◌∙◌}
 use native.Mathlib.Omega.{arith}
 use lib.Dec.{ltb→lt, lt→ltb, leb→le, le→leb, eqb_refl}
 use Rattle.std.proofs.Math.ListN.{length-take}
@@ -15,13 +15,13 @@ use Rattle.trace_format.specs.Sides.{most_moved}
 use Rattle.world_parts.specs.World.{World}
 use Rattle.op_meaning.specs.Meaning.{Effect, done, Handle, handle, can_read, is_file, is_bad_offset, Destination, reply, into, delivered, advance, transfer_start, bytes_in, read_effect, readable, read_meaning, span_start, span_destination}
 use Rattle.world_parts.specs.Items.{position_of, buffer_byte, member_of, one, buffer_bytes, Use, writes, Footprint, writes_atom}
-use Rattle.foot_print.specs.Footprint.{on_file, position_written, position_use, read_row, span_use, read_content}
+use Rattle.foot_print.specs.Footprint.{tried, content_of, moved_uses, position_written, position_use, span_use, read_content}
 use Rattle.foot_print.specs.Laws.{Awaits}
 use Rattle.world_parts.proofs.Collision.{both, either_left, left, right, true_of}
 use Rattle.foot_print.proofs.Agreement.{in_left, in_right, agree_left}
 use Rattle.foot_print.proofs.Accepted.{err_apart, ok_same, ok_bind, ok_require, ok_some, supports_effect}
-use Rattle.foot_print.proofs.OpenFile.{in_on_file}
-use Rattle.foot_print.proofs.CoverRead.{read_same, read_row_same}
+use Rattle.foot_print.proofs.OpenFile.{in_content}
+use Rattle.foot_print.proofs.CoverRead.{read_same}
 use Rattle.foot_print.proofs.CoverChanges.{SupportsAll}
 use Rattle.foot_print.proofs.CoverOperation.{Contains, Owes}
 
@@ -33,7 +33,7 @@ advance_supported g v h o end w = grind arith
 pub position_is_written : (h : Handle) (o : ℕ) → T (o == at_position) → T (writes_atom (position_written h o) (position_of h.description))
 position_is_written h o p = subst (λ b. T (writes_atom (cond b (writes (one (position_of h.description)) ∷ []) []) (position_of h.description))) (sym (true_of _ p)) (either_left _ _ (eqb_refl h.description))
 
-module _ (t : Trace) (r : ℕ) (f : File) (o n : ℕ) (span : Result Destination Errno) (s : World) (g : Footprint) where
+module _ (r : ℕ) (there : Option Handle) (o n : ℕ) (span : Result Destination Errno) (s : World) (g : Footprint) where
   -- A destination that a read may have is written.
   abbrev IsWritten : Destination → Type 0
   IsWritten reply = Unit {0}
@@ -46,35 +46,38 @@ module _ (t : Trace) (r : ℕ) (f : File) (o n : ℕ) (span : Result Destination
     advance_supported g _ h o at w,
   )
 
-  -- What a read's row, and what it has of its destination, supports its changes.
-  pub read_supported : (e : Effect) → read_meaning s r (handle t s r f) o n span ≡ Ok e → Contains g (read_row t s r f o n) → ((to : Destination) → span ≡ Ok to → IsWritten to) → SupportsAll g s e.changes
+  -- What a read has of its file and of its destination supports its changes.
+  pub read_supported : (e : Effect) → read_meaning s r there o n span ≡ Ok e → Contains g (content_of (read_content o n) there) → ((to : Destination) → span ≡ Ok to → IsWritten to) → SupportsAll g s e.changes
   read_supported e q c d =
-      let m = ok_bind (readable (handle t s r f)) _ e q in
-      let l = ok_bind (ok_or (handle t s r f) EBADF) (λ h. require (can_read h.opened.access) EBADF >> (require (is_file h.opened) EISDIR >> Ok h)) m.0 m.1 in
+      let m = ok_bind (readable there) _ e q in
+      let l = ok_bind (ok_or there EBADF) (λ h. require (can_read h.opened.access) EBADF >> (require (is_file h.opened) EISDIR >> Ok h)) m.0 m.1 in
       let i = ok_require (is_file l.0.opened) EISDIR (Ok l.0) m.0 (ok_require (can_read l.0.opened.access) EBADF _ m.0 l.2).0 in
-      let there = ok_some (handle t s r f) EBADF m.0 (l.1 ∙ i.0) in
+      let here = ok_some there EBADF m.0 (l.1 ∙ i.0) in
       let x = ok_bind span _ e m.2 in
       let y = ok_require (not (is_bad_offset o)) EINVAL _ e x.2 in
-      supports_effect g s _ e y.0 (moves m.0 x.0 (n == 0) (subst (λ h. T (is_file h.opened)) (ok_same l.0 m.0 i.0) i.1) there (d x.0 x.1))
+      supports_effect g s _ e y.0 (moves m.0 x.0 (n == 0) (subst (λ h. T (is_file h.opened)) (ok_same l.0 m.0 i.0) i.1) here (d x.0 x.1))
     where
-      moves : (h : Handle) (to : Destination) (none : Bool) → T (is_file h.opened) → handle t s r f ≡ Some h → IsWritten to → SupportsAll g s (cond none (done []) (read_effect s r h o n to)).changes
-      moves h to true i there w = tt
-      moves h to false i there w =
+      moves : (h : Handle) (to : Destination) (none : Bool) → T (is_file h.opened) → there ≡ Some h → IsWritten to → SupportsAll g s (cond none (done []) (read_effect s r h o n to)).changes
+      moves h to true i here w = tt
+      moves h to false i here w =
           let at = transfer_start s h o in
           let x = take n (drop at (bytes_in s h.opened.target.node)) in
           let l = length-take n (drop at (bytes_in s h.opened.target.node)) in
           delivered_supported h (at + length x) x to (omega arith) (λ p. c.uses (λ (z : Use). z.written && member_of z.item (position_of h.description))
-          (in_left (λ (z : Use). z.written && member_of z.item (position_of h.description)) (on_file t s r f (read_content o n)) (position_use t s r f o)
-          (in_on_file t s r f (read_content o n) (λ (z : Use). z.written && member_of z.item (position_of h.description)) h there i (position_is_written h o p)))) w
+          (in_content (read_content o n) (λ (z : Use). z.written && member_of z.item (position_of h.description)) there h here i (position_is_written h o p))) w
 
 pub read_owes : (t : Trace) (k r : ℕ) (s : World) (f : File) (o n : ℕ) → Awaits t k s → Owes t k r (read f o n) s
 read_owes t k r s f o n w = record {
-  tells = λ u b a. record { same_meaning = read_same t s u r f o (min n most_moved) (Ok reply) w.is_world a; same_row = λ c. read_row_same t s u r f o (min n most_moved) a };
-  supports = λ u v a e q. read_supported t r f o (min n most_moved) (Ok reply) u (read_row t u r f o (min n most_moved)) e q (record { uses = λ p m. m }) (λ to h. subst (IsWritten t r f o (min n most_moved) (Ok reply) u (read_row t u r f o (min n most_moved))) (ok_same reply to h) tt);
+  tells = λ u b a d. record { same_meaning = read_same s u r (handle t s r f) o (min n most_moved) (Ok reply) w.is_world (agree_left s u _ _ d); same_uses = λ c. refl };
+  supports = λ u v a d e q.
+      let there = handle t u r f in
+      let row = moved_uses u (tried true) false o (min n most_moved) there in
+      read_supported r there o (min n most_moved) (Ok reply) u row e q (record { uses = λ p m. in_left p (content_of (read_content o (min n most_moved)) there) (position_use o there) m })
+      (λ to h. subst (IsWritten r there o (min n most_moved) (Ok reply) u row) (ok_same reply to h) tt);
 }
 
 pub readv_owes : (t : Trace) (k r : ℕ) (s : World) (f : File) (o n : ℕ) → Awaits t k s → Owes t k r (readv f o n) s
-readv_owes t k r s f o n w = let x = read_owes t k r s f o n w in record { tells = λ u b a. let y = x.tells u b a in record { same_meaning = y.same_meaning; same_row = y.same_row }; supports = x.supports }
+readv_owes t k r s f o n w = let x = read_owes t k r s f o n w in record { tells = λ u b a d. let y = x.tells u b a d in record { same_meaning = y.same_meaning; same_uses = y.same_uses }; supports = x.supports }
 
 -- The range of a span in its buffer that a transfer of fewer bytes uses.
 pub in_span : (b : Bool) (t : Trace) (r : ℕ) (x : Span) (q : Use → Bool) (at : ℕ) → span_start t r x ≡ Some at → T (q (record { item = buffer_bytes r x.index at (at + x.length); written = b })) → T (list_any q (span_use b t r x))
@@ -85,18 +88,18 @@ offset_in_span r b at n p below above = both (r == r && b == b) _ (both _ _ (eqb
 
 pub read_fixed_owes : (t : Trace) (k r : ℕ) (s : World) (f : File) (o : ℕ) (x : Span) → Awaits t k s → Owes t k r (read_fixed f o x) s
 read_fixed_owes t k r s f o x w = record {
-  tells = λ u b a.
-      let d = agree_left s u (read_row t s r f o n) (span_use true t r x) a in
-      record { same_meaning = read_same t s u r f o n (span_destination t r x) w.is_world d; same_row = λ c. ap (λ z. z ++ span_use true t r x) (read_row_same t s u r f o n d) };
-  supports = λ u v a e q.
-      read_supported t r f o n (span_destination t r x) u (read_row t u r f o n ++ span_use true t r x) e q (record { uses = λ p m. in_left p (read_row t u r f o n) (span_use true t r x) m }) (destination u (span_start t r x) refl);
+  tells = λ u b a d. record { same_meaning = read_same s u r (handle t s r f) o n (span_destination t r x) w.is_world (agree_left s u _ _ (agree_left s u (moved_uses s (tried b) false o n (handle t s r f)) (span_use true t r x) d)); same_uses = λ c. refl };
+  supports = λ u v a d e q.
+      let there = handle t u r f in
+      let moved = moved_uses u (tried true) false o n there in
+      read_supported r there o n (span_destination t r x) u (moved ++ span_use true t r x) e q (record { uses = λ p m. in_left p moved (span_use true t r x) (in_left p (content_of (read_content o n) there) (position_use o there) m) }) (destination u (span_start t r x) refl);
 }
   where
     n : ℕ
     n = min x.length most_moved
 
-    destination : (u : World) (y : Option ℕ) → span_start t r x ≡ y → (to : Destination) → ok_or (option_map (λ at. into x.index at) y) EFAULT ≡ Ok to → IsWritten t r f o (min x.length most_moved) (span_destination t r x) u (read_row t u r f o (min x.length most_moved) ++ span_use true t r x) to
+    destination : (u : World) (y : Option ℕ) → span_start t r x ≡ y → (to : Destination) → ok_or (option_map (λ at. into x.index at) y) EFAULT ≡ Ok to → IsWritten r (handle t u r f) o (min x.length most_moved) (span_destination t r x) u (moved_uses u (tried true) false o (min x.length most_moved) (handle t u r f) ++ span_use true t r x) to
     destination u None e to h = absurd (err_apart h)
-    destination u (Some at) e to h = subst (IsWritten t r f o (min x.length most_moved) (span_destination t r x) u (read_row t u r f o (min x.length most_moved) ++ span_use true t r x)) (ok_same (into x.index at) to h) (λ p below above.
-        in_right (λ (z : Use). z.written && member_of z.item (buffer_byte r x.index p)) (read_row t u r f o (min x.length most_moved)) (span_use true t r x)
+    destination u (Some at) e to h = subst (IsWritten r (handle t u r f) o (min x.length most_moved) (span_destination t r x) u (moved_uses u (tried true) false o (min x.length most_moved) (handle t u r f) ++ span_use true t r x)) (ok_same (into x.index at) to h) (λ p below above.
+        in_right (λ (z : Use). z.written && member_of z.item (buffer_byte r x.index p)) (moved_uses u (tried true) false o (min x.length most_moved) (handle t u r f)) (span_use true t r x)
         (in_span true t r x (λ (z : Use). z.written && member_of z.item (buffer_byte r x.index p)) at e (offset_in_span r x.index at x.length p below (omega arith))))

@@ -12,19 +12,19 @@ use Rattle.std.proofs.Math.ListN.{length-take}
 use Rattle.sqe_codec.specs.declared.errno.Errno.{Errno}
 use Rattle.sqe_codec.specs.declared.errno.Errno.TheVariants.{EBADF, EINVAL, EFBIG, EFAULT}
 use Rattle.trace_format.specs.declared.trace.Trace.{Trace}
-use Rattle.sqe_codec.specs.Answers.{each, ◌>>=◌, ◌>>◌, require}
+use Rattle.sqe_codec.specs.Answers.{◌>>=◌, ◌>>◌, require}
 use Rattle.entry_checks.specs.Operation.{write, writev, write_fixed, File, Span, at_position, file_limit}
 use Rattle.trace_format.specs.Sides.{most_moved}
-use Rattle.world_parts.specs.World.{World, IsWorld, bytes, size, buffer}
+use Rattle.world_parts.specs.World.{World, bytes, size, buffer}
 use Rattle.op_meaning.specs.Meaning.{Effect, done, Handle, handle, can_write, is_bad_offset, write_start, write_effect, writable, write_meaning, bytes_in, span_start, span_bytes}
 use Rattle.world_parts.specs.Items.{Atom, member_of, size_of, byte_at, position_of, buffer_byte, within, one, Use, writes, Footprint, writes_atom, Agree}
-use Rattle.foot_print.specs.Footprint.{Taken, tried, is_foreseen, use_of, on_file, transfer_range, position_written, position_use, would_extend, write_row, span_use}
+use Rattle.foot_print.specs.Footprint.{Taken, tried, is_foreseen, use_of, content_of, transfer_range, position_written, position_use, would_extend, write_content, moved_uses, span_use}
 use Rattle.foot_print.specs.Laws.{Awaits}
 use Rattle.world_parts.proofs.Collision.{both, either_left, either_right, left, right}
-use Rattle.foot_print.proofs.Agreement.{in_left, agree_left, agree_right, agree_head, agree_tail, handle_same}
+use Rattle.foot_print.proofs.Agreement.{in_left, agree_left, agree_right, agree_head, agree_tail, agree_on_content}
 use Rattle.world_parts.proofs.Trees.{some_same, some_apart}
 use Rattle.foot_print.proofs.Accepted.{ok_same, ok_bind, ok_require, ok_some}
-use Rattle.foot_print.proofs.OpenFile.{with_handle, on_file_same, in_on_file, on_its_file, handles_sound, handles_sound_too, HandlesSound, writable_is_file, file_there, length_same, length_by_size}
+use Rattle.foot_print.proofs.OpenFile.{AllSound, with_handle, content_same, in_content, on_its_file, handles_sound, handles_sound_too, writable_is_file, file_there, length_same, length_by_size}
 use Rattle.foot_print.proofs.CoverChanges.{SupportsAll}
 use Rattle.foot_print.proofs.CoverOperation.{Contains, Owes}
 use Rattle.foot_print.proofs.CoverReads.{advance_supported, position_is_written, in_span, offset_in_span}
@@ -35,10 +35,8 @@ content s ext o n i h =
     let anywhere = h.opened.append || o == at_position in
     use_of (ext || anywhere || (not (n == 0) && would_extend s i (o + n))) (one (size_of i)) ∷ writes (transfer_range i anywhere o n) ∷ position_written h o
 
-write_row_same : (t : Trace) (s u : World) (r : ℕ) (x : Taken) (f : File) (o n : ℕ) → Agree (write_row t s r x f o n) s u → write_row t u r x f o n ≡ write_row t s r x f o n
-write_row_same t s u r x f o n b =
-    let a = agree_left s u _ _ b in
-    λ i. on_file_same t s u r f (content s (is_foreseen x) o n) (content u (is_foreseen x) o n) same a i ++ each (λ h. position_written h o) (handle_same t s u r f (content s (is_foreseen x) o n) a i)
+write_uses_same : (s u : World) (x : Taken) (y : Option Handle) (o n : ℕ) → Agree (content_of (write_content s x o n) y) s u → content_of (write_content u x o n) y ≡ content_of (write_content s x o n) y
+write_uses_same s u x y o n a = content_same s u (content s (is_foreseen x) o n) (content u (is_foreseen x) o n) same y a
   where
     same : (h : Handle) → Agree (content s (is_foreseen x) o n h.opened.target.node h) s u → content u (is_foreseen x) o n h.opened.target.node h ≡ content s (is_foreseen x) o n h.opened.target.node h
     same h k = ap (λ m. use_of (is_foreseen x || (h.opened.append || o == at_position) || (not (n == 0) && ltb m (min (o + n) file_limit))) (one (size_of h.opened.target.node)) ∷ writes (transfer_range h.opened.target.node (h.opened.append || o == at_position) o n) ∷ position_written h o)
@@ -59,21 +57,18 @@ writes_from o h at new = cond (length new == 0) (Ok (done [])) (require (ltb at 
 abbrev handed : World → ℕ → Result (List ℕ) Errno → Bool → Handle → Result Effect Errno
 handed s o source cw h = (require cw EBADF >> Ok h) >>= λ g. source >>= λ new. require (not (is_bad_offset o)) EINVAL >> writes_from o g (write_start s g o) new
 
-by_handle : (t : Trace) (s : World) (r : ℕ) (f : File) (o : ℕ) (source : Result (List ℕ) Errno) → write_meaning s (handle t s r f) o source ≡ (ok_or (handle t s r f) EBADF >>= λ h. handed s o source (can_write h.opened.access) h)
-by_handle t s r f o source = grind arith
+by_handle : (s : World) (y : Option Handle) (o : ℕ) (source : Result (List ℕ) Errno) → write_meaning s y o source ≡ (ok_or y EBADF >>= λ h. handed s o source (can_write h.opened.access) h)
+by_handle s y o source = grind arith
 
 handed_same : (s u : World) (o : ℕ) (source : Result (List ℕ) Errno) (cw : Bool) (h : Handle) → (T cw → write_start u h o ≡ write_start s h o) → handed u o source cw h ≡ handed s o source cw h
 handed_same s u o source cw h a = grind arith
 
-write_same : (t : Trace) (s u : World) (r : ℕ) (x : Taken) (f : File) (o n : ℕ) (source : Result (List ℕ) Errno) → IsWorld s → Agree (write_row t s r x f o n) s u → write_meaning u (handle t u r f) o source ≡ write_meaning s (handle t s r f) o source
-write_same t s u r x f o n source w a =
-    by_handle t u r f o source
-    ∙ with_handle t s u r f c (λ h. handed s o source (can_write h.opened.access) h) (λ h. handed u o source (can_write h.opened.access) h) (agree_left s u _ _ a) (λ h e b.
-    handed_same s u o source (can_write h.opened.access) h (λ k. start_same s u (is_foreseen x) o n h (on_its_file t s u c h (writable_is_file h (handles_sound t s r f w h e) k) b)))
-    ∙ sym (by_handle t s r f o source)
-  where
-    c : ℕ → Handle → Footprint
-    c = content s (is_foreseen x) o n
+write_same : (s u : World) (x : Taken) (y : Option Handle) (o n : ℕ) (source : Result (List ℕ) Errno) → AllSound y → Agree (content_of (write_content s x o n) y) s u → write_meaning u y o source ≡ write_meaning s y o source
+write_same s u x y o n source sound a =
+    by_handle u y o source
+    ∙ with_handle y (λ h. handed s o source (can_write h.opened.access) h) (λ h. handed u o source (can_write h.opened.access) h) (λ h e.
+    handed_same s u o source (can_write h.opened.access) h (λ k. start_same s u (is_foreseen x) o n h (on_its_file s u (content s (is_foreseen x) o n) h (writable_is_file h (sound h e) k) (agree_on_content s u (content s (is_foreseen x) o n) y a h e))))
+    ∙ sym (by_handle s y o source)
 
 -- Without an append flag and the position, a write starts at its offset.
 start_is : (a b : Bool) (x y o : ℕ) → (a || b) ≡ false → cond a x (cond b y o) ≡ o
@@ -144,9 +139,9 @@ module _ (s : World) (o n : ℕ) (new : List ℕ) (h : Handle) (g : Footprint) (
   from_supported : (e : Effect) → writes_from o h (write_start s h o) new ≡ Ok e → SupportsAll g s e.changes
   from_supported e q = grind (arith, moves, ltb→lt, positive)
 
--- What a write's row writes supports its changes.
-write_supported : (t : Trace) (r : ℕ) (f : File) (o n : ℕ) (source : Result (List ℕ) Errno) (s : World) (g : Footprint) → HandlesSound t s r f → ((new : List ℕ) → source ≡ Ok new → length new ≤ n)
-    → (e : Effect) → write_meaning s (handle t s r f) o source ≡ Ok e → Contains g (on_file t s r f (content s false o n)) → SupportsAll g s e.changes
+-- What a write has of its file supports its changes.
+write_supported : (t : Trace) (r : ℕ) (f : File) (o n : ℕ) (source : Result (List ℕ) Errno) (s : World) (g : Footprint) → AllSound (handle t s r f) → ((new : List ℕ) → source ≡ Ok new → length new ≤ n)
+    → (e : Effect) → write_meaning s (handle t s r f) o source ≡ Ok e → Contains g (content_of (write_content s (tried true) o n) (handle t s r f)) → SupportsAll g s e.changes
 write_supported t r f o n source s g w few e q c =
     let m = ok_bind (writable (handle t s r f)) _ e q in
     let l = ok_bind (ok_or (handle t s r f) EBADF) (λ h. require (can_write h.opened.access) EBADF >> Ok h) m.0 m.1 in
@@ -159,17 +154,25 @@ write_supported t r f o n source s g w few e q c =
     from_supported s o n y.0 m.0 g d (file_there t s r f m.0 (w m.0 there) there can) (few y.0 y.1) e k.0
   where
     on_content : (h : Handle) → handle t s r f ≡ Some h → T (can_write h.opened.access) → Contains g (content s false o n h.opened.target.node h)
-    on_content h there can = record { uses = λ p m. c.uses p (in_on_file t s r f (content s false o n) p h there (writable_is_file h (w h there) can) m) }
+    on_content h there can = record { uses = λ p m. c.uses p (in_content (content s false o n) p (handle t s r f) h there (writable_is_file h (w h there) can) m) }
 
 pub write_owes : (t : Trace) (k r : ℕ) (s : World) (f : File) (o : ℕ) (new : List ℕ) → Awaits t k s → Owes t k r (write f o new) s
 write_owes t k r s f o new w = record {
-  tells = λ u b a. record { same_meaning = write_same t s u r (tried true) f o (length new) (Ok new) w.is_world a; same_row = λ c. write_row_same t s u r (tried true) f o (length new) a };
-  supports = λ u v a e q. write_supported t r f o (length new) (Ok new) u (write_row t u r (tried true) f o (length new)) (handles_sound_too t s u r f (content s false o (length new)) w.is_world (agree_left s u _ _ a)) (λ x h. subst (λ y. length y ≤ length new) (ok_same new x h) (omega arith)) e q
-      (record { uses = λ p m. in_left p (on_file t u r f (content u false o (length new))) (position_use t u r f o) m });
+  tells = λ u b a d.
+      let there = handle t s r f in
+      let content_agrees = agree_left s u (content_of (write_content s (tried b) o (length new)) there) (position_use o there) d in
+      record {
+        same_meaning = write_same s u (tried b) there o (length new) (Ok new) (handles_sound t s r f w.is_world) content_agrees;
+        same_uses = λ c. ap (λ g. g ++ position_use o there) (write_uses_same s u (tried c) there o (length new) content_agrees);
+      };
+  supports = λ u v a d e q.
+      let there = handle t u r f in
+      write_supported t r f o (length new) (Ok new) u (moved_uses u (tried true) true o (length new) there) (handles_sound_too t s u r f w.is_world a) (λ x h. subst (λ y. length y ≤ length new) (ok_same new x h) (omega arith)) e q
+      (record { uses = λ p m. in_left p (content_of (write_content u (tried true) o (length new)) there) (position_use o there) m });
 }
 
 pub writev_owes : (t : Trace) (k r : ℕ) (s : World) (f : File) (o : ℕ) (new : List ℕ) → Awaits t k s → Owes t k r (writev f o new) s
-writev_owes t k r s f o new w = let x = write_owes t k r s f o new w in record { tells = λ u b a. let y = x.tells u b a in record { same_meaning = y.same_meaning; same_row = y.same_row }; supports = x.supports }
+writev_owes t k r s f o new w = let x = write_owes t k r s f o new w in record { tells = λ u b a d. let y = x.tells u b a d in record { same_meaning = y.same_meaning; same_uses = y.same_uses }; supports = x.supports }
 
 drop_none : {A : Type 0} (n : ℕ) → ◌≡◌ {A = List A} (drop n []) []
 drop_none zero = refl
@@ -207,14 +210,17 @@ span_bytes_fit t s r x new e = grind (arith, length-take)
 
 pub write_fixed_owes : (t : Trace) (k r : ℕ) (s : World) (f : File) (o : ℕ) (x : Span) → Awaits t k s → Owes t k r (write_fixed f o x) s
 write_fixed_owes t k r s f o x w = record {
-  tells = λ u b a.
-      let d = agree_left s u (write_row t s r (tried true) f o (min x.length most_moved)) (span_use false t r x) a in
+  tells = λ u b a d.
+      let there = handle t s r f in
+      let moved = moved_uses s (tried b) true o (min x.length most_moved) there in
+      let content_agrees = agree_left s u (content_of (write_content s (tried b) o (min x.length most_moved)) there) (position_use o there) (agree_left s u moved (span_use false t r x) d) in
       record {
-        same_meaning = ap (write_meaning u (handle t u r f) o) (span_bytes_same t s u r x (agree_right s u (write_row t s r (tried true) f o (min x.length most_moved)) (span_use false t r x) a)) ∙ write_same t s u r (tried true) f o (min x.length most_moved) (span_bytes t s r x) w.is_world d;
-        same_row = λ c. ap (λ z. z ++ span_use false t r x) (write_row_same t s u r (tried true) f o (min x.length most_moved) d);
+        same_meaning = ap (write_meaning u there o) (span_bytes_same t s u r x (agree_right s u moved (span_use false t r x) d)) ∙ write_same s u (tried b) there o (min x.length most_moved) (span_bytes t s r x) (handles_sound t s r f w.is_world) content_agrees;
+        same_uses = λ c. ap (λ g. (g ++ position_use o there) ++ span_use false t r x) (write_uses_same s u (tried c) there o (min x.length most_moved) content_agrees);
       };
-  supports = λ u v a e q.
-      let row_agrees = agree_left s u (write_row t s r (tried true) f o (min x.length most_moved)) (span_use false t r x) a in
-      write_supported t r f o (min x.length most_moved) (span_bytes t u r x) u (write_row t u r (tried true) f o (min x.length most_moved) ++ span_use false t r x) (handles_sound_too t s u r f (content s false o (min x.length most_moved)) w.is_world (agree_left s u _ _ row_agrees)) (span_bytes_fit t u r x) e q
-      (record { uses = λ p m. in_left p (write_row t u r (tried true) f o (min x.length most_moved)) (span_use false t r x) (in_left p (on_file t u r f (content u false o (min x.length most_moved))) (position_use t u r f o) m) });
+  supports = λ u v a d e q.
+      let there = handle t u r f in
+      let moved = moved_uses u (tried true) true o (min x.length most_moved) there in
+      write_supported t r f o (min x.length most_moved) (span_bytes t u r x) u (moved ++ span_use false t r x) (handles_sound_too t s u r f w.is_world a) (span_bytes_fit t u r x) e q
+      (record { uses = λ p m. in_left p moved (span_use false t r x) (in_left p (content_of (write_content u (tried true) o (min x.length most_moved)) there) (position_use o there) m) });
 }

@@ -1,17 +1,14 @@
 -- When one access set holds another, for the atoms that pass a test.
 use native.Mathlib.Omega.{arith}
 use Rattle.std.proofs.lemmas.List.Folds.{list_all-append, list_any-append}
-use Rattle.std.specs.Prelude.{ℕ, Bool, true, false, cond, ◌&&◌, ◌||◌, T, List, [], ◌∷◌, ◌++◌, Option, Result}
+use Rattle.std.specs.Prelude.{ℕ, Bool, true, false, cond, ◌&&◌, ◌||◌, T, List, [], ◌∷◌, ◌++◌, Option, Some, None, Result}
 use Rattle.std.proofs.Common.{◌⊎◌, inl, inr}
 use Rattle.std.specs.List.{list_any, list_all}
 use Rattle.sqe_codec.specs.declared.errno.Errno.{Errno}
-use Rattle.trace_format.specs.declared.trace.Trace.{Trace}
 use Rattle.sqe_codec.specs.Answers.{each, each_ok}
-use Rattle.entry_checks.specs.Operation.{File}
-use Rattle.world_parts.specs.World.{World}
-use Rattle.op_meaning.specs.Meaning.{Handle}
+use Rattle.op_meaning.specs.Meaning.{Handle, is_file}
 use Rattle.world_parts.specs.Items.{Atom, Item, member_of, Use, writes, Footprint, has_atom, writes_atom}
-use Rattle.foot_print.specs.Footprint.{as_reads, use_of, on_file}
+use Rattle.foot_print.specs.Footprint.{as_reads, use_of, content_of}
 use Rattle.world_parts.proofs.Collision.{both, left, right}
 use Rattle.foot_print.proofs.Agreement.{in_left, in_right}
 
@@ -82,9 +79,10 @@ module _ (p : Atom → Bool) where
   over_uses r test g [] h = over_nothing r
   over_uses r test g (u ∷ f) h = over_all r (u ∷ []) f (g u (left (test u) _ h)) (over_uses r test g f (right (test u) _ h))
 
-  -- What an operation has of an open file is held where its content is.
-  pub over_on_file : (t : Trace) (s : World) (r : ℕ) (f : File) (c d : ℕ → Handle → Footprint) → ((i : ℕ) (h : Handle) → Over p (c i h) (d i h)) → Over p (on_file t s r f c) (on_file t s r f d)
-  over_on_file t s r f c d x = grind (arith, over_both, over_self, over_nothing, over_more)
+  -- What an operation has of what is open is held where its content is.
+  pub over_content : (c d : ℕ → Handle → Footprint) → ((i : ℕ) (h : Handle) → Over p (c i h) (d i h)) → (x : Option Handle) → Over p (content_of c x) (content_of d x)
+  over_content c d x None = over_nothing []
+  over_content c d x (Some h) = elim (is_file h.opened) as (λ b. Over p (cond b (c h.opened.target.node h) []) (cond b (d h.opened.target.node h) [])) [ true ↦ x h.opened.target.node h | false ↦ over_nothing [] ]
 
 pub all_append : {A : Type 0} (test : A → Bool) (xs ys : List A) → T (list_all test xs) → T (list_all test ys) → T (list_all test (xs ++ ys))
 all_append test xs ys h k = rw list_all-append (both _ _ h k)

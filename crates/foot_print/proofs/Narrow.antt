@@ -1,22 +1,23 @@
 -- Access sets of places name single items and ranges.
 use native.Mathlib.Omega.{arith}
-use Rattle.std.specs.Prelude.{ℕ, Bool, true, false, cond, not, ◌||◌, ◌==◌, leb, ◌+◌, T, List, [], ◌∷◌, ◌++◌, map, Option, Some, None, is_ok}
+use Rattle.std.specs.Prelude.{ℕ, Bool, true, false, cond, not, ◌||◌, ◌==◌, leb, ◌+◌, T, List, [], ◌∷◌, ◌++◌, map, Option, Some, None, Result, is_ok}
 use Rattle.chain_plan.specs.declared.role.Role.{Role}
 use Rattle.chain_plan.specs.Chain.{role}
+use Rattle.sqe_codec.specs.declared.errno.Errno.{Errno}
+use Rattle.file_tree.specs.Tree.{Target}
 use Rattle.trace_format.specs.declared.trace.Trace.{Trace}
 use Rattle.sqe_codec.specs.Answers.{each_ok}
-use Rattle.entry_checks.specs.Operation.{Operation, File, Span, Path, OpenFlags, file_limit, at_position, in_slot}
-use Rattle.file_tree.specs.Walk.{Place, walk, names_on}
+use Rattle.entry_checks.specs.Operation.{Operation, File, Span, Path, OpenFlags, at_position, in_slot}
+use Rattle.file_tree.specs.Walk.{Place, names_on}
 use Rattle.world_parts.specs.World.{World}
-use Rattle.world_parts.specs.Items.{Atom, chain_flag, descriptor_at, position_of, size_of, name_at, names_in, Item, one, buffer_bytes, Use, reads, writes, Footprint}
+use Rattle.world_parts.specs.Items.{Atom, chain_flag, descriptor_at, description_at, position_of, name_at, names_in, Item, one, buffer_bytes, Use, reads, writes, Footprint}
 use Rattle.world_parts.specs.Cutting.{is_narrow_use, is_narrow}
-use Rattle.op_meaning.specs.Meaning.{meaning, made_node, span_start, Handle, handle, held, allocation, lowest_free}
+use Rattle.op_meaning.specs.Meaning.{meaning, made_node, span_start, Handle, held, allocation, Allocation, lowest_free, Found, found}
 use Rattle.op_meaning.specs.Step.{Turn, runs, turn, ring_at}
-use Rattle.foot_print.specs.Footprint.{transfer_row, shape_row, use_of, as_reads, Taken, tried, is_foreseen, held_item, file_reads, range_of, transfer_range, position_written, of_description, on_file, span_use, position_use, would_extend, allocation_uses, path_reads, name_written, made_where, room_where, room_uses, description_made, open_uses, openat_row, row_in, order_uses, turn_uses, read_content, directory_made, name_freed}
-use Rattle.op_meaning.specs.Shape.{Shape, idle, looking, moving, allocating, resizing, closing, opening, making, freeing, linking, renaming, shape}
+use Rattle.foot_print.specs.Footprint.{moved_content, moved_uses, content_of, of_file, file_seen, look_reads, uses, opened_at, use_of, as_reads, Taken, tried, is_foreseen, held_item, file_reads, transfer_range, position_written, span_use, would_extend, allocation_uses, allocated_content, resized_content, path_reads, name_written, made_where, room_where, room_uses, description_made, open_uses, row_in, order_uses, turn_uses, directory_made, name_freed}
+use Rattle.op_meaning.specs.Shape.{Shape, idle, looking, moving, allocating, resizing, closing, opening, making, freeing, linking, renaming, shape, Look, at_nothing, at_file, at_path, at_paths, look}
 use Rattle.foot_print.specs.Parts.{FootprintsAreNarrow}
 use Rattle.foot_print.proofs.Holding.{all_append, all_each, all_each_ok}
-use Rattle.foot_print.proofs.CoverWrites.{content}
 use Rattle.world_parts.proofs.Collision.{both, right, left}
 
 both_narrow : (f g : Footprint) → T (is_narrow f) → T (is_narrow g) → T (is_narrow (f ++ g))
@@ -31,20 +32,21 @@ held_narrow : (g : Item → Use) → ((a : Atom) → T (is_narrow_use (g (one a)
 held_narrow g h t r f = grind (arith, h)
 
 module _ (t : Trace) (s : World) (r : ℕ) where
-  file_narrow : (f : File) (c : ℕ → Handle → Footprint) → ((i : ℕ) (h : Handle) → T (is_narrow (c i h))) → T (is_narrow (on_file t s r f c))
-  file_narrow f c h =
-      both_narrow (file_reads t r f) _ (held_narrow reads (λ a. tt) t r f)
-      (all_each is_narrow_use (of_description s c) (held t s r f) (λ d. grind (arith, h)))
+  seen_narrow : (f : File) → T (is_narrow (file_seen t s r f))
+  seen_narrow f = both_narrow (file_reads t r f) _ (held_narrow reads (λ a. tt) t r f) (all_each is_narrow_use (λ d. reads (one (description_at d)) ∷ []) (held t s r f) (λ d. tt))
+
+  content_narrow : (c : ℕ → Handle → Footprint) → ((i : ℕ) (h : Handle) → T (is_narrow (c i h))) → (x : Option Handle) → T (is_narrow (content_of c x))
+  content_narrow c h x = all_each is_narrow_use (of_file c) x (λ y. grind (arith, h))
 
   position_narrow : (o : ℕ) (h : Handle) → T (is_narrow (position_written h o))
   position_narrow o h = elim (o == at_position) as (λ b. T (is_narrow (cond b (writes (one (position_of h.description)) ∷ []) []))) [ true ↦ tt | false ↦ tt ]
 
-  moving_narrow : (f : File) (o : ℕ) (c : ℕ → Handle → Footprint) → ((i : ℕ) (h : Handle) → T (is_narrow (c i h))) → T (is_narrow (on_file t s r f c ++ position_use t s r f o))
-  moving_narrow f o c h = both_narrow (on_file t s r f c) _ (file_narrow f c h) (all_each is_narrow_use (λ g. position_written g o) (handle t s r f) (position_narrow o))
-
-  moved_narrow : (x : Taken) (w : Bool) (f : File) (o n : ℕ) → T (is_narrow (transfer_row t s r x w f o n))
-  moved_narrow x false f o n = moving_narrow f o (read_content o n) (λ i h. both (is_narrow_use (reads (transfer_range i (o == at_position) o n))) _ (grind arith) (position_narrow o h))
-  moved_narrow x true f o n = moving_narrow f o (content s (is_foreseen x) o n) (λ i h. both (is_narrow_use (writes (transfer_range i (h.opened.append || o == at_position) o n))) _ (grind arith) (position_narrow o h))
+  moved_narrow : (x : Taken) (w : Bool) (o n : ℕ) (y : Option Handle) → T (is_narrow (moved_uses s x w o n y))
+  moved_narrow x w o n y = both_narrow (content_of (moved_content s x w o n) y) _ (content_narrow (moved_content s x w o n) (contents w) y) (all_each is_narrow_use (λ g. position_written g o) y (position_narrow o))
+    where
+      contents : (v : Bool) (i : ℕ) (h : Handle) → T (is_narrow (moved_content s x v o n i h))
+      contents false i h = both (is_narrow_use (reads (transfer_range i (o == at_position) o n))) _ (grind arith) (position_narrow o h)
+      contents true i h = both (is_narrow_use (writes (transfer_range i (h.opened.append || o == at_position) o n))) _ (grind arith) (position_narrow o h)
 
   span_narrow : (w : Bool) (x : Span) → T (is_narrow (span_use w t r x))
   span_narrow w x = all_each is_narrow_use (λ at. use_of w (buffer_bytes r x.index at (at + x.length)) ∷ []) (span_start t r x) (λ at. tt)
@@ -62,44 +64,50 @@ module _ (t : Trace) (s : World) (r : ℕ) where
   roomed_narrow : (x : Taken) (f : Footprint) → T (is_narrow f) → T (is_narrow (room_where x f))
   roomed_narrow x f h = grind arith
 
+  allocation_narrow : (b : Bool) (i at end : ℕ) (a : Option Allocation) → T (is_narrow (allocation_uses b i at end a))
+  allocation_narrow b i at end a = grind arith
+
+  opened_narrow : (k : ℕ) (x : Taken) (g : OpenFlags) (q : Place) (y : Option Target) → T (is_narrow (open_uses t k x g q y))
+  opened_narrow k x g q y = grind arith
+
   room_narrow : (asked : Option ℕ) → T (is_narrow (room_uses t s r asked))
   room_narrow None = all_each is_narrow_use (λ n. writes (one (descriptor_at n)) ∷ []) (lowest_free t s) (λ n. tt)
   room_narrow (Some n) = held_narrow writes (λ a. tt) t r (in_slot n)
 
-  opening_narrow : (k : ℕ) (x : Taken) (p : Path) (g : OpenFlags) (asked : Option ℕ) → T (is_narrow (openat_row t s k r x p g asked))
-  opening_narrow k x p g asked =
-      let room = room_uses t s r asked in
-      let looks = path_reads s p ++ room_where x room in
-      both_narrow (looks ++ made_where x (description_made t k)) _
-      (both_narrow looks _ (both_narrow (path_reads s p) _ (path_narrow p) (roomed_narrow x room (room_narrow asked))) (made_narrow x (description_made t k) tt))
-      (all_each_ok is_narrow_use (λ (q : Place). open_uses t k x g q q.target) (walk s.nodes p) (λ q. grind arith))
+  -- What is used where a path leads.
+  there_narrow : (g : Place → Footprint) (z : Result Place Errno) → ((q : Place) → T (is_narrow (g q))) → T (is_narrow (each_ok g z))
+  there_narrow g z h = all_each_ok is_narrow_use g z h
 
-  -- What stands behind the names on a path.
-  behind_narrow : (looks : Footprint) (g : Place → Footprint) (p : Path) → T (is_narrow looks) → ((q : Place) → T (is_narrow (g q)))
-      → T (is_narrow (looks ++ each_ok g (walk s.nodes p)))
-  behind_narrow looks g p h k = both_narrow looks _ h (all_each_ok is_narrow_use g (walk s.nodes p) k)
+  look_narrow : (l : Look) → T (is_narrow (look_reads t r s l))
+  look_narrow at_nothing = tt
+  look_narrow (at_file f) = seen_narrow f
+  look_narrow (at_path p) = path_narrow p
+  look_narrow (at_paths old new) = both_narrow (path_reads s old) _ (path_narrow old) (path_narrow new)
 
-  paths_narrow : (old new : Path) → T (is_narrow (path_reads s old ++ path_reads s new))
-  paths_narrow old new = both_narrow (path_reads s old) _ (path_narrow old) (path_narrow new)
-
-  shape_narrow : (k : ℕ) (x : Taken) (y : Shape) → T (is_narrow (shape_row t k r s x y))
-  shape_narrow k x idle = tt
-  shape_narrow k x (looking f) = held_narrow reads (λ a. tt) t r f
-  shape_narrow k x (moving w f o n None) = moved_narrow x w f o n
-  shape_narrow k x (moving w f o n (Some span)) = both_narrow (transfer_row t s r x w f o n) _ (moved_narrow x w f o n) (span_narrow (not w) span)
-  shape_narrow k x (allocating f o n mode) = file_narrow f (λ i h. allocation_uses (is_foreseen x || would_extend s i (o + n)) i o (o + n) (allocation mode)) (λ i h. grind arith)
-  shape_narrow k x (resizing f n) = file_narrow f (λ i h. writes (one (size_of i)) ∷ writes (range_of i n file_limit) ∷ []) (λ i h. tt)
-  shape_narrow k x (closing f) = held_narrow writes (λ a. tt) t r f
-  shape_narrow k x (opening p g asked) = opening_narrow k x p g asked
-  shape_narrow k x (making p) = behind_narrow (path_reads s p) (directory_made t k x) p (path_narrow p) (λ q. made_narrow x (writes (one (names_in (made_node t k))) ∷ []) tt)
-  shape_narrow k x (freeing p removes) = behind_narrow (path_reads s p) (name_freed removes) p (path_narrow p) (λ q. grind arith)
-  shape_narrow k x (linking old new) = behind_narrow (path_reads s old ++ path_reads s new) name_written new (paths_narrow old new) (λ q. tt)
-  shape_narrow k x (renaming old new) =
-      behind_narrow (path_reads s old ++ path_reads s new ++ each_ok name_written (walk s.nodes old)) (name_freed true) new
-      (behind_narrow (path_reads s old ++ path_reads s new) name_written old (paths_narrow old new) (λ q. tt)) (λ q. grind arith)
+  uses_narrow : (k : ℕ) (x : Taken) (y : Shape) (z : Found) → T (is_narrow (uses t k r s x y z))
+  uses_narrow k x idle z = tt
+  uses_narrow k x (looking f) z = held_narrow reads (λ a. tt) t r f
+  uses_narrow k x (moving w f o n None) z = moved_narrow x w o n z.file
+  uses_narrow k x (moving w f o n (Some span)) z = both_narrow (moved_uses s x w o n z.file) _ (moved_narrow x w o n z.file) (span_narrow (not w) span)
+  uses_narrow k x (allocating f o n mode) z = content_narrow (allocated_content s x o n mode) (λ i h. allocation_narrow (is_foreseen x || would_extend s i (o + n)) i o (o + n) (allocation mode)) z.file
+  uses_narrow k x (resizing f n) z = content_narrow (resized_content n) (λ i h. tt) z.file
+  uses_narrow k x (closing f) z = held_narrow writes (λ a. tt) t r f
+  uses_narrow k x (opening p g asked) z =
+      let room = room_where x (room_uses t s r asked) in
+      both_narrow (room ++ made_where x (description_made t k)) _
+      (both_narrow room _ (roomed_narrow x (room_uses t s r asked) (room_narrow asked)) (made_narrow x (description_made t k) tt))
+      (there_narrow (opened_at t k x g) z.place (λ q. opened_narrow k x g q q.target))
+  uses_narrow k x (making p) z = there_narrow (directory_made t k x) z.place (λ q. made_narrow x (writes (one (names_in (made_node t k))) ∷ []) tt)
+  uses_narrow k x (freeing p removes) z = there_narrow (name_freed removes) z.place (λ q. grind arith)
+  uses_narrow k x (linking old new) z = there_narrow name_written z.new_place (λ q. tt)
+  uses_narrow k x (renaming old new) z = both_narrow (each_ok name_written z.place) _ (there_narrow name_written z.place (λ q. tt)) (there_narrow (name_freed true) z.new_place (λ q. grind arith))
 
   row_in_narrow : (k : ℕ) (o : Operation) → T (is_narrow (row_in t k r s o))
-  row_in_narrow k o = let narrow = shape_narrow k (tried (is_ok (meaning t k r s o))) (shape o) in grind (arith, reads_narrow)
+  row_in_narrow k o = both_narrow (look_reads t r s (look (shape o))) _ (look_narrow (look (shape o))) (taken_narrow (is_ok (meaning t k r s o)))
+    where
+      taken_narrow : (b : Bool) → T (is_narrow (cond b (uses t k r s (tried b) (shape o) (found t r s (look (shape o)))) (as_reads (uses t k r s (tried b) (shape o) (found t r s (look (shape o)))))))
+      taken_narrow true = uses_narrow k (tried true) (shape o) (found t r s (look (shape o)))
+      taken_narrow false = reads_narrow (uses t k r s (tried false) (shape o) (found t r s (look (shape o)))) (uses_narrow k (tried false) (shape o) (found t r s (look (shape o))))
 
 order_narrow : (r : ℕ) (c : Role) → T (is_narrow (order_uses r c))
 order_narrow r c = elim (leb 2 c.length) as (λ b. T (is_narrow (cond b (writes (one (chain_flag c.chain)) ∷ []) []))) [ true ↦ tt | false ↦ tt ]

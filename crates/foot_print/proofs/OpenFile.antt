@@ -1,7 +1,7 @@
 -- Operations on an open file: what worlds that agree on what it has of the file have in common, and what its row has.
 use lib.Dec.{eqb_refl, le→leb, lt→ltb}
 use Rattle.std.proofs.Common.{arith}
-use Rattle.std.specs.Prelude.{◌≡◌, ℕ, Bool, false, cond, not, ◌≤◌, T, List, [], ◌∷◌, ◌++◌, length, Option, Some, None, Result, ok_or, refl, unwrap_or, IfSome, IsSome, leb, ltb, min, ◌<◌, ◌==◌}
+use Rattle.std.specs.Prelude.{◌≡◌, ℕ, Bool, cond, not, ◌≤◌, T, List, [], ◌∷◌, length, Option, Some, None, Result, ok_or, refl, unwrap_or, IfSome, IsSome, leb, ltb, min, ◌<◌, ◌==◌}
 use Rattle.std.specs.List.{list_any}
 use Rattle.std.specs.Option.{option_map, option_and_then, is_some}
 use mathlib.Core.Path.{sym, subst, ap, ◌∙◌}
@@ -9,55 +9,36 @@ use Rattle.sqe_codec.specs.declared.errno.Errno.{Errno}
 use Rattle.sqe_codec.specs.declared.errno.Errno.TheVariants.{EBADF}
 use Rattle.trace_format.specs.declared.trace.Access.TheVariants.{Read}
 use Rattle.trace_format.specs.declared.trace.Trace.{Trace}
-use Rattle.sqe_codec.specs.Answers.{each, ◌>>=◌}
+use Rattle.sqe_codec.specs.Answers.{◌>>=◌}
 use Rattle.entry_checks.specs.Operation.{File, file_limit}
 use Rattle.finite_maps.specs.Table.{get}
 use Rattle.world_parts.specs.World.{World, IsWorld, kind, bytes, size, Opened, opened}
 use Rattle.file_tree.specs.Tree.{Kind, a_directory, Node, kind_of_node, bytes_of_node}
 use Rattle.file_tree.specs.Walk.{is_directory}
-use Rattle.op_meaning.specs.Meaning.{Effect, Handle, handle, handle_of, held, can_write, is_file, bytes_in}
-use Rattle.world_parts.specs.Items.{description_at, size_of, value, one, Use, reads, Footprint, has_atom, Agree, byte_at, within}
-use Rattle.foot_print.specs.Footprint.{range_of, on_file, of_file, of_description, file_reads}
+use Rattle.op_meaning.specs.Meaning.{Effect, Handle, handle, can_write, is_file, bytes_in}
+use Rattle.world_parts.specs.Items.{size_of, value, Use, reads, Footprint, has_atom, Agree, byte_at, within}
+use Rattle.foot_print.specs.Footprint.{range_of, of_file, content_of, file_seen}
 use Rattle.world_parts.proofs.Collision.{true_of, both, either_left}
-use Rattle.foot_print.proofs.Agreement.{in_right, agree_left, agree_right, agree_head, agree_tail, handle_same, agree_on_content, held_same}
+use Rattle.foot_print.proofs.Agreement.{handle_same}
 
--- An operation that first looks its file up answers the same in both worlds where it does so with the file.
-pub with_handle : (t : Trace) (s u : World) (r : ℕ) (f : File) (c : ℕ → Handle → Footprint) (g d : Handle → Result Effect Errno) → Agree (on_file t s r f c) s u
-    → ((h : Handle) → handle t s r f ≡ Some h → Agree (of_file c h) s u → d h ≡ g h) → (ok_or (handle t u r f) EBADF >>= d) ≡ (ok_or (handle t s r f) EBADF >>= g)
-with_handle t s u r f c g d a same =
-    let alike = λ (h : Handle) (e : handle t s r f ≡ Some h). same h e (agree_on_content t s u r f c a h e) in
-    let there = handle_same t s u r f c a in
-    grind (arith, alike)
+-- An operation with what is open answers the same where it does so with the file.
+pub with_handle : (x : Option Handle) (g d : Handle → Result Effect Errno) → ((h : Handle) → x ≡ Some h → d h ≡ g h) → (ok_or x EBADF >>= d) ≡ (ok_or x EBADF >>= g)
+with_handle None g d same = refl
+with_handle (Some h) g d same = same h refl
 
--- What two operations have of an open file is the same, each in its world, where by what the worlds agree on they have the same of the file.
-pub on_file_alike : (t : Trace) (s u : World) (r : ℕ) (f : File) (c d e : ℕ → Handle → Footprint)
-    → ((h : Handle) → Agree (of_file c h) s u → of_file d h ≡ of_file e h)
-    → Agree (on_file t s r f c) s u → on_file t u r f d ≡ on_file t s r f e
-on_file_alike t s u r f c d e same a =
-    (λ i. file_reads t r f ++ each (of_description u d) (held_same t s u r f (agree_left s u _ _ a) i))
-    ∙ ap (λ x. file_reads t r f ++ x) (at_description (held t s r f) (agree_right s u (file_reads t r f) _ a))
-  where
-    of : (x : Option Handle) → Agree (each (of_file c) x) s u → each (of_file d) x ≡ each (of_file e) x
-    of None k = refl
-    of (Some h) k = same h k
+-- What an operation has of what is open is the same in two worlds where what it has of a file is.
+pub content_same : (s u : World) (c d : ℕ → Handle → Footprint) → ((h : Handle) → Agree (c h.opened.target.node h) s u → d h.opened.target.node h ≡ c h.opened.target.node h)
+    → (x : Option Handle) → Agree (content_of c x) s u → content_of d x ≡ content_of c x
+content_same s u c d same None a = refl
+content_same s u c d same (Some h) a = let alike = same h in grind arith
 
-    at_description : (x : Option ℕ) → Agree (each (of_description s c) x) s u → each (of_description u d) x ≡ each (of_description s e) x
-    at_description None k = refl
-    at_description (Some n) k =
-        ap (λ x. reads (one (description_at n)) ∷ each (of_file d) (option_map (λ y. record { description = n; opened = y }) x)) (sym (agree_head s u (description_at n) false _ k))
-        ∙ ap (λ x. reads (one (description_at n)) ∷ x) (of (handle_of s n) (agree_tail s u (reads (one (description_at n))) (each (of_file c) (handle_of s n)) k))
-
--- The same, where only what is of a file has to be the same.
-pub on_file_same : (t : Trace) (s u : World) (r : ℕ) (f : File) (c d : ℕ → Handle → Footprint) → ((h : Handle) → Agree (c h.opened.target.node h) s u → d h.opened.target.node h ≡ c h.opened.target.node h) → Agree (on_file t s r f c) s u → on_file t u r f d ≡ on_file t s r f c
-on_file_same t s u r f c d same a = on_file_alike t s u r f c d c (λ h k. let alike = same h in grind arith) a
-
--- What a file's part has, what the operation has of the open file has.
-pub in_on_file : (t : Trace) (s : World) (r : ℕ) (f : File) (c : ℕ → Handle → Footprint) (p : Use → Bool) (h : Handle) → handle t s r f ≡ Some h → T (is_file h.opened) → T (list_any p (c h.opened.target.node h)) → T (list_any p (on_file t s r f c))
-in_on_file t s r f c p h e i m = let up = in_right p (file_reads t r f) (each (of_description s c) (held t s r f)) in grind (arith, up)
+-- What a file's part has, the operation has.
+pub in_content : (c : ℕ → Handle → Footprint) (p : Use → Bool) (x : Option Handle) (h : Handle) → x ≡ Some h → T (is_file h.opened) → T (list_any p (c h.opened.target.node h)) → T (list_any p (content_of c x))
+in_content c p x h e i m = subst (λ y. T (list_any p (content_of c y))) (sym e) (subst (λ b. T (list_any p (cond b (c h.opened.target.node h) []))) (sym (true_of _ i)) m)
 
 -- What worlds agree on of the file, where it is one.
-pub on_its_file : (t : Trace) (s u : World) (c : ℕ → Handle → Footprint) (h : Handle) → T (is_file h.opened) → Agree (of_file c h) s u → Agree (c h.opened.target.node h) s u
-on_its_file t s u c h i a = subst (λ b. Agree (cond b (c h.opened.target.node h) []) s u) (true_of _ i) a
+pub on_its_file : (s u : World) (c : ℕ → Handle → Footprint) (h : Handle) → T (is_file h.opened) → Agree (of_file c h) s u → Agree (c h.opened.target.node h) s u
+on_its_file s u c h i a = subst (λ b. Agree (cond b (c h.opened.target.node h) []) s u) (true_of _ i) a
 
 -- A handle is of an open description.
 pub handle_opened : (t : Trace) (s : World) (r : ℕ) (f : File) (h : Handle) → handle t s r f ≡ Some h → opened s h.description ≡ Some h.opened
@@ -71,11 +52,11 @@ pub record IsSound (o : Opened) : Type 0 where
   pub is_there : IsSome o.target.kind
   pub directory_is_read : o.target.kind ≡ Some a_directory → o.access ≡ Read
 
--- All that a file number can stand for is sound.
-abbrev pub HandlesSound : Trace → World → ℕ → File → Type 0
-HandlesSound t s r f = (h : Handle) → handle t s r f ≡ Some h → IsSound h.opened
+-- What is open is sound, if anything is.
+abbrev pub AllSound : Option Handle → Type 0
+AllSound x = (h : Handle) → x ≡ Some h → IsSound h.opened
 
-pub handles_sound : (t : Trace) (s : World) (r : ℕ) (f : File) → IsWorld s → HandlesSound t s r f
+pub handles_sound : (t : Trace) (s : World) (r : ℕ) (f : File) → IsWorld s → AllSound (handle t s r f)
 handles_sound t s r f w h e =
     let o = handle_opened t s r f h e in
     record {
@@ -83,9 +64,9 @@ handles_sound t s r f w h e =
       directory_is_read = subst (λ x. IfSome x (λ y. y.target.kind ≡ Some a_directory → y.access ≡ Read)) o (w.directories_are_read h.description);
     }
 
--- It is so too in what agrees with a world on an operation's file.
-pub handles_sound_too : (t : Trace) (s u : World) (r : ℕ) (f : File) (c : ℕ → Handle → Footprint) → IsWorld s → Agree (on_file t s r f c) s u → HandlesSound t u r f
-handles_sound_too t s u r f c w a h e = handles_sound t s r f w h (sym (handle_same t s u r f c a) ∙ e)
+-- It is so too in what agrees with a world on what leads to it.
+pub handles_sound_too : (t : Trace) (s u : World) (r : ℕ) (f : File) → IsWorld s → Agree (file_seen t s r f) s u → AllSound (handle t u r f)
+handles_sound_too t s u r f w a h e = handles_sound t s r f w h (sym (handle_same t s u r f a) ∙ e)
 
 -- What can be written is a file.
 pub writable_is_file : (h : Handle) → IsSound h.opened → T (can_write h.opened.access) → T (is_file h.opened)

@@ -16,11 +16,11 @@ use Rattle.chain_plan.specs.declared.role.Role.{Role}
 use Rattle.chain_plan.specs.Chain.{role}
 use Rattle.world_parts.specs.Items.{Item, Footprint, one, chain_flag}
 use Rattle.world_parts.specs.World.{World, Broken, broken}
-use Rattle.foot_print.specs.Footprint.{order_uses, row_in, turn_uses}
-use Rattle.op_meaning.specs.Shape.{Shape, shape}
+use Rattle.foot_print.specs.Footprint.{look_reads, order_uses, row_in, turn_uses}
+use Rattle.op_meaning.specs.Shape.{Shape, shape, look}
 use Rattle.op_meaning.specs.Step.{Turn, filled, refused, canceled, runs, posts, running_turn, turn_under, ring_at}
 use Rattle.op_meaning.proofs.Turns.{by_flag, under_flag}
-use Rattle.foot_print.specs.Reach.{is_canceled, look_of, order_of, shape_seen, seen, task, running_row}
+use Rattle.foot_print.specs.Reach.{is_canceled, look_of, order_of, seen, task, running_row}
 use Rattle.foot_print.specs.Foreseen.{meets_written, may_run, unresolved_given, decided_given, operation_given, reach_given, member_given, member_runs}
 use Rattle.foot_print.specs.Outlook.{takes_lowest, turn_takes_lowest, IsFirstWritten, WaitsBy, items_awaited, IsOutlook, Awaits, AwaitsAsOperation, MemberAwaits}
 use Rattle.foot_print.specs.declared.reaching.Awaited.TheVariants.{Items, Reach}
@@ -65,9 +65,9 @@ module _ (w : Item → Bool) where
   some_from m n f e = grind (arith, first_from, in_right, either_left)
 
 -- what a place that may run an operation awaits, and its may-access set
-module _ (order : Footprint) (t : Trace) (k r : ℕ) (s : World) (w : Item → Bool) (p : Operation) (x : Shape) (shaped : x ≡ shape p) (d : Footprint) (looked : d ≡ shape_seen t r s x) where
+module _ (order : Footprint) (t : Trace) (k r : ℕ) (s : World) (w : Item → Bool) (p : Operation) (x : Shape) (shaped : x ≡ shape p) (d : Footprint) (looked : d ≡ look_reads t r s (look x)) where
   told_by : d ≡ seen t r s p
-  told_by = looked ∙ ap (shape_seen t r s) shaped
+  told_by = looked ∙ ap (λ y. look_reads t r s (look y)) shaped
 
   pub undecided_reach : (n : ℕ) (f : Footprint) → position_from (λ u. w u.item) 0 d ≡ Some n → f ≡ unresolved_given order t k r s w x → f ≡ operation_given order t k r s w p
   undecided_reach n f first e =

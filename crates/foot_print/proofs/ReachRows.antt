@@ -1,6 +1,5 @@
 -- May-access sets are by rows, and so are access sets.
-use native.Mathlib.Omega.{arith}
-use Rattle.std.specs.Prelude.{◌≡◌, ℕ, cond, ◌++◌, Option, Some}
+use Rattle.std.specs.Prelude.{◌≡◌, ℕ, true, false, cond, leb, ◌++◌, Option, Some, None, refl}
 use Rattle.std.specs.Option.{option_map}
 use Rattle.std.proofs.Common.{subst}
 use Rattle.std.proofs.lemmas.List.{append-nil}
@@ -13,7 +12,7 @@ use Rattle.chain_plan.specs.Chain.{role}
 use Rattle.sqe_codec.specs.Answers.{each}
 use Rattle.entry_checks.specs.Operation.{Operation}
 use Rattle.world_parts.specs.World.{World, Broken, broken}
-use Rattle.op_meaning.specs.Step.{Turn, runs, running_turn}
+use Rattle.op_meaning.specs.Step.{Turn, canceled, posts, runs, running_turn}
 use Rattle.foot_print.specs.Footprint.{footprint, turn_uses}
 use Rattle.op_meaning.proofs.Turns.{by_flag, under_flag}
 use Rattle.foot_print.specs.Reach.{task, is_canceled, order_of}
@@ -25,10 +24,14 @@ uses_as t k s x y = order_of t k ++ each (turn_uses t k s) x ≡ cond (is_cancel
 
 module _ (t : Trace) (k : ℕ) (s : World) where
   running_as : (r : ℕ) (e : Entry) (c : Role) (b : Option Broken) (o : Operation) → uses_as t k s (Some (running_turn r e c b o)) (Some (runs r e o))
-  running_as r e c b o = let nothing_behind = append-nil (order_of t k) in grind arith
+  running_as r e c None o = refl
+  running_as r e c (Some f) o =
+      elim (leb 2 c.length) as (λ l. uses_as t k s (Some (cond l (canceled (posts f)) (runs r e o))) (Some (runs r e o))) [ true ↦ append-nil (order_of t k) | false ↦ refl ]
 
   flag_as : (c : Role) (b : Option Broken) (y : Option Turn) → uses_as t k s (option_map (under_flag c b) y) y
-  flag_as c b y = grind (arith, append-nil, running_as)
+  flag_as c b (Some (runs r e o)) = running_as r e c b o
+  flag_as c b (Some (canceled p)) = append-nil (order_of t k)
+  flag_as c b _ = refl
 
   pub footprint_is_by_rows : footprint t k s ≡ foot_by_rows (replayed t) (rows t) k s
   footprint_is_by_rows =

@@ -5,14 +5,14 @@ use Rattle.std.specs.List.{list_all}
 use mathlib.Core.Path.{subst}
 use Rattle.sqe_codec.specs.declared.errno.Errno.{Errno}
 use Rattle.trace_format.specs.declared.trace.Trace.{Trace}
-use Rattle.sqe_codec.specs.Answers.{each, each_ok}
+use Rattle.sqe_codec.specs.Answers.{each_ok}
 use Rattle.entry_checks.specs.Operation.{Operation, File, Path, OpenFlags, file_limit, at_position}
 use Rattle.world_parts.specs.World.{World}
 use Rattle.file_tree.specs.Tree.{Target}
 use Rattle.file_tree.specs.Walk.{Place, walk, is_directory, names_on}
 use Rattle.op_meaning.specs.Meaning.{made_node, Handle, handle, held}
 use Rattle.world_parts.specs.Items.{Atom, description_at, position_of, size_of, byte_at, name_at, names_in, Item, one, file_bytes, all_bytes_and_sizes, member_of, Use, reads, writes, Footprint, has_atom, writes_atom}
-use Rattle.foot_print.specs.Footprint.{foreseen, transfer_row, shape_row, open_uses, openat_row, file_reads, of_description, on_file, range_of, position_written, position_use, span_use, path_reads, name_written, read_content, write_content, allocated_content, transfer_range, directory_made, name_freed}
+use Rattle.foot_print.specs.Footprint.{foreseen, shape_row, file_seen, of_file, content_of, moved_content, moved_uses, open_uses, opened_at, file_reads, range_of, position_written, span_use, path_reads, name_written, allocated_content, resized_content, transfer_range, directory_made, name_freed}
 use Rattle.op_meaning.specs.Shape.{Shape, idle, looking, moving, allocating, resizing, closing, opening, making, freeing, linking, renaming, shape}
 use Rattle.foot_print.specs.Reach.{unresolved_shape, taken, all_files, any_name, unresolved_file, unresolved_row}
 use Rattle.foot_print.specs.Replayed.{is_earlier}
@@ -74,19 +74,23 @@ module _ (t : Trace) (k : ℕ) where
     position_uses : (o : ℕ) (h : Handle) → T (list_all is_file_use (position_written h o))
     position_uses o h = grind arith
 
-    content_uses : (c : ℕ → Handle → Footprint) → ((i : ℕ) (h : Handle) → T (list_all is_file_use (c i h))) → (x : Option ℕ) → T (list_all is_file_use (each (of_description s c) x))
-    content_uses c h x = grind (arith, h)
+    content_uses : (c : ℕ → Handle → Footprint) → ((i : ℕ) (h : Handle) → T (list_all is_file_use (c i h))) → (y : Option Handle) → T (list_all is_file_use (content_of c y))
+    content_uses c h y = all_each is_file_use (of_file c) y (λ g. grind (arith, h))
 
-    on_file_held : (f : File) (c : ℕ → Handle → Footprint) → ((i : ℕ) (h : Handle) → T (list_all is_file_use (c i h))) → Over earlier (unresolved_file t k r f) (on_file t s r f c)
-    on_file_held f c h = over_both earlier (file_reads t r f) (all_files t k) (file_reads t r f) _ (over_self earlier (file_reads t r f)) (files_held _ (content_uses c h (held t s r f)))
+    moved_content_uses : (w : Bool) (o n i : ℕ) (h : Handle) → T (list_all is_file_use (moved_content s foreseen w o n i h))
+    moved_content_uses false o n i h = both (is_file_use (reads (transfer_range i (o == at_position) o n))) _ (grind arith) (position_uses o h)
+    moved_content_uses true o n i h = both (is_file_use (writes (transfer_range i (h.opened.append || o == at_position) o n))) _ (grind arith) (position_uses o h)
 
-    transfer_held : (f : File) (o : ℕ) (c : ℕ → Handle → Footprint) → ((i : ℕ) (h : Handle) → T (list_all is_file_use (c i h))) → Over earlier (unresolved_file t k r f) (on_file t s r f c ++ position_use t s r f o)
-    transfer_held f o c h = over_all earlier (unresolved_file t k r f) (on_file t s r f c) _ (on_file_held f c h)
-        (over_second earlier (file_reads t r f) (all_files t k) _ (files_held _ (all_each is_file_use (λ g. position_written g o) (handle t s r f) (position_uses o))))
+    seen_held : (f : File) → Over earlier (unresolved_file t k r f) (file_seen t s r f)
+    seen_held f = over_both earlier (file_reads t r f) (all_files t k) (file_reads t r f) _ (over_self earlier (file_reads t r f)) (files_held _ (all_each is_file_use (λ d. reads (one (description_at d)) ∷ []) (held t s r f) (λ d. tt)))
 
-    moved_held : (w : Bool) (f : File) (o n : ℕ) → Over earlier (unresolved_file t k r f) (transfer_row t s r foreseen w f o n)
-    moved_held false f o n = transfer_held f o (read_content o n) (λ i h. both (is_file_use (reads (transfer_range i (o == at_position) o n))) _ (grind arith) (position_uses o h))
-    moved_held true f o n = transfer_held f o (write_content s foreseen o n) (λ i h. both (is_file_use (writes (transfer_range i (h.opened.append || o == at_position) o n))) _ (grind arith) (position_uses o h))
+    -- What is used of a file is held among all files.
+    content_held : (f : File) (c : ℕ → Handle → Footprint) → ((i : ℕ) (h : Handle) → T (list_all is_file_use (c i h))) → (y : Option Handle) → Over earlier (unresolved_file t k r f) (content_of c y)
+    content_held f c h y = over_second earlier (file_reads t r f) (all_files t k) _ (files_held _ (content_uses c h y))
+
+    moved_held : (f : File) (w : Bool) (o n : ℕ) (y : Option Handle) → Over earlier (unresolved_file t k r f) (moved_uses s foreseen w o n y)
+    moved_held f w o n y = over_all earlier (unresolved_file t k r f) (content_of (moved_content s foreseen w o n) y) _ (content_held f (moved_content s foreseen w o n) (moved_content_uses w o n) y)
+        (over_second earlier (file_reads t r f) (all_files t k) _ (files_held _ (all_each is_file_use (λ g. position_written g o) y (position_uses o))))
 
     names_on_path : (es : List (ℕ × List ℕ)) → T (list_all is_name_use (map (λ (e : ℕ × List ℕ). reads (one (name_at e.0 e.1))) es))
     names_on_path [] = tt
@@ -95,10 +99,10 @@ module _ (t : Trace) (k : ℕ) where
     path_names : (p : Path) → T (list_all is_name_use (path_reads s p))
     path_names p = names_on_path (names_on s.nodes p)
 
-    -- What stands behind the names on a path is of names too.
-    behind_path : (looks : Footprint) (g : Place → Footprint) (p : Path) → T (list_all is_name_use looks) → ((q : Place) → T (list_all is_name_use (g q)))
-        → T (list_all is_name_use (looks ++ each_ok g (walk s.nodes p)))
-    behind_path looks g p h k = all_append is_name_use looks _ h (all_each_ok is_name_use g (walk s.nodes p) k)
+    -- What is used where paths lead is of names too.
+    names_behind : (looks : Footprint) (g : Place → Footprint) (z : Result Place Errno) → T (list_all is_name_use looks) → ((q : Place) → T (list_all is_name_use (g q)))
+        → T (list_all is_name_use (looks ++ each_ok g z))
+    names_behind looks g z h k = all_append is_name_use looks _ h (all_each_ok is_name_use g z k)
 
     two_paths : (old new : Path) → T (list_all is_name_use (path_reads s old ++ path_reads s new))
     two_paths old new = all_append is_name_use (path_reads s old) (path_reads s new) (path_names old) (path_names new)
@@ -122,10 +126,10 @@ module _ (t : Trace) (k : ℕ) where
         go true false = over_nothing earlier _
         go true true = over_second earlier (any_name t k) _ _ (truncated y.node)
 
-    open_held : (p : Path) (g : OpenFlags) (asked : Option ℕ) → Over earlier (any_name t k ++ cut g.truncate) (openat_row t s k r foreseen p g asked)
-    open_held p g asked = over_all earlier _ ((path_reads s p ++ []) ++ []) _ (over_first earlier (any_name t k) _ _ (names_held _ (all_append is_name_use (path_reads s p ++ []) [] (all_append is_name_use (path_reads s p) [] (path_names p) tt) tt))) (at (walk s.nodes p))
+    open_held : (p : Path) (g : OpenFlags) (z : Result Place Errno) → Over earlier (any_name t k ++ cut g.truncate) (path_reads s p ++ each_ok (opened_at t k foreseen g) z)
+    open_held p g z = over_all earlier _ (path_reads s p) _ (over_first earlier (any_name t k) _ _ (names_held _ (path_names p))) (at z)
       where
-        at : (w : Result Place Errno) → Over earlier (any_name t k ++ cut g.truncate) (each_ok (λ (q : Place). open_uses t k foreseen g q q.target) w)
+        at : (w : Result Place Errno) → Over earlier (any_name t k ++ cut g.truncate) (each_ok (opened_at t k foreseen g) w)
         at (Ok q) = opened_held g q q.target
         at (Err e) = over_nothing earlier _
 
@@ -133,18 +137,18 @@ module _ (t : Trace) (k : ℕ) where
     unfolding cut
     unresolved_over_shape idle = over_nothing earlier _
     unresolved_over_shape (looking f) = over_self earlier _
-    unresolved_over_shape (moving w f o n None) = moved_held w f o n
-    unresolved_over_shape (moving w f o n (Some x)) = over_both earlier _ (span_use (not w) t r x) _ (span_use (not w) t r x) (moved_held w f o n) (over_self earlier _)
-    unresolved_over_shape (allocating f o n mode) = on_file_held f (allocated_content s foreseen o n mode) (λ i h. grind arith)
-    unresolved_over_shape (resizing f n) = on_file_held f (λ i h. writes (one (size_of i)) ∷ writes (range_of i n file_limit) ∷ []) (λ i h. tt)
+    unresolved_over_shape (moving w f o n None) = over_all earlier _ (file_seen t s r f) _ (seen_held f) (moved_held f w o n (handle t s r f))
+    unresolved_over_shape (moving w f o n (Some x)) = over_all earlier _ (file_seen t s r f) _ (over_first earlier (unresolved_file t k r f) (span_use (not w) t r x) _ (seen_held f))
+        (over_both earlier (unresolved_file t k r f) (span_use (not w) t r x) _ (span_use (not w) t r x) (moved_held f w o n (handle t s r f)) (over_self earlier _))
+    unresolved_over_shape (allocating f o n mode) = over_all earlier _ (file_seen t s r f) _ (seen_held f) (content_held f (allocated_content s foreseen o n mode) (λ i h. grind arith) (handle t s r f))
+    unresolved_over_shape (resizing f n) = over_all earlier _ (file_seen t s r f) _ (seen_held f) (content_held f (resized_content n) (λ i h. tt) (handle t s r f))
     unresolved_over_shape (closing f) = over_self earlier _
-    unresolved_over_shape (opening p g asked) = open_held p g asked
-    unresolved_over_shape (making p) = names_held _ (behind_path (path_reads s p) (directory_made t k foreseen) p (path_names p) (λ q. tt))
-    unresolved_over_shape (freeing p removes) = names_held _ (behind_path (path_reads s p) (name_freed removes) p (path_names p) (λ q. grind arith))
-    unresolved_over_shape (linking old new) = names_held _ (behind_path (path_reads s old ++ path_reads s new) name_written new (two_paths old new) (λ q. tt))
-    unresolved_over_shape (renaming old new) =
-        names_held _ (behind_path (path_reads s old ++ path_reads s new ++ each_ok name_written (walk s.nodes old)) (name_freed true) new
-        (behind_path (path_reads s old ++ path_reads s new) name_written old (two_paths old new) (λ q. tt)) (λ q. grind arith))
+    unresolved_over_shape (opening p g asked) = open_held p g (walk s.nodes p)
+    unresolved_over_shape (making p) = names_held _ (names_behind (path_reads s p) (directory_made t k foreseen) (walk s.nodes p) (path_names p) (λ q. tt))
+    unresolved_over_shape (freeing p removes) = names_held _ (names_behind (path_reads s p) (name_freed removes) (walk s.nodes p) (path_names p) (λ q. grind arith))
+    unresolved_over_shape (linking old new) = names_held _ (names_behind (path_reads s old ++ path_reads s new) name_written (walk s.nodes new) (two_paths old new) (λ q. tt))
+    unresolved_over_shape (renaming old new) = names_held _ (all_append is_name_use (path_reads s old ++ path_reads s new) _ (two_paths old new)
+        (names_behind (each_ok name_written (walk s.nodes old)) (name_freed true) (walk s.nodes new) (all_each_ok is_name_use name_written (walk s.nodes old) (λ q. tt)) (λ q. grind arith)))
 
     pub unresolved_over_taken : (o : Operation) → Over earlier (unresolved_row t k r o) (taken t k r s o)
     unresolved_over_taken o = unresolved_over_shape (shape o)

@@ -1,15 +1,16 @@
 -- The model: what each place reads and writes, a row of uses for each operation.
-use Rattle.std.specs.Prelude.{ℕ, Bool, true, false, not, ◌&&◌, ◌||◌, ◌==◌, ltb, leb, ◌+◌, min, List, [], ◌∷◌, ◌++◌, map, length, Option, Some, None, is_ok, if◌then◌else◌}
+use Rattle.std.specs.Prelude.{ℕ, Bool, true, false, not, ◌&&◌, ◌||◌, ◌==◌, ltb, leb, ◌+◌, min, List, [], ◌∷◌, ◌++◌, map, length, Option, Some, None, Result, is_ok, if◌then◌else◌}
 use Rattle.chain_plan.specs.declared.role.Role.{Role}
 use Rattle.trace_format.specs.declared.trace.Trace.{Trace}
+use Rattle.sqe_codec.specs.declared.errno.Errno.{Errno}
 use Rattle.sqe_codec.specs.Answers.{each, each_ok}
 use Rattle.entry_checks.specs.Operation.{Operation, File, in_slot, at_descriptor, Span, Path, OpenFlags, file_limit, at_position}
 use Rattle.chain_plan.specs.Chain.{role}
 use Rattle.world_parts.specs.World.{World}
 use Rattle.file_tree.specs.Tree.{Target}
-use Rattle.file_tree.specs.Walk.{Place, walk, names_on, is_directory}
-use Rattle.op_meaning.specs.Meaning.{meaning, made_node, made_description, slot_count, span_start, Handle, handle, handle_of, held, is_file, bytes_in, allocation, Allocation, extend, reserve, punch, zero_extend, zero_within, lowest_free}
-use Rattle.op_meaning.specs.Shape.{Shape, idle, looking, moving, allocating, resizing, closing, opening, making, freeing, linking, renaming, shape}
+use Rattle.file_tree.specs.Walk.{Place, names_on, is_directory}
+use Rattle.op_meaning.specs.Meaning.{meaning, made_node, made_description, slot_count, span_start, Handle, held, is_file, bytes_in, allocation, Allocation, extend, reserve, punch, zero_extend, zero_within, lowest_free, Found, found}
+use Rattle.op_meaning.specs.Shape.{Shape, idle, looking, moving, allocating, resizing, closing, opening, making, freeing, linking, renaming, shape, Look, at_nothing, at_file, at_path, at_paths, look}
 use Rattle.op_meaning.specs.Step.{Turn, filled, refused, canceled, runs, turn, ring_at}
 use Rattle.world_parts.specs.Items.{chain_flag, ring_order, slot_at, descriptor_at, description_at, position_of, size_of, name_at, names_in, Item, one, file_bytes, buffer_bytes, all_descriptors, Use, reads, writes, Footprint}
 
@@ -58,29 +59,27 @@ transfer_range i anywhere o n = if anywhere then range_of i 0 file_limit else ra
 abbrev pub position_written : Handle → ℕ → Footprint
 position_written h o = if o == at_position then writes (one (position_of h.description)) ∷ [] else []
 
--- What an operation on an open file has of its description and, where that is of a file, of the file.
+-- What leads to an open file: the slot or descriptor of its number, and its description.
+abbrev pub file_seen : Trace → World → ℕ → File → Footprint
+file_seen t s r f = file_reads t r f ++ each (λ d. reads (one (description_at d)) ∷ []) (held t s r f)
+
+-- What an operation has of what is open, where that is a file.
 abbrev pub of_file : (ℕ → Handle → Footprint) → Handle → Footprint
 of_file f h = if is_file h.opened then f h.opened.target.node h else []
 
-abbrev pub of_description : World → (ℕ → Handle → Footprint) → ℕ → Footprint
-of_description s f d = reads (one (description_at d)) ∷ each (of_file f) (handle_of s d)
-
-abbrev pub on_file : Trace → World → ℕ → File → (ℕ → Handle → Footprint) → Footprint
-on_file t s r f content = file_reads t r f ++ each (of_description s content) (held t s r f)
+abbrev pub content_of : (ℕ → Handle → Footprint) → Option Handle → Footprint
+content_of f x = each (of_file f) x
 
 abbrev pub span_use : Bool → Trace → ℕ → Span → Footprint
 span_use w t r x = each (λ at. use_of w (buffer_bytes r x.index at (at + x.length)) ∷ []) (span_start t r x)
 
--- The position of a description, also of a directory's, where a transfer uses it.
-abbrev pub position_use : Trace → World → ℕ → File → ℕ → Footprint
-position_use t s r f o = each (λ h. position_written h o) (handle t s r f)
+-- The position of what is open, also of a directory, where a transfer uses it.
+abbrev pub position_use : ℕ → Option Handle → Footprint
+position_use o x = each (λ h. position_written h o) x
 
 -- What a read has of its file.
 abbrev pub read_content : ℕ → ℕ → ℕ → Handle → Footprint
 read_content o n i h = reads (one (size_of i)) ∷ reads (transfer_range i (o == at_position) o n) ∷ position_written h o
-
-abbrev pub read_row : Trace → World → ℕ → File → ℕ → ℕ → Footprint
-read_row t s r f o n = on_file t s r f (read_content o n) ++ position_use t s r f o
 
 -- Whether a change up to an end, below the largest size, would make a file longer.
 abbrev pub would_extend : World → ℕ → ℕ → Bool
@@ -92,8 +91,13 @@ write_content s x o n i h =
     let anywhere = h.opened.append || o == at_position in
     use_of (is_foreseen x || anywhere || (not (n == 0) && would_extend s i (o + n))) (one (size_of i)) ∷ writes (transfer_range i anywhere o n) ∷ position_written h o
 
-abbrev pub write_row : Trace → World → ℕ → Taken → File → ℕ → ℕ → Footprint
-write_row t s r x f o n = on_file t s r f (write_content s x o n) ++ position_use t s r f o
+-- What a transfer, into a file or out of it, has of what is open: the content of a file, and the position of any.
+abbrev pub moved_content : World → Taken → Bool → ℕ → ℕ → ℕ → Handle → Footprint
+moved_content s x false o n = read_content o n
+moved_content s x true o n = write_content s x o n
+
+abbrev pub moved_uses : World → Taken → Bool → ℕ → ℕ → Option Handle → Footprint
+moved_uses s x w o n y = content_of (moved_content s x w o n) y ++ position_use o y
 
 -- What an allocation up to an end has of the file: its size, written where the file may grow, and the range that becomes zero.
 abbrev pub allocation_uses : Bool → ℕ → ℕ → ℕ → Option Allocation → Footprint
@@ -107,15 +111,9 @@ allocation_uses grows i at end None = reads (one (size_of i)) ∷ []
 abbrev pub allocated_content : World → Taken → ℕ → ℕ → ℕ → ℕ → Handle → Footprint
 allocated_content s x o n mode i h = allocation_uses (is_foreseen x || would_extend s i (o + n)) i o (o + n) (allocation mode)
 
-abbrev pub fallocate_row : Trace → World → ℕ → Taken → File → ℕ → ℕ → ℕ → Footprint
-fallocate_row t s r x f o n mode = on_file t s r f (allocated_content s x o n mode)
-
 -- What a new size has of the file: the size, and the bytes behind it.
 abbrev pub resized_content : ℕ → ℕ → Handle → Footprint
 resized_content n i h = writes (one (size_of i)) ∷ writes (range_of i n file_limit) ∷ []
-
-abbrev pub ftruncate_row : Trace → World → ℕ → File → ℕ → Footprint
-ftruncate_row t s r f n = on_file t s r f (resized_content n)
 
 -- The names that a walk looks up.
 abbrev pub path_reads : World → Path → Footprint
@@ -146,64 +144,62 @@ open_uses t k x g q (Some y) = if g.truncate && not (is_directory y.kind) then w
 abbrev pub opened_at : Trace → ℕ → Taken → OpenFlags → Place → Footprint
 opened_at t k x g q = open_uses t k x g q q.target
 
-abbrev pub openat_row : Trace → World → ℕ → ℕ → Taken → Path → OpenFlags → Option ℕ → Footprint
-openat_row t s k r x p g asked = path_reads s p ++ room_where x (room_uses t s r asked) ++ made_where x (description_made t k) ++ each_ok (opened_at t k x g) (walk s.nodes p)
+-- What openat uses: its room, what it makes, and what it opens.
+abbrev pub opening_uses : Trace → ℕ → ℕ → World → Taken → OpenFlags → Option ℕ → Result Place Errno → Footprint
+opening_uses t k r s x g asked led = room_where x (room_uses t s r asked) ++ made_where x (description_made t k) ++ each_ok (opened_at t k x g) led
 
-abbrev pub close_row : Trace → ℕ → File → Footprint
-close_row t r f = map writes (held_item t r f)
+-- The slot or descriptor that close empties.
+abbrev pub closing_uses : Trace → ℕ → File → Footprint
+closing_uses t r f = map writes (held_item t r f)
 
 -- A name that may be freed: of a directory, where that may be removed or replaced, the number of names too.
 abbrev pub name_freed : Bool → Place → Footprint
 name_freed removes q = name_written q ++ (if removes then directory_names q.target else [])
 
-abbrev pub unlinkat_row : World → Path → Bool → Footprint
-unlinkat_row s p removes = path_reads s p ++ each_ok (name_freed removes) (walk s.nodes p)
-
 -- The name that a directory is made at, and where it is made its number of names.
 abbrev pub directory_made : Trace → ℕ → Taken → Place → Footprint
 directory_made t k x q = name_written q ++ made_where x (writes (one (names_in (made_node t k))) ∷ [])
-
-abbrev pub mkdirat_row : Trace → World → ℕ → Taken → Path → Footprint
-mkdirat_row t s k x p = path_reads s p ++ each_ok (directory_made t k x) (walk s.nodes p)
-
-abbrev pub linkat_row : World → Path → Path → Footprint
-linkat_row s old new = path_reads s old ++ path_reads s new ++ each_ok name_written (walk s.nodes new)
-
-abbrev pub renameat_row : World → Path → Path → Footprint
-renameat_row s old new = path_reads s old ++ path_reads s new ++ each_ok name_written (walk s.nodes old) ++ each_ok (name_freed true) (walk s.nodes new)
 
 -- A transfer's uses with those of its span, which a read of the file writes.
 abbrev pub through : Bool → Trace → ℕ → Option Span → Footprint → Footprint
 through w t r None f = f
 through w t r (Some x) f = f ++ span_use (not w) t r x
 
-abbrev pub transfer_row : Trace → World → ℕ → Taken → Bool → File → ℕ → ℕ → Footprint
-transfer_row t s r x false f o n = read_row t s r f o n
-transfer_row t s r x true f o n = write_row t s r x f o n
+-- What an operation reads where it looks.
+abbrev pub look_reads : Trace → ℕ → World → Look → Footprint
+look_reads t r s at_nothing = []
+look_reads t r s (at_file f) = file_seen t s r f
+look_reads t r s (at_path p) = path_reads s p
+look_reads t r s (at_paths old new) = path_reads s old ++ path_reads s new
 
--- The uses of an operation by its shape, all written that it writes where it is accepted.
+-- What an operation of a shape uses by what it finds there, all written that it writes where it is accepted.
+abbrev pub uses : Trace → ℕ → ℕ → World → Taken → Shape → Found → Footprint
+uses t k r s x idle z = []
+uses t k r s x (looking f) z = file_reads t r f
+uses t k r s x (moving w f o n span) z = through w t r span (moved_uses s x w o n z.file)
+uses t k r s x (allocating f o n mode) z = content_of (allocated_content s x o n mode) z.file
+uses t k r s x (resizing f n) z = content_of (resized_content n) z.file
+uses t k r s x (closing f) z = closing_uses t r f
+uses t k r s x (opening p g asked) z = opening_uses t k r s x g asked z.place
+uses t k r s x (making p) z = each_ok (directory_made t k x) z.place
+uses t k r s x (freeing p removes) z = each_ok (name_freed removes) z.place
+uses t k r s x (linking old new) z = each_ok name_written z.new_place
+uses t k r s x (renaming old new) z = each_ok name_written z.place ++ each_ok (name_freed true) z.new_place
+
+-- All that an operation of a shape uses: what it reads where it looks, and what it uses by what it finds.
 abbrev pub shape_row : Trace → ℕ → ℕ → World → Taken → Shape → Footprint
-shape_row t k r s x idle = []
-shape_row t k r s x (looking f) = file_reads t r f
-shape_row t k r s x (moving w f o n span) = through w t r span (transfer_row t s r x w f o n)
-shape_row t k r s x (allocating f o n mode) = fallocate_row t s r x f o n mode
-shape_row t k r s x (resizing f n) = ftruncate_row t s r f n
-shape_row t k r s x (closing f) = close_row t r f
-shape_row t k r s x (opening p g asked) = openat_row t s k r x p g asked
-shape_row t k r s x (making p) = mkdirat_row t s k x p
-shape_row t k r s x (freeing p removes) = unlinkat_row s p removes
-shape_row t k r s x (linking old new) = linkat_row s old new
-shape_row t k r s x (renaming old new) = renameat_row s old new
+shape_row t k r s x y = look_reads t r s (look y) ++ uses t k r s x y (found t r s (look y))
 
-abbrev pub row : Trace → ℕ → ℕ → World → Taken → Operation → Footprint
-row t k r s x o = shape_row t k r s x (shape o)
-
--- The uses of an operation in a world: where the world refuses it, nothing is made and all is read.
-abbrev pub row_in : Trace → ℕ → ℕ → World → Operation → Footprint
-row_in t k r s o =
+-- The uses of an operation in a world by what it finds: where the world refuses it, nothing is made and all is read.
+abbrev pub uses_in : Trace → ℕ → ℕ → World → Operation → Found → Footprint
+uses_in t k r s o z =
     let ok = is_ok (meaning t k r s o) in
-    let f = row t k r s (tried ok) o in
+    let f = uses t k r s (tried ok) (shape o) z in
     if ok then f else as_reads f
+
+-- All that an operation uses in a world.
+abbrev pub row_in : Trace → ℕ → ℕ → World → Operation → Footprint
+row_in t k r s o = look_reads t r s (look (shape o)) ++ uses_in t k r s o (found t r s (look (shape o)))
 
 -- Each place has its ring's order, written in a barrier, and in a chain of two or more its chain.
 abbrev pub order_uses : ℕ → Role → Footprint

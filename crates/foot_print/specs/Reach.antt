@@ -10,37 +10,21 @@ use Rattle.op_meaning.specs.Meaning.{made_node, made_description}
 use Rattle.op_meaning.specs.Step.{Turn, filled, canceled, runs, turn, turn_under, ring_at}
 use Rattle.world_parts.specs.Items.{Item, file_bytes, chain_flag, size_of, names_in, one, all_names, all_bytes_and_sizes, all_positions, all_descriptions, all_descriptors, reads, writes, Footprint}
 pub use Rattle.item_index.specs.Touching.{written_by}
-use Rattle.foot_print.specs.Footprint.{foreseen, row, through, file_reads, on_file, path_reads, room_uses, description_made, close_row, order_uses, turn_uses}
-use Rattle.op_meaning.specs.Shape.{Shape, idle, looking, moving, allocating, resizing, closing, opening, making, freeing, linking, renaming, shape}
+use Rattle.foot_print.specs.Footprint.{foreseen, look_reads, shape_row, through, file_reads, room_uses, description_made, closing_uses, order_uses, turn_uses}
+use Rattle.op_meaning.specs.Shape.{Shape, idle, looking, moving, allocating, resizing, closing, opening, making, freeing, linking, renaming, shape, look}
 
 -- Whether one of some access sets writes an atom of an item of an access set.
 abbrev pub is_met : Footprint → List Footprint → Bool
 is_met f earlier = list_any (λ u. written_by earlier u.item) f
 
--- The slots, descriptors, descriptions and names that decide which items an operation uses.
+-- The slots, descriptors, descriptions and names that decide which items an operation uses: those that it reads where it looks.
 -- The slot or descriptor that openat or close changes is none of them, nor is that of fsync.
-abbrev pub file_seen : Trace → World → ℕ → File → Footprint
-file_seen t s r f = on_file t s r f (λ i h. [])
-
-abbrev pub shape_seen : Trace → ℕ → World → Shape → Footprint
-shape_seen t r s idle = []
-shape_seen t r s (looking f) = []
-shape_seen t r s (moving w f o n x) = file_seen t s r f
-shape_seen t r s (allocating f o n mode) = file_seen t s r f
-shape_seen t r s (resizing f n) = file_seen t s r f
-shape_seen t r s (closing f) = []
-shape_seen t r s (opening p g asked) = path_reads s p
-shape_seen t r s (making p) = path_reads s p
-shape_seen t r s (freeing p removes) = path_reads s p
-shape_seen t r s (linking old new) = path_reads s old ++ path_reads s new
-shape_seen t r s (renaming old new) = path_reads s old ++ path_reads s new
-
 abbrev pub seen : Trace → ℕ → World → Operation → Footprint
-seen t r s o = shape_seen t r s (shape o)
+seen t r s o = look_reads t r s (look (shape o))
 
 -- The row of an operation as accepted, apart from what it makes and from the room of openat.
 abbrev pub taken : Trace → ℕ → ℕ → World → Operation → Footprint
-taken t k r s o = row t k r s foreseen o
+taken t k r s o = shape_row t k r s foreseen (shape o)
 
 abbrev pub node_made : Trace → ℕ → Footprint
 node_made t k = writes (one (size_of (made_node t k))) ∷ writes (file_bytes (made_node t k) 0 file_limit) ∷ writes (one (names_in (made_node t k))) ∷ []
@@ -88,7 +72,7 @@ unresolved_shape t k r (looking f) = file_reads t r f
 unresolved_shape t k r (moving w f o n x) = through w t r x (unresolved_file t k r f)
 unresolved_shape t k r (allocating f o n mode) = unresolved_file t k r f
 unresolved_shape t k r (resizing f n) = unresolved_file t k r f
-unresolved_shape t k r (closing f) = close_row t r f
+unresolved_shape t k r (closing f) = closing_uses t r f
 unresolved_shape t k r (opening p g asked) = any_name t k ++ (if g.truncate then writes (all_bytes_and_sizes (made_node t k)) ∷ [] else [])
 unresolved_shape t k r (making p) = any_name t k
 unresolved_shape t k r (freeing p removes) = any_name t k

@@ -1,6 +1,6 @@
 //! Operations as their uses are taken.
 ghost use Rattle.std.specs.Prelude.{◌≡◌};
-ghost use Rattle.foot_print.specs.Rest.{taken_meant};
+ghost use Rattle.foot_print.specs.Attempts.{taken_meant};
 ghost use Rattle.foot_print.specs.Footprint as rows;
 
 use op_meaning::Site;

@@ -1,11 +1,12 @@
 //! What each operation uses.
 ghost use Rattle.std.specs.Prelude.{◌≡◌, ◌++◌, OnOk};
 ghost use Rattle.entry_checks.specs.Meant.{meant};
-ghost use Rattle.foot_print.specs.Rest.{rest, rest_in, taken_meant};
+ghost use Rattle.foot_print.specs.Attempts.{taken_meant};
 ghost use Rattle.foot_print.specs.Shapes.{shape_meant};
-ghost use Rattle.foot_print.specs.Footprint.{foreseen, row_in};
-ghost use Rattle.op_meaning.specs.Shape.{shape};
-ghost use Rattle.op_meaning.specs.Lookups.{Finds};
+ghost use Rattle.foot_print.specs.Footprint.{foreseen, row_in, uses, uses_in};
+ghost use Rattle.op_meaning.specs.Shape.{look, shape};
+ghost use Rattle.op_meaning.specs.Lookups.{found_meant};
+ghost use Rattle.op_meaning.specs.Meaning.{found};
 ghost use Rattle.op_meaning.specs.Site.{IsSite};
 
 use crate::attempt::{Attempt, Taken};
@@ -52,9 +53,11 @@ pub(crate) fn uses_behind<'a>(
     footprint: &mut Footprint,
 ) -> Result<(), AllocError>
     requires site { IsSite site }
-    requires lookup { Finds site.trace.now site.ring state.now (shape (meant op)) lookup }
-    ensures { OnOk result (footprint.new ≡ footprint.old ++ rest_in site.entry.trace.now
-        site.entry.place site.entry.ring state.now (meant op.entry) lookup.entry) }
+    requires lookup { found_meant state.now lookup
+        ≡ found site.trace.now site.ring state.now (look (shape (meant op))) }
+    ensures { OnOk result (footprint.new ≡ footprint.old ++ uses_in site.entry.trace.now
+        site.entry.place site.entry.ring state.now (meant op.entry)
+        (found_meant state.now lookup.entry)) }
 {
     let known = footprint.len();
     let accepted = accepts(site, op, &lookup, state);
@@ -62,7 +65,7 @@ pub(crate) fn uses_behind<'a>(
         site,
         taken: Taken::Tried { accepted },
     };
-    push_rest(alloc, attempt, shape_of(op), lookup, state, footprint)?;
+    push_uses(alloc, attempt, shape_of(op), lookup, state, footprint)?;
     if !accepted {
         footprint.make_read_only(known);
     }
@@ -80,20 +83,20 @@ pub(crate) fn uses_foreseen(
     footprint: &mut Footprint,
 ) -> Result<(), AllocError>
     requires site { IsSite site }
-    ensures { OnOk result (footprint.new ≡ footprint.old ++ rest site.entry.trace.now
+    ensures { OnOk result (footprint.new ≡ footprint.old ++ uses site.entry.trace.now
         site.entry.place site.entry.ring state.now foreseen (shape_meant shape.entry)
-        lookup.entry) }
+        (found_meant state.now lookup.entry)) }
 {
     let attempt = Attempt {
         site,
         taken: Taken::Foreseen,
     };
-    push_rest(alloc, attempt, shape, lookup, state, footprint)
+    push_uses(alloc, attempt, shape, lookup, state, footprint)
 }
 
 /// What an operation of a shape uses beside what decides it, by what that leads to, with what it
 /// writes where it is accepted.
-fn push_rest(
+fn push_uses(
     alloc: Global,
     attempt: Attempt<'_>,
     shape: Shape<'_>,
@@ -102,9 +105,10 @@ fn push_rest(
     footprint: &mut Footprint,
 ) -> Result<(), AllocError>
     requires site { IsSite attempt.site }
-    ensures { OnOk result (footprint.new ≡ footprint.old ++ rest attempt.entry.site.trace.now
+    ensures { OnOk result (footprint.new ≡ footprint.old ++ uses attempt.entry.site.trace.now
         attempt.entry.site.place attempt.entry.site.ring state.now
-        (taken_meant attempt.entry.taken) (shape_meant shape.entry) lookup.entry) }
+        (taken_meant attempt.entry.taken) (shape_meant shape.entry)
+        (found_meant state.now lookup.entry)) }
 {
     let Attempt { site, taken } = attempt;
     match shape {
@@ -141,20 +145,20 @@ fn push_rest(
         Shape::Opening { flags, slot, .. } => {
             room_taken(attempt, slot, state, footprint)?;
             description_taken(attempt, footprint)?;
-            opened_at(alloc, attempt, flags, lookup.place().ok(), state, footprint)
+            opened_at(alloc, attempt, flags, lookup.place(), state, footprint)
         }
-        Shape::Making { .. } => made_at(alloc, attempt, lookup.place().ok(), state, footprint),
+        Shape::Making { .. } => made_at(alloc, attempt, lookup.place(), state, footprint),
         Shape::Freeing {
             removes_directory,
             ..
         } => {
-            let found = lookup.place().ok();
+            let found = lookup.place();
             freed_at(alloc, found, removes_directory, state, footprint)
         }
-        Shape::Linking { .. } => written_at(alloc, lookup.new_place().ok(), footprint),
+        Shape::Linking { .. } => written_at(alloc, lookup.new_place(), footprint),
         Shape::Renaming { .. } => {
-            written_at(alloc, lookup.place().ok(), footprint)?;
-            freed_at(alloc, lookup.new_place().ok(), true, state, footprint)
+            written_at(alloc, lookup.place(), footprint)?;
+            freed_at(alloc, lookup.new_place(), true, state, footprint)
         }
     }
 }

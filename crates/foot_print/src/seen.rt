@@ -1,10 +1,12 @@
 //! What decides which items an operation uses, and what that leads to.
-ghost use Rattle.std.specs.Prelude.{◌≡◌, ◌++◌, IfOk, OnOk};
+ghost use Rattle.std.specs.Prelude.{◌≡◌, ◌++◌, IfOk, None, OnOk};
+ghost use Rattle.file_tree.specs.Walk.{walk};
 ghost use Rattle.entry_checks.specs.Meant.{path_meant};
-ghost use Rattle.foot_print.specs.Reach.{shape_seen};
 ghost use Rattle.foot_print.specs.Shapes.{shape_meant};
-ghost use Rattle.foot_print.specs.Footprint as rows;
-ghost use Rattle.op_meaning.specs.Lookups.{Finds, FindsPlaces};
+ghost use Rattle.foot_print.specs.Footprint.{look_reads, path_reads};
+ghost use Rattle.op_meaning.specs.Lookups.{found_meant};
+ghost use Rattle.op_meaning.specs.Meaning.{found};
+ghost use Rattle.op_meaning.specs.Shape.{look};
 
 use crate::file_rows::file_seen;
 use crate::path_rows::names_seen;
@@ -24,9 +26,10 @@ pub(crate) fn shape_seen<'a>(
     footprint: &mut Footprint,
 ) -> Result<Lookup<'a>, AllocError>
     ensures seen { OnOk result (footprint.new ≡ footprint.old
-        ++ shape_seen site.entry.trace.now site.entry.ring state.now (shape_meant shape.entry)) }
-    ensures found { IfOk result (Finds site.entry.trace.now site.entry.ring state.now
-        (shape_meant shape.entry)) }
+        ++ look_reads site.entry.trace.now site.entry.ring state.now
+        (look (shape_meant shape.entry))) }
+    ensures found { IfOk result (λ x. found_meant state.now x ≡ found site.entry.trace.now
+        site.entry.ring state.now (look (shape_meant shape.entry))) }
 {
     match shape {
         Shape::Idle | Shape::Looking { .. } | Shape::Closing { .. } => Ok(Lookup::Nothing),
@@ -38,9 +41,8 @@ pub(crate) fn shape_seen<'a>(
         Shape::Opening { path, .. } | Shape::Making { path } | Shape::Freeing { path, .. } => {
             Ok(Lookup::Path(names_seen(alloc, path, state, footprint)?))
         }
-        Shape::Linking { old, new } | Shape::Renaming { old, new } => {
-            paths_seen(alloc, old, new, state, footprint)
-        }
+        Shape::Linking { old, new } => paths_seen(alloc, old, new, state, footprint),
+        Shape::Renaming { old, new } => paths_seen(alloc, old, new, state, footprint),
     }
 }
 
@@ -53,10 +55,13 @@ fn paths_seen<'a>(
     footprint: &mut Footprint,
 ) -> Result<Lookup<'a>, AllocError>
     ensures seen { OnOk result (footprint.new ≡ footprint.old
-        ++ rows.path_reads state.now (path_meant old.entry)
-        ++ rows.path_reads state.now (path_meant new.entry)) }
-    ensures found { IfOk result
-        (FindsPlaces state.now (path_meant old.entry) (path_meant new.entry)) }
+        ++ path_reads state.now (path_meant old.entry)
+        ++ path_reads state.now (path_meant new.entry)) }
+    ensures found { IfOk result (λ x. found_meant state.now x ≡ record {
+      file = None;
+      place = walk state.now.nodes (path_meant old.entry);
+      new_place = walk state.now.nodes (path_meant new.entry);
+    }) }
 {
     let from = names_seen(alloc, old, state, footprint)?;
     let to = names_seen(alloc, new, state, footprint)?;

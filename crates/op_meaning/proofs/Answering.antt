@@ -1,6 +1,6 @@
 -- Failures, replies and changes of an operation that ran, by what it answers.
 use Rattle.std.proofs.Common.{◌≡◌, ℕ, Bool, List, [], ◌∷◌, ◌++◌, Option, Some, None, refl, sym, ap, ◌∙◌, arith}
-use Rattle.std.specs.Prelude.{◌<◌, ◌≤◌, ◌^◌, Result, Ok, Err, IfOk}
+use Rattle.std.specs.Prelude.{◌<◌, ◌≤◌, ◌^◌, ◌||◌, not, Result, Ok, Err, IfOk}
 use Rattle.sqe_codec.specs.declared.errno.Errno.{Errno}
 use Rattle.trace_format.specs.declared.entry.Entry.{Entry}
 use Rattle.chain_plan.specs.declared.role.Role.{Role}
@@ -10,7 +10,9 @@ use Rattle.trace_format.specs.Sides.{most_moved}
 use Rattle.op_meaning.specs.declared.outcome.Done.{Done}
 use Rattle.op_meaning.specs.Meaning.{Effect}
 use Rattle.op_meaning.specs.Outcomes.{answered, answer_of, fails_as, reply_with}
-use Rattle.op_meaning.specs.Step.{failed, breaks, result_of, bytes_of, changes_of}
+use Rattle.op_meaning.specs.Step.{failed, breaks, result_of, bytes_of, changes_of, run_reply}
+use Rattle.op_meaning.specs.declared.reply.Reply.{Reply}
+use Rattle.entry_checks.specs.Check.{has, skip_success}
 
 -- An operation fails by its answer alone.
 pub fails : (o : Operation) (x : Result Effect Errno) → fails_as (asked o) (answer_of x) ≡ failed o x
@@ -25,6 +27,12 @@ fails o (Err e) = refl
 pub replies : (posted : Bool) (x : Result Effect Errno) → reply_with posted (answer_of x) ≡ record { res = result_of x; bytes = bytes_of x; posted = posted }
 replies posted (Ok x) = refl
 replies posted (Err e) = refl
+
+-- So is the reply of one that ran, by whether it posts.
+pub replied : (e : Entry) (o : Operation) (x : Result Effect Errno) (reply : Reply) (posted f : Bool) (d : Result (ℕ × List ℕ) Errno) → reply ≡ reply_with posted d → d ≡ answer_of x → posted ≡ (not (has e.sqe.flags skip_success) || f) → f ≡ failed o x → reply ≡ run_reply e o x
+replied e o x reply posted f d is answers posts failure =
+    is ∙ ap (reply_with posted) answers ∙ replies posted x
+    ∙ ap (λ (p : Bool). record { res = result_of x; bytes = bytes_of x; posted = p }) (posts ∙ ap (λ b. not (has e.sqe.flags skip_success) || b) failure)
 
 -- An outcome's count is small where its answer's is.
 pub small_outcome : (d : Result Done Errno) (x : Result Effect Errno) → answered d ≡ answer_of x → IfOk x (λ y. y.count ≤ most_moved) → IfOk d (λ y. y.count < 2 ^ 31)

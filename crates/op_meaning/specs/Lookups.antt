@@ -8,9 +8,9 @@ use Rattle.file_tree.specs.Found.{walk_meant}
 use Rattle.file_tree.specs.Walk.{walk}
 use Rattle.file_tree.specs.declared.walk.Place.{Place}
 use Rattle.world_parts.specs.World.{World}
-use Rattle.op_meaning.specs.Shape.{Shape, moving, allocating, resizing, opening, making, freeing, linking, renaming}
+use Rattle.op_meaning.specs.Shape.{Look, at_nothing, at_file, at_path, at_paths}
 use Rattle.op_meaning.specs.Handles.{opened_meant}
-use Rattle.op_meaning.specs.Meaning.{handle}
+use Rattle.op_meaning.specs.Meaning.{Found, handle}
 use Rattle.op_meaning.specs.declared.handles.OpenFile.{OpenFile}
 use Rattle.op_meaning.specs.declared.lookup.Lookup.{Lookup}
 use Rattle.op_meaning.specs.declared.lookup.Lookup.TheVariants as code
@@ -42,17 +42,16 @@ FindsNewPlace s p x = walk_meant s.nodes (new_place_found x) ≡ walk s.nodes p
 abbrev pub FindsPlaces : World → Path → Path → Lookup → Type 0
 FindsPlaces s old new x = FindsPlace s old x × FindsNewPlace s new x
 
--- whether it is what an operation of a shape looks up
-abbrev pub Finds : Trace → ℕ → World → Shape → Lookup → Type 0
-Finds t r s (moving w f o n span) x = FindsFile t r s f x
-Finds t r s (allocating f o n mode) x = FindsFile t r s f x
-Finds t r s (resizing f n) x = FindsFile t r s f x
-Finds t r s (opening p g asked) x = FindsPlace s p x
-Finds t r s (making p) x = FindsPlace s p x
-Finds t r s (freeing p removes) x = FindsPlace s p x
-Finds t r s (linking old new) x = FindsPlaces s old new x
-Finds t r s (renaming old new) x = FindsPlaces s old new x
-Finds t r s _ x = Unit {0}
+-- whether it is what is found where an operation looks
+abbrev pub Finds : Trace → ℕ → World → Look → Lookup → Type 0
+Finds t r s at_nothing x = Unit {0}
+Finds t r s (at_file f) x = FindsFile t r s f x
+Finds t r s (at_path p) x = FindsPlace s p x
+Finds t r s (at_paths old new) x = FindsPlaces s old new x
+
+-- what is meant by it, in a world
+abbrev pub found_meant : World → Lookup → Found
+found_meant s x = record { file = opened_meant s (file_found x); place = walk_meant s.nodes (place_found x); new_place = walk_meant s.nodes (new_place_found x) }
 
 -- what is found is right, where something was looked up
 abbrev pub Tells : Lookup → Type 0 → Type 0

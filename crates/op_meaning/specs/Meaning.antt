@@ -12,6 +12,7 @@ use Rattle.trace_format.specs.declared.trace.Buffer.{Buffer}
 use Rattle.sqe_codec.specs.Answers.{◌>>=◌, ◌>>◌, require}
 use Rattle.entry_checks.specs.Operation.{Operation, nop, readv, writev, fsync, read_fixed, write_fixed, fallocate, openat, close, read, write, renameat, unlinkat, mkdirat, linkat, ftruncate, File, in_slot, at_descriptor, Span, Path, OpenFlags, file_limit, at_position}
 use Rattle.trace_format.specs.Sides.{most_moved}
+use Rattle.op_meaning.specs.Shape.{Look, at_nothing, at_file, at_path, at_paths, look, shape}
 use Rattle.file_tree.specs.Tree.{a_directory, a_file, Target}
 use Rattle.world_parts.specs.World.{World, Opened, opened, position, bytes, name_count, slot, descriptor, buffer, Change, set_name, make_node, set_slot, set_descriptor, make_description, set_position, set_size, write_bytes, zero_bytes, write_buffer}
 use Rattle.file_tree.specs.Walk.{Place, walk, is_above, is_directory}
@@ -324,21 +325,37 @@ renameat_meaning s old new from to flags = do
   x ← ok_or p.target ENOENT
   rename_to s old new flags p q x
 
--- The meaning of an operation at a place of a ring, by what its file number or its paths lead to.
+-- What an operation finds where it looks: the open file, and where its path leads, or the old one of two and the new one.
+pub record Found : Type 0 where
+  pub file : Option Handle
+  pub place : Result Place Errno
+  pub new_place : Result Place Errno
+
+abbrev pub found : Trace → ℕ → World → Look → Found
+found t r s at_nothing = record { file = None; place = Err ENOENT; new_place = Err ENOENT }
+found t r s (at_file f) = record { file = handle t s r f; place = Err ENOENT; new_place = Err ENOENT }
+found t r s (at_path p) = record { file = None; place = walk s.nodes p; new_place = Err ENOENT }
+found t r s (at_paths old new) = record { file = None; place = walk s.nodes old; new_place = walk s.nodes new }
+
+-- The meaning of an operation at a place of a ring, by what it finds.
+abbrev pub meaning_by : Trace → ℕ → ℕ → World → Operation → Found → Result Effect Errno
+meaning_by t k r s nop z = Ok (done [])
+meaning_by t k r s (readv f o n) z = readv_meaning s r z.file o n
+meaning_by t k r s (writev f o new) z = write_meaning s z.file o (Ok new)
+meaning_by t k r s (fsync f) z = require (is_some (held t s r f)) EBADF >> Ok (done [])
+meaning_by t k r s (read_fixed f o x) z = read_fixed_meaning t s r z.file o x
+meaning_by t k r s (write_fixed f o x) z = write_fixed_meaning t s r z.file o x
+meaning_by t k r s (fallocate f o n mode) z = fallocate_meaning s z.file o n mode
+meaning_by t k r s (openat p g asked) z = openat_meaning t s k r z.place g asked
+meaning_by t k r s (close f) z = close_meaning t s r f
+meaning_by t k r s (read f o n) z = readv_meaning s r z.file o n
+meaning_by t k r s (write f o new) z = write_meaning s z.file o (Ok new)
+meaning_by t k r s (renameat old new flags) z = renameat_meaning s old new z.place z.new_place flags
+meaning_by t k r s (unlinkat p removes) z = unlinkat_meaning s z.place removes
+meaning_by t k r s (mkdirat p) z = mkdirat_meaning t k z.place
+meaning_by t k r s (linkat old new) z = linkat_meaning z.place z.new_place
+meaning_by t k r s (ftruncate f n) z = ftruncate_meaning z.file n
+
+-- The same in a world, in which it is looked up.
 abbrev pub meaning : Trace → ℕ → ℕ → World → Operation → Result Effect Errno
-meaning t k r s nop = Ok (done [])
-meaning t k r s (readv f o n) = readv_meaning s r (handle t s r f) o n
-meaning t k r s (writev f o new) = write_meaning s (handle t s r f) o (Ok new)
-meaning t k r s (fsync f) = require (is_some (held t s r f)) EBADF >> Ok (done [])
-meaning t k r s (read_fixed f o x) = read_fixed_meaning t s r (handle t s r f) o x
-meaning t k r s (write_fixed f o x) = write_fixed_meaning t s r (handle t s r f) o x
-meaning t k r s (fallocate f o n mode) = fallocate_meaning s (handle t s r f) o n mode
-meaning t k r s (openat p g asked) = openat_meaning t s k r (walk s.nodes p) g asked
-meaning t k r s (close f) = close_meaning t s r f
-meaning t k r s (read f o n) = readv_meaning s r (handle t s r f) o n
-meaning t k r s (write f o new) = write_meaning s (handle t s r f) o (Ok new)
-meaning t k r s (renameat old new flags) = renameat_meaning s old new (walk s.nodes old) (walk s.nodes new) flags
-meaning t k r s (unlinkat p removes) = unlinkat_meaning s (walk s.nodes p) removes
-meaning t k r s (mkdirat p) = mkdirat_meaning t k (walk s.nodes p)
-meaning t k r s (linkat old new) = linkat_meaning (walk s.nodes old) (walk s.nodes new)
-meaning t k r s (ftruncate f n) = ftruncate_meaning (handle t s r f) n
+meaning t k r s o = meaning_by t k r s o (found t r s (look (shape o)))

@@ -1,4 +1,4 @@
--- The model: the shape of an operation, by which what it uses goes.
+-- The model: the shape of an operation, by which what it looks up and what it uses go.
 use Rattle.std.specs.Prelude.{ℕ, Bool, true, false, min, Option, Some, None, length}
 use Rattle.entry_checks.specs.Operation.{Operation, nop, readv, writev, fsync, read_fixed, write_fixed, fallocate, openat, close, read, write, renameat, unlinkat, mkdirat, linkat, ftruncate, File, Span, Path, OpenFlags}
 use Rattle.trace_format.specs.Sides.{most_moved}
@@ -34,3 +34,23 @@ shape (unlinkat p removes) = freeing p removes
 shape (mkdirat p) = making p
 shape (linkat old new) = linking old new
 shape (ftruncate f n) = resizing f n
+
+-- What an operation looks up before anything else is decided: nothing, what is open at a file number, where a path leads, or where each of two does.
+pub data Look : Type 0 where
+  at_nothing : Look
+  at_file : (file : File) → Look
+  at_path : (path : Path) → Look
+  at_paths : (old new : Path) → Look
+
+abbrev pub look : Shape → Look
+look idle = at_nothing
+look (looking f) = at_nothing
+look (moving w f o n x) = at_file f
+look (allocating f o n mode) = at_file f
+look (resizing f n) = at_file f
+look (closing f) = at_nothing
+look (opening p g asked) = at_path p
+look (making p) = at_path p
+look (freeing p removes) = at_path p
+look (linking old new) = at_paths old new
+look (renaming old new) = at_paths old new

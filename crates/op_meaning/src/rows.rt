@@ -4,7 +4,7 @@ ghost use Rattle.entry_checks.specs.Meant.{meant};
 ghost use Rattle.entry_checks.specs.Operation.{asked};
 ghost use Rattle.op_meaning.specs.Deciding.{Decides};
 ghost use Rattle.op_meaning.specs.Decision.{effect_of, IsWithinLimits};
-ghost use Rattle.op_meaning.specs.Shape.{shape};
+ghost use Rattle.op_meaning.specs.Shape.{look, shape};
 ghost use Rattle.op_meaning.specs.Lookups.{Finds, Tells};
 ghost use Rattle.op_meaning.specs.Meaning.{meaning};
 ghost use Rattle.op_meaning.specs.NameChanges.{decision_meant};
@@ -51,7 +51,7 @@ fn decide_on_rest<'a>(
     requires rest { asked (meant op) ≡ None }
     requires spelled { IsSpelled site.trace.now }
     requires lookup { Tells lookup.now
-        (Finds site.trace.now site.ring state.now (shape (meant op)) lookup.now) }
+        (Finds site.trace.now site.ring state.now (look (shape (meant op))) lookup.now) }
     ensures meaning { Decides
         (meaning site.entry.trace.now site.entry.place site.entry.ring state.now (meant op.entry))
         (effect_of site.entry.trace.now site.entry.place site.entry.ring state.now) result }
@@ -98,7 +98,7 @@ fn decide<'a>(
 ) -> Result<Decision<'a>, Errno>
     requires spelled { IsSpelled site.trace.now }
     requires lookup { Tells lookup.now
-        (Finds site.trace.now site.ring state.now (shape (meant op)) lookup.now) }
+        (Finds site.trace.now site.ring state.now (look (shape (meant op))) lookup.now) }
     ensures meaning { Decides
         (meaning site.entry.trace.now site.entry.place site.entry.ring state.now (meant op.entry))
         (effect_of site.entry.trace.now site.entry.place site.entry.ring state.now) result }
@@ -166,7 +166,7 @@ pub(crate) fn run_operation(
 /// paths lead to: whether it is done without an error. It takes no memory.
 pub fn accepts<'a>(site: Site<'_>, op: Op<'a>, lookup: &Lookup<'a>, state: &State) -> bool
     requires spelled { IsSpelled site.trace.now }
-    requires lookup { Finds site.trace.now site.ring state.now (shape (meant op)) lookup.now }
+    requires lookup { Finds site.trace.now site.ring state.now (look (shape (meant op))) lookup.now }
     ensures { result ≡ is_ok (meaning site.entry.trace.now site.entry.place site.entry.ring
         state.now (meant op.entry)) }
 {

@@ -1,5 +1,5 @@
 -- The items that decide come one after another: where a world keeps the first ones, it keeps the next one.
-use Rattle.std.specs.Prelude.{◌≡◌, ℕ, suc, Bool, true, false, cond, ltb, length, List, [], ◌∷◌, ◌++◌, map, Option, Some, None, Result, Ok, Err, refl}
+use Rattle.std.specs.Prelude.{◌≡◌, ℕ, suc, Bool, true, false, cond, ltb, length, List, [], ◌∷◌, ◌++◌, map, Option, Some, None, Result, Ok, Err}
 use Rattle.std.proofs.Common.{inl, inr, sym, subst, ap, ◌∙◌}
 use Rattle.std.proofs.lemmas.Bool.{cases_Bool}
 use Rattle.interleaving.proofs.Ahead.{known-now}
@@ -16,11 +16,11 @@ use Rattle.world_parts.specs.World.{World, name, slot, descriptor}
 use Rattle.world_parts.specs.Items.{Atom, slot_at, descriptor_at, description_at, name_at, one, member_of, Use, reads, Footprint, has_atom, Agree}
 use Rattle.world_parts.proofs.Collision.{true_of}
 use Rattle.world_parts.proofs.Sharing.{holds_true}
-use Rattle.op_meaning.specs.Meaning.{slot_count, Handle, handle_of, is_file}
-use Rattle.foot_print.specs.Footprint.{of_file, of_description, path_reads}
-use Rattle.op_meaning.specs.Shape.{Shape, idle, looking, moving, allocating, resizing, closing, opening, making, freeing, linking, renaming, shape}
+use Rattle.op_meaning.specs.Meaning.{slot_count}
+use Rattle.foot_print.specs.Footprint.{file_seen, look_reads, path_reads}
+use Rattle.op_meaning.specs.Shape.{Look, at_nothing, at_file, at_path, at_paths, look, shape}
 use Rattle.op_meaning.specs.Step.{Turn, runs}
-use Rattle.foot_print.specs.Reach.{is_met, shape_seen, seen, file_seen, is_taken_to_run, look_of, task}
+use Rattle.foot_print.specs.Reach.{is_met, seen, is_taken_to_run, look_of, task}
 use Rattle.foot_print.specs.Replayed.{replayed}
 use Rattle.foot_print.proofs.Agreement.{in_left, agree_left, agree_tail, agree_head}
 use Rattle.foot_print.proofs.Cover.{all_covered}
@@ -34,8 +34,8 @@ use Rattle.wave_pick.proofs.Staying.{between_rounds, waited}
 use Rattle.wave_pick.proofs.Waiting.{unmet_stays, value_stays, row_in_reach}
 use Rattle.std.proofs.lemmas.List.{append-nil}
 
-abbrev look : ℕ × List ℕ → Use
-look e = reads (one (name_at e.0 e.1))
+abbrev name_read : ℕ × List ℕ → Use
+name_read e = reads (one (name_at e.0 e.1))
 
 -- Where two worlds agree on the first uses of the one list, the other list begins with these and with the next one.
 record Goes (s u : World) (f g : Footprint) : Type 0 where
@@ -61,21 +61,21 @@ module _ (s u : World) where
           (found.0, λ i. same i ∷ found.1 i)
 
   module _ (g h : Footprint) (next : Goes s u g h) where
-    goes_names : (ns : List (List ℕ)) (d : ℕ) → Goes s u (map look (names_from s.nodes d ns) ++ g) (map look (names_from u.nodes d ns) ++ h)
+    goes_names : (ns : List (List ℕ)) (d : ℕ) → Goes s u (map name_read (names_from s.nodes d ns) ++ g) (map name_read (names_from u.nodes d ns) ++ h)
     goes_names [] d = next
     goes_names (n ∷ ns) d =
-        elim (fits_name n) as (λ b. Goes s u (map look (cond b ((d, n) ∷ each_ok (λ e. names_from s.nodes e ns) (directory_at (name s d n))) []) ++ g) (map look (cond b ((d, n) ∷ each_ok (λ e. names_from u.nodes e ns) (directory_at (name u d n))) []) ++ h)) [
-          | true ↦ goes_cons (look (d, n)) _ _ (λ a. subst (λ x. Goes s u (map look (each_ok (λ e. names_from s.nodes e ns) (directory_at (name s d n))) ++ g) (map look (each_ok (λ e. names_from u.nodes e ns) (directory_at x)) ++ h)) (agree_head s u (name_at d n) false [] a) (further (goes_names ns) (directory_at (name s d n))))
+        elim (fits_name n) as (λ b. Goes s u (map name_read (cond b ((d, n) ∷ each_ok (λ e. names_from s.nodes e ns) (directory_at (name s d n))) []) ++ g) (map name_read (cond b ((d, n) ∷ each_ok (λ e. names_from u.nodes e ns) (directory_at (name u d n))) []) ++ h)) [
+          | true ↦ goes_cons (name_read (d, n)) _ _ (λ a. subst (λ x. Goes s u (map name_read (each_ok (λ e. names_from s.nodes e ns) (directory_at (name s d n))) ++ g) (map name_read (each_ok (λ e. names_from u.nodes e ns) (directory_at x)) ++ h)) (agree_head s u (name_at d n) false [] a) (further (goes_names ns) (directory_at (name s d n))))
           | false ↦ next
         ]
       where
-        further : ((e : ℕ) → Goes s u (map look (names_from s.nodes e ns) ++ g) (map look (names_from u.nodes e ns) ++ h)) → (x : Result ℕ Errno)
-            → Goes s u (map look (each_ok (λ e. names_from s.nodes e ns) x) ++ g) (map look (each_ok (λ e. names_from u.nodes e ns) x) ++ h)
+        further : ((e : ℕ) → Goes s u (map name_read (names_from s.nodes e ns) ++ g) (map name_read (names_from u.nodes e ns) ++ h)) → (x : Result ℕ Errno)
+            → Goes s u (map name_read (each_ok (λ e. names_from s.nodes e ns) x) ++ g) (map name_read (each_ok (λ e. names_from u.nodes e ns) x) ++ h)
         further f (Ok e) = f e
         further f (Err x) = next
 
     goes_path : (p : Path) → Goes s u (path_reads s p ++ g) (path_reads u p ++ h)
-    goes_path p = elim (starts_at_root p) as (λ b. Goes s u (map look (cond b (names_from s.nodes 0 (components p.text)) []) ++ g) (map look (cond b (names_from u.nodes 0 (components p.text)) []) ++ h)) [ true ↦ goes_names (components p.text) 0 | false ↦ next ]
+    goes_path p = elim (starts_at_root p) as (λ b. Goes s u (map name_read (cond b (names_from s.nodes 0 (components p.text)) []) ++ g) (map name_read (cond b (names_from u.nodes 0 (components p.text)) []) ++ h)) [ true ↦ goes_names (components p.text) 0 | false ↦ next ]
 
   goes_one_path : (p : Path) → Goes s u (path_reads s p) (path_reads u p)
   goes_one_path p = subst (λ f. Goes s u f (path_reads u p)) (append-nil (path_reads s p)) (subst (λ f. Goes s u (path_reads s p ++ []) f) (append-nil (path_reads u p)) (goes_path [] [] (goes_nothing []) p))
@@ -84,20 +84,16 @@ module _ (s u : World) where
   goes_two_paths old new = goes_path (path_reads s new) (path_reads u new) (goes_one_path new) old
 
   module _ (t : Trace) (r : ℕ) where
-    no_content : (x : Option Handle) → each (of_file (λ i h. [])) x ≡ []
-    no_content None = refl
-    no_content (Some h) = elim (is_file h.opened) as (λ b. ◌≡◌ {A = Footprint} (cond b [] []) []) [ true ↦ refl | false ↦ refl ]
-
-    goes_description : (x : Option ℕ) → Goes s u (each (of_description s (λ i h. [])) x) (each (of_description u (λ i h. [])) x)
+    goes_description : (x : Option ℕ) → Goes s u (each (λ d. reads (one (description_at d)) ∷ []) x) (each (λ d. reads (one (description_at d)) ∷ []) x)
     goes_description None = goes_nothing []
-    goes_description (Some d) = goes_cons (reads (one (description_at d))) _ _ (λ a. subst (λ f. Goes s u f (each (of_file (λ i h. [])) (handle_of u d))) (sym (no_content (handle_of s d))) (goes_nothing _))
+    goes_description (Some d) = goes_cons (reads (one (description_at d))) [] [] (λ a. goes_nothing [])
 
     -- a slot or a descriptor, where there is one, and what it leads to
     goes_held : (there : Bool) (a : Atom) (x y : Option ℕ) → (Agree (reads (one a) ∷ []) s u → x ≡ y) → Goes s u
-        (map reads (cond there (one a ∷ []) []) ++ each (of_description s (λ i h. [])) (cond there x None))
-        (map reads (cond there (one a ∷ []) []) ++ each (of_description u (λ i h. [])) (cond there y None))
+        (map reads (cond there (one a ∷ []) []) ++ each (λ d. reads (one (description_at d)) ∷ []) (cond there x None))
+        (map reads (cond there (one a ∷ []) []) ++ each (λ d. reads (one (description_at d)) ∷ []) (cond there y None))
     goes_held true a x y same = goes_cons (reads (one a)) _ _
-        (λ g. subst (λ z. Goes s u (each (of_description s (λ i h. [])) x) (each (of_description u (λ i h. [])) z)) (same g) (goes_description x))
+        (λ g. subst (λ z. Goes s u (each (λ d. reads (one (description_at d)) ∷ []) x) (each (λ d. reads (one (description_at d)) ∷ []) z)) (same g) (goes_description x))
     goes_held false a x y same = goes_nothing []
 
     goes_file : (f : File) → Goes s u (file_seen t s r f) (file_seen t u r f)
@@ -105,21 +101,14 @@ module _ (s u : World) where
     goes_file (at_descriptor n) = goes_held (ltb n (length t.descriptors)) (descriptor_at n) (descriptor s n) (descriptor u n)
         (λ a. agree_head s u (descriptor_at n) false [] a)
 
-    goes_shape : (x : Shape) → Goes s u (shape_seen t r s x) (shape_seen t r u x)
-    goes_shape idle = goes_nothing []
-    goes_shape (looking f) = goes_nothing []
-    goes_shape (moving w f o n x) = goes_file f
-    goes_shape (allocating f o n mode) = goes_file f
-    goes_shape (resizing f n) = goes_file f
-    goes_shape (closing f) = goes_nothing []
-    goes_shape (opening p g asked) = goes_one_path p
-    goes_shape (making p) = goes_one_path p
-    goes_shape (freeing p removes) = goes_one_path p
-    goes_shape (linking old new) = goes_two_paths old new
-    goes_shape (renaming old new) = goes_two_paths old new
+    goes_look : (l : Look) → Goes s u (look_reads t r s l) (look_reads t r u l)
+    goes_look at_nothing = goes_nothing []
+    goes_look (at_file f) = goes_file f
+    goes_look (at_path p) = goes_one_path p
+    goes_look (at_paths old new) = goes_two_paths old new
 
     goes_seen : (o : Operation) → Goes s u (seen t r s o) (seen t r u o)
-    goes_seen o = goes_shape (shape o)
+    goes_seen o = goes_look (look (shape o))
 
   goes_deciding : (t : Trace) (k : ℕ) (x : Option Turn) → Goes s u (look_of t k s x).deciding (look_of t k u x).deciding
   goes_deciding t k (Some (runs r e o)) = goes_seen t r o

@@ -5,15 +5,15 @@ use Rattle.std.proofs.Common.{inl, inr, sym, subst, ap}
 use Rattle.sqe_codec.specs.declared.errno.Errno.{Errno}
 use Rattle.sqe_codec.specs.Answers.{each, each_ok}
 use Rattle.trace_format.specs.declared.trace.Trace.{Trace}
-use Rattle.entry_checks.specs.Operation.{Operation, File, Path, OpenFlags}
+use Rattle.entry_checks.specs.Operation.{Operation, OpenFlags}
 use Rattle.file_tree.specs.Tree.{Target}
-use Rattle.file_tree.specs.Walk.{Place, walk}
+use Rattle.file_tree.specs.Walk.{Place}
 use Rattle.world_parts.specs.World.{World}
-use Rattle.world_parts.specs.Items.{Atom, descriptor_at, description_at, size_of, names_in, one, all_descriptors, member_of, Use, reads, writes, Footprint, has_atom}
+use Rattle.world_parts.specs.Items.{Atom, descriptor_at, size_of, one, all_descriptors, member_of, Use, reads, writes, Footprint, has_atom}
 use Rattle.world_parts.proofs.Collision.{either_left, same_atom-eq}
-use Rattle.op_meaning.specs.Meaning.{meaning, made_node, Handle, held, handle_of, is_file, allocation, Allocation, extend, lowest_free}
-use Rattle.foot_print.specs.Footprint.{tried, foreseen, transfer_row, shape_row, as_reads, would_extend, of_file, of_description, on_file, file_reads, position_use, span_use, write_row, allocation_uses, path_reads, name_written, made_where, room_uses, description_made, open_uses, row, row_in, turn_uses, write_content}
-use Rattle.op_meaning.specs.Shape.{Shape, idle, looking, moving, allocating, resizing, closing, opening, making, freeing, linking, renaming, shape}
+use Rattle.op_meaning.specs.Meaning.{Found, found, meaning, made_node, Handle, is_file, allocation, Allocation, extend, lowest_free}
+use Rattle.foot_print.specs.Footprint.{tried, foreseen, shape_row, look_reads, uses, uses_in, content_of, moved_uses, opening_uses, opened_at, directory_made, as_reads, would_extend, position_use, span_use, allocation_uses, name_written, made_where, room_uses, description_made, open_uses, row_in, turn_uses, write_content}
+use Rattle.op_meaning.specs.Shape.{Shape, moving, allocating, opening, making, shape, look}
 use Rattle.op_meaning.specs.Step.{Turn, filled, runs}
 use Rattle.foot_print.specs.Reach.{shape_asked, room_asked, room_at, written_by, is_met, taken, makes, room_taken, Look, look_of, task, order_of, running_row}
 use Rattle.foot_print.proofs.Agreement.{in_left, in_right, has_atom-as_reads}
@@ -46,16 +46,9 @@ has_nothing : (f : Footprint) → Has f []
 has_nothing f = record { has = λ a h. absurd h }
 
 module _ (t : Trace) (k r : ℕ) (s : World) where
-  has_on_file : (f : File) (c d : ℕ → Handle → Footprint) → ((i : ℕ) (h : Handle) → Has (c i h) (d i h)) → Has (on_file t s r f c) (on_file t s r f d)
-  has_on_file f c d x = has_both (file_reads t r f) _ (file_reads t r f) _ (has_self (file_reads t r f)) (at (held t s r f))
-    where
-      of_handle : (o : Option Handle) → Has (each (of_file c) o) (each (of_file d) o)
-      of_handle None = has_nothing []
-      of_handle (Some h) = elim (is_file h.opened) as (λ b. Has (cond b (c h.opened.target.node h) []) (cond b (d h.opened.target.node h) [])) [ true ↦ x h.opened.target.node h | false ↦ has_nothing [] ]
-
-      at : (o : Option ℕ) → Has (each (of_description s c) o) (each (of_description s d) o)
-      at None = has_nothing []
-      at (Some n) = has_both (reads (one (description_at n)) ∷ []) (each (of_file c) (handle_of s n)) (reads (one (description_at n)) ∷ []) (each (of_file d) (handle_of s n)) (has_self (reads (one (description_at n)) ∷ [])) (of_handle (handle_of s n))
+  has_content : (c d : ℕ → Handle → Footprint) → ((i : ℕ) (h : Handle) → Has (c i h) (d i h)) → (x : Option Handle) → Has (content_of c x) (content_of d x)
+  has_content c d x None = has_nothing []
+  has_content c d x (Some h) = elim (is_file h.opened) as (λ b. Has (cond b (c h.opened.target.node h) []) (cond b (d h.opened.target.node h) [])) [ true ↦ x h.opened.target.node h | false ↦ has_nothing [] ]
 
   -- What an operation has as accepted, and its room where no may-access set before it writes a descriptor.
   abbrev shape_items : Shape → Footprint
@@ -64,11 +57,12 @@ module _ (t : Trace) (k r : ℕ) (s : World) where
   abbrev accepted_items : Operation → Footprint
   accepted_items o = shape_items (shape o)
 
-  only : (x : Shape) (f : Footprint) → Has f (shape_row t k r s foreseen x) → Has f (shape_row t k r s foreseen x ++ [])
-  only x f h = has_all f (shape_row t k r s foreseen x) [] h (has_nothing f)
+  only : (f g : Footprint) → Has f g → Has f (g ++ [])
+  only f g h = has_all f g [] h (has_nothing f)
 
-  write_has : (b : Bool) (f : File) (o n : ℕ) → Has (write_row t s r (tried b) f o n) (write_row t s r foreseen f o n)
-  write_has b f o n = has_both _ (position_use t s r f o) _ (position_use t s r f o) (has_on_file f (write_content s (tried b) o n) (write_content s foreseen o n) (λ i h. record { has = λ a m. m })) (has_self (position_use t s r f o))
+  moved_has : (b w : Bool) (o n : ℕ) (x : Option Handle) → Has (moved_uses s (tried b) w o n x) (moved_uses s foreseen w o n x)
+  moved_has b false o n x = has_self _
+  moved_has b true o n x = has_both _ (position_use o x) _ (position_use o x) (has_content (write_content s (tried b) o n) (write_content s foreseen o n) (λ i h. record { has = λ a m. m }) x) (has_self (position_use o x))
 
   allocation_has : (b : Bool) (i at end : ℕ) (x : Option Allocation) → Has (allocation_uses b i at end x) (allocation_uses true i at end x)
   allocation_has b i at end (Some extend) = record { has = λ a m. m }
@@ -78,47 +72,31 @@ module _ (t : Trace) (k r : ℕ) (s : World) where
   room_has None = has_self (room_uses t s r None)
   room_has (Some n) = has_self (room_uses t s r (Some n))
 
-  open_has : (b : Bool) (p : Path) (g : OpenFlags) (asked : Option ℕ) → Has (shape_row t k r s (tried b) (opening p g asked)) (shape_items (opening p g asked))
-  open_has b p g asked =
-      has_all whole (shape_row t k r s foreseen (opening p g asked)) _
-      (has_all whole ((path_reads s p ++ []) ++ []) _ (has_all whole (path_reads s p ++ []) [] (has_all whole (path_reads s p) [] (has_first _ _ _ (has_first _ _ _ (has_first (path_reads s p) _ _ (has_self (path_reads s p))))) (has_nothing whole)) (has_nothing whole)) (has_second (path_reads s p ++ room_uses t s r asked ++ made_where (tried b) (description_made t k)) _ _ (at (walk s.nodes p))))
-      (has_first _ _ _ (has_first _ _ _ (has_second (path_reads s p) _ _ (room_has asked))))
+  open_has : (b : Bool) (g : OpenFlags) (asked : Option ℕ) (z : Result Place Errno) → Has (opening_uses t k r s (tried b) g asked z) (each_ok (opened_at t k foreseen g) z ++ room_at t s r (written_by []) asked)
+  open_has b g asked z =
+      has_all (opening_uses t k r s (tried b) g asked z) (each_ok (opened_at t k foreseen g) z) _
+      (has_second (room_uses t s r asked ++ made_where (tried b) (description_made t k)) _ _ (at z))
+      (has_first _ _ _ (has_first _ _ _ (room_has asked)))
     where
-      whole : Footprint
-      whole = shape_row t k r s (tried b) (opening p g asked)
-
       placed : (q : Place) (y : Option Target) → Has (open_uses t k (tried b) g q y) (open_uses t k foreseen g q y)
       placed q None = elim g.create as (λ c. Has (cond c (name_written q ++ made_where (tried b) (writes (one (size_of (made_node t k))) ∷ [])) []) (cond c (name_written q ++ []) [])) [ true ↦ has_first (name_written q) _ _ (has_self (name_written q)) | false ↦ has_nothing [] ]
       placed q (Some y) = has_self (open_uses t k foreseen g q (Some y))
 
-      at : (w : Result Place Errno) → Has (each_ok (λ (q : Place). open_uses t k (tried b) g q q.target) w) (each_ok (λ (q : Place). open_uses t k foreseen g q q.target) w)
+      at : (w : Result Place Errno) → Has (each_ok (opened_at t k (tried b) g) w) (each_ok (opened_at t k foreseen g) w)
       at (Ok q) = placed q q.target
       at (Err e) = has_nothing []
 
-  mkdir_has : (b : Bool) (p : Path) → Has (shape_row t k r s (tried b) (making p)) (shape_row t k r s foreseen (making p))
-  mkdir_has b p = has_both (path_reads s p) _ (path_reads s p) _ (has_self _) (at (walk s.nodes p))
-    where
-      at : (w : Result Place Errno) → Has (each_ok (λ (q : Place). name_written q ++ made_where (tried b) (writes (one (names_in (made_node t k))) ∷ [])) w) (each_ok (λ (q : Place). name_written q ++ []) w)
-      at (Ok q) = has_first (name_written q) _ _ (has_self (name_written q))
-      at (Err e) = has_nothing []
+  mkdir_has : (b : Bool) (z : Result Place Errno) → Has (each_ok (directory_made t k (tried b)) z) (each_ok (directory_made t k foreseen) z)
+  mkdir_has b (Ok q) = has_both (name_written q) _ (name_written q) [] (has_self (name_written q)) (has_nothing _)
+  mkdir_has b (Err e) = has_nothing []
 
-  moved_has : (b w : Bool) (f : File) (o n : ℕ) → Has (transfer_row t s r (tried b) w f o n) (transfer_row t s r foreseen w f o n)
-  moved_has b false f o n = has_self _
-  moved_has b true f o n = write_has b f o n
-
-  shape_has : (b : Bool) (x : Shape) → Has (shape_row t k r s (tried b) x) (shape_items x)
-  shape_has b idle = has_nothing _
-  shape_has b (looking f) = only (looking f) _ (has_self _)
-  shape_has b (moving w f o n None) = only (moving w f o n None) _ (moved_has b w f o n)
-  shape_has b (moving w f o n (Some x)) = only (moving w f o n (Some x)) _ (has_both _ (span_use (not w) t r x) _ (span_use (not w) t r x) (moved_has b w f o n) (has_self _))
-  shape_has b (allocating f o n mode) = only (allocating f o n mode) _ (has_on_file f _ _ (λ i h. allocation_has (would_extend s i (o + n)) i o (o + n) (allocation mode)))
-  shape_has b (resizing f n) = only (resizing f n) _ (has_self _)
-  shape_has b (closing f) = only (closing f) _ (has_self _)
-  shape_has b (opening p g asked) = open_has b p g asked
-  shape_has b (making p) = only (making p) _ (mkdir_has b p)
-  shape_has b (freeing p removes) = only (freeing p removes) _ (has_self _)
-  shape_has b (linking old new) = only (linking old new) _ (has_self _)
-  shape_has b (renaming old new) = only (renaming old new) _ (has_self _)
+  uses_has : (b : Bool) (x : Shape) (z : Found) → Has (uses t k r s (tried b) x z) (uses t k r s foreseen x z ++ each (room_at t s r (written_by [])) (shape_asked x))
+  uses_has b (moving w f o n None) z = only _ _ (moved_has b w o n z.file)
+  uses_has b (moving w f o n (Some x)) z = only _ _ (has_both _ (span_use (not w) t r x) _ (span_use (not w) t r x) (moved_has b w o n z.file) (has_self _))
+  uses_has b (allocating f o n mode) z = only _ _ (has_content _ _ (λ i h. allocation_has (would_extend s i (o + n)) i o (o + n) (allocation mode)) z.file)
+  uses_has b (opening p g asked) z = open_has b g asked z.place
+  uses_has b (making p) z = only _ _ (mkdir_has b z.place)
+  uses_has b x z = only (uses t k r s foreseen x z) (uses t k r s foreseen x z) (has_self (uses t k r s foreseen x z))
 
   in_row : (b : Bool) (f : Footprint) → Has (cond b f (as_reads f)) f
   in_row true f = has_self f
@@ -126,10 +104,25 @@ module _ (t : Trace) (k r : ℕ) (s : World) where
 
   -- The row of an operation in a world has them.
   row_in_has : (o : Operation) → Has (row_in t k r s o) (accepted_items o)
-  row_in_has o = record {
-    has = λ a h. (in_row (is_ok (meaning t k r s o)) (row t k r s (tried (is_ok (meaning t k r s o))) o)).has a
-        ((shape_has (is_ok (meaning t k r s o)) (shape o)).has a h);
-  }
+  row_in_has o =
+      has_all (row_in t k r s o) (looks ++ accepted) room
+      (has_all (row_in t k r s o) looks accepted (has_first looks own looks (has_self looks)) (has_second looks own accepted (record { has = λ a m. both.has a (in_left (λ (v : Use). member_of v.item a) accepted room m) })))
+      (has_second looks own room (record { has = λ a m. both.has a (in_right (λ (v : Use). member_of v.item a) accepted room m) }))
+    where
+      looks : Footprint
+      looks = look_reads t r s (look (shape o))
+
+      own : Footprint
+      own = uses_in t k r s o (found t r s (look (shape o)))
+
+      accepted : Footprint
+      accepted = uses t k r s foreseen (shape o) (found t r s (look (shape o)))
+
+      room : Footprint
+      room = each (room_at t s r (written_by [])) (shape_asked (shape o))
+
+      both : Has (uses_in t k r s o (found t r s (look (shape o)))) (uses t k r s foreseen (shape o) (found t r s (look (shape o))) ++ each (room_at t s r (written_by [])) (shape_asked (shape o)))
+      both = record { has = λ a m. (in_row (is_ok (meaning t k r s o)) _).has a ((uses_has (is_ok (meaning t k r s o)) (shape o) (found t r s (look (shape o)))).has a m) }
 
 module _ (t : Trace) (k : ℕ) (s u : World) where
   any_room : (x : Option ℕ) (a : Atom) → T (has_atom (reads all_descriptors ∷ each (λ n. writes (one (descriptor_at n)) ∷ []) x) a) → T (member_of all_descriptors a)
