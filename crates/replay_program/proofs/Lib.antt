@@ -6,6 +6,7 @@ mod Comparison
 mod Differences
 mod NumberWords
 mod OptionWalk
+mod InTurn
 mod Outputs
 mod RoundWords
 mod Verdicts

@@ -5,6 +5,7 @@
 mod differing;
 mod ending;
 mod fault;
+mod in_turn;
 mod session;
 mod transfer;
 mod words;

@@ -11,6 +11,7 @@ ghost use Rattle.replay_program.specs.Runs.{IsAlone, IsNoComparison, ReadsTrace}
 ghost use Rattle.replay_program.specs.Runs.{ReplayWantsMemoryOrThread, TellsOfReading};
 ghost use Rattle.replay_core.specs.Comparing.{WantsMemoryOrThread};
 ghost use Rattle.depend_report.specs.Whole.{IsTextOf};
+ghost use Rattle.replay_report.specs.Report.{check_line};
 ghost use Rattle.replay_program.specs.Runs.{IsOutputOf, WritesOutput, WritesPart, most_taken};
 ghost use Rattle.replay_program.specs.Runs.{read_failures, rounds_output, sequential_report};
 ghost use Rattle.replay_program.specs.Runs.{verdict_line, write_failures};
@@ -18,6 +19,7 @@ ghost use Rattle.replay_program.specs.Transfer.{AppendsPart, ConsumesUpTo};
 ghost use Rattle.replay_program.specs.Limits.{IsServed, IsWindow};
 
 use crate::fault::RunFault;
+use crate::in_turn::serial_report;
 use crate::transfer::{Sink, Source, TextFault, read_text, write_text};
 use crate::words::{Mode, Options};
 use depend_report::{depends_graph, depends_text};
@@ -25,9 +27,9 @@ use replay_core::parallel::replay;
 use replay_core::quick::replay_quick;
 use replay_core::round_log::log_rounds;
 use replay_core::{
-    EagerGate, InOrder, InRounds, Replay, ReplayFault, Verdict, compared_by, replay_serial,
+    EagerGate, InOrder, InRounds, Replay, ReplayFault, Verdict, compared_by,
 };
-use replay_report::{Shown, check_text, report_text, report_text_on};
+use replay_report::{Pieces, Shown, check_text, report_on as pieces_on};
 use round_report::{graph_text, rounds_text};
 use std::alloc::{AllocError, Global};
 use std::sync::Wait;
@@ -61,7 +63,7 @@ pub fn run_alone<R: Source, W: Sink>(
 {
     let trace = taken_trace(alloc, reader)?;
     let output = output_alone(alloc, &trace, options)?;
-    written(writer, output.as_slice())
+    written_pieces(writer, &output)
 }
 
 /// The same in every mode: those that ask for workers run in rounds on threads.
@@ -101,7 +103,7 @@ pub fn run<T: Threads + Wait + Sync, R: Source, W: Sink>(
         return told(alloc, writer, verdict);
     }
     let output = output_in_rounds(rt, alloc, &trace, options)?;
-    written(writer, output.as_slice())
+    written_pieces(writer, &output)
 }
 
 /// The output of any mode but a comparison.
@@ -110,11 +112,11 @@ fn output_in_rounds<T: Threads + Wait + Sync>(
     alloc: Global,
     trace: &Trace,
     options: &Options,
-) -> Result<Vec<u8>, RunFault>
+) -> Result<Pieces, RunFault>
     requires trace { IsSpelled trace.now }
     requires mode { IsServed options.now.mode }
     requires report { IsNoComparison options.now.mode }
-    ensures ok { IfOk result (λ output. IsOutputOf options.now trace.now output.items) }
+    ensures ok { IfOk result (λ output. IsOutputOf options.now trace.now output) }
     ensures err { IfErr result ReplayWantsMemoryOrThread }
 {
     match options.mode {
@@ -141,10 +143,10 @@ fn rounds_output<T: Threads + Wait + Sync>(
     trace: &Trace,
     window: u32,
     dot: bool,
-) -> Result<Vec<u8>, ReplayFault>
+) -> Result<Pieces, ReplayFault>
     requires trace { IsSpelled trace.now }
     requires window { IsWindow window }
-    ensures ok { IfOk result (λ text. text.items ≡ rounds_output dot trace.now window) }
+    ensures ok { IfOk result (λ text. text ≡ rounds_output dot trace.now window) }
     ensures err { IfErr result WantsMemoryOrThread }
 {
     let log = log_rounds(rt, alloc, trace, window)?;
@@ -154,7 +156,7 @@ fn rounds_output<T: Threads + Wait + Sync>(
         rounds_text(alloc, trace, &log)
     };
     match text {
-        Ok(text) => Ok(text),
+        Ok(text) => in_one_piece(alloc, text),
         Err(AllocError) => Err(ReplayFault::Memory),
     }
 }
@@ -169,11 +171,11 @@ fn parallel_report<T: Threads + Wait + Sync>(
     window: u32,
     eager: bool,
     shown: Shown,
-) -> Result<Vec<u8>, ReplayFault>
+) -> Result<Pieces, ReplayFault>
     requires trace { IsSpelled trace.now }
     requires workers { (1 ≤ workers) × (workers ≤ 64) }
     requires window { (1 ≤ window) × (window ≤ 4096) }
-    ensures ok { IfOk result (λ text. text.items ≡ sequential_report trace.now shown) }
+    ensures ok { IfOk result (λ text. text ≡ sequential_report trace.now shown) }
     ensures err { IfErr result WantsMemoryOrThread }
 {
     if eager {
@@ -193,15 +195,15 @@ fn report_on<T: Threads + Sync>(
     replay: &Replay,
     shown: Shown,
     workers: u32,
-) -> Result<Vec<u8>, ReplayFault>
+) -> Result<Pieces, ReplayFault>
     requires trace { IsSpelled trace.now }
     requires world { replay.now.world ≡ whole (sequential_world trace.now) }
     requires replies { replay.now.replies ≡ sequential_replies trace.now }
-    ensures ok { IfOk result (λ text. text.items ≡ sequential_report trace.now shown) }
+    ensures ok { IfOk result (λ text. text ≡ sequential_report trace.now shown) }
     ensures err { IfErr result (λ fault. fault ≡ ReplayFault.Memory) }
 {
     let state = replay.world.state();
-    match report_text_on(rt, alloc, trace, state, &replay.replies, shown, workers) {
+    match pieces_on(rt, alloc, trace, state, &replay.replies, shown, workers) {
         Ok(text) => Ok(text),
         Err(AllocError) => Err(ReplayFault::Memory),
     }
@@ -309,23 +311,34 @@ fn trace_in(alloc: Global, text: Vec<u8>) -> Result<Box<Trace>, TraceFault>
 }
 
 /// The output of a mode that needs no thread.
-fn output_alone(alloc: Global, trace: &Trace, options: &Options) -> Result<Vec<u8>, RunFault>
+fn output_alone(alloc: Global, trace: &Trace, options: &Options) -> Result<Pieces, RunFault>
     requires trace { IsSpelled trace.now }
     requires mode { IsAlone options.now.mode }
-    ensures ok { IfOk result (λ output. IsOutputOf options.now trace.now output.items) }
+    ensures ok { IfOk result (λ output. IsOutputOf options.now trace.now output) }
     ensures err { IfErr result (λ fault. fault ≡ RunFault.Replay ReplayFault.Memory) }
 {
     match options.mode {
         Mode::Serial => serial_report(alloc, trace, options.shown).map_err(RunFault::Replay),
         Mode::Depends { dot } => depends_output(alloc, trace, dot).map_err(RunFault::Replay),
-        _ => { check_text(alloc, trace).map_err(|_| RunFault::Replay(ReplayFault::Memory)) }
+        _ => check_output(alloc, trace).map_err(RunFault::Replay),
+    }
+}
+
+/// The line of a check.
+fn check_output(alloc: Global, trace: &Trace) -> Result<Pieces, ReplayFault>
+    ensures ok { IfOk result (λ text. text ≡ check_line trace.now) }
+    ensures err { IfErr result (λ fault. fault ≡ ReplayFault.Memory) }
+{
+    match check_text(alloc, trace) {
+        Ok(text) => in_one_piece(alloc, text),
+        Err(AllocError) => Err(ReplayFault::Memory),
     }
 }
 
 /// What the places of a trace wait for, as lines or as a graph.
-fn depends_output(alloc: Global, trace: &Trace, dot: bool) -> Result<Vec<u8>, ReplayFault>
+fn depends_output(alloc: Global, trace: &Trace, dot: bool) -> Result<Pieces, ReplayFault>
     requires { IsSpelled trace.now }
-    ensures ok { IfOk result (λ text. IsTextOf dot trace.now text.items) }
+    ensures ok { IfOk result (λ text. IsTextOf dot trace.now text) }
     ensures err { IfErr result (λ fault. fault ≡ ReplayFault.Memory) }
 {
     let text = if dot {
@@ -334,39 +347,34 @@ fn depends_output(alloc: Global, trace: &Trace, dot: bool) -> Result<Vec<u8>, Re
         depends_text(alloc, trace)
     };
     match text {
-        Ok(text) => Ok(text),
+        Ok(text) => in_one_piece(alloc, text),
         Err(AllocError) => Err(ReplayFault::Memory),
     }
 }
 
-/// The report of the run in recorded order.
-fn serial_report(alloc: Global, trace: &Trace, shown: Shown) -> Result<Vec<u8>, ReplayFault>
-    requires { IsSpelled trace.now }
-    ensures ok { IfOk result (λ text. text.items ≡ sequential_report trace.now shown) }
+/// A text that is there in one piece.
+fn in_one_piece(alloc: Global, text: Vec<u8>) -> Result<Pieces, ReplayFault>
+    ensures ok { IfOk result (λ pieces. pieces ≡ text.items) }
     ensures err { IfErr result (λ fault. fault ≡ ReplayFault.Memory) }
 {
-    let replay = replay_serial(alloc, trace)?;
-    report(alloc, trace, &replay, shown)
-}
-
-/// The report of what the run in recorded order gives.
-fn report(
-    alloc: Global,
-    trace: &Trace,
-    replay: &Replay,
-    shown: Shown,
-) -> Result<Vec<u8>, ReplayFault>
-    requires trace { IsSpelled trace.now }
-    requires world { replay.now.world ≡ whole (sequential_world trace.now) }
-    requires replies { replay.now.replies ≡ sequential_replies trace.now }
-    ensures ok { IfOk result (λ text. text.items ≡ sequential_report trace.now shown) }
-    ensures err { IfErr result (λ fault. fault ≡ ReplayFault.Memory) }
-{
-    let state = replay.world.state();
-    match report_text(alloc, trace, state, &replay.replies, shown) {
-        Ok(text) => Ok(text),
+    match Pieces::of_text(alloc, text) {
+        Ok(pieces) => Ok(pieces),
         Err(AllocError) => Err(ReplayFault::Memory),
     }
+}
+
+/// Writes the whole output, piece by piece.
+fn written_pieces<W: Sink>(writer: &mut W, output: &Pieces) -> Result<(), RunFault>
+    requires { W.failures writer.old < 2 ^ 64 - 1 }
+    ensures ok { OnOk result (Appends (W.written writer.old) (W.written writer.new) output.now) }
+    ensures part { OnErr result (AppendsPart (W.written writer.old) (W.written writer.new) output.now) }
+    ensures err { IfErr result (λ fault. fault ≡ RunFault.Write) }
+    ensures write { W.failures writer.new ≡ W.failures writer.old + write_failures result }
+{
+    for piece in output.pieces() {
+        written(writer, piece.bytes())?;
+    }
+    Ok(())
 }
 
 /// Writes the whole output.

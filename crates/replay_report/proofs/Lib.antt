@@ -1,5 +1,5 @@
 pub mod Ascii
-mod RingEntriesLemmas
+pub mod RingTextsLemmas
 pub mod ReportLemmas
 mod SumLemmas
 mod NameLemmas

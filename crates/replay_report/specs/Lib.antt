@@ -1,5 +1,5 @@
 pub mod Names
 pub mod TreeSum
-pub mod RingEntries
+pub mod RingTexts
 pub mod Report
 pub mod Sums

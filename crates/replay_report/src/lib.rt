@@ -3,20 +3,25 @@
 //! `specs/Report.antt` has the text of a report; `specs/Sums.antt` what is summed.
 #![tactic(auto)]
 
+mod answer;
 mod dealing;
 mod entries;
 mod entry_line;
 mod escaping;
 mod made;
 mod names;
+mod pieces;
 mod report;
-mod ring_entries;
+mod ring_texts;
 mod showing;
 mod sums;
 mod tree_sums;
 mod world_lines;
 mod zeros;
 
+pub use answer::Answer;
 pub use escaping::escaped;
-pub use report::{check_text, report_text, report_text_on};
+pub use pieces::{Piece, Pieces};
+pub use report::{check_text, report_of_texts, report_on, report_text};
+pub use ring_texts::RingTexts;
 pub use showing::{Shown, SumsShown};

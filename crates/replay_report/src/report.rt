@@ -1,13 +1,15 @@
 //! The report of a replay, and the line of a check.
-ghost use Rattle.std.specs.Prelude.{◌≡◌, ◌≢◌, IfOk, length};
-ghost use Rattle.replay_report.specs.Report.{check_line, report_of};
+ghost use Rattle.std.specs.Prelude.{◌≡◌, ◌≢◌, ◌++◌, IfOk, codes, length, slice_get};
+ghost use Rattle.replay_report.specs.Report.{check_line, line, report_of, world_lines};
+ghost use Rattle.std.specs.List.{concat};
 ghost use Rattle.replay_report.specs.Sums.{AreMade, AreSumsOf, shown_of};
 ghost use Rattle.trace_format.specs.Steps.{places};
 ghost use Rattle.world_parts.specs.Image.{image_of};
 
 use crate::dealing::{sums_alone, sums_on_threads};
-use crate::entries::push_rings;
 use crate::made::Made;
+use crate::pieces::Pieces;
+use crate::ring_texts::RingTexts;
 use crate::showing::{Shown, SumsShown};
 use crate::sums::Sums;
 use crate::tree_sums::TreeSums;
@@ -35,29 +37,17 @@ pub fn report_text(
     ensures { IfOk result (λ text. text.items
         ≡ report_of trace.now state.now replies.now shown) }
 {
-    let image = Box::new(alloc, state.image(alloc)?)?;
-    if shown.sums == SumsShown::None {
-        return text_of(
-            alloc,
-            trace,
-            state,
-            replies,
-            &image,
-            Made::None,
-            shown.names,
-        );
-    }
-    let sums = sums_alone(alloc, state, &image)?;
-    text_with(alloc, trace, state, replies, &image, &sums, shown)
+    let texts = RingTexts::of(alloc, trace, replies, shown.names)?;
+    report_of_texts(alloc, texts, state, shown)?.joined(alloc)
 }
 
-/// The same text, whose sums are made on up to so many threads where they are worth them. A thread
-/// that is refused only makes it take longer.
+/// The same text in pieces, whose sums are made on up to so many threads where they are worth them.
+/// A thread that is refused only makes it take longer.
 ///
 /// # Errors
 ///
 /// Out of memory.
-pub fn report_text_on<R: Threads + Sync>(
+pub fn report_on<R: Threads + Sync>(
     rt: &R,
     alloc: Global,
     trace: &Trace,
@@ -65,86 +55,104 @@ pub fn report_text_on<R: Threads + Sync>(
     replies: &Replies,
     shown: Shown,
     workers: u32,
-) -> Result<Vec<u8>, AllocError>
+) -> Result<Pieces, AllocError>
     requires replies { length replies.now ≡ places trace.now }
+    ensures { IfOk result (λ text. text ≡ report_of trace.now state.now replies.now shown) }
+{
+    let texts = RingTexts::of(alloc, trace, replies, shown.names)?;
+    let world = world_on(rt, alloc, state, shown.sums, workers)?;
+    texts.with_world(alloc, world)
+}
+
+/// The report of the texts of a trace's rings, and of what the maps of the world show at the end.
+///
+/// # Errors
+///
+/// Out of memory.
+pub fn report_of_texts(
+    alloc: Global,
+    texts: RingTexts,
+    state: &State,
+    shown: Shown,
+) -> Result<Pieces, AllocError>
+    ensures { IfOk result (λ text. text ≡ line (codes "uring-report 1") ++ concat texts
+        ++ world_lines state.now shown.sums ++ line (codes "end")) }
+{
+    let world = world_alone(alloc, state, shown.sums)?;
+    texts.with_world(alloc, world)
+}
+
+/// What a report shows of the world, whose sums are made on up to so many threads.
+fn world_on<R: Threads + Sync>(
+    rt: &R,
+    alloc: Global,
+    state: &State,
+    asked: SumsShown,
+    workers: u32,
+) -> Result<Vec<u8>, AllocError>
     ensures { IfOk result (λ text. text.items
-        ≡ report_of trace.now state.now replies.now shown) }
+        ≡ world_lines state.now asked ++ line (codes "end")) }
 {
     let image = Box::new(alloc, state.image(alloc)?)?;
-    if shown.sums == SumsShown::None {
-        return text_of(
-            alloc,
-            trace,
-            state,
-            replies,
-            &image,
-            Made::None,
-            shown.names,
-        );
+    match asked {
+        SumsShown::None => world_text(alloc, state, &image, Made::None),
+        SumsShown::Small | SumsShown::All => {
+            let sums = sums_on_threads(rt, alloc, state, &image, workers)?;
+            world_with(alloc, state, &image, &sums, asked)
+        }
     }
-    let sums = sums_on_threads(rt, alloc, state, &image, workers)?;
-    text_with(alloc, trace, state, replies, &image, &sums, shown)
 }
 
-/// The text of a report with these sums, and with those of large files where they are asked for.
-fn text_with(
+/// What a report shows of the world, whose sums are made one after another.
+fn world_alone(alloc: Global, state: &State, asked: SumsShown) -> Result<Vec<u8>, AllocError>
+    ensures { IfOk result (λ text. text.items
+        ≡ world_lines state.now asked ++ line (codes "end")) }
+{
+    let image = Box::new(alloc, state.image(alloc)?)?;
+    match asked {
+        SumsShown::None => world_text(alloc, state, &image, Made::None),
+        SumsShown::Small | SumsShown::All => {
+            let sums = sums_alone(alloc, state, &image)?;
+            world_with(alloc, state, &image, &sums, asked)
+        }
+    }
+}
+
+/// What a report shows of the world with these sums, and with those of large files where they are
+/// asked for.
+fn world_with(
     alloc: Global,
-    trace: &Trace,
     state: &State,
-    replies: &Replies,
     image: &Image,
     sums: &Sums,
-    shown: Shown,
+    asked: SumsShown,
 ) -> Result<Vec<u8>, AllocError>
-    requires replies { length replies.now ≡ places trace.now }
     requires image { image.now ≡ image_of state.now }
     requires sums { AreSumsOf state.now sums.now }
-    requires some { shown.sums ≢ SumsShown.None }
+    requires some { asked ≢ SumsShown.None }
     ensures { IfOk result (λ text. text.items
-        ≡ report_of trace.now state.now replies.now shown) }
+        ≡ world_lines state.now asked ++ line (codes "end")) }
 {
-    let Shown { sums: asked, names } = shown;
     if asked == SumsShown::All {
         let trees = TreeSums::of(alloc, state, image)?;
-        return text_of(
-            alloc,
-            trace,
-            state,
-            replies,
-            image,
-            Made::All(sums, &trees),
-            names,
-        );
+        return world_text(alloc, state, image, Made::All(sums, &trees));
     }
-    text_of(
-        alloc,
-        trace,
-        state,
-        replies,
-        image,
-        Made::Small(sums),
-        names,
-    )
+    world_text(alloc, state, image, Made::Small(sums))
 }
 
-/// The text of the report, with sums where they were made.
-fn text_of(
+/// What a report shows of the world, with sums where they were made, and its last line.
+fn world_text(
     alloc: Global,
-    trace: &Trace,
     state: &State,
-    replies: &Replies,
     image: &Image,
     made: Made<'_>,
-    names: bool,
 ) -> Result<Vec<u8>, AllocError>
-    requires replies { length replies.now ≡ places trace.now }
     requires image { image.now ≡ image_of state.now }
     requires made { AreMade state.now made }
-    ensures { IfOk result (λ text. text.items ≡ report_of trace.now state.now replies.now
-        (record { sums = shown_of made.entry; names = names })) }
+    ensures { IfOk result (λ text. text.items
+        ≡ world_lines state.now (shown_of made.entry) ++ line (codes "end")) }
 {
-    let mut text = Vec::from_slice(alloc, b"uring-report 1\n")?;
-    push_rings(alloc, &mut text, trace, replies, names)?;
+    let mut text = Vec::new(alloc);
     push_world(alloc, &mut text, state, image, made)?;
     text.extend_from_slice(b"end\n")?;
     Ok(text)

@@ -1,0 +1,28 @@
+use Rattle.std.proofs.Common.{add-one, ap, arith, length, sym, ◌∙◌}
+use Rattle.chain_plan.proofs.Walk.{role_in}
+use Rattle.trace_format.specs.Steps.{step_meant}
+use Rattle.op_meaning.specs.Step.{sequential_reply, step_reply, step_world}
+use Rattle.replay_core.proofs.Places.{HasPlace, next_has}
+use Rattle.replay_report.proofs.RingTextsLemmas.{answer_walked, texts_none}
+use Rattle.replay_program.proofs.in_turn.texts_in_turn.Goals.{After-role}
+use Rattle.replay_program.proofs.in_turn.texts_in_turn.Goals as goal
+
+-- the stretch has the place, whether it is the one before or a new one
+has_place : (c : After-role) → HasPlace c.args.trace.now c.loop-place.place c.if-place-end.plan
+has_place c =
+    let t = c.args.trace.now in
+    let k = c.loop-place.place in
+    elim c.if-place-end.branch [
+      | goal.then-place-end+in_ok-plan w ↦ rw w.plan-is (next_has t k c.loop-place.plan _ w.in_ok-plan.ensures.stretch w.in_ok-plan.ensures.behind w.in_ok-plan.ensures.least
+          (w.if-place-end.true ∙ c.end.ensures) (omega (arith, c.loop-place-test.true, c.places-place-end.ensures.places)))
+      | goal.else-place-end w ↦ rw w.plan-is (record {
+        stretch = c.loop-place.invariant.stretch;
+        from = c.loop-place.invariant.from;
+        within = omega (arith, c.loop-place.invariant.within, c.end.ensures, w.if-place-end.false);
+      })
+    ]
+
+pub run_on_state-requires-clause-role : goal.run_on_state-requires-clause-role
+run_on_state-requires-clause-role c =
+    let has = has_place (goal.at.run_on_state-requires-clause-role c).After-role in
+    role_in c.args.trace.now c.if-place-end.plan c.loop-place.place _ has.stretch has.from c.role.ensures.at_place

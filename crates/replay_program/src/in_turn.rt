@@ -1,0 +1,70 @@
+//! The report of a run in recorded order, whose lines are made as its places run.
+ghost use Rattle.std.specs.Prelude.{◌≡◌, IfErr, IfOk, OnOk};
+ghost use Rattle.op_meaning.specs.Step.{sequential_reply, sequential_world};
+ghost use Rattle.replay_program.specs.Runs.{sequential_report};
+ghost use Rattle.replay_report.specs.RingTexts.{texts_below};
+ghost use Rattle.trace_format.specs.Steps.{places};
+ghost use Rattle.trace_format.specs.Text.{IsSpelled};
+ghost use Rattle.world_parts.specs.Start.{start};
+
+use chain_plan::Stretch;
+use op_meaning::run_on_state;
+use replay_core::ReplayFault;
+use replay_report::{Answer, Pieces, RingTexts, Shown, report_of_texts};
+use std::alloc::{AllocError, Global};
+use trace_format::Trace;
+use world_parts::State;
+
+/// The roles of so many places are found at once: what these wait for from memory then comes at once.
+const AHEAD: u32 = 64;
+
+/// The report of the run in recorded order. No reply is kept behind its line.
+pub(crate) fn serial_report(
+    alloc: Global,
+    trace: &Trace,
+    shown: Shown,
+) -> Result<Pieces, ReplayFault>
+    requires { IsSpelled trace.now }
+    ensures ok { IfOk result (λ text. text ≡ sequential_report trace.now shown) }
+    ensures err { IfErr result (λ fault. fault ≡ ReplayFault.Memory) }
+{
+    match report_in_turn(alloc, trace, shown) {
+        Ok(text) => Ok(text),
+        Err(AllocError) => Err(ReplayFault::Memory),
+    }
+}
+
+fn report_in_turn(alloc: Global, trace: &Trace, shown: Shown) -> Result<Pieces, AllocError>
+    requires { IsSpelled trace.now }
+    ensures { IfOk result (λ text. text ≡ sequential_report trace.now shown) }
+{
+    let mut state = State::of(alloc, trace)?;
+    let texts = texts_in_turn(alloc, trace, &mut state, shown.names)?;
+    report_of_texts(alloc, texts, &state, shown)
+}
+
+/// Runs the places of a trace in recorded order on the world that it starts with, and gives the
+/// texts of its rings.
+fn texts_in_turn(
+    alloc: Global,
+    trace: &Trace,
+    state: &mut State,
+    names: bool,
+) -> Result<RingTexts, AllocError>
+    requires trace { IsSpelled trace.now }
+    requires state { state.old ≡ start trace.now }
+    ensures world { OnOk result (state.new ≡ sequential_world trace.now) }
+    ensures texts { IfOk result (λ texts. texts
+        ≡ texts_below trace.now (sequential_reply trace.now) names (places trace.now)) }
+{
+    let mut plan = Stretch::new(alloc);
+    let mut texts = RingTexts::new(alloc, trace.rings.as_slice().len())?;
+    for place in 0..trace.places() {
+        if place == plan.end() {
+            plan = plan.next(trace, AHEAD)?;
+        }
+        let reply = run_on_state(alloc, place, trace, &plan.role(place), state)?;
+        texts.push(place, &trace.step(place), &Answer::of(&reply), names)?;
+    }
+    Ok(texts)
+}

@@ -1,0 +1,7 @@
+use Rattle.std.proofs.lemmas.Result.{IfOk-weaker}
+use Rattle.replay_report.proofs.RingTextsLemmas.{world_shown}
+use Rattle.replay_report.proofs.report.report_of_texts.Goals as goal
+
+pub returns : goal.returns
+returns c =
+    IfOk-weaker c.with_world.result _ _ (λ text e. world_shown c.args.state.now c.args.texts c.args.shown.sums c.in_ok-world.world.items text c.in_ok-world.ensures e) c.with_world.ensures
