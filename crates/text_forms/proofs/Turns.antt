@@ -1,0 +1,60 @@
+-- What is left of pieces behind one byte more.
+use Rattle.std.proofs.Common.{◌≡◌, ℕ, zero, suc, ◌+◌, ◌-◌, ◌<◌, ◌≤◌, eqb, true, false, List, [], ◌∷◌, ◌++◌, length, take, drop, get_or, refl, sym, ap, ◌∙◌, append_assoc, append-nil, arith}
+use Rattle.std.specs.Prelude.{nat_le, ◌==◌}
+use Rattle.text_forms.specs.Strings.{pieces, ended, plains, plain_text, goes_on}
+use Rattle.text_forms.proofs.Slices.{between, joined, front_is, one_is, one_more, none_is, goes}
+
+pub turn_same : (before xs text whole : List ℕ) (start run i : ℕ) → run ≤ i → i < length xs → eqb (get_or xs i 0) (get_or xs run 0) ≡ true
+    → text ++ pieces before (between start run xs) (between run i xs) (drop i xs) ≡ whole
+    → text ++ pieces before (between start run xs) (between run (i + 1) xs) (drop (i + 1) xs) ≡ whole
+turn_same before xs text whole start run i le lt same h =
+    let step : pieces before (between start run xs) (between run i xs) (get_or xs i 0 ∷ drop (i + 1) xs) ≡ pieces before (between start run xs) (between run i xs ++ get_or xs i 0 ∷ []) (drop (i + 1) xs) = rw (goes xs run i le lt, same) refl in
+    ap (λ (l : List ℕ). text ++ pieces before (between start run xs) l (drop (i + 1) xs)) (one_more xs run i le lt)
+    ∙ ap (λ (l : List ℕ). text ++ l) (sym step)
+    ∙ ap (λ (l : List ℕ). text ++ pieces before (between start run xs) (between run i xs) l) (sym (front_is xs i lt))
+    ∙ h
+
+pub turn_long : (before xs text text' whole : List ℕ) (start run i : ℕ) → run ≤ i → i < length xs → eqb (get_or xs i 0) (get_or xs run 0) ≡ false
+    → nat_le 16 (length (between run i xs)) ≡ true → text' ≡ text ++ ended before (between start run xs) (between run i xs)
+    → text ++ pieces before (between start run xs) (between run i xs) (drop i xs) ≡ whole
+    → text' ++ pieces before (between i i xs) (between i (i + 1) xs) (drop (i + 1) xs) ≡ whole
+turn_long before xs text text' whole start run i le lt other long is h =
+    let rest = pieces before [] (get_or xs i 0 ∷ []) (drop (i + 1) xs) in
+    let out = ended before (between start run xs) (between run i xs) in
+    let step : pieces before (between start run xs) (between run i xs) (get_or xs i 0 ∷ drop (i + 1) xs) ≡ out ++ rest = rw (goes xs run i le lt, other, long) refl in
+    ap (λ (l : List ℕ). text' ++ pieces before l (between i (i + 1) xs) (drop (i + 1) xs)) (none_is xs i)
+    ∙ ap (λ (l : List ℕ). text' ++ pieces before [] l (drop (i + 1) xs)) (one_is xs i lt)
+    ∙ ap (λ (l : List ℕ). l ++ rest) is
+    ∙ append_assoc text out rest
+    ∙ ap (λ (l : List ℕ). text ++ l) (sym step)
+    ∙ ap (λ (l : List ℕ). text ++ pieces before (between start run xs) (between run i xs) l) (sym (front_is xs i lt))
+    ∙ h
+
+pub turn_short : (before xs text whole : List ℕ) (start run i : ℕ) → start ≤ run → run ≤ i → i < length xs → eqb (get_or xs i 0) (get_or xs run 0) ≡ false
+    → nat_le 16 (length (between run i xs)) ≡ false
+    → text ++ pieces before (between start run xs) (between run i xs) (drop i xs) ≡ whole
+    → text ++ pieces before (between start i xs) (between i (i + 1) xs) (drop (i + 1) xs) ≡ whole
+turn_short before xs text whole start run i first le lt other short h =
+    let step : pieces before (between start run xs) (between run i xs) (get_or xs i 0 ∷ drop (i + 1) xs) ≡ pieces before (between start run xs ++ between run i xs) (get_or xs i 0 ∷ []) (drop (i + 1) xs) = rw (goes xs run i le lt, other, short) refl in
+    ap (λ (l : List ℕ). text ++ pieces before l (between i (i + 1) xs) (drop (i + 1) xs)) (joined xs start run i first le)
+    ∙ ap (λ (l : List ℕ). text ++ pieces before (between start run xs ++ between run i xs) l (drop (i + 1) xs)) (one_is xs i lt)
+    ∙ ap (λ (l : List ℕ). text ++ l) (sym step)
+    ∙ ap (λ (l : List ℕ). text ++ pieces before (between start run xs) (between run i xs) l) (sym (front_is xs i lt))
+    ∙ h
+
+-- no bytes have no pieces
+pub nothing_left : (before bytes : List ℕ) (n : ℕ) → eqb (length bytes) 0 ≡ true → plains before n bytes ≡ []
+nothing_left before bytes zero h = refl
+nothing_left before bytes (suc n) h = rw h refl
+
+pub plain_goes : (before bytes text whole : List ℕ) (n i : ℕ) → i < n → eqb (length bytes) 0 ≡ false
+    → text ++ plains before (n - i) bytes ≡ whole
+    → ((text ++ before) ++ plain_text (take 64 bytes)) ++ plains before (n - (i + 1)) (drop 64 bytes) ≡ whole
+plain_goes before bytes text whole n i lt some h =
+    let k : n - i ≡ suc (n - (i + 1)) = omega arith in
+    let step : plains before (suc (n - (i + 1))) bytes ≡ before ++ plain_text (take 64 bytes) ++ plains before (n - (i + 1)) (drop 64 bytes) = rw some refl in
+    ap (λ (l : List ℕ). l ++ plains before (n - (i + 1)) (drop 64 bytes)) (append_assoc text before (plain_text (take 64 bytes)))
+    ∙ append_assoc text (before ++ plain_text (take 64 bytes)) (plains before (n - (i + 1)) (drop 64 bytes))
+    ∙ ap (λ (l : List ℕ). text ++ l) (sym step)
+    ∙ ap (λ (m : ℕ). text ++ plains before m bytes) (sym k)
+    ∙ h

@@ -1,0 +1,6 @@
+use Rattle.std.proofs.Common.{◌≡◌, ◌≤◌, ◌+◌, ◌-◌, ◌*◌, ◌++◌, take, drop, length, false}
+use Rattle.trace_text.specs.Shown.{description_line, numbered}
+use Rattle.trace_text.proofs.lines.push_descriptions.Given as goal
+
+abbrev pub invariant-loop-number : goal.invariant-loop-number
+invariant-loop-number l = l.text.items ≡ l.initial.text.items ++ numbered (description_line l.items) 0 (take l.number l.descriptions)

@@ -1,0 +1,6 @@
+use Rattle.trace_text.specs.Names.{entry_flag_name, entry_flag_names}
+use Rattle.trace_text.proofs.names.entry_flag_name.Goals as goal
+
+pub returns : goal.returns
+unfolding entry_flag_name entry_flag_names
+returns c = c.at.ensures
