@@ -1,7 +1,7 @@
 -- What is left of pieces behind one byte more.
-use Rattle.std.proofs.Common.{◌≡◌, ℕ, zero, suc, ◌+◌, ◌-◌, ◌<◌, ◌≤◌, eqb, true, false, List, [], ◌∷◌, ◌++◌, length, take, drop, get_or, refl, sym, ap, ◌∙◌, append_assoc, append-nil, arith}
-use Rattle.std.specs.Prelude.{nat_le, ◌==◌}
-use Rattle.text_forms.specs.Strings.{pieces, ended, plains, plain_text, goes_on}
+use Rattle.std.proofs.Common.{◌≡◌, ℕ, zero, suc, ◌+◌, ◌-◌, ◌<◌, ◌≤◌, eqb, true, false, List, [], ◌∷◌, ◌++◌, length, take, drop, get_or, refl, sym, ap, ◌∙◌, append_assoc, arith}
+use Rattle.std.specs.Prelude.{nat_le}
+use Rattle.text_forms.specs.Strings.{pieces, ended, plains, plain_text}
 use Rattle.text_forms.proofs.Slices.{between, joined, front_is, one_is, one_more, none_is, goes}
 
 pub turn_same : (before xs text whole : List ℕ) (start run i : ℕ) → run ≤ i → i < length xs → eqb (get_or xs i 0) (get_or xs run 0) ≡ true

@@ -1,5 +1,5 @@
 -- The model: numbers as words.
-use Rattle.std.specs.Prelude.{ℕ, ℤ, pos, negsuc, ◌==◌, false, List, ◌∷◌, ◌++◌, codes}
+use Rattle.std.specs.Prelude.{ℕ, false, List, ◌∷◌, ◌++◌, codes}
 use Rattle.std.specs.Fmt.{digits}
 
 -- in base 16, behind 0x

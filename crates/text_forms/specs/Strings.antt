@@ -1,6 +1,6 @@
 -- The model: paths, strings, and the pieces that bytes are shown in.
-use Rattle.std.specs.Prelude.{ℕ, zero, suc, ◌-◌, ◌/◌, ◌%◌, ◌==◌, ◌&&◌, ◌||◌, not, nat_le, Bool, true, false, List, [], ◌∷◌, ◌++◌, length, take, drop, codes, if◌then◌else◌}
-use Rattle.std.specs.List.{flat_map, count_by, list_all}
+use Rattle.std.specs.Prelude.{ℕ, zero, suc, ◌/◌, ◌%◌, ◌==◌, ◌&&◌, ◌||◌, not, nat_le, Bool, true, false, List, [], ◌∷◌, ◌++◌, length, take, drop, codes, if◌then◌else◌}
+use Rattle.std.specs.List.{flat_map, count_by}
 use Rattle.std.specs.Fmt.{decimal, digit_glyph}
 
 -- the two hexadecimal digits of a byte
@@ -86,4 +86,3 @@ pieces before plain run (c ∷ rest) =
     if goes_on c run then pieces before plain (run ++ c ∷ []) rest
     else if nat_le least_run (length run) then ended before plain run ++ pieces before [] (c ∷ []) rest
     else pieces before (plain ++ run) (c ∷ []) rest
-

@@ -216,11 +216,23 @@ pub fn push_pieces(text: &mut Vec<u8>, before: &[u8], bytes: &[u8]) -> Result<()
     for i in 0..bytes.len() {
         if bytes[i] != bytes[run] {
             if i - run >= LEAST_RUN {
-                push_ended(text, before, &bytes[start..run], &bytes[run..i], &bytes[start..i])?;
+                push_ended(
+                    text,
+                    before,
+                    &bytes[start..run],
+                    &bytes[run..i],
+                    &bytes[start..i],
+                )?;
                 start = i;
             }
             run = i;
         }
     }
-    push_ended(text, before, &bytes[start..run], &bytes[run..], &bytes[start..])
+    push_ended(
+        text,
+        before,
+        &bytes[start..run],
+        &bytes[run..],
+        &bytes[start..],
+    )
 }

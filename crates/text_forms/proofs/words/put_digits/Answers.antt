@@ -1,4 +1,4 @@
-use Rattle.std.proofs.Common.{◌≡◌, ℕ, ◌/◌, ◌-◌, ◌∙◌, eqb, false, length, arith, length-set}
+use Rattle.std.proofs.Common.{◌≡◌, ◌-◌, ◌∙◌, length, arith, length-set}
 use Rattle.std.proofs.lemmas.Bool.{ne_eqb}
 use Rattle.text_forms.proofs.Digits.{begins, goes}
 use Rattle.text_forms.proofs.words.put_digits.Goals as goal
