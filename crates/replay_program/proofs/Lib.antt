@@ -8,6 +8,7 @@ mod NumberWords
 mod OptionWalk
 mod InTurn
 mod Outputs
+mod Showing
 mod RoundWords
 mod Verdicts
 mod WordsLemmas

@@ -24,13 +24,13 @@ use Rattle.replay_program.specs.declared.words.Mode.{Mode}
 use Rattle.replay_program.specs.declared.words.Mode.TheVariants.{Serial, Run, Compare, Rounds, Depends, Check}
 use Rattle.replay_program.specs.declared.words.Options.{Options}
 use Rattle.replay_program.specs.declared.words.Task.{Task}
-use Rattle.replay_program.specs.declared.words.Task.TheVariants.{Replay, Diff}
+use Rattle.replay_program.specs.declared.words.Task.TheVariants.{Replay, Diff, Show}
 use Rattle.replay_program.specs.declared.words.UsageKind.{UsageKind}
 use Rattle.replay_program.specs.declared.words.UsageKind.TheVariants.{Memory}
 use Rattle.replay_report.specs.declared.showing.Shown.{Shown}
 use Rattle.replay_report.specs.declared.showing.SumsShown.{SumsShown}
 use Rattle.replay_report.specs.declared.showing.SumsShown.TheVariants as shows
-use Rattle.replay_program.specs.Words.{AreFound, AreRoundOptions, AskFor, AskForHelp, AskForMode, AskForVersion, HasNoFiles, HasNumbers, HasShown, HasSums, IsFound, IsNumberOption, dot_words, flag_text, kind_meant, name_in, plain, replayer, shown_words, text_in}
+use Rattle.replay_program.specs.Words.{AreFound, AreRoundOptions, AskFor, AskForHelp, AskForMode, AskForVersion, HasNoFiles, HasNumbers, HasShown, HasSums, IsFound, IsNamed, IsNumberOption, dot_words, places_words, flag_text, kind_meant, name_in, plain, replayer, shown_words, text_in}
 use Rattle.replay_program.specs.Limits.{IsWindow}
 use Rattle.replay_program.proofs.NumberWords.{accepted, number_is_value}
 use Rattle.replay_program.proofs.OptionWalk.{at, level_by_parts, stopped_at, stopped_passes, stopped_walk, takes_by_parts}
@@ -229,16 +229,36 @@ unfolding clap_on_literals
 version_found words (inl e) = rw e refl
 version_found words (inr e) = rw e refl
 
+-- what is found for the words of `show`
+show_found : (places : Bool) → IsNamed (codes "show") (subcommand_of replayer (codes "show" ∷ places_words places))
+    × (text_in (codes "places") (subcommand_of replayer (codes "show" ∷ places_words places)) ≡ Some (flag_text places))
+    × (text_in (codes "first") (subcommand_of replayer (codes "show" ∷ places_words places)) ≡ None)
+unfolding clap_on_literals
+show_found false = (refl, refl, refl)
+show_found true = (refl, refl, refl)
+
+show_files : (places : Bool) → HasNoFiles (subcommand_of replayer (codes "show" ∷ places_words places))
+unfolding clap_on_literals
+show_files false = (refl, refl, refl)
+show_files true = (refl, refl, refl)
+
+show_taken : (places : Bool) → takes replayer (codes "show" ∷ places_words places) ≡ true
+unfolding clap_on_literals
+show_taken false = refl
+show_taken true = refl
+
 -- the same for each task
 task_found : (t : Task) (words : List (List ℕ)) → AskFor t words → IsFound t (subcommand_of replayer words)
 unfolding clap_on_literals
 task_found (Replay o) words e = (options_found o.mode o.shown words e, files_found o.mode o.shown words e)
 task_found Diff words e = rw e (refl, (refl, refl, refl))
+task_found (Show look) words e = rw e.1 ((show_found look.places).0, ((show_found look.places).1, e.0, (show_found look.places).2), show_files look.places)
 
 task_taken : (t : Task) (words : List (List ℕ)) → AskFor t words → takes replayer words ≡ true
 unfolding clap_on_literals
 task_taken (Replay o) words e = words_taken o.mode o.shown words e
 task_taken Diff words e = rw e refl
+task_taken (Show look) words e = rw e.1 (show_taken look.places)
 
 -- the task in the matches of the words that ask for it
 pub task_met : (a : App) (words : List (List ℕ)) (m : ArgMatches) (t : Task) → a ≡ replayer → AskFor t words → HasMatchesOf a words m

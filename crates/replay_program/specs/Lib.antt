@@ -4,3 +4,4 @@ pub mod Runs
 pub mod Status
 pub mod Transfer
 pub mod Words
+pub mod Shows

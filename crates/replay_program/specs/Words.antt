@@ -16,7 +16,8 @@ use Rattle.replay_program.specs.declared.words.Mode.TheVariants.{Serial, Run, Co
 use Rattle.replay_program.specs.declared.words.Files.{Files}
 use Rattle.replay_program.specs.declared.words.Request.{Request}
 use Rattle.replay_program.specs.declared.words.Task.{Task}
-use Rattle.replay_program.specs.declared.words.Task.TheVariants.{Replay, Diff}
+use Rattle.replay_program.specs.declared.words.Task.TheVariants.{Replay, Diff, Show}
+use Rattle.trace_text.specs.declared.look.Look.{Look}
 use Rattle.replay_program.specs.declared.words.Usage.{Usage}
 use Rattle.replay_program.specs.declared.words.UsageKind.{UsageKind}
 use Rattle.replay_report.specs.Report.{escaped, shown_with}
@@ -29,6 +30,7 @@ use Rattle.replay_program.specs.Limits.{IsWindow, AreServed, IsServed}
 abbrev pub IsServedTask : Task → Type 0
 IsServedTask (Replay options) = IsServed options.mode
 IsServedTask Diff = ⊤
+IsServedTask (Show look) = ⊤
 
 -- An option with its number in decimal, `--workers 7`; it may be left out where the number is the one that is taken then.
 abbrev pub IsNumberOption : List ℕ → ℕ → ℕ → List (List ℕ) → Type 0
@@ -69,9 +71,15 @@ AskForMode (Rounds window dot) shown words = (chosen : List (List ℕ)) × IsNum
 AskForMode (Depends dot) shown words = (shown ≡ plain) × (words ≡ codes "depends" ∷ dot_words dot)
 AskForMode Check shown words = (shown ≡ plain) × (words ≡ codes "check" ∷ [])
 
+abbrev pub places_words : Bool → List (List ℕ)
+places_words false = []
+places_words true = codes "--places" ∷ []
+
+-- The words that ask for a task. Which words ask for the first bytes alone is not said here.
 abbrev pub AskFor : Task → List (List ℕ) → Type 0
 AskFor (Replay options) words = AskForMode options.mode options.shown words
 AskFor Diff words = words ≡ codes "diff" ∷ []
+AskFor (Show look) words = (look.first ≡ None) × (words ≡ codes "show" ∷ places_words look.places)
 
 -- The words that ask for help, and for the version.
 abbrev pub AskForHelp : List (List ℕ) → Type 0
@@ -132,6 +140,10 @@ HasSums shows.All text = text (codes "all-sums") ≡ Some (flag_text true)
 abbrev pub HasShown : Shown → (List ℕ → Option (List ℕ)) → Type 0
 HasShown shown text = HasSums shown.sums text × (text (codes "names") ≡ Some (flag_text shown.names))
 
+-- And those that say how a trace is shown.
+abbrev pub HasLook : Look → (List ℕ → Option (List ℕ)) → Type 0
+HasLook look text = (text (codes "places") ≡ Some (flag_text look.places)) × (look.first ≡ None) × (text (codes "first") ≡ None)
+
 abbrev pub HasDot : Bool → Option (List ℕ × List Row) → Type 0
 HasDot dot found = text_in (codes "dot") found ≡ Some (flag_text dot)
 
@@ -166,6 +178,7 @@ AreFound Check shown found = IsNamed (codes "check") found × (shown ≡ plain)
 abbrev pub IsTaskFound : Task → Option (List ℕ × List Row) → Type 0
 IsTaskFound (Replay options) found = AreFound options.mode options.shown found
 IsTaskFound Diff found = IsNamed (codes "diff") found
+IsTaskFound (Show look) found = IsNamed (codes "show") found × HasLook look (λ id. text_in id found)
 
 abbrev pub IsFound : Task → Option (List ℕ × List Row) → Type 0
 IsFound task found = IsTaskFound task found × HasNoFiles found
@@ -205,6 +218,12 @@ workers_option = number_option (codes "workers") 64 (codes "4")
 abbrev pub window_option : Rule
 window_option = number_option (codes "window") 4096 (codes "64")
 
+abbrev pub places_flag : Rule
+places_flag = record (new_rule (codes "places")) { long = Some (codes "places"); action = Some SetTrue }
+
+abbrev pub first_option : Rule
+first_option = record (new_rule (codes "first")) { long = Some (codes "first"); value_names = 1; parser = Some (Signed (pos 1) (pos 1073741824)) }
+
 abbrev pub serial_command : App
 serial_command = with_rule (with_rule (with_rule (new_app (codes "serial")) sums_flag) all_sums_flag) names_flag
 
@@ -225,6 +244,9 @@ depends_command = with_rule (new_app (codes "depends")) dot_flag
 abbrev pub check_command : App
 check_command = new_app (codes "check")
 
+abbrev pub show_command : App
+show_command = with_rule (with_rule (new_app (codes "show")) places_flag) first_option
+
 abbrev pub diff_command : App
 diff_command = new_app (codes "diff")
 
@@ -243,7 +265,7 @@ with_replays app = with_subcommand (with_subcommand (with_subcommand app (with_f
 abbrev pub replayer : App
 replayer =
     let telling = with_subcommand (with_subcommand (with_replays replayer_alone) (with_files rounds_command).top) (with_files depends_command).top in
-    let reading = with_subcommand telling (with_files check_command).top in
+    let reading = with_subcommand (with_subcommand telling (with_files check_command).top) (with_files show_command).top in
     with_subcommand reading (with_rule (with_files diff_command) second_argument).top
 
 -- What the parser sees of an argument and of a subcommand; neither is one of all levels.

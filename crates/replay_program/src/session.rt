@@ -274,7 +274,7 @@ fn told_line(alloc: Global, verdict: Verdict) -> Result<String, AllocError>
 }
 
 /// The trace that the reader has left.
-fn taken_trace<R: Source>(alloc: Global, reader: &mut R) -> Result<Box<Trace>, RunFault>
+pub(crate) fn taken_trace<R: Source>(alloc: Global, reader: &mut R) -> Result<Box<Trace>, RunFault>
     requires { R.failures reader.old < 2 ^ 64 - 1 }
     ensures ok { IfOk result (λ trace. ReadsTrace (R.left reader.old) (R.left reader.new) trace.value) }
     ensures taken { ConsumesUpTo most_taken (R.left reader.old) (R.left reader.new) }

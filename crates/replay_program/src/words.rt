@@ -9,6 +9,7 @@ ghost use Rattle.replay_program.specs.Words.{FailsByRules, GivesHelp, GivesTask,
 ghost use Rattle.replay_program.specs.Words.{HasApp, HasNoFiles, HasNoNames, IsFound, IsRequestFor};
 ghost use Rattle.replay_program.specs.Words.{HasShown, HasSums, IsTaskFound, all_sums_flag};
 ghost use Rattle.replay_program.specs.Words.{names_flag};
+ghost use Rattle.replay_program.specs.Words.{HasLook, first_option, places_flag, show_command};
 ghost use Rattle.replay_program.specs.Words.{IsRule, IsServedTask, check_command, compare_command};
 ghost use Rattle.replay_program.specs.Words.{depends_command, diff_command, dot_flag, eager_flag};
 ghost use Rattle.replay_program.specs.Words.{file_argument};
@@ -23,6 +24,7 @@ use clap::error::ErrorKind;
 use clap::{Arg, ArgAction, ArgMatches, Command, Error, value_parser};
 use replay_report::{Shown, SumsShown, escaped};
 use std::alloc::{AllocError, Global};
+use trace_text::Look;
 
 /// What the program does with a trace.
 #[derive(Clone, Copy, Debug, PartialEq, Eq)]
@@ -73,6 +75,8 @@ pub enum Task {
     Replay(Options),
     /// A comparison of two reports.
     Diff,
+    /// A trace as text.
+    Show(Look),
 }
 
 /// The names of files that the words give. No name, and for an input the name `-`, stands for
@@ -149,7 +153,8 @@ const MOST_WORKERS: u32 = 64;
 const MOST_PLACES: u32 = 4096;
 
 /// Reads the words after the program's name: `serial` and `run`, each with `--sums`, `--all-sums` and
-/// `--names` or without, `compare`, `rounds` and `depends`, with `--dot` or without, `check` or `diff`. `run` and
+/// `--names` or without, `compare`, `rounds` and `depends`, with `--dot` or without, `show` with `--places`
+/// or without, `check` or `diff`. `run` and
 /// `compare` come with the numbers of workers and of places or without, `rounds` with that of places.
 /// Each has the names of its input and output or not. Any other words are wrong, unless they ask for
 /// help or for the version.
@@ -225,7 +230,18 @@ fn task_in(matches: &ArgMatches<'_>) -> Task
 {
     match matches.subcommand() {
         Some(("diff", _)) => Task::Diff,
+        Some(("show", chosen)) => Task::Show(look_in(chosen)),
         _ => Task::Replay(options_in(matches)),
+    }
+}
+
+/// How a trace is to be shown.
+fn look_in(matches: &ArgMatches<'_>) -> Look
+    ensures { (look : Look) → HasLook look (one_text (found_of matches.now)) → result ≡ look }
+{
+    Look {
+        places: matches.get_flag("places"),
+        first: matches.get_one::<u32>("first"),
     }
 }
 
@@ -321,6 +337,7 @@ fn program<'a>(alloc: Global) -> Result<Command<'a>, AllocError>
     let command = with_subcommand(command, with_files(alloc, TRACE, rounds_command(alloc)))?;
     let command = with_subcommand(command, with_files(alloc, TRACE, depends_command(alloc)))?;
     let command = with_subcommand(command, with_files(alloc, TRACE, Ok(check_command(alloc))))?;
+    let command = with_subcommand(command, with_files(alloc, TRACE, show_command(alloc)))?;
     let reports = with_files(alloc, FIRST_REPORT, Ok(diff_command(alloc)));
     with_subcommand(command, with_second(alloc, reports))
 }
@@ -449,6 +466,16 @@ fn check_command<'a>(alloc: Global) -> Command<'a>
         .about("Check that the input is a trace; count its places (entries and fills) and rings")
 }
 
+fn show_command<'a>(alloc: Global) -> Result<Command<'a>, AllocError>
+    ensures { IfOk result (λ command. HasApp show_command command) }
+{
+    Command::new(alloc, "show")
+        .after_help("Example: uring_replay show a.trace --places")
+        .about("Print a trace as text, a line for each file, ring and entry")
+        .arg(places_flag(alloc))?
+        .arg(first_option(alloc))
+}
+
 fn diff_command<'a>(alloc: Global) -> Command<'a>
     ensures { HasApp diff_command result }
 {
@@ -491,6 +518,25 @@ fn dot_flag<'a>(alloc: Global) -> Arg<'a>
         .long("dot")
         .action(ArgAction::SetTrue)
         .help("Print a graph for graphviz")
+}
+
+fn places_flag<'a>(alloc: Global) -> Arg<'a>
+    ensures { IsRule places_flag result }
+{
+    Arg::new(alloc, "places")
+        .long("places")
+        .action(ArgAction::SetTrue)
+        .help("Print the place of each entry and fill before it, as a comment")
+}
+
+fn first_option<'a>(alloc: Global) -> Arg<'a>
+    ensures { IsRule first_option result }
+{
+    Arg::new(alloc, "first")
+        .long("first")
+        .value_name("N")
+        .value_parser(value_parser!(u32).range(1..=1_073_741_824))
+        .help("Print the first N bytes alone of each file, entry and fill")
 }
 
 fn workers_option<'a>(alloc: Global) -> Arg<'a>

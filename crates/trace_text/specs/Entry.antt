@@ -9,7 +9,6 @@ use Rattle.trace_text.specs.Names.{opcode_text, entry_flags}
 use Rattle.trace_text.specs.Fields.{fd_word, later_words, field}
 use Rattle.trace_text.specs.declared.look.Look.{Look}
 
-
 -- what stands before each string: a space where the bytes are few, else the start of a line of its own
 abbrev pub gap : List ℕ → List ℕ → List ℕ
 gap line bytes = if nat_le (length bytes) 64 then codes " " else line

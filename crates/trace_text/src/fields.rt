@@ -123,12 +123,7 @@ fn push_len_value(text: &mut Vec<u8>, opcode: u8, number: u32) -> Result<(), All
 }
 
 /// The field `len`, which is left out where it has the default value.
-fn push_len(
-    text: &mut Vec<u8>,
-    opcode: u8,
-    default: usize,
-    number: u32,
-) -> Result<(), AllocError>
+fn push_len(text: &mut Vec<u8>, opcode: u8, default: usize, number: u32) -> Result<(), AllocError>
     ensures { OnOk result (text.new.items ≡ text.old.items ++ len_word opcode default number) }
 {
     if number as usize == default {
@@ -143,12 +138,7 @@ fn push_len(
 }
 
 /// A field of flags with names.
-fn push_named(
-    text: &mut Vec<u8>,
-    key: &[u8],
-    set: FlagSet,
-    number: u32,
-) -> Result<(), AllocError>
+fn push_named(text: &mut Vec<u8>, key: &[u8], set: FlagSet, number: u32) -> Result<(), AllocError>
     ensures { OnOk result (text.new.items ≡ text.old.items ++ field key.now (flags_text set number)) }
 {
     push_key(text, key)?;

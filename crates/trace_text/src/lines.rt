@@ -63,12 +63,7 @@ fn item_kind(node: &Node) -> &'static [u8]
 
 /// What follows the path of a file: its size, where it is another than that of its bytes, and
 /// these.
-fn push_file(
-    text: &mut Vec<u8>,
-    look: Look,
-    size: u64,
-    stored: &[u8],
-) -> Result<(), AllocError>
+fn push_file(text: &mut Vec<u8>, look: Look, size: u64, stored: &[u8]) -> Result<(), AllocError>
     ensures { OnOk result (text.new.items
         ≡ text.old.items ++ file_words look size stored.now) }
 {
@@ -100,12 +95,7 @@ fn push_node_words(
 }
 
 /// An initial name.
-fn push_item(
-    text: &mut Vec<u8>,
-    look: Look,
-    items: &[Item],
-    item: &Item,
-) -> Result<(), AllocError>
+fn push_item(text: &mut Vec<u8>, look: Look, items: &[Item], item: &Item) -> Result<(), AllocError>
     ensures { OnOk result (text.new.items ≡ text.old.items ++ item_line look items.now item.now) }
 {
     push_bytes(text, item_kind(&item.node))?;

@@ -130,7 +130,13 @@ const OPEN: [&str; 22] = [
     "O_PATH",
 ];
 
-const TRANSFER: [&str; 5] = ["RWF_HIPRI", "RWF_DSYNC", "RWF_SYNC", "RWF_NOWAIT", "RWF_APPEND"];
+const TRANSFER: [&str; 5] = [
+    "RWF_HIPRI",
+    "RWF_DSYNC",
+    "RWF_SYNC",
+    "RWF_NOWAIT",
+    "RWF_APPEND",
+];
 
 const SYNC: [&str; 1] = ["IORING_FSYNC_DATASYNC"];
 
@@ -139,7 +145,19 @@ const UNLINK: [&str; 10] = ["", "", "", "", "", "", "", "", "", "AT_REMOVEDIR"];
 const RENAME: [&str; 3] = ["RENAME_NOREPLACE", "RENAME_EXCHANGE", "RENAME_WHITEOUT"];
 
 const LINK: [&str; 13] = [
-    "", "", "", "", "", "", "", "", "", "", "AT_SYMLINK_FOLLOW", "", "AT_EMPTY_PATH",
+    "",
+    "",
+    "",
+    "",
+    "",
+    "",
+    "",
+    "",
+    "",
+    "",
+    "AT_SYMLINK_FOLLOW",
+    "",
+    "AT_EMPTY_PATH",
 ];
 
 const ALLOCATE: [&str; 6] = [
@@ -260,11 +278,7 @@ fn push_flag_if(
 fn push_bar(text: &mut Vec<u8>, some: bool) -> Result<(), AllocError>
     ensures { OnOk result (text.new.items ≡ text.old.items ++ bar some) }
 {
-    if some {
-        push_bytes(text, b"|")
-    } else {
-        Ok(())
-    }
+    if some { push_bytes(text, b"|") } else { Ok(()) }
 }
 
 /// Flags with bars between them.

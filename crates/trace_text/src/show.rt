@@ -34,7 +34,11 @@ pub fn show_text(alloc: Global, trace: &Trace, look: Look) -> Result<Vec<u8>, Al
     let mut text = Vec::new(alloc);
     push_version(&mut text, trace.version.rules().number)?;
     push_items(&mut text, look, trace.items.as_slice())?;
-    push_descriptions(&mut text, trace.items.as_slice(), trace.descriptions.as_slice())?;
+    push_descriptions(
+        &mut text,
+        trace.items.as_slice(),
+        trace.descriptions.as_slice(),
+    )?;
     push_slots(&mut text, b"descriptors", trace.descriptors.as_slice())?;
     push_rings(&mut text, trace.rings.as_slice())?;
     push_records(&mut text, look, trace.records.as_slice())?;

@@ -14,7 +14,7 @@ use crate::output::{ended, output_of};
 use crate::trouble::{Trouble, shown};
 use replay_program::{
     FromStd, Options, Request, Task, Usage, no_memory, not_text, read_words, run, run_diff,
-    run_diff_of_two,
+    run_diff_of_two, run_show,
 };
 use std::alloc::AllocError;
 use std::env;
@@ -24,6 +24,7 @@ use std::process::ExitCode;
 use std::rt::Env;
 use std::sync::Wait;
 use std::thread::Threads;
+use trace_text::Look;
 
 fn main(rt: HostRuntime) -> ExitCode {
     let words = match arguments(&rt) {
@@ -69,6 +70,7 @@ fn served<'a, T: Threads + Wait + Sync>(
     let input = first_input(rt, files.input)?;
     match (request.task, files.second) {
         (Task::Replay(options), _) => replayed(rt, threads, input, files.output, &options),
+        (Task::Show(look), _) => displayed(rt, input, files.output, look),
         (Task::Diff, None) => compared(rt, input, files.output),
         (Task::Diff, Some(second)) => {
             let second = second_input(rt, files.input, second)?;
@@ -90,6 +92,19 @@ fn replayed<'a, T: Threads + Wait + Sync>(
     let mut writer = FromStd::new(output_of(rt, output, &[&input])?);
     let mut reader = FromStd::new(input);
     let done = run(threads, rt.alloc(), &mut reader, &mut writer, options);
+    ended(writer.stream, done)
+}
+
+/// Shows a trace as text.
+fn displayed<'a>(
+    rt: &'a HostRuntime,
+    input: Input,
+    output: Option<&'a str>,
+    look: Look,
+) -> Result<(), Trouble<'a>> {
+    let mut writer = FromStd::new(output_of(rt, output, &[&input])?);
+    let mut reader = FromStd::new(input);
+    let done = run_show(rt.alloc(), &mut reader, &mut writer, look);
     ended(writer.stream, done)
 }
 

@@ -1,7 +1,7 @@
 use Rattle.std.proofs.Common.{◌∙◌, ap}
 use Rattle.std.proofs.lemmas.Result.{IfOk-weaker}
 use Rattle.clap.specs.Words.{with_rule, with_subcommand}
-use Rattle.replay_program.specs.Words.{check_command, depends_command, diff_command, rounds_command, second_argument, with_files, with_replays}
+use Rattle.replay_program.specs.Words.{check_command, depends_command, diff_command, rounds_command, second_argument, show_command, with_files, with_replays}
 use Rattle.replay_program.proofs.words.program.Goals as goal
 
 pub returns : goal.returns
@@ -10,9 +10,11 @@ returns c =
     let with_rounds = rw c.in_ok-command-2.was at (c.with_subcommand.ensures (with_files rounds_command) (c.with_files.ensures rounds_command c.rounds_command.ensures)) in
     let with_depends = rw c.in_ok-command-3.was at (c.with_subcommand-2.ensures (with_files depends_command) (c.with_files-2.ensures depends_command c.depends_command.ensures)) in
     let with_check = rw c.in_ok-command-4.was at (c.with_subcommand-3.ensures (with_files check_command) (c.with_files-3.ensures check_command c.check_command.ensures)) in
+    let with_show = rw c.in_ok-command-5.was at (c.with_subcommand-4.ensures (with_files show_command) (c.with_files-4.ensures show_command c.show_command.ensures)) in
     let diff = with_rule (with_files diff_command) second_argument in
     let reports = c.with_second.ensures (with_files diff_command) (c.with_files-reports.ensures diff_command c.diff_command.ensures) in
     let telling = with_depends ∙ ap (λ app. with_subcommand app (with_files depends_command).top) (with_rounds ∙ ap (λ app. with_subcommand app (with_files rounds_command).top) replays) in
-    IfOk-weaker c.with_subcommand-4.result _ _
-    (λ command h. h ∙ ap (λ app. with_subcommand app diff.top) (with_check ∙ ap (λ app. with_subcommand app (with_files check_command).top) telling))
-    (c.with_subcommand-4.ensures diff reports)
+    let reading = with_show ∙ ap (λ app. with_subcommand app (with_files show_command).top) (with_check ∙ ap (λ app. with_subcommand app (with_files check_command).top) telling) in
+    IfOk-weaker c.with_subcommand-5.result _ _
+    (λ command h. h ∙ ap (λ app. with_subcommand app diff.top) reading)
+    (c.with_subcommand-5.ensures diff reports)

@@ -1,0 +1,59 @@
+//! A trace as text, from a reader to a writer.
+ghost use Rattle.std.specs.Prelude.{◌≡◌, ◌≢◌, ◌+◌, ◌-◌, ◌^◌, ◌<◌, IfErr, IfOk, OnOk};
+ghost use Rattle.std.specs.Io.KnownBytes.{Keeps};
+ghost use Rattle.trace_text.specs.Shown.{text_of};
+ghost use Rattle.replay_program.specs.Runs.{TellsOfReading, most_taken, read_failures};
+ghost use Rattle.replay_program.specs.Runs.{write_failures};
+ghost use Rattle.replay_program.specs.Shows.{WritesShown, WritesShownPart};
+ghost use Rattle.replay_program.specs.Transfer.{ConsumesUpTo};
+
+use crate::fault::RunFault;
+use crate::session::{taken_trace, written};
+use crate::transfer::{Sink, Source};
+use replay_core::ReplayFault;
+use std::alloc::{AllocError, Global};
+use trace_format::Trace;
+use trace_text::{Look, show_text};
+
+/// Reads a trace and writes it as text. Nothing is written before the whole text is there, and the
+/// run ends at the first failure of either side.
+///
+/// # Errors
+///
+/// Trace where the input is none, Replay when out of memory, Read and Write at a call that failed.
+pub fn run_show<R: Source, W: Sink>(
+    alloc: Global,
+    reader: &mut R,
+    writer: &mut W,
+    look: Look,
+) -> Result<(), RunFault>
+    requires reader { R.failures reader.old < 2 ^ 64 - 1 }
+    requires writer { W.failures writer.old < 2 ^ 64 - 1 }
+
+    // The text is the one of the trace that the reader's bytes spell.
+    ensures done { OnOk result (WritesShown look (R.left reader.old) (R.left reader.new)
+        (W.written writer.old) (W.written writer.new)) }
+    ensures part { result ≡ Err RunFault.Write → WritesShownPart look (R.left reader.old)
+        (R.left reader.new) (W.written writer.old) (W.written writer.new) }
+    ensures nothing { IfErr result (λ fault. fault ≢ RunFault.Write
+        → Keeps (W.written writer.old) (W.written writer.new)) }
+
+    ensures taken { ConsumesUpTo most_taken (R.left reader.old) (R.left reader.new) }
+    ensures reading { IfErr result (TellsOfReading (R.left reader.old) (R.left reader.new)) }
+    ensures read { R.failures reader.new ≡ R.failures reader.old + read_failures result }
+    ensures write { W.failures writer.new ≡ W.failures writer.old + write_failures result }
+{
+    let trace = taken_trace(alloc, reader)?;
+    let text = shown_text(alloc, &trace, look)?;
+    written(writer, text.as_slice())
+}
+
+fn shown_text(alloc: Global, trace: &Trace, look: Look) -> Result<Vec<u8>, RunFault>
+    ensures ok { IfOk result (λ text. text.items ≡ text_of look trace.now) }
+    ensures err { IfErr result (λ fault. fault ≡ RunFault.Replay ReplayFault.Memory) }
+{
+    match show_text(alloc, trace, look) {
+        Ok(text) => Ok(text),
+        Err(AllocError) => Err(RunFault::Replay(ReplayFault::Memory)),
+    }
+}
