@@ -1,0 +1,384 @@
+"""The text of a trace by docs/TEXT.md alone, and what a text means: a second `show`, and the way back."""
+import re
+import struct
+from typing import Dict, Iterator, List, NamedTuple, Optional, Sequence, Tuple
+
+from traces import ENTRY, LINKAT, MKDIRAT, OPENAT, READV, RENAMEAT, UNLINKAT, WRITE, WRITEV
+from traces import description, descriptor_table, directory, enter, file, fill, head, name, ring, two_paths, with_side
+
+# The names of the operations by their numbers.
+OPERATIONS = """NOP READV WRITEV FSYNC READ_FIXED WRITE_FIXED POLL_ADD POLL_REMOVE SYNC_FILE_RANGE SENDMSG RECVMSG TIMEOUT TIMEOUT_REMOVE ACCEPT
+ASYNC_CANCEL LINK_TIMEOUT CONNECT FALLOCATE OPENAT CLOSE FILES_UPDATE STATX READ WRITE FADVISE MADVISE SEND RECV OPENAT2 EPOLL_CTL SPLICE
+PROVIDE_BUFFERS REMOVE_BUFFERS TEE SHUTDOWN RENAMEAT UNLINKAT MKDIRAT SYMLINKAT LINKAT MSG_RING FSETXATTR SETXATTR FGETXATTR GETXATTR SOCKET
+URING_CMD SEND_ZC SENDMSG_ZC READ_MULTISHOT WAITID FUTEX_WAIT FUTEX_WAKE FUTEX_WAITV FIXED_FD_INSTALL FTRUNCATE BIND LISTEN RECV_ZC EPOLL_WAIT
+READV_FIXED WRITEV_FIXED PIPE""".split()
+ENTRY_FLAGS = "FIXED_FILE IO_DRAIN IO_LINK IO_HARDLINK ASYNC BUFFER_SELECT CQE_SKIP_SUCCESS 0x80".split()
+# The fields of an entry in the order of its bytes, and how many bits each has; and the order of their words.
+KEYS = "opcode flags ioprio fd off addr len op_flags user_data buf_index personality file_index addr3 pad".split()
+BITS = dict(zip(KEYS, (8, 8, 16, 32, 64, 64, 32, 32, 64, 16, 16, 32, 64, 64)))
+ORDER = "fd off addr len op_flags buf_index file_index ioprio personality addr3 pad user_data".split()
+
+Table = Dict[str, int]
+OPEN = {"O_WRONLY": 1, "O_RDWR": 2, "O_CREAT": 0x40, "O_EXCL": 0x80, "O_NOCTTY": 0x100, "O_TRUNC": 0x200, "O_APPEND": 0x400, "O_NONBLOCK": 0x800,
+        "O_DSYNC": 0x1000, "O_DIRECT": 0x4000, "O_LARGEFILE": 0x8000, "O_DIRECTORY": 0x10000, "O_NOFOLLOW": 0x20000, "O_NOATIME": 0x40000,
+        "O_CLOEXEC": 0x80000, "O_PATH": 0x200000}
+TRANSFER = {"RWF_HIPRI": 1, "RWF_DSYNC": 2, "RWF_SYNC": 4, "RWF_NOWAIT": 8, "RWF_APPEND": 16}
+RENAME = {"RENAME_NOREPLACE": 1, "RENAME_EXCHANGE": 2, "RENAME_WHITEOUT": 4}
+LINK = {"AT_SYMLINK_FOLLOW": 0x400, "AT_EMPTY_PATH": 0x1000}
+ALLOCATE = {"FALLOC_FL_KEEP_SIZE": 1, "FALLOC_FL_PUNCH_HOLE": 2, "FALLOC_FL_COLLAPSE_RANGE": 8, "FALLOC_FL_ZERO_RANGE": 16, "FALLOC_FL_INSERT_RANGE": 32}
+ACCESSES = ("O_RDONLY", "O_WRONLY", "O_RDWR")
+
+
+class Style(NamedTuple):
+    """The name that a field has in an operation, and how its number is written."""
+
+    name: str
+    how: str
+    flags: Table = {}
+
+
+PLAIN = {"fd": "descriptor", "off": "offset", "addr": "hexadecimal", "op_flags": "hexadecimal", "addr3": "hexadecimal", "pad": "hexadecimal", "user_data": "wide"}
+OWN: Dict[str, Dict[str, Style]] = {
+    "FSYNC": {"op_flags": Style("fsync_flags", "flags", {"IORING_FSYNC_DATASYNC": 1})},
+    "FALLOCATE": {"len": Style("mode", "flags", ALLOCATE), "addr": Style("length", "decimal")},
+    "FTRUNCATE": {"off": Style("length", "offset")},
+    "OPENAT": {"fd": Style("dfd", "descriptor"), "len": Style("mode", "octal"), "op_flags": Style("open_flags", "flags", OPEN)},
+    "MKDIRAT": {"fd": Style("dfd", "descriptor"), "len": Style("mode", "octal")},
+    "UNLINKAT": {"fd": Style("dfd", "descriptor"), "op_flags": Style("unlink_flags", "flags", {"AT_REMOVEDIR": 0x200})},
+}
+for operation in ("READ", "WRITE", "READV", "WRITEV", "READ_FIXED", "WRITE_FIXED"):
+    OWN[operation] = {"op_flags": Style("rw_flags", "flags", TRANSFER)}
+for operation, own, bits in (("RENAMEAT", "rename_flags", RENAME), ("LINKAT", "hardlink_flags", LINK)):
+    OWN[operation] = {"fd": Style("old_dfd", "descriptor"), "off": Style("addr2", "hexadecimal"), "len": Style("new_dfd", "descriptor"), "op_flags": Style(own, "flags", bits)}
+
+# How many bytes a run has at least, a piece and a short text at most, and the longest path that stands for its item.
+LEAST_RUN, PIECE, LONGEST_PATH = 16, 64, 64
+ESCAPES = {10: "n", 9: "t", 13: "r", 0: "0", 34: '"', 92: "\\"}
+
+
+class Refused(Exception):
+    """A text that means no trace."""
+
+
+def operation_of(opcode: int) -> str:
+    return OPERATIONS[opcode] if opcode < len(OPERATIONS) else "OP_{}".format(opcode)
+
+
+def style_of(opcode: int, key: str) -> Style:
+    return OWN.get(operation_of(opcode), {}).get(key) or Style(key, PLAIN.get(key, "decimal"))
+
+
+# Words.
+
+
+def path_text(path: bytes) -> str:
+    return "".join(chr(it) if 0x21 <= it <= 0x7E and it != 0x5C else "\\x{:02x}".format(it) for it in path)
+
+
+def flags_text(number: int, table: Table) -> str:
+    names = {bit: it for it, bit in table.items()}
+    return "|".join(names.get(1 << it) or hex(1 << it) for it in range(32) if number >> it & 1)
+
+
+def number_text(number: int, style: Style) -> str:
+    signed = number - (1 << 32) if number >> 31 else number
+    if style.how == "flags":
+        return flags_text(number, style.flags) or "0"
+    if style.how == "octal":
+        return "0{:o}".format(number) if number else "0"
+    if style.how == "descriptor":
+        return "AT_FDCWD" if signed == -100 else str(signed)
+    if style.how == "offset" and number == (1 << 64) - 1:
+        return "-1"
+    return hex(number) if style.how == "hexadecimal" or style.how == "wide" and number >> 32 else str(number)
+
+
+def string_text(data: bytes) -> str:
+    letters = ("\\" + ESCAPES[it] if it in ESCAPES else chr(it) if 0x20 <= it <= 0x7E else "\\x{:02x}".format(it) for it in data)
+    return '"{}"'.format("".join(letters))
+
+
+def piece_text(data: bytes) -> str:
+    """A string, or digits where more than one byte of four is hidden."""
+    hidden = sum(not (0x20 <= it <= 0x7E or it in (9, 10, 13)) for it in data)
+    return string_text(data) if hidden <= len(data) // 4 else 'x"{}"'.format(data.hex())
+
+
+def pieces(data: bytes) -> Iterator[str]:
+    """Long runs of one byte with their count, and what is between them."""
+    start = 0
+    for run in re.finditer(rb"(.)\1*", data, re.S):
+        if run.end() - run.start() >= LEAST_RUN:
+            yield from plain(data[start : run.start()])
+            yield string_text(run[1]) + "*{}".format(len(run[0]))
+            start = run.end()
+    yield from plain(data[start:])
+
+
+def plain(data: bytes) -> Iterator[str]:
+    return (piece_text(data[at : at + PIECE]) for at in range(0, len(data), PIECE))
+
+
+def data_text(data: bytes, indent: str, most: Optional[int]) -> str:
+    front = data if most is None else data[:most]
+    gap = " " if len(front) <= PIECE else " \\\n" + indent
+    return "".join(gap + it for it in pieces(front)) + (" ..." if len(front) < len(data) else "")
+
+
+def slots_text(slots: Sequence[int]) -> str:
+    words, empty = [], 0
+    for slot in [*slots, None]:
+        if slot == 0:
+            empty += 1
+            continue
+        words += [] if not empty else ["-"] if empty == 1 else ["-*{}".format(empty)]
+        words += [] if slot is None else [str(slot - 1)]
+        empty = 0
+    return "".join(" " + it for it in words)
+
+
+# A trace as text.
+
+
+class Source:
+    """The bytes of a trace, from the front on."""
+
+    def __init__(self, trace: bytes) -> None:
+        self.left = trace
+
+    def bytes(self, count: int) -> bytes:
+        front, self.left = self.left[:count], self.left[count:]
+        return front
+
+    def numbers(self, form: str) -> Tuple[int, ...]:
+        return struct.unpack("<" + form, self.bytes(struct.calcsize("<" + form)))
+
+
+def node_text(paths: List[bytes], number: int) -> str:
+    return path_text(paths[number]) if len(paths[number]) <= LONGEST_PATH else "@{}".format(number)
+
+
+def side_of(fields: Dict[str, int], side: bytes) -> Tuple[str, bytes, int]:
+    """The words for what stands beside an entry, the bytes that are strings, and the length that is left out."""
+    opcode = fields["opcode"]
+    if opcode in (READV, WRITEV):
+        count = fields["len"] if fields["len"] <= 1024 else 0
+        lengths = struct.unpack("<{}Q".format(count), side[: 8 * count])
+        return " [{}]".format(",".join(map(str, lengths))) if count else "", side[8 * count :], count
+    if opcode in (OPENAT, UNLINKAT, MKDIRAT):
+        return " path=" + path_text(side), b"", 0
+    if opcode in (RENAMEAT, LINKAT):
+        (first,) = struct.unpack("<H", side[:2])
+        return " old={} new={}".format(path_text(side[2 : 2 + first]), path_text(side[2 + first :])), b"", 0
+    return "", side, len(side) if opcode == WRITE else 0
+
+
+def entry_text(packed: bytes, side: bytes, most: Optional[int]) -> str:
+    fields = dict(zip(KEYS, ENTRY.unpack(packed)))
+    fields["fd"] %= 1 << 32
+    beside, data, length = side_of(fields, side)
+    words = [operation_of(fields["opcode"]), *(it for bit, it in enumerate(ENTRY_FLAGS) if fields["flags"] >> bit & 1)]
+    text = "  " + " ".join(words)
+    for key in ORDER:
+        if fields[key] != (length if key == "len" else 0):
+            style = style_of(fields["opcode"], key)
+            text += " {}={}".format(style.name, number_text(fields[key], style))
+        text += beside if key == "fd" else ""
+    return text + data_text(data, "    ", most) + "\n"
+
+
+def show(trace: bytes, has_places: bool = False, most: Optional[int] = None) -> bytes:
+    """The text of a trace that is accepted."""
+    source = Source(trace)
+    source.bytes(8)
+    version, items, descriptions, rings, records, table = source.numbers("6I")
+    text, paths = ["uring-trace {}\n".format(version)], [b"/"]
+    text += [item_text(source, paths, most) for _ in range(items)]
+    for number in range(descriptions):
+        node, access, append, position = source.numbers("IBBQ")
+        words = [ACCESSES[access] + ("|O_APPEND" if append else ""), *(["pos={}".format(position)] if position else [])]
+        text.append("open {} {} {}\n".format(number, node_text(paths, node), " ".join(words)))
+    text += ["descriptors{}\n".format(slots_text(source.numbers("{}I".format(table))))] if table else []
+    text += [ring_text(source, number) for number in range(rings)]
+    place = 0
+    for _ in range(records):
+        lines, place = record_text(source, place, has_places, most)
+        text.append(lines)
+    return "".join(text).encode("latin1")
+
+
+def item_text(source: Source, paths: List[bytes], most: Optional[int]) -> str:
+    kind, length = source.numbers("BH")
+    path = source.bytes(length)
+    paths.append(path)
+    if kind == 1:
+        return "dir {}\n".format(path_text(path))
+    if kind == 3:
+        return "name {} of={}\n".format(path_text(path), node_text(paths, source.numbers("I")[0]))
+    size, stored = source.numbers("QI")
+    return "file {}{}{}\n".format(path_text(path), " size={}".format(size) if size != stored else "", data_text(source.bytes(stored), "  ", most))
+
+
+def ring_text(source: Source, number: int) -> str:
+    slots = source.numbers("{}I".format(*source.numbers("H")))
+    lines = ["ring {}\n".format(number), *(["  slots{}\n".format(slots_text(slots))] if slots else [])]
+    for buffer in range(*source.numbers("H")):
+        lines.append("  buffer {} 0x{:x} {}\n".format(buffer, *source.numbers("QI")))
+    return "".join(lines)
+
+
+def record_text(source: Source, place: int, has_places: bool, most: Optional[int]) -> Tuple[str, int]:
+    """The lines of a record, and the place behind it."""
+    kind, number = source.numbers("BB")
+    if kind == 1:
+        lines = ["enter {}\n".format(number)]
+        for _ in range(*source.numbers("H")):
+            lines += ["  # {}\n".format(place)] if has_places else []
+            packed = source.bytes(ENTRY.size)
+            lines.append(entry_text(packed, source.bytes(*source.numbers("I")), most))
+            place += 1
+        return "".join(lines), place
+    buffer, offset, length = source.numbers("HII")
+    comment = "# {}\n".format(place) if has_places else ""
+    at = " at={}".format(offset) if offset else ""
+    return "{}fill {} buffer={}{}{}\n".format(comment, number, buffer, at, data_text(source.bytes(length), "  ", most)), place + 1
+
+
+# What a text means.
+
+
+def lines_of(text: bytes) -> Iterator[List[str]]:
+    """The words of each line that has some. A line whose last word is a backslash goes on in the next."""
+    words: List[str] = []
+    for line in text.decode("latin1").split("\n"):
+        words += [it[0] for it in re.finditer(r'x?"(?:[^"\\]|\\.)*"\S*|#.*|\S+', line)]
+        words = words[:-1] if words and words[-1].startswith("#") else words
+        if words and words[-1] == "\\":
+            words.pop()
+        elif words:
+            yield words
+            words = []
+
+
+def path_of(word: str) -> bytes:
+    return re.sub(rb"\\x(..)", lambda it: bytes([int(it[1], 16)]), word.encode("latin1"), flags=re.S)
+
+
+def number_of(word: str, bits: int, table: Table) -> int:
+    total = 0
+    for part in word.split("|"):
+        if part in table:
+            total += table[part]
+        elif part == "AT_FDCWD":
+            total += (1 << bits) - 100
+        elif re.fullmatch(r"-\d+", part):
+            total += (1 << bits) + int(part)
+        else:
+            total += int(part, 16 if part.startswith("0x") else 8 if part.startswith("0") else 10)
+    if total >> bits:
+        raise Refused("{} has more than {} bits".format(word, bits))
+    return total
+
+
+def data_of(words: Sequence[str]) -> bytes:
+    data = b""
+    for word in words:
+        found = re.fullmatch(r'(x?)"(.*)"(?:\*(\d+))?', word, re.S)
+        if not found:
+            raise Refused("{} is no string".format(word))
+        letters = {it: bytes([byte]) for byte, it in ESCAPES.items()}
+        part = bytes.fromhex(found[2]) if found[1] else re.sub(
+            rb"\\(?:x(..)|(.))", lambda it: bytes([int(it[1], 16)]) if it[1] else letters[it[2].decode()], found[2].encode("latin1"), flags=re.S)
+        data += part * int(found[3] or 1)
+    return data
+
+
+def slots_of(words: Sequence[str]) -> List[int]:
+    slots: List[int] = []
+    for word in words:
+        empty = re.fullmatch(r"-(?:\*(\d+))?", word)
+        slots += [0] * int(empty[1] or 1) if empty else [int(word) + 1]
+    return slots
+
+
+class Text:
+    """What has been read of a text."""
+
+    def __init__(self) -> None:
+        self.paths: Dict[bytes, int] = {b"/": 0}
+        self.items: List[bytes] = []
+        self.descriptions: List[bytes] = []
+        self.table: List[int] = []
+        self.rings: List[Tuple[List[int], List[Tuple[int, int]]]] = []
+        self.records: List[Tuple[int, List[bytes], bytes]] = []
+
+    def node(self, word: str) -> int:
+        return int(word[1:]) if word.startswith("@") else self.paths[path_of(word)]
+
+    def line(self, words: List[str]) -> None:
+        head_, rest = words[0], words[1:]
+        keyed = {key: it.split("=", 1)[1] for key in ("size", "pos", "of", "buffer", "at") for it in rest if it.startswith(key + "=")}
+        strings = [it for it in rest if it.startswith(('"', 'x"'))]
+        if head_ in ("dir", "file", "name"):
+            path, data = path_of(rest[0]), data_of(strings)
+            size = int(keyed.get("size", len(data)))
+            self.items.append(directory(path) if head_ == "dir" else file(path, size, data) if head_ == "file" else name(path, self.node(keyed["of"])))
+            self.paths[path] = len(self.items)
+        elif head_ == "open":
+            access, _, append = rest[2].partition("|")
+            self.descriptions.append(description(self.node(rest[1]), ACCESSES.index(access), int(bool(append)), int(keyed.get("pos", 0))))
+        elif head_ == "descriptors":
+            self.table = slots_of(rest)
+        elif head_ == "ring":
+            self.rings.append(([], []))
+        elif head_ == "slots":
+            self.rings[-1][0].extend(slots_of(rest))
+        elif head_ == "buffer" and len(rest) == 3:
+            self.rings[-1][1].append((int(rest[1], 16), int(rest[2])))
+        elif head_ == "enter":
+            self.records.append((int(rest[0]), [], b""))
+        elif head_ == "fill":
+            self.records.append((0, [], fill(int(rest[0]), int(keyed["buffer"]), int(keyed.get("at", 0)), data_of(strings))))
+        else:
+            self.records[-1][1].append(entry_of(head_, rest))
+
+    def trace(self, version: int) -> bytes:
+        counts = (len(self.items), len(self.descriptions), len(self.rings), len(self.records), len(self.table))
+        records = [packed or enter(number, entries) for number, entries, packed in self.records]
+        return b"".join([head(*counts, version), *self.items, *self.descriptions, descriptor_table(self.table), *(ring(*it) for it in self.rings), *records])
+
+
+def entry_of(operation: str, words: Sequence[str]) -> bytes:
+    """The bytes of an entry, whose words may stand in any order."""
+    opcode = OPERATIONS.index(operation) if operation in OPERATIONS else int(operation.removeprefix("OP_"))
+    known = {style_of(opcode, key).name: (key, style_of(opcode, key).flags) for key in ORDER}
+    fields: Dict[str, int] = {"opcode": opcode, "flags": 0}
+    paths, lengths, strings = {}, [], []
+    for word in words:
+        key, _, value = word.partition("=")
+        if word in ENTRY_FLAGS:
+            fields["flags"] |= 1 << ENTRY_FLAGS.index(word)
+        elif word.startswith(('"', 'x"')):
+            strings.append(word)
+        elif word.startswith("["):
+            lengths = [int(it) for it in word[1:-1].split(",")]
+        elif key in ("path", "old", "new"):
+            paths[key] = path_of(value)
+        else:
+            fields[known[key][0]] = number_of(value, BITS[known[key][0]], known[key][1])
+    data = data_of(strings)
+    both = two_paths(paths["old"], paths["new"]) if "old" in paths else b""
+    side = struct.pack("<{}Q".format(len(lengths)), *lengths) + paths.get("path", b"") + both + data
+    length = len(data) if opcode == WRITE else len(lengths)
+    whole = {**dict.fromkeys(KEYS, 0), "len": length, **fields}
+    whole["fd"] -= (whole["fd"] >> 31) << 32
+    return with_side(ENTRY.pack(*(whole[key] for key in KEYS)), side)
+
+
+def make(text: bytes) -> bytes:
+    """The trace that a text means."""
+    read, lines = Text(), lines_of(text)
+    version = int(next(lines)[1])
+    for words in lines:
+        read.line(words)
+    return read.trace(version)

@@ -1,0 +1,109 @@
+"""Traces as text: `show` gives the text that model_text.py gives, and by that model the text means the trace, byte for byte. The traces are
+the examples, recorded ones, and drawn ones, half of them with any values in the fields of entries."""
+import os
+import random
+from functools import partial
+from typing import List, Optional
+
+import days
+import model_text
+import traces
+from drawing import Draw
+from harness import EXAMPLES, Answer, Job, Outcome, Program, difference, first, read
+
+# How many traces are drawn, in how many lots.
+DRAWN, LOTS = 3_000, 6
+OPCODES = (*range(64), 64, 255)
+NUMBERS = (0, 0, 0, 1, 2, 7, 63, 100, (1 << 31) - 1, 1 << 31, (1 << 32) - 100, (1 << 32) - 1, 1 << 32, (1 << 63) + 5, (1 << 64) - 1)
+PATHS = (b"/a", b"a/b c", b"", b"/\xff\\\n", b"/" + b"n" * 90, b"#", b'"')
+
+
+class Fields:
+    """Draws a trace of entries with any values in their fields."""
+
+    def __init__(self, seed: int) -> None:
+        self.source = random.Random(seed)
+
+    def number(self, bits: int) -> int:
+        return (self.source.choice(NUMBERS) if self.source.randrange(3) else self.source.getrandbits(bits)) % (1 << bits)
+
+    def data(self) -> bytes:
+        parts = [self.source.randbytes(self.source.randrange(30)), bytes([self.source.randrange(256)]) * self.source.randrange(80), b"text\tand\n\r\0\"\\more",
+                 b"x" * self.source.randrange(14, 18), b"abc" * self.source.randrange(40)]
+        return b"".join(self.source.sample(parts, self.source.randrange(len(parts) + 1)))
+
+    def entry(self) -> bytes:
+        opcode = self.source.choice(OPCODES)
+        length, side = self.number(32), b""
+        if opcode in (traces.READV, traces.WRITEV):
+            sizes = [self.source.randrange(9) for _ in range(self.source.randrange(4))]
+            data = self.source.randbytes(sum(sizes)) if opcode == traces.WRITEV else b""
+            length, side = len(sizes), b"".join(it.to_bytes(8, "little") for it in sizes) + data
+        elif opcode == traces.WRITE:
+            side = self.data()
+            length = len(side)
+        elif opcode in (traces.OPENAT, traces.UNLINKAT, traces.MKDIRAT):
+            side = self.source.choice(PATHS)
+        elif opcode in (traces.RENAMEAT, traces.LINKAT):
+            side = traces.two_paths(self.source.choice(PATHS), self.source.choice(PATHS))
+        descriptor = self.number(32) - (1 << 31) if self.source.randrange(2) else self.source.choice((0, 3, -1, traces.AT_FDCWD))
+        return traces.entry(opcode, self.number(8), descriptor, self.number(64), length, side, self.number(64), self.number(32), self.number(64), self.number(16),
+                            self.number(16), self.number(32), self.number(16), self.number(64), self.number(64))
+
+    def slots(self, most: int) -> List[int]:
+        return [self.source.choice((0, 0, 1, 2)) for _ in range(self.source.randrange(most))]
+
+    def trace(self) -> bytes:
+        long, data = b"/" + b"n" * 70, self.data()
+        items = [traces.directory(b"/d"), traces.file(long, len(data) + self.source.randrange(2), data), traces.name(b"/\xff", 2), traces.file(b"/f")]
+        described = [traces.description(self.source.choice((2, 4)), self.source.randrange(3), self.source.randrange(2), self.number(63)), traces.description(0, 0)]
+        table, slots = self.slots(30), self.slots(30)
+        ring = traces.ring(slots, [(1 << 40, 1_000), (0, 0)][: self.source.randrange(3)])
+        records = [traces.enter(0, [self.entry() for _ in range(self.source.randrange(6))]) for _ in range(self.source.randrange(4))]
+        front = traces.head(len(items), len(described), 1, len(records), len(table), 2)
+        return b"".join([front, *items, *described, traces.descriptor_table(table), ring, *records])
+
+
+def of_trace(program: Program, trace: bytes, most: int) -> Optional[str]:
+    """How what the program shows of a trace differs from the model, or from the trace, if it does."""
+    for words, has_places, part in ((["show"], False, None), (["show", "--places"], True, None), (["show", "--first", str(most)], False, most)):
+        text = model_text.show(trace, has_places, part)
+        told = difference(program.run(words, trace), Answer(0, text, b""))
+        if told or part is None and model_text.make(text) != trace:
+            return told or "the text means another trace"
+    return None
+
+
+def of_drawn(program: Program, seed: int) -> Optional[str]:
+    trace = Fields(seed).trace() if seed % 2 else Draw(seed).trace()
+    checked = program.run(["check"], trace)
+    return of_trace(program, trace, 1 + seed % 40) if checked.status == 0 else difference(program.run(["show"], trace), checked)
+
+
+def lot(program: Program, seeds: range) -> List[Outcome]:
+    faults = ["seed {}: {}".format(seed, told) for seed in seeds for told in [of_drawn(program, seed)] if told]
+    day = " of {}".format(days.written()) if seeds[0] >= days.SEEDS_A_DAY else ""
+    return [Outcome("texts of {} to {}{} by {}".format(seeds[0], seeds[-1], day, program.compiler), first(faults))]
+
+
+def of_examples(program: Program) -> List[Outcome]:
+    """The examples and recorded traces: those that are accepted are shown, the others refused in the same words."""
+    outcomes = []
+    for at, _, names in os.walk(EXAMPLES):
+        for name in sorted(it for it in names if it.endswith(".trace")):
+            trace = read(at, name)
+            told = name[: -len("trace")] + "refused"
+            if told in names:
+                fault = difference(program.run(["show"], trace), Answer(1, b"", read(at, told)))
+            else:
+                fault = of_trace(program, trace, 20)
+            outcomes.append(Outcome("the text of {} by {}".format(name, program.compiler), fault))
+    return outcomes
+
+
+def jobs(programs: List[Program]) -> List[Job]:
+    size = DRAWN // LOTS
+    starts = [at + back for back in (0, days.first_seed()) for at in range(0, DRAWN // 2, size)]
+    lots = [range(at, at + size) for at in starts]
+    found: List[Job] = [partial(of_examples, it) for it in programs]
+    return found + [partial(lot, program, it) for program in programs for it in (lots if program is programs[0] else lots[:1])]
