@@ -10,9 +10,9 @@ WORKERS = (1, 2, 4, 64)
 WINDOWS = (1, 2, 64, 4096)
 # What the second program compares with, and what `run`, which has no rounds where little is carried, is run with.
 FEW_PAIRS = ((2, 2), (4, 64))
-ENDINGS = (".trace", ".report", ".sums", ".check", ".rounds", ".waits", ".dot", ".depends", ".depends.dot", ".refused")
+ENDINGS = (".trace", ".report", ".sums", ".check", ".rounds", ".waits", ".dot", ".depends", ".depends.dot", ".text", ".refused")
 # What is told beside few examples, and the ending of the file that has it.
-TOLD = ((["rounds"], ".waits"), (["rounds", "--window", "64", "--dot"], ".dot"), (["depends"], ".depends"), (["depends", "--dot"], ".depends.dot"))
+TOLD = ((["rounds"], ".waits"), (["rounds", "--window", "64", "--dot"], ".dot"), (["depends"], ".depends"), (["depends", "--dot"], ".depends.dot"), (["show"], ".text"))
 
 
 def names() -> List[str]:
@@ -41,7 +41,7 @@ def commands(is_first: bool) -> Iterable[Tuple[List[str], str]]:
 
 
 def told(name: str) -> Iterable[Tuple[List[str], str]]:
-    """The same for `rounds` and `depends`, which have an answer beside few examples; what is refused is refused there too."""
+    """The same for `rounds`, `depends` and `show`, which have an answer beside few examples; what is refused is refused there too."""
     for words, ending in TOLD:
         if any(os.path.exists(os.path.join(EXAMPLES, name + it)) for it in (ending, ".refused")):
             yield words, ending
