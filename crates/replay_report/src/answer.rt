@@ -1,5 +1,4 @@
 //! What the line of an entry shows of its reply.
-ghost use Rattle.std.specs.Prelude.{◌≡◌};
 ghost use Rattle.replay_report.specs.RingTexts.{IsShown};
 
 use crate::entry_line::SHOWN;

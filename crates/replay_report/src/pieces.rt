@@ -1,5 +1,5 @@
 //! A long text in pieces, none of which is copied to lie behind another.
-ghost use Rattle.std.specs.Prelude.{◌≡◌, ◌++◌, IfOk, OnOk, take};
+ghost use Rattle.std.specs.Prelude.{◌≡◌, IfOk};
 ghost use Rattle.std.specs.List.{concat};
 
 use std::alloc::{AllocError, Global};

@@ -1,5 +1,5 @@
 //! The report of a replay, and the line of a check.
-ghost use Rattle.std.specs.Prelude.{◌≡◌, ◌≢◌, ◌++◌, IfOk, codes, length, slice_get};
+ghost use Rattle.std.specs.Prelude.{◌≡◌, ◌≢◌, ◌++◌, IfOk, codes, length};
 ghost use Rattle.replay_report.specs.Report.{check_line, line, report_of, world_lines};
 ghost use Rattle.std.specs.List.{concat};
 ghost use Rattle.replay_report.specs.Sums.{AreMade, AreSumsOf, shown_of};

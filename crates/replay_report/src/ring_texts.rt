@@ -1,8 +1,8 @@
 //! The lines of the entries of each ring, as they come.
-ghost use Rattle.std.specs.Prelude.{◌≡◌, ◌++◌, ◌≤◌, IfOk, OnOk, codes, length, map, slice_get};
+ghost use Rattle.std.specs.Prelude.{◌≡◌, ◌++◌, IfOk, OnOk, codes, length, map, slice_get};
 ghost use Rattle.std.specs.List.{concat, range_with_len};
 ghost use Rattle.trace_format.specs.Steps.{places, step_meant};
-ghost use Rattle.replay_report.specs.Report.{line, world_lines};
+ghost use Rattle.replay_report.specs.Report.{line};
 ghost use Rattle.replay_report.specs.RingTexts.{heading, texts_below, with_line};
 
 use crate::answer::Answer;
