@@ -54,6 +54,8 @@ piece_part a b c pieces i piece lt is so_far part =
     let n = part.0 in
     let split : concat pieces ≡ before ++ piece ++ rest =
     ap concat (sym (take-append-drop (i + 1) pieces)) ∙ concat-append (take (i + 1) pieces) (drop (i + 1) pieces) ∙ ap (λ text. text ++ rest) (concat_more pieces i piece lt is) in
-    let fits : length before + n ≤ length (before ++ piece) = omega (arith, length-append before piece, part.1) in
-    (length before + n, rw split (omega (arith, part.1, length-append before piece, length-append (before ++ piece) rest)),
-    rw (split, take-append-le (length before + n) (before ++ piece) rest fits, take-append-add before piece n) (Appends-trans a b c _ _ so_far part.2))
+    let fits : length before + n ≤ length (before ++ piece) = omega (arith, length-append before piece, part.1) in (
+      length before + n,
+      rw split (omega (arith, part.1, length-append before piece, length-append (before ++ piece) rest)),
+      rw (split, take-append-le (length before + n) (before ++ piece) rest fits, take-append-add before piece n) (Appends-trans a b c _ _ so_far part.2),
+    )

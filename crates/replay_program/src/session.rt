@@ -26,9 +26,7 @@ use depend_report::{depends_graph, depends_text};
 use replay_core::parallel::replay;
 use replay_core::quick::replay_quick;
 use replay_core::round_log::log_rounds;
-use replay_core::{
-    EagerGate, InOrder, InRounds, Replay, ReplayFault, Verdict, compared_by,
-};
+use replay_core::{EagerGate, InOrder, InRounds, Replay, ReplayFault, Verdict, compared_by};
 use replay_report::{Pieces, Shown, check_text, report_on as pieces_on};
 use round_report::{graph_text, rounds_text};
 use std::alloc::{AllocError, Global};

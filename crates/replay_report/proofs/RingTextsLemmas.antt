@@ -113,9 +113,9 @@ text_alike t f g names ring (suc n) same =
     let before = text_alike t f g names ring n (λ k lt. same k (omega (arith, lt))) in
     let last : line_in t f names ring n ≡ line_in t g names ring n = ap (λ r. each (λ step. each (step_line names ring n step) r) (step_at t n)) (same n (omega arith)) in
     rw add-one at (
-      sym (range_grown head (text_below t f names n ring) _ (line_in t f names ring) n refl refl)
-      ∙ ap (λ text. text ++ line_in t f names ring n) before ∙ ap (λ line. text_below t g names n ring ++ line) last
-      ∙ range_grown head (text_below t g names n ring) _ (line_in t g names ring) n refl refl)
+    sym (range_grown head (text_below t f names n ring) _ (line_in t f names ring) n refl refl)
+    ∙ ap (λ text. text ++ line_in t f names ring n) before ∙ ap (λ line. text_below t g names n ring ++ line) last
+    ∙ range_grown head (text_below t g names n ring) _ (line_in t g names ring) n refl refl)
 
 pub texts_alike : (t : Trace) (f g : ℕ → Option Reply) (names : Bool) (n rings : ℕ) → ((k : ℕ) → k < n → f k ≡ g k)
     → map (text_below t f names n) (range_with_len 0 rings) ≡ map (text_below t g names n) (range_with_len 0 rings)

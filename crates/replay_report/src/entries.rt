@@ -21,7 +21,14 @@ pub(crate) fn push_entry(
         ++ entry_line names place entry.now.sqe.user_data entry.now.sqe.opcode answer.now) }
 {
     let sqe = entry.sqe();
-    push_facts(text, place, sqe.user_data, answer.res, answer.posted, answer.front)?;
+    push_facts(
+        text,
+        place,
+        sqe.user_data,
+        answer.res,
+        answer.posted,
+        answer.front,
+    )?;
     push_names(text, sqe.opcode, answer.res, names)?;
     text.push(b'\n')?;
     Ok(())
