@@ -8,7 +8,7 @@ mod NumberWords
 mod OptionWalk
 mod InTurn
 mod Outputs
-mod Showing
+mod TextWrites
 mod RoundWords
 mod Verdicts
 mod WordsLemmas

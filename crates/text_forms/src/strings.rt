@@ -1,9 +1,10 @@
 //! Paths and strings at the end of a text.
-ghost use Rattle.std.specs.Prelude.{◌≡◌, ◌≤◌, ◌<◌, ◌++◌, ◌∷◌, [], OnOk, length, drop, take};
+ghost use Rattle.std.specs.Prelude.{◌≡◌, ◌≤◌, ◌<◌, ◌++◌, ◌∷◌, [], ◌+◌, ◌*◌, IsTrue, OnOk, drop, length, take};
+ghost use Rattle.std.specs.Prelude.{vec_capacity, vec_len};
 ghost use Rattle.std.specs.List.{count_by, flat_map};
 ghost use Rattle.text_forms.specs.Strings.{hex_byte, hex_escape, hex_text, is_hidden, path_byte, path_text};
 ghost use Rattle.text_forms.specs.Strings.{ended, escape_letter, most_plain, pieces, plain_pieces, plain_text};
-ghost use Rattle.text_forms.specs.Strings.{quoted_byte, run_text, string_text};
+ghost use Rattle.text_forms.specs.Strings.{is_visible, quoted_byte, run_text, string_text};
 
 use crate::words::{glyph, push_decimal};
 use std::alloc::AllocError;
@@ -22,6 +23,32 @@ const MOST_PLAIN: usize = 64;
 pub fn push_path(text: &mut Vec<u8>, path: &[u8]) -> Result<(), AllocError>
     ensures { OnOk result (text.new.items ≡ text.old.items ++ path_text path.now) }
 {
+    if are_visible(path) {
+        return text.extend_from_slice(path);
+    }
+    push_path_bytes(text, path)
+}
+
+/// Whether all bytes stand for themselves in a path. Each is looked at, so that many are at once.
+fn are_visible(path: &[u8]) -> bool
+    ensures { IsTrue result → path_text path.now ≡ path.now }
+{
+    let mut visible = true;
+    for byte in path {
+        visible = visible & is_visible(*byte);
+    }
+    visible
+}
+
+fn is_visible(byte: u8) -> bool
+    ensures { result ≡ is_visible byte }
+{
+    byte >= 33 && byte <= 126 && byte != b'\\'
+}
+
+fn push_path_bytes(text: &mut Vec<u8>, path: &[u8]) -> Result<(), AllocError>
+    ensures { OnOk result (text.new.items ≡ text.old.items ++ path_text path.now) }
+{
     for byte in path {
         push_path_byte(text, *byte)?;
     }
@@ -31,7 +58,7 @@ pub fn push_path(text: &mut Vec<u8>, path: &[u8]) -> Result<(), AllocError>
 fn push_path_byte(text: &mut Vec<u8>, byte: u8) -> Result<(), AllocError>
     ensures { OnOk result (text.new.items ≡ text.old.items ++ path_byte byte) }
 {
-    if byte >= 33 && byte <= 126 && byte != b'\\' {
+    if is_visible(byte) {
         push_byte(text, byte)
     } else {
         push_hex_escape(text, byte)
@@ -49,14 +76,7 @@ fn push_byte(text: &mut Vec<u8>, byte: u8) -> Result<(), AllocError>
 fn push_hex_escape(text: &mut Vec<u8>, byte: u8) -> Result<(), AllocError>
     ensures { OnOk result (text.new.items ≡ text.old.items ++ hex_escape byte) }
 {
-    text.extend_from_slice(&[b'\\', b'x'])?;
-    push_hex(text, byte)
-}
-
-fn push_hex(text: &mut Vec<u8>, byte: u8) -> Result<(), AllocError>
-    ensures { OnOk result (text.new.items ≡ text.old.items ++ hex_byte byte) }
-{
-    text.extend_from_slice(&[glyph(byte / 16), glyph(byte % 16)])
+    text.extend_from_slice(&[b'\\', b'x', glyph(byte / 16), glyph(byte % 16)])
 }
 
 /// Bytes between quotation marks.
@@ -69,6 +89,32 @@ pub fn push_string(text: &mut Vec<u8>, bytes: &[u8]) -> Result<(), AllocError>
 }
 
 fn push_quoted(text: &mut Vec<u8>, bytes: &[u8]) -> Result<(), AllocError>
+    ensures { OnOk result (text.new.items ≡ text.old.items ++ flat_map quoted_byte bytes.now) }
+{
+    if are_plain(bytes) {
+        return text.extend_from_slice(bytes);
+    }
+    push_quoted_bytes(text, bytes)
+}
+
+/// Whether all bytes stand for themselves in a string. Each is looked at, so that many are at once.
+fn are_plain(bytes: &[u8]) -> bool
+    ensures { IsTrue result → flat_map quoted_byte bytes.now ≡ bytes.now }
+{
+    let mut plain = true;
+    for byte in bytes {
+        plain = plain & is_plain(*byte);
+    }
+    plain
+}
+
+fn is_plain(byte: u8) -> bool
+    ensures { IsTrue result → quoted_byte byte ≡ byte ∷ [] }
+{
+    byte >= 32 && byte <= 126 && byte != b'"' && byte != b'\\'
+}
+
+fn push_quoted_bytes(text: &mut Vec<u8>, bytes: &[u8]) -> Result<(), AllocError>
     ensures { OnOk result (text.new.items ≡ text.old.items ++ flat_map quoted_byte bytes.now) }
 {
     for byte in bytes {
@@ -105,15 +151,28 @@ fn escape_letter(byte: u8) -> u8
     }
 }
 
-/// Bytes by their digits.
+/// Bytes of a piece by their digits.
 fn push_hex_string(text: &mut Vec<u8>, bytes: &[u8]) -> Result<(), AllocError>
+    requires { length bytes.now ≤ most_plain }
     ensures { OnOk result (text.new.items ≡ text.old.items ++ hex_text bytes.now) }
 {
     text.extend_from_slice(b"x\"")?;
+    text.reserve(2 * bytes.len())?;
     for byte in bytes {
-        push_hex(text, *byte)?;
+        push_hex(text, *byte);
     }
     push_byte(text, b'"')
+}
+
+/// The two digits of a byte, for which there is room.
+fn push_hex(text: &mut Vec<u8>, byte: u8)
+    requires { vec_len text.old + 2 ≤ vec_capacity text.old }
+    ensures items { text.new.items ≡ text.old.items ++ hex_byte byte }
+    ensures len { vec_len text.new ≡ vec_len text.old + 2 }
+    ensures capacity { vec_capacity text.new ≡ vec_capacity text.old }
+{
+    text.push_reserved(glyph(byte / 16));
+    text.push_reserved(glyph(byte % 16));
 }
 
 /// How many bytes a string shows by their digits.
@@ -132,11 +191,13 @@ fn hidden_count(bytes: &[u8]) -> usize
 fn is_hidden(byte: u8) -> bool
     ensures { result ≡ is_hidden byte }
 {
-    !(byte >= 32 && byte <= 126 || byte == b'\t' || byte == b'\n' || byte == b'\r')
+    let is_shown = byte >= 32 && byte <= 126 || byte == b'\t' || byte == b'\n' || byte == b'\r';
+    !is_shown
 }
 
-/// A string where at most one byte of four is hidden, else digits.
+/// A piece: a string where at most one byte of four is hidden, else digits.
 fn push_plain(text: &mut Vec<u8>, bytes: &[u8]) -> Result<(), AllocError>
+    requires { length bytes.now ≤ most_plain }
     ensures { OnOk result (text.new.items ≡ text.old.items ++ plain_text bytes.now) }
 {
     if hidden_count(bytes) <= bytes.len() / 4 {
@@ -165,7 +226,8 @@ fn push_plains(text: &mut Vec<u8>, before: &[u8], bytes: &[u8]) -> Result<(), Al
 /// The bytes of the first plain piece.
 #[tactic(auto, using(std::proofs::lemmas::List::take_min))]
 fn front(bytes: &[u8]) -> &[u8]
-    ensures { result.now ≡ take most_plain bytes.now }
+    ensures front { result.now ≡ take most_plain bytes.now }
+    ensures few { length result.now ≤ most_plain }
 {
     &bytes[..MOST_PLAIN.min(bytes.len())]
 }

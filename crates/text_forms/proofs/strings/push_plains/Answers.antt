@@ -11,7 +11,7 @@ returns-then-is_empty c =
 pub loop-count-preserved : goal.loop-count-preserved
 loop-count-preserved c =
     let text : c.push_plain.new.text.items ≡ (c.loop-count.text.items ++ c.args.before.now) ++ plain_text (take 64 c.loop-count.rest.now) =
-    c.in_ok-push_plain.ensures ∙ ap (λ (l : List ℕ). c.extend_from_slice.new.self.items ++ plain_text l) c.front.ensures ∙ ap (λ (l : List ℕ). l ++ plain_text (take 64 c.loop-count.rest.now)) (c.in_ok-extend_from_slice.ensures.items) in
+    c.in_ok-push_plain.ensures ∙ ap (λ (l : List ℕ). c.extend_from_slice.new.self.items ++ plain_text l) c.front.ensures.front ∙ ap (λ (l : List ℕ). l ++ plain_text (take 64 c.loop-count.rest.now)) (c.in_ok-extend_from_slice.ensures.items) in
     ap (λ (l : List ℕ). l ++ plains c.args.before.now (length c.args.bytes.now - (c.loop-count.count + 1)) c.behind_front-rest.result.now) text
     ∙ ap (λ (l : List ℕ). ((c.loop-count.text.items ++ c.args.before.now) ++ plain_text (take 64 c.loop-count.rest.now)) ++ plains c.args.before.now (length c.args.bytes.now - (c.loop-count.count + 1)) l) c.behind_front-rest.ensures
     ∙ plain_goes c.args.before.now c.loop-count.rest.now c.loop-count.text.items _ (length c.args.bytes.now) c.loop-count.count c.loop-count-test.true (sym c.is_empty.ensures ∙ c.if-is_empty.false) c.loop-count.invariant
