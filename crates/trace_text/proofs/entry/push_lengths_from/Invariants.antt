@@ -1,4 +1,4 @@
-use Rattle.std.proofs.Common.{◌≡◌, ◌≤◌, ◌+◌, ◌-◌, ◌*◌, ◌++◌, take, drop, length, false}
+use Rattle.std.proofs.Common.{◌≡◌, ◌≤◌, ◌-◌, ◌*◌, ◌++◌, length}
 use Rattle.trace_text.specs.Entry.{lengths_from}
 use Rattle.trace_text.proofs.entry.push_lengths_from.Given as goal
 

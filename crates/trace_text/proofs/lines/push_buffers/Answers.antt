@@ -1,6 +1,6 @@
-use Rattle.std.proofs.Common.{◌≡◌, ◌<◌, ◌+◌, length, sym, arith}
+use Rattle.std.proofs.Common.{arith}
 use Rattle.trace_text.specs.Shown.{buffer_line}
-use Rattle.trace_text.proofs.Adds.{numbered_at, numbered_adds}
+use Rattle.trace_text.proofs.Adds.{numbered_at}
 use Rattle.trace_text.proofs.lines.push_buffers.Goals as goal
 
 pub loop-number-preserved : goal.loop-number-preserved

@@ -1,4 +1,4 @@
-use Rattle.std.proofs.Common.{◌≡◌, ◌≤◌, ◌+◌, ◌-◌, ◌*◌, ◌++◌, take, drop, length, false}
+use Rattle.std.proofs.Common.{◌≡◌, ◌++◌, take}
 use Rattle.trace_text.specs.Shown.{description_line, numbered}
 use Rattle.trace_text.proofs.lines.push_descriptions.Given as goal
 

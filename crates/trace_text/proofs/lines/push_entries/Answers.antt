@@ -1,7 +1,7 @@
-use Rattle.std.proofs.Common.{◌≡◌, ◌<◌, ◌+◌, length, sym, arith}
+use Rattle.std.proofs.Common.{◌<◌, ◌+◌, length, sym, arith}
 use Rattle.std.proofs.lemmas.Option.{get_or_from_slice_get}
 use Rattle.trace_text.specs.Entry.{entry_line}
-use Rattle.trace_text.proofs.Adds.{numbered_at, numbered_adds}
+use Rattle.trace_text.proofs.Adds.{numbered_adds}
 use Rattle.trace_text.proofs.lines.push_entries.Goals as goal
 
 pub loop-number-preserved : goal.loop-number-preserved

@@ -1,4 +1,4 @@
-use Rattle.std.proofs.Common.{◌≡◌, ◌≤◌, ◌+◌, ◌-◌, ◌*◌, ◌++◌, take, drop, length, false}
+use Rattle.std.proofs.Common.{◌≡◌, ◌++◌, take}
 use Rattle.trace_text.specs.Shown.{numbered}
 use Rattle.trace_text.specs.Entry.{entry_line}
 use Rattle.trace_text.proofs.lines.push_entries.Given as goal

@@ -1,4 +1,4 @@
-use Rattle.std.proofs.Common.{◌≡◌, List, ℕ, sym, ap, ◌∙◌}
+use Rattle.std.proofs.Common.{sym, ap, ◌∙◌}
 use Rattle.trace_text.specs.Names.{flag_name, flag_names}
 use Rattle.trace_text.proofs.names.flag_name.Goals as goal
 

@@ -1,4 +1,4 @@
-use Rattle.std.proofs.Common.{◌≡◌, ◌≤◌, ◌+◌, ◌-◌, ◌*◌, ◌++◌, take, drop, length, false}
+use Rattle.std.proofs.Common.{◌≡◌, ◌-◌, ◌++◌}
 use Rattle.trace_text.specs.Names.{entry_flags, entry_flags_from}
 use Rattle.trace_text.proofs.names.push_entry_flags.Given as goal
 

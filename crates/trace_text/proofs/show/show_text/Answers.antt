@@ -1,13 +1,13 @@
-use Rattle.std.proofs.Common.{◌≡◌, ℕ, List, OnOk, [], ◌++◌}
+use Rattle.std.proofs.Common.{◌≡◌, ℕ, List, [], ◌++◌}
 use Rattle.std.specs.Prelude.{codes}
 use Rattle.std.specs.Fmt.{decimal}
-use Rattle.std.proofs.Common.{◌≤◌, arith, sym, ◌∙◌}
+use Rattle.std.proofs.Common.{◌≤◌, arith}
 use Rattle.std.specs.List.{flat_map}
 use Rattle.trace_format.specs.Versions.{rules}
 use Rattle.trace_format.specs.Counts.{places_in, places_limit}
 use Rattle.trace_format.proofs.Spots.{length-steps_from}
 use Rattle.trace_text.specs.Shown.{text_of, item_line, numbered, description_line, slots_line, ring_lines, records_from}
-use Rattle.trace_text.proofs.Adds.{add, add_last}
+use Rattle.trace_text.proofs.Adds.{add}
 use Rattle.trace_text.proofs.show.show_text.Goals as goal
 
 pub push_records-requires : goal.push_records-requires
