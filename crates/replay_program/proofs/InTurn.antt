@@ -1,5 +1,5 @@
 -- The texts of the rings, made as the places run in recorded order, make the report of the sequential run.
-use Rattle.std.proofs.Common.{◌≡◌, ℕ, ◌<◌, List, ◌++◌, map, length, Some, sym, ap, ◌∙◌}
+use Rattle.std.proofs.Common.{◌≡◌, ℕ, ◌<◌, List, ◌++◌, length, sym, ap, ◌∙◌}
 use Rattle.std.specs.List.{concat, flat_map, range_with_len, slice_get}
 use Rattle.std.specs.Prelude.{codes}
 use Rattle.trace_format.specs.declared.trace.Trace.{Trace}

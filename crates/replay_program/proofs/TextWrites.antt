@@ -1,5 +1,5 @@
 -- What showing a trace wrote, by the trace that was read.
-use Rattle.std.proofs.Common.{◌≡◌, ℕ, List, Result, Err, ap, sym, subst}
+use Rattle.std.proofs.Common.{◌≡◌, ℕ, List, Result, Err, subst}
 use Rattle.std.specs.Prelude.{Option, OnErr, OnOk, ⊤}
 use Rattle.std.specs.Io.KnownBytes.{Appends}
 use Rattle.std.proofs.lemmas.Result.{IfErr-at_err, on_ok_weaker}

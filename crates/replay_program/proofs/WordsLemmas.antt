@@ -20,6 +20,7 @@ use Rattle.clap.specs.declared.error.kind.ErrorKind.TheVariants.{DisplayHelp, Di
 use Rattle.clap.specs.declared.parser.matches.ArgMatches.{ArgMatches}
 use Rattle.clap.specs.declared.parser.matches.ArgMatches.TheViews.{out-ArgMatches}
 use Rattle.clap.proofs.OnLiterals.{clap_on_literals}
+use Rattle.trace_text.specs.declared.look.Look.{Look}
 use Rattle.replay_program.specs.declared.words.Mode.{Mode}
 use Rattle.replay_program.specs.declared.words.Mode.TheVariants.{Serial, Run, Compare, Rounds, Depends, Check}
 use Rattle.replay_program.specs.declared.words.Options.{Options}
@@ -30,7 +31,7 @@ use Rattle.replay_program.specs.declared.words.UsageKind.TheVariants.{Memory}
 use Rattle.replay_report.specs.declared.showing.Shown.{Shown}
 use Rattle.replay_report.specs.declared.showing.SumsShown.{SumsShown}
 use Rattle.replay_report.specs.declared.showing.SumsShown.TheVariants as shows
-use Rattle.replay_program.specs.Words.{AreFound, AreRoundOptions, AskFor, AskForHelp, AskForMode, AskForVersion, HasNoFiles, HasNumbers, HasShown, HasSums, IsFound, IsNamed, IsNumberOption, dot_words, places_words, flag_text, kind_meant, name_in, plain, replayer, shown_words, text_in}
+use Rattle.replay_program.specs.Words.{AreFound, AreRoundOptions, AskFor, AskForHelp, AskForMode, AskForVersion, HasLook, HasNoFiles, HasNumbers, HasShown, HasSums, IsFound, IsNamed, IsTaskFound, IsNumberOption, dot_words, places_words, flag_text, kind_meant, name_in, plain, replayer, shown_words, text_in}
 use Rattle.replay_program.specs.Limits.{IsWindow}
 use Rattle.replay_program.proofs.NumberWords.{accepted, number_is_value}
 use Rattle.replay_program.proofs.OptionWalk.{at, level_by_parts, stopped_at, stopped_passes, stopped_walk, takes_by_parts}
@@ -252,7 +253,7 @@ task_found : (t : Task) (words : List (List ℕ)) → AskFor t words → IsFound
 unfolding clap_on_literals
 task_found (Replay o) words e = (options_found o.mode o.shown words e, files_found o.mode o.shown words e)
 task_found Diff words e = rw e (refl, (refl, refl, refl))
-task_found (Show look) words e = rw e.1 ((show_found look.places).0, ((show_found look.places).1, e.0, (show_found look.places).2), show_files look.places)
+task_found (Show look) words e = rw e.1 (((show_found look.places).0, ((show_found look.places).1, e.0, (show_found look.places).2)), show_files look.places)
 
 task_taken : (t : Task) (words : List (List ℕ)) → AskFor t words → takes replayer words ≡ true
 unfolding clap_on_literals
@@ -293,6 +294,11 @@ rows_at : (id : List ℕ) (found : Option (List ℕ × List Row)) (rows : List R
     → one_of id rows ≡ Some text
 rows_at id None rows text there value = cc
 rows_at id (Some p) rows text there value = let e : p.1 ≡ rows = cc in rw (← e) value
+
+-- and one that is not among them
+no_text_at : (id : List ℕ) (found : Option (List ℕ × List Row)) (rows : List Row) → option_map (λ p. p.1) found ≡ Some rows → text_in id found ≡ None → one_of id rows ≡ None
+no_text_at id None rows there none = cc
+no_text_at id (Some p) rows there none = let e : p.1 ≡ rows = cc in rw (← e) none
 
 -- a name of a file among them
 none_at : (id : List ℕ) (found : Option (List ℕ × List Row)) (rows : List Row) → Some rows ≡ option_map (λ p. p.1) found → name_in id found ≡ None → first_of id rows ≡ None
@@ -388,6 +394,17 @@ other_names e = let first : 115 ≡ 114 = ap (λ (xs : List ℕ). slice_index xs
 compared_is_no_dependence : codes "compare" ≡ codes "depends" → ⊥
 compared_is_no_dependence e = let first : 99 ≡ 100 = ap (λ (xs : List ℕ). slice_index xs 0) e in omega (arith, first)
 
+show_is_no_mode : (mode : Mode) → codes "show" ≡ name_of mode → ⊥
+show_is_no_mode Serial e = absurd (cc e)
+show_is_no_mode (Run w v eager) e = absurd (cc e)
+show_is_no_mode (Compare w v eager) e = absurd (cc e)
+show_is_no_mode (Rounds v dot) e = absurd (cc e)
+show_is_no_mode (Depends dot) e = absurd (cc e)
+show_is_no_mode Check e = absurd (cc e)
+
+show_is_no_diff : codes "show" ≡ codes "diff" → ⊥
+show_is_no_diff e = let first : 115 ≡ 100 = ap (λ (xs : List ℕ). slice_index xs 0) e in omega (arith, first)
+
 module _ (m chosen : ArgMatches) (rows : IsChosen m chosen) where
   flag_is : (id : List ℕ) (flag sums : Bool) → ReadsFlag chosen id flag → text_in id (subcommand_rows_of m) ≡ Some (flag_text sums) → flag ≡ sums
   flag_is id flag sums read found = read_as_flag flag sums (one_text (found_of chosen) id) (text_is m chosen id (flag_text sums) rows found) read.0 read.1
@@ -461,6 +478,15 @@ module _ (m chosen : ArgMatches) (rows : IsChosen m chosen) where
   depends_chosen flag (Compare w v e) shown name read h = absurd (compared_is_no_dependence (sym (same_Some _ _ (sym name ∙ found_name m (Compare w v e) shown h))))
   depends_chosen flag (Rounds v dot) shown name read h = let same : codes "depends" ≡ codes "rounds" = same_Some _ _ (sym name ∙ found_name m (Rounds v dot) shown h) in absurd (cc same)
   depends_chosen flag Check shown name read h = let same : codes "depends" ≡ codes "check" = same_Some _ _ (sym name ∙ found_name m Check shown h) in absurd (cc same)
+
+  -- how a trace is shown, where it is `show`
+  pub look_chosen : (given : Look) (task : Task) → subcommand_name_of m ≡ Some (codes "show") → ((look : Look) → HasLook look (one_text (found_of chosen)) → given ≡ look)
+      → IsTaskFound task (subcommand_rows_of m) → ◌≡◌ {A = Task} (Show given) task
+  look_chosen given (Replay options) name read h = absurd (show_is_no_mode options.mode (same_Some _ _ (sym name ∙ found_name m options.mode options.shown h)))
+  look_chosen given Diff name read h = absurd (show_is_no_diff (same_Some _ _ (sym name ∙ sym (named m) ∙ h)))
+  look_chosen given (Show look) name read h =
+      let no_first = one_text-rows (found_of chosen) (codes "first") ∙ no_text_at (codes "first") (subcommand_rows_of m) (rows_of (found_of chosen)) (sym rows) h.1.2 in
+      ap Show (read look (text_is m chosen (codes "places") (flag_text look.places) rows h.1.0, h.1.1, no_first))
 
 -- a number in decimal is read as that number
 pub read_number : {E : Type 0} (G : List ℕ → Result ℕ E → Type 0) (n : ℕ) (r : Option ℕ) → ReadsOne G (decimal n) r → ((u : List ℕ) (x : Result ℕ E) → G u x → ParsesUnsigned 32 10 u x) → n < 2 ^ 32 → r ≡ Some n

@@ -1,5 +1,5 @@
 -- The model: what showing a trace does to its reader and its writer.
-use Rattle.std.specs.Prelude.{◌≡◌, List, Option, ℕ}
+use Rattle.std.specs.Prelude.{List, Option, ℕ}
 use Rattle.std.specs.Io.KnownBytes.{Appends}
 use Rattle.trace_format.specs.declared.trace.Trace as trace
 use Rattle.trace_text.specs.Shown.{text_of}

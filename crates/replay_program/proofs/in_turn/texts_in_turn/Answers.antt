@@ -3,7 +3,7 @@ use Rattle.chain_plan.proofs.Walk.{role_in}
 use Rattle.trace_format.specs.Steps.{step_meant}
 use Rattle.op_meaning.specs.Step.{sequential_reply, step_reply, step_world}
 use Rattle.replay_core.proofs.Places.{HasPlace, next_has}
-use Rattle.replay_report.proofs.RingTextsLemmas.{answer_walked, texts_none}
+use Rattle.replay_report.proofs.RingTextsLemmas.{answer_walked}
 use Rattle.replay_program.proofs.in_turn.texts_in_turn.Goals.{After-role}
 use Rattle.replay_program.proofs.in_turn.texts_in_turn.Goals as goal
 
@@ -26,3 +26,19 @@ pub run_on_state-requires-clause-role : goal.run_on_state-requires-clause-role
 run_on_state-requires-clause-role c =
     let has = has_place (goal.at.run_on_state-requires-clause-role c).After-role in
     role_in c.args.trace.now c.if-place-end.plan c.loop-place.place _ has.stretch has.from c.role.ensures.at_place
+
+pub loop-place-preserved : goal.loop-place-preserved
+loop-place-preserved c =
+    let t = c.args.trace.now in
+    let k = c.loop-place.place in
+    let has = has_place (goal.at.loop-place-preserved c).After-role in
+    let answers = sym (c.in_ok-reply.ensures.reply ∙ ap (step_reply t k) c.loop-place.invariant.state) in
+    record {
+      state = rw add-one (c.in_ok-reply.ensures.state ∙ ap (step_world t k) c.loop-place.invariant.state);
+      texts = c.in_ok-push.ensures
+          ∙ answer_walked t (sequential_reply t) c.args.names k (length t.rings) (step_meant c.step.result) c.of.result c.in_ok-reply.reply c.loop-place.texts
+          c.step.ensures answers c.of.ensures c.loop-place.invariant.texts;
+      stretch = has.stretch;
+      from = omega (arith, has.from);
+      within = omega (arith, has.within);
+    }

@@ -1,4 +1,4 @@
-use Rattle.std.proofs.Common.{sym, subst}
+use Rattle.std.proofs.Common.{subst}
 use Rattle.std.proofs.KnownBytes.{Keeps-refl}
 use Rattle.replay_program.specs.Runs.{IsOutputOf}
 use Rattle.replay_program.proofs.Faults.{gives_nothing, not_by, by, reads, writes, adds_none}
@@ -79,15 +79,14 @@ pub returns : goal.returns
 returns g c =
     let t = c.in_ok-trace.trace.value in
     let read = c.in_ok-trace.ensures.ok in
-    let told = subst (λ trace. IsOutputOf c.args.options.now trace c.in_ok-output.output.items) c.deref-2.ensures c.in_ok-output.ensures.ok in
-    let bytes = subst (IsOutputOf c.args.options.now t) (sym c.as_slice.ensures.value) told in
+    let told = subst (λ trace. IsOutputOf c.args.options.now trace c.in_ok-output.output) c.deref-2.ensures c.in_ok-output.ensures.ok in
     record {
-      done = whole c.args.options.now _ _ _ _ t _ _ read bytes c.written.ensures.ok;
-      part = part c.args.options.now _ _ _ _ t _ _ read bytes c.written.ensures.part;
-      nothing = writes_alone _ _ c.written.ensures.err;
+      done = whole c.args.options.now _ _ _ _ t _ _ read told c.written_pieces.ensures.ok;
+      part = part c.args.options.now _ _ _ _ t _ _ read told c.written_pieces.ensures.part;
+      nothing = writes_alone _ _ c.written_pieces.ensures.err;
       taken = c.in_ok-trace.ensures.taken;
-      reading = tells_read _ _ t _ read c.written.ensures.err;
-      read = reads_well _ _ _ c.written.ensures.err c.in_ok-trace.ensures.read;
-      write = c.written.ensures.write;
-      same = writes_no_difference _ c.written.ensures.err;
+      reading = tells_read _ _ t _ read c.written_pieces.ensures.err;
+      read = reads_well _ _ _ c.written_pieces.ensures.err c.in_ok-trace.ensures.read;
+      write = c.written_pieces.ensures.write;
+      same = writes_no_difference _ c.written_pieces.ensures.err;
     }

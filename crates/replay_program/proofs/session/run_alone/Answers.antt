@@ -1,4 +1,4 @@
-use Rattle.std.proofs.Common.{inl, sym, subst}
+use Rattle.std.proofs.Common.{inl, subst}
 use Rattle.std.proofs.KnownBytes.{Keeps-refl}
 use Rattle.replay_program.proofs.Faults.{gives_nothing, not_by, by, reads, writes, adds_none}
 use Rattle.replay_program.proofs.Outputs.{is_no_write, wants_no_write, wants_tells, wants_reads, wants_writes, tells_read, reads_well, writes_alone, whole, part}
@@ -39,22 +39,20 @@ returns-in_err-output g c =
 pub returns-clause-done : goal.returns-clause-done
 returns-clause-done g c =
     let t = c.in_ok-trace.trace.value in
-    let told = subst (λ trace. IsOutputOf c.args.options.now trace c.in_ok-output.output.items) c.deref.ensures c.in_ok-output.ensures.ok in
-    let bytes = subst (IsOutputOf c.args.options.now t) (sym c.as_slice.ensures.value) told in
-    whole c.args.options.now _ _ _ _ t _ _ c.in_ok-trace.ensures.ok bytes c.written.ensures.ok
+    let told = subst (λ trace. IsOutputOf c.args.options.now trace c.in_ok-output.output) c.deref.ensures c.in_ok-output.ensures.ok in
+    whole c.args.options.now _ _ _ _ t _ _ c.in_ok-trace.ensures.ok told c.written_pieces.ensures.ok
 
 pub returns-clause-part : goal.returns-clause-part
 returns-clause-part g c =
     let t = c.in_ok-trace.trace.value in
-    let told = subst (λ trace. IsOutputOf c.args.options.now trace c.in_ok-output.output.items) c.deref.ensures c.in_ok-output.ensures.ok in
-    let bytes = subst (IsOutputOf c.args.options.now t) (sym c.as_slice.ensures.value) told in
-    part c.args.options.now _ _ _ _ t _ _ c.in_ok-trace.ensures.ok bytes c.written.ensures.part
+    let told = subst (λ trace. IsOutputOf c.args.options.now trace c.in_ok-output.output) c.deref.ensures c.in_ok-output.ensures.ok in
+    part c.args.options.now _ _ _ _ t _ _ c.in_ok-trace.ensures.ok told c.written_pieces.ensures.part
 
 pub returns-clause-nothing : goal.returns-clause-nothing
-returns-clause-nothing g c = writes_alone _ _ c.written.ensures.err
+returns-clause-nothing g c = writes_alone _ _ c.written_pieces.ensures.err
 
 pub returns-clause-reading : goal.returns-clause-reading
-returns-clause-reading g c = tells_read _ _ c.in_ok-trace.trace.value _ c.in_ok-trace.ensures.ok c.written.ensures.err
+returns-clause-reading g c = tells_read _ _ c.in_ok-trace.trace.value _ c.in_ok-trace.ensures.ok c.written_pieces.ensures.err
 
 pub returns-clause-read : goal.returns-clause-read
-returns-clause-read g c = reads_well _ _ _ c.written.ensures.err c.in_ok-trace.ensures.read
+returns-clause-read g c = reads_well _ _ _ c.written_pieces.ensures.err c.in_ok-trace.ensures.read
