@@ -1,5 +1,6 @@
 """Devices that fail: each read and each write fails, is interrupted, would block, moves one byte or none."""
 import os
+import re
 from functools import partial
 from typing import Callable, List
 
@@ -16,6 +17,13 @@ WHOLE = ((["serial"], INPUT), (["serial"], OUTPUT), (["run"], INPUT), (["check"]
 STEP = 7
 # Help is printed in pieces of so many bytes.
 PIECE = 1024
+
+
+def begins(output: bytes) -> List[int]:
+    """Where the pieces begin in which an output is written: a report's first line, each of its rings, and the rest. Any other is one piece."""
+    if not output.startswith(b"uring-report"):
+        return [0]
+    return [0, *(it.start() + 1 for it in re.finditer(rb"\n(?=ring \d+\n|tree\n)", output))]
 
 
 def changed(calls: int, is_whole: bool) -> List[int]:
@@ -38,6 +46,7 @@ def allowed(on: int, how: str, at: int, is_byte: bool, calls: int, is_help: bool
         taken = moved if is_byte else given * (at > 1)
         return [wanted if taken == given else ended(taken)]
     if on == OUTPUT:
+        moved = moved if is_byte or is_help else begins(wanted.output)[at - 1]
         lost = Answer(3, wanted.output[:moved], b"fault: write\n")
     else:
         lost = wanted._replace(errors=wanted.errors[:moved])
