@@ -8,6 +8,8 @@ from harness import Answer, Input, Job, Outcome, Program, Words, fault, first, i
 from shims import Shim
 
 TRACES = ("read_four_bytes", "open_write_close_chain_then_empty_slot", "fallocate_and_ftruncate_tests", "side_bytes_of_read")
+# Of version 3, for `check`.
+RECORDS = "version_3/rings_of_one_queue"
 MODES = (["serial"], ["serial", "--sums"], ["check"], ["run"], ["compare"], ["rounds"], ["depends"], ["diff"])
 WORDS_ALONE: List[Words] = [["--help"], ["run", "--help"], ["serial", "a", "extra"], ["run", "--workers", "65"], ["serial", b"\xff"]]
 FAILURES = ("fail", "interrupt", "block", "zero")
@@ -91,6 +93,7 @@ def jobs(programs: List[Program]) -> List[Job]:
         return [partial(skipped, "failing devices", lacking)]
     whole, *others = programs
     cases = [(whole, words, trace, on) for words in MODES for trace in TRACES for on in (INPUT, OUTPUT, ERRORS)]
+    cases += [(whole, ["check"], RECORDS, on) for on in (INPUT, OUTPUT, ERRORS)]
     cases += [(other, words, TRACES[0], on) for other in others for words in MODES for on in (INPUT, OUTPUT)]
     cases += [(program, words, "", on) for program in programs for words in WORDS_ALONE for on in (OUTPUT, ERRORS)]
     return [partial(swept, shim, *case, is_byte) for case in cases for is_byte in (False, True)]

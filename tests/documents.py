@@ -32,6 +32,7 @@ PLAIN = (
     "docs/GUARANTEES.md",
     "docs/GUIDE.md",
     "docs/INTERLEAVING.md",
+    "docs/JSON.md",
     "docs/LINUX.md",
     "docs/MODEL.md",
     "docs/NEXT.md",
@@ -226,8 +227,8 @@ def transcripts(name: str, program: Program) -> List[Outcome]:
     no_recorder = place.lacking_recorder()
     for number, (kind, body) in enumerate(FENCED.findall(text_of(name)), 1):
         label = "{}: transcript {}".format(name, number)
-        source = re.match(r"/\* (\w+\.c):", body)
-        if kind == "c" and source:
+        source = re.match(r"(?:/\*|#) (\w+\.(?:c|text)):", body)
+        if kind in ("c", "text") and source:
             with open(os.path.join(place.top, "demo", source[1]), "w", encoding="utf-8") as file:
                 file.write(body)
         if kind != "console":

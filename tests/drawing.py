@@ -84,14 +84,16 @@ class Draw:
             if files and self.rarely(5):
                 items.append(name(path, self.one(files)))
             elif self.rarely(3):
-                size = self.one(GREAT_SIZES if self.rarely(8) else SIZES)
-                items.append(file(path, size, self.data()[:size]))
+                items.append(self.file(path, self.one(GREAT_SIZES if self.rarely(8) else SIZES)))
                 nodes.append((number, True))
             else:
                 items.append(directory(path))
                 directories.append(path)
                 nodes.append((number, False))
         return items, nodes
+
+    def file(self, path: bytes, size: int) -> bytes:
+        return file(path, size, self.data()[:size])
 
     def described(self, nodes: List[Tuple[int, bool]]) -> bytes:
         files = [it for it in nodes if it[1]]
@@ -110,10 +112,16 @@ class Draw:
     def record(self, number: int) -> bytes:
         buffers = self.buffers[number]
         if not buffers or not self.rarely(self.each_fill):
-            return enter(number, [self.entry(number) for _ in range(self.source.randrange(9))])
+            return self.entered(number, [self.entry(number) for _ in range(self.source.randrange(9))])
         index = self.source.randrange(len(buffers))
         offset = self.source.randrange(buffers[index][1] + 1)
-        return fill(number, index, offset, self.data()[: buffers[index][1] - offset])
+        return self.filled(number, index, offset, self.data()[: buffers[index][1] - offset])
+
+    def entered(self, number: int, entries: List[bytes]) -> bytes:
+        return enter(number, entries)
+
+    def filled(self, number: int, index: int, offset: int, data: bytes) -> bytes:
+        return fill(number, index, offset, data)
 
     def entry(self, number: int) -> bytes:
         (opcode,) = self.source.choices(list(self.weights), list(self.weights.values()))
@@ -227,7 +235,11 @@ class Opens(Near):
 
 def changed(seed: int) -> bytes:
     """A drawn trace with some bytes changed, taken out or put in, or cut short."""
-    text, source = bytearray(Draw(seed).trace()), random.Random("changed {}".format(seed))
+    return altered(Draw(seed).trace(), random.Random("changed {}".format(seed)))
+
+
+def altered(trace: bytes, source: random.Random) -> bytes:
+    text = bytearray(trace)
     for _ in range(source.randrange(1, 4)):
         at = source.randrange(len(text) if source.randrange(3) else min(len(text), 400))
         kind = source.randrange(20)

@@ -1,18 +1,20 @@
 """Drawn traces, such traces with bytes changed, and drawn pairs of reports: the program gives what a second replayer (model.py) and a
-second comparison (model_diff.py) give, and tells of its rounds what model_rounds.py tells. These give what the examples say (model_depends.py
+second comparison (model_diff.py) give, with the entries of model_text.py too, and tells of its rounds what model_rounds.py tells. These give what the examples say (model_depends.py
 too), and what kernels gave. Half of the seeds are the same in every run, the others those of the day (`./test --day` draws them again)."""
-import os
 import re
+import tempfile
 from functools import partial
 from typing import Callable, List, Optional
 
 import days
+import examples
 import model
 import model_depends
 import model_diff
 import model_rounds
+import model_text
 from drawing import Draw, Near, changed, two_reports
-from harness import EXAMPLES, Answer, Job, Outcome, Program, difference, first, read, refused, reports_refused
+from harness import Answer, Job, Outcome, Program, difference, first, read, refused, reports_refused
 
 # How many of each kind are drawn, in how many lots; and each of how many traces is also replayed in rounds.
 DRAWN, LOTS, IN_ROUNDS = 3_000, 6, 5
@@ -63,6 +65,29 @@ def of_reports(program: Program, seed: int) -> Optional[str]:
     return difference(program.run(["diff"], text), wanted)
 
 
+# How many bytes of an entry stand below a line that differs.
+SHOWN = 32
+
+
+def with_entries(trace: bytes, told: bytes) -> bytes:
+    """What differs, with the lines that `show --places` has of the places of the lines with `-` and `+`."""
+    shown = dict(re.findall(rb"^  # (\d+)\n(  .*\n)", model_text.show(trace, True, SHOWN), re.M))
+    lines = told.splitlines(keepends=True)
+    places = [re.match(rb"[-+] (0|[1-9]\d*)(?= |$)", line) for line in lines]
+    return b"".join(line + (shown.get(place[1], b"") if place else b"") for line, place in zip(lines, places))
+
+
+def of_entries(program: Program, seed: int) -> Optional[str]:
+    """How the program differs from the model on two reports with the entries of the trace of one, or of another trace, if it does."""
+    text, trace = two_reports(seed), Draw(seed if seed % 4 else seed + 1).trace()
+    checked, plain = program.run(["check"], trace), program.run(["diff"], text)
+    wanted = plain._replace(output=with_entries(trace, plain.output)) if checked.status == 0 else checked
+    with tempfile.NamedTemporaryFile() as file:
+        file.write(trace)
+        file.flush()
+        return difference(program.run(["diff", "--show", file.name], text), wanted)
+
+
 def lot(program: Program, what: str, unlike: Callable[[Program, int], Optional[str]], seeds: range) -> List[Outcome]:
     faults = ["seed {}: {}".format(seed, told) for seed in seeds for told in [unlike(program, seed)] if told]
     day = " of {}".format(days.written()) if seeds[0] >= days.SEEDS_A_DAY else ""
@@ -72,7 +97,7 @@ def lot(program: Program, what: str, unlike: Callable[[Program, int], Optional[s
 def model_of_examples() -> List[Outcome]:
     """The model gives the reports and the refusals of the examples, and agrees with a kernel as far as is known."""
     outcomes = []
-    for at, _, names in os.walk(EXAMPLES):
+    for at, names in examples.walked():
         for trace in sorted(it for it in names if it.endswith(".trace")):
             front = trace[: -len("trace")]
             there = [it for it in (front + kind for kind in ("sums", "report", "refused")) if it in names]
@@ -120,7 +145,7 @@ def of_example(at: str, trace: str, told: str) -> Optional[str]:
 def jobs(programs: List[Program]) -> List[Job]:
     """The first program on all of them, the others on one lot of each kind."""
     each = DRAWN // LOTS
-    kinds = (("drawn traces", of_drawn), ("changed traces", of_changed), ("reports", of_reports))
+    kinds = (("drawn traces", of_drawn), ("changed traces", of_changed), ("reports", of_reports), ("reports with entries", of_entries))
     starts = [at + back for back in (0, days.first_seed()) for at in range(0, DRAWN, each)]
     lots = [(program, range(at, at + each)) for program in programs for at in (starts if program is programs[0] else starts[:: LOTS])]
     return [model_of_examples, *(partial(lot, program, what, unlike, seeds) for program, seeds in lots for what, unlike in kinds)]

@@ -15,11 +15,21 @@ ENDINGS = (".trace", ".report", ".sums", ".check", ".rounds", ".waits", ".dot", 
 TOLD = ((["rounds"], ".waits"), (["rounds", "--window", "64", "--dot"], ".dot"), (["depends"], ".depends"), (["depends", "--dot"], ".depends.dot"), (["show"], ".text"))
 
 
-def names() -> List[str]:
-    """The examples, by their paths in examples/ without the ending. Recorded ones have a test of their own."""
-    found = []
+# Recorded traces and those of version 3 have tests of their own.
+RECORDED, VERSION_3 = "recorded", "version_3"
+
+
+def walked(left_out: Tuple[str, ...] = (VERSION_3,)) -> Iterable[Tuple[str, List[str]]]:
+    """The folders of examples/, each with its files; those of version 3 are left out."""
     for at, folders, files in os.walk(EXAMPLES):
-        folders[:] = sorted(it for it in folders if it != "recorded")
+        folders[:] = sorted(it for it in folders if it not in left_out)
+        yield at, files
+
+
+def names() -> List[str]:
+    """The examples, by their paths in examples/ without the ending."""
+    found = []
+    for at, files in walked((RECORDED, VERSION_3)):
         found += [os.path.relpath(os.path.join(at, file[:-6]), EXAMPLES) for file in sorted(files) if file.endswith(".trace")]
     return found
 
@@ -41,7 +51,7 @@ def commands(is_first: bool) -> Iterable[Tuple[List[str], str]]:
 
 
 def told(name: str) -> Iterable[Tuple[List[str], str]]:
-    """The same for `rounds`, `depends` and `show`, which have an answer beside few examples; what is refused is refused there too."""
+    """The same for `rounds`, `depends` and `show`, which have an answer beside some examples; what is refused is refused there too."""
     for words, ending in TOLD:
         if any(os.path.exists(os.path.join(EXAMPLES, name + it)) for it in (ending, ".refused")):
             yield words, ending
@@ -63,6 +73,10 @@ def tried(program: Program, name: str, is_first: bool) -> List[Outcome]:
             outcomes.append(Outcome(label, "{}{} is missing in examples/".format(name, ending)))
             continue
         outcomes.append(Outcome(label, difference(program.run(words, trace), wanted)))
+    text = os.path.join(EXAMPLES, name + ".text")
+    if os.path.exists(text):
+        made = difference(program.run(["make"], text), Answer(0, read(name + ".trace"), b""))
+        outcomes.append(Outcome("{} make by {}".format(name, program.compiler), made))
     return outcomes
 
 

@@ -28,6 +28,7 @@ HELP = "\n\nFor more information, try '--help'.\n"
 IS_AN_INPUT = Answer(2, b"", ("error: the output is an input: name another file" + HELP).encode())
 NO_INPUT = "error: no input: name a file (uring_replay check a.trace), or give it on standard input" + HELP
 TWICE = Answer(2, b"", ("error: '-' is standard input, and gives one of two reports" + HELP).encode())
+TAKEN = Answer(2, b"", ("error: '-' is standard input, and gives the trace or a report" + HELP).encode())
 # Growths of a run that are each refused, and how many of them the library may try again, as for words alone.
 MOST_GROWTHS, TRIED_AGAIN = 400, 8
 
@@ -143,6 +144,42 @@ def two_files(program: Program) -> List[Outcome]:
         got = program.run(words, b"")
         well = got.status == 2 and not got.output and got.errors.startswith(b"error: unexpected argument") and wanted.output == b""
         at.said("a file too many: {}".format(words[0]), None if well else shown(got))
+    return at.outcomes
+
+
+def shown_entries(program: Program) -> List[Outcome]:
+    """`diff` with the entries of a trace, which is read first, from a file or from standard input."""
+    at = Folder(program)
+    report = read(EXAMPLE + ".report")
+    line, entry = b"0 user=7 res=4 posted data=32333435", b"  READ FIXED_FILE off=2 len=4 user_data=7\n"
+    changed = report.replace(b"res=4", b"res=5").replace(b"size=10", b"size=11")
+    one, other = at.put("one", report), at.put("other", changed)
+    counts = EQUAL.replace(b"entries 1 equal, 0 different", b"entries 0 equal, 1 different").replace(b"tree 1 equal, 0 different", b"tree 0 equal, 1 different")
+    text = b"".join([b"- ", line, b"\n", entry, b"+ ", line.replace(b"res=4", b"res=5"), b"\n", entry, b"- file /a node=1 size=10\n+ file /a node=1 size=11\n", counts])
+    differ = Answer(4, text, b"")
+    at.ask("two files and a trace", ["diff", "--show", TRACE, one, other], differ)
+    at.ask("a trace behind two files", ["diff", one, other, "--show=" + TRACE], differ)
+    at.ask("both reports on standard input", ["diff", "--show", TRACE], differ, given=report + changed)
+    at.ask("one on standard input", ["diff", "--show", TRACE, one, "-"], differ, given=changed)
+    at.ask("the trace on standard input", ["diff", "--show", "-", one, other], differ, given=TRACE)
+    at.ask("the trace and a report as -", ["diff", "--show", "-", one, "-"], TAKEN, given=TRACE)
+    at.ask("the trace and both reports as -", ["diff", "--show", "-"], TAKEN, given=TRACE)
+    at.ask("nothing differs", ["diff", "--show", TRACE, one, one], Answer(0, EQUAL, b""))
+    more, less = at.put("more", report.replace(line, line + b"\n1 user=7 res=4 posted\n0x user=1")), at.put("less", report.replace(line + b"\n", b""))
+    text = b"- " + line + b"\n" + entry + b"- 1 user=7 res=4 posted\n- 0x user=1\n" + EQUAL.replace(b"entries 1 equal, 0 different", b"entries 0 equal, 3 different")
+    at.ask("places that the trace lacks", ["diff", "--show", TRACE, more, less], Answer(4, text, b""))
+    outside = at.put("outside", report.replace(b"posted", b"posted outside=word"))
+    text = b"~ " + line.replace(b"posted", b"posted outside=word") + b"\n" + EQUAL.replace(b"entries 1 equal, 0 different, 0", b"entries 0 equal, 0 different, 1")
+    at.ask("a line that is not compared", ["diff", "--show", TRACE, one, outside], Answer(0, text, b""))
+    at.ask("no trace", ["diff", "--show", one, one, other], refused("Magic at 0"))
+    at.ask("no trace and no report", ["diff", "--show", one, TRACE, TRACE], refused("Magic at 0"))
+    at.ask("no report", ["diff", "--show", TRACE, one, TRACE], reports_refused("the second does not begin with uring-report 1"))
+    at.ask("no file", ["diff", "--show", at.path("none"), one, other], Answer(3, b"", "cannot open {}: No such file or directory (os error 2)\n".format(at.path("none")).encode()))
+    at.ask("a full output", ["diff", "--show", TRACE, one, other], Answer(3, b"", b"fault: write\n"), shell='exec "$@" > /dev/full')
+    at.ask("into a file", ["diff", "--show", TRACE, one, other, "-o", at.path("out")], Answer(4, b"", b""))
+    at.holds("the file has what differs", "out", differ.output, ["less", "more", "one", "other", "outside"])
+    trace = at.put("trace", read(EXAMPLE + ".trace"))
+    at.ask("over the trace", ["diff", "--show", trace, one, other, "-o", trace], IS_AN_INPUT)
     return at.outcomes
 
 
@@ -444,7 +481,7 @@ def memory(shim: Shim, program: Program, words: List[str], output: bytes, status
 
 def jobs(programs: List[Program]) -> List[Job]:
     made: List[Job] = [kit]
-    tests = (inputs, not_opened, two_files, outputs, links, no_half_text, not_written, not_over_an_input, vanishing, at_terminals, versions, examples_of_help)
+    tests = (inputs, not_opened, two_files, shown_entries, outputs, links, no_half_text, not_written, not_over_an_input, vanishing, at_terminals, versions, examples_of_help)
     made += [partial(test, program) for program in programs for test in tests]
     device, refuse = Shim("device", 1), Shim("refuse", 4)
     lacking = device.lacking() or refuse.lacking()

@@ -71,7 +71,7 @@ def limits_of_headers():
     yield "table_of_version_1", nothing, head(table=1) + bytes(4), "Limit at 28"
     yield "table_of_version_2", head(table=1024, version=2) + bytes(4096), head(table=1025, version=2) + bytes(4100), "Limit at 28"
     yield "lowest_version", nothing, head(version=0), "Version at 8"
-    yield "highest_version", head(version=2), head(version=3), "Version at 8"
+    yield "highest_version", head(version=2), head(version=4), "Version at 8"
     yield "magic", nothing, b"uRINGTRC" + nothing[8:], "Magic at 0"
     yield "header", nothing, nothing[:31], "Short at 31"
     yield "end_of_input", nothing, nothing + b"\0", "Trailing at 32"

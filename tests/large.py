@@ -10,7 +10,7 @@ import tempfile
 from functools import partial
 from typing import Dict, List, Tuple
 
-from harness import TOP, Answer, Job, Outcome, Program, difference, first, read, reports_refused, shown, spoken
+from harness import TOP, Answer, Job, Outcome, Program, difference, first, read, refused, reports_refused, shown, spoken
 from traces import AT_FDCWD, CLOSE, FIXED_FILE, GREATEST_BUFFER, GREATEST_SIZE, NOP, OPENAT, READ, READ_FIXED, WRITE, WRITE_FIXED
 from traces import description, directory, enter, entry, file, fill, fixed, head, hole, opened_in_slot, removed, ring
 
@@ -103,6 +103,16 @@ def long_reports(program: Program) -> List[Outcome]:
     for size, line in ((1 << 30, first), ((1 << 30) + 1, long)):
         got = program.run(["diff"], None, shell='head -c {} /dev/zero | "$@"'.format(size))
         outcomes.append(Outcome("diff of {} bytes by {}".format(size, program.compiler), difference(got, reports_refused(line))))
+    return outcomes
+
+
+def long_records(program: Program) -> List[Outcome]:
+    """The longest input of version 3 is read, as long as it is read whole; one byte more is refused for its length before all else."""
+    outcomes = []
+    for size, line in ((1 << 30, "Limit at 32"), ((1 << 30) + 1, "Limit at 1073741824")):
+        shell = "{{ printf 'URINGTRC\\003'; head -c {} /dev/zero; }} | \"$@\"".format(size - 9)
+        got = program.run(["check"], None, shell=shell)
+        outcomes.append(Outcome("check of {} bytes of version 3 by {}".format(size, program.compiler), difference(got, refused(line))))
     return outcomes
 
 
@@ -318,5 +328,5 @@ def emptied(program: Program) -> List[Outcome]:
 
 
 def jobs(programs: List[Program]) -> List[Job]:
-    alone = [partial(it, programs[0]) for it in (tried, long_reports, many_rings, deep_tree, deep_paths, full_table, many_entries, long_transfers, shared_lists, long_bytes, at_the_position, holes, emptied, waiting, carrying_little)]
+    alone = [partial(it, programs[0]) for it in (tried, long_reports, long_records, many_rings, deep_tree, deep_paths, full_table, many_entries, long_transfers, shared_lists, long_bytes, at_the_position, holes, emptied, waiting, carrying_little)]
     return [*alone, *(partial(on_threads, it) for it in programs)]

@@ -18,6 +18,8 @@ TRACES = (
     "read_only_description",
     "side_bytes_of_read",
 )
+# Of version 3, for `check`.
+RECORDS = ("version_3/rings_of_one_queue", "version_3/zeros_over_bytes")
 ROUNDS = ["--workers", "2", "--window", "4"]
 MODES = (["serial"], ["serial", "--sums"], ["check"], ["run", *ROUNDS], ["compare", *ROUNDS], ["rounds"], ["depends"], ["diff"])
 WORDS_ALONE: List[Words] = [["serial", "a", "extra"], ["run", "--workers", "65"], ["--help"], ["serial", "--help"], ["serial", b"\xff"]]
@@ -38,8 +40,9 @@ TRIED_AGAIN = 4
 # Some growths can be done without: a list of many pages that is refused what it takes to share its tree of them keeps it for
 # itself, and one that is refused one of the two growths of a turn leaves its tree a little higher. Of eight leaves, as each of two
 # heavy writes has, four turns are made. And a thread that is refused memory isn't started, and its sums are made where it was
-# asked for.
-DONE_WITHOUT = {HEAVY_WRITES: 2 * (1 + 4 * 2), STORED_FILES: 4}
+# asked for. The list of the lengths of a ring's buffers, of which each of these traces has one, is made as large as it will be ahead
+# of time too.
+DONE_WITHOUT = {HEAVY_WRITES: 2 * (1 + 4 * 2), STORED_FILES: 4, **dict.fromkeys(RECORDS, 1)}
 
 
 def growths(count: int, spare: int) -> List[int]:
@@ -111,6 +114,7 @@ def jobs(programs: List[Program]) -> List[Job]:
     made: List[Job] = []
     for is_from in (False, True):
         made += [partial(swept, shim, whole, words, trace, is_from) for words in MODES for trace in TRACES]
+        made += [partial(swept, shim, whole, ["check"], trace, is_from) for trace in RECORDS]
         made += [partial(swept, shim, whole, words, "", is_from) for words in WORDS_ALONE]
         made.append(partial(swept, shim, whole, ["run", *ROUNDS], HEAVY_WRITES, is_from))
         made.append(partial(swept, shim, whole, ["run", *ROUNDS, "--sums"], STORED_FILES, is_from))

@@ -118,15 +118,23 @@ class Entry(NamedTuple):
     def has_side(self) -> bool:
         """Whether its side bytes are such as it has."""
         count = len(self.side)
-        if self.opcode in (READV, WRITEV):
-            vectors = 8 * self.length if self.length <= 1024 else 0
-            total = sum(self.vectors()) if vectors <= count and vectors else 0
-            return count == vectors + (min(total, MOST_MOVED) if self.opcode == WRITEV and total < HALF else 0)
         if self.opcode in (RENAMEAT, LINKAT):
             return count >= 2 and count >= 2 + struct.unpack_from("<H", self.side)[0] and 0 not in self.side[2:]
         if self.opcode in (OPENAT, UNLINKAT, MKDIRAT):
             return 0 not in self.side
+        return self.has_count(count)
+
+    def has_count(self, count: int) -> bool:
+        """Whether a transfer has so many side bytes, of which all behind the lengths of its vectors may be left out."""
+        if self.opcode in (READV, WRITEV):
+            vectors = self.lengths()
+            total = sum(self.vectors()) if vectors and vectors <= len(self.side) else 0
+            return count == vectors + (min(total, MOST_MOVED) if self.opcode == WRITEV and total < HALF else 0)
         return count == (min(self.length, MOST_MOVED) if self.opcode == WRITE else 0)
+
+    def lengths(self) -> int:
+        """How many bytes the lengths of its vectors have."""
+        return 8 * self.length if self.opcode in (READV, WRITEV) and self.length <= 1024 else 0
 
     def asked(self) -> int:
         """How many bytes a transfer asks for."""
@@ -134,6 +142,11 @@ class Entry(NamedTuple):
 
     def written(self) -> bytes:
         return self.side[8 * self.length :] if self.opcode == WRITEV else self.side
+
+
+def entry_of(fields: bytes, side: bytes) -> Entry:
+    opcode, flags, _, fd, offset, address, length, own, user, buffer, personality, index, _, _ = struct.unpack("<BBHiQQIIQHHIQQ", fields)
+    return Entry(opcode, flags, fd, offset, address, length, own, user, buffer, personality, index, side)
 
 
 class Fill(NamedTuple):
@@ -286,10 +299,9 @@ class World:
 
     @staticmethod
     def entry(source: Reader) -> Entry:
-        opcode, flags, _, fd, offset, address, length, own, user, buffer, personality, index, _, _ = struct.unpack("<BBHiQQIIQHHIQQ", source.take(64))
-        count = source.field("I")
+        fields, count = source.take(64), source.field("I")
         at = source.at
-        entry = Entry(opcode, flags, fd, offset, address, length, own, user, buffer, personality, index, source.take(count))
+        entry = entry_of(fields, source.take(count))
         within(entry.has_side(), "Side", at)
         return entry
 

@@ -1,10 +1,9 @@
-"""The text of a trace by docs/TEXT.md alone, and what a text means: a second `show`, and the way back."""
+"""The text of a trace by docs/TEXT.md alone: a second `show`. model_make.py is the way back."""
 import re
 import struct
 from typing import Dict, Iterator, List, NamedTuple, Optional, Sequence, Tuple
 
 from traces import ENTRY, LINKAT, MKDIRAT, OPENAT, READV, RENAMEAT, UNLINKAT, WRITE, WRITEV
-from traces import description, descriptor_table, directory, enter, file, fill, head, name, ring, two_paths, with_side
 
 # The names of the operations by their numbers.
 OPERATIONS = """NOP READV WRITEV FSYNC READ_FIXED WRITE_FIXED POLL_ADD POLL_REMOVE SYNC_FILE_RANGE SENDMSG RECVMSG TIMEOUT TIMEOUT_REMOVE ACCEPT
@@ -54,10 +53,6 @@ for operation, own, bits in (("RENAMEAT", "rename_flags", RENAME), ("LINKAT", "h
 # How many bytes a run has at least, a piece and a short text at most, and the longest path that stands for its item.
 LEAST_RUN, PIECE, LONGEST_PATH = 16, 64, 64
 ESCAPES = {10: "n", 9: "t", 13: "r", 0: "0", 34: '"', 92: "\\"}
-
-
-class Refused(Exception):
-    """A text that means no trace."""
 
 
 def operation_of(opcode: int) -> str:
@@ -242,143 +237,3 @@ def record_text(source: Source, place: int, has_places: bool, most: Optional[int
     comment = "# {}\n".format(place) if has_places else ""
     at = " at={}".format(offset) if offset else ""
     return "{}fill {} buffer={}{}{}\n".format(comment, number, buffer, at, data_text(source.bytes(length), "  ", most)), place + 1
-
-
-# What a text means.
-
-
-def lines_of(text: bytes) -> Iterator[List[str]]:
-    """The words of each line that has some. A line whose last word is a backslash goes on in the next."""
-    words: List[str] = []
-    for line in text.decode("latin1").split("\n"):
-        words += [it[0] for it in re.finditer(r'x?"(?:[^"\\]|\\.)*"\S*|#.*|\S+', line)]
-        words = words[:-1] if words and words[-1].startswith("#") else words
-        if words and words[-1] == "\\":
-            words.pop()
-        elif words:
-            yield words
-            words = []
-
-
-def path_of(word: str) -> bytes:
-    return re.sub(rb"\\x(..)", lambda it: bytes([int(it[1], 16)]), word.encode("latin1"), flags=re.S)
-
-
-def number_of(word: str, bits: int, table: Table) -> int:
-    total = 0
-    for part in word.split("|"):
-        if part in table:
-            total += table[part]
-        elif part == "AT_FDCWD":
-            total += (1 << bits) - 100
-        elif re.fullmatch(r"-\d+", part):
-            total += (1 << bits) + int(part)
-        else:
-            total += int(part, 16 if part.startswith("0x") else 8 if part.startswith("0") else 10)
-    if total >> bits:
-        raise Refused("{} has more than {} bits".format(word, bits))
-    return total
-
-
-def data_of(words: Sequence[str]) -> bytes:
-    data = b""
-    for word in words:
-        found = re.fullmatch(r'(x?)"(.*)"(?:\*(\d+))?', word, re.S)
-        if not found:
-            raise Refused("{} is no string".format(word))
-        letters = {it: bytes([byte]) for byte, it in ESCAPES.items()}
-        part = bytes.fromhex(found[2]) if found[1] else re.sub(
-            rb"\\(?:x(..)|(.))", lambda it: bytes([int(it[1], 16)]) if it[1] else letters[it[2].decode()], found[2].encode("latin1"), flags=re.S)
-        data += part * int(found[3] or 1)
-    return data
-
-
-def slots_of(words: Sequence[str]) -> List[int]:
-    slots: List[int] = []
-    for word in words:
-        empty = re.fullmatch(r"-(?:\*(\d+))?", word)
-        slots += [0] * int(empty[1] or 1) if empty else [int(word) + 1]
-    return slots
-
-
-class Text:
-    """What has been read of a text."""
-
-    def __init__(self) -> None:
-        self.paths: Dict[bytes, int] = {b"/": 0}
-        self.items: List[bytes] = []
-        self.descriptions: List[bytes] = []
-        self.table: List[int] = []
-        self.rings: List[Tuple[List[int], List[Tuple[int, int]]]] = []
-        self.records: List[Tuple[int, List[bytes], bytes]] = []
-
-    def node(self, word: str) -> int:
-        return int(word[1:]) if word.startswith("@") else self.paths[path_of(word)]
-
-    def line(self, words: List[str]) -> None:
-        head_, rest = words[0], words[1:]
-        keyed = {key: it.split("=", 1)[1] for key in ("size", "pos", "of", "buffer", "at") for it in rest if it.startswith(key + "=")}
-        strings = [it for it in rest if it.startswith(('"', 'x"'))]
-        if head_ in ("dir", "file", "name"):
-            path, data = path_of(rest[0]), data_of(strings)
-            size = int(keyed.get("size", len(data)))
-            self.items.append(directory(path) if head_ == "dir" else file(path, size, data) if head_ == "file" else name(path, self.node(keyed["of"])))
-            self.paths[path] = len(self.items)
-        elif head_ == "open":
-            access, _, append = rest[2].partition("|")
-            self.descriptions.append(description(self.node(rest[1]), ACCESSES.index(access), int(bool(append)), int(keyed.get("pos", 0))))
-        elif head_ == "descriptors":
-            self.table = slots_of(rest)
-        elif head_ == "ring":
-            self.rings.append(([], []))
-        elif head_ == "slots":
-            self.rings[-1][0].extend(slots_of(rest))
-        elif head_ == "buffer" and len(rest) == 3:
-            self.rings[-1][1].append((int(rest[1], 16), int(rest[2])))
-        elif head_ == "enter":
-            self.records.append((int(rest[0]), [], b""))
-        elif head_ == "fill":
-            self.records.append((0, [], fill(int(rest[0]), int(keyed["buffer"]), int(keyed.get("at", 0)), data_of(strings))))
-        else:
-            self.records[-1][1].append(entry_of(head_, rest))
-
-    def trace(self, version: int) -> bytes:
-        counts = (len(self.items), len(self.descriptions), len(self.rings), len(self.records), len(self.table))
-        records = [packed or enter(number, entries) for number, entries, packed in self.records]
-        return b"".join([head(*counts, version), *self.items, *self.descriptions, descriptor_table(self.table), *(ring(*it) for it in self.rings), *records])
-
-
-def entry_of(operation: str, words: Sequence[str]) -> bytes:
-    """The bytes of an entry, whose words may stand in any order."""
-    opcode = OPERATIONS.index(operation) if operation in OPERATIONS else int(operation.removeprefix("OP_"))
-    known = {style_of(opcode, key).name: (key, style_of(opcode, key).flags) for key in ORDER}
-    fields: Dict[str, int] = {"opcode": opcode, "flags": 0}
-    paths, lengths, strings = {}, [], []
-    for word in words:
-        key, _, value = word.partition("=")
-        if word in ENTRY_FLAGS:
-            fields["flags"] |= 1 << ENTRY_FLAGS.index(word)
-        elif word.startswith(('"', 'x"')):
-            strings.append(word)
-        elif word.startswith("["):
-            lengths = [int(it) for it in word[1:-1].split(",")]
-        elif key in ("path", "old", "new"):
-            paths[key] = path_of(value)
-        else:
-            fields[known[key][0]] = number_of(value, BITS[known[key][0]], known[key][1])
-    data = data_of(strings)
-    both = two_paths(paths["old"], paths["new"]) if "old" in paths else b""
-    side = struct.pack("<{}Q".format(len(lengths)), *lengths) + paths.get("path", b"") + both + data
-    length = len(data) if opcode == WRITE else len(lengths)
-    whole = {**dict.fromkeys(KEYS, 0), "len": length, **fields}
-    whole["fd"] -= (whole["fd"] >> 31) << 32
-    return with_side(ENTRY.pack(*(whole[key] for key in KEYS)), side)
-
-
-def make(text: bytes) -> bytes:
-    """The trace that a text means."""
-    read, lines = Text(), lines_of(text)
-    version = int(next(lines)[1])
-    for words in lines:
-        read.line(words)
-    return read.trace(version)

@@ -18,7 +18,10 @@ MODES = (["serial"], ["run", "--workers", "3"])
 
 # --- Names ----------------------------------------------------------------------------------------------------------
 
-DEFINED = os.path.join(TOP, "crates", "replay_report", "specs", "Names.antt")
+DEFINED = {
+    "opcode_names": os.path.join(TOP, "crates", "text_forms", "specs", "Names.antt"),
+    "errno_names": os.path.join(TOP, "crates", "replay_report", "specs", "Names.antt"),
+}
 ERRORS = ("/usr/include/asm-generic/errno-base.h", "/usr/include/asm-generic/errno.h")
 OPCODES = "/usr/include/linux/io_uring.h"
 # The sixteen operations that are modelled, and those that headers of older kernels lack (io_uring_enter(2); Linux 6.16).
@@ -55,7 +58,7 @@ def errors() -> Dict[int, str]:
 
 def defined(table: str) -> List[str]:
     """The names of a table of the definitions, by their numbers."""
-    with open(DEFINED, encoding="utf-8") as file:
+    with open(DEFINED[table], encoding="utf-8") as file:
         text = re.search(r"^{} =\n(.*?)\[\]$".format(table), file.read(), re.S | re.M)
     return re.findall(r'codes "(\w*)"', text[1])
 

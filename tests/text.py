@@ -1,15 +1,16 @@
-"""Traces as text: `show` gives the text that model_text.py gives, and by that model the text means the trace, byte for byte. The traces are
+"""Traces as text: `show` gives the text that model_text.py gives, and by model_make.py the text means the trace, byte for byte. The traces are
 the examples, recorded ones, and drawn ones, half of them with any values in the fields of entries."""
-import os
 import random
 from functools import partial
 from typing import List, Optional
 
 import days
+import examples
+import model_make
 import model_text
 import traces
 from drawing import Draw
-from harness import EXAMPLES, Answer, Job, Outcome, Program, difference, first, read
+from harness import Answer, Job, Outcome, Program, difference, first, read
 
 # How many traces are drawn, in how many lots.
 DRAWN, LOTS = 3_000, 6
@@ -69,7 +70,7 @@ def of_trace(program: Program, trace: bytes, most: int) -> Optional[str]:
     for words, has_places, part in ((["show"], False, None), (["show", "--places"], True, None), (["show", "--first", str(most)], False, most)):
         text = model_text.show(trace, has_places, part)
         told = difference(program.run(words, trace), Answer(0, text, b""))
-        if told or part is None and model_text.make(text) != trace:
+        if told or part is None and model_make.make(text) != trace:
             return told or "the text means another trace"
     return None
 
@@ -89,7 +90,7 @@ def lot(program: Program, seeds: range) -> List[Outcome]:
 def of_examples(program: Program) -> List[Outcome]:
     """The examples and recorded traces: those that are accepted are shown, the others refused in the same words."""
     outcomes = []
-    for at, _, names in os.walk(EXAMPLES):
+    for at, names in examples.walked():
         for name in sorted(it for it in names if it.endswith(".trace")):
             trace = read(at, name)
             told = name[: -len("trace")] + "refused"

@@ -7,7 +7,7 @@ import traces
 from harness import Answer, Job, Outcome, Program, Words, difference, fault, read, refused, reports_refused, shown, spoken, two_reports
 
 EXAMPLE = "read_four_bytes"
-SUBCOMMANDS = ("serial", "run", "compare", "rounds", "depends", "check", "show", "diff")
+SUBCOMMANDS = ("serial", "run", "compare", "rounds", "depends", "check", "show", "make", "diff")
 WRONG: List[Words] = [
     [], ["bogus"], [""], ["Serial"], ["--sums"], ["version"], ["--output", "out", "serial"],
     ["serial", "a", "extra"], ["serial", "--workers", "2"], ["serial", "--sums", "--sums"], ["serial", "--eager"],
@@ -27,8 +27,10 @@ WRONG: List[Words] = [
     ["rounds", "--dot", "--dot"],
     ["depends", "a", "extra"], ["depends", "--eager"], ["depends", "--sums"], ["depends", "--workers", "2"], ["depends", "--window", "2"],
     ["depends", "--dot", "--dot"],
-    ["show", "a", "extra"], ["show", "--sums"], ["show", "--places", "--places"], ["show", "--first"], ["show", "--first", "0"], ["show", "--first", "x"],
+    ["show", "a", "extra"], ["show", "--sums"], ["show", "--places", "--places"], ["show", "--first"], ["show", "--first", "0"], ["show", "--first", "x"], ["make", "a", "extra"], ["make", "--places"], ["make", "--sums"],
     ["diff", "a", "b", "extra"], ["diff", "--eager"], ["diff", "--sums"], ["diff", "--workers", "2"],
+    ["diff", "--show"], ["diff", "--show", "a", "--show", "b"], ["diff", "--show", "a", "--json"], ["diff", "--json", "--show=a", "b", "c"],
+    ["serial", "--show", "a"], ["run", "--show", "a"], ["check", "--show=a"], ["show", "--show", "a"], ["make", "--show", "a"],
 ]
 GOOD: List[Words] = [
     ["serial"], ["run"], ["run", "--workers=64", "--window=4096"], ["run", "--workers", "1", "--window", "1"],

@@ -469,6 +469,20 @@ module _ {t : Trace} {first n : ℕ} {ms : List Member} {cs : List Chain} {l : O
   pub walked_long : length (map (joined before cs) ms) + first ≡ n
   walked_long = omega (arith, length-map ms (joined before cs), member_total, w.forward)
 
+-- a walk goes on past a step that follows none and has no link flag
+pub walks_alone : {t : Trace} {first n : ℕ} {ms : List Member} {cs : List Chain} → Walked t first n ms cs None
+    → (s : Step) (more : List Member) (next : List Chain) (count : ℕ) (marks : Marks)
+    → step_at t n ≡ Some s → marks ≡ marks_of t.version false s → marks.links ≡ false → count ≡ chains_ahead t first + length cs
+    → next ≡ counted cs (length cs) marks → more ≡ ms ++ member_after None count marks.skips ∷ [] → Walked t first (n + 1) more next None
+walks_alone {t} {first} {n} {ms} {cs} w s more next count marks now marked apart counting grown longer =
+    let here : length cs ≡ count - chains_ahead t first = omega arith in
+    walks_on w s more next None (member_after None count marks.skips) None count marks now marked refl counting refl
+    (grown ∙ ap (λ k. counted cs k marks) here) (rw apart refl) longer
+
+-- a walk has as many members as it has places
+pub walked_to : {t : Trace} {first n : ℕ} {ms : List Member} {cs : List Chain} {l : Option Linked} → Walked t first n ms cs l → n ≡ first + length ms
+walked_to w = omega (arith, member_total w, w.forward)
+
 pub length-roles : (t : Trace) → length (roles t) ≡ places t
 length-roles t = length-map-range_with_len (role t) 0 (places t)
 

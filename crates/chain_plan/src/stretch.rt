@@ -1,12 +1,13 @@
 //! The roles of a stretch of a trace's places, found in one walk over it.
 ghost use Rattle.std.specs.Prelude.{◌≡◌, ◌<◌, ◌≤◌, ◌+◌, ◌-◌, ◌^◌, ◌&&◌, leb, true, length, min};
-ghost use Rattle.std.specs.Prelude.{IfOk, IfSome, Some};
+ghost use Rattle.std.specs.Prelude.{◌∷◌, [], ◌++◌, IfOk, IfSome, None, OnOk, Some, false};
 ghost use Rattle.std.specs.List.{slice_get};
 ghost use Rattle.trace_format.specs.Sides.{is_side_of};
 ghost use Rattle.trace_format.specs.Steps.{places, step_meant, submit};
 ghost use Rattle.trace_format.specs.Text.{IsSpelled};
 ghost use Rattle.trace_format.specs.declared.entry.Entry.{Entry};
 ghost use Rattle.trace_format.specs.declared.trace.Trace.{Trace};
+ghost use Rattle.trace_format.specs.declared.version.Version.{Version};
 ghost use Rattle.chain_plan.specs.Stretch.{AreFollowing, IsStretch, end_of};
 ghost use Rattle.chain_plan.specs.Walk.{marks_of, followed, member_after};
 ghost use Rattle.chain_plan.specs.Walk.{with_member, counted, link_from};
@@ -35,6 +36,13 @@ struct Chain {
     doomed: bool,
     barrier: bool,
 }
+
+/// A chain without members.
+const NO_MEMBERS: Chain = Chain {
+    length: 0,
+    doomed: false,
+    barrier: false,
+};
 
 /// What a plan asks of a step. An entry by itself isn't tested: it dooms no other one.
 #[derive(Clone, Copy)]
@@ -103,6 +111,38 @@ fn marks_of(step: &Step<'_>, version: Version, follows: bool) -> Marks
     }
 }
 
+/// What is asked of a step that follows none and has no link flag; nothing of one that has.
+fn lone_marks(step: &Step<'_>) -> Option<Marks>
+    ensures links { IfSome result (λ m. m.links ≡ false) }
+    ensures marks { (v : Version) → IfSome result
+        (λ m. m ≡ marks_of v false (step_meant step.now)) }
+{
+    match &step.action {
+        Action::Submit(entry) => {
+            let sqe = entry.sqe();
+            if sqe.has(IO_LINK) || sqe.has(IO_HARDLINK) {
+                return None;
+            }
+            Some(Marks {
+                links: false,
+                skips: sqe.has(CQE_SKIP_SUCCESS),
+                drains: sqe.has(IO_DRAIN),
+                fails: false,
+            })
+        }
+        Action::Fill {
+            buffer: _,
+            offset: _,
+            bytes: _,
+        } => Some(Marks {
+            links: false,
+            skips: false,
+            drains: false,
+            fails: false,
+        }),
+    }
+}
+
 /// The member that a step of a record follows.
 fn followed(linked: Option<Linked>, record_number: u32) -> Option<Member>
     ensures { result ≡ followed linked record_number }
@@ -152,13 +192,27 @@ fn count_member(chains: &mut Vec<Chain>, chain: u32, marks: Marks) -> Result<(),
     if chain < chains.len() {
         chains[chain] = with_member(chains[chain], marks);
     } else {
-        let none = Chain {
-            length: 0,
-            doomed: false,
-            barrier: false,
-        };
-        chains.push(with_member(none, marks))?;
+        chains.push(with_member(NO_MEMBERS, marks))?;
     }
+    Ok(())
+}
+
+/// Adds a step that is a chain by itself.
+fn push_lone(
+    members: &mut Vec<Member>,
+    chains: &mut Vec<Chain>,
+    chains_before: u32,
+    marks: Marks,
+) -> Result<(), AllocError>
+    requires { chains_before + length chains.old.items < 2 ^ 32 }
+    ensures member { OnOk result (members.new.items ≡ members.old.items
+        ++ member_after None (chains_before + length chains.old.items) marks.skips ∷ []) }
+    ensures chain { OnOk result
+        (chains.new.items ≡ counted chains.old.items (length chains.old.items) marks) }
+{
+    let chain = chains_before + chains.len() as u32;
+    members.push(member_after(None, chain, marks.skips))?;
+    chains.push(with_member(NO_MEMBERS, marks))?;
     Ok(())
 }
 
@@ -227,8 +281,16 @@ impl Stretch {
         let mut chains = self.chains;
         members.clear();
         chains.clear();
+        // Up to the first link flag each step is a chain by itself.
+        let limit = first.saturating_add(least).min(trace.places());
+        'lone: for place in first..limit {
+            let Some(marks) = lone_marks(&trace.step(place)) else {
+                break;
+            };
+            push_lone(&mut members, &mut chains, chains_before, marks)?;
+        }
         let mut linked = None;
-        for place in first..trace.places() {
+        for place in first + members.len() as u32..trace.places() {
             let step = trace.step(place);
             let ahead = followed(linked, step.record_number);
             if ahead.is_none() && place - first >= least {

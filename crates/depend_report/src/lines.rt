@@ -13,13 +13,14 @@ use depend_log::{PlaceWaits, Wait};
 use round_report::{push_after, push_quotient};
 use std::alloc::{AllocError, Global};
 use std::marker::Model;
+use text_forms::{push_bytes, push_decimal};
 use trace_format::Trace;
 
 /// What the places of a trace so far wait for, as lines. It takes memory for the text, and for two
 /// numbers a place.
 #[derive(Drop)]
 pub struct DependsText {
-    text: String,
+    text: Vec<u8>,
     /// Of each place how many places the longest path has that ends with it.
     spans: Paths,
     /// Of each place how many bytes the path moves that moves most and ends with it.
@@ -29,13 +30,13 @@ pub struct DependsText {
 }
 
 impl Model for DependsText {
-    ghost use Rattle.std.specs.Prelude.{◌≤◌, ◌*◌, length, string_bytes};
+    ghost use Rattle.std.specs.Prelude.{◌≤◌, ◌*◌, length};
     ghost use Rattle.depend_report.specs.Told.{Told};
 
     ghost Value = { Told };
 
     ghost view = { λ d. record {
-      text = string_bytes d.text;
+      text = d.text.items;
       spans = d.spans;
       loads = d.loads;
       pairs = d.pairs;
@@ -57,7 +58,7 @@ impl DependsText {
         ensures { (trace : Trace) → IfOk result (λ text. text ≡ told trace []) }
     {
         Ok(DependsText {
-            text: String::from_str(alloc, "uring-depends 1\n")?,
+            text: Vec::from_slice(alloc, b"uring-depends 1\n")?,
             spans: Paths::new(alloc),
             loads: Paths::new(alloc),
             pairs: 0,
@@ -70,18 +71,13 @@ impl DependsText {
     /// # Errors
     ///
     /// Out of memory.
-    pub fn push_place(
-        &mut self,
-        alloc: Global,
-        trace: &Trace,
-        place: &PlaceWaits,
-    ) -> Result<(), AllocError>
+    pub fn push_place(&mut self, trace: &Trace, place: &PlaceWaits) -> Result<(), AllocError>
         requires { length self.old.spans < 2 ^ 32 - 1 }
         ensures { (places : List PlaceWaits) → self.old ≡ told trace.now places
             → OnOk result (self.new ≡ told trace.now (places ++ place.now ∷ [])) }
     {
         let waits = place.waits.as_slice();
-        push_lines(alloc, &mut self.text, trace, self.spans.len(), waits)?;
+        push_lines(&mut self.text, trace, self.spans.len(), waits)?;
         self.spans.push(waits, 1)?;
         self.loads.push(waits, place.moved)?;
         self.pairs += waits.len() as u128;
@@ -94,7 +90,7 @@ impl DependsText {
     /// # Errors
     ///
     /// Out of memory.
-    pub fn finish(self) -> Result<Vec<u8>, AllocError>
+    pub fn finish(self, alloc: Global) -> Result<Vec<u8>, AllocError>
         ensures { (trace : Trace) (places : List PlaceWaits) → self ≡ told trace places
             → IfOk result (λ text. text.items ≡ depends_text trace places) }
     {
@@ -105,46 +101,42 @@ impl DependsText {
             pairs,
             bytes,
         } = self;
-        push_summary(&mut text, &spans, &loads, pairs, bytes)?;
-        text.push_str("end\n")?;
-        Ok(text.into_bytes())
+        let mut ending = String::new(alloc);
+        push_summary(&mut ending, &spans, &loads, pairs, bytes)?;
+        push_bytes(&mut text, ending.as_bytes())?;
+        push_bytes(&mut text, b"end\n")?;
+        Ok(text)
     }
 }
 
 /// The lines of a place: one for each that it waits for, or its number alone.
 fn push_lines(
-    alloc: Global,
-    text: &mut String,
+    text: &mut Vec<u8>,
     trace: &Trace,
     place: usize,
     waits: &[Wait],
 ) -> Result<(), AllocError>
-    ensures { OnOk result (string_bytes text.new ≡ string_bytes text.old
+    ensures { OnOk result (text.new.items ≡ text.old.items
         ++ place_lines trace.now place waits.now) }
 {
     if waits.is_empty() {
-        return writeln!(text, "{place}");
+        push_decimal(text, place as u64)?;
+        return push_bytes(text, b"\n");
     }
     for wait in waits {
-        push_line(alloc, text, trace, place, wait)?;
+        push_line(text, trace, place, wait)?;
     }
     Ok(())
 }
 
 /// The line of a place with one that it waits for.
-fn push_line(
-    alloc: Global,
-    text: &mut String,
-    trace: &Trace,
-    place: usize,
-    wait: &Wait,
-) -> Result<(), AllocError>
-    ensures { OnOk result (string_bytes text.new ≡ string_bytes text.old
+fn push_line(text: &mut Vec<u8>, trace: &Trace, place: usize, wait: &Wait) -> Result<(), AllocError>
+    ensures { OnOk result (text.new.items ≡ text.old.items
         ++ wait_line trace.now place wait.now) }
 {
-    write!(text, "{place}")?;
-    push_after(alloc, text, trace, wait.after, &wait.on)?;
-    text.push_str("\n")
+    push_decimal(text, place as u64)?;
+    push_after(text, trace, wait.after, &wait.on)?;
+    push_bytes(text, b"\n")
 }
 
 /// The lines at the end.

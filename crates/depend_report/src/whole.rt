@@ -27,7 +27,7 @@ pub fn depends_text(alloc: Global, trace: &Trace) -> Result<Vec<u8>, AllocError>
     let mut known = Box::new(alloc, Dependencies::new(alloc, trace)?)?;
     let mut text = DependsText::new(alloc)?;
     push_lines(alloc, trace, &mut known, &mut text)?;
-    text.finish()
+    text.finish(alloc)
 }
 
 /// The same as a graph in the language of graphviz's dot(1), with the places as nodes and an arrow
@@ -62,7 +62,7 @@ fn push_lines(
 {
     for _place in 0..trace.places() {
         let place = known.next(alloc, trace)?;
-        text.push_place(alloc, trace, &place)?;
+        text.push_place(trace, &place)?;
     }
     Ok(())
 }

@@ -4,12 +4,11 @@ use Rattle.sqe_codec.specs.Answers.{◌>>◌, require}
 use Rattle.sqe_codec.specs.declared.errno.Errno.{Errno}
 use Rattle.sqe_codec.specs.declared.errno.Errno.TheVariants.{EINVAL, EOPNOTSUPP}
 use Rattle.sqe_codec.specs.declared.sqe.Sqe.{Sqe}
-use Rattle.trace_format.specs.declared.version.Version.{Version}
 use Rattle.trace_format.specs.Sides.{lengths_in, total, vector_is_short}
 use Rattle.entry_checks.specs.declared.operation.Op.{Op}
 use Rattle.entry_checks.specs.Operation.{Operation}
 use Rattle.entry_checks.specs.Meant.{meant}
-use Rattle.entry_checks.specs.Check.{has, buffer_select, Opcode, check_row}
+use Rattle.entry_checks.specs.Check.{has, buffer_select, Row}
 
 -- The operation that is meant, or the error.
 abbrev pub answer : Result Op Errno → Result Operation Errno
@@ -24,10 +23,10 @@ check_submission e = do
   require (not (has e.flags buffer_select)) EOPNOTSUPP
 
 -- The tests of every entry, and then the row of an opcode.
-abbrev pub checked_row : Version → Opcode → Sqe → List ℕ → Result Operation Errno
-checked_row v o e side = do
+abbrev pub checked : Row → Row
+checked row v e side = do
   check_submission e
-  check_row v o e side
+  row v e side
 
 -- The sum of the lengths of a vectored transfer, where they pass their test.
 abbrev pub check_vector : Sqe → List ℕ → Result ℕ Errno

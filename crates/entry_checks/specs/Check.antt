@@ -15,33 +15,6 @@ use Rattle.sqe_codec.specs.Answers.{◌>>=◌, ◌>>◌, require}
 pub use Rattle.sqe_codec.specs.Flags.{has, fixed_file, io_drain, io_link, io_hardlink, buffer_select, skip_success}
 use Rattle.entry_checks.specs.Operation.{Operation, nop, readv, writev, fsync, read_fixed, write_fixed, fallocate, openat, close, read, write, renameat, unlinkat, mkdirat, linkat, ftruncate, File, in_slot, at_descriptor, Span, Path, OpenFlags}
 
--- The opcodes that are served.
-pub data Opcode : Type 0 where
-  Nop : Opcode
-  Readv : Opcode
-  Writev : Opcode
-  Fsync : Opcode
-  ReadFixed : Opcode
-  WriteFixed : Opcode
-  Fallocate : Opcode
-  Openat : Opcode
-  Close : Opcode
-  Read : Opcode
-  Write : Opcode
-  Renameat : Opcode
-  Unlinkat : Opcode
-  Mkdirat : Opcode
-  Linkat : Opcode
-  Ftruncate : Opcode
-
--- The opcodes' numbers in io_uring.h.
-abbrev pub opcode_numbers : List (ℕ × Opcode)
-opcode_numbers = (0, Nop) ∷ (1, Readv) ∷ (2, Writev) ∷ (3, Fsync) ∷ (4, ReadFixed) ∷ (5, WriteFixed) ∷ (17, Fallocate) ∷ (18, Openat) ∷ (19, Close) ∷ (22, Read) ∷ (23, Write) ∷ (35, Renameat) ∷ (36, Unlinkat) ∷ (37, Mkdirat) ∷ (39, Linkat) ∷ (55, Ftruncate) ∷ []
-
--- The opcode of a number, if it is served.
-abbrev pub opcode_of : ℕ → Option Opcode
-opcode_of n = option_map (λ p. p.1) (find (λ p. p.0 == n) opcode_numbers)
-
 -- The old one of two paths, behind its length of two bytes, and the new one behind it.
 abbrev pub old_path : List ℕ → List ℕ
 old_path side = take (from_le_bytes w16 (take 2 side)) (drop 2 side)
@@ -104,71 +77,115 @@ abbrev pub is_zero : ℤ → Bool
 is_zero (pos n) = n == 0
 is_zero (negsuc n) = false
 
--- The tests of each opcode, in order, and the operation that is left.
-abbrev pub check_row : Version → Opcode → Sqe → List ℕ → Result Operation Errno
-check_row v Nop e side = Ok nop
-check_row v Readv e side = do
+-- The row of an opcode: its tests, in order, and the operation that is left.
+abbrev pub Row : Type 0
+Row = Version → Sqe → List ℕ → Result Operation Errno
+
+abbrev pub nop_row : Row
+nop_row v e side = Ok nop
+
+abbrev pub readv_row : Row
+readv_row v e side = do
   check_transfer_flags e
   require (vector_is_short e side) EINVAL
   Ok (readv (file_of e) e.off (total (lengths_in e.len side)))
-check_row v Writev e side = do
+
+abbrev pub writev_row : Row
+writev_row v e side = do
   check_transfer_flags e
   require (vector_is_short e side) EINVAL
   Ok (writev (file_of e) e.off (drop (8 * e.len) side))
-check_row v Fsync e side = do
+
+abbrev pub fsync_row : Row
+fsync_row v e side = do
   require (leb e.op_flags 1) EINVAL
   Ok (fsync (file_of e))
-check_row v ReadFixed e side = do
+
+abbrev pub read_fixed_row : Row
+read_fixed_row v e side = do
   check_transfer_flags e
   Ok (read_fixed (file_of e) e.off (span_of e))
-check_row v WriteFixed e side = do
+
+abbrev pub write_fixed_row : Row
+write_fixed_row v e side = do
   check_transfer_flags e
   Ok (write_fixed (file_of e) e.off (span_of e))
-check_row v Fallocate e side = Ok (fallocate (file_of e) e.off e.addr e.len)
-check_row v Openat e side = do
+
+abbrev pub fallocate_row : Row
+fallocate_row v e side = Ok (fallocate (file_of e) e.off e.addr e.len)
+
+abbrev pub openat_row : Row
+openat_row v e side = do
   check_no_registered_file e
   require (are_open_flags e.op_flags e.file_index) EINVAL
   check_path side
   Ok (openat (path_of e.fd side) (open_flags_of e.op_flags) (slot_of e.file_index))
-check_row v Close e side = do
+
+abbrev pub close_row : Row
+close_row v e side = do
   check_no_registered_file e
   require (e.file_index == 0 || is_zero e.fd) EINVAL
   require (not (e.file_index == 2 ^ 32 - 1)) EINVAL
   Ok (close (file_closed e))
-check_row v Read e side = do
+
+abbrev pub read_row : Row
+read_row v e side = do
   check_transfer_flags e
   Ok (read (file_of e) e.off e.len)
-check_row v Write e side = do
+
+abbrev pub write_row : Row
+write_row v e side = do
   check_transfer_flags e
   Ok (write (file_of e) e.off side)
-check_row v Renameat e side = do
+
+abbrev pub renameat_row : Row
+renameat_row v e side = do
   check_no_registered_file e
   require (leb e.op_flags (rules v).most_rename_flags) EINVAL
   check_path (old_path side)
   check_path (new_path side)
   Ok (renameat (path_of e.fd (old_path side)) (path_of (cast_signed w32 e.len) (new_path side)) e.op_flags)
-check_row v Unlinkat e side = do
+
+abbrev pub unlinkat_row : Row
+unlinkat_row v e side = do
   check_no_registered_file e
   require (e.op_flags == 0 || e.op_flags == 512) EINVAL
   check_path side
   Ok (unlinkat (path_of e.fd side) (e.op_flags == 512))
-check_row v Mkdirat e side = do
+
+abbrev pub mkdirat_row : Row
+mkdirat_row v e side = do
   check_no_registered_file e
   check_path side
   Ok (mkdirat (path_of e.fd side))
-check_row v Linkat e side = do
+
+abbrev pub linkat_row : Row
+linkat_row v e side = do
   check_no_registered_file e
   require (e.op_flags == 0 || e.op_flags == 1024) EINVAL
   check_path (old_path side)
   check_path (new_path side)
   Ok (linkat (path_of e.fd (old_path side)) (path_of (cast_signed w32 e.len) (new_path side)))
-check_row v Ftruncate e side = Ok (ftruncate (file_of e) e.off)
+
+abbrev pub ftruncate_row : Row
+ftruncate_row v e side = Ok (ftruncate (file_of e) e.off)
+
+-- The opcodes that are served, by their numbers in io_uring.h.
+abbrev pub rows : List (ℕ × Row)
+rows = (0, nop_row) ∷ (1, readv_row) ∷ (2, writev_row) ∷ (3, fsync_row) ∷
+    (4, read_fixed_row) ∷ (5, write_fixed_row) ∷ (17, fallocate_row) ∷ (18, openat_row) ∷
+    (19, close_row) ∷ (22, read_row) ∷ (23, write_row) ∷ (35, renameat_row) ∷
+    (36, unlinkat_row) ∷ (37, mkdirat_row) ∷ (39, linkat_row) ∷ (55, ftruncate_row) ∷ []
+
+-- The row of a number, if it is served.
+abbrev pub row_of : ℕ → Option Row
+row_of n = option_map (λ p. p.1) (find (λ p. p.0 == n) rows)
 
 -- The operation that an entry asks for, or the error of its submission.
 abbrev pub check : Version → Entry → Result Operation Errno
 check v entry = do
-  o ← ok_or (opcode_of entry.sqe.opcode) EINVAL
+  row ← ok_or (row_of entry.sqe.opcode) EINVAL
   require (ltb entry.sqe.flags 128) EINVAL
   require (entry.sqe.personality == 0) EINVAL
   require (not (has entry.sqe.flags buffer_select)) EOPNOTSUPP
-  check_row v o entry.sqe entry.side
+  row v entry.sqe entry.side

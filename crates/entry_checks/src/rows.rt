@@ -4,8 +4,8 @@ ghost use Rattle.std.specs.Prelude.{◌≡◌, ◌≤◌, length, true};
 ghost use Rattle.trace_format.specs.Blobs.{sliced};
 ghost use Rattle.trace_format.specs.Sides.{are_two_paths, vector_len};
 ghost use Rattle.trace_format.specs.declared.version.Version.TheVariants as version;
-ghost use Rattle.entry_checks.specs.Check as opcode;
-ghost use Rattle.entry_checks.specs.Answer.{answer, checked_row};
+ghost use Rattle.entry_checks.specs.Check as table;
+ghost use Rattle.entry_checks.specs.Answer.{answer, checked};
 
 use crate::operation::{Op, PathAt};
 use crate::paths::{check_path, new_path, old_path};
@@ -23,7 +23,7 @@ const REMOVE_DIRECTORY: u32 = 0x200;
 const FOLLOW_SYMLINK: u32 = 0x400;
 
 pub(crate) fn nop<'a>(sqe: &Sqe, side: &'a [u8]) -> Result<Op<'a>, Errno>
-    ensures { answer result ≡ checked_row version.One opcode.Nop sqe.now side.now }
+    ensures { answer result ≡ checked table.nop_row version.One sqe.now side.now }
 {
     submission(sqe)?;
     Ok(Op::Nop)
@@ -31,7 +31,7 @@ pub(crate) fn nop<'a>(sqe: &Sqe, side: &'a [u8]) -> Result<Op<'a>, Errno>
 
 pub(crate) fn readv<'a>(sqe: &Sqe, side: &'a [u8]) -> Result<Op<'a>, Errno>
     requires { vector_len sqe.now ≤ length side.now }
-    ensures { answer result ≡ checked_row version.One opcode.Readv sqe.now side.now }
+    ensures { answer result ≡ checked table.readv_row version.One sqe.now side.now }
 {
     submission(sqe)?;
     transfer(sqe)?;
@@ -45,7 +45,7 @@ pub(crate) fn readv<'a>(sqe: &Sqe, side: &'a [u8]) -> Result<Op<'a>, Errno>
 
 pub(crate) fn writev<'a>(sqe: &Sqe, side: TextSlice<'a>) -> Result<Op<'a>, Errno>
     requires { vector_len sqe.now ≤ length (sliced side) }
-    ensures { answer result ≡ checked_row version.One opcode.Writev sqe.now (sliced side.entry) }
+    ensures { answer result ≡ checked table.writev_row version.One sqe.now (sliced side.entry) }
 {
     submission(sqe)?;
     transfer(sqe)?;
@@ -58,7 +58,7 @@ pub(crate) fn writev<'a>(sqe: &Sqe, side: TextSlice<'a>) -> Result<Op<'a>, Errno
 }
 
 pub(crate) fn fsync<'a>(sqe: &Sqe, side: &'a [u8]) -> Result<Op<'a>, Errno>
-    ensures { answer result ≡ checked_row version.One opcode.Fsync sqe.now side.now }
+    ensures { answer result ≡ checked table.fsync_row version.One sqe.now side.now }
 {
     submission(sqe)?;
     flags_up_to(sqe, 1)?;
@@ -66,7 +66,7 @@ pub(crate) fn fsync<'a>(sqe: &Sqe, side: &'a [u8]) -> Result<Op<'a>, Errno>
 }
 
 pub(crate) fn read_fixed<'a>(sqe: &Sqe, side: &'a [u8]) -> Result<Op<'a>, Errno>
-    ensures { answer result ≡ checked_row version.One opcode.ReadFixed sqe.now side.now }
+    ensures { answer result ≡ checked table.read_fixed_row version.One sqe.now side.now }
 {
     submission(sqe)?;
     transfer(sqe)?;
@@ -78,7 +78,7 @@ pub(crate) fn read_fixed<'a>(sqe: &Sqe, side: &'a [u8]) -> Result<Op<'a>, Errno>
 }
 
 pub(crate) fn write_fixed<'a>(sqe: &Sqe, side: &'a [u8]) -> Result<Op<'a>, Errno>
-    ensures { answer result ≡ checked_row version.One opcode.WriteFixed sqe.now side.now }
+    ensures { answer result ≡ checked table.write_fixed_row version.One sqe.now side.now }
 {
     submission(sqe)?;
     transfer(sqe)?;
@@ -90,7 +90,7 @@ pub(crate) fn write_fixed<'a>(sqe: &Sqe, side: &'a [u8]) -> Result<Op<'a>, Errno
 }
 
 pub(crate) fn fallocate<'a>(sqe: &Sqe, side: &'a [u8]) -> Result<Op<'a>, Errno>
-    ensures { answer result ≡ checked_row version.One opcode.Fallocate sqe.now side.now }
+    ensures { answer result ≡ checked table.fallocate_row version.One sqe.now side.now }
 {
     submission(sqe)?;
     Ok(Op::Fallocate {
@@ -102,7 +102,7 @@ pub(crate) fn fallocate<'a>(sqe: &Sqe, side: &'a [u8]) -> Result<Op<'a>, Errno>
 }
 
 pub(crate) fn openat<'a>(sqe: &Sqe, side: &'a [u8]) -> Result<Op<'a>, Errno>
-    ensures { answer result ≡ checked_row version.One opcode.Openat sqe.now side.now }
+    ensures { answer result ≡ checked table.openat_row version.One sqe.now side.now }
 {
     submission(sqe)?;
     no_registered_file(sqe)?;
@@ -119,7 +119,7 @@ pub(crate) fn openat<'a>(sqe: &Sqe, side: &'a [u8]) -> Result<Op<'a>, Errno>
 }
 
 pub(crate) fn close<'a>(sqe: &Sqe, side: &'a [u8]) -> Result<Op<'a>, Errno>
-    ensures { answer result ≡ checked_row version.One opcode.Close sqe.now side.now }
+    ensures { answer result ≡ checked table.close_row version.One sqe.now side.now }
 {
     submission(sqe)?;
     no_registered_file(sqe)?;
@@ -131,7 +131,7 @@ pub(crate) fn close<'a>(sqe: &Sqe, side: &'a [u8]) -> Result<Op<'a>, Errno>
 }
 
 pub(crate) fn read<'a>(sqe: &Sqe, side: &'a [u8]) -> Result<Op<'a>, Errno>
-    ensures { answer result ≡ checked_row version.One opcode.Read sqe.now side.now }
+    ensures { answer result ≡ checked table.read_row version.One sqe.now side.now }
 {
     submission(sqe)?;
     transfer(sqe)?;
@@ -143,7 +143,7 @@ pub(crate) fn read<'a>(sqe: &Sqe, side: &'a [u8]) -> Result<Op<'a>, Errno>
 }
 
 pub(crate) fn write<'a>(sqe: &Sqe, side: TextSlice<'a>) -> Result<Op<'a>, Errno>
-    ensures { answer result ≡ checked_row version.One opcode.Write sqe.now (sliced side.entry) }
+    ensures { answer result ≡ checked table.write_row version.One sqe.now (sliced side.entry) }
 {
     submission(sqe)?;
     transfer(sqe)?;
@@ -157,7 +157,7 @@ pub(crate) fn write<'a>(sqe: &Sqe, side: TextSlice<'a>) -> Result<Op<'a>, Errno>
 /// The second version admits an exchange of two names.
 pub(crate) fn renameat<'a>(sqe: &Sqe, side: &'a [u8], version: Version) -> Result<Op<'a>, Errno>
     requires { are_two_paths side.now ≡ true }
-    ensures { answer result ≡ checked_row version opcode.Renameat sqe.now side.now }
+    ensures { answer result ≡ checked table.renameat_row version sqe.now side.now }
 {
     submission(sqe)?;
     no_registered_file(sqe)?;
@@ -180,7 +180,7 @@ pub(crate) fn renameat<'a>(sqe: &Sqe, side: &'a [u8], version: Version) -> Resul
 }
 
 pub(crate) fn unlinkat<'a>(sqe: &Sqe, side: &'a [u8]) -> Result<Op<'a>, Errno>
-    ensures { answer result ≡ checked_row version.One opcode.Unlinkat sqe.now side.now }
+    ensures { answer result ≡ checked table.unlinkat_row version.One sqe.now side.now }
 {
     submission(sqe)?;
     no_registered_file(sqe)?;
@@ -196,7 +196,7 @@ pub(crate) fn unlinkat<'a>(sqe: &Sqe, side: &'a [u8]) -> Result<Op<'a>, Errno>
 }
 
 pub(crate) fn mkdirat<'a>(sqe: &Sqe, side: &'a [u8]) -> Result<Op<'a>, Errno>
-    ensures { answer result ≡ checked_row version.One opcode.Mkdirat sqe.now side.now }
+    ensures { answer result ≡ checked table.mkdirat_row version.One sqe.now side.now }
 {
     submission(sqe)?;
     no_registered_file(sqe)?;
@@ -211,7 +211,7 @@ pub(crate) fn mkdirat<'a>(sqe: &Sqe, side: &'a [u8]) -> Result<Op<'a>, Errno>
 
 pub(crate) fn linkat<'a>(sqe: &Sqe, side: &'a [u8]) -> Result<Op<'a>, Errno>
     requires { are_two_paths side.now ≡ true }
-    ensures { answer result ≡ checked_row version.One opcode.Linkat sqe.now side.now }
+    ensures { answer result ≡ checked table.linkat_row version.One sqe.now side.now }
 {
     submission(sqe)?;
     no_registered_file(sqe)?;
@@ -233,7 +233,7 @@ pub(crate) fn linkat<'a>(sqe: &Sqe, side: &'a [u8]) -> Result<Op<'a>, Errno>
 }
 
 pub(crate) fn ftruncate<'a>(sqe: &Sqe, side: &'a [u8]) -> Result<Op<'a>, Errno>
-    ensures { answer result ≡ checked_row version.One opcode.Ftruncate sqe.now side.now }
+    ensures { answer result ≡ checked table.ftruncate_row version.One sqe.now side.now }
 {
     submission(sqe)?;
     Ok(Op::Ftruncate {

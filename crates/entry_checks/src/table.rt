@@ -15,9 +15,24 @@ use trace_format::{Entry, Version};
 /// An opcode that isn't served, the reserved flag bit and a personality are EINVAL, in this order;
 /// then the selection of a buffer is EOPNOTSUPP; then come the opcode's own tests. It takes no
 /// memory.
-#[tactic(auto, unfolding(trace_format::specs::Sides::is_side_of))]
+///
+/// A READ or WRITE, of which there are most, is not looked up in the table.
 #[inline(always)]
 pub fn check<'a>(entry: &Entry<'a>, version: Version) -> Result<Op<'a>, Errno>
+    requires { is_side_of entry.now.sqe entry.now.side ≡ true }
+    ensures { answer result ≡ check version entry.now }
+{
+    let sqe = &entry.sqe();
+    match sqe.opcode {
+        22 => rows::read(sqe, entry.side()),
+        23 => rows::write(sqe, entry.side_slice()),
+        _ => looked_up(entry, version),
+    }
+}
+
+/// The same for every opcode.
+#[tactic(auto, unfolding(trace_format::specs::Sides::is_side_of))]
+fn looked_up<'a>(entry: &Entry<'a>, version: Version) -> Result<Op<'a>, Errno>
     requires { is_side_of entry.now.sqe entry.now.side ≡ true }
     ensures { answer result ≡ check version entry.now }
 {

@@ -9,6 +9,7 @@ use lib.Dec.{eqb_refl}
 use Rattle.trace_format.specs.declared.trace.Trace.{Trace}
 use Rattle.entry_checks.specs.Operation.{File, in_slot, at_descriptor}
 use Rattle.world_parts.specs.World.{World, slot, descriptor}
+use Rattle.op_meaning.specs.Site.{in_ring}
 use Rattle.op_meaning.specs.Meaning.{slot_count, held, Handle, handle, handle_of}
 use Rattle.sqe_codec.specs.Answers.{each}
 use Rattle.world_parts.specs.Items.{Atom, slot_at, descriptor_at, description_at, value, one, member_of, Use, reads, Footprint, has_atom, Agree}
@@ -42,7 +43,7 @@ pub agree_head : (s u : World) (a : Atom) (w : Bool) (f : Footprint) → Agree (
 agree_head s u a w f h = h.same a (either_left _ _ (same_atom_refl a))
 
 -- The open file description that a number stands for, and its handle, are the same.
-pub held_same : (t : Trace) (s u : World) (r : ℕ) (f : File) → Agree (map reads (held_item t r f)) s u → held t u r f ≡ held t s r f
+pub held_same : (t : Trace) (s u : World) (r : ℕ) (f : File) → Agree (map reads (held_item (in_ring t r) f)) s u → held (in_ring t r) u f ≡ held (in_ring t r) s f
 held_same t s u r (in_slot n) h =
     elim (ltb n (slot_count t r)) as (λ c. Agree (map reads (cond c (one (slot_at r n) ∷ []) [])) s u → cond c (slot u r n) None ≡ cond c (slot s r n) None) [
       | true ↦ λ k. sym (k.same (slot_at r n) (either_left _ _ (both _ _ (eqb_refl r) (eqb_refl n))))
@@ -55,9 +56,9 @@ held_same t s u r (at_descriptor n) h =
     ] h
 
 -- Where two worlds agree on what leads to an open file, it is the same.
-pub handle_same : (t : Trace) (s u : World) (r : ℕ) (f : File) → Agree (file_seen t s r f) s u → handle t u r f ≡ handle t s r f
+pub handle_same : (t : Trace) (s u : World) (r : ℕ) (f : File) → Agree (file_seen (in_ring t r) s f) s u → handle (in_ring t r) u f ≡ handle (in_ring t r) s f
 handle_same t s u r f a =
-    ap (λ d. option_and_then (handle_of u) d) (held_same t s u r f (agree_left s u _ _ a)) ∙ at_description (held t s r f) (agree_right s u (file_reads t r f) _ a)
+    ap (λ d. option_and_then (handle_of u) d) (held_same t s u r f (agree_left s u _ _ a)) ∙ at_description (held (in_ring t r) s f) (agree_right s u (file_reads (in_ring t r) f) _ a)
   where
     at_description : (d : Option ℕ) → Agree (each (λ n. reads (one (description_at n)) ∷ []) d) s u → option_and_then (handle_of u) d ≡ option_and_then (handle_of s) d
     at_description None k = refl

@@ -16,10 +16,11 @@ use Rattle.finite_maps.specs.Table.{get}
 use Rattle.world_parts.specs.World.{World, IsWorld, Description, Opened, opened, opened_by, kind, names, name}
 use Rattle.file_tree.specs.Tree.{target, Target, kind_of_node}
 use Rattle.file_tree.specs.Walk.{Place, walk, walk_from, names_from, directory_at, fits_name, starts_at_root, is_directory}
-use Rattle.op_meaning.specs.Meaning.{made_node, made_description, slot_count, Handle, handle, handle_of, held, is_file, allocation, Allocation, found}
+use Rattle.op_meaning.specs.Site.{at_place, in_ring, sited}
+use Rattle.op_meaning.specs.Meaning.{made_node, made_description, slot_count, Handle, handle, handle_of, held, is_file, allocation, Allocation, found, shape}
 use Rattle.world_parts.specs.Items.{Atom, description_at, position_of, size_of, byte_at, name_at, names_in, buffer_byte, Item, one, file_bytes, buffer_bytes, member_of, Use, reads, writes, Footprint, has_atom}
 use Rattle.foot_print.specs.Footprint.{foreseen, shape_row, look_reads, uses, file_seen, content_of, moved_content, moved_uses, opened_at, directory_made, name_freed, allocation_uses, open_uses, use_of, held_item, file_reads, range_of, transfer_range, position_written, position_use, span_use, path_reads, name_written, directory_names, allocated_content, resized_content}
-use Rattle.op_meaning.specs.Shape.{Shape, idle, looking, moving, allocating, resizing, closing, opening, making, freeing, linking, renaming, shape, Look, at_nothing, at_file, at_path, at_paths, look}
+use Rattle.op_meaning.specs.Shape.{Shape, idle, looking, moving, allocating, resizing, closing, opening, making, freeing, linking, renaming, Look, at_nothing, at_file, at_path, at_paths, look}
 use Rattle.foot_print.specs.Reach.{taken}
 use Rattle.foot_print.specs.Replayed.{IsBefore, is_earlier}
 use Rattle.world_parts.proofs.Collision.{same_atom-eq}
@@ -70,12 +71,12 @@ module _ (t : Trace) (k : ℕ) (s : World) (w : IsWorld s) (before : IsBefore t 
       go (buffer_byte q c p) m = tt
       go _ m = absurd m
 
-  bound_held : (v : Bool) (r : ℕ) (f : File) → Bound (map (use_of v) (held_item t r f))
+  bound_held : (v : Bool) (r : ℕ) (f : File) → Bound (map (use_of v) (held_item (in_ring t r) f))
   bound_held v r (in_slot n) = elim (ltb n (slot_count t r)) as (λ c. Bound (map (use_of v) (cond c (one (Rattle.world_parts.specs.Items.slot_at r n) ∷ []) []))) [ true ↦ bound_one (Rattle.world_parts.specs.Items.slot_at r n) v tt | false ↦ bound_nothing ]
   bound_held v r (at_descriptor n) = elim (ltb n (length t.descriptors)) as (λ c. Bound (map (use_of v) (cond c (one (Rattle.world_parts.specs.Items.descriptor_at n) ∷ []) []))) [ true ↦ bound_one (Rattle.world_parts.specs.Items.descriptor_at n) v tt | false ↦ bound_nothing ]
 
   module _ (r : ℕ) where
-    held_leads : (f : File) → IfSome (held t s r f) (λ d. IsSome (opened s d))
+    held_leads : (f : File) → IfSome (held (in_ring t r) s f) (λ d. IsSome (opened s d))
     held_leads f = let slots = λ (n : ℕ). w.slots_lead r n in let descriptors = w.descriptors_lead in grind (arith, slots, descriptors)
 
     bound_position : (o : ℕ) (h : Handle) → T (ltb h.description (made_description t k)) → Bound (position_written h o)
@@ -84,8 +85,8 @@ module _ (t : Trace) (k : ℕ) (s : World) (w : IsWorld s) (before : IsBefore t 
     abbrev BoundContent : (ℕ → Handle → Footprint) → Type 0
     BoundContent c = (i : ℕ) (h : Handle) → T (ltb i (made_node t k)) → T (ltb h.description (made_description t k)) → Bound (c i h)
 
-    bound_seen : (f : File) → Bound (file_seen t s r f)
-    bound_seen f = bound_all (file_reads t r f) _ (bound_held false r f) (at (held t s r f) (held_leads f))
+    bound_seen : (f : File) → Bound (file_seen (in_ring t r) s f)
+    bound_seen f = bound_all (file_reads (in_ring t r) f) _ (bound_held false r f) (at (held (in_ring t r) s f) (held_leads f))
       where
         at : (x : Option ℕ) → IfSome x (λ d. IsSome (opened s d)) → Bound (each (λ d. reads (one (description_at d)) ∷ []) x)
         at None l = bound_nothing
@@ -95,8 +96,8 @@ module _ (t : Trace) (k : ℕ) (s : World) (w : IsWorld s) (before : IsBefore t 
     abbrev Before : Option Handle → Type 0
     Before x = IfSome x (λ h. T (ltb h.opened.target.node (made_node t k)) × T (ltb h.description (made_description t k)))
 
-    handle_before : (f : File) → Before (handle t s r f)
-    handle_before f = at (held t s r f) (held_leads f)
+    handle_before : (f : File) → Before (handle (in_ring t r) s f)
+    handle_before f = at (held (in_ring t r) s f) (held_leads f)
       where
         leads : (d : ℕ) → T (ltb d (made_description t k)) → (y : Option Description) → IfSome (option_map (opened_by s) y) (λ o. IsSome o.target.kind) → Before (option_map (λ (o : Opened). record { description = d; opened = o }) (option_map (opened_by s) y))
         leads d e None l = tt
@@ -127,7 +128,7 @@ module _ (t : Trace) (k : ℕ) (s : World) (w : IsWorld s) (before : IsBefore t 
     bound_moved : (w : Bool) (o n : ℕ) (x : Option Handle) → Before x → Bound (moved_uses s foreseen w o n x)
     bound_moved w o n x l = bound_all (content_of (moved_content s foreseen w o n) x) _ (bound_content (moved_content s foreseen w o n) (bound_moved_content w o n) x l) (bound_positions o x l)
 
-    bound_span : (v : Bool) (x : Span) → Bound (span_use v t r x)
+    bound_span : (v : Bool) (x : Span) → Bound (span_use (in_ring t r) v x)
     bound_span v x = grind (arith, bound_nothing, bound_buffer)
 
     bound_allocation : (i at end : ℕ) (a : Option Allocation) → T (ltb i (made_node t k)) → Bound (allocation_uses true i at end a)
@@ -200,11 +201,11 @@ module _ (t : Trace) (k : ℕ) (s : World) (w : IsWorld s) (before : IsBefore t 
     bound_removed true y l = bound_directory y l
     bound_removed false y l = bound_nothing
 
-    bound_opened : (g : OpenFlags) (q : Place) → T (ltb q.parent (made_node t k)) → (y : Option Target) → IfSome y (λ (x : Target). T (ltb x.node (made_node t k))) → Bound (open_uses t k foreseen g q y)
+    bound_opened : (g : OpenFlags) (q : Place) → T (ltb q.parent (made_node t k)) → (y : Option Target) → IfSome y (λ (x : Target). T (ltb x.node (made_node t k))) → Bound (open_uses (at_place t k) foreseen g q y)
     bound_opened g q e None l = elim g.create as (λ b. Bound (cond b (name_written q ++ []) [])) [ true ↦ bound_all (name_written q) [] (bound_name q e) bound_nothing | false ↦ bound_nothing ]
     bound_opened g q e (Some y) l = elim (g.truncate && not (is_directory y.kind)) as (λ b. Bound (cond b (writes (one (size_of y.node)) ∷ writes (range_of y.node 0 file_limit) ∷ []) [])) [ true ↦ bound_cut y.node 0 l | false ↦ bound_nothing ]
 
-    bound_look : (l : Look) → Bound (look_reads t r s l)
+    bound_look : (l : Look) → Bound (look_reads (in_ring t r) s l)
     bound_look at_nothing = bound_nothing
     bound_look (at_file f) = bound_seen f
     bound_look (at_path p) = bound_path p
@@ -213,22 +214,22 @@ module _ (t : Trace) (k : ℕ) (s : World) (w : IsWorld s) (before : IsBefore t 
     bound_freed : (removes : Bool) (x : Result Place Errno) → Placed x → Bound (each_ok (name_freed removes) x)
     bound_freed removes x l = bound_place (name_freed removes) (λ q e m. bound_all (name_written q) _ (bound_name q e) (bound_removed removes q.target m)) x l
 
-    bound_uses : (x : Shape) → Bound (uses t k r s foreseen x (found t r s (look x)))
+    bound_uses : (x : Shape) → Bound (uses (sited t k r) s foreseen x (found (in_ring t r) s (look x)))
     bound_uses idle = bound_nothing
     bound_uses (looking f) = bound_held false r f
-    bound_uses (moving w f o n None) = bound_moved w o n (handle t s r f) (handle_before f)
-    bound_uses (moving w f o n (Some x)) = bound_all _ (span_use (not w) t r x) (bound_moved w o n (handle t s r f) (handle_before f)) (bound_span (not w) x)
-    bound_uses (allocating f o n mode) = bound_content (allocated_content s foreseen o n mode) (λ i h e d. bound_allocation i o (o + n) (allocation mode) e) (handle t s r f) (handle_before f)
-    bound_uses (resizing f n) = bound_content (resized_content n) (λ i h e d. bound_cut i n e) (handle t s r f) (handle_before f)
+    bound_uses (moving w f o n None) = bound_moved w o n (handle (in_ring t r) s f) (handle_before f)
+    bound_uses (moving w f o n (Some x)) = bound_all _ (span_use (in_ring t r) (not w) x) (bound_moved w o n (handle (in_ring t r) s f) (handle_before f)) (bound_span (not w) x)
+    bound_uses (allocating f o n mode) = bound_content (allocated_content s foreseen o n mode) (λ i h e d. bound_allocation i o (o + n) (allocation mode) e) (handle (in_ring t r) s f) (handle_before f)
+    bound_uses (resizing f n) = bound_content (resized_content n) (λ i h e d. bound_cut i n e) (handle (in_ring t r) s f) (handle_before f)
     bound_uses (closing f) = bound_held true r f
-    bound_uses (opening p g asked) = bound_place (opened_at t k foreseen g) (λ q e l. bound_opened g q e q.target l) (walk s.nodes p) (placed p)
-    bound_uses (making p) = bound_place (directory_made t k foreseen) (λ q e l. bound_all (name_written q) [] (bound_name q e) bound_nothing) (walk s.nodes p) (placed p)
+    bound_uses (opening p g asked) = bound_place (opened_at (at_place t k) foreseen g) (λ q e l. bound_opened g q e q.target l) (walk s.nodes p) (placed p)
+    bound_uses (making p) = bound_place (directory_made (at_place t k) foreseen) (λ q e l. bound_all (name_written q) [] (bound_name q e) bound_nothing) (walk s.nodes p) (placed p)
     bound_uses (freeing p removes) = bound_freed removes (walk s.nodes p) (placed p)
     bound_uses (linking old new) = bound_place name_written (λ q e l. bound_name q e) (walk s.nodes new) (placed new)
     bound_uses (renaming old new) = bound_all (each_ok name_written (walk s.nodes old)) _ (bound_place name_written (λ q e l. bound_name q e) (walk s.nodes old) (placed old)) (bound_freed true (walk s.nodes new) (placed new))
 
-    shape_bound : (x : Shape) → Bound (shape_row t k r s foreseen x)
-    shape_bound x = bound_all (look_reads t r s (look x)) _ (bound_look (look x)) (bound_uses x)
+    shape_bound : (x : Shape) → Bound (shape_row (sited t k r) s foreseen x)
+    shape_bound x = bound_all (look_reads (in_ring t r) s (look x)) _ (bound_look (look x)) (bound_uses x)
 
-    pub taken_bound : (o : Operation) (a : Atom) → T (has_atom (taken t k r s o) a) → T (is_earlier t k a)
+    pub taken_bound : (o : Operation) (a : Atom) → T (has_atom (taken (sited t k r) s o) a) → T (is_earlier t k a)
     taken_bound o = shape_bound (shape o)

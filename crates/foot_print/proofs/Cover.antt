@@ -5,6 +5,7 @@ use Rattle.trace_format.specs.declared.trace.Trace.{Trace}
 use Rattle.trace_format.specs.Sides.{most_moved}
 use Rattle.entry_checks.specs.Operation.{Operation, nop, readv, writev, fsync, read_fixed, write_fixed, fallocate, openat, close, read, write, renameat, unlinkat, mkdirat, linkat, ftruncate}
 use Rattle.world_parts.specs.World.{World, IsWorld}
+use Rattle.op_meaning.specs.Site.{in_ring, sited}
 use Rattle.op_meaning.specs.Meaning.{Effect, meaning, reply, span_destination, span_bytes}
 use Rattle.foot_print.specs.Laws.{Awaits, FootprintsCover}
 use Rattle.foot_print.proofs.CoverOperation.{Owes, owed_covers}
@@ -26,7 +27,7 @@ pub record OpLaws (t : Trace) (k r : ℕ) (s : World) (o : Operation) : Type 0 w
   pub keeps : Keeps t k r s o
 
 -- An operation that only changes contents keeps a world.
-of_contents : (t : Trace) (k r : ℕ) (s : World) (o : Operation) → Owes t k r o s → IsWorld s → ((x : Effect) → meaning t k r s o ≡ Ok x → AllOfContents x.changes) → OpLaws t k r s o
+of_contents : (t : Trace) (k r : ℕ) (s : World) (o : Operation) → Owes t k r o s → IsWorld s → ((x : Effect) → meaning (sited t k r) s o ≡ Ok x → AllOfContents x.changes) → OpLaws t k r s o
 of_contents t k r s o owes w c = record { owes = owes; keeps = λ x e. contents_leave t k s x.changes (c x e) w }
 
 -- The laws of each operation.
@@ -35,8 +36,8 @@ laws t k r nop s w = of_contents t k r s nop (nop_owes t k r s w) w.is_world (λ
 laws t k r (readv f o n) s w = of_contents t k r s (readv f o n) (readv_owes t k r s f o n w) w.is_world (read_contents t s r f o (min n most_moved) (Ok reply))
 laws t k r (writev f o new) s w = of_contents t k r s (writev f o new) (writev_owes t k r s f o new w) w.is_world (write_contents t s r f o (Ok new))
 laws t k r (fsync f) s w = of_contents t k r s (fsync f) (fsync_owes t k r s f w) w.is_world (λ x e. grind arith)
-laws t k r (read_fixed f o z) s w = of_contents t k r s (read_fixed f o z) (read_fixed_owes t k r s f o z w) w.is_world (read_contents t s r f o (min z.length most_moved) (span_destination t r z))
-laws t k r (write_fixed f o z) s w = of_contents t k r s (write_fixed f o z) (write_fixed_owes t k r s f o z w) w.is_world (write_contents t s r f o (span_bytes t s r z))
+laws t k r (read_fixed f o z) s w = of_contents t k r s (read_fixed f o z) (read_fixed_owes t k r s f o z w) w.is_world (read_contents t s r f o (min z.length most_moved) (span_destination (in_ring t r) z))
+laws t k r (write_fixed f o z) s w = of_contents t k r s (write_fixed f o z) (write_fixed_owes t k r s f o z w) w.is_world (write_contents t s r f o (span_bytes (in_ring t r) s z))
 laws t k r (fallocate f o n mode) s w = of_contents t k r s (fallocate f o n mode) (fallocate_owes t k r s f o n mode w) w.is_world (λ x e. fallocate_contents t s r f o n mode x w.is_world e)
 laws t k r (openat p g asked) s w = record { owes = openat_owes t k r s p g asked w; keeps = openat_keeps t k r s p g asked w }
 laws t k r (close f) s w = of_contents t k r s (close f) (close_owes t k r s f w) w.is_world (close_contents t s r f)

@@ -9,6 +9,7 @@ use Rattle.trace_format.specs.declared.trace.Trace.{Trace}
 use Rattle.sqe_codec.specs.Answers.{◌>>◌, require}
 use Rattle.entry_checks.specs.Operation.{nop, fsync, close, File, in_slot, at_descriptor}
 use Rattle.world_parts.specs.World.{World, slot, set_slot, set_descriptor}
+use Rattle.op_meaning.specs.Site.{in_ring}
 use Rattle.op_meaning.specs.Meaning.{done, slot_count, held}
 use Rattle.world_parts.specs.Items.{Atom, slot_at, descriptor_at, Item, one, reads, writes, has_atom, writes_atom, Agree}
 use Rattle.foot_print.specs.Footprint.{held_item, file_reads}
@@ -30,7 +31,7 @@ fsync_owes t k r s f w = record {
     same_meaning = ap (λ x. require (is_some x) EBADF >> Ok (done [])) (held_same t s u r f d);
     same_uses = λ c. refl;
   };
-  supports = λ u v a d e q. let m = ok_require (is_some (held t u r f)) EBADF (Ok (done [])) e q in supports_effect (file_reads t r f) u (done []) e m.0 tt;
+  supports = λ u v a d e q. let m = ok_require (is_some (held (in_ring t r) u f)) EBADF (Ok (done [])) e q in supports_effect (file_reads (in_ring t r) f) u (done []) e m.0 tt;
 }
 
 -- What an access set writes of some items, worlds that agree on it agree on.
@@ -42,10 +43,10 @@ agree_written : (s u : World) (xs : List Item) → Agree (map writes xs) s u →
 agree_written s u xs h = record { same = λ a m. h.same a (read_too xs a m) }
 
 -- The slot or descriptor of a number that is written, where it is one.
-writes_slot : (t : Trace) (r n : ℕ) → T (ltb n (slot_count t r)) → T (writes_atom (map writes (held_item t r (in_slot n))) (slot_at r n))
+writes_slot : (t : Trace) (r n : ℕ) → T (ltb n (slot_count t r)) → T (writes_atom (map writes (held_item (in_ring t r) (in_slot n))) (slot_at r n))
 writes_slot t r n h = subst (λ b. T (writes_atom (map writes (cond b (one (slot_at r n) ∷ []) [])) (slot_at r n))) (sym (true_of _ h)) (either_left _ _ (same_atom_refl (slot_at r n)))
 
-writes_descriptor : (t : Trace) (r n : ℕ) → T (ltb n (length t.descriptors)) → T (writes_atom (map writes (held_item t r (at_descriptor n))) (descriptor_at n))
+writes_descriptor : (t : Trace) (r n : ℕ) → T (ltb n (length t.descriptors)) → T (writes_atom (map writes (held_item (in_ring t r) (at_descriptor n))) (descriptor_at n))
 writes_descriptor t r n h = subst (λ b. T (writes_atom (map writes (cond b (one (descriptor_at n) ∷ []) [])) (descriptor_at n))) (sym (true_of _ h)) (either_left _ _ (eqb_refl n))
 
 there_first : {A : Type 0} (b : Bool) (x : Option A) → T (is_some (cond b x None)) → T b
@@ -54,12 +55,12 @@ there_first b x h = grind arith
 pub close_owes : (t : Trace) (k r : ℕ) (s : World) (f : File) → Awaits t k s → Owes t k r (close f) s
 close_owes t k r s (at_descriptor n) w = record {
   tells = λ u b a d. record {
-    same_meaning = ap (λ x. require (is_some x) EBADF >> Ok (done (set_descriptor n None ∷ []))) (held_same t s u r (at_descriptor n) (agree_written s u (held_item t r (at_descriptor n)) d));
+    same_meaning = ap (λ x. require (is_some x) EBADF >> Ok (done (set_descriptor n None ∷ []))) (held_same t s u r (at_descriptor n) (agree_written s u (held_item (in_ring t r) (at_descriptor n)) d));
     same_uses = λ c. refl;
   };
   supports = λ u v a d e q.
-      let m = ok_require (is_some (held t u r (at_descriptor n))) EBADF (Ok (done (set_descriptor n None ∷ []))) e q in
-      supports_effect (map writes (held_item t r (at_descriptor n))) u (done (set_descriptor n None ∷ [])) e m.0 (writes_descriptor t r n (there_first _ _ m.1), tt);
+      let m = ok_require (is_some (held (in_ring t r) u (at_descriptor n))) EBADF (Ok (done (set_descriptor n None ∷ []))) e q in
+      supports_effect (map writes (held_item (in_ring t r) (at_descriptor n))) u (done (set_descriptor n None ∷ [])) e m.0 (writes_descriptor t r n (there_first _ _ m.1), tt);
 }
 close_owes t k r s (in_slot n) w = record {
   tells = λ u b a d. record {
@@ -69,8 +70,8 @@ close_owes t k r s (in_slot n) w = record {
   supports = λ u v a d e q.
       let m = ok_require (ltb n (slot_count t r)) EINVAL _ e q in
       let l = ok_require (is_some (slot u r n)) EBADF _ e m.0 in
-      supports_effect (map writes (held_item t r (in_slot n))) u (done (set_slot r n None ∷ [])) e l.0 (writes_slot t r n m.1, tt);
+      supports_effect (map writes (held_item (in_ring t r) (in_slot n))) u (done (set_slot r n None ∷ [])) e l.0 (writes_slot t r n m.1, tt);
 }
   where
-    slot_same : (u : World) → T (ltb n (slot_count t r)) → Agree (map writes (held_item t r (in_slot n))) s u → slot u r n ≡ slot s r n
+    slot_same : (u : World) → T (ltb n (slot_count t r)) → Agree (map writes (held_item (in_ring t r) (in_slot n))) s u → slot u r n ≡ slot s r n
     slot_same u h a = sym (a.same (slot_at r n) (subst (λ b. T (has_atom (map writes (cond b (one (slot_at r n) ∷ []) [])) (slot_at r n))) (sym (true_of _ h)) (either_left _ _ (same_atom_refl (slot_at r n)))))

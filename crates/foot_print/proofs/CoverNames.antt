@@ -84,7 +84,7 @@ may_remove_same : (s u : World) (removes : Bool) (y : Target) → Agree (cond re
 may_remove_same s u false y a = refl
 may_remove_same s u true y a = let same = has_names_same s u y a in grind arith
 
-removal_same : (s u : World) (removes : Bool) (z : Result Place Errno) → Agree (each_ok (name_freed removes) z) s u → unlinkat_meaning u z removes ≡ unlinkat_meaning s z removes
+removal_same : (s u : World) (removes : Bool) (z : Result Place Errno) → Agree (each_ok (name_freed removes) z) s u → unlinkat_meaning u removes z ≡ unlinkat_meaning s removes z
 removal_same s u removes (Err e) a = refl
 removal_same s u removes (Ok q) a = at q.target (agree_right s u (name_written q) _ a)
   where

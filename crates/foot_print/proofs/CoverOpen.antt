@@ -14,6 +14,7 @@ use Rattle.world_parts.specs.World.{World, kind, size, Change, set_name, set_siz
 use Rattle.file_tree.specs.Tree.{a_file, Target}
 use Rattle.extent_bytes.specs.Bytes.{resized}
 use Rattle.file_tree.specs.Walk.{Place, walk, is_directory}
+use Rattle.op_meaning.specs.Site.{at_place, in_ring, sited}
 use Rattle.op_meaning.specs.Meaning.{Effect, made_node, made_description, slot_count, lowest_free, room, filled, may_open, found_or_made, open_changes, opened_with, open_as}
 use Rattle.world_parts.specs.Items.{slot_at, descriptor_at, description_at, position_of, size_of, byte_at, one, all_descriptors, reads, writes, Footprint, has_atom, writes_atom, Agree, Holds}
 use Rattle.foot_print.specs.Footprint.{tried, made_where, name_written, range_of, room_uses, description_made, open_uses, opened_at}
@@ -33,28 +34,28 @@ use Rattle.foot_print.proofs.Accepted.{err_apart, ok_same, ok_bind, ok_then, hol
 
 -- The room of openat is decided by what it has of slots and descriptors.
 module _ (t : Trace) (s u : World) (r : ℕ) where
-  lowest_same : Agree (room_uses t s r None) s u → lowest_free t u ≡ lowest_free t s
+  lowest_same : Agree (room_uses (in_ring t r) s None) s u → lowest_free t u ≡ lowest_free t s
   lowest_same a = λ i. find (λ n. is_none (sym (a.same (descriptor_at n) tt) i)) (range_with_len 0 (length t.descriptors))
 
-  room_same : (asked : Option ℕ) → Agree (room_uses t s r asked) s u → room t u r asked ≡ room t s r asked
+  room_same : (asked : Option ℕ) → Agree (room_uses (in_ring t r) s asked) s u → room (in_ring t r) u asked ≡ room (in_ring t r) s asked
   room_same None a = ap (λ x. ok_or (option_map at_descriptor x) EMFILE) (lowest_same a)
   room_same (Some n) a = refl
 
-  room_uses_same : (asked : Option ℕ) → Agree (room_uses t s r asked) s u → room_uses t u r asked ≡ room_uses t s r asked
+  room_uses_same : (asked : Option ℕ) → Agree (room_uses (in_ring t r) s asked) s u → room_uses (in_ring t r) u asked ≡ room_uses (in_ring t r) s asked
   room_uses_same None a = ap (λ x. reads all_descriptors ∷ each (λ n. writes (one (descriptor_at n)) ∷ []) x) (lowest_same a)
   room_uses_same (Some n) a = refl
 
 openat_tells : (t : Trace) (k r : ℕ) (s u : World) (p : Path) (g : OpenFlags) (asked : Option ℕ) → RowTells t k r s u (openat p g asked)
 openat_tells t k r s u p g asked x a d =
     let made = made_where (tried x) (description_made t k) in
-    let rooms = agree_left s u (room_uses t s r asked) made (agree_left s u (room_uses t s r asked ++ made) _ d) in
+    let rooms = agree_left s u (room_uses (in_ring t r) s asked) made (agree_left s u (room_uses (in_ring t r) s asked ++ made) _ d) in
     record {
-      same_meaning = ap (λ z. z >>= λ at. walk s.nodes p >>= λ q. may_open g q.target >> Ok (open_as t k r g at q)) (room_same t s u r asked rooms);
-      same_uses = λ y i. room_uses_same t s u r asked rooms i ++ made_where (tried y) (description_made t k) ++ each_ok (opened_at t k (tried y) g) (walk s.nodes p);
+      same_meaning = ap (λ z. z >>= λ at. walk s.nodes p >>= λ q. may_open g q.target >> Ok (open_as (sited t k r) g at q)) (room_same t s u r asked rooms);
+      same_uses = λ y i. room_uses_same t s u r asked rooms i ++ made_where (tried y) (description_made t k) ++ each_ok (opened_at (at_place t k) (tried y) g) (walk s.nodes p);
     }
 
 -- The room that is filled is written.
-room_supported : (t : Trace) (s z : World) (r d : ℕ) (asked : Option ℕ) (at : File) (f : Footprint) → room t s r asked ≡ Ok at → Holds f (room_uses t s r asked) → SupportsAll f z (filled r at d).changes
+room_supported : (t : Trace) (s z : World) (r d : ℕ) (asked : Option ℕ) (at : File) (f : Footprint) → room (in_ring t r) s asked ≡ Ok at → Holds f (room_uses (in_ring t r) s asked) → SupportsAll f z (filled r at d).changes
 room_supported t s z r d None at f h w = by (lowest_free t s) h w
   where
     by : (o : Option ℕ) → ok_or (option_map at_descriptor o) EMFILE ≡ Ok at → Holds f (reads all_descriptors ∷ each (λ n. writes (one (descriptor_at n)) ∷ []) o) → SupportsAll f z (filled r at d).changes
@@ -106,27 +107,27 @@ module _ (t : Trace) (k : ℕ) (s : World) (g : OpenFlags) (w : Unused t k s) (q
       below None c = tt
       below (Some n) c = λ p a b. h.writes (byte_at y.node p) (either_left _ _ (both (y.node == y.node) _ (eqb_refl y.node) (both (leb 0 p) _ (le→leb 0 p a) (lt→ltb p _ (omega arith)))))
 
-  found_supported : (y : Target) → kind s y.node ≡ y.kind → (T g.truncate → is_directory y.kind ≡ false) → Holds f (open_uses t k (tried true) g q (Some y)) → SupportsAll f s (open_changes g m q (Some y) ++ make_description d (opened_with g y) ∷ last)
+  found_supported : (y : Target) → kind s y.node ≡ y.kind → (T g.truncate → is_directory y.kind ≡ false) → Holds f (open_uses (at_place t k) (tried true) g q (Some y)) → SupportsAll f s (open_changes g m q (Some y) ++ make_description d (opened_with g y) ∷ last)
   found_supported y l c h = grind (arith, cut_supported, described)
 
-  target_supported : (z : Option Target) → Leads s z → T (is_ok (may_open g z)) → Holds f (open_uses t k (tried true) g q z) → SupportsAll f s (open_changes g m q z ++ make_description d (opened_with g (found_or_made m z)) ∷ last)
+  target_supported : (z : Option Target) → Leads s z → T (is_ok (may_open g z)) → Holds f (open_uses (at_place t k) (tried true) g q z) → SupportsAll f s (open_changes g m q z ++ make_description d (opened_with g (found_or_made m z)) ∷ last)
   target_supported z l c h = grind (arith, make_supported, found_supported, cuts_a_file, second_test)
 
 openat_supports : (t : Trace) (k r : ℕ) (s : World) (p : Path) (g : OpenFlags) (asked : Option ℕ) → Unused t k s
     → ((i : ℕ) → T (has_atom (used t k r s true (openat p g asked)) (size_of i)) → IfSome (size s i) (λ n. n ≤ file_limit)) → RowSupports t k r s (openat p g asked)
 openat_supports t k r s p g asked w fits e h =
-    let at = ok_bind (room t s r asked) _ e h in
+    let at = ok_bind (room (in_ring t r) s asked) _ e h in
     let q = ok_bind (walk s.nodes p) _ e at.2 in
     let last = ok_then (may_open g q.0.target) _ e q.2 in
     let made = description_made t k in
-    let uses : Place → Footprint = λ x. open_uses t k (tried true) g x x.target in
+    let uses : Place → Footprint = λ x. open_uses (at_place t k) (tried true) g x x.target in
     let places = each_ok uses (walk s.nodes p) in
-    let room = room_uses t s r asked in
+    let room = room_uses (in_ring t r) s asked in
     let row_is = room ++ made ++ places in
     let rooms = holds_over row_is (room ++ made) room (holds_left (room ++ made) places) (holds_left room made) in
     let describes = holds_over row_is (room ++ made) made (holds_left (room ++ made) places) (holds_right room made) in
     let here = holds_over row_is places (uses q.0) (holds_right (room ++ made) places) (holds_ok uses (walk s.nodes p) q.0 q.1) in
-    subst (λ (x : Effect). SupportsAll row_is s x.changes) (ok_same (open_as t k r g at.0 q.0) e last.0)
+    subst (λ (x : Effect). SupportsAll row_is s x.changes) (ok_same (open_as (sited t k r) g at.0 q.0) e last.0)
     (target_supported t k s g w q.0 row_is fits (filled r at.0 (made_description t k)).changes (λ z. room_supported t s z r (made_description t k) asked at.0 row_is at.1 rooms) describes q.0.target (walk_leads s p q.0 q.1) last.1 here)
 
 pub openat_owes : (t : Trace) (k r : ℕ) (s : World) (p : Path) (g : OpenFlags) (asked : Option ℕ) → Awaits t k s → Owes t k r (openat p g asked) s

@@ -13,8 +13,9 @@ use Rattle.entry_checks.specs.Operation.{Operation}
 use Rattle.entry_checks.specs.Check.{has, io_hardlink, skip_success}
 use Rattle.chain_plan.specs.Chain.{role}
 use Rattle.world_parts.specs.World.{World, Change, break_chain, apply, apply_all, loud, quiet}
-use Rattle.op_meaning.specs.Meaning.{Effect, Found, found, meaning_by, meaning}
-use Rattle.op_meaning.specs.Shape.{look, shape}
+use Rattle.op_meaning.specs.Site.{in_ring, sited}
+use Rattle.op_meaning.specs.Meaning.{Effect, Found, found, meaning_by, meaning, shape}
+use Rattle.op_meaning.specs.Shape.{look}
 use Rattle.op_meaning.specs.Step.{runs, turn, step_world, step_changes, changes_in, changes_of, breaks, ring_at}
 use Rattle.world_parts.specs.Items.{Atom, chain_flag, member_of, value, one, Use, writes, Footprint, has_atom, writes_atom, Agree, Holds}
 use Rattle.foot_print.specs.Footprint.{tried, uses, uses_in, row_in, as_reads, order_uses, turn_uses, footprint}
@@ -30,7 +31,7 @@ use Rattle.foot_print.proofs.CoverChanges.{SupportsAll, supports_all_held, agree
 
 -- A place whose operation is decided by its row, and whose access set supports its changes, is covered by it.
 pub covers : (t : Trace) (k : ℕ) (s : World)
-    → ((u : World) (r : ℕ) (e : Entry) (o : Operation) → turn t k s ≡ Some (runs r e o) → Agree (row_in t k r s o) s u → Decided t k r s u o)
+    → ((u : World) (r : ℕ) (e : Entry) (o : Operation) → turn t k s ≡ Some (runs r e o) → Agree (row_in (sited t k r) s o) s u → Decided t k r s u o)
     → ((u : World) → Unused t k u → Agree (footprint t k s) s u → SupportsAll (footprint t k s) u (step_changes t k s))
     → Awaits t k s → Covers t k (footprint t k s) s
 covers t k s decided supports w u v agree =
@@ -69,42 +70,42 @@ same_run r q e d o p h = let rings : r ≡ q = cc in let operations : o ≡ p = 
 
 -- What an operation finds in a world, and uses of it, by whether the world accepts the operation.
 abbrev pub found_by : Trace → ℕ → World → Operation → Found
-found_by t r s o = found t r s (look (shape o))
+found_by t r s o = found (in_ring t r) s (look (shape o))
 
 abbrev pub used : Trace → ℕ → ℕ → World → Bool → Operation → Footprint
-used t k r s b o = uses t k r s (tried b) (shape o) (found_by t r s o)
+used t k r s b o = uses (sited t k r) s (tried b) (shape o) (found_by t r s o)
 
 -- What the uses of an operation tell, given what it finds: its meaning, and the uses themselves.
 pub record Tells (t : Trace) (k r : ℕ) (s u : World) (o : Operation) : Type 0 where
-  pub same_meaning : meaning_by t k r u o (found_by t r s o) ≡ meaning_by t k r s o (found_by t r s o)
-  pub same_uses : (b : Bool) → uses t k r u (tried b) (shape o) (found_by t r s o) ≡ used t k r s b o
+  pub same_meaning : meaning_by (sited t k r) u o (found_by t r s o) ≡ meaning_by (sited t k r) s o (found_by t r s o)
+  pub same_uses : (b : Bool) → uses (sited t k r) u (tried b) (shape o) (found_by t r s o) ≡ used t k r s b o
 
 -- They do so in worlds that agree on them, and on what the operation reads where it looks.
 abbrev pub RowTells : Trace → ℕ → ℕ → World → World → Operation → Type 0
-RowTells t k r s u o = (b : Bool) → Agree (seen t r s o) s u → Agree (used t k r s b o) s u → Tells t k r s u o
+RowTells t k r s u o = (b : Bool) → Agree (seen (in_ring t r) s o) s u → Agree (used t k r s b o) s u → Tells t k r s u o
 
 -- What an accepted operation uses supports its changes.
 abbrev pub RowSupports : Trace → ℕ → ℕ → World → Operation → Type 0
-RowSupports t k r s o = (x : Effect) → meaning t k r s o ≡ Ok x → SupportsAll (used t k r s true o) s x.changes
+RowSupports t k r s o = (x : Effect) → meaning (sited t k r) s o ≡ Ok x → SupportsAll (used t k r s true o) s x.changes
 
-module _ (t : Trace) (k r : ℕ) (s : World) (o : Operation) (u : World) (tells : RowTells t k r s u o) (agree : Agree (row_in t k r s o) s u) where
-  looks : Agree (seen t r s o) s u
-  looks = agree_left s u (seen t r s o) _ agree
+module _ (t : Trace) (k r : ℕ) (s : World) (o : Operation) (u : World) (tells : RowTells t k r s u o) (agree : Agree (row_in (sited t k r) s o) s u) where
+  looks : Agree (seen (in_ring t r) s o) s u
+  looks = agree_left s u (seen (in_ring t r) s o) _ agree
 
-  uses_agree : Agree (uses_in t k r s o (found_by t r s o)) s u
-  uses_agree = agree_right s u (seen t r s o) _ agree
+  uses_agree : Agree (uses_in (sited t k r) s o (found_by t r s o)) s u
+  uses_agree = agree_right s u (seen (in_ring t r) s o) _ agree
 
   finds : found_by t r u o ≡ found_by t r s o
   finds = found_same t r s u (look (shape o)) looks
 
   told : Tells t k r s u o
-  told = tells (is_ok (meaning t k r s o)) looks (agree_taken s u (is_ok (meaning t k r s o)) _ uses_agree)
+  told = tells (is_ok (meaning (sited t k r) s o)) looks (agree_taken s u (is_ok (meaning (sited t k r) s o)) _ uses_agree)
 
-  means : meaning t k r u o ≡ meaning t k r s o
-  means = ap (meaning_by t k r u o) finds ∙ told.same_meaning
+  means : meaning (sited t k r) u o ≡ meaning (sited t k r) s o
+  means = ap (meaning_by (sited t k r) u o) finds ∙ told.same_meaning
 
   uses_same : (b : Bool) → used t k r u b o ≡ used t k r s b o
-  uses_same b = ap (uses t k r u (tried b) (shape o)) finds ∙ told.same_uses b
+  uses_same b = ap (uses (sited t k r) u (tried b) (shape o)) finds ∙ told.same_uses b
 
   decided : Decided t k r s u o
   decided = record {
@@ -112,27 +113,27 @@ module _ (t : Trace) (k r : ℕ) (s : World) (o : Operation) (u : World) (tells 
     same_row = λ i. looks_same t r s u (look (shape o)) looks i ++ cond (is_ok (means i)) (uses_same (is_ok (means i)) i) (as_reads (uses_same (is_ok (means i)) i));
   }
 
-  supported : (F : Footprint) → (Agree (seen t r s o) s u → Agree (used t k r u true o) s u → RowSupports t k r u o) → Holds F (row_in t k r s o) → SupportsAll F u (changes_of (meaning t k r s o))
-  supported F supports holds = by (meaning t k r s o) refl
+  supported : (F : Footprint) → (Agree (seen (in_ring t r) s o) s u → Agree (used t k r u true o) s u → RowSupports t k r u o) → Holds F (row_in (sited t k r) s o) → SupportsAll F u (changes_of (meaning (sited t k r) s o))
+  supported F supports holds = by (meaning (sited t k r) s o) refl
     where
-      by : (m : Result Effect Errno) → meaning t k r s o ≡ m → SupportsAll F u (changes_of m)
+      by : (m : Result Effect Errno) → meaning (sited t k r) s o ≡ m → SupportsAll F u (changes_of m)
       by (Err e) q = tt
       by (Ok y) q =
-          let fine : is_ok (meaning t k r s o) ≡ true = ap is_ok q in
-          let uses_are : uses_in t k r s o (found_by t r s o) ≡ used t k r s true o = λ i. cond (fine i) (used t k r s (fine i) o) (as_reads (used t k r s (fine i) o)) in
-          let within = holds_over F (row_in t k r s o) (uses_in t k r s o (found_by t r s o)) holds (holds_right (seen t r s o) (uses_in t k r s o (found_by t r s o))) in
+          let fine : is_ok (meaning (sited t k r) s o) ≡ true = ap is_ok q in
+          let uses_are : uses_in (sited t k r) s o (found_by t r s o) ≡ used t k r s true o = λ i. cond (fine i) (used t k r s (fine i) o) (as_reads (used t k r s (fine i) o)) in
+          let within = holds_over F (row_in (sited t k r) s o) (uses_in (sited t k r) s o (found_by t r s o)) holds (holds_right (seen (in_ring t r) s o) (uses_in (sited t k r) s o (found_by t r s o))) in
           let here = subst (λ f. Agree f s u) (uses_are ∙ sym (uses_same true)) uses_agree in
           supports_all_held F (used t k r s true o) u y.changes (subst (Holds F) uses_are within)
           (subst (λ f. SupportsAll f u y.changes) (uses_same true) (supports looks here y (means ∙ q)))
 
 -- The access set of a place covers it where the row of the operation that it runs tells the meaning and supports the changes.
 pub operation_covers : (t : Trace) (k : ℕ) (s : World) (r : ℕ) (e : Entry) (o : Operation) → turn t k s ≡ Some (runs r e o)
-    → ((u : World) → RowTells t k r s u o) → ((u : World) → Unused t k u → Agree (seen t r s o) s u → Agree (used t k r u true o) s u → RowSupports t k r u o)
+    → ((u : World) → RowTells t k r s u o) → ((u : World) → Unused t k u → Agree (seen (in_ring t r) s o) s u → Agree (used t k r u true o) s u → RowSupports t k r u o)
     → Awaits t k s → Covers t k (footprint t k s) s
 operation_covers t k s r e o h tells supports w = covers t k s decides supports_changes w
   where
-    decides : (u : World) (q : ℕ) (d : Entry) (p : Operation) → turn t k s ≡ Some (runs q d p) → Agree (row_in t k q s p) s u → Decided t k q s u p
-    decides u q d p g = subst (λ x. Agree (row_in t k x.0 s x.1) s u → Decided t k x.0 s u x.1) (same_run r q e d o p (sym h ∙ g)) (λ a. decided t k r s o u (tells u) a)
+    decides : (u : World) (q : ℕ) (d : Entry) (p : Operation) → turn t k s ≡ Some (runs q d p) → Agree (row_in (sited t k q) s p) s u → Decided t k q s u p
+    decides u q d p g = subst (λ x. Agree (row_in (sited t k x.0) s x.1) s u → Decided t k x.0 s u x.1) (same_run r q e d o p (sym h ∙ g)) (λ a. decided t k r s o u (tells u) a)
 
     F : Footprint
     F = footprint t k s
@@ -140,16 +141,16 @@ operation_covers t k s r e o h tells supports w = covers t k s decides supports_
     order : Footprint
     order = order_uses (ring_at t k) (role t k)
 
-    up : (p : Use → Bool) → T (list_any p (row_in t k r s o)) → T (list_any p F)
+    up : (p : Use → Bool) → T (list_any p (row_in (sited t k r) s o)) → T (list_any p F)
     up p m = in_right p order (each (turn_uses t k s) (turn t k s)) (subst (λ x. T (list_any p (each (turn_uses t k s) x))) (sym h) m)
 
-    holds : Holds F (row_in t k r s o)
+    holds : Holds F (row_in (sited t k r) s o)
     holds = record { has = λ a m. up (λ (x : Use). member_of x.item a) m; writes = λ a m. up (λ (x : Use). x.written && member_of x.item a) m }
 
     supports_changes : (u : World) → Unused t k u → Agree F s u → SupportsAll F u (step_changes t k s)
     supports_changes u v a =
         subst (λ x. SupportsAll F u (each (changes_in t k s) x)) (sym h)
-        (supports_append F (changes_of (meaning t k r s o)) _ u (supported t k r s o u (tells u) (record { same = λ b m. a.same b (holds.has b m) }) F (supports u v) holds)
+        (supports_append F (changes_of (meaning (sited t k r) s o)) _ u (supported t k r s o u (tells u) (record { same = λ b m. a.same b (holds.has b m) }) F (supports u v) holds)
         (λ z. breaks_supported (role t k) (ring_at t k) e (each (turn_uses t k s) (turn t k s)) _ z))
 
 -- An access set has all uses of another.
@@ -159,7 +160,7 @@ pub record Contains (f g : Footprint) : Type 0 where
 -- What an operation owes in a world: what it uses tells its meaning and itself to any world or part of one that agrees on it, and supports its changes there where it is accepted.
 pub record Owes (t : Trace) (k r : ℕ) (o : Operation) (s : World) : Type 0 where
   pub tells : (u : World) → RowTells t k r s u o
-  pub supports : (u : World) → Unused t k u → Agree (seen t r s o) s u → Agree (used t k r u true o) s u → RowSupports t k r u o
+  pub supports : (u : World) → Unused t k u → Agree (seen (in_ring t r) s o) s u → Agree (used t k r u true o) s u → RowSupports t k r u o
 
 -- The statement of cover for one operation at every place that runs it.
 abbrev pub OperationCovers : Operation → Type 0

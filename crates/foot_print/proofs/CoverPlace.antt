@@ -7,6 +7,7 @@ use Rattle.trace_format.specs.declared.trace.Trace.{Trace}
 use Rattle.entry_checks.specs.Operation.{Operation}
 use Rattle.chain_plan.specs.Chain.{role}
 use Rattle.world_parts.specs.World.{World, Broken}
+use Rattle.op_meaning.specs.Site.{sited}
 use Rattle.op_meaning.specs.Meaning.{meaning}
 use Rattle.op_meaning.specs.Step.{Turn, runs, turn_under, turn, reply_of, changes_in, step_reply, step_changes, run_reply, changes_of, breaks, failed, ring_at}
 use Rattle.sqe_codec.specs.Answers.{each}
@@ -17,8 +18,8 @@ use Rattle.foot_print.proofs.Agreement.{agree_left, agree_right, agree_head, agr
 
 -- An operation is decided by its row.
 pub record Decided (t : Trace) (k r : ℕ) (s u : World) (o : Operation) : Type 0 where
-  pub same_meaning : meaning t k r u o ≡ meaning t k r s o
-  pub same_row : row_in t k r u o ≡ row_in t k r s o
+  pub same_meaning : meaning (sited t k r) u o ≡ meaning (sited t k r) s o
+  pub same_row : row_in (sited t k r) u o ≡ row_in (sited t k r) s o
 
 module _ (t : Trace) (k : ℕ) where
   -- In a chain of one place the flag decides nothing.
@@ -34,7 +35,7 @@ module _ (t : Trace) (k : ℕ) where
         | false ↦ λ e g. under_alone _ _ e
       ] refl a
 
-  module _ (s u : World) (decided : (r : ℕ) (e : Entry) (o : Operation) → turn t k s ≡ Some (runs r e o) → Agree (row_in t k r s o) s u → Decided t k r s u o) where
+  module _ (s u : World) (decided : (r : ℕ) (e : Entry) (o : Operation) → turn t k s ≡ Some (runs r e o) → Agree (row_in (sited t k r) s o) s u → Decided t k r s u o) where
     each_uses : (x : Option Turn) → turn t k s ≡ x → Agree (each (turn_uses t k s) x) s u → each (turn_uses t k u) x ≡ each (turn_uses t k s) x
     each_uses (Some (runs r e o)) h a = (decided r e o h a).same_row
     each_uses _ h a = refl

@@ -41,21 +41,21 @@ content : ℕ → ℕ → ℕ → Handle → Footprint
 content o n i h = reads (one (size_of i)) ∷ reads (transfer_range i (o == at_position) o n) ∷ position_written h o
 
 -- What a read does with a handle.
-read_from : World → ℕ → ℕ → ℕ → Result Destination Errno → Handle → Result Effect Errno
-read_from s r o n span h = span >>= λ to. require (not (is_bad_offset o)) EINVAL >> Ok (cond (n == 0) (done []) (read_effect s r h o n to))
+read_from : World → (offset count : ℕ) → Result Destination Errno → Handle → Result Effect Errno
+read_from s o n span h = span >>= λ to. require (not (is_bad_offset o)) EINVAL >> Ok (cond (n == 0) (done []) (read_effect s o n h to))
 
-read_with : World → ℕ → ℕ → ℕ → Result Destination Errno → Option Handle → Result Effect Errno
+read_with : World → (offset count : ℕ) → Result Destination Errno → Option Handle → Result Effect Errno
 unfolding read_from
-read_with s r o n span x = (ok_or x EBADF >>= λ h. require (can_read h.opened.access) EBADF >> (require (is_file h.opened) EISDIR >> Ok h)) >>= read_from s r o n span
+read_with s o n span x = (ok_or x EBADF >>= λ h. require (can_read h.opened.access) EBADF >> (require (is_file h.opened) EISDIR >> Ok h)) >>= read_from s o n span
 
-reads_with : (s : World) (r : ℕ) (x : Option Handle) (o n : ℕ) (span : Result Destination Errno) → read_meaning s r x o n span ≡ read_with s r o n span x
+reads_with : (s : World) (x : Option Handle) (o n : ℕ) (span : Result Destination Errno) → read_meaning s o n x span ≡ read_with s o n span x
 unfolding read_with
-reads_with s r x o n span = refl
+reads_with s x o n span = refl
 
 -- The effect of a read is the same where worlds agree on its content.
-effect_same : (s u : World) (r : ℕ) (h : Handle) (o n : ℕ) (to : Destination) → IsWorld s → Agree (content o n h.opened.target.node h) s u → read_effect u r h o n to ≡ read_effect s r h o n to
+effect_same : (s u : World) (h : Handle) (o n : ℕ) (to : Destination) → IsWorld s → Agree (content o n h.opened.target.node h) s u → read_effect u o n h to ≡ read_effect s o n h to
 unfolding content
-effect_same s u r h o n to w a =
+effect_same s u h o n to w a =
     elim (o == at_position) as (λ b. Agree (used b) s u → shape b (begin b u) (moved (begin b u) u) ≡ shape b (begin b s) (moved (begin b s) s)) [
       | true ↦ λ k.
           let size = agree_head s u (size_of i) false _ k in
@@ -80,21 +80,21 @@ effect_same s u r h o n to w a =
     moved at z = take n (drop at (bytes_in z i))
 
     shape : Bool → ℕ → List ℕ → Effect
-    shape b at new = delivered r to new (cond b (set_position h.description (at + length new) ∷ []) [])
+    shape b at new = delivered to new (cond b (set_position h.description (at + length new) ∷ []) [])
 
 -- What a read does with a handle is the same.
-from_same : (s u : World) (r o n : ℕ) (span : Result Destination Errno) (h : Handle) → IsWorld s → Agree (content o n h.opened.target.node h) s u → read_from u r o n span h ≡ read_from s r o n span h
+from_same : (s u : World) (o n : ℕ) (span : Result Destination Errno) (h : Handle) → IsWorld s → Agree (content o n h.opened.target.node h) s u → read_from u o n span h ≡ read_from s o n span h
 unfolding read_from
-from_same s u r o n span h w a = let same = λ (to : Destination). effect_same s u r h o n to w a in grind (arith, same)
+from_same s u o n span h w a = let same = λ (to : Destination). effect_same s u h o n to w a in grind (arith, same)
 
-with_same : (s u : World) (r o n : ℕ) (span : Result Destination Errno) (x : Option Handle) → IsWorld s → ((h : Handle) → x ≡ Some h → Agree (of_file (content o n) h) s u) → read_with u r o n span x ≡ read_with s r o n span x
+with_same : (s u : World) (o n : ℕ) (span : Result Destination Errno) (x : Option Handle) → IsWorld s → ((h : Handle) → x ≡ Some h → Agree (of_file (content o n) h) s u) → read_with u o n span x ≡ read_with s o n span x
 unfolding read_with
-with_same s u r o n span x w a = let same = λ (h : Handle). from_same s u r o n span h w in grind (arith, same)
+with_same s u o n span x w a = let same = λ (h : Handle). from_same s u o n span h w in grind (arith, same)
 
 -- A read answers and changes the same in every world that agrees on what it has of the file.
-pub read_same : (s u : World) (r : ℕ) (x : Option Handle) (o n : ℕ) (span : Result Destination Errno) → IsWorld s → Agree (content_of (read_content o n) x) s u → read_meaning u r x o n span ≡ read_meaning s r x o n span
+pub read_same : (s u : World) (x : Option Handle) (o n : ℕ) (span : Result Destination Errno) → IsWorld s → Agree (content_of (read_content o n) x) s u → read_meaning u o n x span ≡ read_meaning s o n x span
 unfolding content
-read_same s u r x o n span w a =
-    reads_with u r x o n span
-    ∙ with_same s u r o n span x w (agree_on_content s u (content o n) x a)
-    ∙ sym (reads_with s r x o n span)
+read_same s u x o n span w a =
+    reads_with u x o n span
+    ∙ with_same s u o n span x w (agree_on_content s u (content o n) x a)
+    ∙ sym (reads_with s x o n span)

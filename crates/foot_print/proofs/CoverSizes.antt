@@ -10,6 +10,7 @@ use Rattle.trace_format.specs.declared.trace.Trace.{Trace}
 use Rattle.sqe_codec.specs.Answers.{◌>>=◌, ◌>>◌, require}
 use Rattle.entry_checks.specs.Operation.{fallocate, ftruncate, File, file_limit}
 use Rattle.world_parts.specs.World.{World, bytes, size, Change, apply, set_size, zero_bytes}
+use Rattle.op_meaning.specs.Site.{in_ring}
 use Rattle.op_meaning.specs.Meaning.{Effect, done, Handle, handle, can_write, bytes_in, Allocation, allocation, extend, reserve, punch, zero_extend, zero_within, allocate, extended}
 use Rattle.world_parts.specs.Items.{size_of, byte_at, value, member_of, one, Use, writes, Footprint, writes_atom, Agree}
 use Rattle.foot_print.specs.Footprint.{range_of, would_extend, allocation_uses, content_of, resized_content}
@@ -79,22 +80,22 @@ allocated s o n mode h = allocated_by (ltb o (2 ^ 63) && not (n == 0) && ltb n (
 pub fallocate_owes : (t : Trace) (k r : ℕ) (s : World) (f : File) (o n mode : ℕ) → Awaits t k s → Owes t k r (fallocate f o n mode) s
 fallocate_owes t k r s f o n mode w = record {
   tells = λ u b a d. record {
-    same_meaning = with_handle (handle t s r f) (allocated s o n mode) (allocated u o n mode) (λ h e.
+    same_meaning = with_handle (handle (in_ring t r) s f) (allocated s o n mode) (allocated u o n mode) (λ h e.
         allocated_same (ltb o (2 ^ 63) && not (n == 0) && ltb n (2 ^ 63)) (allocation mode) (can_write h.opened.access) (leb (o + n) file_limit) (allocate u h.opened.target.node o (o + n)) (allocate s h.opened.target.node o (o + n)) (λ c x.
-        same_allocate s u h.opened.target.node o (o + n) x (has_size s u h.opened.target.node o (o + n) (allocation mode) (on_its_file s u (content s) h (writable_is_file h (handles_sound t s r f w.is_world h e) c) (agree_on_content s u (content s) (handle t s r f) d h e)))));
-    same_uses = λ x. content_same s u (content s) (content u) (λ h b. same_uses s u h.opened.target.node o (o + n) (allocation mode) (has_size s u h.opened.target.node o (o + n) (allocation mode) b)) (handle t s r f) d;
+        same_allocate s u h.opened.target.node o (o + n) x (has_size s u h.opened.target.node o (o + n) (allocation mode) (on_its_file s u (content s) h (writable_is_file h (handles_sound t s r f w.is_world h e) c) (agree_on_content s u (content s) (handle (in_ring t r) s f) d h e)))));
+    same_uses = λ x. content_same s u (content s) (content u) (λ h b. same_uses s u h.opened.target.node o (o + n) (allocation mode) (has_size s u h.opened.target.node o (o + n) (allocation mode) b)) (handle (in_ring t r) s f) d;
   };
   supports = λ u v a d e q.
-      let m = ok_bind (ok_or (handle t u r f) EBADF) (allocated u o n mode) e q in
+      let m = ok_bind (ok_or (handle (in_ring t r) u f) EBADF) (allocated u o n mode) e q in
       let l = ok_require _ EINVAL _ e m.2 in
       let x = ok_bind (ok_or (allocation mode) EOPNOTSUPP) _ e l.0 in
       let y = ok_require (can_write m.0.opened.access) EBADF _ e x.2 in
       let z = ok_require (leb (o + n) file_limit) EFBIG _ e y.0 in
       let i = m.0.opened.target.node in
-      let there = ok_some (handle t u r f) EBADF m.0 m.1 in
+      let there = ok_some (handle (in_ring t r) u f) EBADF m.0 m.1 in
       let here = ok_some (allocation mode) EOPNOTSUPP x.0 x.1 in
-      let g = content_of (content u) (handle t u r f) in
-      let whole : Contains g (content u i m.0) = record { uses = λ p d. in_content (content u) p (handle t u r f) m.0 there (writable_is_file m.0 (handles_sound_too t s u r f w.is_world a m.0 there) y.1) d } in
+      let g = content_of (content u) (handle (in_ring t r) u f) in
+      let whole : Contains g (content u i m.0) = record { uses = λ p d. in_content (content u) p (handle (in_ring t r) u f) m.0 there (writable_is_file m.0 (handles_sound_too t s u r f w.is_world a m.0 there) y.1) d } in
       let part : Contains g (allocation_uses (would_extend u i (o + n)) i o (o + n) (Some x.0)) = subst (λ b. Contains g (allocation_uses (would_extend u i (o + n)) i o (o + n) b)) here whole in
       let limit : o + n ≤ file_limit = leb→le (o + n) file_limit z.1 in
       supports_effect g u (done (allocate u i o (o + n) x.0)) e z.0 (allocation_supported u g i o (o + n) limit x.0 part);
@@ -111,14 +112,14 @@ pub ftruncate_owes : (t : Trace) (k r : ℕ) (s : World) (f : File) (n : ℕ) �
 ftruncate_owes t k r s f n w = record {
   tells = λ u b a d. record { same_meaning = refl; same_uses = λ x. refl };
   supports = λ u v a d e q.
-      let m = ok_bind (ok_or (handle t u r f) EBADF) (truncated n) e q in
+      let m = ok_bind (ok_or (handle (in_ring t r) u f) EBADF) (truncated n) e q in
       let l = ok_require _ EINVAL _ e m.2 in
       let y = ok_require (can_write m.0.opened.access) EINVAL _ e l.0 in
       let z = ok_require (leb n file_limit) EFBIG _ e y.0 in
       let i = m.0.opened.target.node in
-      let there = ok_some (handle t u r f) EBADF m.0 m.1 in
-      let g = content_of (resized_content n) (handle t u r f) in
-      let whole : Contains g (resized_content n i m.0) = record { uses = λ p d. in_content (resized_content n) p (handle t u r f) m.0 there (writable_is_file m.0 (handles_sound_too t s u r f w.is_world a m.0 there) y.1) d } in
+      let there = ok_some (handle (in_ring t r) u f) EBADF m.0 m.1 in
+      let g = content_of (resized_content n) (handle (in_ring t r) u f) in
+      let whole : Contains g (resized_content n i m.0) = record { uses = λ p d. in_content (resized_content n) p (handle (in_ring t r) u f) m.0 there (writable_is_file m.0 (handles_sound_too t s u r f w.is_world a m.0 there) y.1) d } in
       let fits = sizes_fit g s u w.is_world d in
       supports_effect g u (done (set_size i n ∷ [])) e z.0 ((inl (whole.uses (λ (x : Use). x.written && member_of x.item (size_of i)) (either_left _ _ (eqb_refl i))), cut_off g i (size u i) (fits i (whole.uses (λ (x : Use). member_of x.item (size_of i)) (either_left _ _ (eqb_refl i)))) whole), tt);
 }

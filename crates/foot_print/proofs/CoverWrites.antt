@@ -16,6 +16,7 @@ use Rattle.sqe_codec.specs.Answers.{◌>>=◌, ◌>>◌, require}
 use Rattle.entry_checks.specs.Operation.{write, writev, write_fixed, File, Span, at_position, file_limit}
 use Rattle.trace_format.specs.Sides.{most_moved}
 use Rattle.world_parts.specs.World.{World, bytes, size, buffer}
+use Rattle.op_meaning.specs.Site.{in_ring}
 use Rattle.op_meaning.specs.Meaning.{Effect, done, Handle, handle, can_write, is_bad_offset, write_start, write_effect, writable, write_meaning, bytes_in, span_start, span_bytes}
 use Rattle.world_parts.specs.Items.{Atom, member_of, size_of, byte_at, position_of, buffer_byte, within, one, Use, writes, Footprint, writes_atom, Agree}
 use Rattle.foot_print.specs.Footprint.{Taken, tried, is_foreseen, use_of, content_of, transfer_range, position_written, position_use, would_extend, write_content, moved_uses, span_use}
@@ -43,7 +44,7 @@ write_uses_same s u x y o n a = content_same s u (content s (is_foreseen x) o n)
         (length_same s u h.opened.target.node (agree_head s u (size_of h.opened.target.node) _ _ k))
 
 -- Where a write starts is the same where worlds agree on its content.
-start_same : (s u : World) (ext : Bool) (o n : ℕ) (h : Handle) → Agree (content s ext o n h.opened.target.node h) s u → write_start u h o ≡ write_start s h o
+start_same : (s u : World) (ext : Bool) (o n : ℕ) (h : Handle) → Agree (content s ext o n h.opened.target.node h) s u → write_start u o h ≡ write_start s o h
 start_same s u ext o n h a =
     let sizes = length_same s u h.opened.target.node (agree_head s u (size_of h.opened.target.node) _ _ a) in
     let rest = agree_tail s u _ _ (agree_tail s u _ _ a) in
@@ -52,18 +53,18 @@ start_same s u ext o n h a =
 
 -- What a write does from a place in a file, and with a handle.
 abbrev writes_from : ℕ → Handle → ℕ → List ℕ → Result Effect Errno
-writes_from o h at new = cond (length new == 0) (Ok (done [])) (require (ltb at file_limit) EFBIG >> Ok (write_effect h o at (take (file_limit - at) new)))
+writes_from o h at new = cond (length new == 0) (Ok (done [])) (require (ltb at file_limit) EFBIG >> Ok (write_effect o h at (take (file_limit - at) new)))
 
 abbrev handed : World → ℕ → Result (List ℕ) Errno → Bool → Handle → Result Effect Errno
-handed s o source cw h = (require cw EBADF >> Ok h) >>= λ g. source >>= λ new. require (not (is_bad_offset o)) EINVAL >> writes_from o g (write_start s g o) new
+handed s o source cw h = (require cw EBADF >> Ok h) >>= λ g. source >>= λ new. require (not (is_bad_offset o)) EINVAL >> writes_from o g (write_start s o g) new
 
-by_handle : (s : World) (y : Option Handle) (o : ℕ) (source : Result (List ℕ) Errno) → write_meaning s y o source ≡ (ok_or y EBADF >>= λ h. handed s o source (can_write h.opened.access) h)
+by_handle : (s : World) (y : Option Handle) (o : ℕ) (source : Result (List ℕ) Errno) → write_meaning s o y source ≡ (ok_or y EBADF >>= λ h. handed s o source (can_write h.opened.access) h)
 by_handle s y o source = grind arith
 
-handed_same : (s u : World) (o : ℕ) (source : Result (List ℕ) Errno) (cw : Bool) (h : Handle) → (T cw → write_start u h o ≡ write_start s h o) → handed u o source cw h ≡ handed s o source cw h
+handed_same : (s u : World) (o : ℕ) (source : Result (List ℕ) Errno) (cw : Bool) (h : Handle) → (T cw → write_start u o h ≡ write_start s o h) → handed u o source cw h ≡ handed s o source cw h
 handed_same s u o source cw h a = grind arith
 
-write_same : (s u : World) (x : Taken) (y : Option Handle) (o n : ℕ) (source : Result (List ℕ) Errno) → AllSound y → Agree (content_of (write_content s x o n) y) s u → write_meaning u y o source ≡ write_meaning s y o source
+write_same : (s u : World) (x : Taken) (y : Option Handle) (o n : ℕ) (source : Result (List ℕ) Errno) → AllSound y → Agree (content_of (write_content s x o n) y) s u → write_meaning u o y source ≡ write_meaning s o y source
 write_same s u x y o n source sound a =
     by_handle u y o source
     ∙ with_handle y (λ h. handed s o source (can_write h.opened.access) h) (λ h. handed u o source (can_write h.opened.access) h) (λ h e.
@@ -125,48 +126,48 @@ module _ (s : World) (o n : ℕ) (new : List ℕ) (h : Handle) (g : Footprint) (
         | false ↦ λ e. let begin : at ≡ o = from e in both (i == i) _ (eqb_refl i) (both (leb o p) _ (le→leb o p (omega arith)) (lt→ltb p _ (omega arith)))
       ] refl)))
 
-  moves : write_start s h o < file_limit → 0 < length new → SupportsAll g s (write_effect h o (write_start s h o) (take (file_limit - write_start s h o) new)).changes
+  moves : write_start s o h < file_limit → 0 < length new → SupportsAll g s (write_effect o h (write_start s o h) (take (file_limit - write_start s o h) new)).changes
   moves below some = (
     (
       there,
       c.uses (λ (x : Use). member_of x.item (size_of i)) (either_left _ _ (eqb_refl i)),
-      growth (write_start s h o) (start_is h.opened.append (o == at_position) _ _ o) below some,
-      bytes_written (write_start s h o) (start_is h.opened.append (o == at_position) _ _ o) below,
+      growth (write_start s o h) (start_is h.opened.append (o == at_position) _ _ o) below some,
+      bytes_written (write_start s o h) (start_is h.opened.append (o == at_position) _ _ o) below,
     ),
     advance_supported g _ h o _ (λ e. written (position_of h.description) (either_right (flag && member_of (one (size_of i)) (position_of h.description)) _ (either_right (member_of (transfer_range i anywhere o n) (position_of h.description)) _ (position_is_written h o e)))),
   )
 
-  from_supported : (e : Effect) → writes_from o h (write_start s h o) new ≡ Ok e → SupportsAll g s e.changes
+  from_supported : (e : Effect) → writes_from o h (write_start s o h) new ≡ Ok e → SupportsAll g s e.changes
   from_supported e q = grind (arith, moves, ltb→lt, positive)
 
 -- What a write has of its file supports its changes.
-write_supported : (t : Trace) (r : ℕ) (f : File) (o n : ℕ) (source : Result (List ℕ) Errno) (s : World) (g : Footprint) → AllSound (handle t s r f) → ((new : List ℕ) → source ≡ Ok new → length new ≤ n)
-    → (e : Effect) → write_meaning s (handle t s r f) o source ≡ Ok e → Contains g (content_of (write_content s (tried true) o n) (handle t s r f)) → SupportsAll g s e.changes
+write_supported : (t : Trace) (r : ℕ) (f : File) (o n : ℕ) (source : Result (List ℕ) Errno) (s : World) (g : Footprint) → AllSound (handle (in_ring t r) s f) → ((new : List ℕ) → source ≡ Ok new → length new ≤ n)
+    → (e : Effect) → write_meaning s o (handle (in_ring t r) s f) source ≡ Ok e → Contains g (content_of (write_content s (tried true) o n) (handle (in_ring t r) s f)) → SupportsAll g s e.changes
 write_supported t r f o n source s g w few e q c =
-    let m = ok_bind (writable (handle t s r f)) _ e q in
-    let l = ok_bind (ok_or (handle t s r f) EBADF) (λ h. require (can_write h.opened.access) EBADF >> Ok h) m.0 m.1 in
+    let m = ok_bind (writable (handle (in_ring t r) s f)) _ e q in
+    let l = ok_bind (ok_or (handle (in_ring t r) s f) EBADF) (λ h. require (can_write h.opened.access) EBADF >> Ok h) m.0 m.1 in
     let i = ok_require (can_write l.0.opened.access) EBADF (Ok l.0) m.0 l.2 in
-    let there = ok_some (handle t s r f) EBADF m.0 (l.1 ∙ i.0) in
+    let there = ok_some (handle (in_ring t r) s f) EBADF m.0 (l.1 ∙ i.0) in
     let can = subst (λ h. T (can_write h.opened.access)) (ok_same l.0 m.0 i.0) i.1 in
     let y = ok_bind source _ e m.2 in
     let k = ok_require (not (is_bad_offset o)) EINVAL _ e y.2 in
     let d = on_content m.0 there can in
     from_supported s o n y.0 m.0 g d (file_there t s r f m.0 (w m.0 there) there can) (few y.0 y.1) e k.0
   where
-    on_content : (h : Handle) → handle t s r f ≡ Some h → T (can_write h.opened.access) → Contains g (content s false o n h.opened.target.node h)
-    on_content h there can = record { uses = λ p m. c.uses p (in_content (content s false o n) p (handle t s r f) h there (writable_is_file h (w h there) can) m) }
+    on_content : (h : Handle) → handle (in_ring t r) s f ≡ Some h → T (can_write h.opened.access) → Contains g (content s false o n h.opened.target.node h)
+    on_content h there can = record { uses = λ p m. c.uses p (in_content (content s false o n) p (handle (in_ring t r) s f) h there (writable_is_file h (w h there) can) m) }
 
 pub write_owes : (t : Trace) (k r : ℕ) (s : World) (f : File) (o : ℕ) (new : List ℕ) → Awaits t k s → Owes t k r (write f o new) s
 write_owes t k r s f o new w = record {
   tells = λ u b a d.
-      let there = handle t s r f in
+      let there = handle (in_ring t r) s f in
       let content_agrees = agree_left s u (content_of (write_content s (tried b) o (length new)) there) (position_use o there) d in
       record {
         same_meaning = write_same s u (tried b) there o (length new) (Ok new) (handles_sound t s r f w.is_world) content_agrees;
         same_uses = λ c. ap (λ g. g ++ position_use o there) (write_uses_same s u (tried c) there o (length new) content_agrees);
       };
   supports = λ u v a d e q.
-      let there = handle t u r f in
+      let there = handle (in_ring t r) u f in
       write_supported t r f o (length new) (Ok new) u (moved_uses u (tried true) true o (length new) there) (handles_sound_too t s u r f w.is_world a) (λ x h. subst (λ y. length y ≤ length new) (ok_same new x h) (omega arith)) e q
       (record { uses = λ p m. in_left p (content_of (write_content u (tried true) o (length new)) there) (position_use o there) m });
 }
@@ -194,33 +195,33 @@ found_in : (o : Option (List ℕ)) (p : ℕ) → slice_get (unwrap_or o []) p �
 found_in o p = grind arith
 
 -- The bytes of a span are the same where worlds agree on them.
-span_bytes_same : (t : Trace) (s u : World) (r : ℕ) (x : Span) → Agree (span_use false t r x) s u → span_bytes t u r x ≡ span_bytes t s r x
-span_bytes_same t s u r x a = by (span_start t r x) refl
+span_bytes_same : (t : Trace) (s u : World) (r : ℕ) (x : Span) → Agree (span_use (in_ring t r) false x) s u → span_bytes (in_ring t r) u x ≡ span_bytes (in_ring t r) s x
+span_bytes_same t s u r x a = by (span_start (in_ring t r) x) refl
   where
     n : ℕ
     n = min x.length most_moved
 
-    by : (y : Option ℕ) → span_start t r x ≡ y → ok_or (option_map (λ at. take (min x.length most_moved) (drop at (unwrap_or (buffer u r x.index) []))) y) EFAULT ≡ ok_or (option_map (λ at. take (min x.length most_moved) (drop at (unwrap_or (buffer s r x.index) []))) y) EFAULT
+    by : (y : Option ℕ) → span_start (in_ring t r) x ≡ y → ok_or (option_map (λ at. take (min x.length most_moved) (drop at (unwrap_or (buffer u r x.index) []))) y) EFAULT ≡ ok_or (option_map (λ at. take (min x.length most_moved) (drop at (unwrap_or (buffer s r x.index) []))) y) EFAULT
     by None e = refl
     by (Some at) e = ap (λ z. Ok z) (slice_decided (min x.length most_moved) at (unwrap_or (buffer u r x.index) []) (unwrap_or (buffer s r x.index) []) (λ p below above.
         found_in (buffer u r x.index) p ∙ sym (a.same (buffer_byte r x.index p) (in_span false t r x (λ (z : Use). member_of z.item (buffer_byte r x.index p)) at e (offset_in_span r x.index at x.length p below (omega arith)))) ∙ sym (found_in (buffer s r x.index) p)))
 
-span_bytes_fit : (t : Trace) (s : World) (r : ℕ) (x : Span) (new : List ℕ) → span_bytes t s r x ≡ Ok new → length new ≤ min x.length most_moved
+span_bytes_fit : (t : Trace) (s : World) (r : ℕ) (x : Span) (new : List ℕ) → span_bytes (in_ring t r) s x ≡ Ok new → length new ≤ min x.length most_moved
 span_bytes_fit t s r x new e = grind (arith, length-take)
 
 pub write_fixed_owes : (t : Trace) (k r : ℕ) (s : World) (f : File) (o : ℕ) (x : Span) → Awaits t k s → Owes t k r (write_fixed f o x) s
 write_fixed_owes t k r s f o x w = record {
   tells = λ u b a d.
-      let there = handle t s r f in
+      let there = handle (in_ring t r) s f in
       let moved = moved_uses s (tried b) true o (min x.length most_moved) there in
-      let content_agrees = agree_left s u (content_of (write_content s (tried b) o (min x.length most_moved)) there) (position_use o there) (agree_left s u moved (span_use false t r x) d) in
+      let content_agrees = agree_left s u (content_of (write_content s (tried b) o (min x.length most_moved)) there) (position_use o there) (agree_left s u moved (span_use (in_ring t r) false x) d) in
       record {
-        same_meaning = ap (write_meaning u there o) (span_bytes_same t s u r x (agree_right s u moved (span_use false t r x) d)) ∙ write_same s u (tried b) there o (min x.length most_moved) (span_bytes t s r x) (handles_sound t s r f w.is_world) content_agrees;
-        same_uses = λ c. ap (λ g. (g ++ position_use o there) ++ span_use false t r x) (write_uses_same s u (tried c) there o (min x.length most_moved) content_agrees);
+        same_meaning = ap (write_meaning u o there) (span_bytes_same t s u r x (agree_right s u moved (span_use (in_ring t r) false x) d)) ∙ write_same s u (tried b) there o (min x.length most_moved) (span_bytes (in_ring t r) s x) (handles_sound t s r f w.is_world) content_agrees;
+        same_uses = λ c. ap (λ g. (g ++ position_use o there) ++ span_use (in_ring t r) false x) (write_uses_same s u (tried c) there o (min x.length most_moved) content_agrees);
       };
   supports = λ u v a d e q.
-      let there = handle t u r f in
+      let there = handle (in_ring t r) u f in
       let moved = moved_uses u (tried true) true o (min x.length most_moved) there in
-      write_supported t r f o (min x.length most_moved) (span_bytes t u r x) u (moved ++ span_use false t r x) (handles_sound_too t s u r f w.is_world a) (span_bytes_fit t u r x) e q
-      (record { uses = λ p m. in_left p moved (span_use false t r x) (in_left p (content_of (write_content u (tried true) o (min x.length most_moved)) there) (position_use o there) m) });
+      write_supported t r f o (min x.length most_moved) (span_bytes (in_ring t r) u x) u (moved ++ span_use (in_ring t r) false x) (handles_sound_too t s u r f w.is_world a) (span_bytes_fit t u r x) e q
+      (record { uses = λ p m. in_left p moved (span_use (in_ring t r) false x) (in_left p (content_of (write_content u (tried true) o (min x.length most_moved)) there) (position_use o there) m) });
 }

@@ -13,6 +13,7 @@ use Rattle.finite_maps.specs.Table.{get, adjust_number}
 use Rattle.world_parts.specs.World.{World, IsWorld, name, Change, set_slot, set_descriptor, set_position, set_size, write_bytes, zero_bytes, write_buffer, break_chain, apply}
 use Rattle.file_tree.specs.Tree.{IsTree, Node, bytes_of_node, rewritten_node}
 use Rattle.extent_bytes.specs.Bytes.{resized, overwritten, zeroed}
+use Rattle.op_meaning.specs.Site.{in_ring}
 use Rattle.op_meaning.specs.Meaning.{Effect, done, made_node, made_description, Handle, handle, can_write, Destination, advance, read_meaning, write_meaning, Allocation, extend, reserve, punch, zero_extend, zero_within, allocation, allocate, fallocate_meaning, ftruncate_meaning, close_meaning}
 use Rattle.world_parts.specs.Items.{description_at}
 use Rattle.extent_bytes.proofs.Lengths.{length-zeroed, length-overwritten, length-resized}
@@ -75,18 +76,18 @@ contents_leave t k s (c ∷ cs) h w = (let rest = contents_leave t k (apply c s)
 of_effect : (x y : Effect) → ◌≡◌ {A = Result Effect Errno} (Ok x) (Ok y) → AllOfContents x.changes → AllOfContents y.changes
 of_effect x y h g = subst (λ (z : Effect). AllOfContents z.changes) (ok_same x y h) g
 
-advances : (h : Handle) (o end : ℕ) → AllOfContents (advance h o end)
+advances : (h : Handle) (o end : ℕ) → AllOfContents (advance o h end)
 advances h o end = grind arith
 
-pub read_contents : (t : Trace) (s : World) (r : ℕ) (f : File) (o n : ℕ) (span : Result Destination Errno) (x : Effect) → read_meaning s r (handle t s r f) o n span ≡ Ok x → AllOfContents x.changes
+pub read_contents : (t : Trace) (s : World) (r : ℕ) (f : File) (o n : ℕ) (span : Result Destination Errno) (x : Effect) → read_meaning s o n (handle (in_ring t r) s f) span ≡ Ok x → AllOfContents x.changes
 read_contents t s r f o n span x h = grind (arith, advances)
 
-pub write_contents : (t : Trace) (s : World) (r : ℕ) (f : File) (o : ℕ) (source : Result (List ℕ) Errno) (x : Effect) → write_meaning s (handle t s r f) o source ≡ Ok x → AllOfContents x.changes
+pub write_contents : (t : Trace) (s : World) (r : ℕ) (f : File) (o : ℕ) (source : Result (List ℕ) Errno) (x : Effect) → write_meaning s o (handle (in_ring t r) s f) source ≡ Ok x → AllOfContents x.changes
 write_contents t s r f o source x h = grind (arith, ltb→lt, length-take, advances)
 
-pub fallocate_contents : (t : Trace) (s : World) (r : ℕ) (f : File) (o n mode : ℕ) (x : Effect) → IsWorld s → fallocate_meaning s (handle t s r f) o n mode ≡ Ok x → AllOfContents x.changes
+pub fallocate_contents : (t : Trace) (s : World) (r : ℕ) (f : File) (o n mode : ℕ) (x : Effect) → IsWorld s → fallocate_meaning s o n mode (handle (in_ring t r) s f) ≡ Ok x → AllOfContents x.changes
 fallocate_contents t s r f o n mode x w h =
-    let g = ok_bind (ok_or (handle t s r f) EBADF) _ x h in
+    let g = ok_bind (ok_or (handle (in_ring t r) s f) EBADF) _ x h in
     let a = ok_bind (ok_or (allocation mode) EOPNOTSUPP) _ x (ok_require (ltb o (2 ^ 63) && not (n == 0) && ltb n (2 ^ 63)) EINVAL _ x g.2).0 in
     let last = ok_require (leb (o + n) file_limit) EFBIG _ x (ok_require (can_write g.0.opened.access) EBADF _ x a.2).0 in
     of_effect (done (allocate s g.0.opened.target.node o (o + n) a.0)) x last.0 (by g.0.opened.target.node (leb→le (o + n) file_limit last.1) a.0)
@@ -98,8 +99,8 @@ fallocate_contents t s r f o n mode x w h =
     by i l zero_extend = (let b = bounded s i w in (omega arith, (tt, tt)))
     by i l zero_within = (tt, tt)
 
-pub ftruncate_contents : (t : Trace) (s : World) (r : ℕ) (f : File) (n : ℕ) (x : Effect) → ftruncate_meaning (handle t s r f) n ≡ Ok x → AllOfContents x.changes
+pub ftruncate_contents : (t : Trace) (s : World) (r : ℕ) (f : File) (n : ℕ) (x : Effect) → ftruncate_meaning n (handle (in_ring t r) s f) ≡ Ok x → AllOfContents x.changes
 ftruncate_contents t s r f n x h = grind (arith, leb→le)
 
-pub close_contents : (t : Trace) (s : World) (r : ℕ) (f : File) (x : Effect) → close_meaning t s r f ≡ Ok x → AllOfContents x.changes
+pub close_contents : (t : Trace) (s : World) (r : ℕ) (f : File) (x : Effect) → close_meaning (in_ring t r) s f ≡ Ok x → AllOfContents x.changes
 close_contents t s r f x h = grind arith

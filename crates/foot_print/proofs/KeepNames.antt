@@ -16,6 +16,7 @@ use Rattle.finite_maps.specs.Table.{get}
 use Rattle.world_parts.specs.World.{World, kind, name, name_count, IsWorld, Change, set_name, make_node, apply, apply_all}
 use Rattle.file_tree.specs.Tree.{target, Kind, a_directory, a_file, kind_of_node, names_of_node, Target, Above, names_it, one_below, IsTree, Names}
 use Rattle.file_tree.specs.Walk.{Place, walk, walk_from, names_from, is_above, is_directory, directory_at, fits_name, starts_at_root}
+use Rattle.op_meaning.specs.Site.{sited}
 use Rattle.op_meaning.specs.Meaning.{Effect, meaning, done, made_node, made_description, may_remove}
 use Rattle.foot_print.specs.Laws.{Awaits}
 use Rattle.world_parts.proofs.Collision.{either_left, either_right, true_of}
@@ -101,7 +102,7 @@ abbrev pub Leaves : Trace → ℕ → World → List Change → Type 0
 Leaves t k s cs = IsWorld (apply_all cs s) × AllMakeOnly (made_node t k) (made_description t k) cs
 
 abbrev pub Keeps : Trace → ℕ → ℕ → World → Operation → Type 0
-Keeps t k r s o = (x : Effect) → meaning t k r s o ≡ Ok x → Leaves t k s x.changes
+Keeps t k r s o = (x : Effect) → meaning (sited t k r) s o ≡ Ok x → Leaves t k s x.changes
 
 pub of_changes : (t : Trace) (k : ℕ) (s : World) (cs : List Change) (x : Effect) → ◌≡◌ {A = Result Effect Errno} (Ok (done cs)) (Ok x) → Leaves t k s cs → Leaves t k s x.changes
 of_changes t k s cs x h g = subst (λ (y : Effect). Leaves t k s y.changes) (ok_same (done cs) x h) g

@@ -11,6 +11,7 @@ use Rattle.file_tree.specs.Tree.{a_directory, a_file, Target, IsTree, rewritten_
 use Rattle.extent_bytes.specs.Bytes.{resized}
 use Rattle.finite_maps.specs.Table.{adjust_number}
 use Rattle.file_tree.specs.Walk.{Place, walk}
+use Rattle.op_meaning.specs.Site.{in_ring, sited}
 use Rattle.op_meaning.specs.Meaning.{Effect, made_node, made_description, room, filled, may_open, found_or_made, open_changes, opened_with, access_of, open_as}
 use Rattle.world_parts.specs.Items.{description_at}
 use Rattle.foot_print.specs.Laws.{Awaits}
@@ -77,8 +78,8 @@ module _ (t : Trace) (k r : ℕ) (g : OpenFlags) (at : File) where
 
 pub openat_keeps : (t : Trace) (k r : ℕ) (s : World) (p : Path) (g : OpenFlags) (asked : Option ℕ) → Awaits t k s → Keeps t k r s (openat p g asked)
 openat_keeps t k r s p g asked w e h =
-    let at = ok_bind (room t s r asked) _ e h in
+    let at = ok_bind (room (in_ring t r) s asked) _ e h in
     let q = ok_bind (walk s.nodes p) _ e at.2 in
     let last = ok_then (may_open g q.0.target) _ e q.2 in
-    subst (λ (x : Effect). Leaves t k s x.changes) (ok_same (open_as t k r g at.0 q.0) e last.0)
+    subst (λ (x : Effect). Leaves t k s x.changes) (ok_same (open_as (sited t k r) g at.0 q.0) e last.0)
     (open_leaves t k r g at.0 s w q.0 (parent_there s w.is_world p q.0 q.1) q.0.target (walk_finds s p q.0 q.1) (walk_leads s p q.0 q.1) last.1)

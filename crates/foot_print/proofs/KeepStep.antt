@@ -10,6 +10,7 @@ use Rattle.sqe_codec.specs.Answers.{each}
 use Rattle.entry_checks.specs.Operation.{Operation}
 use Rattle.chain_plan.specs.Chain.{role}
 use Rattle.world_parts.specs.World.{World, IsWorld, Broken, Change, break_chain, apply, apply_all}
+use Rattle.op_meaning.specs.Site.{sited}
 use Rattle.op_meaning.specs.Meaning.{Effect, meaning, made_node, made_description}
 use Rattle.op_meaning.specs.Step.{runs, turn, step_world, changes_in, changes_of, breaks, failed}
 use Rattle.foot_print.specs.Laws.{Awaits}
@@ -42,9 +43,9 @@ leaves_step t k s cs w = (
 pub operation_steps : (t : Trace) (k : ℕ) (s : World) (r : ℕ) (e : Entry) (o : Operation) → turn t k s ≡ Some (runs r e o) → IsWorld s → Keeps t k r s o → StepLeaves t k s
 operation_steps t k s r e o h w keeps =
     subst (λ x. IsWorld (apply_all (each (changes_in t k s) x) s) × ((j : ℕ) → ¬ (j ≡ k) → Awaits t j s → Awaits t j (apply_all (each (changes_in t k s) x) s))) (sym h)
-    (leaves_step t k s (changes_of (meaning t k r s o) ++ breaks (role t k) e (failed o (meaning t k r s o)))
-    (leaves_append t k s (changes_of (meaning t k r s o)) _ (by (meaning t k r s o) refl) (λ z v. breaks_leave t k z (role t k) e (failed o (meaning t k r s o)) v)))
+    (leaves_step t k s (changes_of (meaning (sited t k r) s o) ++ breaks (role t k) e (failed o (meaning (sited t k r) s o)))
+    (leaves_append t k s (changes_of (meaning (sited t k r) s o)) _ (by (meaning (sited t k r) s o) refl) (λ z v. breaks_leave t k z (role t k) e (failed o (meaning (sited t k r) s o)) v)))
   where
-    by : (m : Result Effect Errno) → meaning t k r s o ≡ m → Leaves t k s (changes_of m)
+    by : (m : Result Effect Errno) → meaning (sited t k r) s o ≡ m → Leaves t k s (changes_of m)
     by (Err x) q = (w, tt)
     by (Ok x) q = keeps x q

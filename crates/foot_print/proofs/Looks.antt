@@ -7,6 +7,7 @@ use Rattle.sqe_codec.specs.Answers.{each}
 use Rattle.trace_format.specs.declared.trace.Trace.{Trace}
 use Rattle.world_parts.specs.World.{World}
 use Rattle.world_parts.specs.Items.{description_at, one, reads, Footprint, Agree}
+use Rattle.op_meaning.specs.Site.{in_ring}
 use Rattle.op_meaning.specs.Lookups.{Finds, found_meant}
 use Rattle.op_meaning.specs.Meaning.{Found, found}
 use Rattle.op_meaning.specs.Shape.{Look, at_nothing, at_file, at_path, at_paths}
@@ -16,16 +17,16 @@ use Rattle.foot_print.proofs.Agreement.{agree_left, agree_right, held_same, hand
 use Rattle.foot_print.proofs.CoverWalk.{walk_same, path_reads_same}
 
 module _ (t : Trace) (r : ℕ) (s u : World) where
-  pub found_same : (l : Look) → Agree (look_reads t r s l) s u → found t r u l ≡ found t r s l
+  pub found_same : (l : Look) → Agree (look_reads (in_ring t r) s l) s u → found (in_ring t r) u l ≡ found (in_ring t r) s l
   found_same at_nothing a = refl
   found_same (at_file f) a = λ i. record { file = handle_same t s u r f a i; place = Err ENOENT; new_place = Err ENOENT }
   found_same (at_path p) a = λ i. record { file = None; place = walk_same s u p a i; new_place = Err ENOENT }
   found_same (at_paths old new) a = λ i. record { file = None; place = walk_same s u old (agree_left s u _ _ a) i; new_place = walk_same s u new (agree_right s u (path_reads s old) _ a) i }
 
   -- What it reads there is the same too.
-  pub looks_same : (l : Look) → Agree (look_reads t r s l) s u → look_reads t r u l ≡ look_reads t r s l
+  pub looks_same : (l : Look) → Agree (look_reads (in_ring t r) s l) s u → look_reads (in_ring t r) u l ≡ look_reads (in_ring t r) s l
   looks_same at_nothing a = refl
-  looks_same (at_file f) a = λ i. file_reads t r f ++ each (λ d. reads (one (description_at d)) ∷ []) (held_same t s u r f (agree_left s u _ _ a) i)
+  looks_same (at_file f) a = λ i. file_reads (in_ring t r) f ++ each (λ d. reads (one (description_at d)) ∷ []) (held_same t s u r f (agree_left s u _ _ a) i)
   looks_same (at_path p) a = path_reads_same s u p a
   looks_same (at_paths old new) a = λ i. path_reads_same s u old (agree_left s u _ _ a) i ++ path_reads_same s u new (agree_right s u (path_reads s old) _ a) i
 
@@ -34,7 +35,7 @@ pub behind_looks : (order known looks : Footprint) (uses : Found → Footprint) 
 behind_looks order known looks uses z y is finds = (λ i. is i ++ uses (finds i)) ∙ append_assoc order looks (uses y)
 
 -- What was found is right for the operation that looked.
-pub finds : (t : Trace) (r : ℕ) (s : World) (l : Look) (x : Lookup) → found_meant s x ≡ found t r s l → Finds t r s l x
+pub finds : (t : Trace) (r : ℕ) (s : World) (l : Look) (x : Lookup) → found_meant s x ≡ found (in_ring t r) s l → Finds (in_ring t r) s l x
 finds t r s at_nothing x e = tt
 finds t r s (at_file f) x e = ap (λ (z : Found). z.file) e
 finds t r s (at_path p) x e = ap (λ (z : Found). z.place) e

@@ -12,10 +12,11 @@ use Rattle.file_tree.specs.Walk.{Place, names_on}
 use Rattle.world_parts.specs.World.{World}
 use Rattle.world_parts.specs.Items.{Atom, chain_flag, descriptor_at, description_at, position_of, name_at, names_in, Item, one, buffer_bytes, Use, reads, writes, Footprint}
 use Rattle.world_parts.specs.Cutting.{is_narrow_use, is_narrow}
-use Rattle.op_meaning.specs.Meaning.{meaning, made_node, span_start, Handle, held, allocation, Allocation, lowest_free, Found, found}
+use Rattle.op_meaning.specs.Site.{at_place, in_ring, sited}
+use Rattle.op_meaning.specs.Meaning.{meaning, made_node, span_start, Handle, held, allocation, Allocation, lowest_free, Found, found, shape}
 use Rattle.op_meaning.specs.Step.{Turn, runs, turn, ring_at}
 use Rattle.foot_print.specs.Footprint.{moved_content, moved_uses, content_of, of_file, file_seen, look_reads, uses, opened_at, use_of, as_reads, Taken, tried, is_foreseen, held_item, file_reads, transfer_range, position_written, span_use, would_extend, allocation_uses, allocated_content, resized_content, path_reads, name_written, made_where, room_where, room_uses, description_made, open_uses, row_in, order_uses, turn_uses, directory_made, name_freed}
-use Rattle.op_meaning.specs.Shape.{Shape, idle, looking, moving, allocating, resizing, closing, opening, making, freeing, linking, renaming, shape, Look, at_nothing, at_file, at_path, at_paths, look}
+use Rattle.op_meaning.specs.Shape.{Shape, idle, looking, moving, allocating, resizing, closing, opening, making, freeing, linking, renaming, Look, at_nothing, at_file, at_path, at_paths, look}
 use Rattle.foot_print.specs.Parts.{FootprintsAreNarrow}
 use Rattle.foot_print.proofs.Holding.{all_append, all_each, all_each_ok}
 use Rattle.world_parts.proofs.Collision.{both, right, left}
@@ -28,12 +29,12 @@ reads_narrow [] h = tt
 reads_narrow (u ∷ f) h = both (is_narrow_use (reads u.item)) _ (let narrow = left (is_narrow_use u) _ h in grind arith) (reads_narrow f (right (is_narrow_use u) _ h))
 
 -- The slot or descriptor of a number, and what an operation has of an open file.
-held_narrow : (g : Item → Use) → ((a : Atom) → T (is_narrow_use (g (one a)))) → (t : Trace) (r : ℕ) (f : File) → T (is_narrow (map g (held_item t r f)))
+held_narrow : (g : Item → Use) → ((a : Atom) → T (is_narrow_use (g (one a)))) → (t : Trace) (r : ℕ) (f : File) → T (is_narrow (map g (held_item (in_ring t r) f)))
 held_narrow g h t r f = grind (arith, h)
 
 module _ (t : Trace) (s : World) (r : ℕ) where
-  seen_narrow : (f : File) → T (is_narrow (file_seen t s r f))
-  seen_narrow f = both_narrow (file_reads t r f) _ (held_narrow reads (λ a. tt) t r f) (all_each is_narrow_use (λ d. reads (one (description_at d)) ∷ []) (held t s r f) (λ d. tt))
+  seen_narrow : (f : File) → T (is_narrow (file_seen (in_ring t r) s f))
+  seen_narrow f = both_narrow (file_reads (in_ring t r) f) _ (held_narrow reads (λ a. tt) t r f) (all_each is_narrow_use (λ d. reads (one (description_at d)) ∷ []) (held (in_ring t r) s f) (λ d. tt))
 
   content_narrow : (c : ℕ → Handle → Footprint) → ((i : ℕ) (h : Handle) → T (is_narrow (c i h))) → (x : Option Handle) → T (is_narrow (content_of c x))
   content_narrow c h x = all_each is_narrow_use (of_file c) x (λ y. grind (arith, h))
@@ -48,8 +49,8 @@ module _ (t : Trace) (s : World) (r : ℕ) where
       contents false i h = both (is_narrow_use (reads (transfer_range i (o == at_position) o n))) _ (grind arith) (position_narrow o h)
       contents true i h = both (is_narrow_use (writes (transfer_range i (h.opened.append || o == at_position) o n))) _ (grind arith) (position_narrow o h)
 
-  span_narrow : (w : Bool) (x : Span) → T (is_narrow (span_use w t r x))
-  span_narrow w x = all_each is_narrow_use (λ at. use_of w (buffer_bytes r x.index at (at + x.length)) ∷ []) (span_start t r x) (λ at. tt)
+  span_narrow : (w : Bool) (x : Span) → T (is_narrow (span_use (in_ring t r) w x))
+  span_narrow w x = all_each is_narrow_use (λ at. use_of w (buffer_bytes r x.index at (at + x.length)) ∷ []) (span_start (in_ring t r) x) (λ at. tt)
 
   path_narrow : (p : Path) → T (is_narrow (path_reads s p))
   path_narrow p = by (names_on s.nodes p)
@@ -67,10 +68,10 @@ module _ (t : Trace) (s : World) (r : ℕ) where
   allocation_narrow : (b : Bool) (i at end : ℕ) (a : Option Allocation) → T (is_narrow (allocation_uses b i at end a))
   allocation_narrow b i at end a = grind arith
 
-  opened_narrow : (k : ℕ) (x : Taken) (g : OpenFlags) (q : Place) (y : Option Target) → T (is_narrow (open_uses t k x g q y))
+  opened_narrow : (k : ℕ) (x : Taken) (g : OpenFlags) (q : Place) (y : Option Target) → T (is_narrow (open_uses (at_place t k) x g q y))
   opened_narrow k x g q y = grind arith
 
-  room_narrow : (asked : Option ℕ) → T (is_narrow (room_uses t s r asked))
+  room_narrow : (asked : Option ℕ) → T (is_narrow (room_uses (in_ring t r) s asked))
   room_narrow None = all_each is_narrow_use (λ n. writes (one (descriptor_at n)) ∷ []) (lowest_free t s) (λ n. tt)
   room_narrow (Some n) = held_narrow writes (λ a. tt) t r (in_slot n)
 
@@ -78,13 +79,13 @@ module _ (t : Trace) (s : World) (r : ℕ) where
   there_narrow : (g : Place → Footprint) (z : Result Place Errno) → ((q : Place) → T (is_narrow (g q))) → T (is_narrow (each_ok g z))
   there_narrow g z h = all_each_ok is_narrow_use g z h
 
-  look_narrow : (l : Look) → T (is_narrow (look_reads t r s l))
+  look_narrow : (l : Look) → T (is_narrow (look_reads (in_ring t r) s l))
   look_narrow at_nothing = tt
   look_narrow (at_file f) = seen_narrow f
   look_narrow (at_path p) = path_narrow p
   look_narrow (at_paths old new) = both_narrow (path_reads s old) _ (path_narrow old) (path_narrow new)
 
-  uses_narrow : (k : ℕ) (x : Taken) (y : Shape) (z : Found) → T (is_narrow (uses t k r s x y z))
+  uses_narrow : (k : ℕ) (x : Taken) (y : Shape) (z : Found) → T (is_narrow (uses (sited t k r) s x y z))
   uses_narrow k x idle z = tt
   uses_narrow k x (looking f) z = held_narrow reads (λ a. tt) t r f
   uses_narrow k x (moving w f o n None) z = moved_narrow x w o n z.file
@@ -93,21 +94,21 @@ module _ (t : Trace) (s : World) (r : ℕ) where
   uses_narrow k x (resizing f n) z = content_narrow (resized_content n) (λ i h. tt) z.file
   uses_narrow k x (closing f) z = held_narrow writes (λ a. tt) t r f
   uses_narrow k x (opening p g asked) z =
-      let room = room_where x (room_uses t s r asked) in
+      let room = room_where x (room_uses (in_ring t r) s asked) in
       both_narrow (room ++ made_where x (description_made t k)) _
-      (both_narrow room _ (roomed_narrow x (room_uses t s r asked) (room_narrow asked)) (made_narrow x (description_made t k) tt))
-      (there_narrow (opened_at t k x g) z.place (λ q. opened_narrow k x g q q.target))
-  uses_narrow k x (making p) z = there_narrow (directory_made t k x) z.place (λ q. made_narrow x (writes (one (names_in (made_node t k))) ∷ []) tt)
+      (both_narrow room _ (roomed_narrow x (room_uses (in_ring t r) s asked) (room_narrow asked)) (made_narrow x (description_made t k) tt))
+      (there_narrow (opened_at (at_place t k) x g) z.place (λ q. opened_narrow k x g q q.target))
+  uses_narrow k x (making p) z = there_narrow (directory_made (at_place t k) x) z.place (λ q. made_narrow x (writes (one (names_in (made_node t k))) ∷ []) tt)
   uses_narrow k x (freeing p removes) z = there_narrow (name_freed removes) z.place (λ q. grind arith)
   uses_narrow k x (linking old new) z = there_narrow name_written z.new_place (λ q. tt)
   uses_narrow k x (renaming old new) z = both_narrow (each_ok name_written z.place) _ (there_narrow name_written z.place (λ q. tt)) (there_narrow (name_freed true) z.new_place (λ q. grind arith))
 
-  row_in_narrow : (k : ℕ) (o : Operation) → T (is_narrow (row_in t k r s o))
-  row_in_narrow k o = both_narrow (look_reads t r s (look (shape o))) _ (look_narrow (look (shape o))) (taken_narrow (is_ok (meaning t k r s o)))
+  row_in_narrow : (k : ℕ) (o : Operation) → T (is_narrow (row_in (sited t k r) s o))
+  row_in_narrow k o = both_narrow (look_reads (in_ring t r) s (look (shape o))) _ (look_narrow (look (shape o))) (taken_narrow (is_ok (meaning (sited t k r) s o)))
     where
-      taken_narrow : (b : Bool) → T (is_narrow (cond b (uses t k r s (tried b) (shape o) (found t r s (look (shape o)))) (as_reads (uses t k r s (tried b) (shape o) (found t r s (look (shape o)))))))
-      taken_narrow true = uses_narrow k (tried true) (shape o) (found t r s (look (shape o)))
-      taken_narrow false = reads_narrow (uses t k r s (tried false) (shape o) (found t r s (look (shape o)))) (uses_narrow k (tried false) (shape o) (found t r s (look (shape o))))
+      taken_narrow : (b : Bool) → T (is_narrow (cond b (uses (sited t k r) s (tried b) (shape o) (found (in_ring t r) s (look (shape o)))) (as_reads (uses (sited t k r) s (tried b) (shape o) (found (in_ring t r) s (look (shape o)))))))
+      taken_narrow true = uses_narrow k (tried true) (shape o) (found (in_ring t r) s (look (shape o)))
+      taken_narrow false = reads_narrow (uses (sited t k r) s (tried false) (shape o) (found (in_ring t r) s (look (shape o)))) (uses_narrow k (tried false) (shape o) (found (in_ring t r) s (look (shape o))))
 
 order_narrow : (r : ℕ) (c : Role) → T (is_narrow (order_uses r c))
 order_narrow r c = elim (leb 2 c.length) as (λ b. T (is_narrow (cond b (writes (one (chain_flag c.chain)) ∷ []) []))) [ true ↦ tt | false ↦ tt ]

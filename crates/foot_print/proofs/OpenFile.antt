@@ -15,6 +15,7 @@ use Rattle.finite_maps.specs.Table.{get}
 use Rattle.world_parts.specs.World.{World, IsWorld, kind, bytes, size, Opened, opened}
 use Rattle.file_tree.specs.Tree.{Kind, a_directory, Node, kind_of_node, bytes_of_node}
 use Rattle.file_tree.specs.Walk.{is_directory}
+use Rattle.op_meaning.specs.Site.{in_ring}
 use Rattle.op_meaning.specs.Meaning.{Effect, Handle, handle, can_write, is_file, bytes_in}
 use Rattle.world_parts.specs.Items.{size_of, value, Use, reads, Footprint, has_atom, Agree, byte_at, within}
 use Rattle.foot_print.specs.Footprint.{range_of, of_file, content_of, file_seen}
@@ -41,7 +42,7 @@ pub on_its_file : (s u : World) (c : ℕ → Handle → Footprint) (h : Handle) 
 on_its_file s u c h i a = subst (λ b. Agree (cond b (c h.opened.target.node h) []) s u) (true_of _ i) a
 
 -- A handle is of an open description.
-pub handle_opened : (t : Trace) (s : World) (r : ℕ) (f : File) (h : Handle) → handle t s r f ≡ Some h → opened s h.description ≡ Some h.opened
+pub handle_opened : (t : Trace) (s : World) (r : ℕ) (f : File) (h : Handle) → handle (in_ring t r) s f ≡ Some h → opened s h.description ≡ Some h.opened
 handle_opened t s r f h e = grind arith
 
 pub kind_of : (k : Option Kind) → T (is_directory k) → k ≡ Some a_directory
@@ -56,7 +57,7 @@ pub record IsSound (o : Opened) : Type 0 where
 abbrev pub AllSound : Option Handle → Type 0
 AllSound x = (h : Handle) → x ≡ Some h → IsSound h.opened
 
-pub handles_sound : (t : Trace) (s : World) (r : ℕ) (f : File) → IsWorld s → AllSound (handle t s r f)
+pub handles_sound : (t : Trace) (s : World) (r : ℕ) (f : File) → IsWorld s → AllSound (handle (in_ring t r) s f)
 handles_sound t s r f w h e =
     let o = handle_opened t s r f h e in
     record {
@@ -65,7 +66,7 @@ handles_sound t s r f w h e =
     }
 
 -- It is so too in what agrees with a world on what leads to it.
-pub handles_sound_too : (t : Trace) (s u : World) (r : ℕ) (f : File) → IsWorld s → Agree (file_seen t s r f) s u → AllSound (handle t u r f)
+pub handles_sound_too : (t : Trace) (s u : World) (r : ℕ) (f : File) → IsWorld s → Agree (file_seen (in_ring t r) s f) s u → AllSound (handle (in_ring t r) u f)
 handles_sound_too t s u r f w a h e = handles_sound t s r f w h (sym (handle_same t s u r f a) ∙ e)
 
 -- What can be written is a file.
@@ -80,7 +81,7 @@ sized_file : (x : Option Node) → T (is_some (option_map kind_of_node x)) → T
 sized_file x h k = grind arith
 
 -- What is written is a file that is there.
-pub file_there : (t : Trace) (s : World) (r : ℕ) (f : File) (h : Handle) → IsSound h.opened → handle t s r f ≡ Some h → T (can_write h.opened.access) → T (is_some (size s h.opened.target.node))
+pub file_there : (t : Trace) (s : World) (r : ℕ) (f : File) (h : Handle) → IsSound h.opened → handle (in_ring t r) s f ≡ Some h → T (can_write h.opened.access) → T (is_some (size s h.opened.target.node))
 file_there t s r f h sound e c =
     let same = handle_kind s h.description h.opened (handle_opened t s r f h e) in
     sized_file (get s.nodes h.opened.target.node) (subst (λ k. T (is_some k)) (sym same) (subst T (sym sound.is_there) tt)) (subst (λ k. T (not (is_directory k))) (sym same) (writable_is_file h sound c))

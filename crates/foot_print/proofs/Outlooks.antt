@@ -1,4 +1,5 @@
 -- The items by which a place waits, by what it does if its chain isn't broken.
+use Rattle.op_meaning.specs.Meaning.{shape}
 use Rattle.foot_print.proofs.Agreement.{in_right}
 use Rattle.world_parts.proofs.Collision.{either_left}
 use Rattle.std.specs.Prelude.{◌≡◌, ◌⊎◌, ℕ, List, suc, ◌+◌, Bool, true, false, not, ◌&&◌, ◌||◌, leb, [], ◌∷◌, ◌++◌, take, cond, Option, Some, None, Result, Ok, Err, IfOk, IfSome, is_some, refl, if◌then◌else◌}
@@ -17,7 +18,8 @@ use Rattle.chain_plan.specs.Chain.{role}
 use Rattle.world_parts.specs.Items.{Item, Footprint, one, chain_flag}
 use Rattle.world_parts.specs.World.{World, Broken, broken}
 use Rattle.foot_print.specs.Footprint.{look_reads, order_uses, row_in, turn_uses}
-use Rattle.op_meaning.specs.Shape.{Shape, shape, look}
+use Rattle.op_meaning.specs.Site.{in_ring, sited}
+use Rattle.op_meaning.specs.Shape.{Shape, look}
 use Rattle.op_meaning.specs.Step.{Turn, filled, refused, canceled, runs, posts, running_turn, turn_under, ring_at}
 use Rattle.op_meaning.proofs.Turns.{by_flag, under_flag}
 use Rattle.foot_print.specs.Reach.{is_canceled, look_of, order_of, seen, task, running_row}
@@ -65,32 +67,32 @@ module _ (w : Item → Bool) where
   some_from m n f e = grind (arith, first_from, in_right, either_left)
 
 -- what a place that may run an operation awaits, and its may-access set
-module _ (order : Footprint) (t : Trace) (k r : ℕ) (s : World) (w : Item → Bool) (p : Operation) (x : Shape) (shaped : x ≡ shape p) (d : Footprint) (looked : d ≡ look_reads t r s (look x)) where
-  told_by : d ≡ seen t r s p
-  told_by = looked ∙ ap (λ y. look_reads t r s (look y)) shaped
+module _ (order : Footprint) (t : Trace) (k r : ℕ) (s : World) (w : Item → Bool) (p : Operation) (x : Shape) (shaped : x ≡ shape p) (d : Footprint) (looked : d ≡ look_reads (in_ring t r) s (look x)) where
+  told_by : d ≡ seen (in_ring t r) s p
+  told_by = looked ∙ ap (λ y. look_reads (in_ring t r) s (look y)) shaped
 
-  pub undecided_reach : (n : ℕ) (f : Footprint) → position_from (λ u. w u.item) 0 d ≡ Some n → f ≡ unresolved_given order t k r s w x → f ≡ operation_given order t k r s w p
+  pub undecided_reach : (n : ℕ) (f : Footprint) → position_from (λ u. w u.item) 0 d ≡ Some n → f ≡ unresolved_given (sited t k r) s order w x → f ≡ operation_given (sited t k r) s order w p
   undecided_reach n f first e =
-      let met : meets_written w (seen t r s p) ≡ true = sym (ap (meets_written w) told_by) ∙ some_from w 0 n d first in
-      rw met (e ∙ ap (unresolved_given order t k r s w) shaped)
+      let met : meets_written w (seen (in_ring t r) s p) ≡ true = sym (ap (meets_written w) told_by) ∙ some_from w 0 n d first in
+      rw met (e ∙ ap (unresolved_given (sited t k r) s order w) shaped)
 
   pub undecided_awaits : (n : ℕ) (f g : Footprint) (takes : Bool) → position_from (λ u. w u.item) 0 d ≡ Some n → g ≡ take (n + 1) d → takes ≡ takes_lowest p
-      → AwaitsAsOperation order t k r s w p true (record { reach = f; waits_by = Items g; takes_lowest = takes })
+      → AwaitsAsOperation (sited t k r) s order w p true (record { reach = f; waits_by = Items g; takes_lowest = takes })
   undecided_awaits n f g takes first cut e =
       record { by = inl (subst (λ x. IsFirstWritten w x g) told_by (subst (λ x. IsFirstWritten w d x) (sym cut) (first_written w n d first))); told = refl; lowest = e }
 
   module _ (none : position_from (λ u. w u.item) 0 d ≡ None) where
-    decided : meets_written w (seen t r s p) ≡ false
+    decided : meets_written w (seen (in_ring t r) s p) ≡ false
     decided = sym (ap (meets_written w) told_by) ∙ none_written w d none
 
-    pub decided_reach : {E : Type 0} (o : Result Outlook E) → IfOk o (λ o. o.reach ≡ decided_given order t k r s w p) → IfOk o (λ o. o.reach ≡ operation_given order t k r s w p)
+    pub decided_reach : {E : Type 0} (o : Result Outlook E) → IfOk o (λ o. o.reach ≡ decided_given (sited t k r) s order w p) → IfOk o (λ o. o.reach ≡ operation_given (sited t k r) s order w p)
     decided_reach (Ok o) e = rw decided e
     decided_reach (Err e) _ = tt
 
-    pub decided_awaits : {E : Type 0} (o : Result Outlook E) → IfOk o (λ o. items_awaited o.waits_by o.reach ≡ Some (order ++ row_in t k r s p)) → IfOk o (λ o. o.takes_lowest ≡ takes_lowest p) → IfOk o (λ o. AwaitsAsOperation order t k r s w p true o)
+    pub decided_awaits : {E : Type 0} (o : Result Outlook E) → IfOk o (λ o. items_awaited o.waits_by o.reach ≡ Some (order ++ row_in (sited t k r) s p)) → IfOk o (λ o. o.takes_lowest ≡ takes_lowest p) → IfOk o (λ o. AwaitsAsOperation (sited t k r) s order w p true o)
     decided_awaits (Ok o) e l =
         record {
-          by = subst (λ a. IfSome a (λ f. IsFirstWritten w (seen t r s p) f ⊎ ((meets_written w (seen t r s p) ≡ false) × (f ≡ order ++ row_in t k r s p)))) (sym e) (inr (decided, refl));
+          by = subst (λ a. IfSome a (λ f. IsFirstWritten w (seen (in_ring t r) s p) f ⊎ ((meets_written w (seen (in_ring t r) s p) ≡ false) × (f ≡ order ++ row_in (sited t k r) s p)))) (sym e) (inr (decided, refl));
           told = ap is_some e;
           lowest = l;
         }
@@ -106,12 +108,12 @@ module _ (t : Trace) (k : ℕ) (s : World) (w : Item → Bool) (o : Outlook) whe
   settled row waits a = grind arith
 
   running_at : (order : Footprint) (waits : Bool) (r : ℕ) (e : Entry) (c : Role) (b : Option Broken) (p : Operation)
-      → AwaitsAsOperation order t k r s w p (member_runs c b waits) o → awaits_at order waits (Some (runs r e p)) (Some (running_turn r e c b p))
+      → AwaitsAsOperation (sited t k r) s order w p (member_runs c b waits) o → awaits_at order waits (Some (runs r e p)) (Some (running_turn r e c b p))
   running_at order true r e c b p a = a
   running_at order false r e c None p a =
-      elim (leb 2 c.length) as (λ l. AwaitsAsOperation order t k r s w p (not (l && false)) o → awaits_at order false (Some (runs r e p)) (Some (runs r e p))) [ true ↦ λ a. a | false ↦ λ a. a ] a
+      elim (leb 2 c.length) as (λ l. AwaitsAsOperation (sited t k r) s order w p (not (l && false)) o → awaits_at order false (Some (runs r e p)) (Some (runs r e p))) [ true ↦ λ a. a | false ↦ λ a. a ] a
   running_at order false r e c (Some f) p a =
-      elim (leb 2 c.length) as (λ l. AwaitsAsOperation order t k r s w p (not (l && true)) o → awaits_at order false (Some (runs r e p)) (Some (if l then canceled (posts f) else runs r e p))) [ true ↦ λ a. a | false ↦ λ a. a ] a
+      elim (leb 2 c.length) as (λ l. AwaitsAsOperation (sited t k r) s order w p (not (l && true)) o → awaits_at order false (Some (runs r e p)) (Some (if l then canceled (posts f) else runs r e p))) [ true ↦ λ a. a | false ↦ λ a. a ] a
 
   told : (a : Option Footprint) → IfSome a (λ f. IsFirstWritten w (look_of t k s (task t k)).deciding f ⊎ ((meets_written w (look_of t k s (task t k)).deciding ≡ false) × (f ≡ running_row t k s))) → is_some a ≡ may_run t k s w → IfSome a (λ f. WaitsBy t k s w f)
   told a h e = grind arith
@@ -133,13 +135,13 @@ module _ (t : Trace) (k : ℕ) (s : World) (w : Item → Bool) (o : Outlook) whe
       at_task (refused x p) is (ap (λ o. o.reach) e ∙ refused_given t k s w x p is)
       (settled (order_of t k ++ []) _ (subst (Awaits w [] (order_of t k ++ []) true false) (sym e) (record { by = inr (refl, sym (append-nil (order_of t k))); told = refl; lowest = refl })))
 
-  pub member_outlook : (r : ℕ) (x : Entry) (p : Operation) → Some (runs r x p) ≡ task t k → o.reach ≡ member_given (order_of t k) t k r s w (role t k) p → MemberAwaits (order_of t k) t k r s w (role t k) p o → IsOutlook t k s w o
+  pub member_outlook : (r : ℕ) (x : Entry) (p : Operation) → Some (runs r x p) ≡ task t k → o.reach ≡ member_given (sited t k r) s (order_of t k) w (role t k) p → MemberAwaits (sited t k r) s (order_of t k) w (role t k) p o → IsOutlook t k s w o
   member_outlook r x p is reach awaits =
       at_task (runs r x p) is (reach ∙ member_is_given t k s w r x p is) (running_at (order_of t k) _ r x (role t k) (broken s (role t k).chain) p awaits)
 
 -- the same, where that can be refused memory, by the ring and the role of the place
 pub members_outlook : {E : Type 0} (t : Trace) (k : ℕ) (s : World) (w : Item → Bool) (r : ℕ) (c : Role) (x : Entry) (p : Operation) → r ≡ ring_at t k → c ≡ role t k → Some (runs r x p) ≡ task t k → (o : Result Outlook E)
-    → IfOk o (λ o. o.reach ≡ member_given (order_uses r c) t k r s w c p) → IfOk o (MemberAwaits (order_uses r c) t k r s w c p) → IfOk o (IsOutlook t k s w)
+    → IfOk o (λ o. o.reach ≡ member_given (sited t k r) s (order_uses r c) w c p) → IfOk o (MemberAwaits (sited t k r) s (order_uses r c) w c p) → IfOk o (IsOutlook t k s w)
 members_outlook t k s w r c x p here own is (Ok o) reach awaits =
-    member_outlook t k s w o r x p is (reach ∙ (λ i. member_given (order_uses (here i) (own i)) t k r s w (own i) p)) (transport (λ i. MemberAwaits (order_uses (here i) (own i)) t k r s w (own i) p o) awaits)
+    member_outlook t k s w o r x p is (reach ∙ (λ i. member_given (sited t k r) s (order_uses (here i) (own i)) w (own i) p)) (transport (λ i. MemberAwaits (sited t k r) s (order_uses (here i) (own i)) w (own i) p o) awaits)
 members_outlook t k s w r c x p here own is (Err e) _ _ = tt

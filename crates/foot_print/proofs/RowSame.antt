@@ -1,6 +1,7 @@
 -- The row of a place as running is decided by its own items: it is the access set in the world in which no chain is broken.
 use Rattle.std.specs.Prelude.{◌≡◌, ℕ, T, ◌++◌, Option, Some, refl}
 use mathlib.Core.Path.{sym, subst, ap, ◌∙◌}
+use Rattle.op_meaning.specs.Site.{sited}
 use Rattle.trace_format.specs.declared.trace.Trace.{Trace}
 use Rattle.sqe_codec.specs.Answers.{each}
 use Rattle.entry_checks.specs.Operation.{Operation, nop}
@@ -18,7 +19,7 @@ abbrev unbroken : World → World
 unbroken s = record s { broken = empty }
 
 module _ (t : Trace) (k : ℕ) where
-  row_unbroken : (r : ℕ) (s : World) (o : Operation) → row_in t k r (unbroken s) o ≡ row_in t k r s o
+  row_unbroken : (r : ℕ) (s : World) (o : Operation) → row_in (sited t k r) (unbroken s) o ≡ row_in (sited t k r) s o
   row_unbroken r s nop = refl
   row_unbroken r s _ = refl
 

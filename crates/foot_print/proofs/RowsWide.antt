@@ -10,10 +10,11 @@ use Rattle.entry_checks.specs.Operation.{Operation, File, Path, OpenFlags, file_
 use Rattle.world_parts.specs.World.{World}
 use Rattle.file_tree.specs.Tree.{Target}
 use Rattle.file_tree.specs.Walk.{Place, walk, is_directory, names_on}
-use Rattle.op_meaning.specs.Meaning.{made_node, Handle, handle, held}
+use Rattle.op_meaning.specs.Site.{at_place, in_ring, sited}
+use Rattle.op_meaning.specs.Meaning.{made_node, Handle, handle, held, shape}
 use Rattle.world_parts.specs.Items.{Atom, description_at, position_of, size_of, byte_at, name_at, names_in, Item, one, file_bytes, all_bytes_and_sizes, member_of, Use, reads, writes, Footprint, has_atom, writes_atom}
 use Rattle.foot_print.specs.Footprint.{foreseen, shape_row, file_seen, of_file, content_of, moved_content, moved_uses, open_uses, opened_at, file_reads, range_of, position_written, span_use, path_reads, name_written, allocated_content, resized_content, transfer_range, directory_made, name_freed}
-use Rattle.op_meaning.specs.Shape.{Shape, idle, looking, moving, allocating, resizing, closing, opening, making, freeing, linking, renaming, shape}
+use Rattle.op_meaning.specs.Shape.{Shape, idle, looking, moving, allocating, resizing, closing, opening, making, freeing, linking, renaming}
 use Rattle.foot_print.specs.Reach.{unresolved_shape, taken, all_files, any_name, unresolved_file, unresolved_row}
 use Rattle.foot_print.specs.Replayed.{is_earlier}
 use Rattle.world_parts.proofs.Collision.{both, left, right, either_left, same_atom-eq}
@@ -81,16 +82,16 @@ module _ (t : Trace) (k : ℕ) where
     moved_content_uses false o n i h = both (is_file_use (reads (transfer_range i (o == at_position) o n))) _ (grind arith) (position_uses o h)
     moved_content_uses true o n i h = both (is_file_use (writes (transfer_range i (h.opened.append || o == at_position) o n))) _ (grind arith) (position_uses o h)
 
-    seen_held : (f : File) → Over earlier (unresolved_file t k r f) (file_seen t s r f)
-    seen_held f = over_both earlier (file_reads t r f) (all_files t k) (file_reads t r f) _ (over_self earlier (file_reads t r f)) (files_held _ (all_each is_file_use (λ d. reads (one (description_at d)) ∷ []) (held t s r f) (λ d. tt)))
+    seen_held : (f : File) → Over earlier (unresolved_file (sited t k r) f) (file_seen (in_ring t r) s f)
+    seen_held f = over_both earlier (file_reads (in_ring t r) f) (all_files t k) (file_reads (in_ring t r) f) _ (over_self earlier (file_reads (in_ring t r) f)) (files_held _ (all_each is_file_use (λ d. reads (one (description_at d)) ∷ []) (held (in_ring t r) s f) (λ d. tt)))
 
     -- What is used of a file is held among all files.
-    content_held : (f : File) (c : ℕ → Handle → Footprint) → ((i : ℕ) (h : Handle) → T (list_all is_file_use (c i h))) → (y : Option Handle) → Over earlier (unresolved_file t k r f) (content_of c y)
-    content_held f c h y = over_second earlier (file_reads t r f) (all_files t k) _ (files_held _ (content_uses c h y))
+    content_held : (f : File) (c : ℕ → Handle → Footprint) → ((i : ℕ) (h : Handle) → T (list_all is_file_use (c i h))) → (y : Option Handle) → Over earlier (unresolved_file (sited t k r) f) (content_of c y)
+    content_held f c h y = over_second earlier (file_reads (in_ring t r) f) (all_files t k) _ (files_held _ (content_uses c h y))
 
-    moved_held : (f : File) (w : Bool) (o n : ℕ) (y : Option Handle) → Over earlier (unresolved_file t k r f) (moved_uses s foreseen w o n y)
-    moved_held f w o n y = over_all earlier (unresolved_file t k r f) (content_of (moved_content s foreseen w o n) y) _ (content_held f (moved_content s foreseen w o n) (moved_content_uses w o n) y)
-        (over_second earlier (file_reads t r f) (all_files t k) _ (files_held _ (all_each is_file_use (λ g. position_written g o) y (position_uses o))))
+    moved_held : (f : File) (w : Bool) (o n : ℕ) (y : Option Handle) → Over earlier (unresolved_file (sited t k r) f) (moved_uses s foreseen w o n y)
+    moved_held f w o n y = over_all earlier (unresolved_file (sited t k r) f) (content_of (moved_content s foreseen w o n) y) _ (content_held f (moved_content s foreseen w o n) (moved_content_uses w o n) y)
+        (over_second earlier (file_reads (in_ring t r) f) (all_files t k) _ (files_held _ (all_each is_file_use (λ g. position_written g o) y (position_uses o))))
 
     names_on_path : (es : List (ℕ × List ℕ)) → T (list_all is_name_use (map (λ (e : ℕ × List ℕ). reads (one (name_at e.0 e.1))) es))
     names_on_path [] = tt
@@ -113,7 +114,7 @@ module _ (t : Trace) (k : ℕ) where
     truncated : (i : ℕ) → Over earlier (writes (all_bytes_and_sizes (made_node t k)) ∷ []) (writes (one (size_of i)) ∷ writes (range_of i 0 file_limit) ∷ [])
     truncated i = over_all earlier _ (writes (one (size_of i)) ∷ []) _ (at_atom _ (size_of i) true (λ e. either_left _ _ e) (λ e v. either_left _ _ e)) (whole_file i 0 (min file_limit file_limit) true)
 
-    opened_held : (g : OpenFlags) (q : Place) (y : Option Target) → Over earlier (any_name t k ++ cut g.truncate) (open_uses t k foreseen g q y)
+    opened_held : (g : OpenFlags) (q : Place) (y : Option Target) → Over earlier (any_name t k ++ cut g.truncate) (open_uses (at_place t k) foreseen g q y)
     unfolding cut
     opened_held g q None = elim g.create as (λ b. Over earlier (any_name t k ++ cut g.truncate) (cond b (name_written q ++ []) [])) [
       | true ↦ over_first earlier (any_name t k) _ _ (names_held (name_written q ++ []) tt)
@@ -126,29 +127,29 @@ module _ (t : Trace) (k : ℕ) where
         go true false = over_nothing earlier _
         go true true = over_second earlier (any_name t k) _ _ (truncated y.node)
 
-    open_held : (p : Path) (g : OpenFlags) (z : Result Place Errno) → Over earlier (any_name t k ++ cut g.truncate) (path_reads s p ++ each_ok (opened_at t k foreseen g) z)
+    open_held : (p : Path) (g : OpenFlags) (z : Result Place Errno) → Over earlier (any_name t k ++ cut g.truncate) (path_reads s p ++ each_ok (opened_at (at_place t k) foreseen g) z)
     open_held p g z = over_all earlier _ (path_reads s p) _ (over_first earlier (any_name t k) _ _ (names_held _ (path_names p))) (at z)
       where
-        at : (w : Result Place Errno) → Over earlier (any_name t k ++ cut g.truncate) (each_ok (opened_at t k foreseen g) w)
+        at : (w : Result Place Errno) → Over earlier (any_name t k ++ cut g.truncate) (each_ok (opened_at (at_place t k) foreseen g) w)
         at (Ok q) = opened_held g q q.target
         at (Err e) = over_nothing earlier _
 
-    unresolved_over_shape : (x : Shape) → Over earlier (unresolved_shape t k r x) (shape_row t k r s foreseen x)
+    unresolved_over_shape : (x : Shape) → Over earlier (unresolved_shape (sited t k r) x) (shape_row (sited t k r) s foreseen x)
     unfolding cut
     unresolved_over_shape idle = over_nothing earlier _
     unresolved_over_shape (looking f) = over_self earlier _
-    unresolved_over_shape (moving w f o n None) = over_all earlier _ (file_seen t s r f) _ (seen_held f) (moved_held f w o n (handle t s r f))
-    unresolved_over_shape (moving w f o n (Some x)) = over_all earlier _ (file_seen t s r f) _ (over_first earlier (unresolved_file t k r f) (span_use (not w) t r x) _ (seen_held f))
-        (over_both earlier (unresolved_file t k r f) (span_use (not w) t r x) _ (span_use (not w) t r x) (moved_held f w o n (handle t s r f)) (over_self earlier _))
-    unresolved_over_shape (allocating f o n mode) = over_all earlier _ (file_seen t s r f) _ (seen_held f) (content_held f (allocated_content s foreseen o n mode) (λ i h. grind arith) (handle t s r f))
-    unresolved_over_shape (resizing f n) = over_all earlier _ (file_seen t s r f) _ (seen_held f) (content_held f (resized_content n) (λ i h. tt) (handle t s r f))
+    unresolved_over_shape (moving w f o n None) = over_all earlier _ (file_seen (in_ring t r) s f) _ (seen_held f) (moved_held f w o n (handle (in_ring t r) s f))
+    unresolved_over_shape (moving w f o n (Some x)) = over_all earlier _ (file_seen (in_ring t r) s f) _ (over_first earlier (unresolved_file (sited t k r) f) (span_use (in_ring t r) (not w) x) _ (seen_held f))
+        (over_both earlier (unresolved_file (sited t k r) f) (span_use (in_ring t r) (not w) x) _ (span_use (in_ring t r) (not w) x) (moved_held f w o n (handle (in_ring t r) s f)) (over_self earlier _))
+    unresolved_over_shape (allocating f o n mode) = over_all earlier _ (file_seen (in_ring t r) s f) _ (seen_held f) (content_held f (allocated_content s foreseen o n mode) (λ i h. grind arith) (handle (in_ring t r) s f))
+    unresolved_over_shape (resizing f n) = over_all earlier _ (file_seen (in_ring t r) s f) _ (seen_held f) (content_held f (resized_content n) (λ i h. tt) (handle (in_ring t r) s f))
     unresolved_over_shape (closing f) = over_self earlier _
     unresolved_over_shape (opening p g asked) = open_held p g (walk s.nodes p)
-    unresolved_over_shape (making p) = names_held _ (names_behind (path_reads s p) (directory_made t k foreseen) (walk s.nodes p) (path_names p) (λ q. tt))
+    unresolved_over_shape (making p) = names_held _ (names_behind (path_reads s p) (directory_made (at_place t k) foreseen) (walk s.nodes p) (path_names p) (λ q. tt))
     unresolved_over_shape (freeing p removes) = names_held _ (names_behind (path_reads s p) (name_freed removes) (walk s.nodes p) (path_names p) (λ q. grind arith))
     unresolved_over_shape (linking old new) = names_held _ (names_behind (path_reads s old ++ path_reads s new) name_written (walk s.nodes new) (two_paths old new) (λ q. tt))
     unresolved_over_shape (renaming old new) = names_held _ (all_append is_name_use (path_reads s old ++ path_reads s new) _ (two_paths old new)
         (names_behind (each_ok name_written (walk s.nodes old)) (name_freed true) (walk s.nodes new) (all_each_ok is_name_use name_written (walk s.nodes old) (λ q. tt)) (λ q. grind arith)))
 
-    pub unresolved_over_taken : (o : Operation) → Over earlier (unresolved_row t k r o) (taken t k r s o)
+    pub unresolved_over_taken : (o : Operation) → Over earlier (unresolved_row (sited t k r) o) (taken (sited t k r) s o)
     unresolved_over_taken o = unresolved_over_shape (shape o)

@@ -6,6 +6,7 @@ use Rattle.entry_checks.specs.Operation.{Operation, openat}
 use Rattle.world_parts.specs.World.{World, broken}
 use Rattle.world_parts.specs.Items.{Item, one, chain_flag, Use, Footprint}
 use Rattle.foot_print.specs.Footprint.{row_in}
+use Rattle.op_meaning.specs.Meaning.{Site}
 use Rattle.op_meaning.specs.Step.{Turn, runs}
 use Rattle.foot_print.specs.Reach.{seen, look_of, task, running_row}
 use Rattle.foot_print.specs.Foreseen.{meets_written, may_run, member_runs, reach_given}
@@ -57,9 +58,9 @@ pub record Awaits (w : Item → Bool) (deciding row : Footprint) (may takes : Bo
   pub lowest : o.takes_lowest ≡ takes
 
 -- Of a place that has an operation, behind its order.
-abbrev pub AwaitsAsOperation : Footprint → Trace → ℕ → ℕ → World → (Item → Bool) → Operation → Bool → Outlook → Type 0
-AwaitsAsOperation order t k r s w p may o = Awaits w (seen t r s p) (order ++ row_in t k r s p) may (takes_lowest p) o
+abbrev pub AwaitsAsOperation : Site → World → Footprint → (Item → Bool) → Operation → Bool → Outlook → Type 0
+AwaitsAsOperation site s order w p may o = Awaits w (seen site s p) (order ++ row_in site s p) may (takes_lowest p) o
 
 -- Of a member of a chain that isn't doomed, by whether it may run.
-abbrev pub MemberAwaits : Footprint → Trace → ℕ → ℕ → World → (Item → Bool) → Role → Operation → Outlook → Type 0
-MemberAwaits order t k r s w c p o = AwaitsAsOperation order t k r s w p (member_runs c (broken s c.chain) (w (one (chain_flag c.chain)))) o
+abbrev pub MemberAwaits : Site → World → Footprint → (Item → Bool) → Role → Operation → Outlook → Type 0
+MemberAwaits site s order w c p o = AwaitsAsOperation site s order w p (member_runs c (broken s c.chain) (w (one (chain_flag c.chain)))) o

@@ -12,7 +12,7 @@ use Rattle.op_meaning.specs.declared.reply.Reply.{Reply}
 use Rattle.op_meaning.specs.Step.{turn, step_world, step_reply}
 use Rattle.world_parts.specs.Items.{Atom, chain_flag, description_at, position_of, size_of, byte_at, name_at, names_in, Value, value, one, Footprint, has_atom, writes_atom, collide}
 use Rattle.foot_print.specs.Footprint.{footprint}
-use Rattle.foot_print.specs.Reach.{Look, look_of, task, is_canceled, is_taken_to_run, is_met, written_by, order_of, running_row, accepted_row, wide_row, reach}
+use Rattle.foot_print.specs.Reach.{LookedUp, look_of, task, is_canceled, is_taken_to_run, is_met, written_by, order_of, running_row, accepted_row, wide_row, reach}
 
 -- The numbers that a place makes are unused; so are those of every later place.
 pub record Unused (t : Trace) (k : ℕ) (s : World) : Type 0 where
@@ -33,7 +33,7 @@ is_earlier t k (names_in d) = ltb d (made_node t k)
 is_earlier t k _ = true
 
 -- All numbers that are looked up are initial or of earlier places.
-abbrev pub Bounded : Trace → ℕ → Look → Type 0
+abbrev pub Bounded : Trace → ℕ → LookedUp → Type 0
 Bounded t k l = (a : Atom) → has_atom l.items a ≡ true → is_earlier t k a ≡ true
 
 abbrev pub Known : Trace → ℕ → World → List Footprint → Type 0
@@ -63,7 +63,7 @@ replayed t = record {
 
 abbrev pub rows : (t : Trace) → Rows (replayed t)
 rows t = record {
-  Look = Look;
+  Look = LookedUp;
   sees = λ l a. has_atom l.deciding a;
   look = λ k s. look_of t k s (task t k);
   canceled = λ k s. is_canceled (turn t k s);

@@ -4,10 +4,10 @@ ghost use Rattle.entry_checks.specs.Meant.{meant};
 ghost use Rattle.foot_print.specs.Attempts.{taken_meant};
 ghost use Rattle.foot_print.specs.Shapes.{shape_meant};
 ghost use Rattle.foot_print.specs.Footprint.{foreseen, row_in, uses, uses_in};
-ghost use Rattle.op_meaning.specs.Shape.{look, shape};
+ghost use Rattle.op_meaning.specs.Shape.{look};
 ghost use Rattle.op_meaning.specs.Lookups.{found_meant};
-ghost use Rattle.op_meaning.specs.Meaning.{found};
-ghost use Rattle.op_meaning.specs.Site.{IsSite};
+ghost use Rattle.op_meaning.specs.Meaning.{found, shape};
+ghost use Rattle.op_meaning.specs.Site.{IsSite, site_meant};
 
 use crate::attempt::{Attempt, Taken};
 use crate::file_rows::{
@@ -35,8 +35,8 @@ pub(crate) fn operation_uses(
     footprint: &mut Footprint,
 ) -> Result<(), AllocError>
     requires site { IsSite site }
-    ensures { OnOk result (footprint.new ≡ footprint.old ++ row_in site.entry.trace.now
-        site.entry.place site.entry.ring state.now (meant op.entry)) }
+    ensures { OnOk result (footprint.new ≡ footprint.old ++ row_in (site_meant site.entry) state.now
+        (meant op.entry)) }
 {
     let lookup = shape_seen(alloc, site, shape_of(op), state, footprint)?;
     uses_behind(alloc, site, op, lookup, state, footprint)
@@ -54,9 +54,9 @@ pub(crate) fn uses_behind<'a>(
 ) -> Result<(), AllocError>
     requires site { IsSite site }
     requires lookup { found_meant state.now lookup
-        ≡ found site.trace.now site.ring state.now (look (shape (meant op))) }
-    ensures { OnOk result (footprint.new ≡ footprint.old ++ uses_in site.entry.trace.now
-        site.entry.place site.entry.ring state.now (meant op.entry)
+        ≡ found (site_meant site) state.now (look (shape (meant op))) }
+    ensures { OnOk result (footprint.new ≡ footprint.old ++ uses_in
+        (site_meant site.entry) state.now (meant op.entry)
         (found_meant state.now lookup.entry)) }
 {
     let known = footprint.len();
@@ -83,8 +83,8 @@ pub(crate) fn uses_foreseen(
     footprint: &mut Footprint,
 ) -> Result<(), AllocError>
     requires site { IsSite site }
-    ensures { OnOk result (footprint.new ≡ footprint.old ++ uses site.entry.trace.now
-        site.entry.place site.entry.ring state.now foreseen (shape_meant shape.entry)
+    ensures { OnOk result (footprint.new ≡ footprint.old ++ uses
+        (site_meant site.entry) state.now foreseen (shape_meant shape.entry)
         (found_meant state.now lookup.entry)) }
 {
     let attempt = Attempt {
@@ -105,8 +105,8 @@ fn push_uses(
     footprint: &mut Footprint,
 ) -> Result<(), AllocError>
     requires site { IsSite attempt.site }
-    ensures { OnOk result (footprint.new ≡ footprint.old ++ uses attempt.entry.site.trace.now
-        attempt.entry.site.place attempt.entry.site.ring state.now
+    ensures { OnOk result (footprint.new ≡ footprint.old ++ uses
+        (site_meant attempt.entry.site) state.now
         (taken_meant attempt.entry.taken) (shape_meant shape.entry)
         (found_meant state.now lookup.entry)) }
 {

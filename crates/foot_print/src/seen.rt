@@ -4,6 +4,7 @@ ghost use Rattle.file_tree.specs.Walk.{walk};
 ghost use Rattle.entry_checks.specs.Meant.{path_meant};
 ghost use Rattle.foot_print.specs.Shapes.{shape_meant};
 ghost use Rattle.foot_print.specs.Footprint.{look_reads, path_reads};
+ghost use Rattle.op_meaning.specs.Site.{site_meant};
 ghost use Rattle.op_meaning.specs.Lookups.{found_meant};
 ghost use Rattle.op_meaning.specs.Meaning.{found};
 ghost use Rattle.op_meaning.specs.Shape.{look};
@@ -26,10 +27,10 @@ pub(crate) fn shape_seen<'a>(
     footprint: &mut Footprint,
 ) -> Result<Lookup<'a>, AllocError>
     ensures seen { OnOk result (footprint.new ≡ footprint.old
-        ++ look_reads site.entry.trace.now site.entry.ring state.now
+        ++ look_reads (site_meant site.entry) state.now
         (look (shape_meant shape.entry))) }
-    ensures found { IfOk result (λ x. found_meant state.now x ≡ found site.entry.trace.now
-        site.entry.ring state.now (look (shape_meant shape.entry))) }
+    ensures found { IfOk result (λ x. found_meant state.now x ≡ found
+        (site_meant site.entry) state.now (look (shape_meant shape.entry))) }
 {
     match shape {
         Shape::Idle | Shape::Looking { .. } | Shape::Closing { .. } => Ok(Lookup::Nothing),

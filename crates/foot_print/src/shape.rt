@@ -1,8 +1,8 @@
 //! The shapes of operations.
 ghost use Rattle.std.specs.Prelude.{◌≡◌};
 ghost use Rattle.entry_checks.specs.Meant.{meant};
+ghost use Rattle.op_meaning.specs.Meaning.{shape};
 ghost use Rattle.foot_print.specs.Shapes.{shape_meant};
-ghost use Rattle.op_meaning.specs.Shape.{shape};
 
 use entry_checks::{BufferSpan, FileNumber, Op, OpenAtFlags, PathAt};
 use op_meaning::MOST_MOVED;

@@ -1,5 +1,5 @@
 -- The first of the uses by which an access set waits for another.
-use Rattle.std.specs.Prelude.{◌≡◌, ℕ, zero, suc, ◌<◌, true, false, ◌&&◌, ◌||◌, ◌⊎◌, List, [], ◌∷◌, length, map, Option, Some, None, slice_index_or}
+use Rattle.std.specs.Prelude.{◌≡◌, ℕ, zero, suc, ◌+◌, ◌<◌, true, false, ◌&&◌, ◌||◌, ◌⊎◌, List, [], ◌∷◌, length, map, Option, Some, None, slice_index_or}
 use Rattle.std.specs.Bool.{Decides}
 use Rattle.std.proofs.Common.{ap, get_or, sym, ◌∙◌, subst, arith, inl, inr}
 use Rattle.std.proofs.lemmas.Bool.{and_from, and_parts, cases_Bool, cases_eq, or_cases, or_left, or_right}
@@ -11,18 +11,40 @@ use Rattle.world_parts.specs.declared.footprint.Use as code
 use Rattle.foot_waits.specs.Groups.{told_among}
 use Rattle.foot_waits.specs.Rule.{descriptor_uses, is_of_descriptors, use_at}
 use Rattle.foot_waits.specs.Spots.{no_span}
-use Rattle.foot_waits.specs.Told.{IsFirst, Past, TellsBy, with_told}
+use Rattle.foot_waits.specs.Told.{IsFirst, IsFirstFrom, Past, TellsBy, with_told}
 
-pub first_more : (past : Past) (f : Footprint) (spans : List Span) (n j : ℕ) (o : Option ℕ) (told : List ℕ) → IsFirst past f spans n j o → Decides (is_among told j) (TellsBy past f spans n j)
-    → IsFirst past f spans (suc n) j (with_told o told n j)
-first_more past g spans n j (Some i) told f d = (omega (arith, f.0), f.1, f.2)
-first_more past g spans n j None told f d = elim (cases_Bool (is_among told j)) [
-  | inl t ↦ rw t (omega arith, d.0 t, f)
-  | inr no₁ ↦ rw no₁ (λ i lt tells. elim (cases_eq i n) [
-    | inl same ↦ let both : true ≡ false = sym (d.1 (subst (λ m. TellsBy past g spans m j) same tells)) ∙ no₁ in cc
-    | inr other ↦ f i (omega (arith, lt, other)) tells
-  ])
+-- a use by which it doesn't wait stands before the others
+not_told : (past : Past) (f : Footprint) (spans : List Span) (m n j : ℕ) (o : Option ℕ) → ¬ (TellsBy past f spans m j) → IsFirstFrom past f spans (m + 1) n j o → IsFirstFrom past f spans m n j o
+not_told past g spans m n j None not f = λ i from lt tells. elim (cases_eq i m) [
+  | inl same ↦ not (subst (λ k. TellsBy past g spans k j) same tells)
+  | inr other ↦ f i (omega (arith, from, other)) lt tells
 ]
+not_told past g spans m n j (Some i) not f = (
+  omega (arith, f.0),
+  f.1,
+  f.2,
+  λ h from lt tells. elim (cases_eq h m) [
+    | inl same ↦ not (subst (λ k. TellsBy past g spans k j) same tells)
+    | inr other ↦ f.3 h (omega (arith, from, other)) lt tells
+  ],
+)
+
+-- before the end there is none yet
+pub none_from : (past : Past) (f : Footprint) (spans : List Span) (n j : ℕ) → IsFirstFrom past f spans n n j None
+none_from past f spans n j = λ i from lt tells. absurd (omega (arith, from, lt))
+
+-- one more use, which stands before the others
+pub first_more : (past : Past) (f : Footprint) (spans : List Span) (m n j : ℕ) (o : Option ℕ) (told : List ℕ) → m < n → IsFirstFrom past f spans (m + 1) n j o → Decides (is_among told j) (TellsBy past f spans m j)
+    → IsFirstFrom past f spans m n j (with_told o told m j)
+first_more past g spans m n j o told less f d = elim (cases_Bool (is_among told j)) [
+  | inl t ↦ rw t (omega arith, less, d.0 t, λ h from lt tells. absurd (omega (arith, from, lt)))
+  | inr no₁ ↦ rw no₁ (not_told past g spans m n j o (λ tells. let both : true ≡ false = sym (d.1 tells) ∙ no₁ in cc) f)
+]
+
+-- the first from the first use on
+pub first_of_all : (past : Past) (f : Footprint) (spans : List Span) (n j : ℕ) (o : Option ℕ) → IsFirstFrom past f spans 0 n j o → IsFirst past f spans n j o
+first_of_all past g spans n j None f = λ i lt tells. f i (omega arith) lt tells
+first_of_all past g spans n j (Some i) f = (f.1, f.2, λ h lt tells. f.3 h (omega arith) lt tells)
 
 -- the use at a number is the one that is meant there
 pub meant_at : (uses : List code.Use) (i : ℕ) (used : code.Use) → i < length uses → used ≡ get_or uses i used → use_meant used ≡ use_at (map use_meant uses) i

@@ -1,7 +1,6 @@
 -- A view of code: by which of its uses an access set waits first.
-use Rattle.std.specs.Prelude.{◌≡◌, ℕ, ◌<◌, ◌⊎◌, true, List, Option, Some, None, MatchOption, if◌then◌else◌, map, slice_index_or}
+use Rattle.std.specs.Prelude.{◌≡◌, ℕ, ◌<◌, ◌≤◌, ◌⊎◌, true, List, Option, Some, MatchOption, if◌then◌else◌, map, slice_index_or}
 use Rattle.std.specs.Bool.{Decides}
-use Rattle.std.specs.Option.{option_or}
 use Rattle.use_line.specs.declared.line.Span.{Span}
 use Rattle.use_line.specs.Known.{IsToldOf, Keeps, Uses, is_among}
 use Rattle.world_parts.specs.Items.{Footprint}
@@ -21,14 +20,19 @@ TellsBy past f spans i j =
     let u = use_at f i in
     IsToldOf past.0 spans s.written s.low s.high j ⊎ ((is_of_descriptors u.item ≡ true) × (told_among past.1 (descriptor_uses f) u j past.1 ≡ true))
 
+-- the first from one number up to another
+abbrev pub IsFirstFrom : Past → Footprint → List Span → ℕ → ℕ → ℕ → Option ℕ → Type 0
+IsFirstFrom past f spans m n j o = MatchOption o ((i : ℕ) → m ≤ i → i < n → ¬ (TellsBy past f spans i j))
+    (λ i. (m ≤ i) × (i < n) × TellsBy past f spans i j × ((h : ℕ) → m ≤ h → h < i → ¬ (TellsBy past f spans h j)))
+
 -- the first of so many by which it does
 abbrev pub IsFirst : Past → Footprint → List Span → ℕ → ℕ → Option ℕ → Type 0
 IsFirst past f spans n j o = MatchOption o ((i : ℕ) → i < n → ¬ (TellsBy past f spans i j))
     (λ i. (i < n) × TellsBy past f spans i j × ((h : ℕ) → h < i → ¬ (TellsBy past f spans h j)))
 
--- those that are told by one more use
+-- those that are told by one more use, which stands before the others
 abbrev pub with_told : Option ℕ → List ℕ → ℕ → ℕ → Option ℕ
-with_told o told i j = option_or o (if is_among told j then Some i else None)
+with_told o told i j = if is_among told j then Some i else o
 
 -- what is known after the first places of a list of access sets
 pub record IsAt (w : Waits) (foot : ℕ → Footprint) (n : ℕ) : Type 0 where

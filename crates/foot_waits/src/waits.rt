@@ -1,6 +1,5 @@
 //! For whom each of a list of access sets waits directly.
-ghost use Rattle.std.specs.Option.{option_or};
-ghost use Rattle.std.specs.Prelude.{◌≡◌, ◌==◌, None, Some, if◌then◌else◌, suc, ◌<◌, ◌^◌, ◌-◌, ℕ, IfOk, OnOk, length, map, slice_index_or};
+ghost use Rattle.std.specs.Prelude.{◌≡◌, ◌==◌, Some, if◌then◌else◌, suc, ◌<◌, ◌^◌, ◌-◌, ℕ, IfOk, OnOk, length, map, slice_index_or};
 ghost use Rattle.std.specs.BTreeMap.{get};
 ghost use Rattle.std.specs.Ordering.{nat_cmp};
 ghost use Rattle.foot_waits.specs.Told.{IsAt, IsFirst, TellsAll, with_told};
@@ -80,7 +79,8 @@ impl Waits {
     }
 }
 
-/// Of each earlier place for which one waits by some use, the number of the first of these.
+/// Of each earlier place for which one waits by some use, the number of the first of these. The
+/// uses come from the last to the first, so that a later one gives way.
 fn first_told(
     alloc: Global,
     line: &Line,
@@ -96,15 +96,18 @@ fn first_told(
         (map use_meant uses.now) spans.now (length spans.now) j (get nat_cmp found j)) }
 {
     let mut found = BTreeMap::new(alloc);
-    for index in 0..spans.len() {
-        let told = told_by(alloc, line, descriptors, uses, own, spans, index)?;
-        add_first(&mut found, told.as_slice(), index as u32)?;
+    let mut told = Vec::new(alloc);
+    let mut index = spans.len();
+    while index > 0 {
+        index -= 1;
+        tell_by(alloc, line, descriptors, uses, own, spans, index, &mut told)?;
+        add_told(&mut found, told.as_slice(), index as u32)?;
     }
     Ok(found)
 }
 
-/// Those for whom a place waits by one of its uses.
-fn told_by(
+/// Makes a list those for whom a place waits by one of its uses.
+fn tell_by(
     alloc: Global,
     line: &Line,
     descriptors: &Descriptors,
@@ -112,17 +115,17 @@ fn told_by(
     own: &Footprint,
     spans: &[Span],
     index: usize,
-) -> Result<Vec<u32>, AllocError>
+    told: &mut Vec<u32>,
+) -> Result<(), AllocError>
     requires own { own.now ≡ rule.descriptor_uses (map use_meant uses.now) }
     requires each { length uses.now ≡ length spans.now }
     requires within { index < length spans.now }
-    ensures { IfOk result (λ told. TellsAll (line.now, descriptors.now) (map use_meant uses.now)
-        spans.now index told.items) }
+    ensures { OnOk result (TellsAll (line.now, descriptors.now) (map use_meant uses.now)
+        spans.now index told.new.items) }
 {
-    let mut told = Vec::new(alloc);
-    tell_line(alloc, line, spans, index, &mut told)?;
-    descriptors.tell(&uses[index], own, &mut told)?;
-    Ok(told)
+    told.clear();
+    tell_line(alloc, line, spans, index, told)?;
+    descriptors.tell(&uses[index], own, told)
 }
 
 /// Adds those for whom a place waits by one of its ranges.
@@ -144,8 +147,8 @@ fn tell_line(
     Ok(())
 }
 
-/// Adds those of some places that aren't there yet, with a number.
-fn add_first(found: &mut BTreeMap<u32, u32>, told: &[u32], index: u32) -> Result<(), AllocError>
+/// Gives some places a number, whether they have one or not.
+fn add_told(found: &mut BTreeMap<u32, u32>, told: &[u32], index: u32) -> Result<(), AllocError>
     ensures { OnOk result ((j : ℕ) → get nat_cmp found.new j
         ≡ with_told (get nat_cmp found.old j) told.now index j) }
 {
@@ -155,14 +158,11 @@ fn add_first(found: &mut BTreeMap<u32, u32>, told: &[u32], index: u32) -> Result
     Ok(())
 }
 
-/// Adds a place that isn't there yet, with a number.
+/// Gives a place a number.
 fn add_one(found: &mut BTreeMap<u32, u32>, place: u32, index: u32) -> Result<(), AllocError>
     ensures { OnOk result ((j : ℕ) → get nat_cmp found.new j
-        ≡ option_or (get nat_cmp found.old j) (if place == j then Some index else None)) }
+        ≡ (if place == j then Some index else get nat_cmp found.old j)) }
 {
-    if found.contains_key(&place) {
-        return Ok(());
-    }
     found.insert(place, index)?;
     Ok(())
 }

@@ -6,6 +6,8 @@ mod checks;
 #[cfg(test)]
 mod entries;
 #[cfg(test)]
+mod records;
+#[cfg(test)]
 mod reports;
 #[cfg(test)]
 mod slices;

@@ -22,6 +22,7 @@ use Rattle.file_tree.specs.Walk.{Place, walk, is_directory}
 use Rattle.world_parts.specs.World.{World, Change, quiet, loud, break_chain, slot, descriptor, buffer, set_name}
 use Rattle.world_parts.specs.Paths.{is_file_name}
 use Rattle.world_parts.proofs.FileNames.{Named, AllNaming, named_place, named_changes, named_start}
+use Rattle.op_meaning.specs.Site.{at_place, in_ring, sited}
 use Rattle.op_meaning.specs.Meaning.{Effect, done, Handle, handle, held, slot_count, can_write, is_bad_offset, span_start, span_destination, span_bytes, advance, Destination, reply, into, delivered, read_effect, readable, read_meaning, write_start, write_effect, writable, write_meaning, Allocation, extend, reserve, punch, zero_extend, zero_within, allocation, allocate, fallocate_meaning, ftruncate_meaning, room, lowest_free, filled, may_open, open_changes, open_as, openat_meaning, close_meaning, may_remove, unlinkat_meaning, mkdirat_meaning, linkat_meaning, may_replace, moved_name, move_meaning, exchange_meaning, goes_below, rename_to, renameat_meaning, made_node, made_description, meaning}
 use Rattle.op_meaning.specs.Step.{Turn, filled as fills, refused, canceled, runs, breaks, failed, changes_of, changes_in, turn, step_world, run_world}
 use Rattle.op_meaning.proofs.Fallible.{and_then, and_so, after}
@@ -35,7 +36,7 @@ either : (b : Bool) (xs ys : List Change) → AllNaming xs → AllNaming ys → 
 either true xs ys g h = g
 either false xs ys g h = h
 
-advances : (h : Handle) (o end : ℕ) → AllNaming (advance h o end)
+advances : (h : Handle) (o end : ℕ) → AllNaming (advance o h end)
 advances h o end = either (o == at_position) _ _ (tt, tt) tt
 
 allocates : (s : World) (i at end : ℕ) (a : Allocation) → AllNaming (allocate s i at end a)
@@ -71,8 +72,8 @@ fewer n xs le = omega (arith, length-take n xs)
 taken : (n : ℕ) (xs : List ℕ) → n ≤ most_moved → length (take n xs) ≤ most_moved
 taken n xs le = omega (arith, length-take n xs)
 
-span_short : (t : Trace) (s : World) (r : ℕ) (x : Span) → IfOk (span_bytes t s r x) (λ bs. length bs ≤ most_moved)
-span_short t s r x = by (span_start t r x)
+span_short : (t : Trace) (s : World) (r : ℕ) (x : Span) → IfOk (span_bytes (in_ring t r) s x) (λ bs. length bs ≤ most_moved)
+span_short t s r x = by (span_start (in_ring t r) x)
   where
     by : (o : Option ℕ) → IfOk (ok_or (option_map (λ at. take (min x.length most_moved) (drop at (unwrap_or (buffer s r x.index) []))) o) EFAULT) (λ bs. length bs ≤ most_moved)
     by None = tt
@@ -94,7 +95,7 @@ found_below p a (suc n) = which (p a) (found_below p (a + 1) n)
     which true h = omega arith
     which false h = weaker (find p (range_with_len (a + 1) n)) h
 
-room_small : (t : Trace) (s : World) (r : ℕ) (asked : Option ℕ) → IsSpelled t → IfOk (room t s r asked) FewDescriptors
+room_small : (t : Trace) (s : World) (r : ℕ) (asked : Option ℕ) → IsSpelled t → IfOk (room (in_ring t r) s asked) FewDescriptors
 room_small t s r None spelled = by (lowest_free t s) (found_below (λ n. is_none (descriptor s n)) 0 (length t.descriptors))
   where
     by : (o : Option ℕ) → IfSome o (λ k. k < 0 + length t.descriptors) → IfOk (ok_or (option_map at_descriptor o) EMFILE) FewDescriptors
@@ -102,7 +103,7 @@ room_small t s r None spelled = by (lowest_free t s) (found_below (λ n. is_none
     by (Some k) h = let few : length t.descriptors ≤ 1024 = (sizes t spelled).descriptors in omega arith
 room_small t s r (Some n) spelled = after FewDescriptors (require (ltb n (slot_count t r)) EINVAL) _ tt
 
-opened_small : (t : Trace) (k r : ℕ) (g : OpenFlags) (at : File) (p : Place) → FewDescriptors at → (open_as t k r g at p).count ≤ most_moved
+opened_small : (t : Trace) (k r : ℕ) (g : OpenFlags) (at : File) (p : Place) → FewDescriptors at → (open_as (sited t k r) g at p).count ≤ most_moved
 opened_small t k r g (in_slot n) p few = omega arith
 opened_small t k r g (at_descriptor n) p few = few
 
@@ -119,47 +120,47 @@ module _ (P : Type 0) where
   still : (cs : List Change) → AllNaming cs → Owed (done cs)
   still cs h = record { small = λ p. none; names = h }
 
-  delivers : (r : ℕ) (to : Destination) (moved : List ℕ) (cs : List Change) → (P → length moved ≤ most_moved) → AllNaming cs → Owed (delivered r to moved cs)
-  delivers r reply moved cs le h = record { small = le; names = h }
-  delivers r (into b at) moved cs le h = record { small = le; names = (tt, h) }
+  delivers : (to : Destination) (moved : List ℕ) (cs : List Change) → (P → length moved ≤ most_moved) → AllNaming cs → Owed (delivered to moved cs)
+  delivers reply moved cs le h = record { small = le; names = h }
+  delivers (into r b at) moved cs le h = record { small = le; names = (tt, h) }
 
   -- Transfers.
-  reads : (s : World) (r : ℕ) (x : Option Handle) (o n : ℕ) (to : Result Destination Errno) → (P → n ≤ most_moved) → Pays (read_meaning s r x o n to)
-  reads s r x o n to le = and_then Owed (readable x) _ (λ h. and_then Owed to _ (λ d. after Owed (require (not (is_bad_offset o)) EINVAL) _ (moves h d (n == 0))))
+  reads : (s : World) (x : Option Handle) (o n : ℕ) (to : Result Destination Errno) → (P → n ≤ most_moved) → Pays (read_meaning s o n x to)
+  reads s x o n to le = and_then Owed (readable x) _ (λ h. and_then Owed to _ (λ d. after Owed (require (not (is_bad_offset o)) EINVAL) _ (moves h d (n == 0))))
     where
-      moves : (h : Handle) (d : Destination) (b : Bool) → IfOk {E = Errno} (Ok (if b then done [] else read_effect s r h o n d)) Owed
+      moves : (h : Handle) (d : Destination) (b : Bool) → IfOk {E = Errno} (Ok (if b then done [] else read_effect s o n h d)) Owed
       moves h d true = still [] tt
-      moves h d false = delivers r d _ _ (λ p. taken n _ (le p)) (advances h o _)
+      moves h d false = delivers d _ _ (λ p. taken n _ (le p)) (advances h o _)
 
-  writes : (s : World) (x : Option Handle) (o : ℕ) (new : Result (List ℕ) Errno) → IfOk new (λ bs. P → length bs ≤ most_moved) → Pays (write_meaning s x o new)
+  writes : (s : World) (x : Option Handle) (o : ℕ) (new : Result (List ℕ) Errno) → IfOk new (λ bs. P → length bs ≤ most_moved) → Pays (write_meaning s o x new)
   writes s x o new le =
-      and_then Owed (writable x) _ (λ h. and_so (λ bs. P → length bs ≤ most_moved) Owed new _ le (λ bs short. after Owed (require (not (is_bad_offset o)) EINVAL) _ (moves h (write_start s h o) bs short (length bs == 0))))
+      and_then Owed (writable x) _ (λ h. and_so (λ bs. P → length bs ≤ most_moved) Owed new _ le (λ bs short. after Owed (require (not (is_bad_offset o)) EINVAL) _ (moves h (write_start s o h) bs short (length bs == 0))))
     where
-      moves : (h : Handle) (at : ℕ) (bs : List ℕ) → (P → length bs ≤ most_moved) → (b : Bool) → IfOk (if b then Ok (done []) else (require (ltb at file_limit) EFBIG >> Ok (write_effect h o at (take (file_limit - at) bs)))) Owed
+      moves : (h : Handle) (at : ℕ) (bs : List ℕ) → (P → length bs ≤ most_moved) → (b : Bool) → IfOk (if b then Ok (done []) else (require (ltb at file_limit) EFBIG >> Ok (write_effect o h at (take (file_limit - at) bs)))) Owed
       moves h at bs short true = still [] tt
       moves h at bs short false = after Owed (require (ltb at file_limit) EFBIG) _ (record { small = λ p. fewer (file_limit - at) bs (short p); names = (tt, advances h o _) })
 
   -- Contents.
-  allocating : (s : World) (x : Option Handle) (o n mode : ℕ) → Pays (fallocate_meaning s x o n mode)
+  allocating : (s : World) (x : Option Handle) (o n mode : ℕ) → Pays (fallocate_meaning s o n mode x)
   allocating s x o n mode =
       and_then Owed (ok_or x EBADF) _ (λ h.
       after Owed (require (ltb o (2 ^ 63) && not (n == 0) && ltb n (2 ^ 63)) EINVAL) _
       (and_then Owed (ok_or (allocation mode) EOPNOTSUPP) _ (λ a.
       after Owed (require (can_write h.opened.access) EBADF) _ (after Owed (require (leb (o + n) file_limit) EFBIG) _ (still _ (allocates s h.opened.target.node o (o + n) a))))))
 
-  resizing : (x : Option Handle) (n : ℕ) → Pays (ftruncate_meaning x n)
+  resizing : (x : Option Handle) (n : ℕ) → Pays (ftruncate_meaning n x)
   resizing x n =
       and_then Owed (ok_or x EBADF) _ (λ h.
       after Owed (require (ltb n (2 ^ 63)) EINVAL) _ (after Owed (require (can_write h.opened.access) EINVAL) _ (after Owed (require (leb n file_limit) EFBIG) _ (still _ (tt, tt)))))
 
-  closing : (t : Trace) (s : World) (r : ℕ) (f : File) → Pays (close_meaning t s r f)
-  closing t s r (at_descriptor n) = after Owed (require (is_some (held t s r (at_descriptor n))) EBADF) _ (still _ (tt, tt))
+  closing : (t : Trace) (s : World) (r : ℕ) (f : File) → Pays (close_meaning (in_ring t r) s f)
+  closing t s r (at_descriptor n) = after Owed (require (is_some (held (in_ring t r) s (at_descriptor n))) EBADF) _ (still _ (tt, tt))
   closing t s r (in_slot n) = after Owed (require (ltb n (slot_count t r)) EINVAL) _ (after Owed (require (is_some (slot s r n)) EBADF) _ (still _ (tt, tt)))
 
   -- Names.
-  opening : (t : Trace) (k r : ℕ) (s : World) (p : Path) (g : OpenFlags) (asked : Option ℕ) → (P → IsSpelled t) → Pays (openat_meaning t s k r (walk s.nodes p) g asked)
+  opening : (t : Trace) (k r : ℕ) (s : World) (p : Path) (g : OpenFlags) (asked : Option ℕ) → (P → IsSpelled t) → Pays (openat_meaning (sited t k r) s g asked (walk s.nodes p))
   opening t k r s p g asked spelled =
-      and_so (λ at. P → FewDescriptors at) Owed (room t s r asked) _ (few (room t s r asked) (λ q. room_small t s r asked (spelled q))) (λ at h.
+      and_so (λ at. P → FewDescriptors at) Owed (room (in_ring t r) s asked) _ (few (room (in_ring t r) s asked) (λ q. room_small t s r asked (spelled q))) (λ at h.
       and_so (λ q. T (is_file_name q.name)) Owed (walk s.nodes p) _ (named s.nodes p) (λ q good.
       after Owed (may_open g q.target) _ (record {
         small = λ w. opened_small t k r g at q (h w);
@@ -170,10 +171,10 @@ module _ (P : Type 0) where
       few (Ok at) h = h
       few (Err e) h = tt
 
-  making : (t : Trace) (k : ℕ) (s : World) (p : Path) → Pays (mkdirat_meaning t k (walk s.nodes p))
+  making : (t : Trace) (k : ℕ) (s : World) (p : Path) → Pays (mkdirat_meaning (at_place t k) (walk s.nodes p))
   making t k s p = and_so (λ q. T (is_file_name q.name)) Owed (walk s.nodes p) _ (named s.nodes p) (λ q good. after Owed (require (is_none q.target) EEXIST) _ (still _ (tt, (good, tt))))
 
-  removing : (s : World) (p : Path) (removes : Bool) → Pays (unlinkat_meaning s (walk s.nodes p) removes)
+  removing : (s : World) (p : Path) (removes : Bool) → Pays (unlinkat_meaning s removes (walk s.nodes p))
   removing s p removes =
       and_so (λ q. T (is_file_name q.name)) Owed (walk s.nodes p) _ (named s.nodes p) (λ q good. and_then Owed (ok_or q.target ENOENT) _ (λ x. after Owed (may_remove s removes x) _ (still _ (good, tt))))
 
@@ -206,7 +207,7 @@ module _ (P : Type 0) where
         which true m n = exchanges old new q.target
         which false m n = after Owed (require m EEXIST >> require n EINVAL) _ (moves q.target)
 
-  renaming : (s : World) (old new : Path) (flags : ℕ) → Pays (renameat_meaning s old new (walk s.nodes old) (walk s.nodes new) flags)
+  renaming : (s : World) (old new : Path) (flags : ℕ) → Pays (renameat_meaning s old new flags (walk s.nodes old) (walk s.nodes new))
   renaming s old new flags =
       and_so (λ p. T (is_file_name p.name)) Owed (walk s.nodes old) _ (named s.nodes old) (λ p good.
       and_so (λ q. T (is_file_name q.name)) Owed (walk s.nodes new) _ (named s.nodes new) (λ q fine. and_then Owed (ok_or p.target ENOENT) _ (λ x. renames s p q x good fine old new flags)))
@@ -216,30 +217,30 @@ abbrev Asks : Trace → Operation → Type 0
 Asks t o = IsSpelled t × IfSome (asked o) (λ n. n ≤ most_moved)
 
 -- What each operation owes.
-owes : (t : Trace) (k r : ℕ) (s : World) (o : Operation) → Pays (Asks t o) (meaning t k r s o)
+owes : (t : Trace) (k r : ℕ) (s : World) (o : Operation) → Pays (Asks t o) (meaning (sited t k r) s o)
 owes t k r s nop = still _ [] tt
-owes t k r s (readv f o n) = reads _ s r (handle t s r f) o (min n most_moved) (Ok reply) (λ p. p.1)
-owes t k r s (writev f o new) = writes _ s (handle t s r f) o (Ok new) (λ p. p.1)
-owes t k r s (fsync f) = after _ (require (is_some (held t s r f)) EBADF) _ (still _ [] tt)
-owes t k r s (read_fixed f o x) = reads _ s r (handle t s r f) o (min x.length most_moved) (span_destination t r x) (λ p. p.1)
-owes t k r s (write_fixed f o x) = writes _ s (handle t s r f) o (span_bytes t s r x) (IfOk-weaker (span_bytes t s r x) _ _ (λ bs le p. le) (span_short t s r x))
-owes t k r s (fallocate f o n mode) = allocating _ s (handle t s r f) o n mode
+owes t k r s (readv f o n) = reads _ s (handle (in_ring t r) s f) o (min n most_moved) (Ok reply) (λ p. p.1)
+owes t k r s (writev f o new) = writes _ s (handle (in_ring t r) s f) o (Ok new) (λ p. p.1)
+owes t k r s (fsync f) = after _ (require (is_some (held (in_ring t r) s f)) EBADF) _ (still _ [] tt)
+owes t k r s (read_fixed f o x) = reads _ s (handle (in_ring t r) s f) o (min x.length most_moved) (span_destination (in_ring t r) x) (λ p. p.1)
+owes t k r s (write_fixed f o x) = writes _ s (handle (in_ring t r) s f) o (span_bytes (in_ring t r) s x) (IfOk-weaker (span_bytes (in_ring t r) s x) _ _ (λ bs le p. le) (span_short t s r x))
+owes t k r s (fallocate f o n mode) = allocating _ s (handle (in_ring t r) s f) o n mode
 owes t k r s (openat p g asked) = opening _ t k r s p g asked (λ q. q.0)
 owes t k r s (close f) = closing _ t s r f
-owes t k r s (read f o n) = reads _ s r (handle t s r f) o (min n most_moved) (Ok reply) (λ p. p.1)
-owes t k r s (write f o new) = writes _ s (handle t s r f) o (Ok new) (λ p. p.1)
+owes t k r s (read f o n) = reads _ s (handle (in_ring t r) s f) o (min n most_moved) (Ok reply) (λ p. p.1)
+owes t k r s (write f o new) = writes _ s (handle (in_ring t r) s f) o (Ok new) (λ p. p.1)
 owes t k r s (renameat old new flags) = renaming _ s old new flags
 owes t k r s (unlinkat p removes) = removing _ s p removes
 owes t k r s (mkdirat p) = making _ t k s p
 owes t k r s (linkat old new) = linking _ s old new
-owes t k r s (ftruncate f n) = resizing _ (handle t s r f) n
+owes t k r s (ftruncate f n) = resizing _ (handle (in_ring t r) s f) n
 
 -- An answer whose count one call can move.
 abbrev pub Small : Effect → Type 0
 Small x = x.count ≤ most_moved
 
-pub small : (t : Trace) (k r : ℕ) (s : World) (o : Operation) → IsSpelled t → IfSome (asked o) (λ n. n ≤ most_moved) → IfOk (meaning t k r s o) Small
-small t k r s o spelled le = IfOk-weaker (meaning t k r s o) (Owed (Asks t o)) Small (λ x h. h.small (spelled, le)) (owes t k r s o)
+pub small : (t : Trace) (k r : ℕ) (s : World) (o : Operation) → IsSpelled t → IfSome (asked o) (λ n. n ≤ most_moved) → IfOk (meaning (sited t k r) s o) Small
+small t k r s o spelled le = IfOk-weaker (meaning (sited t k r) s o) (Owed (Asks t o)) Small (λ x h. h.small (spelled, le)) (owes t k r s o)
 
 changed : (P : Type 0) (x : Result Effect Errno) → IfOk x (Owed P) → AllNaming (changes_of x)
 changed P (Ok x) h = h.names
@@ -253,7 +254,7 @@ names_of_turn t k s (fills r b at new) = (tt, tt)
 names_of_turn t k s (refused e posted) = tt
 names_of_turn t k s (canceled posted) = tt
 names_of_turn t k s (runs r e o) =
-    let x = meaning t k r s o in
+    let x = meaning (sited t k r) s o in
     both (changes_of x) (breaks (role t k) e (failed o x)) (changed (Asks t o) x (owes t k r s o)) (chain_broken (role t k) e (failed o x))
 
 each_turn : (t : Trace) (k : ℕ) (s : World) (o : Option Turn) → AllNaming (each (changes_in t k s) o)

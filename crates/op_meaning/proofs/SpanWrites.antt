@@ -12,6 +12,7 @@ use Rattle.trace_format.specs.declared.trace.Trace.{Trace}
 use Rattle.trace_format.specs.Sides.{most_moved}
 use Rattle.entry_checks.specs.Operation.{Span, file_limit}
 use Rattle.world_parts.specs.World.{World, buffer}
+use Rattle.op_meaning.specs.Site.{in_ring}
 use Rattle.op_meaning.specs.Meaning.{Effect, Handle, done, is_bad_offset, span_start, span_bytes, writable, write_meaning, write_effect, write_start}
 
 -- the bytes of a buffer from an offset on, as many as a transfer of a length moves
@@ -19,12 +20,12 @@ abbrev pub bytes_from : Option (List ℕ) → ℕ → ℕ → List ℕ
 bytes_from b at n = take (min n most_moved) (drop at (unwrap_or b []))
 
 -- What a write of some bytes answers that passes its tests.
-write_accepted : (s : World) (there : Option Handle) (o : ℕ) (h : Handle) (start : ℕ) (new : List ℕ) → writable there ≡ Ok h → is_bad_offset o ≡ false → start ≡ write_start s h o → (0 < length new → start < file_limit)
-    → write_meaning s there o (Ok new) ≡ Ok (if length new == 0 then done [] else write_effect h o start (take (file_limit - start) new))
+write_accepted : (s : World) (there : Option Handle) (o : ℕ) (h : Handle) (start : ℕ) (new : List ℕ) → writable there ≡ Ok h → is_bad_offset o ≡ false → start ≡ write_start s o h → (0 < length new → start < file_limit)
+    → write_meaning s o there (Ok new) ≡ Ok (if length new == 0 then done [] else write_effect o h start (take (file_limit - start) new))
 write_accepted s there o h start new passed good at below = rw (passed, good) (rw (sym at) (either (length new == 0) refl))
   where
     either : (b : Bool) → (length new == 0) ≡ b
-        → ◌≡◌ {A = Result Effect Errno} (if b then Ok (done []) else (require (ltb start file_limit) EFBIG >> Ok (write_effect h o start (take (file_limit - start) new)))) (Ok (if b then done [] else write_effect h o start (take (file_limit - start) new)))
+        → ◌≡◌ {A = Result Effect Errno} (if b then Ok (done []) else (require (ltb start file_limit) EFBIG >> Ok (write_effect o h start (take (file_limit - start) new)))) (Ok (if b then done [] else write_effect o h start (take (file_limit - start) new)))
     either true is = refl
     either false is =
         let some : length new ≢ 0 = eqb-false (length new) 0 is in
@@ -48,14 +49,14 @@ moved_range bs at n limit count e =
     sym (take_min limit (take n ys)) ∙ ap (λ k. take k (take n ys)) both ∙ take-take count n ys (omega (arith, length-take n ys)) ∙ ap (λ k. take k ys) (sym same)
 
 -- What a write of a span's bytes answers that passes its tests.
-pub span_written : (t : Trace) (s : World) (r : ℕ) (there : Option Handle) (o : ℕ) (x : Span) (h : Handle) (at start count : ℕ) → writable there ≡ Ok h → Some at ≡ span_start t r x → is_bad_offset o ≡ false → start ≡ write_start s h o
+pub span_written : (t : Trace) (s : World) (r : ℕ) (there : Option Handle) (o : ℕ) (x : Span) (h : Handle) (at start count : ℕ) → writable there ≡ Ok h → Some at ≡ span_start (in_ring t r) x → is_bad_offset o ≡ false → start ≡ write_start s o h
     → (0 < length (bytes_from (buffer s r x.index) at x.length) → start < file_limit) → count ≡ min (length (bytes_from (buffer s r x.index) at x.length)) (file_limit - start)
-    → write_meaning s there o (span_bytes t s r x) ≡ Ok (if count == 0 then done [] else write_effect h o start (range_of (unwrap_or (buffer s r x.index) []) at (at + count)))
+    → write_meaning s o there (span_bytes (in_ring t r) s x) ≡ Ok (if count == 0 then done [] else write_effect o h start (range_of (unwrap_or (buffer s r x.index) []) at (at + count)))
 span_written t s r there o x h at start count passed starts good begins below e =
     let new : List ℕ = bytes_from (buffer s r x.index) at x.length in
-    sym (ap (λ (a : Option ℕ). write_meaning s there o (ok_or (option_map (λ (p : ℕ). bytes_from (buffer s r x.index) p x.length) a) EFAULT)) starts)
+    sym (ap (λ (a : Option ℕ). write_meaning s o there (ok_or (option_map (λ (p : ℕ). bytes_from (buffer s r x.index) p x.length) a) EFAULT)) starts)
     ∙ write_accepted s there o h start new passed good begins below
-    ∙ (λ i. Ok (if none_moved (length new) count file_limit start below e i then done [] else write_effect h o start (moved_range (unwrap_or (buffer s r x.index) []) at (min x.length most_moved) (file_limit - start) count e i)))
+    ∙ (λ i. Ok (if none_moved (length new) count file_limit start below e i then done [] else write_effect o h start (moved_range (unwrap_or (buffer s r x.index) []) at (min x.length most_moved) (file_limit - start) count e i)))
 
 pub found_at : (o : Option ℕ) (e : Errno) (at : ℕ) → ok_or o e ≡ Ok at → Some at ≡ o
 found_at (Some k) e at is = sym (cc)

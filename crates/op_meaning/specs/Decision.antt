@@ -4,7 +4,6 @@ use Rattle.entry_checks.specs.Operation.{file_limit}
 use Rattle.entry_checks.specs.declared.operation.FileNumber.{FileNumber}
 use Rattle.entry_checks.specs.declared.operation.FileNumber.TheVariants.{Slot, Descriptor}
 use Rattle.extent_bytes.specs.Bytes.{range_of}
-use Rattle.trace_format.specs.declared.trace.Trace.{Trace}
 use Rattle.trace_format.specs.Blobs.{sliced}
 use Rattle.trace_format.specs.Sides.{most_moved}
 use Rattle.world_parts.specs.World.{World, buffer, set_descriptor, set_size, set_slot}
@@ -16,23 +15,23 @@ use Rattle.op_meaning.specs.declared.transfers.BufferWrite.{BufferWrite}
 use Rattle.op_meaning.specs.declared.transfers.FileRead.{FileRead}
 use Rattle.op_meaning.specs.declared.transfers.FileWrite.{FileWrite}
 use Rattle.op_meaning.specs.Handles.{allocation_meant, handle_meant}
-use Rattle.op_meaning.specs.Meaning.{Effect, allocate, done, into, read_effect, reply, write_effect}
+use Rattle.op_meaning.specs.Meaning.{Effect, Site, allocate, done, into, read_effect, reply, write_effect}
 use Rattle.op_meaning.specs.NameChanges.{changes_meant, directory_effect}
 use Rattle.op_meaning.specs.Opening.{opened_as}
 
--- a read into the reply, in which no ring has a part, and one into a buffer of a ring
+-- a read into the reply, and one into a buffer of a ring
 abbrev pub bytes_read : World → FileRead → Effect
-bytes_read s x = read_effect s 0 (handle_meant s x.file) x.offset x.count reply
+bytes_read s x = read_effect s x.offset x.count (handle_meant s x.file) reply
 
 abbrev pub buffer_filled : World → ℕ → BufferRead → Effect
-buffer_filled s r x = read_effect s r (handle_meant s x.file) x.offset x.count (into x.index x.at)
+buffer_filled s r x = read_effect s x.offset x.count (handle_meant s x.file) (into r x.index x.at)
 
 -- a write of bytes, and one of a range of a buffer of a ring
 abbrev pub bytes_written : World → FileWrite → Effect
-bytes_written s x = write_effect (handle_meant s x.file) x.offset x.start (sliced x.bytes)
+bytes_written s x = write_effect x.offset (handle_meant s x.file) x.start (sliced x.bytes)
 
 abbrev pub buffer_written : World → ℕ → BufferWrite → Effect
-buffer_written s r x = write_effect (handle_meant s x.file) x.offset x.start (range_of (unwrap_or (buffer s r x.index) []) x.at (x.at + x.count))
+buffer_written s r x = write_effect x.offset (handle_meant s x.file) x.start (range_of (unwrap_or (buffer s r x.index) []) x.at (x.at + x.count))
 
 -- an allocation of a range of a file
 abbrev pub allocated : World → RangeAllocation → Effect
@@ -43,19 +42,19 @@ abbrev pub emptied : ℕ → FileNumber → Effect
 emptied r (Slot n) = done (set_slot r n None ∷ [])
 emptied r (Descriptor n) = done (set_descriptor n None ∷ [])
 
--- the effect of what was decided on, at a place of a ring
-abbrev pub effect_of : Trace → ℕ → ℕ → World → Decision → Effect
-effect_of t k r s Nothing = done []
-effect_of t k r s (Read x) = bytes_read s x
-effect_of t k r s (Write x) = bytes_written s x
-effect_of t k r s (ReadFixed x) = buffer_filled s r x
-effect_of t k r s (WriteFixed x) = buffer_written s r x
-effect_of t k r s (Allocate x) = allocated s x
-effect_of t k r s (Resize i n) = done (set_size i n ∷ [])
-effect_of t k r s (Open x) = opened_as t k r s.nodes x
-effect_of t k r s (Empty x) = emptied r x
-effect_of t k r s (MakeDirectory p) = directory_effect t k p
-effect_of t k r s (ChangeNames x) = changes_meant s.nodes x
+-- the effect of what was decided on, where an operation stands
+abbrev pub effect_of : Site → World → Decision → Effect
+effect_of site s Nothing = done []
+effect_of site s (Read x) = bytes_read s x
+effect_of site s (Write x) = bytes_written s x
+effect_of site s (ReadFixed x) = buffer_filled s site.ring x
+effect_of site s (WriteFixed x) = buffer_written s site.ring x
+effect_of site s (Allocate x) = allocated s x
+effect_of site s (Resize i n) = done (set_size i n ∷ [])
+effect_of site s (Open x) = opened_as site s.nodes x
+effect_of site s (Empty x) = emptied site.ring x
+effect_of site s (MakeDirectory p) = directory_effect site p
+effect_of site s (ChangeNames x) = changes_meant s.nodes x
 
 -- whether what was decided on keeps to the limits: it writes no more than one call moves, from within the buffer, and makes no file longer than the largest
 abbrev pub IsWithinLimits : World → ℕ → Decision → Type 0

@@ -2,12 +2,11 @@
 use Rattle.std.specs.Prelude.{ℕ, [], ◌∷◌, Some, Result, Ok, Err}
 use Rattle.std.specs.Option.{option_map}
 use Rattle.sqe_codec.specs.declared.errno.Errno.{Errno}
-use Rattle.trace_format.specs.declared.trace.Trace.{Trace}
 use Rattle.file_tree.specs.Tree.{Tree, a_directory, target}
 use Rattle.file_tree.specs.Found.{place_meant}
 use Rattle.file_tree.specs.declared.walk.Place.{Place}
 use Rattle.world_parts.specs.World.{World, Change, make_node, set_name}
-use Rattle.op_meaning.specs.Meaning.{Effect, done, exchanged, made_node, move_meaning, new_directory}
+use Rattle.op_meaning.specs.Meaning.{Effect, Site, done, exchanged, made_node, move_meaning, new_directory}
 use Rattle.op_meaning.specs.declared.names.NameChange.{NameChange}
 use Rattle.op_meaning.specs.declared.names.NameChanges.{NameChanges}
 use Rattle.op_meaning.specs.declared.names.NameChanges.TheVariants.{Nothing, One, Two}
@@ -34,5 +33,5 @@ abbrev pub exchange_meant : Tree → Place → Place → ℕ → ℕ → Effect
 exchange_meant tree p q i j = exchanged (place_meant tree p) (place_meant tree q) (target tree i) (target tree j)
 
 -- a directory that a place makes where a path leads
-abbrev pub directory_effect : Trace → ℕ → Place → Effect
-directory_effect t k p = done (make_node (made_node t k) a_directory ∷ set_name p.parent p.name.now (Some (new_directory (made_node t k))) ∷ [])
+abbrev pub directory_effect : Site → Place → Effect
+directory_effect site p = done (make_node (made_node site.trace site.place) a_directory ∷ set_name p.parent p.name.now (Some (new_directory (made_node site.trace site.place))) ∷ [])

@@ -1,7 +1,6 @@
--- The model: the shape of an operation, by which what it looks up and what it uses go.
-use Rattle.std.specs.Prelude.{ℕ, Bool, true, false, min, Option, Some, None, length}
-use Rattle.entry_checks.specs.Operation.{Operation, nop, readv, writev, fsync, read_fixed, write_fixed, fallocate, openat, close, read, write, renameat, unlinkat, mkdirat, linkat, ftruncate, File, Span, Path, OpenFlags}
-use Rattle.trace_format.specs.Sides.{most_moved}
+-- The model: the shapes of operations, by which what they look up and what they use go.
+use Rattle.std.specs.Prelude.{ℕ, Bool, Option}
+use Rattle.entry_checks.specs.Operation.{File, Span, Path, OpenFlags}
 
 -- What the uses of an operation depend on. A transfer moves so many bytes into its file or out of it, through a span of a buffer or none.
 pub data Shape : Type 0 where
@@ -16,24 +15,6 @@ pub data Shape : Type 0 where
   freeing : (path : Path) (removes_directory : Bool) → Shape
   linking : (old new : Path) → Shape
   renaming : (old new : Path) → Shape
-
-abbrev pub shape : Operation → Shape
-shape nop = idle
-shape (readv f o n) = moving false f o (min n most_moved) None
-shape (writev f o new) = moving true f o (length new) None
-shape (fsync f) = looking f
-shape (read_fixed f o x) = moving false f o (min x.length most_moved) (Some x)
-shape (write_fixed f o x) = moving true f o (min x.length most_moved) (Some x)
-shape (fallocate f o n mode) = allocating f o n mode
-shape (openat p g asked) = opening p g asked
-shape (close f) = closing f
-shape (read f o n) = moving false f o (min n most_moved) None
-shape (write f o new) = moving true f o (length new) None
-shape (renameat old new flags) = renaming old new
-shape (unlinkat p removes) = freeing p removes
-shape (mkdirat p) = making p
-shape (linkat old new) = linking old new
-shape (ftruncate f n) = resizing f n
 
 -- What an operation looks up before anything else is decided: nothing, what is open at a file number, where a path leads, or where each of two does.
 pub data Look : Type 0 where

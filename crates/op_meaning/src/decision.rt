@@ -2,7 +2,7 @@
 ghost use Rattle.std.specs.Prelude.{◌≡◌, IfOk, OnOk};
 ghost use Rattle.op_meaning.specs.Decision.{effect_of, IsWithinLimits};
 ghost use Rattle.op_meaning.specs.Outcomes.{Gives};
-ghost use Rattle.op_meaning.specs.Site.{IsSite};
+ghost use Rattle.op_meaning.specs.Site.{IsSite, site_meant};
 ghost use Rattle.world_parts.specs.World.{apply_all};
 
 use crate::allocating::RangeAllocation;
@@ -49,10 +49,10 @@ pub(crate) fn carry_out(
 ) -> Result<Done, AllocError>
     requires site { IsSite site }
     requires limits { IsWithinLimits state.old site.ring decision }
-    ensures answer { IfOk result (Gives (effect_of site.entry.trace.now site.entry.place
-        site.entry.ring state.old decision.entry)) }
-    ensures state { OnOk result (state.new ≡ apply_all (effect_of site.entry.trace.now
-        site.entry.place site.entry.ring state.old decision.entry).changes state.old) }
+    ensures answer { IfOk result (Gives (effect_of (site_meant site.entry) state.old
+        decision.entry)) }
+    ensures state { OnOk result (state.new ≡ apply_all (effect_of
+        (site_meant site.entry) state.old decision.entry).changes state.old) }
 {
     match decision {
         Decision::Nothing => Ok(finished(alloc)),

@@ -4,6 +4,7 @@ ghost use Rattle.entry_checks.specs.Meant.{file_meant, span_meant};
 ghost use Rattle.entry_checks.specs.Operation.{at_descriptor, at_position, file_limit, in_slot};
 ghost use Rattle.file_tree.specs.Walk as walk;
 ghost use Rattle.op_meaning.specs.Handles.{found, handle_meant, opened_meant};
+ghost use Rattle.op_meaning.specs.Site.{in_ring};
 ghost use Rattle.op_meaning.specs.Meaning.{bytes_in, can_read, can_write, handle, held};
 ghost use Rattle.op_meaning.specs.Meaning.{is_bad_offset, readable, registered_buffer};
 ghost use Rattle.op_meaning.specs.Meaning.{slot_count, span_start, transfer_start, writable};
@@ -36,7 +37,7 @@ pub fn slot_count(trace: &Trace, ring: u8) -> usize
 
 /// The number of the open file description that a registered file of a ring holds.
 fn held_by_slot(trace: &Trace, ring: u8, slot: u32, state: &State) -> Option<u32>
-    ensures { result ≡ held trace.now state.now ring (in_slot slot) }
+    ensures { result ≡ held (in_ring trace.now ring) state.now (in_slot slot) }
 {
     if (slot as usize) < slot_count(trace, ring) {
         state.slot(ring, slot)
@@ -47,7 +48,7 @@ fn held_by_slot(trace: &Trace, ring: u8, slot: u32, state: &State) -> Option<u32
 
 /// The number of the open file description that a descriptor of the process holds.
 pub(crate) fn held_by_descriptor(trace: &Trace, descriptor: u32, state: &State) -> Option<u32>
-    ensures { result ≡ held trace.now state.now 0 (at_descriptor descriptor) }
+    ensures { result ≡ held (in_ring trace.now 0) state.now (at_descriptor descriptor) }
 {
     if (descriptor as usize) < trace.descriptors.as_slice().len() {
         state.descriptor(descriptor)
@@ -60,7 +61,7 @@ pub(crate) fn held_by_descriptor(trace: &Trace, descriptor: u32, state: &State) 
 /// at a descriptor.
 #[inline(always)]
 pub fn held(trace: &Trace, ring: u8, file: FileNumber, state: &State) -> Option<u32>
-    ensures { result ≡ held trace.now state.now ring (file_meant file) }
+    ensures { result ≡ held (in_ring trace.now ring) state.now (file_meant file) }
 {
     match file {
         FileNumber::Slot(slot) => held_by_slot(trace, ring, slot, state),
@@ -77,7 +78,7 @@ pub(crate) fn open_file(
     state: &State,
 ) -> Option<OpenFile>
     ensures { opened_meant state.now result
-        ≡ handle trace.now state.now ring (file_meant file) }
+        ≡ handle (in_ring trace.now ring) state.now (file_meant file) }
 {
     let number = held(trace, ring, file, state)?;
     let description = state.description(number)?;
@@ -168,7 +169,7 @@ pub fn size(node: u32, state: &State) -> u64
 
 /// Where a transfer starts: at its offset, or at the position.
 pub(crate) fn transfer_start(file: &OpenFile, offset: u64, state: &State) -> u64
-    ensures { result ≡ transfer_start state.now (handle_meant state.now file.now) offset }
+    ensures { result ≡ transfer_start state.now offset (handle_meant state.now file.now) }
 {
     if !is_at_position(offset) {
         return offset;
@@ -178,7 +179,7 @@ pub(crate) fn transfer_start(file: &OpenFile, offset: u64, state: &State) -> u64
 
 /// A registered buffer of a ring that is no empty entry.
 pub(crate) fn registered_buffer(trace: &Trace, ring: u8, index: u16) -> Option<Buffer>
-    ensures { result ≡ registered_buffer trace.now ring index }
+    ensures { result ≡ registered_buffer (in_ring trace.now ring) index }
 {
     let registered = trace.rings.as_slice().get(ring as usize)?;
     let buffer = registered.buffers.as_slice().get(index as usize)?;
@@ -190,7 +191,7 @@ pub(crate) fn registered_buffer(trace: &Trace, ring: u8, index: u16) -> Option<B
 
 /// Where a span starts in its buffer, if it lies in one.
 pub fn span_start(trace: &Trace, ring: u8, span: BufferSpan) -> Option<u64>
-    ensures place { result ≡ span_start trace.now ring (span_meant span) }
+    ensures place { result ≡ span_start (in_ring trace.now ring) (span_meant span) }
     ensures bound { IfSome result (λ at. at + span.length < 2 ^ 32) }
 {
     let buffer = registered_buffer(trace, ring, span.index)?;

@@ -4,6 +4,7 @@ ghost use Rattle.entry_checks.specs.Meant.{file_meant, path_meant};
 ghost use Rattle.file_tree.specs.Found.{walk_meant};
 ghost use Rattle.file_tree.specs.Walk.{walk};
 ghost use Rattle.op_meaning.specs.Handles.{opened_meant};
+ghost use Rattle.op_meaning.specs.Site.{site_meant};
 ghost use Rattle.op_meaning.specs.Lookups.{file_found, FindsFile, FindsNewPlace, FindsPlace};
 ghost use Rattle.op_meaning.specs.Lookups.{new_place_found, place_found, Tells};
 ghost use Rattle.op_meaning.specs.Meaning.{handle};
@@ -40,9 +41,9 @@ impl<'a> Lookup<'a> {
         state: &State,
     ) -> Option<OpenFile>
         requires { Tells self.now
-            (FindsFile site.trace.now site.ring state.now (file_meant file) self.now) }
+            (FindsFile (site_meant site) state.now (file_meant file) self.now) }
         ensures { opened_meant state.now result
-            ≡ handle site.entry.trace.now state.now site.entry.ring (file_meant file) }
+            ≡ handle (site_meant site.entry) state.now (file_meant file) }
     {
         match self {
             Lookup::File(opened) => *opened,

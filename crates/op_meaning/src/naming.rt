@@ -13,7 +13,7 @@ ghost use Rattle.op_meaning.specs.Meaning.{linkat_meaning, mkdirat_meaning};
 ghost use Rattle.op_meaning.specs.Meaning.{renameat_meaning, unlinkat_meaning};
 ghost use Rattle.op_meaning.specs.NameChanges.{changes_meant, decision_meant, directory_effect};
 ghost use Rattle.op_meaning.specs.NameChanges.{move_meant, exchange_meant};
-ghost use Rattle.op_meaning.specs.Site.{IsSite};
+ghost use Rattle.op_meaning.specs.Site.{IsSite, site_meant};
 ghost use Rattle.world_parts.specs.World.{apply_all};
 
 use crate::decision::Decision;
@@ -61,8 +61,8 @@ pub(crate) fn unlinking<'a>(
 ) -> Result<NameChanges<'a>, Errno>
     requires { Tells lookup.now (FindsPlace state.now (path_meant path) lookup.now) }
     ensures { decision_meant state.now.nodes result
-        ≡ unlinkat_meaning state.now (walk state.now.nodes (path_meant path.entry))
-        removes_directory }
+        ≡ unlinkat_meaning state.now removes_directory (walk state.now.nodes
+        (path_meant path.entry)) }
 {
     let place = lookup.place_at(path, state)?;
     let Some(node) = place.node else {
@@ -89,9 +89,9 @@ pub(crate) fn making<'a>(
 ) -> Result<Decision<'a>, Errno>
     requires { Tells lookup.now (FindsPlace state.now (path_meant path) lookup.now) }
     ensures meaning { Decides
-        (mkdirat_meaning site.entry.trace.now site.entry.place
+        (mkdirat_meaning (site_meant site.entry)
         (walk state.now.nodes (path_meant path.entry)))
-        (effect_of site.entry.trace.now site.entry.place site.entry.ring state.now) result }
+        (effect_of (site_meant site.entry) state.now) result }
     ensures limits { IfOk result (IsWithinLimits state.now site.entry.ring) }
 {
     let place = lookup.place_at(path, state)?;
@@ -110,7 +110,7 @@ pub(crate) fn make_directory(
 ) -> Result<(), AllocError>
     requires site { IsSite site }
     ensures { OnOk result (state.new ≡ apply_all
-        (directory_effect site.entry.trace.now site.entry.place place.entry).changes state.old) }
+        (directory_effect (site_meant site.entry) place.entry).changes state.old) }
 {
     let node = made_node(site.trace, site.place);
     state.add_node(alloc, node, Kind::Directory)?;
@@ -266,9 +266,9 @@ pub(crate) fn renaming<'a>(
     requires { Tells lookup.now
         (FindsPlaces state.now (path_meant old) (path_meant new) lookup.now) }
     ensures { decision_meant state.now.nodes result
-        ≡ renameat_meaning state.now (path_meant old.entry) (path_meant new.entry)
-        (walk state.now.nodes (path_meant old.entry))
-        (walk state.now.nodes (path_meant new.entry)) flags }
+        ≡ renameat_meaning state.now (path_meant old.entry) (path_meant new.entry) flags
+        (walk state.now.nodes (path_meant old.entry)) (walk state.now.nodes
+        (path_meant new.entry)) }
 {
     let from = lookup.place_at(old, state)?;
     let to = lookup.new_place_at(new, state)?;

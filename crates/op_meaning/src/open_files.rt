@@ -2,6 +2,7 @@
 ghost use Rattle.std.specs.Prelude.{◌≡◌, ◌≤◌, [], ◌∷◌, IfOk, OnOk};
 ghost use Rattle.entry_checks.specs.Meant.{file_meant};
 ghost use Rattle.entry_checks.specs.Operation.{at_descriptor, file_limit, fsync, in_slot};
+ghost use Rattle.op_meaning.specs.Site.{site_meant};
 ghost use Rattle.op_meaning.specs.Deciding.{Decides};
 ghost use Rattle.op_meaning.specs.Decision.{allocated, effect_of, emptied, IsWithinLimits};
 ghost use Rattle.op_meaning.specs.Lookups.{FindsFile, Tells};
@@ -31,9 +32,9 @@ pub(crate) fn syncing<'a>(
     state: &State,
 ) -> Result<Decision<'a>, Errno>
     ensures meaning { Decides
-        (meaning site.entry.trace.now site.entry.place site.entry.ring state.now
+        (meaning (site_meant site.entry) state.now
         (fsync (file_meant file)))
-        (effect_of site.entry.trace.now site.entry.place site.entry.ring state.now) result }
+        (effect_of (site_meant site.entry) state.now) result }
     ensures limits { IfOk result (IsWithinLimits state.now site.entry.ring) }
 {
     match held(site.trace, site.ring, file, state) {
@@ -55,12 +56,11 @@ pub(crate) fn allocating<'a>(
     state: &State,
 ) -> Result<Decision<'a>, Errno>
     requires { Tells lookup.now
-        (FindsFile site.trace.now site.ring state.now (file_meant file) lookup.now) }
+        (FindsFile (site_meant site) state.now (file_meant file) lookup.now) }
     ensures meaning { Decides
-        (fallocate_meaning state.now
-        (handle site.entry.trace.now state.now site.entry.ring (file_meant file))
-        request.offset request.size request.mode)
-        (effect_of site.entry.trace.now site.entry.place site.entry.ring state.now) result }
+        (fallocate_meaning state.now request.offset request.size request.mode
+        (handle (site_meant site.entry) state.now (file_meant file)))
+        (effect_of (site_meant site.entry) state.now) result }
     ensures limits { IfOk result (IsWithinLimits state.now site.entry.ring) }
 {
     let AllocationRequest { offset, size, mode } = request;
@@ -128,11 +128,10 @@ pub(crate) fn resizing<'a>(
     state: &State,
 ) -> Result<Decision<'a>, Errno>
     requires { Tells lookup.now
-        (FindsFile site.trace.now site.ring state.now (file_meant file) lookup.now) }
+        (FindsFile (site_meant site) state.now (file_meant file) lookup.now) }
     ensures meaning { Decides
-        (ftruncate_meaning
-        (handle site.entry.trace.now state.now site.entry.ring (file_meant file)) size)
-        (effect_of site.entry.trace.now site.entry.place site.entry.ring state.now) result }
+        (ftruncate_meaning size (handle (site_meant site.entry) state.now (file_meant file)))
+        (effect_of (site_meant site.entry) state.now) result }
     ensures limits { IfOk result (IsWithinLimits state.now site.entry.ring) }
 {
     let file = lookup.file_at(site, file, state).ok_or(Errno::EBADF)?;
@@ -151,8 +150,8 @@ pub(crate) fn resizing<'a>(
 /// The descriptor of the process that CLOSE frees.
 fn closing_descriptor<'a>(site: Site<'_>, number: u32, state: &State) -> Result<Decision<'a>, Errno>
     ensures meaning { Decides
-        (close_meaning site.entry.trace.now state.now site.entry.ring (at_descriptor number))
-        (effect_of site.entry.trace.now site.entry.place site.entry.ring state.now) result }
+        (close_meaning (site_meant site.entry) state.now (at_descriptor number))
+        (effect_of (site_meant site.entry) state.now) result }
     ensures limits { IfOk result (IsWithinLimits state.now site.entry.ring) }
 {
     if held_by_descriptor(site.trace, number, state).is_none() {
@@ -164,8 +163,8 @@ fn closing_descriptor<'a>(site: Site<'_>, number: u32, state: &State) -> Result<
 /// The registered file of a ring that CLOSE takes out.
 fn closing_slot<'a>(site: Site<'_>, slot: u32, state: &State) -> Result<Decision<'a>, Errno>
     ensures meaning { Decides
-        (close_meaning site.entry.trace.now state.now site.entry.ring (in_slot slot))
-        (effect_of site.entry.trace.now site.entry.place site.entry.ring state.now) result }
+        (close_meaning (site_meant site.entry) state.now (in_slot slot))
+        (effect_of (site_meant site.entry) state.now) result }
     ensures limits { IfOk result (IsWithinLimits state.now site.entry.ring) }
 {
     if slot as usize >= slot_count(site.trace, site.ring) {
@@ -188,8 +187,8 @@ pub(crate) fn closing<'a>(
     state: &State,
 ) -> Result<Decision<'a>, Errno>
     ensures meaning { Decides
-        (close_meaning site.entry.trace.now state.now site.entry.ring (file_meant file))
-        (effect_of site.entry.trace.now site.entry.place site.entry.ring state.now) result }
+        (close_meaning (site_meant site.entry) state.now (file_meant file))
+        (effect_of (site_meant site.entry) state.now) result }
     ensures limits { IfOk result (IsWithinLimits state.now site.entry.ring) }
 {
     match file {

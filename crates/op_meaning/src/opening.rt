@@ -12,7 +12,7 @@ ghost use Rattle.op_meaning.specs.Lookups.{FindsPlace, Tells};
 ghost use Rattle.op_meaning.specs.Meaning.{found_or_made, openat_meaning};
 ghost use Rattle.op_meaning.specs.Opening.{changes_at, opened_as, room_found};
 ghost use Rattle.op_meaning.specs.Outcomes.{Gives};
-ghost use Rattle.op_meaning.specs.Site.{IsSite};
+ghost use Rattle.op_meaning.specs.Site.{IsSite, in_ring, site_meant};
 ghost use Rattle.trace_format.specs.Text.{IsSpelled};
 ghost use Rattle.world_parts.specs.World.{apply_all};
 
@@ -46,7 +46,7 @@ fn find_room(
     state: &State,
 ) -> Result<FileNumber, Errno>
     requires { IsSpelled trace.now }
-    ensures { room_found result ≡ meaning.room trace.now state.now ring asked }
+    ensures { room_found result ≡ meaning.room (in_ring trace.now ring) state.now asked }
 {
     match asked {
         Some(slot) if slot as usize >= slot_count(trace, ring) => Err(Errno::EINVAL),
@@ -105,9 +105,9 @@ pub(crate) fn find_opening<'a>(
     requires spelled { IsSpelled site.trace.now }
     requires lookup { Tells lookup.now (FindsPlace state.now (path_meant path) lookup.now) }
     ensures meaning { Decides
-        (openat_meaning site.entry.trace.now state.now site.entry.place site.entry.ring
-        (walk state.now.nodes (path_meant path.entry)) (flags_meant flags) asked)
-        (effect_of site.entry.trace.now site.entry.place site.entry.ring state.now) result }
+        (openat_meaning (site_meant site.entry) state.now (flags_meant flags) asked
+        (walk state.now.nodes (path_meant path.entry)))
+        (effect_of (site_meant site.entry) state.now) result }
     ensures limits { IfOk result (IsWithinLimits state.now site.entry.ring) }
 {
     let room = find_room(site.trace, site.ring, asked, state)?;
@@ -189,10 +189,10 @@ pub(crate) fn open(
     state: &mut State,
 ) -> Result<Done, AllocError>
     requires site { IsSite site }
-    ensures answer { IfOk result (Gives (opened_as site.entry.trace.now site.entry.place
-        site.entry.ring state.old.nodes opening.entry)) }
-    ensures state { OnOk result (state.new ≡ apply_all (opened_as site.entry.trace.now
-        site.entry.place site.entry.ring state.old.nodes opening.entry).changes state.old) }
+    ensures answer { IfOk result (Gives (opened_as (site_meant site.entry) state.old.nodes
+        opening.entry)) }
+    ensures state { OnOk result (state.new ≡ apply_all (opened_as
+        (site_meant site.entry) state.old.nodes opening.entry).changes state.old) }
 {
     let Opening { place, flags, room } = opening;
     let made = made_node(site.trace, site.place);

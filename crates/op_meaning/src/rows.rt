@@ -4,15 +4,15 @@ ghost use Rattle.entry_checks.specs.Meant.{meant};
 ghost use Rattle.entry_checks.specs.Operation.{asked};
 ghost use Rattle.op_meaning.specs.Deciding.{Decides};
 ghost use Rattle.op_meaning.specs.Decision.{effect_of, IsWithinLimits};
-ghost use Rattle.op_meaning.specs.Shape.{look, shape};
+ghost use Rattle.op_meaning.specs.Shape.{look};
 ghost use Rattle.op_meaning.specs.Lookups.{Finds, Tells};
-ghost use Rattle.op_meaning.specs.Meaning.{meaning};
+ghost use Rattle.op_meaning.specs.Meaning as model;
+ghost use Rattle.op_meaning.specs.Meaning.{meaning, shape};
 ghost use Rattle.op_meaning.specs.NameChanges.{decision_meant};
 ghost use Rattle.op_meaning.specs.Outcomes.{Answers, world_after};
-ghost use Rattle.op_meaning.specs.Site.{IsSite};
+ghost use Rattle.op_meaning.specs.Site.{IsSite, site_meant};
 ghost use Rattle.trace_format.specs.Sides.{most_moved};
 ghost use Rattle.trace_format.specs.Text.{IsSpelled};
-ghost use Rattle.trace_format.specs.declared.trace.Trace.{Trace};
 ghost use Rattle.world_parts.specs.World.{World};
 
 use crate::allocating::AllocationRequest;
@@ -32,8 +32,8 @@ use world_parts::State;
 
 /// What an operation does that changes names alone.
 fn changing<'a>(changes: Result<NameChanges<'a>, Errno>) -> Result<Decision<'a>, Errno>
-    ensures meaning { (t : Trace) (k r : ℕ) (s : World)
-        → Decides (decision_meant s.nodes changes.entry) (effect_of t k r s) result }
+    ensures meaning { (site : model.Site) (s : World)
+        → Decides (decision_meant s.nodes changes.entry) (effect_of site s) result }
     ensures limits { (s : World) (r : ℕ) → IfOk result (IsWithinLimits s r) }
 {
     Ok(Decision::ChangeNames(changes?))
@@ -51,10 +51,10 @@ fn decide_on_rest<'a>(
     requires rest { asked (meant op) ≡ None }
     requires spelled { IsSpelled site.trace.now }
     requires lookup { Tells lookup.now
-        (Finds site.trace.now site.ring state.now (look (shape (meant op))) lookup.now) }
+        (Finds (site_meant site) state.now (look (shape (meant op))) lookup.now) }
     ensures meaning { Decides
-        (meaning site.entry.trace.now site.entry.place site.entry.ring state.now (meant op.entry))
-        (effect_of site.entry.trace.now site.entry.place site.entry.ring state.now) result }
+        (meaning (site_meant site.entry) state.now (meant op.entry))
+        (effect_of (site_meant site.entry) state.now) result }
     ensures limits { IfOk result (IsWithinLimits state.now site.entry.ring) }
 {
     match op {
@@ -98,10 +98,10 @@ fn decide<'a>(
 ) -> Result<Decision<'a>, Errno>
     requires spelled { IsSpelled site.trace.now }
     requires lookup { Tells lookup.now
-        (Finds site.trace.now site.ring state.now (look (shape (meant op))) lookup.now) }
+        (Finds (site_meant site) state.now (look (shape (meant op))) lookup.now) }
     ensures meaning { Decides
-        (meaning site.entry.trace.now site.entry.place site.entry.ring state.now (meant op.entry))
-        (effect_of site.entry.trace.now site.entry.place site.entry.ring state.now) result }
+        (meaning (site_meant site.entry) state.now (meant op.entry))
+        (effect_of (site_meant site.entry) state.now) result }
     ensures limits { IfSome (asked (meant op.entry)) (λ n. n ≤ most_moved)
         → IfOk result (IsWithinLimits state.now site.entry.ring) }
 {
@@ -150,10 +150,10 @@ pub(crate) fn run_operation(
     requires site { IsSite site }
     requires short { IfSome (asked (meant op)) (λ n. n ≤ most_moved) }
     ensures answer { IfOk result
-        (Answers (meaning site.entry.trace.now site.entry.place site.entry.ring state.old
+        (Answers (meaning (site_meant site.entry) state.old
         (meant op.entry))) }
     ensures state { OnOk result (state.new ≡ world_after state.old
-        (meaning site.entry.trace.now site.entry.place site.entry.ring state.old
+        (meaning (site_meant site.entry) state.old
         (meant op.entry))) }
 {
     match decide(site, op, &Lookup::Nothing, state) {
@@ -166,9 +166,8 @@ pub(crate) fn run_operation(
 /// paths lead to: whether it is done without an error. It takes no memory.
 pub fn accepts<'a>(site: Site<'_>, op: Op<'a>, lookup: &Lookup<'a>, state: &State) -> bool
     requires spelled { IsSpelled site.trace.now }
-    requires lookup { Finds site.trace.now site.ring state.now (look (shape (meant op))) lookup.now }
-    ensures { result ≡ is_ok (meaning site.entry.trace.now site.entry.place site.entry.ring
-        state.now (meant op.entry)) }
+    requires lookup { Finds (site_meant site) state.now (look (shape (meant op))) lookup.now }
+    ensures { result ≡ is_ok (meaning (site_meant site.entry) state.now (meant op.entry)) }
 {
     decide(site, op, lookup, state).is_ok()
 }

@@ -50,7 +50,7 @@ fn bytes_from(
 /// Moves the position of an open file to the end of a transfer that used it.
 fn advance(file: &OpenFile, offset: u64, end: u64, state: &mut State)
     ensures { state.new
-        ≡ apply_all (advance (handle_meant state.old file.now) offset end) state.old }
+        ≡ apply_all (advance offset (handle_meant state.old file.now) end) state.old }
 {
     if is_at_position(offset) {
         state.set_position(file.number, end);

@@ -3,6 +3,7 @@ ghost use Rattle.std.specs.Prelude.{◌≡◌, ◌+◌, ◌^◌, ◌<◌, ◌≤
 ghost use Rattle.std.specs.Prelude.{drop, length, min, take, unwrap_or, []};
 ghost use Rattle.entry_checks.specs.Meant.{file_meant, span_meant};
 ghost use Rattle.entry_checks.specs.Operation.{file_limit};
+ghost use Rattle.op_meaning.specs.Site.{in_ring, site_meant};
 ghost use Rattle.op_meaning.specs.Deciding.{buffer_written_if_any, Decides, DecidesReads};
 ghost use Rattle.op_meaning.specs.Deciding.{DecidesFixedReads, DecidesWrites};
 ghost use Rattle.op_meaning.specs.Decision.{effect_of, IsWithinLimits};
@@ -32,7 +33,7 @@ pub(crate) fn readable_at(
     offset: u64,
     state: &State,
 ) -> Result<OpenFile, Errno>
-    ensures { DecidesReads state.now (opened_meant state.now opened) offset result }
+    ensures { DecidesReads state.now offset (opened_meant state.now opened) result }
 {
     let file = readable(opened, state)?;
     if is_bad_offset(offset) {
@@ -51,8 +52,8 @@ pub(crate) fn readable_into(
     span: BufferSpan,
     state: &State,
 ) -> Result<(OpenFile, u64), Errno>
-    ensures { DecidesFixedReads trace.now state.now ring (opened_meant state.now opened) offset
-        (span_meant span) result }
+    ensures { DecidesFixedReads (in_ring trace.now ring) state.now offset (span_meant span)
+        (opened_meant state.now opened) result }
 {
     let file = readable(opened, state)?;
     let at = span_start(trace, ring, span).ok_or(Errno::EFAULT)?;
@@ -84,11 +85,11 @@ pub(crate) fn reading<'a>(
     state: &State,
 ) -> Result<Decision<'a>, Errno>
     requires { Tells lookup.now
-        (FindsFile site.trace.now site.ring state.now (file_meant file) lookup.now) }
+        (FindsFile (site_meant site) state.now (file_meant file) lookup.now) }
     ensures meaning { Decides
-        (readv_meaning state.now site.entry.ring
-        (handle site.entry.trace.now state.now site.entry.ring (file_meant file)) offset total)
-        (effect_of site.entry.trace.now site.entry.place site.entry.ring state.now) result }
+        (readv_meaning state.now offset total (handle (site_meant site.entry) state.now
+        (file_meant file)))
+        (effect_of (site_meant site.entry) state.now) result }
     ensures limits { IfOk result (IsWithinLimits state.now site.entry.ring) }
 {
     let file = readable_at(lookup.file_at(site, file, state), offset, state)?;
@@ -127,12 +128,11 @@ pub(crate) fn reading_fixed<'a>(
     state: &State,
 ) -> Result<Decision<'a>, Errno>
     requires { Tells lookup.now
-        (FindsFile site.trace.now site.ring state.now (file_meant file) lookup.now) }
+        (FindsFile (site_meant site) state.now (file_meant file) lookup.now) }
     ensures meaning { Decides
-        (read_fixed_meaning site.entry.trace.now state.now site.entry.ring
-        (handle site.entry.trace.now state.now site.entry.ring (file_meant file)) offset
-        (span_meant span))
-        (effect_of site.entry.trace.now site.entry.place site.entry.ring state.now) result }
+        (read_fixed_meaning (site_meant site.entry) state.now offset (span_meant span)
+        (handle (site_meant site.entry) state.now (file_meant file)))
+        (effect_of (site_meant site.entry) state.now) result }
     ensures limits { IfOk result (IsWithinLimits state.now site.entry.ring) }
 {
     let opened = lookup.file_at(site, file, state);
@@ -152,7 +152,7 @@ pub(crate) fn reading_fixed<'a>(
 
 /// Where a write starts: at the end of a file that is open to append.
 fn write_start(file: &OpenFile, offset: u64, state: &State) -> u64
-    ensures { result ≡ write_start state.now (handle_meant state.now file.now) offset }
+    ensures { result ≡ write_start state.now offset (handle_meant state.now file.now) }
 {
     if file.description.append {
         size(file.description.node, state)
@@ -168,7 +168,7 @@ pub(crate) fn writable_at(
     count: usize,
     state: &State,
 ) -> Result<(OpenFile, u64), Errno>
-    ensures meaning { DecidesWrites state.now (opened_meant state.now opened) offset count result }
+    ensures meaning { DecidesWrites state.now offset count (opened_meant state.now opened) result }
     ensures place { IfOk result (λ x. 0 < count → x.1 < file_limit) }
 {
     let file = writable(opened)?;
@@ -206,12 +206,11 @@ pub(crate) fn writing<'a>(
     state: &State,
 ) -> Result<Decision<'a>, Errno>
     requires { Tells lookup.now
-        (FindsFile site.trace.now site.ring state.now (file_meant file) lookup.now) }
+        (FindsFile (site_meant site) state.now (file_meant file) lookup.now) }
     ensures meaning { Decides
-        (write_meaning state.now
-        (handle site.entry.trace.now state.now site.entry.ring (file_meant file)) offset
+        (write_meaning state.now offset (handle (site_meant site.entry) state.now (file_meant file))
         (Ok (sliced bytes.entry)))
-        (effect_of site.entry.trace.now site.entry.place site.entry.ring state.now) result }
+        (effect_of (site_meant site.entry) state.now) result }
     ensures limits { length (sliced bytes.entry) ≤ most_moved
         → IfOk result (IsWithinLimits state.now site.entry.ring) }
 {
@@ -264,8 +263,8 @@ fn writable_from(
     state: &State,
 ) -> Result<BufferWrite, Errno>
     ensures meaning { Decides
-        (write_fixed_meaning trace.now state.now ring (opened_meant state.now opened) offset
-        (span_meant span))
+        (write_fixed_meaning (in_ring trace.now ring) state.now offset (span_meant span)
+        (opened_meant state.now opened))
         (buffer_written_if_any state.now ring) result }
     ensures inside { IfOk result (λ w. 0 < w.count
         → w.at + w.count ≤ length (unwrap_or (world.buffer state.now ring w.index) [])) }
@@ -306,12 +305,11 @@ pub(crate) fn writing_fixed<'a>(
     state: &State,
 ) -> Result<Decision<'a>, Errno>
     requires { Tells lookup.now
-        (FindsFile site.trace.now site.ring state.now (file_meant file) lookup.now) }
+        (FindsFile (site_meant site) state.now (file_meant file) lookup.now) }
     ensures meaning { Decides
-        (write_fixed_meaning site.entry.trace.now state.now site.entry.ring
-        (handle site.entry.trace.now state.now site.entry.ring (file_meant file)) offset
-        (span_meant span))
-        (effect_of site.entry.trace.now site.entry.place site.entry.ring state.now) result }
+        (write_fixed_meaning (site_meant site.entry) state.now offset (span_meant span)
+        (handle (site_meant site.entry) state.now (file_meant file)))
+        (effect_of (site_meant site.entry) state.now) result }
     ensures limits { IfOk result (IsWithinLimits state.now site.entry.ring) }
 {
     let opened = lookup.file_at(site, file, state);

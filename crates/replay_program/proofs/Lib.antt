@@ -1,11 +1,15 @@
 mod CommandLemmas
 mod Faults
+mod Answering
 mod TransferLemmas
 mod SessionLemmas
 mod Comparison
 mod Differences
+mod ShownDifferences
 mod NumberWords
 mod OptionWalk
+mod JsonPieces
+mod JsonWords
 mod InTurn
 mod Outputs
 mod TextWrites

@@ -6,6 +6,7 @@ use Rattle.std.proofs.lemmas.Result.{IfErr-at_err, IfErr-weaker, on_ok_weaker}
 use Rattle.trace_format.specs.declared.trace.Trace.{Trace}
 use Rattle.replay_program.specs.declared.fault.RunFault.{RunFault}
 use Rattle.replay_program.specs.declared.fault.RunFault.TheVariants.{Different, Write}
+use Rattle.replay_program.specs.declared.words.Form.{Form}
 use Rattle.replay_program.specs.declared.words.Options.{Options}
 use Rattle.replay_program.specs.Runs.{IsOutputOf, ReadsTrace, ReplayWantsMemoryOrThread, TellsOfReading, WritesOutput, WritesPart, read_failures, reads_failed, writes_failed}
 use Rattle.replay_program.specs.Transfer.{AppendsPart}
@@ -43,15 +44,15 @@ wants_writes e (inl is) = ap writes_failed is
 wants_writes e (inr is) = ap writes_failed is
 
 -- the whole output went out
-pub whole : (options : Options) (left left' written written' : Option (List ℕ)) (t : Trace) (bytes : List ℕ) (r : Result ⊤ RunFault) → ReadsTrace left left' t → IsOutputOf options t bytes
-    → OnOk r (Appends written written' bytes) → OnOk r (WritesOutput options left left' written written')
-whole options left left' written written' t bytes r read is wrote =
+pub whole : (options : Options) (form : Form) (left left' written written' : Option (List ℕ)) (t : Trace) (bytes : List ℕ) (r : Result ⊤ RunFault) → ReadsTrace left left' t → IsOutputOf options form t bytes
+    → OnOk r (Appends written written' bytes) → OnOk r (WritesOutput options form left left' written written')
+whole options form left left' written written' t bytes r read is wrote =
     on_ok_weaker r (λ all. record { t = t; output = bytes; read = read; is = is; wrote = all }) wrote
 
 -- a part of it went out
-pub part : (options : Options) (left left' written written' : Option (List ℕ)) (t : Trace) (bytes : List ℕ) (r : Result ⊤ RunFault) → ReadsTrace left left' t → IsOutputOf options t bytes
-    → OnErr r (AppendsPart written written' bytes) → r ≡ Err Write → WritesPart options left left' written written'
-part options left left' written written' t bytes r read is wrote failed =
+pub part : (options : Options) (form : Form) (left left' written written' : Option (List ℕ)) (t : Trace) (bytes : List ℕ) (r : Result ⊤ RunFault) → ReadsTrace left left' t → IsOutputOf options form t bytes
+    → OnErr r (AppendsPart written written' bytes) → r ≡ Err Write → WritesPart options form left left' written written'
+part options form left left' written written' t bytes r read is wrote failed =
     record { t = t; output = bytes; read = read; is = is; wrote = IfErr-at_err (λ f. AppendsPart written written' bytes) failed wrote }
 
 -- a write that failed tells that a trace was read

@@ -14,6 +14,7 @@ use Rattle.replay_core.specs.declared.difference.Verdict.{Verdict}
 use Rattle.replay_core.specs.declared.difference.Verdict.TheVariants as verdict
 use Rattle.replay_program.specs.Runs.{ReadsTrace, WritesPart, sequential_report, verdict_line}
 use Rattle.replay_program.specs.Transfer.{AppendsPart}
+use Rattle.replay_program.specs.declared.words.Form.{Form}
 use Rattle.replay_program.specs.declared.words.Options.{Options}
 use Rattle.replay_program.specs.declared.words.Mode.TheVariants.{Compare}
 
@@ -41,6 +42,6 @@ pub sequential_text : (t : Trace) (s : World) (replies : List Reply) (shown : Sh
 sequential_text t s replies shown text world answers e = e ∙ ap (λ w. report_of t w replies shown) world ∙ ap (λ rs. report_of t (sequential_world t) rs shown) answers
 
 -- the line of a comparison that went out in part
-pub comparison_part : (options : Options) (left left' written written' : Option (List ℕ)) (t : Trace) (workers window : ℕ) (eager : Bool) (v : Verdict) → ReadsTrace left left' t → options.mode ≡ Compare workers window eager → v ≡ verdict.Equal
-    → AppendsPart written written' (verdict_line v) → WritesPart options left left' written written'
-comparison_part options left left' written written' t workers window eager v read mode equal part = record { t = t; output = verdict_line v; read = read; is = rw mode (ap verdict_line equal); wrote = part }
+pub comparison_part : (options : Options) (form : Form) (left left' written written' : Option (List ℕ)) (t : Trace) (workers window : ℕ) (eager : Bool) (v : Verdict) → ReadsTrace left left' t → options.mode ≡ Compare workers window eager → v ≡ verdict.Equal
+    → AppendsPart written written' (verdict_line v) → WritesPart options form left left' written written'
+comparison_part options form left left' written written' t workers window eager v read mode equal part = record { t = t; output = verdict_line v; read = read; is = record { text = verdict_line v; is = rw mode (ap verdict_line equal); written = rw mode refl }; wrote = part }

@@ -8,15 +8,16 @@ use Rattle.replay_core.specs.declared.difference.Verdict.{Verdict}
 use Rattle.replay_core.specs.declared.difference.Verdict.TheVariants.{Equal}
 use Rattle.replay_program.specs.declared.fault.RunFault.{RunFault}
 use Rattle.replay_program.specs.declared.fault.RunFault.TheVariants.{Trace, Replay, Reports, Read, Write, Different}
+use Rattle.replay_program.specs.declared.words.Form.{Form}
 use Rattle.replay_program.specs.declared.words.Options.{Options}
 use Rattle.replay_program.specs.declared.words.Mode.TheVariants.{Compare}
 use Rattle.replay_program.specs.Runs.{ReadsTrace, TellsOfReading, WritesOutput, read_failures, reads_failed, verdict_line}
 
 -- the whole line went out
-pub told_whole : (options : Options) (left left' written written' : Option (List ℕ)) (t : trace.Trace) (workers window : ℕ) (eager : Bool) (v : Verdict) (r : Result ⊤ RunFault) → ReadsTrace left left' t
-    → options.mode ≡ Compare workers window eager → v ≡ Equal → ((r ≡ Ok tt) ⊎ (r ≡ Err Different) → Appends written written' (verdict_line v)) → OnOk r (WritesOutput options left left' written written')
-told_whole options left left' written written' t workers window eager v (Ok x) read mode equal whole = record { t = t; output = verdict_line v; read = read; is = rw mode (ap verdict_line equal); wrote = whole (inl refl) }
-told_whole options left left' written written' t workers window eager v (Err f) read mode equal whole = tt
+pub told_whole : (options : Options) (form : Form) (left left' written written' : Option (List ℕ)) (t : trace.Trace) (workers window : ℕ) (eager : Bool) (v : Verdict) (r : Result ⊤ RunFault) → ReadsTrace left left' t
+    → options.mode ≡ Compare workers window eager → v ≡ Equal → ((r ≡ Ok tt) ⊎ (r ≡ Err Different) → Appends written written' (verdict_line v)) → OnOk r (WritesOutput options form left left' written written')
+told_whole options form left left' written written' t workers window eager v (Ok x) read mode equal whole = record { t = t; output = verdict_line v; read = read; is = record { text = verdict_line v; is = rw mode (ap verdict_line equal); written = rw mode refl }; wrote = whole (inl refl) }
+told_whole options form left left' written written' t workers window eager v (Err f) read mode equal whole = tt
 
 -- how telling that both are equal may fail
 abbrev Told : RunFault → Type 0

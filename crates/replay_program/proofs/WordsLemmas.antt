@@ -25,14 +25,17 @@ use Rattle.replay_program.specs.declared.words.Mode.{Mode}
 use Rattle.replay_program.specs.declared.words.Mode.TheVariants.{Serial, Run, Compare, Rounds, Depends, Check}
 use Rattle.replay_program.specs.declared.words.Options.{Options}
 use Rattle.replay_program.specs.declared.words.Task.{Task}
-use Rattle.replay_program.specs.declared.words.Task.TheVariants.{Replay, Diff, Show}
+use Rattle.replay_program.specs.declared.words.Task.TheVariants.{Replay, Diff, Show, Make}
 use Rattle.replay_program.specs.declared.words.UsageKind.{UsageKind}
 use Rattle.replay_program.specs.declared.words.UsageKind.TheVariants.{Memory}
 use Rattle.replay_report.specs.declared.showing.Shown.{Shown}
 use Rattle.replay_report.specs.declared.showing.SumsShown.{SumsShown}
 use Rattle.replay_report.specs.declared.showing.SumsShown.TheVariants as shows
-use Rattle.replay_program.specs.Words.{AreFound, AreRoundOptions, AskFor, AskForHelp, AskForMode, AskForVersion, HasLook, HasNoFiles, HasNumbers, HasShown, HasSums, IsFound, IsNamed, IsTaskFound, IsNumberOption, dot_words, places_words, flag_text, kind_meant, name_in, plain, replayer, shown_words, text_in}
+use Rattle.replay_program.specs.Words.{AreFound, AreRoundOptions, AskFor, AskForHelp, AskForMode, AskForText, AskForVersion, HasForm, HasLook, HasNumbers, HasShown, HasSums, IsForm, IsFound, IsNamed, IsTaskFound, IsNumberOption, dot_words, places_words, flag_text, form_of_flag, kind_meant, name_in, plain, replayer, shown_words, text_in}
 use Rattle.replay_program.specs.Limits.{IsWindow}
+use Rattle.replay_program.specs.declared.words.Form.{Form}
+use Rattle.replay_program.specs.declared.words.Form.TheVariants as forms
+use Rattle.replay_program.proofs.JsonWords.{json_found, json_taken}
 use Rattle.replay_program.proofs.NumberWords.{accepted, number_is_value}
 use Rattle.replay_program.proofs.OptionWalk.{at, level_by_parts, stopped_at, stopped_passes, stopped_walk, takes_by_parts}
 use Rattle.replay_program.proofs.RoundWords.{HasShownRows, IsPlain, IsTaken, Leaves, LeavesWindow, compare_both, compare_none, compare_window, compare_workers, leaf, rounds_none, rounds_window, run_both, run_none, run_window, run_workers}
@@ -165,22 +168,22 @@ options_found (Rounds window dot) shown words e =
 options_found (Depends dot) shown words e = rw (e.1, e.0) (depends_found dot)
 options_found Check shown words e = rw e.1 (refl, e.0)
 
--- and no file is named by them
-serial_files : (sums : SumsShown) (names : Bool) → HasNoFiles (subcommand_of replayer (codes "serial" ∷ shown_words sums names))
+-- and by them no file is named, and the output is text
+serial_files : (sums : SumsShown) (names : Bool) → HasForm forms.Text (subcommand_of replayer (codes "serial" ∷ shown_words sums names))
 unfolding clap_on_literals
-serial_files shows.None false = (refl, refl, refl)
-serial_files shows.None true = (refl, refl, refl)
-serial_files shows.Small false = (refl, refl, refl)
-serial_files shows.Small true = (refl, refl, refl)
-serial_files shows.All false = (refl, refl, refl)
-serial_files shows.All true = (refl, refl, refl)
+serial_files shows.None false = ((refl, refl, refl, refl), inr refl)
+serial_files shows.None true = ((refl, refl, refl, refl), inr refl)
+serial_files shows.Small false = ((refl, refl, refl, refl), inr refl)
+serial_files shows.Small true = ((refl, refl, refl, refl), inr refl)
+serial_files shows.All false = ((refl, refl, refl, refl), inr refl)
+serial_files shows.All true = ((refl, refl, refl, refl), inr refl)
 
-depends_files : (dot : Bool) → HasNoFiles (subcommand_of replayer (codes "depends" ∷ dot_words dot))
+depends_files : (dot : Bool) → HasForm forms.Text (subcommand_of replayer (codes "depends" ∷ dot_words dot))
 unfolding clap_on_literals
-depends_files false = (refl, refl, refl)
-depends_files true = (refl, refl, refl)
+depends_files false = ((refl, refl, refl, refl), inr refl)
+depends_files true = ((refl, refl, refl, refl), inr refl)
 
-files_found : (m : Mode) (shown : Shown) (words : List (List ℕ)) → AskForMode m shown words → HasNoFiles (subcommand_of replayer words)
+files_found : (m : Mode) (shown : Shown) (words : List (List ℕ)) → AskForMode m shown words → HasForm forms.Text (subcommand_of replayer words)
 unfolding clap_on_literals
 files_found Serial shown words e = rw e (serial_files shown.sums shown.names)
 files_found (Run workers window eager) shown words e =
@@ -193,7 +196,7 @@ files_found (Rounds window dot) shown words e =
     let l = rounds_leaves window dot e.0 e.1 e.2 in
     rw (e.4, rounds_found (decimal window) dot (e.0 ++ dot_words dot) l) l.files
 files_found (Depends dot) shown words e = rw e.1 (depends_files dot)
-files_found Check shown words e = rw e.1 (refl, refl, refl)
+files_found Check shown words e = rw e.1 ((refl, refl, refl, refl), inr refl)
 
 serial_taken : (sums : SumsShown) (names : Bool) → takes replayer (codes "serial" ∷ shown_words sums names) ≡ true
 unfolding clap_on_literals
@@ -238,10 +241,10 @@ unfolding clap_on_literals
 show_found false = (refl, refl, refl)
 show_found true = (refl, refl, refl)
 
-show_files : (places : Bool) → HasNoFiles (subcommand_of replayer (codes "show" ∷ places_words places))
+show_files : (places : Bool) → HasForm forms.Text (subcommand_of replayer (codes "show" ∷ places_words places))
 unfolding clap_on_literals
-show_files false = (refl, refl, refl)
-show_files true = (refl, refl, refl)
+show_files false = ((refl, refl, refl, refl), inl refl)
+show_files true = ((refl, refl, refl, refl), inl refl)
 
 show_taken : (places : Bool) → takes replayer (codes "show" ∷ places_words places) ≡ true
 unfolding clap_on_literals
@@ -249,27 +252,38 @@ show_taken false = refl
 show_taken true = refl
 
 -- the same for each task
-task_found : (t : Task) (words : List (List ℕ)) → AskFor t words → IsFound t (subcommand_of replayer words)
+text_found : (t : Task) (words : List (List ℕ)) → AskForText t words → IsFound forms.Text t (subcommand_of replayer words)
 unfolding clap_on_literals
-task_found (Replay o) words e = (options_found o.mode o.shown words e, files_found o.mode o.shown words e)
-task_found Diff words e = rw e (refl, (refl, refl, refl))
-task_found (Show look) words e = rw e.1 (((show_found look.places).0, ((show_found look.places).1, e.0, (show_found look.places).2)), show_files look.places)
+text_found (Replay o) words e = (options_found o.mode o.shown words e, files_found o.mode o.shown words e)
+text_found Diff words e = rw e (refl, ((refl, refl, refl, refl), inr refl))
+text_found (Show look) words e = rw e.1 (((show_found look.places).0, ((show_found look.places).1, e.0, (show_found look.places).2)), show_files look.places)
+text_found Make words e = rw e (refl, ((refl, refl, refl, refl), inl refl))
 
-task_taken : (t : Task) (words : List (List ℕ)) → AskFor t words → takes replayer words ≡ true
+text_taken : (t : Task) (words : List (List ℕ)) → AskForText t words → takes replayer words ≡ true
 unfolding clap_on_literals
-task_taken (Replay o) words e = words_taken o.mode o.shown words e
-task_taken Diff words e = rw e refl
-task_taken (Show look) words e = rw e.1 (show_taken look.places)
+text_taken (Replay o) words e = words_taken o.mode o.shown words e
+text_taken Diff words e = rw e refl
+text_taken (Show look) words e = rw e.1 (show_taken look.places)
+text_taken Make words e = rw e refl
+
+-- and in each form
+task_found : (form : Form) (t : Task) (words : List (List ℕ)) → AskFor form t words → IsFound form t (subcommand_of replayer words)
+task_found forms.Text t words e = text_found t words e
+task_found forms.Json t words e = json_found t words e
+
+task_taken : (form : Form) (t : Task) (words : List (List ℕ)) → AskFor form t words → takes replayer words ≡ true
+task_taken forms.Text t words e = text_taken t words e
+task_taken forms.Json t words e = json_taken t words e
 
 -- the task in the matches of the words that ask for it
-pub task_met : (a : App) (words : List (List ℕ)) (m : ArgMatches) (t : Task) → a ≡ replayer → AskFor t words → HasMatchesOf a words m
-    → IsFound t (subcommand_rows_of m)
-task_met a words m t command asked h =
+pub task_met : (a : App) (words : List (List ℕ)) (m : ArgMatches) (form : Form) (t : Task) → a ≡ replayer → AskFor form t words → HasMatchesOf a words m
+    → IsFound form t (subcommand_rows_of m)
+task_met a words m form t command asked h =
     let same : subcommand_rows_of m ≡ subcommand_of replayer words = (h (ap is_simple command)).1 ∙ ap (λ x. subcommand_of x words) command in
-    subst (IsFound t) (sym same) (task_found t words asked)
+    subst (IsFound form t) (sym same) (task_found form t words asked)
 
-pub words_pass : (a : App) (words : List (List ℕ)) (t : Task) → a ≡ replayer → AskFor t words → takes a words ≡ true
-words_pass a words t command asked = ap (λ x. takes x words) command ∙ task_taken t words asked
+pub words_pass : (a : App) (words : List (List ℕ)) (form : Form) (t : Task) → a ≡ replayer → AskFor form t words → takes a words ≡ true
+words_pass a words form t command asked = ap (λ x. takes x words) command ∙ task_taken form t words asked
 
 -- words that have one fault end the parse by it
 pub request_ends : {T : Type 0} (a : App) (words : List (List ℕ)) (r : Result T Error) (kind : ErrorKind) → a ≡ replayer → fault_of replayer words ≡ kind ∷ [] → (is_simple_and_free a ≡ true → FailsBy (fault_of a words) r)
@@ -405,6 +419,9 @@ show_is_no_mode Check e = absurd (cc e)
 show_is_no_diff : codes "show" ≡ codes "diff" → ⊥
 show_is_no_diff e = let first : 115 ≡ 100 = ap (λ (xs : List ℕ). slice_index xs 0) e in omega (arith, first)
 
+show_is_no_make : codes "show" ≡ codes "make" → ⊥
+show_is_no_make e = let first : 115 ≡ 109 = ap (λ (xs : List ℕ). slice_index xs 0) e in omega (arith, first)
+
 module _ (m chosen : ArgMatches) (rows : IsChosen m chosen) where
   flag_is : (id : List ℕ) (flag sums : Bool) → ReadsFlag chosen id flag → text_in id (subcommand_rows_of m) ≡ Some (flag_text sums) → flag ≡ sums
   flag_is id flag sums read found = read_as_flag flag sums (one_text (found_of chosen) id) (text_is m chosen id (flag_text sums) rows found) read.0 read.1
@@ -419,6 +436,14 @@ module _ (m chosen : ArgMatches) (rows : IsChosen m chosen) where
     a w (text_is m chosen (codes "workers") (decimal w) rows h.0) h.2.0 h.2.1,
     b v (text_is m chosen (codes "window") (decimal v) rows h.1) h.2.2 h.2.3,
   )
+
+  -- the form that is asked for
+  pub form_chosen : (flag : Bool) (given form : Form) → given ≡ form_of_flag flag → (one_text (found_of chosen) (codes "json") ≡ None → flag ≡ false) → ReadsFlag chosen (codes "json") flag
+      → IsForm form (text_in (codes "json") (subcommand_rows_of m)) → given ≡ form
+  form_chosen flag given forms.Text is none read (inl lacks) =
+      is ∙ ap form_of_flag (none (one_text-rows (found_of chosen) (codes "json") ∙ no_text_at (codes "json") (subcommand_rows_of m) (rows_of (found_of chosen)) (sym rows) lacks))
+  form_chosen flag given forms.Text is none read (inr found) = is ∙ ap form_of_flag (flag_is (codes "json") flag false read found)
+  form_chosen flag given forms.Json is none read found = is ∙ ap form_of_flag (flag_is (codes "json") flag true read found)
 
   -- the options where the subcommand is `serial`
   pub serial_chosen : (given : Shown) (mode : Mode) (shown : Shown) → subcommand_name_of m ≡ Some (codes "serial") → ReadsShown chosen given
@@ -484,6 +509,7 @@ module _ (m chosen : ArgMatches) (rows : IsChosen m chosen) where
       → IsTaskFound task (subcommand_rows_of m) → ◌≡◌ {A = Task} (Show given) task
   look_chosen given (Replay options) name read h = absurd (show_is_no_mode options.mode (same_Some _ _ (sym name ∙ found_name m options.mode options.shown h)))
   look_chosen given Diff name read h = absurd (show_is_no_diff (same_Some _ _ (sym name ∙ sym (named m) ∙ h)))
+  look_chosen given Make name read h = absurd (show_is_no_make (same_Some _ _ (sym name ∙ sym (named m) ∙ h)))
   look_chosen given (Show look) name read h =
       let no_first = one_text-rows (found_of chosen) (codes "first") ∙ no_text_at (codes "first") (subcommand_rows_of m) (rows_of (found_of chosen)) (sym rows) h.1.2 in
       ap Show (read look (text_is m chosen (codes "places") (flag_text look.places) rows h.1.0, h.1.1, no_first))

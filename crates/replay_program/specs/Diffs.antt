@@ -1,13 +1,15 @@
 -- The model: what a comparison of two reports does to its reader and its writer.
 use Rattle.std.specs.Prelude.{◌≡◌, ◌⊎◌, ⊤, Bool, List, Option, ℕ, None, Some, length}
 use Rattle.std.specs.Io.KnownBytes.{Appends, Consumes, IsAtEnd}
-use Rattle.report_diff.specs.Inputs.{Compares, ComparesTwo, are_alike_in, are_alike_of_two, differences_in, differences_of_two, refusal, refusal_of_two}
+use Rattle.report_diff.specs.Inputs.{are_alike_in, are_alike_of_two, differences_in, differences_of_two, refusal, refusal_of_two}
 use Rattle.report_diff.specs.Refusals.{refusal_text}
 use Rattle.report_diff.specs.declared.comparing.Comparison.{Comparison}
 use Rattle.report_diff.specs.declared.refusal.Refusal.{Refusal}
 use Rattle.replay_program.specs.declared.fault.RunFault.{RunFault}
 use Rattle.replay_program.specs.declared.fault.RunFault.TheVariants.{Trace, Replay, Reports, Read, Write, Different}
 use Rattle.replay_program.specs.declared.fault.ReportsFault.TheVariants.{Refused, TooLong, Memory}
+use Rattle.replay_program.specs.declared.words.Form.{Form}
+use Rattle.replay_program.specs.Forms.{written_as}
 use Rattle.replay_program.specs.Runs.{most_taken}
 use Rattle.replay_program.specs.Transfer.{AppendsPart}
 
@@ -17,11 +19,12 @@ pub record ReadsReports (before after : Option (List ℕ)) (input : List ℕ) : 
   pub ended : IsAtEnd after
   pub reports : refusal input ≡ None
 
--- The reader was read to its end, and what it had left is two reports that compare so.
-pub record ComparesReports (before after : Option (List ℕ)) (comparison : Comparison) : Type 0 where
+-- The reader was read to its end, and what it had left is two reports that compare so, with the text in this form.
+pub record ComparesReports (form : Form) (before after : Option (List ℕ)) (comparison : Comparison) : Type 0 where
   pub input : List ℕ
   pub read : ReadsReports before after input
-  pub compares : Compares input comparison
+  pub text : comparison.text.items ≡ written_as form (differences_in input)
+  pub decided : comparison.alike ≡ are_alike_in input
 
 -- The reader was read to its end, and what it had left is not two reports, for this reason.
 pub record ReadsNoReports (before after : Option (List ℕ)) (why : Refusal) : Type 0 where
@@ -36,18 +39,18 @@ pub record ReadsTooMuch (before after : Option (List ℕ)) : Type 0 where
   pub taken : Consumes before after input
   pub long : length input ≡ most_taken
 
--- The reader was read to its end, and the writer took the whole text of the comparison, and nothing else.
-pub record WritesDifferences (alike : Bool) (left left' written written' : Option (List ℕ)) : Type 0 where
+-- The reader was read to its end, and the writer took the whole text of the comparison in this form, and nothing else.
+pub record WritesDifferences (form : Form) (alike : Bool) (left left' written written' : Option (List ℕ)) : Type 0 where
   pub input : List ℕ
   pub read : ReadsReports left left' input
-  pub wrote : Appends written written' (differences_in input)
+  pub wrote : Appends written written' (written_as form (differences_in input))
   pub decided : are_alike_in input ≡ alike
 
 -- The reader was read to its end, and the writer took the first bytes of the text, but not all.
-pub record WritesDifferencesPart (left left' written written' : Option (List ℕ)) : Type 0 where
+pub record WritesDifferencesPart (form : Form) (left left' written written' : Option (List ℕ)) : Type 0 where
   pub input : List ℕ
   pub read : ReadsReports left left' input
-  pub wrote : AppendsPart written written' (differences_in input)
+  pub wrote : AppendsPart written written' (written_as form (differences_in input))
 
 -- What a fault of a comparison tells of the reader.
 abbrev pub TellsOfReports : (left left' : Option (List ℕ)) → RunFault → Type 0
@@ -72,11 +75,12 @@ pub record ReadsTwo (left left' more more' : Option (List ℕ)) (first second : 
   pub reports : refusal_of_two first second ≡ None
 
 -- The two reports compare so.
-pub record ComparesTwoReports (left left' more more' : Option (List ℕ)) (comparison : Comparison) : Type 0 where
+pub record ComparesTwoReports (form : Form) (left left' more more' : Option (List ℕ)) (comparison : Comparison) : Type 0 where
   pub first : List ℕ
   pub second : List ℕ
   pub read : ReadsTwo left left' more more' first second
-  pub compares : ComparesTwo first second comparison
+  pub text : comparison.text.items ≡ written_as form (differences_of_two first second)
+  pub decided : comparison.alike ≡ are_alike_of_two first second
 
 -- Both were read to their ends, and what they had left are not two reports, for this reason.
 pub record ReadsNoTwo (left left' more more' : Option (List ℕ)) (why : Refusal) : Type 0 where
@@ -86,20 +90,20 @@ pub record ReadsNoTwo (left left' more more' : Option (List ℕ)) (why : Refusal
   pub other : ReadsAll more more' second
   pub refused : refusal_of_two first second ≡ Some (refusal_text why)
 
--- Both were read to their ends, and the writer took the whole text of the comparison, and nothing else.
-pub record WritesDifferencesOfTwo (alike : Bool) (left left' more more' written written' : Option (List ℕ)) : Type 0 where
+-- Both were read to their ends, and the writer took the whole text of the comparison in this form, and nothing else.
+pub record WritesDifferencesOfTwo (form : Form) (alike : Bool) (left left' more more' written written' : Option (List ℕ)) : Type 0 where
   pub first : List ℕ
   pub second : List ℕ
   pub read : ReadsTwo left left' more more' first second
-  pub wrote : Appends written written' (differences_of_two first second)
+  pub wrote : Appends written written' (written_as form (differences_of_two first second))
   pub decided : are_alike_of_two first second ≡ alike
 
 -- Both were read to their ends, and the writer took the first bytes of the text, but not all.
-pub record WritesPartOfTwo (left left' more more' written written' : Option (List ℕ)) : Type 0 where
+pub record WritesPartOfTwo (form : Form) (left left' more more' written written' : Option (List ℕ)) : Type 0 where
   pub first : List ℕ
   pub second : List ℕ
   pub read : ReadsTwo left left' more more' first second
-  pub wrote : AppendsPart written written' (differences_of_two first second)
+  pub wrote : AppendsPart written written' (written_as form (differences_of_two first second))
 
 -- What a fault tells of both readers.
 abbrev pub TellsOfTwoReports : (left left' more more' : Option (List ℕ)) → RunFault → Type 0

@@ -1,7 +1,11 @@
+pub mod Checks
 pub mod Diffs
+pub mod Forms
 pub mod Limits
 pub mod Runs
 pub mod Status
 pub mod Transfer
 pub mod Words
 pub mod Shows
+pub mod Makes
+pub mod ShownDiffs

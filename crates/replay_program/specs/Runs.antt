@@ -21,7 +21,9 @@ use Rattle.replay_report.specs.Report.{check_line, line, report_of}
 use Rattle.replay_report.specs.declared.showing.Shown.{Shown}
 use Rattle.round_report.specs.Rounds.{graph_text, log_of, rounds_text}
 use Rattle.depend_report.specs.Whole.{IsTextOf}
+use Rattle.replay_program.specs.Forms.{form_in, written_as}
 use Rattle.replay_program.specs.Transfer.{AppendsPart}
+use Rattle.replay_program.specs.declared.words.Form.{Form}
 
 -- The report of the sequential run of a trace.
 abbrev pub sequential_report : trace.Trace → Shown → List ℕ
@@ -47,8 +49,11 @@ IsModeOutput (Rounds window dot) shown t output = output ≡ rounds_output dot t
 IsModeOutput (Depends dot) shown t output = IsTextOf dot t output
 IsModeOutput Check shown t output = output ≡ check_line t
 
-abbrev pub IsOutputOf : Options → trace.Trace → List ℕ → Type 0
-IsOutputOf options t output = IsModeOutput options.mode options.shown t output
+-- The same in the form that is asked for.
+pub record IsOutputOf (options : Options) (form : Form) (t : trace.Trace) (output : List ℕ) : Type 0 where
+  pub text : List ℕ
+  pub is : IsModeOutput options.mode options.shown t text
+  pub written : output ≡ written_as (form_in options.mode form) text
 
 -- The reader was read to its end, and what it had left spells the trace.
 pub record ReadsTrace (before after : Option (List ℕ)) (t : trace.Trace) : Type 0 where
@@ -65,19 +70,19 @@ pub record ReadsNoTrace (before after : Option (List ℕ)) (f : TraceFault) : Ty
   pub refused : IsRefusal text f
 
 -- The reader was read to its end, and the writer took the whole output for its trace, and nothing else.
-pub record WritesOutput (options : Options) (left left' written written' : Option (List ℕ)) : Type 0 where
+pub record WritesOutput (options : Options) (form : Form) (left left' written written' : Option (List ℕ)) : Type 0 where
   pub t : trace.Trace
   pub output : List ℕ
   pub read : ReadsTrace left left' t
-  pub is : IsOutputOf options t output
+  pub is : IsOutputOf options form t output
   pub wrote : Appends written written' output
 
 -- The reader was read to its end, and the writer took the first bytes of the output for its trace, but not all.
-pub record WritesPart (options : Options) (left left' written written' : Option (List ℕ)) : Type 0 where
+pub record WritesPart (options : Options) (form : Form) (left left' written written' : Option (List ℕ)) : Type 0 where
   pub t : trace.Trace
   pub output : List ℕ
   pub read : ReadsTrace left left' t
-  pub is : IsOutputOf options t output
+  pub is : IsOutputOf options form t output
   pub wrote : AppendsPart written written' output
 
 -- The most bytes that are taken from a reader: one more than a trace may have.

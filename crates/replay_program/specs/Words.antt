@@ -14,9 +14,11 @@ use Rattle.clap.specs.declared.error.kind.ErrorKind.TheVariants.{DisplayHelp, Di
 use Rattle.replay_program.specs.declared.words.Mode.{Mode}
 use Rattle.replay_program.specs.declared.words.Mode.TheVariants.{Serial, Run, Compare, Rounds, Depends, Check}
 use Rattle.replay_program.specs.declared.words.Files.{Files}
+use Rattle.replay_program.specs.declared.words.Form.{Form}
+use Rattle.replay_program.specs.declared.words.Form.TheVariants as forms
 use Rattle.replay_program.specs.declared.words.Request.{Request}
 use Rattle.replay_program.specs.declared.words.Task.{Task}
-use Rattle.replay_program.specs.declared.words.Task.TheVariants.{Replay, Diff, Show}
+use Rattle.replay_program.specs.declared.words.Task.TheVariants.{Replay, Diff, Show, Make}
 use Rattle.trace_text.specs.declared.look.Look.{Look}
 use Rattle.replay_program.specs.declared.words.Usage.{Usage}
 use Rattle.replay_program.specs.declared.words.UsageKind.{UsageKind}
@@ -31,6 +33,7 @@ abbrev pub IsServedTask : Task → Type 0
 IsServedTask (Replay options) = IsServed options.mode
 IsServedTask Diff = ⊤
 IsServedTask (Show look) = ⊤
+IsServedTask Make = ⊤
 
 -- An option with its number in decimal, `--workers 7`; it may be left out where the number is the one that is taken then.
 abbrev pub IsNumberOption : List ℕ → ℕ → ℕ → List (List ℕ) → Type 0
@@ -75,11 +78,35 @@ abbrev pub places_words : Bool → List (List ℕ)
 places_words false = []
 places_words true = codes "--places" ∷ []
 
--- The words that ask for a task. Which words ask for the first bytes alone is not said here.
-abbrev pub AskFor : Task → List (List ℕ) → Type 0
-AskFor (Replay options) words = AskForMode options.mode options.shown words
-AskFor Diff words = words ≡ codes "diff" ∷ []
-AskFor (Show look) words = (look.first ≡ None) × (words ≡ codes "show" ∷ places_words look.places)
+-- The words that ask for a task, whose output is text. Which words ask for the first bytes alone is not said here.
+abbrev pub AskForText : Task → List (List ℕ) → Type 0
+AskForText (Replay options) words = AskForMode options.mode options.shown words
+AskForText Diff words = words ≡ codes "diff" ∷ []
+AskForText (Show look) words = (look.first ≡ None) × (words ≡ codes "show" ∷ places_words look.places)
+AskForText Make words = words ≡ codes "make" ∷ []
+
+-- The words that ask for JSON: `--json` behind the name of a command, and then what a report shows. Which words ask for it beside other options is not said here.
+abbrev pub json_words : List ℕ → List (List ℕ)
+json_words name = name ∷ codes "--json" ∷ []
+
+abbrev pub AskForJsonMode : Mode → Shown → List (List ℕ) → Type 0
+AskForJsonMode Serial shown words = words ≡ json_words (codes "serial") ++ shown_words shown.sums shown.names
+AskForJsonMode (Run workers window eager) shown words = (workers ≡ 4) × (window ≡ 64) × (eager ≡ false) × (shown ≡ plain) × (words ≡ json_words (codes "run"))
+AskForJsonMode (Compare workers window eager) shown words = ⊥
+AskForJsonMode (Rounds window dot) shown words = (window ≡ 64) × (dot ≡ false) × (shown ≡ plain) × (words ≡ json_words (codes "rounds"))
+AskForJsonMode (Depends dot) shown words = (dot ≡ false) × (shown ≡ plain) × (words ≡ json_words (codes "depends"))
+AskForJsonMode Check shown words = (shown ≡ plain) × (words ≡ json_words (codes "check"))
+
+abbrev pub AskForJson : Task → List (List ℕ) → Type 0
+AskForJson (Replay options) words = AskForJsonMode options.mode options.shown words
+AskForJson Diff words = words ≡ json_words (codes "diff")
+AskForJson (Show look) words = ⊥
+AskForJson Make words = ⊥
+
+-- The words that ask for a task, and for a form of its output.
+abbrev pub AskFor : Form → Task → List (List ℕ) → Type 0
+AskFor forms.Text task words = AskForText task words
+AskFor forms.Json task words = AskForJson task words
 
 -- The words that ask for help, and for the version.
 abbrev pub AskForHelp : List (List ℕ) → Type 0
@@ -90,15 +117,15 @@ AskForVersion words = (words ≡ codes "-V" ∷ []) ⊎ (words ≡ codes "--vers
 
 -- No file is named: the task reads standard input and writes to standard output.
 abbrev pub HasNoNames : Files → Type 0
-HasNoNames files = (files.input ≡ None) × (files.second ≡ None) × (files.output ≡ None)
+HasNoNames files = (files.input ≡ None) × (files.second ≡ None) × (files.output ≡ None) × (files.trace ≡ None)
 
--- The task from standard input to standard output.
-abbrev pub IsRequestFor : Task → Request → Type 0
-IsRequestFor task request = (request.task ≡ task) × HasNoNames request.files
+-- The task from standard input to standard output, in this form.
+abbrev pub IsRequestFor : Form → Task → Request → Type 0
+IsRequestFor form task request = (request.task ≡ task) × HasNoNames request.files × (request.form ≡ form)
 
 -- The same, or out of memory.
-abbrev pub GivesTask : Result Request Usage → Task → Type 0
-GivesTask result task = MatchResult result (IsRequestFor task) (λ usage. usage.kind ≡ Memory)
+abbrev pub GivesTask : Result Request Usage → Form → Task → Type 0
+GivesTask result form task = MatchResult result (IsRequestFor form task) (λ usage. usage.kind ≡ Memory)
 
 -- What is said of an argument that is not text: its bytes as those of a path in a report.
 abbrev pub not_text : List ℕ → List ℕ
@@ -155,7 +182,7 @@ abbrev pub name_in : List ℕ → Option (List ℕ × List Row) → Option (List
 name_in id found = option_and_then (λ p. first_of id p.1) found
 
 abbrev pub HasNoFiles : Option (List ℕ × List Row) → Type 0
-HasNoFiles found = (name_in (codes "file") found ≡ None) × (name_in (codes "second") found ≡ None) × (name_in (codes "output") found ≡ None)
+HasNoFiles found = (name_in (codes "file") found ≡ None) × (name_in (codes "second") found ≡ None) × (name_in (codes "output") found ≡ None) × (name_in (codes "show") found ≡ None)
 
 abbrev pub HasWindow : ℕ → Option (List ℕ × List Row) → Type 0
 HasWindow window found = (text_in (codes "window") found ≡ Some (decimal window)) × IsWindow window
@@ -179,9 +206,23 @@ abbrev pub IsTaskFound : Task → Option (List ℕ × List Row) → Type 0
 IsTaskFound (Replay options) found = AreFound options.mode options.shown found
 IsTaskFound Diff found = IsNamed (codes "diff") found
 IsTaskFound (Show look) found = IsNamed (codes "show") found × HasLook look (λ id. text_in id found)
+IsTaskFound Make found = IsNamed (codes "make") found
 
-abbrev pub IsFound : Task → Option (List ℕ × List Row) → Type 0
-IsFound task found = IsTaskFound task found × HasNoFiles found
+-- The text of the flag for JSON, which some subcommands lack.
+abbrev pub IsForm : Form → Option (List ℕ) → Type 0
+IsForm forms.Text text = (text ≡ None) ⊎ (text ≡ Some (flag_text false))
+IsForm forms.Json text = text ≡ Some (flag_text true)
+
+abbrev pub form_of_flag : Bool → Form
+form_of_flag false = forms.Text
+form_of_flag true = forms.Json
+
+-- No name of a file was found, and this form is asked for.
+abbrev pub HasForm : Form → Option (List ℕ × List Row) → Type 0
+HasForm form found = HasNoFiles found × IsForm form (text_in (codes "json") found)
+
+abbrev pub IsFound : Form → Task → Option (List ℕ × List Row) → Type 0
+IsFound form task found = IsTaskFound task found × HasForm form found
 
 -- The command line, as its parser sees it: a subcommand has to be named. The number of an option lies within its limits.
 abbrev pub sums_flag : Rule
@@ -198,6 +239,9 @@ dot_flag = record (new_rule (codes "dot")) { long = Some (codes "dot"); action =
 
 abbrev pub eager_flag : Rule
 eager_flag = record (new_rule (codes "eager")) { long = Some (codes "eager"); action = Some SetTrue }
+
+abbrev pub json_flag : Rule
+json_flag = record (new_rule (codes "json")) { long = Some (codes "json"); action = Some SetTrue }
 
 abbrev pub file_argument : Rule
 file_argument = record (new_rule (codes "file")) { value_names = 1 }
@@ -224,6 +268,9 @@ places_flag = record (new_rule (codes "places")) { long = Some (codes "places");
 abbrev pub first_option : Rule
 first_option = record (new_rule (codes "first")) { long = Some (codes "first"); value_names = 1; parser = Some (Signed (pos 1) (pos 1073741824)) }
 
+abbrev pub show_option : Rule
+show_option = record (new_rule (codes "show")) { long = Some (codes "show"); value_names = 1 }
+
 abbrev pub serial_command : App
 serial_command = with_rule (with_rule (with_rule (new_app (codes "serial")) sums_flag) all_sums_flag) names_flag
 
@@ -247,26 +294,33 @@ check_command = new_app (codes "check")
 abbrev pub show_command : App
 show_command = with_rule (with_rule (new_app (codes "show")) places_flag) first_option
 
+abbrev pub make_command : App
+make_command = new_app (codes "make")
+
 abbrev pub diff_command : App
-diff_command = new_app (codes "diff")
+diff_command = with_rule (new_app (codes "diff")) show_option
 
 -- A command with the names of its input and of its output.
 abbrev pub with_files : App → App
 with_files app = with_rule (with_rule app file_argument) output_option
+
+-- A command whose output may be JSON.
+abbrev pub with_form : App → App
+with_form app = with_rule app json_flag
 
 -- The command line with no subcommand, and with those that replay a trace.
 abbrev pub replayer_alone : App
 replayer_alone = on_top (λ s. record s { has_version = true; no_binary_name = true; subcommand_required = true }) (new_app (codes "uring_replay"))
 
 abbrev pub with_replays : App → App
-with_replays app = with_subcommand (with_subcommand (with_subcommand app (with_files serial_command).top) (with_files run_command).top) (with_files compare_command).top
+with_replays app = with_subcommand (with_subcommand (with_subcommand app (with_form (with_files serial_command)).top) (with_form (with_files run_command)).top) (with_files compare_command).top
 
 -- The whole command line.
 abbrev pub replayer : App
 replayer =
-    let telling = with_subcommand (with_subcommand (with_replays replayer_alone) (with_files rounds_command).top) (with_files depends_command).top in
-    let reading = with_subcommand (with_subcommand telling (with_files check_command).top) (with_files show_command).top in
-    with_subcommand reading (with_rule (with_files diff_command) second_argument).top
+    let telling = with_subcommand (with_subcommand (with_replays replayer_alone) (with_form (with_files rounds_command)).top) (with_form (with_files depends_command)).top in
+    let reading = with_subcommand (with_subcommand telling (with_form (with_files check_command)).top) (with_files show_command).top in
+    with_subcommand (with_subcommand reading (with_files make_command).top) (with_form (with_rule (with_files diff_command) second_argument)).top
 
 -- What the parser sees of an argument and of a subcommand; neither is one of all levels.
 abbrev pub IsRule : Rule → Arg → Type 0

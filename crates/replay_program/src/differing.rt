@@ -6,13 +6,16 @@ ghost use Rattle.replay_program.specs.Diffs.{ComparesTwoReports, ReadsAll, Tells
 ghost use Rattle.replay_program.specs.Diffs.{TellsOfTwoReports, WritesDifferencesOfTwo};
 ghost use Rattle.replay_program.specs.Diffs.{WritesDifferencesPart, WritesPartOfTwo};
 ghost use Rattle.replay_program.specs.Runs.{most_taken, read_failures, write_failures};
+ghost use Rattle.replay_program.specs.Forms.{written_as};
 ghost use Rattle.replay_program.specs.Transfer.{ConsumesUpTo};
 
 use crate::fault::{ReportsFault, RunFault};
+use crate::forms::text_as;
 use crate::session::written;
 use crate::transfer::{MOST_BYTES, Sink, Source, TextFault, read_text};
+use crate::words::Form;
 use report_diff::{Comparison, DiffFault, compare, compare_two};
-use std::alloc::Global;
+use std::alloc::{AllocError, Global};
 
 /// Reads two reports, one after another, compares them and writes where they differ. Nothing is
 /// written before the whole text is there, and the run ends at the first failure of either side.
@@ -25,17 +28,18 @@ pub fn run_diff<R: Source, W: Sink>(
     alloc: Global,
     reader: &mut R,
     writer: &mut W,
+    form: Form,
 ) -> Result<(), RunFault>
     requires reader { R.failures reader.old < 2 ^ 64 - 1 }
     requires writer { W.failures writer.old < 2 ^ 64 - 1 }
 
     // The text is the one of the two reports that the reader's bytes are.
-    ensures alike { OnOk result (WritesDifferences true (R.left reader.old) (R.left reader.new)
-        (W.written writer.old) (W.written writer.new)) }
+    ensures alike { OnOk result (WritesDifferences form true (R.left reader.old)
+        (R.left reader.new) (W.written writer.old) (W.written writer.new)) }
     ensures different { result ≡ Err RunFault.Different
-        → WritesDifferences false (R.left reader.old)
+        → WritesDifferences form false (R.left reader.old)
         (R.left reader.new) (W.written writer.old) (W.written writer.new) }
-    ensures part { result ≡ Err RunFault.Write → WritesDifferencesPart (R.left reader.old)
+    ensures part { result ≡ Err RunFault.Write → WritesDifferencesPart form (R.left reader.old)
         (R.left reader.new) (W.written writer.old) (W.written writer.new) }
     ensures nothing { IfErr result (λ fault. fault ≢ RunFault.Write → fault ≢ RunFault.Different
         → Keeps (W.written writer.old) (W.written writer.new)) }
@@ -45,7 +49,7 @@ pub fn run_diff<R: Source, W: Sink>(
     ensures read { R.failures reader.new ≡ R.failures reader.old + read_failures result }
     ensures write { W.failures writer.new ≡ W.failures writer.old + write_failures result }
 {
-    let comparison = taken_comparison(alloc, reader)?;
+    let comparison = taken_comparison(alloc, reader, form)?;
     written(writer, comparison.text.as_slice())?;
     if comparison.alike {
         Ok(())
@@ -54,11 +58,16 @@ pub fn run_diff<R: Source, W: Sink>(
     }
 }
 
-/// How the two reports that the reader has left compare.
-fn taken_comparison<R: Source>(alloc: Global, reader: &mut R) -> Result<Comparison, RunFault>
+/// How the two reports that the reader has left compare, with the text in the form that is asked
+/// for.
+pub(crate) fn taken_comparison<R: Source>(
+    alloc: Global,
+    reader: &mut R,
+    form: Form,
+) -> Result<Comparison, RunFault>
     requires { R.failures reader.old < 2 ^ 64 - 1 }
     ensures ok { IfOk result
-        (λ comparison. ComparesReports (R.left reader.old) (R.left reader.new) comparison) }
+        (λ comparison. ComparesReports form (R.left reader.old) (R.left reader.new) comparison) }
     ensures taken { ConsumesUpTo most_taken (R.left reader.old) (R.left reader.new) }
     ensures err { IfErr result (TellsOfReports (R.left reader.old) (R.left reader.new)) }
     ensures read { R.failures reader.new ≡ R.failures reader.old + read_failures result }
@@ -75,9 +84,25 @@ fn taken_comparison<R: Source>(alloc: Global, reader: &mut R) -> Result<Comparis
         return Err(RunFault::Reports(ReportsFault::TooLong));
     }
     match compare(alloc, input.as_slice()) {
-        Ok(comparison) => Ok(comparison),
+        Ok(comparison) => comparison_as(alloc, form, comparison),
         Err(DiffFault::Refused(why)) => Err(RunFault::Reports(ReportsFault::Refused(why))),
         Err(DiffFault::Memory) => Err(RunFault::Reports(ReportsFault::Memory)),
+    }
+}
+
+/// A comparison with its text in the form that is asked for.
+fn comparison_as(alloc: Global, form: Form, comparison: Comparison) -> Result<Comparison, RunFault>
+    ensures text { IfOk result
+        (λ found. found.text.items ≡ written_as form comparison.text.items) }
+    ensures alike { IfOk result (λ found. found.alike ≡ comparison.alike) }
+    ensures err { IfErr result (λ fault. fault ≡ RunFault.Reports ReportsFault.Memory) }
+{
+    match text_as(alloc, form, comparison.text) {
+        Ok(text) => Ok(Comparison {
+            text,
+            alike: comparison.alike,
+        }),
+        Err(AllocError) => Err(RunFault::Reports(ReportsFault::Memory)),
     }
 }
 
@@ -93,19 +118,20 @@ pub fn run_diff_of_two<R: Source, S: Source, W: Sink>(
     first: &mut R,
     second: &mut S,
     writer: &mut W,
+    form: Form,
 ) -> Result<(), RunFault>
     requires first { R.failures first.old < 2 ^ 64 - 1 }
     requires second { S.failures second.old < 2 ^ 64 - 1 }
     requires writer { W.failures writer.old < 2 ^ 64 - 1 }
 
     // The text is the one of the two reports that the bytes of both readers are.
-    ensures alike { OnOk result (WritesDifferencesOfTwo true (R.left first.old) (R.left first.new)
-        (S.left second.old) (S.left second.new) (W.written writer.old) (W.written writer.new)) }
+    ensures alike { OnOk result (WritesDifferencesOfTwo form true (R.left first.old)
+        (R.left first.new) (S.left second.old) (S.left second.new) (W.written writer.old) (W.written writer.new)) }
     ensures different { result ≡ Err RunFault.Different
-        → WritesDifferencesOfTwo false (R.left first.old) (R.left first.new)
+        → WritesDifferencesOfTwo form false (R.left first.old) (R.left first.new)
         (S.left second.old) (S.left second.new) (W.written writer.old) (W.written writer.new) }
     ensures part { result ≡ Err RunFault.Write
-        → WritesPartOfTwo (R.left first.old) (R.left first.new)
+        → WritesPartOfTwo form (R.left first.old) (R.left first.new)
         (S.left second.old) (S.left second.new) (W.written writer.old) (W.written writer.new) }
     ensures nothing { IfErr result (λ fault. fault ≢ RunFault.Write → fault ≢ RunFault.Different
         → Keeps (W.written writer.old) (W.written writer.new)) }
@@ -116,7 +142,7 @@ pub fn run_diff_of_two<R: Source, S: Source, W: Sink>(
         (S.left second.old) (S.left second.new)) }
     ensures write { W.failures writer.new ≡ W.failures writer.old + write_failures result }
 {
-    let comparison = comparison_of_two(alloc, first, second)?;
+    let comparison = comparison_of_two(alloc, first, second, form)?;
     written(writer, comparison.text.as_slice())?;
     if comparison.alike {
         Ok(())
@@ -126,14 +152,15 @@ pub fn run_diff_of_two<R: Source, S: Source, W: Sink>(
 }
 
 /// How the reports that two readers have left compare.
-fn comparison_of_two<R: Source, S: Source>(
+pub(crate) fn comparison_of_two<R: Source, S: Source>(
     alloc: Global,
     first: &mut R,
     second: &mut S,
+    form: Form,
 ) -> Result<Comparison, RunFault>
     requires first { R.failures first.old < 2 ^ 64 - 1 }
     requires second { S.failures second.old < 2 ^ 64 - 1 }
-    ensures ok { IfOk result (ComparesTwoReports (R.left first.old) (R.left first.new)
+    ensures ok { IfOk result (ComparesTwoReports form (R.left first.old) (R.left first.new)
         (S.left second.old) (S.left second.new)) }
     ensures taken { ConsumesUpTo most_taken (R.left first.old) (R.left first.new)
         × ConsumesUpTo most_taken (S.left second.old) (S.left second.new) }
@@ -146,7 +173,7 @@ fn comparison_of_two<R: Source, S: Source>(
     let one = report_text(alloc, first)?;
     let other = report_text(alloc, second)?;
     match compare_two(alloc, one.as_slice(), other.as_slice()) {
-        Ok(comparison) => Ok(comparison),
+        Ok(comparison) => comparison_as(alloc, form, comparison),
         Err(DiffFault::Refused(why)) => Err(RunFault::Reports(ReportsFault::Refused(why))),
         Err(DiffFault::Memory) => Err(RunFault::Reports(ReportsFault::Memory)),
     }

@@ -2,21 +2,28 @@
 //! what that gave, or what stood in the way.
 #![tactic(auto)]
 
+mod checking;
 mod differing;
 mod ending;
+mod explaining;
 mod fault;
+mod forms;
 mod in_turn;
+mod making;
 mod session;
 mod showing;
 mod transfer;
 mod words;
 
+pub use checking::run_check;
 pub use differing::{run_diff, run_diff_of_two};
 pub use ending::{Ending, Stream, fault_ending, usage_ending, usage_text};
+pub use explaining::{run_diff_of_two_shown, run_diff_shown};
 pub use fault::{ReportsFault, RunFault};
+pub use making::{MakingFault, run_make};
 pub use session::{run, run_alone, told};
 pub use showing::run_show;
 pub use transfer::{Failed, FromStd, MOST_BYTES, Sink, Source, TextFault, read_text, write_text};
 pub use words::{
-    Files, Mode, Options, Request, Task, Usage, UsageKind, no_memory, not_text, read_words,
+    Files, Form, Mode, Options, Request, Task, Usage, UsageKind, no_memory, not_text, read_words,
 };

@@ -7,7 +7,7 @@ ghost use Rattle.trace_format.specs.Grammar.{fault};
 ghost use Rattle.trace_format.specs.Text.{IsRefusal, IsSpelled, SpellsTrace};
 ghost use Rattle.trace_format.specs.declared.fault.Kind.TheVariants.{Memory};
 ghost use Rattle.world_parts.specs.Part.{whole};
-ghost use Rattle.replay_program.specs.Runs.{IsAlone, IsNoComparison, ReadsTrace};
+ghost use Rattle.replay_program.specs.Runs.{IsAlone, IsModeOutput, IsNoComparison, ReadsTrace};
 ghost use Rattle.replay_program.specs.Runs.{ReplayWantsMemoryOrThread, TellsOfReading};
 ghost use Rattle.replay_core.specs.Comparing.{WantsMemoryOrThread};
 ghost use Rattle.depend_report.specs.Whole.{IsTextOf};
@@ -19,9 +19,10 @@ ghost use Rattle.replay_program.specs.Transfer.{AppendsPart, ConsumesUpTo};
 ghost use Rattle.replay_program.specs.Limits.{IsServed, IsWindow};
 
 use crate::fault::RunFault;
+use crate::forms::pieces_as;
 use crate::in_turn::serial_report;
 use crate::transfer::{Sink, Source, TextFault, read_text, write_text};
-use crate::words::{Mode, Options};
+use crate::words::{Form, Mode, Options};
 use depend_report::{depends_graph, depends_text};
 use replay_core::parallel::replay;
 use replay_core::quick::replay_quick;
@@ -41,15 +42,16 @@ pub fn run_alone<R: Source, W: Sink>(
     reader: &mut R,
     writer: &mut W,
     options: &Options,
+    form: Form,
 ) -> Result<(), RunFault>
     requires mode { IsAlone options.now.mode }
     requires reader { R.failures reader.old < 2 ^ 64 - 1 }
     requires writer { W.failures writer.old < 2 ^ 64 - 1 }
 
     // The output is the one of the trace that the reader's bytes spell.
-    ensures done { OnOk result (WritesOutput options.now (R.left reader.old) (R.left reader.new)
-        (W.written writer.old) (W.written writer.new)) }
-    ensures part { result ≡ Err RunFault.Write → WritesPart options.now (R.left reader.old)
+    ensures done { OnOk result (WritesOutput options.now form (R.left reader.old)
+        (R.left reader.new) (W.written writer.old) (W.written writer.new)) }
+    ensures part { result ≡ Err RunFault.Write → WritesPart options.now form (R.left reader.old)
         (R.left reader.new) (W.written writer.old) (W.written writer.new) }
     ensures nothing { IfErr result (λ fault. fault ≢ RunFault.Write
         → Keeps (W.written writer.old) (W.written writer.new)) }
@@ -60,26 +62,28 @@ pub fn run_alone<R: Source, W: Sink>(
     ensures write { W.failures writer.new ≡ W.failures writer.old + write_failures result }
 {
     let trace = taken_trace(alloc, reader)?;
-    let output = output_alone(alloc, &trace, options)?;
+    let output = output_alone(alloc, &trace, options, form)?;
     written_pieces(writer, &output)
 }
 
-/// The same in every mode: those that ask for workers run in rounds on threads.
+/// The same in every mode: those that ask for workers run in rounds on threads. A check is of
+/// versions 1 and 2 here; [`crate::run_check`] takes every version.
 pub fn run<T: Threads + Wait + Sync, R: Source, W: Sink>(
     rt: &T,
     alloc: Global,
     reader: &mut R,
     writer: &mut W,
     options: &Options,
+    form: Form,
 ) -> Result<(), RunFault>
     requires mode { IsServed options.now.mode }
     requires reader { R.failures reader.old < 2 ^ 64 - 1 }
     requires writer { W.failures writer.old < 2 ^ 64 - 1 }
 
     // The output is the one of the trace that the reader's bytes spell.
-    ensures done { OnOk result (WritesOutput options.now (R.left reader.old) (R.left reader.new)
-        (W.written writer.old) (W.written writer.new)) }
-    ensures part { result ≡ Err RunFault.Write → WritesPart options.now (R.left reader.old)
+    ensures done { OnOk result (WritesOutput options.now form (R.left reader.old)
+        (R.left reader.new) (W.written writer.old) (W.written writer.new)) }
+    ensures part { result ≡ Err RunFault.Write → WritesPart options.now form (R.left reader.old)
         (R.left reader.new) (W.written writer.old) (W.written writer.new) }
     ensures nothing { IfErr result (λ fault. fault ≢ RunFault.Write → fault ≢ RunFault.Different
         → Keeps (W.written writer.old) (W.written writer.new)) }
@@ -100,12 +104,30 @@ pub fn run<T: Threads + Wait + Sync, R: Source, W: Sink>(
         let verdict = comparison(rt, alloc, &trace, workers, window, eager)?;
         return told(alloc, writer, verdict);
     }
-    let output = output_in_rounds(rt, alloc, &trace, options)?;
+    let output = output_in_rounds(rt, alloc, &trace, options, form)?;
     written_pieces(writer, &output)
 }
 
-/// The output of any mode but a comparison.
+/// The output of any mode but a comparison, in the form that is asked for.
 fn output_in_rounds<T: Threads + Wait + Sync>(
+    rt: &T,
+    alloc: Global,
+    trace: &Trace,
+    options: &Options,
+    form: Form,
+) -> Result<Pieces, RunFault>
+    requires trace { IsSpelled trace.now }
+    requires mode { IsServed options.now.mode }
+    requires report { IsNoComparison options.now.mode }
+    ensures ok { IfOk result (λ output. IsOutputOf options.now form trace.now output) }
+    ensures err { IfErr result ReplayWantsMemoryOrThread }
+{
+    let text = text_in_rounds(rt, alloc, trace, options)?;
+    pieces_as(alloc, form, text)
+}
+
+/// The text of any mode but a comparison.
+fn text_in_rounds<T: Threads + Wait + Sync>(
     rt: &T,
     alloc: Global,
     trace: &Trace,
@@ -114,7 +136,8 @@ fn output_in_rounds<T: Threads + Wait + Sync>(
     requires trace { IsSpelled trace.now }
     requires mode { IsServed options.now.mode }
     requires report { IsNoComparison options.now.mode }
-    ensures ok { IfOk result (λ output. IsOutputOf options.now trace.now output) }
+    ensures ok { IfOk result
+        (λ text. IsModeOutput options.now.mode options.now.shown trace.now text) }
     ensures err { IfErr result ReplayWantsMemoryOrThread }
 {
     match options.mode {
@@ -130,7 +153,7 @@ fn output_in_rounds<T: Threads + Wait + Sync>(
         Mode::Rounds { window, dot } => {
             rounds_output(rt, alloc, trace, window, dot).map_err(RunFault::Replay)
         }
-        _ => output_alone(alloc, trace, options),
+        _ => text_alone(alloc, trace, options),
     }
 }
 
@@ -288,7 +311,7 @@ pub(crate) fn taken_trace<R: Source>(alloc: Global, reader: &mut R) -> Result<Bo
 }
 
 /// Memory ran out before the trace was there.
-fn no_memory() -> TraceFault
+pub(crate) fn no_memory() -> TraceFault
     ensures { result ≡ fault Memory 0 }
 {
     TraceFault {
@@ -298,7 +321,7 @@ fn no_memory() -> TraceFault
 }
 
 /// The trace of a text, in a box: its owners let it go in one step.
-fn trace_in(alloc: Global, text: Vec<u8>) -> Result<Box<Trace>, TraceFault>
+pub(crate) fn trace_in(alloc: Global, text: Vec<u8>) -> Result<Box<Trace>, TraceFault>
     ensures trace { IfOk result (λ t. SpellsTrace text.items t.value) }
     ensures fault { IfErr result (λ f. (f ≡ fault Memory 0) ⊎ IsRefusal text.items f) }
 {
@@ -308,11 +331,28 @@ fn trace_in(alloc: Global, text: Vec<u8>) -> Result<Box<Trace>, TraceFault>
     }
 }
 
-/// The output of a mode that needs no thread.
-fn output_alone(alloc: Global, trace: &Trace, options: &Options) -> Result<Pieces, RunFault>
+/// The output of a mode that needs no thread, in the form that is asked for.
+fn output_alone(
+    alloc: Global,
+    trace: &Trace,
+    options: &Options,
+    form: Form,
+) -> Result<Pieces, RunFault>
     requires trace { IsSpelled trace.now }
     requires mode { IsAlone options.now.mode }
-    ensures ok { IfOk result (λ output. IsOutputOf options.now trace.now output) }
+    ensures ok { IfOk result (λ output. IsOutputOf options.now form trace.now output) }
+    ensures err { IfErr result (λ fault. fault ≡ RunFault.Replay ReplayFault.Memory) }
+{
+    let text = text_alone(alloc, trace, options)?;
+    pieces_as(alloc, form, text)
+}
+
+/// The text of a mode that needs no thread.
+fn text_alone(alloc: Global, trace: &Trace, options: &Options) -> Result<Pieces, RunFault>
+    requires trace { IsSpelled trace.now }
+    requires mode { IsAlone options.now.mode }
+    ensures ok { IfOk result
+        (λ text. IsModeOutput options.now.mode options.now.shown trace.now text) }
     ensures err { IfErr result (λ fault. fault ≡ RunFault.Replay ReplayFault.Memory) }
 {
     match options.mode {

@@ -130,18 +130,16 @@ pub fn read_text<S: Source>(alloc: Global, source: &mut S) -> Result<Vec<u8>, Te
     ensures memory { result ≡ Err TextFault.Memory → S.failures source.new ≡ S.failures source.old }
 {
     let mut text = Vec::new(alloc);
+    let mut piece = [0; PIECE];
     while text.len() < MOST_BYTES {
-        let len = text.len();
-        let room = PIECE.min(MOST_BYTES - len);
-        if text.resize(len + room, 0).is_err() {
-            return Err(TextFault::Memory);
-        }
-        match source.read_some(&mut text[len..]) {
-            Ok(0) => {
-                text.truncate(len);
-                return Ok(text);
+        let room = PIECE.min(MOST_BYTES - text.len());
+        match source.read_some(&mut piece[..room]) {
+            Ok(0) => return Ok(text),
+            Ok(count) => {
+                if text.extend_from_slice(&piece[..count]).is_err() {
+                    return Err(TextFault::Memory);
+                }
             }
-            Ok(count) => text.truncate(len + count),
             Err(Failed) => return Err(TextFault::Read),
         }
     }

@@ -1,6 +1,6 @@
 //! The words of the command line.
 ghost use Rattle.std.specs.Prelude.{◌≡◌, ◌≤◌, ◌⊎◌, ℕ, string_bytes, IfOk, IsErrAnd, MatchResult};
-ghost use Rattle.std.specs.Prelude.{Some, map};
+ghost use Rattle.std.specs.Prelude.{Some, codes, map};
 ghost use Rattle.std.specs.Fmt.{decimal};
 ghost use Rattle.clap.specs.Words.{App, FailsBy, app_of, fault_of, found_of, kind_of, one_text};
 ghost use Rattle.clap.specs.Words.{subcommand_rows_of, with_rule, with_subcommand};
@@ -9,7 +9,9 @@ ghost use Rattle.replay_program.specs.Words.{FailsByRules, GivesHelp, GivesTask,
 ghost use Rattle.replay_program.specs.Words.{HasApp, HasNoFiles, HasNoNames, IsFound, IsRequestFor};
 ghost use Rattle.replay_program.specs.Words.{HasShown, HasSums, IsTaskFound, all_sums_flag};
 ghost use Rattle.replay_program.specs.Words.{names_flag};
-ghost use Rattle.replay_program.specs.Words.{HasLook, first_option, places_flag, show_command};
+ghost use Rattle.replay_program.specs.Words.{HasLook, first_option, make_command, places_flag};
+ghost use Rattle.replay_program.specs.Words.{show_command, show_option};
+ghost use Rattle.replay_program.specs.Words.{IsForm, form_of_flag, json_flag, text_in, with_form};
 ghost use Rattle.replay_program.specs.Words.{IsRule, IsServedTask, check_command, compare_command};
 ghost use Rattle.replay_program.specs.Words.{depends_command, diff_command, dot_flag, eager_flag};
 ghost use Rattle.replay_program.specs.Words.{file_argument};
@@ -77,6 +79,8 @@ pub enum Task {
     Diff,
     /// A trace as text.
     Show(Look),
+    /// A trace from text.
+    Make,
 }
 
 /// The names of files that the words give. No name, and for an input the name `-`, stands for
@@ -86,14 +90,26 @@ pub struct Files<'a> {
     pub input: Option<&'a str>,
     /// The second report of a comparison; where it has no name, both come from the first input.
     pub second: Option<&'a str>,
+    /// The trace whose entries a comparison shows.
+    pub trace: Option<&'a str>,
     pub output: Option<&'a str>,
 }
 
-/// A task, and the files that it reads and writes.
+/// The form of an output.
+#[derive(Clone, Copy, Debug, PartialEq, Eq)]
+pub enum Form {
+    /// Lines of words.
+    Text,
+    /// An object of JSON for each of these lines.
+    Json,
+}
+
+/// A task, the files that it reads and writes, and the form of what it writes.
 #[derive(Clone, Copy, Debug, PartialEq, Eq)]
 pub struct Request<'a> {
     pub task: Task,
     pub files: Files<'a>,
+    pub form: Form,
 }
 
 /// The version of the program, and of the formats that it reads and writes. It stands here alone.
@@ -109,13 +125,16 @@ const STATUSES: &str = "Examples:
 
 Exit status:
   0  done
-  1  the input is not a trace, or not two reports
+  1  the input is not a trace, not the text of one, or not two reports
   2  invalid command line
   3  out of memory, no thread, or an input or output error
   4  `compare` or `diff` found a difference";
 
 /// What the help of a command that reads a trace says of its input.
 const TRACE: &str = "The trace; `-` or nothing: standard input";
+
+/// What that of `make` says of its input.
+const TEXT: &str = "The text; `-` or nothing: standard input";
 
 /// What that of `diff` says of its inputs.
 const FIRST_REPORT: &str = "The first report, or both in one file; `-` or nothing: standard input";
@@ -154,13 +173,13 @@ const MOST_PLACES: u32 = 4096;
 
 /// Reads the words after the program's name: `serial` and `run`, each with `--sums`, `--all-sums` and
 /// `--names` or without, `compare`, `rounds` and `depends`, with `--dot` or without, `show` with `--places`
-/// or without, `check` or `diff`. `run` and
+/// or without, `check`, `make` or `diff`. `run` and
 /// `compare` come with the numbers of workers and of places or without, `rounds` with that of places.
-/// Each has the names of its input and output or not. Any other words are wrong, unless they ask for
-/// help or for the version.
+/// Each has the names of its input and output or not. Each but `compare`, `show` and `make` comes with
+/// `--json` or without. Any other words are wrong, unless they ask for help or for the version.
 pub fn read_words<'a>(alloc: Global, words: &'a [&'a str]) -> Result<Request<'a>, Usage>
-    ensures task { (task : Task) → AskFor task (map (λ word. word.now) words.now)
-        → GivesTask result task }
+    ensures task { (form : Form) (task : Task) → AskFor form task (map (λ word. word.now) words.now)
+        → GivesTask result form task }
     ensures help { AskForHelp (map (λ word. word.now) words.now) → GivesHelp result }
     ensures version { AskForVersion (map (λ word. word.now) words.now) → GivesVersion result }
     ensures served { IfOk result (λ request. IsServedTask request.task) }
@@ -175,8 +194,8 @@ pub fn read_words<'a>(alloc: Global, words: &'a [&'a str]) -> Result<Request<'a>
 }
 
 fn parsed<'a>(alloc: Global, words: &'a [&'a str]) -> Result<Request<'a>, Error>
-    ensures task { (task : Task) → AskFor task (map (λ word. word.now) words.now)
-        → MatchResult result (IsRequestFor task)
+    ensures task { (form : Form) (task : Task) → AskFor form task (map (λ word. word.now) words.now)
+        → MatchResult result (IsRequestFor form task)
         (λ error. kind_of error ≡ ErrorKind.OutOfMemory) }
     ensures help { AskForHelp (map (λ word. word.now) words.now) → IsErrAnd result (λ error.
         (kind_of error ≡ ErrorKind.DisplayHelp) ⊎ (kind_of error ≡ ErrorKind.OutOfMemory)) }
@@ -194,14 +213,32 @@ fn parsed<'a>(alloc: Global, words: &'a [&'a str]) -> Result<Request<'a>, Error>
 
 /// What the subcommand that was named asks for.
 fn request_in<'a>(matches: &ArgMatches<'a>) -> Request<'a>
-    ensures task { (task : Task) → IsFound task (subcommand_rows_of matches.now)
-        → IsRequestFor task result }
+    ensures task { (form : Form) (task : Task) → IsFound form task (subcommand_rows_of matches.now)
+        → IsRequestFor form task result }
     ensures served { IsServedTask result.task }
 {
     Request {
         task: task_in(matches),
         files: files_in(matches),
+        form: form_in(matches),
     }
+}
+
+/// The form that is asked for.
+fn form_in(matches: &ArgMatches<'_>) -> Form
+    ensures { (form : Form) → IsForm form (text_in (codes "json") (subcommand_rows_of matches.now))
+        → result ≡ form }
+{
+    match matches.subcommand() {
+        Some((_, chosen)) => form_of_flag(chosen.get_flag("json")),
+        None => Form::Text,
+    }
+}
+
+fn form_of_flag(json: bool) -> Form
+    ensures { result ≡ form_of_flag json }
+{
+    if json { Form::Json } else { Form::Text }
 }
 
 /// The files that are named behind the subcommand.
@@ -212,11 +249,13 @@ fn files_in<'a>(matches: &ArgMatches<'a>) -> Files<'a>
         Some((_, chosen)) => Files {
             input: chosen.get_str("file"),
             second: chosen.get_str("second"),
+            trace: chosen.get_str("show"),
             output: chosen.get_str("output"),
         },
         None => Files {
             input: None,
             second: None,
+            trace: None,
             output: None,
         },
     }
@@ -231,6 +270,7 @@ fn task_in(matches: &ArgMatches<'_>) -> Task
     match matches.subcommand() {
         Some(("diff", _)) => Task::Diff,
         Some(("show", chosen)) => Task::Show(look_in(chosen)),
+        Some(("make", _)) => Task::Make,
         _ => Task::Replay(options_in(matches)),
     }
 }
@@ -334,12 +374,16 @@ fn program<'a>(alloc: Global) -> Result<Command<'a>, AllocError>
     ensures { IfOk result (λ command. app_of command ≡ replayer) }
 {
     let command = with_replays(alloc, program_alone(alloc)?)?;
-    let command = with_subcommand(command, with_files(alloc, TRACE, rounds_command(alloc)))?;
-    let command = with_subcommand(command, with_files(alloc, TRACE, depends_command(alloc)))?;
-    let command = with_subcommand(command, with_files(alloc, TRACE, Ok(check_command(alloc))))?;
+    let rounds = with_files(alloc, TRACE, rounds_command(alloc));
+    let command = with_subcommand(command, with_form(alloc, rounds))?;
+    let depends = with_files(alloc, TRACE, depends_command(alloc));
+    let command = with_subcommand(command, with_form(alloc, depends))?;
+    let check = with_files(alloc, TRACE, Ok(check_command(alloc)));
+    let command = with_subcommand(command, with_form(alloc, check))?;
     let command = with_subcommand(command, with_files(alloc, TRACE, show_command(alloc)))?;
-    let reports = with_files(alloc, FIRST_REPORT, Ok(diff_command(alloc)));
-    with_subcommand(command, with_second(alloc, reports))
+    let command = with_subcommand(command, with_files(alloc, TEXT, Ok(make_command(alloc))))?;
+    let reports = with_files(alloc, FIRST_REPORT, diff_command(alloc));
+    with_subcommand(command, with_form(alloc, with_second(alloc, reports)))
 }
 
 /// A command line with a subcommand more, where there was memory for that.
@@ -378,6 +422,17 @@ fn with_second<'a>(
     command?.arg(second_argument(alloc))
 }
 
+/// A command whose output may be JSON.
+fn with_form<'a>(
+    alloc: Global,
+    command: Result<Command<'a>, AllocError>,
+) -> Result<Command<'a>, AllocError>
+    ensures { (app : App) → IfOk command.entry (HasApp app)
+        → IfOk result (λ more. HasApp (with_form app) more) }
+{
+    command?.arg(json_flag(alloc))
+}
+
 /// The command line with no subcommand.
 fn program_alone<'a>(alloc: Global) -> Result<Command<'a>, AllocError>
     ensures { IfOk result (λ command. app_of command ≡ replayer_alone) }
@@ -396,8 +451,10 @@ fn program_alone<'a>(alloc: Global) -> Result<Command<'a>, AllocError>
 fn with_replays<'a>(alloc: Global, command: Command<'a>) -> Result<Command<'a>, AllocError>
     ensures { IfOk result (λ more. app_of more ≡ with_replays (app_of command.entry)) }
 {
-    let command = with_subcommand(command, with_files(alloc, TRACE, serial_command(alloc)))?;
-    let command = with_subcommand(command, with_files(alloc, TRACE, run_command(alloc)))?;
+    let serial = with_files(alloc, TRACE, serial_command(alloc));
+    let command = with_subcommand(command, with_form(alloc, serial))?;
+    let run = with_files(alloc, TRACE, run_command(alloc));
+    let command = with_subcommand(command, with_form(alloc, run))?;
     with_subcommand(command, with_files(alloc, TRACE, compare_command(alloc)))
 }
 
@@ -476,12 +533,21 @@ fn show_command<'a>(alloc: Global) -> Result<Command<'a>, AllocError>
         .arg(first_option(alloc))
 }
 
-fn diff_command<'a>(alloc: Global) -> Command<'a>
-    ensures { HasApp diff_command result }
+fn make_command<'a>(alloc: Global) -> Command<'a>
+    ensures { HasApp make_command result }
+{
+    Command::new(alloc, "make")
+        .after_help("Example: uring_replay make a.text --output a.trace")
+        .about("Make a trace from the text that `show` prints or a person wrote")
+}
+
+fn diff_command<'a>(alloc: Global) -> Result<Command<'a>, AllocError>
+    ensures { IfOk result (λ command. HasApp diff_command command) }
 {
     Command::new(alloc, "diff")
         .after_help("Example: uring_replay diff a.report b.report")
         .about("Compare two reports. What only one of them tells is no difference")
+        .arg(show_option(alloc))
 }
 
 fn sums_flag<'a>(alloc: Global) -> Arg<'a>
@@ -520,6 +586,15 @@ fn dot_flag<'a>(alloc: Global) -> Arg<'a>
         .help("Print a graph for graphviz")
 }
 
+fn json_flag<'a>(alloc: Global) -> Arg<'a>
+    ensures { IsRule json_flag result }
+{
+    Arg::new(alloc, "json")
+        .long("json")
+        .action(ArgAction::SetTrue)
+        .help("Print each line as an object of JSON")
+}
+
 fn places_flag<'a>(alloc: Global) -> Arg<'a>
     ensures { IsRule places_flag result }
 {
@@ -537,6 +612,15 @@ fn first_option<'a>(alloc: Global) -> Arg<'a>
         .value_name("N")
         .value_parser(value_parser!(u32).range(1..=1_073_741_824))
         .help("Print the first N bytes alone of each file, entry and fill")
+}
+
+fn show_option<'a>(alloc: Global) -> Arg<'a>
+    ensures { IsRule show_option result }
+{
+    Arg::new(alloc, "show")
+        .long("show")
+        .value_name("TRACE")
+        .help("Print the entry of this trace below each line that differs and is of one")
 }
 
 fn workers_option<'a>(alloc: Global) -> Arg<'a>

@@ -2,5 +2,4 @@ pub mod Ascii
 pub mod RingTextsLemmas
 pub mod ReportLemmas
 mod SumLemmas
-mod NameLemmas
 mod TreeSumLemmas

@@ -15,7 +15,8 @@ use Rattle.world_parts.specs.declared.image.SlotEntry.{SlotEntry}
 use Rattle.world_parts.specs.declared.image.DescriptorEntry.{DescriptorEntry}
 use Rattle.world_parts.specs.declared.image.BufferEntry.{BufferEntry}
 use Rattle.op_meaning.specs.declared.reply.Reply.{Reply}
-use Rattle.replay_report.specs.Names.{errno_name, opcode_name}
+use Rattle.text_forms.specs.Names.{opcode_name}
+use Rattle.replay_report.specs.Names.{errno_name}
 use Rattle.replay_report.specs.TreeSum.{most_summed, tree_sum}
 use Rattle.replay_report.specs.declared.showing.Shown.{Shown}
 use Rattle.replay_report.specs.declared.showing.SumsShown.{SumsShown}

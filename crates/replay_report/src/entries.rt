@@ -4,8 +4,9 @@ ghost use Rattle.replay_report.specs.Report.{entry_line, error_text, named_fact,
 
 use crate::answer::Answer;
 use crate::entry_line::push_facts;
-use crate::names::{errno_name, opcode_name};
+use crate::names::errno_name;
 use std::alloc::AllocError;
+use text_forms::opcode_name;
 use trace_format::Entry;
 
 /// Puts the line of an entry behind a text.

@@ -19,7 +19,11 @@ pub fn escaped(alloc: Global, path: &[u8]) -> Result<String, AllocError>
 }
 
 /// Adds a path with its unprintable bytes by their numbers.
-pub(crate) fn push_escaped(text: &mut Vec<u8>, path: &[u8]) -> Result<(), AllocError>
+///
+/// # Errors
+///
+/// Out of memory.
+pub fn push_escaped(text: &mut Vec<u8>, path: &[u8]) -> Result<(), AllocError>
     ensures { OnOk result (text.new.items ≡ text.old.items ++ escaped path.now) }
 {
     let mut done = 0;

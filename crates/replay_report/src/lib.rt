@@ -20,7 +20,7 @@ mod world_lines;
 mod zeros;
 
 pub use answer::Answer;
-pub use escaping::escaped;
+pub use escaping::{escaped, push_escaped};
 pub use pieces::{Piece, Pieces};
 pub use report::{check_text, report_of_texts, report_on, report_text};
 pub use ring_texts::RingTexts;

@@ -1,74 +1,8 @@
-//! The names of operations and of errors.
+//! The names of errors.
 ghost use Rattle.std.specs.Prelude.{◌≡◌};
-ghost use Rattle.replay_report.specs.Names.{errno_name, opcode_name};
+ghost use Rattle.replay_report.specs.Names.{errno_name};
 
-/// The operations by their numbers, as io_uring_enter(2) and `linux/io_uring.h` name them, without
-/// the prefix `IORING_OP_`.
-const OPCODES: [&str; 63] = [
-    "NOP",
-    "READV",
-    "WRITEV",
-    "FSYNC",
-    "READ_FIXED",
-    "WRITE_FIXED",
-    "POLL_ADD",
-    "POLL_REMOVE",
-    "SYNC_FILE_RANGE",
-    "SENDMSG",
-    "RECVMSG",
-    "TIMEOUT",
-    "TIMEOUT_REMOVE",
-    "ACCEPT",
-    "ASYNC_CANCEL",
-    "LINK_TIMEOUT",
-    "CONNECT",
-    "FALLOCATE",
-    "OPENAT",
-    "CLOSE",
-    "FILES_UPDATE",
-    "STATX",
-    "READ",
-    "WRITE",
-    "FADVISE",
-    "MADVISE",
-    "SEND",
-    "RECV",
-    "OPENAT2",
-    "EPOLL_CTL",
-    "SPLICE",
-    "PROVIDE_BUFFERS",
-    "REMOVE_BUFFERS",
-    "TEE",
-    "SHUTDOWN",
-    "RENAMEAT",
-    "UNLINKAT",
-    "MKDIRAT",
-    "SYMLINKAT",
-    "LINKAT",
-    "MSG_RING",
-    "FSETXATTR",
-    "SETXATTR",
-    "FGETXATTR",
-    "GETXATTR",
-    "SOCKET",
-    "URING_CMD",
-    "SEND_ZC",
-    "SENDMSG_ZC",
-    "READ_MULTISHOT",
-    "WAITID",
-    "FUTEX_WAIT",
-    "FUTEX_WAKE",
-    "FUTEX_WAITV",
-    "FIXED_FD_INSTALL",
-    "FTRUNCATE",
-    "BIND",
-    "LISTEN",
-    "RECV_ZC",
-    "EPOLL_WAIT",
-    "READV_FIXED",
-    "WRITEV_FIXED",
-    "PIPE",
-];
+use text_forms::name_at;
 
 /// The errors by their numbers, as `asm-generic/errno-base.h` and `asm-generic/errno.h` name them:
 /// nothing where a number has no error.
@@ -209,28 +143,9 @@ const ERRORS: [&str; 134] = [
     "EHWPOISON",
 ];
 
-/// The name of an operation: nothing for a number that none has.
-#[tactic(auto, unfolding(crate::specs::Names::opcode_name, crate::specs::Names::opcode_names))]
-pub(crate) fn opcode_name(opcode: u8) -> &'static str
-    ensures { result.now ≡ opcode_name opcode }
-{
-    let number = opcode as usize;
-    if number < OPCODES.len() {
-        OPCODES[number]
-    } else {
-        ""
-    }
-}
-
 /// The name of an error: nothing for a number that none has.
-#[tactic(auto, unfolding(crate::specs::Names::errno_name, crate::specs::Names::errno_names))]
 pub(crate) fn errno_name(code: u32) -> &'static str
     ensures { result.now ≡ errno_name code }
 {
-    let number = code as usize;
-    if number < ERRORS.len() {
-        ERRORS[number]
-    } else {
-        ""
-    }
+    name_at(&ERRORS, code as usize)
 }

@@ -4,8 +4,8 @@ ghost use Rattle.replay_program.specs.Limits.{IsServed};
 use crate::examples::{NEIGHBOURING_WRITES_DO_NOT_COLLIDE, READ_FOUR_BYTES};
 use replay_core::{ReplayFault, Verdict};
 use replay_program::{
-    Files, FromStd, Mode, Options, ReportsFault, RunFault, Task, read_words, run, run_alone,
-    run_diff, run_diff_of_two, told,
+    Files, Form, FromStd, Mode, Options, ReportsFault, RunFault, Task, read_words, run, run_alone,
+    run_diff, run_diff_of_two, run_diff_shown, told,
 };
 use replay_report::{Shown, SumsShown};
 use report_diff::{Flaw, Refusal, Side};
@@ -84,16 +84,18 @@ fn depends_with(dot: bool) -> Options {
 const NO_FILES: Files<'static> = Files {
     input: None,
     second: None,
+    trace: None,
     output: None,
 };
 
 #[test]
 fn reads_names_of_files(rt: HostRuntime) {
-    let words = ["diff", "a", "-o", "c", "-"];
+    let words = ["diff", "a", "-o", "c", "-", "--show", "b"];
     let request = read_words(rt.alloc(), &words).expect(&rt, "a task");
     let files = Files {
         input: Some("a"),
         second: Some("-"),
+        trace: Some("b"),
         output: Some("c"),
     };
     assert_eq!(rt; request.task, Task::Diff);
@@ -200,7 +202,7 @@ fn output_on_workers<R: Abort + AllocGlobal + Threads + Wait + Sync>(
     let options = Options { mode, shown: PLAIN };
     let mut reader = FromStd::new(trace.as_slice());
     let mut writer = FromStd::new(Vec::new(alloc));
-    let done = run(rt, alloc, &mut reader, &mut writer, &options);
+    let done = run(rt, alloc, &mut reader, &mut writer, &options, Form::Text);
     assert_eq!(rt; done, Ok(()));
     assert_eq!(rt; writer.stream.as_slice(), output.as_bytes());
 }
@@ -286,11 +288,30 @@ fn compares_two_reports(rt: HostRuntime) {
         "uring-report 1\n0 user=7 res=4 posted\nend\nuring-report 1\n0 user=7 res=5 posted op=1\nend\n";
     let mut reader = FromStd::new(reports.as_bytes());
     let mut writer = FromStd::new(Vec::new(alloc));
-    let done = run_diff(alloc, &mut reader, &mut writer);
+    let done = run_diff(alloc, &mut reader, &mut writer, Form::Text);
     assert_eq!(rt; done, Err(RunFault::Different));
     let text = format!(in alloc;
         "- 0 user=7 res=4 posted\n+ 0 user=7 res=5 posted op=1\nentries 0 equal, 1 different, 0 outside\n{counts}"
     ).expect(&rt, "memory");
+    assert_eq!(rt; writer.stream.as_slice(), text.as_bytes());
+}
+
+#[test]
+fn tells_a_comparison_as_json(rt: HostRuntime) {
+    let alloc = rt.alloc();
+    let reports =
+        "uring-report 1\n0 user=7 res=4 posted\nend\nuring-report 1\n0 user=7 res=-5 silent x=\"\nend\n";
+    let mut reader = FromStd::new(reports.as_bytes());
+    let mut writer = FromStd::new(Vec::new(alloc));
+    let done = run_diff(alloc, &mut reader, &mut writer, Form::Json);
+    assert_eq!(rt; done, Err(RunFault::Different));
+    let text =
+        "{\"sign\":\"-\",\"kind\":\"entry\",\"place\":0,\"user\":\"7\",\"res\":4,\"posted\":true}\n\
+        {\"sign\":\"+\",\"kind\":\"entry\",\"place\":0,\"user\":\"7\",\"res\":-5,\"posted\":false,\"x\":\"\\\"\"}\n\
+        {\"kind\":\"entries\",\"equal\":0,\"different\":1,\"outside\":0}\n\
+        {\"kind\":\"tree\",\"equal\":0,\"different\":0,\"outside\":0}\n\
+        {\"kind\":\"slots\",\"equal\":0,\"different\":0,\"outside\":0}\n\
+        {\"kind\":\"buffers\",\"equal\":0,\"different\":0,\"outside\":0}\n";
     assert_eq!(rt; writer.stream.as_slice(), text.as_bytes());
 }
 
@@ -300,11 +321,34 @@ fn compares_the_reports_of_two_readers(rt: HostRuntime) {
     let mut first = FromStd::new("uring-report 1\n0 user=7 res=4 posted\nend\n".as_bytes());
     let mut second = FromStd::new("uring-report 1\n0 user=7 res=4 silent\nend\n".as_bytes());
     let mut writer = FromStd::new(Vec::new(alloc));
-    let done = run_diff_of_two(alloc, &mut first, &mut second, &mut writer);
+    let done = run_diff_of_two(alloc, &mut first, &mut second, &mut writer, Form::Text);
     assert_eq!(rt; done, Err(RunFault::Different));
     let text = "- 0 user=7 res=4 posted\n\
         + 0 user=7 res=4 silent\n\
         entries 0 equal, 1 different, 0 outside\n\
+        tree 0 equal, 0 different, 0 outside\n\
+        slots 0 equal, 0 different, 0 outside\n\
+        buffers 0 equal, 0 different, 0 outside\n";
+    assert_eq!(rt; writer.stream.as_slice(), text.as_bytes());
+}
+
+#[test]
+fn shows_the_entry_of_a_line_that_differs(rt: HostRuntime) {
+    let alloc = rt.alloc();
+    let trace = hex::decode(alloc, READ_FOUR_BYTES.trace).expect(&rt, "a trace");
+    let mut trace = FromStd::new(trace.as_slice());
+    let reports =
+        "uring-report 1\n0 user=7 res=4\nend\nuring-report 1\n0 user=7 res=5\n1 user=8 res=0\nend\n";
+    let mut reader = FromStd::new(reports.as_bytes());
+    let mut writer = FromStd::new(Vec::new(alloc));
+    let done = run_diff_shown(alloc, &mut trace, &mut reader, &mut writer);
+    assert_eq!(rt; done, Err(RunFault::Different));
+    let text = "- 0 user=7 res=4\n\
+        \x20 READ FIXED_FILE off=2 len=4 user_data=7\n\
+        + 0 user=7 res=5\n\
+        \x20 READ FIXED_FILE off=2 len=4 user_data=7\n\
+        + 1 user=8 res=0\n\
+        entries 0 equal, 2 different, 0 outside\n\
         tree 0 equal, 0 different, 0 outside\n\
         slots 0 equal, 0 different, 0 outside\n\
         buffers 0 equal, 0 different, 0 outside\n";
@@ -317,7 +361,7 @@ fn writes_nothing_for_one_report(rt: HostRuntime) {
     let report = "uring-report 1\nring 0\nend\n";
     let mut reader = FromStd::new(report.as_bytes());
     let mut writer = FromStd::new(Vec::new(alloc));
-    let done = run_diff(alloc, &mut reader, &mut writer);
+    let done = run_diff(alloc, &mut reader, &mut writer, Form::Text);
     let heading = Refusal {
         side: Side::Second,
         flaw: Flaw::Heading,
@@ -333,7 +377,7 @@ fn writes_nothing_for_a_refused_trace(rt: HostRuntime) -> Result<(), Fail> {
     let trace = hex::decode(alloc, READ_FOUR_BYTES.trace).expect(&rt, "a trace");
     let mut reader = FromStd::new(trace.as_slice().get(..176).ok_or("176 bytes")?);
     let mut writer = FromStd::new(Vec::new(alloc));
-    let done = run_alone(alloc, &mut reader, &mut writer, &SERIAL);
+    let done = run_alone(alloc, &mut reader, &mut writer, &SERIAL, Form::Text);
     let short = TraceFault {
         kind: Kind::Short,
         at: 176,

@@ -7,9 +7,10 @@ ghost use Rattle.round_report.specs.Rounds.{arrow, arrow_line, graph_text, log_m
 ghost use Rattle.round_report.specs.Rounds.{place_node, quoted, quoted_byte};
 ghost use Rattle.world_parts.specs.Uses.{item_meant};
 
-use crate::naming::item_text;
+use crate::naming::push_item;
 use replay_core::round_log::{RoundLog, WaitedFor};
 use std::alloc::{AllocError, Global};
+use text_forms::push_bytes;
 use trace_format::Trace;
 use world_parts::Item;
 
@@ -100,18 +101,12 @@ pub fn push_arrow_line(
     ensures { OnOk result (text.new.items ≡ text.old.items
         ++ arrow_line trace.now earlier place (item_meant item.now)) }
 {
-    let item = item_text(alloc, trace, item)?;
+    let mut name = Vec::new(alloc);
+    push_item(&mut name, trace, item)?;
     let head = format!(in alloc; "  {earlier} -> {place} [label=\"")?;
     push_bytes(text, head.as_bytes())?;
-    push_quoted(text, item.as_bytes())?;
+    push_quoted(text, name.as_slice())?;
     push_bytes(text, b"\"];\n")
-}
-
-fn push_bytes(text: &mut Vec<u8>, more: &[u8]) -> Result<(), AllocError>
-    ensures { OnOk result (text.new.items ≡ text.old.items ++ more.now) }
-{
-    text.extend_from_slice(more)?;
-    Ok(())
 }
 
 /// A text inside quotation marks: those that it has, and backslashes, stand behind a backslash.

@@ -1,6 +1,7 @@
 -- What is left of pieces behind one byte more.
 use Rattle.std.proofs.Common.{◌≡◌, ℕ, zero, suc, ◌+◌, ◌-◌, ◌<◌, ◌≤◌, eqb, true, false, List, [], ◌∷◌, ◌++◌, length, take, drop, get_or, refl, sym, ap, ◌∙◌, append_assoc, arith}
-use Rattle.std.specs.Prelude.{nat_le}
+use Rattle.std.specs.Prelude.{nat_le, ◌≢◌}
+use Rattle.std.proofs.lemmas.Bool.{ne_eqb}
 use Rattle.text_forms.specs.Strings.{pieces, ended, plains, plain_text}
 use Rattle.text_forms.proofs.Slices.{between, joined, front_is, one_is, one_more, none_is, goes}
 
@@ -58,3 +59,24 @@ plain_goes before bytes text whole n i lt some h =
     ∙ ap (λ (l : List ℕ). text ++ l) (sym step)
     ∙ ap (λ (m : ℕ). text ++ plains before m bytes) (sym k)
     ∙ h
+
+-- a run of one byte is short
+one_short : (xs : List ℕ) (i : ℕ) → i < length xs → nat_le 16 (length (between i (i + 1) xs)) ≡ false
+one_short xs i lt = ap (λ (l : List ℕ). nat_le 16 (length l)) (one_is xs i lt)
+
+-- bytes none of which is as the one before it, so many
+pub turn_unlike : (before xs text whole : List ℕ) (start run n : ℕ) → start ≤ run → run + n < length xs
+    → ((k : ℕ) → k < n → get_or xs (run + (k + 1)) 0 ≢ get_or xs (run + k) 0)
+    → text ++ pieces before (between start run xs) (between run (run + 1) xs) (drop (run + 1) xs) ≡ whole
+    → text ++ pieces before (between start (run + n) xs) (between (run + n) (run + n + 1) xs) (drop (run + n + 1) xs) ≡ whole
+turn_unlike before xs text whole start run zero first lt unlike h =
+    let e : run + 0 ≡ run = omega arith in
+    ap (λ (r : ℕ). text ++ pieces before (between start r xs) (between r (r + 1) xs) (drop (r + 1) xs)) e ∙ h
+turn_unlike before xs text whole start run (suc n) first lt unlike h =
+    let i = run + n + 1 in
+    let e : run + suc n ≡ i = omega arith in
+    let here : run + (n + 1) ≡ i = omega arith in
+    let other = ne_eqb (get_or xs i 0) (get_or xs (run + n) 0) (λ same. unlike n (omega arith) (ap (λ (k : ℕ). get_or xs k 0) here ∙ same)) in
+    let so_far = turn_unlike before xs text whole start run n first (omega (arith, lt)) (λ k less. unlike k (omega arith)) h in
+    ap (λ (r : ℕ). text ++ pieces before (between start r xs) (between r (r + 1) xs) (drop (r + 1) xs)) e
+    ∙ turn_short before xs text whole start (run + n) i (omega arith) (omega arith) (omega (arith, lt)) other (one_short xs (run + n) (omega (arith, lt))) so_far

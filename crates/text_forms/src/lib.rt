@@ -1,8 +1,10 @@
-//! Forms of text that people write and read: numbers, paths and strings.
+//! Forms of text that people write and read: numbers, paths, strings and names of operations.
 #![tactic(auto)]
 
+mod names;
 mod strings;
 mod words;
 
+pub use names::{name_at, opcode_name};
 pub use strings::{push_path, push_pieces, push_string};
-pub use words::{push_bytes, push_decimal, push_hexadecimal, push_octal, push_signed};
+pub use words::{glyph, push_bytes, push_decimal, push_hexadecimal, push_octal, push_signed};

@@ -1,6 +1,6 @@
 //! Paths and strings at the end of a text.
-ghost use Rattle.std.specs.Prelude.{◌≡◌, ◌≤◌, ◌<◌, ◌++◌, ◌∷◌, [], ◌+◌, ◌*◌, IsTrue, OnOk, drop, length, take};
-ghost use Rattle.std.specs.Prelude.{vec_capacity, vec_len};
+ghost use Rattle.std.specs.Prelude.{◌≡◌, ◌≢◌, ◌≤◌, ◌<◌, ◌++◌, ◌∷◌, [], ◌+◌, ◌*◌, ℕ, IsTrue, OnOk};
+ghost use Rattle.std.specs.Prelude.{drop, length, slice_index, take};
 ghost use Rattle.std.specs.List.{count_by, flat_map};
 ghost use Rattle.text_forms.specs.Strings.{hex_byte, hex_escape, hex_text, is_hidden, path_byte, path_text};
 ghost use Rattle.text_forms.specs.Strings.{ended, escape_letter, most_plain, pieces, plain_pieces, plain_text};
@@ -14,6 +14,12 @@ const LEAST_RUN: usize = 16;
 
 /// How many bytes a plain piece has at most.
 const MOST_PLAIN: usize = 64;
+
+/// How many digits it has at most.
+const HEX_ROOM: usize = 128;
+
+/// How many bytes are looked at together.
+const BLOCK: usize = 16;
 
 /// A path.
 ///
@@ -157,33 +163,32 @@ fn push_hex_string(text: &mut Vec<u8>, bytes: &[u8]) -> Result<(), AllocError>
     ensures { OnOk result (text.new.items ≡ text.old.items ++ hex_text bytes.now) }
 {
     text.extend_from_slice(b"x\"")?;
-    text.reserve(2 * bytes.len())?;
-    for byte in bytes {
-        push_hex(text, *byte);
-    }
+    let mut room = [0; HEX_ROOM];
+    put_hex(&mut room, bytes);
+    text.extend_from_slice(&room[..2 * bytes.len()])?;
     push_byte(text, b'"')
 }
 
-/// The two digits of a byte, for which there is room.
-fn push_hex(text: &mut Vec<u8>, byte: u8)
-    requires { vec_len text.old + 2 ≤ vec_capacity text.old }
-    ensures items { text.new.items ≡ text.old.items ++ hex_byte byte }
-    ensures len { vec_len text.new ≡ vec_len text.old + 2 }
-    ensures capacity { vec_capacity text.new ≡ vec_capacity text.old }
+/// The digits of bytes, at the front of some room.
+fn put_hex(room: &mut [u8; HEX_ROOM], bytes: &[u8])
+    requires { length bytes.now ≤ most_plain }
+    ensures { take (2 * length bytes.now) room.new ≡ flat_map hex_byte bytes.now }
 {
-    text.push_reserved(glyph(byte / 16));
-    text.push_reserved(glyph(byte % 16));
+    for (i, byte) in bytes.iter().enumerate() {
+        room[2 * i] = glyph(*byte / 16);
+        room[2 * i + 1] = glyph(*byte % 16);
+    }
 }
 
-/// How many bytes a string shows by their digits.
-fn hidden_count(bytes: &[u8]) -> usize
+/// How many bytes of a piece a string shows by their digits. Each is looked at, so that many are at
+/// once.
+fn hidden_count(bytes: &[u8]) -> u8
+    requires { length bytes.now ≤ most_plain }
     ensures { result ≡ count_by is_hidden bytes.now }
 {
     let mut count = 0;
     for byte in bytes {
-        if is_hidden(*byte) {
-            count += 1;
-        }
+        count += is_hidden(*byte) as u8;
     }
     count
 }
@@ -191,8 +196,8 @@ fn hidden_count(bytes: &[u8]) -> usize
 fn is_hidden(byte: u8) -> bool
     ensures { result ≡ is_hidden byte }
 {
-    let is_shown = byte >= 32 && byte <= 126 || byte == b'\t' || byte == b'\n' || byte == b'\r';
-    !is_shown
+    let is_printable = (byte >= 32) & (byte <= 126);
+    !(is_printable | (byte == b'\t') | (byte == b'\n') | (byte == b'\r'))
 }
 
 /// A piece: a string where at most one byte of four is hidden, else digits.
@@ -200,7 +205,7 @@ fn push_plain(text: &mut Vec<u8>, bytes: &[u8]) -> Result<(), AllocError>
     requires { length bytes.now ≤ most_plain }
     ensures { OnOk result (text.new.items ≡ text.old.items ++ plain_text bytes.now) }
 {
-    if hidden_count(bytes) <= bytes.len() / 4 {
+    if hidden_count(bytes) as usize <= bytes.len() / 4 {
         push_string(text, bytes)
     } else {
         push_hex_string(text, bytes)
@@ -269,13 +274,31 @@ fn push_ended(
     push_run(text, run)
 }
 
+/// Whether no byte is as the one before it. Each is looked at, so that many are at once.
+fn are_unlike(bytes: &[u8]) -> bool
+    ensures { IsTrue result → (k : ℕ) → k + 1 < length bytes.now
+        → slice_index bytes.now (k + 1) ≢ slice_index bytes.now k }
+{
+    let mut unlike = true;
+    for i in 1..bytes.len() {
+        unlike = unlike & (bytes[i] != bytes[i - 1]);
+    }
+    unlike
+}
+
 /// Bytes in pieces, each behind the same text: long runs of one byte, and what is between them.
 pub fn push_pieces(text: &mut Vec<u8>, before: &[u8], bytes: &[u8]) -> Result<(), AllocError>
     ensures { OnOk result (text.new.items ≡ text.old.items ++ pieces before.now [] [] bytes.now) }
 {
     let mut start = 0;
     let mut run = 0;
-    for i in 0..bytes.len() {
+    let mut i = 0;
+    while i < bytes.len() {
+        if i == run + 1 && bytes.len() - run > BLOCK && are_unlike(&bytes[run..=run + BLOCK]) {
+            run += BLOCK;
+            i += BLOCK;
+            continue;
+        }
         if bytes[i] != bytes[run] {
             if i - run >= LEAST_RUN {
                 push_ended(
@@ -289,6 +312,7 @@ pub fn push_pieces(text: &mut Vec<u8>, before: &[u8], bytes: &[u8]) -> Result<()
             }
             run = i;
         }
+        i += 1;
     }
     push_ended(
         text,

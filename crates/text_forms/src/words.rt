@@ -70,8 +70,8 @@ fn put_digits(room: &mut [u8; ROOM], base: u64, number: u64) -> usize
     0
 }
 
-/// The digit of a value.
-pub(crate) fn glyph(value: u8) -> u8
+/// The hexadecimal digit of a value.
+pub fn glyph(value: u8) -> u8
     requires { value < 16 }
     ensures { result ≡ digit_glyph false value }
 {

@@ -1,9 +1,6 @@
 -- What is added to a text, part after part.
 use Rattle.std.proofs.Common.{◌≡◌, ℕ, zero, suc, ◌+◌, ◌<◌, List, [], ◌∷◌, ◌++◌, length, take, drop, get_or, sym, ap, ◌∙◌, append_assoc, append-nil, arith, drop-cons, Result, OnOk}
 use Rattle.std.proofs.lemmas.Result.{on_ok_weaker}
-use Rattle.std.specs.Prelude.{map}
-use Rattle.std.specs.Borrow.{Bor}
-use Rattle.std.proofs.Math.ListN.{get_or-map}
 use Rattle.trace_text.specs.Shown.{numbered}
 
 -- one part more behind some
@@ -49,7 +46,3 @@ left_is xs i d lt =
 -- the part that is left gives up its front
 pub goes : (part rest left text next whole : List ℕ) → left ≡ part ++ rest → next ≡ text ++ part → text ++ left ≡ whole → next ++ rest ≡ whole
 goes part rest left text next whole is e h = ap (λ (l : List ℕ). l ++ rest) e ∙ append_assoc text part rest ∙ ap (λ (l : List ℕ). text ++ l) (sym is) ∙ h
-
--- what a table of texts has at a number
-pub at_table : (texts : List (Bor (List ℕ))) (i : ℕ) (d : Bor (List ℕ)) → (get_or texts i d).now ≡ get_or (map (λ (s : Bor (List ℕ)). s.now) texts) i d.now
-at_table texts i d = sym (get_or-map (λ (s : Bor (List ℕ)). s.now) texts i d)

@@ -1,1 +1,3 @@
 pub mod Adds
+pub mod Places
+pub mod Digits

@@ -2,3 +2,4 @@ pub mod Names
 pub mod Fields
 pub mod Entry
 pub mod Shown
+pub mod Below

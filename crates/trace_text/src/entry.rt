@@ -202,7 +202,12 @@ fn fd_bits(sqe: &Sqe) -> u32
 
 /// The words of an entry.
 #[tactic(auto, unfolding(crate::specs::Entry::entry_words))]
-fn push_words(text: &mut Vec<u8>, look: Look, sqe: &Sqe, side: &[u8]) -> Result<(), AllocError>
+pub(crate) fn push_words(
+    text: &mut Vec<u8>,
+    look: Look,
+    sqe: &Sqe,
+    side: &[u8],
+) -> Result<(), AllocError>
     ensures { OnOk result (text.new.items
         ≡ text.old.items ++ entry_words look (record { sqe = sqe.now; side = side.now })) }
 {

@@ -32,7 +32,7 @@ fn push_descriptor(text: &mut Vec<u8>, number: u32) -> Result<(), AllocError>
 }
 
 /// The key of the field `fd`.
-fn fd_key(opcode: u8) -> &'static [u8]
+pub fn fd_key(opcode: u8) -> &'static [u8]
     ensures { result.now ≡ fd_key opcode }
 {
     match opcode {
@@ -53,7 +53,7 @@ pub(crate) fn push_fd(text: &mut Vec<u8>, opcode: u8, number: u32) -> Result<(),
 }
 
 /// The key of the field `off`.
-fn off_key(opcode: u8) -> &'static [u8]
+pub fn off_key(opcode: u8) -> &'static [u8]
     ensures { result.now ≡ off_key opcode }
 {
     match opcode {
@@ -101,7 +101,7 @@ fn push_addr(text: &mut Vec<u8>, opcode: u8, number: u64) -> Result<(), AllocErr
 }
 
 /// The key of the field `len`.
-fn len_key(opcode: u8) -> &'static [u8]
+pub fn len_key(opcode: u8) -> &'static [u8]
     ensures { result.now ≡ len_key opcode }
 {
     match opcode {

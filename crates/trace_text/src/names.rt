@@ -1,78 +1,11 @@
-//! The names of operations and of flags.
-ghost use Rattle.std.specs.Prelude.{◌≡◌, ◌<◌, ◌++◌, [], OnOk, map, slice_index_or};
+//! Operations and flags by their names.
+ghost use Rattle.std.specs.Prelude.{◌≡◌, ◌<◌, ◌++◌, OnOk};
 ghost use Rattle.trace_text.specs.Names.{bar, entry_flag, entry_flag_name, entry_flags, flag};
 ghost use Rattle.trace_text.specs.Names.{flag_name, flag_text};
-ghost use Rattle.trace_text.specs.Names.{flags_text, opcode_name, opcode_text};
+ghost use Rattle.trace_text.specs.Names.{flags_text, opcode_text};
 
 use std::alloc::AllocError;
-use text_forms::{push_bytes, push_decimal, push_hexadecimal};
-
-/// The operations by their numbers, as `linux/io_uring.h` names them, without `IORING_OP_`.
-const OPCODES: [&str; 63] = [
-    "NOP",
-    "READV",
-    "WRITEV",
-    "FSYNC",
-    "READ_FIXED",
-    "WRITE_FIXED",
-    "POLL_ADD",
-    "POLL_REMOVE",
-    "SYNC_FILE_RANGE",
-    "SENDMSG",
-    "RECVMSG",
-    "TIMEOUT",
-    "TIMEOUT_REMOVE",
-    "ACCEPT",
-    "ASYNC_CANCEL",
-    "LINK_TIMEOUT",
-    "CONNECT",
-    "FALLOCATE",
-    "OPENAT",
-    "CLOSE",
-    "FILES_UPDATE",
-    "STATX",
-    "READ",
-    "WRITE",
-    "FADVISE",
-    "MADVISE",
-    "SEND",
-    "RECV",
-    "OPENAT2",
-    "EPOLL_CTL",
-    "SPLICE",
-    "PROVIDE_BUFFERS",
-    "REMOVE_BUFFERS",
-    "TEE",
-    "SHUTDOWN",
-    "RENAMEAT",
-    "UNLINKAT",
-    "MKDIRAT",
-    "SYMLINKAT",
-    "LINKAT",
-    "MSG_RING",
-    "FSETXATTR",
-    "SETXATTR",
-    "FGETXATTR",
-    "GETXATTR",
-    "SOCKET",
-    "URING_CMD",
-    "SEND_ZC",
-    "SENDMSG_ZC",
-    "READ_MULTISHOT",
-    "WAITID",
-    "FUTEX_WAIT",
-    "FUTEX_WAKE",
-    "FUTEX_WAITV",
-    "FIXED_FD_INSTALL",
-    "FTRUNCATE",
-    "BIND",
-    "LISTEN",
-    "RECV_ZC",
-    "EPOLL_WAIT",
-    "READV_FIXED",
-    "WRITEV_FIXED",
-    "PIPE",
-];
+use text_forms::{name_at, opcode_name, push_bytes, push_decimal, push_hexadecimal};
 
 /// The flags of an entry by their bits.
 const ENTRY_FLAGS: [&str; 8] = [
@@ -88,7 +21,7 @@ const ENTRY_FLAGS: [&str; 8] = [
 
 /// Fields whose flags have names.
 #[derive(Clone, Copy)]
-pub(crate) enum FlagSet {
+pub enum FlagSet {
     /// `open_flags`, those of open(2).
     Open,
     /// `rw_flags`.
@@ -169,24 +102,6 @@ const ALLOCATE: [&str; 6] = [
     "FALLOC_FL_INSERT_RANGE",
 ];
 
-/// What a table has at a number: nothing past its end.
-fn at(table: &[&'static str], number: usize) -> &'static str
-    ensures { result.now ≡ slice_index_or (map (λ name. name.now) table.now) number [] }
-{
-    if number < table.len() {
-        table[number]
-    } else {
-        ""
-    }
-}
-
-/// The name of an operation: nothing for a number that none has.
-fn opcode_name(opcode: u8) -> &'static str
-    ensures { result.now ≡ opcode_name opcode }
-{
-    at(&OPCODES, opcode as usize)
-}
-
 /// An operation: its name, or its number where it has none.
 pub(crate) fn push_opcode(text: &mut Vec<u8>, opcode: u8) -> Result<(), AllocError>
     ensures { OnOk result (text.new.items ≡ text.old.items ++ opcode_text opcode) }
@@ -200,10 +115,11 @@ pub(crate) fn push_opcode(text: &mut Vec<u8>, opcode: u8) -> Result<(), AllocErr
     }
 }
 
-fn entry_flag_name(bit: usize) -> &'static str
+/// The name of a flag of an entry by its bit: nothing past the eighth.
+pub fn entry_flag_name(bit: usize) -> &'static str
     ensures { result.now ≡ entry_flag_name bit }
 {
-    at(&ENTRY_FLAGS, bit)
+    name_at(&ENTRY_FLAGS, bit)
 }
 
 /// A flag of an entry behind a space, where it is set.
@@ -230,17 +146,17 @@ pub(crate) fn push_entry_flags(text: &mut Vec<u8>, flags: u8) -> Result<(), Allo
 }
 
 /// The name of a flag: nothing for a bit that has none.
-fn flag_name(set: FlagSet, bit: usize) -> &'static str
+pub fn flag_name(set: FlagSet, bit: usize) -> &'static str
     ensures { result.now ≡ flag_name set bit }
 {
     match set {
-        FlagSet::Open => at(&OPEN, bit),
-        FlagSet::Transfer => at(&TRANSFER, bit),
-        FlagSet::Sync => at(&SYNC, bit),
-        FlagSet::Rename => at(&RENAME, bit),
-        FlagSet::Unlink => at(&UNLINK, bit),
-        FlagSet::Link => at(&LINK, bit),
-        FlagSet::Allocate => at(&ALLOCATE, bit),
+        FlagSet::Open => name_at(&OPEN, bit),
+        FlagSet::Transfer => name_at(&TRANSFER, bit),
+        FlagSet::Sync => name_at(&SYNC, bit),
+        FlagSet::Rename => name_at(&RENAME, bit),
+        FlagSet::Unlink => name_at(&UNLINK, bit),
+        FlagSet::Link => name_at(&LINK, bit),
+        FlagSet::Allocate => name_at(&ALLOCATE, bit),
     }
 }
 

@@ -75,6 +75,25 @@ pub(crate) fn second_input<'a>(
     opened(rt, Some(name))
 }
 
+/// The trace whose entries a comparison shows.
+///
+/// # Errors
+///
+/// Usage where it is standard input and a report is too; Open where there is no such file.
+pub(crate) fn trace_input<'a>(
+    rt: &HostRuntime,
+    first: Option<&str>,
+    second: Option<&str>,
+    name: &'a str,
+) -> Result<Input, Trouble<'a>> {
+    let is_taken = is_standard(first) || second.is_some_and(|name| name == "-");
+    if is_taken && is_standard(Some(name)) {
+        let text = "'-' is standard input, and gives the trace or a report";
+        return Err(Trouble::usage(rt.alloc(), text));
+    }
+    opened(rt, Some(name))
+}
+
 /// The input of a name.
 fn opened<'a>(rt: &HostRuntime, name: Option<&'a str>) -> Result<Input, Trouble<'a>> {
     match name {

@@ -9,12 +9,13 @@ mod inputs;
 mod output;
 mod trouble;
 
-use crate::inputs::{Input, first_input, second_input};
-use crate::output::{ended, output_of};
+use crate::inputs::{Input, first_input, second_input, trace_input};
+use crate::output::{ended, ended_making, output_of};
 use crate::trouble::{Trouble, shown};
 use replay_program::{
-    FromStd, Options, Request, Task, Usage, no_memory, not_text, read_words, run, run_diff,
-    run_diff_of_two, run_show,
+    Files, Form, FromStd, Mode, Options, Request, Task, Usage, no_memory, not_text, read_words,
+    run, run_check, run_diff, run_diff_of_two, run_diff_of_two_shown, run_diff_shown, run_make,
+    run_show,
 };
 use std::alloc::AllocError;
 use std::env;
@@ -67,31 +68,53 @@ fn served<'a, T: Threads + Wait + Sync>(
     requires { IsServedTask request.now.task }
 {
     let files = request.files;
+    let form = request.form;
+    if form == Form::Json && is_graph(request.task) {
+        let text = "'--dot' prints a graph, which has no JSON: leave out '--dot' or '--json'";
+        return Err(Trouble::usage(rt.alloc(), text));
+    }
+    if form == Form::Json && files.trace.is_some() {
+        let text =
+            "'--show' prints lines of a trace, which have no JSON: leave out '--show' or '--json'";
+        return Err(Trouble::usage(rt.alloc(), text));
+    }
     let input = first_input(rt, files.input)?;
-    match (request.task, files.second) {
-        (Task::Replay(options), _) => replayed(rt, threads, input, files.output, &options),
-        (Task::Show(look), _) => displayed(rt, input, files.output, look),
-        (Task::Diff, None) => compared(rt, input, files.output),
-        (Task::Diff, Some(second)) => {
-            let second = second_input(rt, files.input, second)?;
-            compared_apart(rt, input, second, files.output)
-        }
+    match request.task {
+        Task::Replay(options) => replayed(rt, threads, input, files.output, &options, form),
+        Task::Show(look) => displayed(rt, input, files.output, look),
+        Task::Make => made(rt, input, files.output),
+        Task::Diff => compared(rt, input, files, form),
     }
 }
 
-/// Runs a trace.
+/// Whether the output of a task is a graph.
+fn is_graph(task: Task) -> bool {
+    match task {
+        Task::Replay(options) => matches!(
+            options.mode,
+            Mode::Rounds { dot: true, .. } | Mode::Depends { dot: true }
+        ),
+        Task::Diff | Task::Show(_) | Task::Make => false,
+    }
+}
+
+/// Runs a trace, or checks one of any version.
 fn replayed<'a, T: Threads + Wait + Sync>(
     rt: &'a HostRuntime,
     threads: &T,
     input: Input,
     output: Option<&'a str>,
     options: &Options,
+    form: Form,
 ) -> Result<(), Trouble<'a>>
     requires { IsServed options.now.mode }
 {
     let mut writer = FromStd::new(output_of(rt, output, &[&input])?);
     let mut reader = FromStd::new(input);
-    let done = run(threads, rt.alloc(), &mut reader, &mut writer, options);
+    let done = match options.mode {
+        Mode::Check => run_check(rt.alloc(), &mut reader, &mut writer, form),
+        _ => run(threads, rt.alloc(), &mut reader, &mut writer, options, form),
+    };
     ended(writer.stream, done)
 }
 
@@ -108,15 +131,47 @@ fn displayed<'a>(
     ended(writer.stream, done)
 }
 
-/// Compares the two reports of an input.
+/// Makes a trace from text.
+fn made<'a>(rt: &'a HostRuntime, input: Input, output: Option<&'a str>) -> Result<(), Trouble<'a>> {
+    let mut writer = FromStd::new(output_of(rt, output, &[&input])?);
+    let mut reader = FromStd::new(input);
+    let done = run_make(rt.alloc(), &mut reader, &mut writer);
+    ended_making(writer.stream, done)
+}
+
+/// Compares two reports, and shows the entries of a trace where one is named.
 fn compared<'a>(
     rt: &'a HostRuntime,
     input: Input,
+    files: Files<'a>,
+    form: Form,
+) -> Result<(), Trouble<'a>> {
+    let second = match files.second {
+        Some(name) => Some(second_input(rt, files.input, name)?),
+        None => None,
+    };
+    let trace = match files.trace {
+        Some(name) => Some(trace_input(rt, files.input, files.second, name)?),
+        None => None,
+    };
+    match (trace, second) {
+        (None, None) => compared_together(rt, input, files.output, form),
+        (None, Some(second)) => compared_apart(rt, input, second, files.output, form),
+        (Some(trace), None) => shown_together(rt, trace, input, files.output),
+        (Some(trace), Some(second)) => shown_apart(rt, trace, input, second, files.output),
+    }
+}
+
+/// Compares the two reports of an input.
+fn compared_together<'a>(
+    rt: &'a HostRuntime,
+    input: Input,
     output: Option<&'a str>,
+    form: Form,
 ) -> Result<(), Trouble<'a>> {
     let mut writer = FromStd::new(output_of(rt, output, &[&input])?);
     let mut reader = FromStd::new(input);
-    let done = run_diff(rt.alloc(), &mut reader, &mut writer);
+    let done = run_diff(rt.alloc(), &mut reader, &mut writer, form);
     ended(writer.stream, done)
 }
 
@@ -126,11 +181,42 @@ fn compared_apart<'a>(
     first: Input,
     second: Input,
     output: Option<&'a str>,
+    form: Form,
 ) -> Result<(), Trouble<'a>> {
     let mut writer = FromStd::new(output_of(rt, output, &[&first, &second])?);
     let mut first = FromStd::new(first);
     let mut second = FromStd::new(second);
-    let done = run_diff_of_two(rt.alloc(), &mut first, &mut second, &mut writer);
+    let done = run_diff_of_two(rt.alloc(), &mut first, &mut second, &mut writer, form);
+    ended(writer.stream, done)
+}
+
+/// Compares the two reports of an input, with the entries of a trace.
+fn shown_together<'a>(
+    rt: &'a HostRuntime,
+    trace: Input,
+    input: Input,
+    output: Option<&'a str>,
+) -> Result<(), Trouble<'a>> {
+    let mut writer = FromStd::new(output_of(rt, output, &[&trace, &input])?);
+    let mut trace = FromStd::new(trace);
+    let mut reader = FromStd::new(input);
+    let done = run_diff_shown(rt.alloc(), &mut trace, &mut reader, &mut writer);
+    ended(writer.stream, done)
+}
+
+/// Compares the reports of two inputs, with the entries of a trace.
+fn shown_apart<'a>(
+    rt: &'a HostRuntime,
+    trace: Input,
+    first: Input,
+    second: Input,
+    output: Option<&'a str>,
+) -> Result<(), Trouble<'a>> {
+    let mut writer = FromStd::new(output_of(rt, output, &[&trace, &first, &second])?);
+    let mut trace = FromStd::new(trace);
+    let mut first = FromStd::new(first);
+    let mut second = FromStd::new(second);
+    let done = run_diff_of_two_shown(rt.alloc(), &mut trace, &mut first, &mut second, &mut writer);
     ended(writer.stream, done)
 }
 

@@ -3,7 +3,7 @@ ghost use Rattle.std.specs.Io.{WritesAtMost};
 
 use crate::inputs::{Input, is_same_file};
 use crate::trouble::Trouble;
-use replay_program::RunFault;
+use replay_program::{MakingFault, RunFault};
 use std::alloc::{AllocError, Global};
 use std::fs::File;
 use std::io::{ErrorKind, Stdout, Write};
@@ -70,18 +70,15 @@ impl<'a> Draft<'a> {
     }
 
     /// Gives the text its name, where it is whole, and else takes it away.
-    fn ended(mut self, done: Result<(), RunFault>) -> Result<(), Trouble<'a>> {
-        let is_whole = matches!(done, Ok(()) | Err(RunFault::Different));
+    fn ended(mut self, done: Result<(), Trouble<'a>>) -> Result<(), Trouble<'a>> {
+        let is_whole = matches!(&done, Ok(()) | Err(Trouble::Run(RunFault::Different)));
         if is_whole && let Err(error) = self.put_in_place() {
             self.fault = Some(error);
         }
         self.removed();
         match (self.fault.take(), done) {
-            (Some(error), Ok(()) | Err(RunFault::Write | RunFault::Different)) => {
-                Err(Trouble::Save(self.name, error))
-            }
-            (_, Err(fault)) => Err(Trouble::Run(fault)),
-            (None, Ok(())) => Ok(()),
+            (Some(error), done) if may_be_told(&done) => Err(Trouble::Save(self.name, error)),
+            (_, done) => done,
         }
     }
 
@@ -182,13 +179,40 @@ fn target_of(rt: &HostRuntime, name: &str) -> io::Result<String> {
     }
 }
 
+/// Whether a fault of the output is told in place of what a run ended with: nothing that came before.
+fn may_be_told(done: &Result<(), Trouble<'_>>) -> bool {
+    matches!(
+        done,
+        Ok(())
+            | Err(
+                Trouble::Run(RunFault::Write | RunFault::Different)
+                    | Trouble::Make(MakingFault::Write)
+            )
+    )
+}
+
 /// Ends the output of a run.
 pub(crate) fn ended<'a>(output: Output<'a>, done: Result<(), RunFault>) -> Result<(), Trouble<'a>> {
+    match done {
+        Ok(()) => closed(output, Ok(())),
+        Err(fault) => closed(output, Err(Trouble::Run(fault))),
+    }
+}
+
+/// Ends the output of making a trace.
+pub(crate) fn ended_making<'a>(
+    output: Output<'a>,
+    done: Result<(), MakingFault>,
+) -> Result<(), Trouble<'a>> {
+    match done {
+        Ok(()) => closed(output, Ok(())),
+        Err(fault) => closed(output, Err(Trouble::Make(fault))),
+    }
+}
+
+fn closed<'a>(output: Output<'a>, done: Result<(), Trouble<'a>>) -> Result<(), Trouble<'a>> {
     match output {
-        Output::Standard(_) => match done {
-            Ok(()) => Ok(()),
-            Err(fault) => Err(Trouble::Run(fault)),
-        },
+        Output::Standard(_) => done,
         Output::Saved(draft) => draft.ended(done),
     }
 }

@@ -1,7 +1,8 @@
 //! What stands in the way of a run, and what is said of it.
 use crate::hints::hint;
 use replay_program::{
-    RunFault, Stream, Usage, UsageKind, fault_ending, no_memory, usage_ending, usage_text,
+    MakingFault, RunFault, Stream, Usage, UsageKind, fault_ending, no_memory, usage_ending,
+    usage_text,
 };
 use std::alloc::{AllocError, Global};
 use std::io;
@@ -19,6 +20,8 @@ pub(crate) enum Trouble<'a> {
     Save(&'a str, io::Error),
     /// The run has a fault.
     Run(RunFault),
+    /// No trace is made of a text.
+    Make(MakingFault),
 }
 
 impl<'a> Trouble<'a> {
@@ -49,6 +52,10 @@ impl<'a> Trouble<'a> {
                 ExitCode::from(IN_OR_OUT)
             }
             Trouble::Run(fault) => failed(rt, *fault),
+            Trouble::Make(fault) => {
+                let _ = eprintln!(rt; "{fault}");
+                ExitCode::from(fault.status())
+            }
         }
     }
 }

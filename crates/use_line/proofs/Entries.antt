@@ -139,6 +139,12 @@ module _ (x : ℕ) (v : Option ℕ) where
   keys_more [] k = grind arith
   keys_more (e ∷ es) k = grind (arith, nat_tests, keys_more es k)
 
+  -- none stands between, where none did behind an earlier number
+  pub none_more : (low start : ℕ) (es : Entries) → start ≤ low → NoneInside start x es → NoneInside low x (with_key es)
+  none_more low start es le none k more less =
+      let free = none k (omega (arith, le, more)) less in
+      keys_more es k ∙ grind (arith, nat_tests, free, less)
+
   -- what stood at the new key stands there still
   pub same_more : (d : Option ℕ) (es : Entries) → v ≡ step_from d es x → Rises es → has_key es x ≡ false → (b : ℕ) → step_from d (with_key es) b ≡ step_from d es b
   same_more d [] is r new b = elim (cases_Bool (leb x b)) [ inl t ↦ rw t is | inr f ↦ rw f refl ]

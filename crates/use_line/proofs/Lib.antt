@@ -5,3 +5,4 @@ pub mod Clips
 pub mod Telling
 pub mod Direct
 mod Singles
+pub mod Writers

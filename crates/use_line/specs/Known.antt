@@ -81,6 +81,10 @@ told_of p written own j =
 abbrev pub IsToldBy : (ℕ → Known) → List Span → Bool → ℕ → ℕ → ℕ → Type 0
 IsToldBy known own written low high j = (b : ℕ) × (within low high b ≡ true) × (told_of (known b) written (written_by own b) j ≡ true)
 
+-- who wrote one of them last
+abbrev pub HasWriter : List (ℕ × Option ℕ) → ℕ → ℕ → ℕ → Type 0
+HasWriter writers low high j = (b : ℕ) × (within low high b ≡ true) × (is_number j (step_at writers b) ≡ true)
+
 abbrev pub IsToldOf : Uses → List Span → Bool → ℕ → ℕ → ℕ → Type 0
 IsToldOf u own written low high j = IsToldBy (known_at u) own written low high j
 

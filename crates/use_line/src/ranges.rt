@@ -3,7 +3,7 @@ ghost use Rattle.std.specs.BinaryHeap.{heap_items};
 ghost use Rattle.std.specs.Bool.{Decides};
 ghost use Rattle.std.specs.Prelude.{◌≡◌, ◌<◌, ◌≤◌, ◌||◌, ◌==◌, ◌⊎◌, ℕ, true, false, OnOk, None, Some, length, if◌then◌else◌};
 ghost use Rattle.use_line.specs.History.{is_number};
-ghost use Rattle.use_line.specs.Known.{AddsToldBy, HasRead, IsPart};
+ghost use Rattle.use_line.specs.Known.{AddsToldBy, HasRead, HasWriter, IsPart};
 ghost use Rattle.use_line.specs.Known.{is_among, is_none, no_ranges, range_at, written_at};
 ghost use Rattle.use_line.specs.Queue.{AddsDue, AreBelow, AreFilled, Due};
 ghost use Rattle.use_line.specs.Spans.{within, written_by};
@@ -145,6 +145,21 @@ impl Ranges {
         Ok(())
     }
 
+    /// Adds those who wrote the numbers of a range last.
+    fn tell_writers(&self, low: u128, high: u128, told: &mut Vec<u32>) -> Result<(), AllocError>
+        requires { low < high }
+        ensures { OnOk result ((j : ℕ) → Decides (is_among told.new.items j)
+            ((is_among told.old.items j ≡ true) ⊎ HasWriter self.now.writers low high j)) }
+    {
+        let mut end = high;
+        while low < end {
+            let (start, writer) = self.writers.last_part(low, end);
+            tell_writer(writer, told)?;
+            end = start;
+        }
+        Ok(())
+    }
+
     /// Adds those for whom a place waits directly by one of its ranges.
     pub(crate) fn tell(
         &self,
@@ -157,6 +172,9 @@ impl Ranges {
         ensures { OnOk result (AddsToldBy (range_at self.now) own.now span.now.written span.now.low span.now.high
             told.old.items told.new.items) }
     {
+        if !span.written && !is_written_within(own, span.low, span.high) {
+            return self.tell_writers(span.low, span.high, told);
+        }
         let mut queue = BinaryHeap::new(alloc);
         let mut end = span.high;
         while span.low < end {
@@ -248,6 +266,18 @@ fn later_edge(edge: u128, at: u128, high: u128) -> u128
     ensures at { (at ≤ result) ⊎ (high ≤ at) }
 {
     if edge < at && at < high { at } else { edge }
+}
+
+/// Whether one of some ranges may have a number of a range that is written.
+fn is_written_within(spans: &[Span], low: u128, high: u128) -> bool
+    ensures { result ≡ false → (b : ℕ) → within low high b ≡ true → written_by spans.now b ≡ false }
+{
+    for span in spans {
+        if span.written && span.low < high && low < span.high {
+            return true;
+        }
+    }
+    false
 }
 
 /// Whether one of some ranges has a number that is written.

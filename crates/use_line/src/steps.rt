@@ -1,6 +1,7 @@
 //! A value for each number, kept by the numbers at which it changes.
 ghost use Rattle.std.specs.Prelude.{◌≡◌, ◌<◌, ◌≤◌, ℕ, [], true, false, None, IfOk, OnOk, MatchOption};
 ghost use Rattle.std.specs.Result.{OnErr};
+ghost use Rattle.use_line.specs.Spans.{within};
 ghost use Rattle.use_line.specs.Steps.{HasSet, IsCopy, IsLevel, NoneInside, has_key, step_at};
 
 use std::alloc::{AllocError, Global};
@@ -50,16 +51,14 @@ impl Steps {
 
     /// The last key from one number on up to another.
     fn last_between(&self, low: u128, high: u128) -> Option<u128>
-        requires { low ≤ high }
+        requires { 0 < high }
         ensures { MatchOption result
             ((k : ℕ) → low ≤ k → k < high → has_key self.now k ≡ false)
             (λ key. (low ≤ key) × (key < high) × (has_key self.now key ≡ true)
             × NoneInside key high self.now) }
     {
-        match self.entries.range(low..high).next_back() {
-            Some((key, _)) => Some(*key),
-            None => None,
-        }
+        let (key, _) = self.last_up_to(high - 1)?;
+        if low <= key { Some(key) } else { None }
     }
 
     /// From where on all numbers of a range up to its end have one value, and which.
@@ -76,27 +75,58 @@ impl Steps {
         }
     }
 
-    /// The value of a number, unless a key begins there.
-    fn value_between(&self, at: u128) -> Option<Option<u32>>
+    /// The value of a number, unless a key begins there, and a number behind which none does up to it.
+    fn value_between(&self, at: u128) -> Option<(u128, Option<u32>)>
         ensures { MatchOption result (has_key self.now at ≡ true)
-            (λ value. (has_key self.now at ≡ false) × (value ≡ step_at self.now at)) }
+            (λ e. (has_key self.now at ≡ false) × (e.1 ≡ step_at self.now at)
+            × NoneInside e.0 at self.now) }
     {
         match self.last_up_to(at) {
             Some((key, _)) if key == at => None,
-            Some((_, value)) => Some(value),
-            None => Some(None),
+            Some(last) => Some(last),
+            None => Some((0, None)),
         }
     }
 
-    /// Begins a key at a number.
-    fn split_at(&mut self, at: u128) -> Result<(), AllocError>
+    /// Begins a key at a number, and tells whether there may be one before it, behind another number.
+    fn split_at(&mut self, low: u128, at: u128) -> Result<bool, AllocError>
         ensures same { OnOk result ((b : ℕ) → step_at self.new b ≡ step_at self.old b) }
         ensures key { OnOk result (has_key self.new at ≡ true) }
+        ensures none { IfOk result (λ more. more ≡ false → NoneInside low at self.new) }
     {
-        let Some(value) = self.value_between(at) else {
-            return Ok(());
+        let Some((start, value)) = self.value_between(at) else {
+            return Ok(true);
         };
         self.entries.insert(at, value)?;
+        Ok(low < start)
+    }
+
+    /// Takes out the keys within a range.
+    fn remove_within(&mut self, low: u128, high: u128)
+        requires some { low < high }
+        requires last { has_key self.old high ≡ true }
+        ensures last { has_key self.new high ≡ true }
+        ensures outside { (b : ℕ) → within low high b ≡ false
+            → step_at self.new b ≡ step_at self.old b }
+        ensures none { NoneInside low high self.new }
+    {
+        while let Some(key) = self.last_between(low + 1, high) {
+            self.entries.remove(&key);
+        }
+    }
+
+    /// Begins a key at the end of a range, and takes out those within.
+    fn part_at(&mut self, low: u128, high: u128) -> Result<(), AllocError>
+        requires { low < high }
+        ensures last { OnOk result (has_key self.new high ≡ true) }
+        ensures outside { OnOk result ((b : ℕ) → within low high b ≡ false
+            → step_at self.new b ≡ step_at self.old b) }
+        ensures none { OnOk result (NoneInside low high self.new) }
+    {
+        if self.split_at(low, high)? {
+            self.remove_within(low, high);
+            return Ok(());
+        }
         Ok(())
     }
 
@@ -127,10 +157,7 @@ impl Steps {
         requires { low < high }
         ensures { OnOk result (HasSet self.old self.new low high value) }
     {
-        self.split_at(high)?;
-        while let Some(key) = self.last_between(low + 1, high) {
-            self.entries.remove(&key);
-        }
+        self.part_at(low, high)?;
         self.entries.insert(low, value)?;
         Ok(())
     }

@@ -16,9 +16,10 @@ use Rattle.world_parts.specs.World.{World, name, slot, descriptor}
 use Rattle.world_parts.specs.Items.{Atom, slot_at, descriptor_at, description_at, name_at, one, member_of, Use, reads, Footprint, has_atom, Agree}
 use Rattle.world_parts.proofs.Collision.{true_of}
 use Rattle.world_parts.proofs.Sharing.{holds_true}
-use Rattle.op_meaning.specs.Meaning.{slot_count}
+use Rattle.op_meaning.specs.Site.{in_ring}
+use Rattle.op_meaning.specs.Meaning.{slot_count, shape}
 use Rattle.foot_print.specs.Footprint.{file_seen, look_reads, path_reads}
-use Rattle.op_meaning.specs.Shape.{Look, at_nothing, at_file, at_path, at_paths, look, shape}
+use Rattle.op_meaning.specs.Shape.{Look, at_nothing, at_file, at_path, at_paths, look}
 use Rattle.op_meaning.specs.Step.{Turn, runs}
 use Rattle.foot_print.specs.Reach.{is_met, seen, is_taken_to_run, look_of, task}
 use Rattle.foot_print.specs.Replayed.{replayed}
@@ -96,18 +97,18 @@ module _ (s u : World) where
         (λ g. subst (λ z. Goes s u (each (λ d. reads (one (description_at d)) ∷ []) x) (each (λ d. reads (one (description_at d)) ∷ []) z)) (same g) (goes_description x))
     goes_held false a x y same = goes_nothing []
 
-    goes_file : (f : File) → Goes s u (file_seen t s r f) (file_seen t u r f)
+    goes_file : (f : File) → Goes s u (file_seen (in_ring t r) s f) (file_seen (in_ring t r) u f)
     goes_file (in_slot n) = goes_held (ltb n (slot_count t r)) (slot_at r n) (slot s r n) (slot u r n) (λ a. agree_head s u (slot_at r n) false [] a)
     goes_file (at_descriptor n) = goes_held (ltb n (length t.descriptors)) (descriptor_at n) (descriptor s n) (descriptor u n)
         (λ a. agree_head s u (descriptor_at n) false [] a)
 
-    goes_look : (l : Look) → Goes s u (look_reads t r s l) (look_reads t r u l)
+    goes_look : (l : Look) → Goes s u (look_reads (in_ring t r) s l) (look_reads (in_ring t r) u l)
     goes_look at_nothing = goes_nothing []
     goes_look (at_file f) = goes_file f
     goes_look (at_path p) = goes_one_path p
     goes_look (at_paths old new) = goes_two_paths old new
 
-    goes_seen : (o : Operation) → Goes s u (seen t r s o) (seen t r u o)
+    goes_seen : (o : Operation) → Goes s u (seen (in_ring t r) s o) (seen (in_ring t r) u o)
     goes_seen o = goes_look (look (shape o))
 
   goes_deciding : (t : Trace) (k : ℕ) (x : Option Turn) → Goes s u (look_of t k s x).deciding (look_of t k u x).deciding

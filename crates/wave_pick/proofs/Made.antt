@@ -11,9 +11,10 @@ use Rattle.world_parts.specs.World.{World}
 use Rattle.world_parts.specs.Items.{Atom, chain_flag, ring_order, slot_at, descriptor_at, description_at, position_of, size_of, byte_at, name_at, names_in, buffer_byte, Item, one, file_bytes, buffer_bytes, all_names, all_bytes_and_sizes, all_positions, all_descriptions, all_descriptors, member_of, Use, reads, writes, Footprint, has_atom}
 use Rattle.world_parts.proofs.Collision.{left, true_of, writes-has, same_atom-eq}
 use Rattle.world_parts.proofs.Sharing.{holds_true}
-use Rattle.op_meaning.specs.Meaning.{made_node, made_description, slot_count, span_start, lowest_free}
+use Rattle.op_meaning.specs.Site.{in_ring, sited}
+use Rattle.op_meaning.specs.Meaning.{made_node, made_description, slot_count, span_start, lowest_free, shape}
 use Rattle.foot_print.specs.Footprint.{use_of, held_item, file_reads, span_use, description_made}
-use Rattle.op_meaning.specs.Shape.{Shape, idle, looking, moving, allocating, resizing, closing, opening, making, freeing, linking, renaming, shape}
+use Rattle.op_meaning.specs.Shape.{Shape, idle, looking, moving, allocating, resizing, closing, opening, making, freeing, linking, renaming}
 use Rattle.op_meaning.specs.Step.{Turn, filled, runs, ring_at}
 use Rattle.foot_print.specs.Reach.{shape_makes, room_asked, room_at, unresolved_shape, written_by, is_met, node_made, makes, all_files, any_name, unresolved_file, unresolved_of, extras_of, task, look_of, order_of, running_row, accepted_row, wide_row, is_taken_to_run, reach}
 use Rattle.foot_print.specs.Replayed.{is_earlier, Known}
@@ -93,7 +94,7 @@ module _ (t : Trace) where
     of_made_file (byte_at j p) h = subst (λ n. T (ltb n (made_node t (suc k)))) (eqb→eq (made_node t k) j (left _ _ h)) node_here
     of_made_file _ h = absurd h
 
-    held : (v : Bool) (r : ℕ) (f : File) → Bound (map (use_of v) (held_item t r f))
+    held : (v : Bool) (r : ℕ) (f : File) → Bound (map (use_of v) (held_item (in_ring t r) f))
     held v r (in_slot n) = elim (ltb n (slot_count t r)) as (λ c. Bound (map (use_of v) (cond c (one (slot_at r n) ∷ []) []))) [ true ↦ atom (slot_at r n) v tt | false ↦ nothing ]
     held v r (at_descriptor n) = elim (ltb n (length t.descriptors)) as (λ c. Bound (map (use_of v) (cond c (one (descriptor_at n) ∷ []) []))) [ true ↦ atom (descriptor_at n) v tt | false ↦ nothing ]
 
@@ -114,7 +115,7 @@ module _ (t : Trace) where
     makes_bound (making p) = made
     makes_bound _ = nothing
 
-    room_bound : (s : World) (r : ℕ) (earlier : List Footprint) (x : Option (Option ℕ)) → Bound (each (room_at t s r (written_by earlier)) x)
+    room_bound : (s : World) (r : ℕ) (earlier : List Footprint) (x : Option (Option ℕ)) → Bound (each (room_at (in_ring t r) s (written_by earlier)) x)
     room_bound s r earlier None = nothing
     room_bound s r earlier (Some (Some n)) = held true r (in_slot n)
     room_bound s r earlier (Some None) =
@@ -125,26 +126,26 @@ module _ (t : Trace) where
         at None = nothing
         at (Some n) = atom (descriptor_at n) true tt
 
-    span_bound : (v : Bool) (r : ℕ) (x : Span) → Bound (span_use v t r x)
-    span_bound v r x = at (span_start t r x)
+    span_bound : (v : Bool) (r : ℕ) (x : Span) → Bound (span_use (in_ring t r) v x)
+    span_bound v r x = at (span_start (in_ring t r) x)
       where
         at : (y : Option ℕ) → Bound (each (λ p. use_of v (buffer_bytes r x.index p (p + x.length)) ∷ []) y)
         at None = nothing
         at (Some p) = item (buffer_bytes r x.index p (p + x.length)) v (of_buffer r x.index p (p + x.length))
 
-    file_bound : (r : ℕ) (f : File) → Bound (unresolved_file t k r f)
-    file_bound r f = all (file_reads t r f) (all_files t k) (held false r f)
+    file_bound : (r : ℕ) (f : File) → Bound (unresolved_file (sited t k r) f)
+    file_bound r f = all (file_reads (in_ring t r) f) (all_files t k) (held false r f)
         (all (writes (all_bytes_and_sizes (made_node t k)) ∷ []) _ (item _ true of_files)
         (all (writes (all_positions (made_description t k)) ∷ []) _ (item _ true of_positions) (item _ false of_descriptions)))
 
     names_bound : Bound (any_name t k)
     names_bound = item _ true of_names
 
-    shape_bound : (r : ℕ) (x : Shape) → Bound (unresolved_shape t k r x)
+    shape_bound : (r : ℕ) (x : Shape) → Bound (unresolved_shape (sited t k r) x)
     shape_bound r idle = nothing
     shape_bound r (looking f) = held false r f
     shape_bound r (moving w f o n None) = file_bound r f
-    shape_bound r (moving w f o n (Some x)) = all (unresolved_file t k r f) _ (file_bound r f) (span_bound (not w) r x)
+    shape_bound r (moving w f o n (Some x)) = all (unresolved_file (sited t k r) f) _ (file_bound r f) (span_bound (not w) r x)
     shape_bound r (allocating f o n mode) = file_bound r f
     shape_bound r (resizing f n) = file_bound r f
     shape_bound r (closing f) = held true r f

@@ -4,6 +4,7 @@ use Rattle.std.specs.Prelude.{T, ◌&&◌, leb, Option, Some, None}
 use Rattle.std.proofs.lemmas.Bool.{cases_Bool, cond-true, cond-false}
 use Rattle.interleaving.proofs.Members.{has-here}
 use Rattle.interleaving.specs.Machine.{has}
+use Rattle.op_meaning.specs.Site.{in_ring}
 use Rattle.trace_format.specs.declared.trace.Trace.{Trace}
 use Rattle.trace_format.specs.Steps.{places}
 use Rattle.trace_format.specs.Text.{IsSpelled}
@@ -83,7 +84,7 @@ write_alone t window r i k lt now h = record {
 same_extras : (t : Trace) (k : ℕ) (s u : World) (earlier later : List Footprint) (x : Option Turn) → turn_takes_lowest x ≡ false → extras_of t k u later x ≡ extras_of t k s earlier x
 same_extras t k s u earlier later x e = extras_same t k s u earlier later x (λ r y o is. room r o (ap turn_takes_lowest (sym is) ∙ e))
   where
-    room : (r : ℕ) (o : Operation) → takes_lowest o ≡ false → room_taken t u r later o ≡ room_taken t s r earlier o
+    room : (r : ℕ) (o : Operation) → takes_lowest o ≡ false → room_taken (in_ring t r) u later o ≡ room_taken (in_ring t r) s earlier o
     room r (openat p g None) h = absurd (cc h)
     room r (openat p g (Some n)) h = refl
     room r _ h = refl

@@ -11,11 +11,12 @@ use Rattle.file_tree.specs.Walk.{Place}
 use Rattle.world_parts.specs.World.{World}
 use Rattle.world_parts.specs.Items.{Atom, descriptor_at, size_of, one, all_descriptors, member_of, Use, reads, writes, Footprint, has_atom}
 use Rattle.world_parts.proofs.Collision.{either_left, same_atom-eq}
-use Rattle.op_meaning.specs.Meaning.{Found, found, meaning, made_node, Handle, is_file, allocation, Allocation, extend, lowest_free}
+use Rattle.op_meaning.specs.Site.{at_place, in_ring, sited}
+use Rattle.op_meaning.specs.Meaning.{Found, found, meaning, made_node, Handle, is_file, allocation, Allocation, extend, lowest_free, shape}
 use Rattle.foot_print.specs.Footprint.{tried, foreseen, shape_row, look_reads, uses, uses_in, content_of, moved_uses, opening_uses, opened_at, directory_made, as_reads, would_extend, position_use, span_use, allocation_uses, name_written, made_where, room_uses, description_made, open_uses, row_in, turn_uses, write_content}
-use Rattle.op_meaning.specs.Shape.{Shape, moving, allocating, opening, making, shape, look}
+use Rattle.op_meaning.specs.Shape.{Shape, moving, allocating, opening, making, look}
 use Rattle.op_meaning.specs.Step.{Turn, filled, runs}
-use Rattle.foot_print.specs.Reach.{shape_asked, room_asked, room_at, written_by, is_met, taken, makes, room_taken, Look, look_of, task, order_of, running_row}
+use Rattle.foot_print.specs.Reach.{shape_asked, room_asked, room_at, written_by, is_met, taken, makes, room_taken, LookedUp, look_of, task, order_of, running_row}
 use Rattle.foot_print.proofs.Agreement.{in_left, in_right, has_atom-as_reads}
 use Rattle.foot_print.proofs.Holding.{split, drop_false}
 use Rattle.foot_print.proofs.RowsHeld.{accepted_over_row}
@@ -52,7 +53,7 @@ module _ (t : Trace) (k r : ℕ) (s : World) where
 
   -- What an operation has as accepted, and its room where no may-access set before it writes a descriptor.
   abbrev shape_items : Shape → Footprint
-  shape_items x = shape_row t k r s foreseen x ++ each (room_at t s r (written_by [])) (shape_asked x)
+  shape_items x = shape_row (sited t k r) s foreseen x ++ each (room_at (in_ring t r) s (written_by [])) (shape_asked x)
 
   abbrev accepted_items : Operation → Footprint
   accepted_items o = shape_items (shape o)
@@ -68,61 +69,61 @@ module _ (t : Trace) (k r : ℕ) (s : World) where
   allocation_has b i at end (Some extend) = record { has = λ a m. m }
   allocation_has b i at end _ = record { has = λ a m. m }
 
-  room_has : (asked : Option ℕ) → Has (room_uses t s r asked) (room_at t s r (written_by []) asked)
-  room_has None = has_self (room_uses t s r None)
-  room_has (Some n) = has_self (room_uses t s r (Some n))
+  room_has : (asked : Option ℕ) → Has (room_uses (in_ring t r) s asked) (room_at (in_ring t r) s (written_by []) asked)
+  room_has None = has_self (room_uses (in_ring t r) s None)
+  room_has (Some n) = has_self (room_uses (in_ring t r) s (Some n))
 
-  open_has : (b : Bool) (g : OpenFlags) (asked : Option ℕ) (z : Result Place Errno) → Has (opening_uses t k r s (tried b) g asked z) (each_ok (opened_at t k foreseen g) z ++ room_at t s r (written_by []) asked)
+  open_has : (b : Bool) (g : OpenFlags) (asked : Option ℕ) (z : Result Place Errno) → Has (opening_uses (sited t k r) s (tried b) g asked z) (each_ok (opened_at (at_place t k) foreseen g) z ++ room_at (in_ring t r) s (written_by []) asked)
   open_has b g asked z =
-      has_all (opening_uses t k r s (tried b) g asked z) (each_ok (opened_at t k foreseen g) z) _
-      (has_second (room_uses t s r asked ++ made_where (tried b) (description_made t k)) _ _ (at z))
+      has_all (opening_uses (sited t k r) s (tried b) g asked z) (each_ok (opened_at (at_place t k) foreseen g) z) _
+      (has_second (room_uses (in_ring t r) s asked ++ made_where (tried b) (description_made t k)) _ _ (at z))
       (has_first _ _ _ (has_first _ _ _ (room_has asked)))
     where
-      placed : (q : Place) (y : Option Target) → Has (open_uses t k (tried b) g q y) (open_uses t k foreseen g q y)
+      placed : (q : Place) (y : Option Target) → Has (open_uses (at_place t k) (tried b) g q y) (open_uses (at_place t k) foreseen g q y)
       placed q None = elim g.create as (λ c. Has (cond c (name_written q ++ made_where (tried b) (writes (one (size_of (made_node t k))) ∷ [])) []) (cond c (name_written q ++ []) [])) [ true ↦ has_first (name_written q) _ _ (has_self (name_written q)) | false ↦ has_nothing [] ]
-      placed q (Some y) = has_self (open_uses t k foreseen g q (Some y))
+      placed q (Some y) = has_self (open_uses (at_place t k) foreseen g q (Some y))
 
-      at : (w : Result Place Errno) → Has (each_ok (opened_at t k (tried b) g) w) (each_ok (opened_at t k foreseen g) w)
+      at : (w : Result Place Errno) → Has (each_ok (opened_at (at_place t k) (tried b) g) w) (each_ok (opened_at (at_place t k) foreseen g) w)
       at (Ok q) = placed q q.target
       at (Err e) = has_nothing []
 
-  mkdir_has : (b : Bool) (z : Result Place Errno) → Has (each_ok (directory_made t k (tried b)) z) (each_ok (directory_made t k foreseen) z)
+  mkdir_has : (b : Bool) (z : Result Place Errno) → Has (each_ok (directory_made (at_place t k) (tried b)) z) (each_ok (directory_made (at_place t k) foreseen) z)
   mkdir_has b (Ok q) = has_both (name_written q) _ (name_written q) [] (has_self (name_written q)) (has_nothing _)
   mkdir_has b (Err e) = has_nothing []
 
-  uses_has : (b : Bool) (x : Shape) (z : Found) → Has (uses t k r s (tried b) x z) (uses t k r s foreseen x z ++ each (room_at t s r (written_by [])) (shape_asked x))
+  uses_has : (b : Bool) (x : Shape) (z : Found) → Has (uses (sited t k r) s (tried b) x z) (uses (sited t k r) s foreseen x z ++ each (room_at (in_ring t r) s (written_by [])) (shape_asked x))
   uses_has b (moving w f o n None) z = only _ _ (moved_has b w o n z.file)
-  uses_has b (moving w f o n (Some x)) z = only _ _ (has_both _ (span_use (not w) t r x) _ (span_use (not w) t r x) (moved_has b w o n z.file) (has_self _))
+  uses_has b (moving w f o n (Some x)) z = only _ _ (has_both _ (span_use (in_ring t r) (not w) x) _ (span_use (in_ring t r) (not w) x) (moved_has b w o n z.file) (has_self _))
   uses_has b (allocating f o n mode) z = only _ _ (has_content _ _ (λ i h. allocation_has (would_extend s i (o + n)) i o (o + n) (allocation mode)) z.file)
   uses_has b (opening p g asked) z = open_has b g asked z.place
   uses_has b (making p) z = only _ _ (mkdir_has b z.place)
-  uses_has b x z = only (uses t k r s foreseen x z) (uses t k r s foreseen x z) (has_self (uses t k r s foreseen x z))
+  uses_has b x z = only (uses (sited t k r) s foreseen x z) (uses (sited t k r) s foreseen x z) (has_self (uses (sited t k r) s foreseen x z))
 
   in_row : (b : Bool) (f : Footprint) → Has (cond b f (as_reads f)) f
   in_row true f = has_self f
   in_row false f = record { has = has_atom-as_reads f }
 
   -- The row of an operation in a world has them.
-  row_in_has : (o : Operation) → Has (row_in t k r s o) (accepted_items o)
+  row_in_has : (o : Operation) → Has (row_in (sited t k r) s o) (accepted_items o)
   row_in_has o =
-      has_all (row_in t k r s o) (looks ++ accepted) room
-      (has_all (row_in t k r s o) looks accepted (has_first looks own looks (has_self looks)) (has_second looks own accepted (record { has = λ a m. both.has a (in_left (λ (v : Use). member_of v.item a) accepted room m) })))
+      has_all (row_in (sited t k r) s o) (looks ++ accepted) room
+      (has_all (row_in (sited t k r) s o) looks accepted (has_first looks own looks (has_self looks)) (has_second looks own accepted (record { has = λ a m. both.has a (in_left (λ (v : Use). member_of v.item a) accepted room m) })))
       (has_second looks own room (record { has = λ a m. both.has a (in_right (λ (v : Use). member_of v.item a) accepted room m) }))
     where
       looks : Footprint
-      looks = look_reads t r s (look (shape o))
+      looks = look_reads (in_ring t r) s (look (shape o))
 
       own : Footprint
-      own = uses_in t k r s o (found t r s (look (shape o)))
+      own = uses_in (sited t k r) s o (found (in_ring t r) s (look (shape o)))
 
       accepted : Footprint
-      accepted = uses t k r s foreseen (shape o) (found t r s (look (shape o)))
+      accepted = uses (sited t k r) s foreseen (shape o) (found (in_ring t r) s (look (shape o)))
 
       room : Footprint
-      room = each (room_at t s r (written_by [])) (shape_asked (shape o))
+      room = each (room_at (in_ring t r) s (written_by [])) (shape_asked (shape o))
 
-      both : Has (uses_in t k r s o (found t r s (look (shape o)))) (uses t k r s foreseen (shape o) (found t r s (look (shape o))) ++ each (room_at t s r (written_by [])) (shape_asked (shape o)))
-      both = record { has = λ a m. (in_row (is_ok (meaning t k r s o)) _).has a ((uses_has (is_ok (meaning t k r s o)) (shape o) (found t r s (look (shape o)))).has a m) }
+      both : Has (uses_in (sited t k r) s o (found (in_ring t r) s (look (shape o)))) (uses (sited t k r) s foreseen (shape o) (found (in_ring t r) s (look (shape o))) ++ each (room_at (in_ring t r) s (written_by [])) (shape_asked (shape o)))
+      both = record { has = λ a m. (in_row (is_ok (meaning (sited t k r) s o)) _).has a ((uses_has (is_ok (meaning (sited t k r) s o)) (shape o) (found (in_ring t r) s (look (shape o)))).has a m) }
 
 module _ (t : Trace) (k : ℕ) (s u : World) where
   any_room : (x : Option ℕ) (a : Atom) → T (has_atom (reads all_descriptors ∷ each (λ n. writes (one (descriptor_at n)) ∷ []) x) a) → T (member_of all_descriptors a)
@@ -133,30 +134,30 @@ module _ (t : Trace) (k : ℕ) (s u : World) where
   ]
 
   -- The room of openat has all descriptors in both worlds.
-  rooms : (r : ℕ) (x : Option (Option ℕ)) → Has (each (room_at t u r (written_by [])) x) (each (room_at t s r (written_by [])) x)
+  rooms : (r : ℕ) (x : Option (Option ℕ)) → Has (each (room_at (in_ring t r) u (written_by [])) x) (each (room_at (in_ring t r) s (written_by [])) x)
   rooms r None = has_nothing []
   rooms r (Some None) = record { has = λ a h. either_left (member_of all_descriptors a) _ (any_room (lowest_free t s) a h) }
-  rooms r (Some (Some n)) = has_self (room_uses t s r (Some n))
+  rooms r (Some (Some n)) = has_self (room_uses (in_ring t r) s (Some n))
 
-  operation_items : (r : ℕ) (o : Operation) → taken t k r u o ≡ taken t k r s o → Has (makes t k o ++ row_in t k r u o) (row_in t k r s o)
+  operation_items : (r : ℕ) (o : Operation) → taken (sited t k r) u o ≡ taken (sited t k r) s o → Has (makes t k o ++ row_in (sited t k r) u o) (row_in (sited t k r) s o)
   operation_items r o same = record { has = at }
     where
-      from_row : (a : Atom) → T (has_atom (taken t k r u o ++ room_taken t u r [] o) a) → T (has_atom (makes t k o ++ row_in t k r u o) a)
-      from_row a m = in_right (λ (v : Use). member_of v.item a) (makes t k o) (row_in t k r u o) ((row_in_has t k r u o).has a m)
+      from_row : (a : Atom) → T (has_atom (taken (sited t k r) u o ++ room_taken (in_ring t r) u [] o) a) → T (has_atom (makes t k o ++ row_in (sited t k r) u o) a)
+      from_row a m = in_right (λ (v : Use). member_of v.item a) (makes t k o) (row_in (sited t k r) u o) ((row_in_has t k r u o).has a m)
 
-      at : (a : Atom) → T (has_atom (row_in t k r s o) a) → T (has_atom (makes t k o ++ row_in t k r u o) a)
+      at : (a : Atom) → T (has_atom (row_in (sited t k r) s o) a) → T (has_atom (makes t k o ++ row_in (sited t k r) u o) a)
       at a h =
-          elim (split (λ (v : Use). member_of v.item a) (taken t k r s o) (makes t k o ++ room_taken t s r [] o) ((accepted_over_row t k r s o []).has a tt h)) [
-            | inl m ↦ from_row a (in_left (λ (v : Use). member_of v.item a) (taken t k r u o) (room_taken t u r [] o) (subst (λ f. T (has_atom f a)) (sym same) m))
-            | inr m ↦ elim (split (λ (v : Use). member_of v.item a) (makes t k o) (room_taken t s r [] o) m) [
-              | inl n ↦ in_left (λ (v : Use). member_of v.item a) (makes t k o) (row_in t k r u o) n
-              | inr n ↦ from_row a (in_right (λ (v : Use). member_of v.item a) (taken t k r u o) (room_taken t u r [] o) ((rooms r (room_asked o)).has a n))
+          elim (split (λ (v : Use). member_of v.item a) (taken (sited t k r) s o) (makes t k o ++ room_taken (in_ring t r) s [] o) ((accepted_over_row t k r s o []).has a tt h)) [
+            | inl m ↦ from_row a (in_left (λ (v : Use). member_of v.item a) (taken (sited t k r) u o) (room_taken (in_ring t r) u [] o) (subst (λ f. T (has_atom f a)) (sym same) m))
+            | inr m ↦ elim (split (λ (v : Use). member_of v.item a) (makes t k o) (room_taken (in_ring t r) s [] o) m) [
+              | inl n ↦ in_left (λ (v : Use). member_of v.item a) (makes t k o) (row_in (sited t k r) u o) n
+              | inr n ↦ from_row a (in_right (λ (v : Use). member_of v.item a) (taken (sited t k r) u o) (room_taken (in_ring t r) u [] o) ((rooms r (room_asked o)).has a n))
             ]
           ]
 
   turn_items : (x : Option Turn) → look_of t k u x ≡ look_of t k s x → Has (made_of t k x ++ each (turn_uses t k u) x) (each (turn_uses t k s) x)
   turn_items (Some (filled r b at new)) same = has_self _
-  turn_items (Some (runs r e o)) same = operation_items r o (ap (λ (l : Look). l.items) same)
+  turn_items (Some (runs r e o)) same = operation_items r o (ap (λ (l : LookedUp). l.items) same)
   turn_items _ same = has_nothing _
 
   abbrev made : Footprint

@@ -3,6 +3,7 @@ use Rattle.std.specs.Prelude.{◌≡◌, ℕ, suc, Bool, true, false, T, List, [
 use Rattle.std.proofs.lemmas.Bool.{cases_Bool}
 use Rattle.std.proofs.Common.{inl, inr, sym, ap, ◌∙◌}
 use Rattle.interleaving.specs.System.{AgreeOn, NoneWrites}
+use Rattle.op_meaning.specs.Site.{in_ring}
 use Rattle.trace_format.specs.declared.trace.Trace.{Trace}
 use Rattle.trace_format.specs.declared.entry.Entry.{Entry}
 use Rattle.trace_format.specs.Steps.{places}
@@ -31,7 +32,7 @@ use Rattle.wave_pick.proofs.Waiting.{value_stays, row_in_reach, look_next}
 module _ (t : Trace) (k : ℕ) where
   -- What a turn may make and its room are the same where the room is of what it runs.
   pub extras_same : (s u : World) (earlier later : List Footprint) (x : Option Turn)
-      → ((r : ℕ) (e : Entry) (o : Operation) → x ≡ Some (runs r e o) → room_taken t u r later o ≡ room_taken t s r earlier o)
+      → ((r : ℕ) (e : Entry) (o : Operation) → x ≡ Some (runs r e o) → room_taken (in_ring t r) u later o ≡ room_taken (in_ring t r) s earlier o)
       → extras_of t k u later x ≡ extras_of t k s earlier x
   extras_same s u earlier later (Some (runs r e o)) room = ap (λ f. makes t k o ++ f) (room r e o refl)
   extras_same s u earlier later _ room = refl
@@ -40,8 +41,8 @@ module _ (t : Trace) (k : ℕ) where
   extras_by_writing : (s : World) (earlier others : List Footprint) → written_by earlier all_descriptors ≡ written_by others all_descriptors → (x : Option Turn) → extras_of t k s earlier x ≡ extras_of t k s others x
   extras_by_writing s earlier others same x = extras_same s s others earlier x (λ r e o _. room r o)
     where
-      room : (r : ℕ) (o : Operation) → room_taken t s r earlier o ≡ room_taken t s r others o
-      room r (openat p g None) = ap (λ b. if b then writes all_descriptors ∷ [] else room_uses t s r None) same
+      room : (r : ℕ) (o : Operation) → room_taken (in_ring t r) s earlier o ≡ room_taken (in_ring t r) s others o
+      room r (openat p g None) = ap (λ b. if b then writes all_descriptors ∷ [] else room_uses (in_ring t r) s None) same
       room r (openat p g (Some n)) = refl
       room r _ = refl
 
@@ -50,15 +51,15 @@ module _ (t : Trace) (k : ℕ) where
   extras_in_world s u earlier x same = extras_same s u earlier earlier x
       (λ r e o is. room r o (λ a none h. same a none (ap (λ y. has_atom (extras_of t k s earlier y) a) is ∙ h)))
     where
-      descriptors_there : (r : ℕ) (b : Bool) (n : ℕ) → T (has_atom (if b then writes all_descriptors ∷ [] else room_uses t s r None) (descriptor_at n))
+      descriptors_there : (r : ℕ) (b : Bool) (n : ℕ) → T (has_atom (if b then writes all_descriptors ∷ [] else room_uses (in_ring t r) s None) (descriptor_at n))
       descriptors_there r true n = tt
       descriptors_there r false n = tt
 
-      room : (r : ℕ) (o : Operation) → ((a : Atom) → NoneWrites (replayed t) earlier a → has_atom (makes t k o ++ room_taken t s r earlier o) a ≡ true
-          → value s a ≡ value u a) → room_taken t u r earlier o ≡ room_taken t s r earlier o
+      room : (r : ℕ) (o : Operation) → ((a : Atom) → NoneWrites (replayed t) earlier a → has_atom (makes t k o ++ room_taken (in_ring t r) s earlier o) a ≡ true
+          → value s a ≡ value u a) → room_taken (in_ring t r) u earlier o ≡ room_taken (in_ring t r) s earlier o
       room r (openat p g None) h = room_same t r s u earlier (openat p g None)
           (λ e n. h (descriptor_at n) (unwritten t earlier all_descriptors (descriptor_at n) e tt)
-          (true_of _ (in_right (λ (v : Use). member_of v.item (descriptor_at n)) (makes t k (openat p g None)) (room_taken t s r earlier (openat p g None))
+          (true_of _ (in_right (λ (v : Use). member_of v.item (descriptor_at n)) (makes t k (openat p g None)) (room_taken (in_ring t r) s earlier (openat p g None))
           (descriptors_there r (written_by earlier all_descriptors) n))))
       room r (openat p g (Some n)) h = refl
       room r _ h = refl

@@ -8,7 +8,7 @@ use Rattle.chain_plan.specs.Chain.{role}
 use Rattle.world_parts.specs.World.{World}
 use Rattle.world_parts.specs.Items.{chain_flag, one, all_descriptors, Use, Footprint}
 use Rattle.op_meaning.specs.Step.{Turn, runs, turn}
-use Rattle.foot_print.specs.Reach.{written_by, is_met, makes, Look, look_of, task, is_canceled, is_taken_to_run, order_of, running_row, accepted_row, wide_row}
+use Rattle.foot_print.specs.Reach.{written_by, is_met, makes, LookedUp, look_of, task, is_canceled, is_taken_to_run, order_of, running_row, accepted_row, wide_row}
 use Rattle.wave_pick.specs.Orders.{InOrder}
 use Rattle.wave_pick.specs.Rounds.{state_after, wave_after}
 use Rattle.wave_pick.specs.Holds.{Waits, world_after, footprint_after, reaches_after, reach_after, HoldsBack}
@@ -52,7 +52,7 @@ CanceledUsesOrder t = (window r k : ℕ) → ChainIsSettled t window r k → is_
     → (footprint_after t window r k ≡ order_of t k) × (reach_after t window r k ≡ order_of t k)
 
 -- What a place looks up after r rounds: the items that decide its others, and its items as accepted.
-abbrev pub look_after : Trace → ℕ → ℕ → ℕ → Look
+abbrev pub look_after : Trace → ℕ → ℕ → ℕ → LookedUp
 look_after t window r k = look_of t k (world_after t window r) (task t k)
 
 -- A place that may run, where no may-access set before it writes an item that decides its others.

@@ -4,6 +4,7 @@ use Rattle.foot_print.specs.Shapes.{shape_meant}
 use Rattle.foot_print.proofs.Outlooks as outlooks
 use Rattle.item_index.specs.Ahead.{written_before}
 use Rattle.foot_print.specs.Footprint.{look_reads, order_uses}
+use Rattle.op_meaning.specs.Site.{site_meant}
 use Rattle.op_meaning.specs.Shape.{look}
 use Rattle.foot_print.proofs.reaching.operation_outlook.Goals as goal
 
@@ -12,7 +13,7 @@ returns-in-Some c =
     let a = c.args in
     let order = order_uses a.site.ring a.role_there.now in
     let shape = shape_meant c.shape_of-shape.result in
-    let looked = c.in_ok-lookup.ensures.seen ∙ ap (λ f. f ++ look_reads a.site.trace.now a.site.ring a.state.now (look shape)) c.new-deciding.ensures in
+    let looked = c.in_ok-lookup.ensures.seen ∙ ap (λ f. f ++ look_reads (site_meant a.site) a.state.now (look shape)) c.new-deciding.ensures in
     let first = sym c.first_met.ensures.first ∙ c.in-Some.is in
     record {
       reach =
@@ -28,8 +29,8 @@ returns c =
     let a = c.args in
     let order = order_uses a.site.ring a.role_there.now in
     let shape = shape_meant c.shape_of-shape.result in
-    let looked = c.in_ok-lookup.ensures.seen ∙ ap (λ f. f ++ look_reads a.site.trace.now a.site.ring a.state.now (look shape)) c.new-deciding.ensures in
-    let known = c.in_ok-append.ensures ∙ (λ i. c.in_ok-known.ensures i ++ (looked ∙ ap (λ x. look_reads a.site.trace.now a.site.ring a.state.now (look x)) c.shape_of-shape.ensures) i) in
+    let looked = c.in_ok-lookup.ensures.seen ∙ ap (λ f. f ++ look_reads (site_meant a.site) a.state.now (look shape)) c.new-deciding.ensures in
+    let known = c.in_ok-append.ensures ∙ (λ i. c.in_ok-known.ensures i ++ (looked ∙ ap (λ x. look_reads (site_meant a.site) a.state.now (look x)) c.shape_of-shape.ensures) i) in
     let none = sym c.first_met.ensures.first ∙ c.in_default.is in
     record {
       reach =

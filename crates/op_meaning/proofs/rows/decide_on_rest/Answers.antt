@@ -1,3 +1,4 @@
+use Rattle.op_meaning.specs.Site.{site_meant}
 use Rattle.op_meaning.proofs.rows.decide_on_rest.Goals as goal
 
 pub returns-in-Fallocate-clause-meaning : goal.returns-in-Fallocate-clause-meaning
@@ -38,21 +39,21 @@ returns-in-Mkdirat-clause-limits c = c.making.ensures.limits
 
 pub returns-in-Unlinkat-clause-meaning : goal.returns-in-Unlinkat-clause-meaning
 returns-in-Unlinkat-clause-meaning c =
-    rw c.in-Unlinkat.is (rw c.unlinking.ensures at (c.changing-in-Unlinkat.ensures.meaning c.args.site.trace.now c.args.site.place c.args.site.ring c.args.state.now))
+    rw c.in-Unlinkat.is (rw c.unlinking.ensures at (c.changing-in-Unlinkat.ensures.meaning (site_meant c.args.site) c.args.state.now))
 
 pub returns-in-Unlinkat-clause-limits : goal.returns-in-Unlinkat-clause-limits
 returns-in-Unlinkat-clause-limits c = c.changing-in-Unlinkat.ensures.limits c.args.state.now c.args.site.ring
 
 pub returns-in-Linkat-clause-meaning : goal.returns-in-Linkat-clause-meaning
 returns-in-Linkat-clause-meaning c =
-    rw c.in-Linkat.is (rw c.linking.ensures at (c.changing-in-Linkat.ensures.meaning c.args.site.trace.now c.args.site.place c.args.site.ring c.args.state.now))
+    rw c.in-Linkat.is (rw c.linking.ensures at (c.changing-in-Linkat.ensures.meaning (site_meant c.args.site) c.args.state.now))
 
 pub returns-in-Linkat-clause-limits : goal.returns-in-Linkat-clause-limits
 returns-in-Linkat-clause-limits c = c.changing-in-Linkat.ensures.limits c.args.state.now c.args.site.ring
 
 pub returns-in-Renameat-clause-meaning : goal.returns-in-Renameat-clause-meaning
 returns-in-Renameat-clause-meaning c =
-    rw c.in-Renameat.is (rw c.renaming.ensures at (c.changing.ensures.meaning c.args.site.trace.now c.args.site.place c.args.site.ring c.args.state.now))
+    rw c.in-Renameat.is (rw c.renaming.ensures at (c.changing.ensures.meaning (site_meant c.args.site) c.args.state.now))
 
 pub returns-in-Renameat-clause-limits : goal.returns-in-Renameat-clause-limits
 returns-in-Renameat-clause-limits c = c.changing.ensures.limits c.args.state.now c.args.site.ring

@@ -22,4 +22,4 @@ returns-clause-state c =
     let whole = unwrap_or (buffer s c.args.ring w.index) [] in
     let long : w.count ≡ length (range_of whole w.at (w.at + w.count)) = sym (length-range_of whole w.at (w.at + w.count) c.requires.inside ∙ omega arith) in
     let put = c.in_ok-write_from_buffer.ensures ∙ ap (λ j. apply (write_bytes h.opened.target.node w.start (range_of (unwrap_or (buffer s c.args.ring j) []) w.at (w.at + w.count))) s) c.from.ensures in
-    c.advance.ensures ∙ (λ i. apply_all (advance h w.offset (w.start + long i)) (put i))
+    c.advance.ensures ∙ (λ i. apply_all (advance w.offset h (w.start + long i)) (put i))

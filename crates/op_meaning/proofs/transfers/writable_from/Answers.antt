@@ -6,6 +6,7 @@ use Rattle.entry_checks.specs.Meant.{span_meant}
 use Rattle.entry_checks.specs.Operation.{file_limit}
 use Rattle.world_parts.specs.World.{buffer}
 use Rattle.op_meaning.specs.Handles.{found, handle_meant, opened_meant}
+use Rattle.op_meaning.specs.Site.{in_ring}
 use Rattle.op_meaning.specs.Meaning.{is_bad_offset, span_start, writable}
 use Rattle.op_meaning.proofs.SpanWrites.{bytes_from, found_at, span_written}
 use Rattle.op_meaning.proofs.transfers.writable_from.Goals.{else-count-ne0-via-then-count-ne0+else-start-ge-LARGEST, else-count-ne0-via-else-count-ne0}
@@ -23,7 +24,7 @@ returns-clause-meaning c =
     let new = bytes_from (buffer s r c.args.span.index) at c.args.span.length in
     let long : c.count_in_buffer-count.result ≡ length new = c.count_in_buffer-count.ensures.count in
     let passed : writable there ≡ Ok (handle_meant s c.in_ok-file.file) = sym (c.writable.ensures s) ∙ ap (found s) c.in_ok-file.was in
-    let starts : Some at ≡ span_start t r x = found_at c.span_start.result EFAULT at (sym c.ok_or.ensures.value ∙ c.in_ok-at.was) ∙ c.span_start.ensures.place in
+    let starts : Some at ≡ span_start (in_ring t r) x = found_at c.span_start.result EFAULT at (sym c.ok_or.ensures.value ∙ c.in_ok-at.was) ∙ c.span_start.ensures.place in
     let good : is_bad_offset c.args.offset ≡ false = sym c.is_bad_offset.ensures ∙ c.if-is_bad_offset.false in
     let below : 0 < length new → start < file_limit = λ some. elim c.else-count-ne0.branch [
       | else-count-ne0-via-then-count-ne0+else-start-ge-LARGEST w ↦ omega (arith, w.if-start-ge-LARGEST.false)

@@ -15,8 +15,8 @@ returns-in-Compare g c =
     let equal = c.in_ok-verdict.ensures.ok in
     let told = c.told.ensures in
     record {
-      done = told_whole c.args.options.now _ _ _ _ t c.in-Compare.workers c.in-Compare.window c.in-Compare.eager verdict _ read.ok c.in-Compare.is equal told.whole;
-      part = λ failed. comparison_part c.args.options.now _ _ _ _ t c.in-Compare.workers c.in-Compare.window c.in-Compare.eager verdict read.ok c.in-Compare.is equal (told.part failed);
+      done = told_whole c.args.options.now c.args.form _ _ _ _ t c.in-Compare.workers c.in-Compare.window c.in-Compare.eager verdict _ read.ok c.in-Compare.is equal told.whole;
+      part = λ failed. comparison_part c.args.options.now c.args.form _ _ _ _ t c.in-Compare.workers c.in-Compare.window c.in-Compare.eager verdict read.ok c.in-Compare.is equal (told.part failed);
       nothing = told_nothing _ _ _ told.memory told.nothing;
       taken = read.taken;
       reading = told_reading _ _ t _ read.ok (told.equal equal) told.memory;
@@ -79,10 +79,10 @@ pub returns : goal.returns
 returns g c =
     let t = c.in_ok-trace.trace.value in
     let read = c.in_ok-trace.ensures.ok in
-    let told = subst (λ trace. IsOutputOf c.args.options.now trace c.in_ok-output.output) c.deref-2.ensures c.in_ok-output.ensures.ok in
+    let told = subst (λ trace. IsOutputOf c.args.options.now c.args.form trace c.in_ok-output.output) c.deref-2.ensures c.in_ok-output.ensures.ok in
     record {
-      done = whole c.args.options.now _ _ _ _ t _ _ read told c.written_pieces.ensures.ok;
-      part = part c.args.options.now _ _ _ _ t _ _ read told c.written_pieces.ensures.part;
+      done = whole c.args.options.now c.args.form _ _ _ _ t _ _ read told c.written_pieces.ensures.ok;
+      part = part c.args.options.now c.args.form _ _ _ _ t _ _ read told c.written_pieces.ensures.part;
       nothing = writes_alone _ _ c.written_pieces.ensures.err;
       taken = c.in_ok-trace.ensures.taken;
       reading = tells_read _ _ t _ read c.written_pieces.ensures.err;

@@ -39,14 +39,14 @@ returns-in_err-output g c =
 pub returns-clause-done : goal.returns-clause-done
 returns-clause-done g c =
     let t = c.in_ok-trace.trace.value in
-    let told = subst (λ trace. IsOutputOf c.args.options.now trace c.in_ok-output.output) c.deref.ensures c.in_ok-output.ensures.ok in
-    whole c.args.options.now _ _ _ _ t _ _ c.in_ok-trace.ensures.ok told c.written_pieces.ensures.ok
+    let told = subst (λ trace. IsOutputOf c.args.options.now c.args.form trace c.in_ok-output.output) c.deref.ensures c.in_ok-output.ensures.ok in
+    whole c.args.options.now c.args.form _ _ _ _ t _ _ c.in_ok-trace.ensures.ok told c.written_pieces.ensures.ok
 
 pub returns-clause-part : goal.returns-clause-part
 returns-clause-part g c =
     let t = c.in_ok-trace.trace.value in
-    let told = subst (λ trace. IsOutputOf c.args.options.now trace c.in_ok-output.output) c.deref.ensures c.in_ok-output.ensures.ok in
-    part c.args.options.now _ _ _ _ t _ _ c.in_ok-trace.ensures.ok told c.written_pieces.ensures.part
+    let told = subst (λ trace. IsOutputOf c.args.options.now c.args.form trace c.in_ok-output.output) c.deref.ensures c.in_ok-output.ensures.ok in
+    part c.args.options.now c.args.form _ _ _ _ t _ _ c.in_ok-trace.ensures.ok told c.written_pieces.ensures.part
 
 pub returns-clause-nothing : goal.returns-clause-nothing
 returns-clause-nothing g c = writes_alone _ _ c.written_pieces.ensures.err

@@ -9,5 +9,6 @@ returns-in-Some c =
     λ none. (
       no_name c.args.matches.now chosen (codes "file") (λ s. s.now) c.get_str.result rows c.get_str.ensures none.0,
       no_name c.args.matches.now chosen (codes "second") (λ s. s.now) c.get_str-in-Some.result rows c.get_str-in-Some.ensures none.1,
-      no_name c.args.matches.now chosen (codes "output") (λ s. s.now) c.get_str-in-Some-2.result rows c.get_str-in-Some-2.ensures none.2,
+      no_name c.args.matches.now chosen (codes "output") (λ s. s.now) c.get_str-in-Some-3.result rows c.get_str-in-Some-3.ensures none.2,
+      no_name c.args.matches.now chosen (codes "show") (λ s. s.now) c.get_str-in-Some-2.result rows c.get_str-in-Some-2.ensures none.3,
     )

@@ -1,4 +1,4 @@
-use Rattle.std.proofs.Common.{◌≡◌, ◌∙◌, ◌<◌, ap, ap₂, length, string_bytes, ◌++◌, arith}
+use Rattle.std.proofs.Common.{◌≡◌, ◌∙◌, ◌<◌, ap, ap₂, length, ◌++◌, arith}
 use Rattle.std.specs.Prelude.{slice_index_or}
 use Rattle.replay_report.proofs.ReportLemmas.{range_grown}
 use Rattle.round_report.specs.Rounds.{log_meant, logged_line, place_line}
@@ -13,5 +13,5 @@ loop-place-preserved c =
     let within : place < length c.as_slice-waits.result.now = omega (arith, c.loop-place-test.true, c.requires, ap length c.as_slice-rounds.ensures, ap length c.as_slice-waits.ensures) in
     let round : slice_index_or c.as_slice-rounds.result.now place 0 ≡ slice_index_or log.rounds place 0 = ap (λ rounds. slice_index_or rounds place 0) c.as_slice-rounds.ensures in
     let wait = wait_read c.as_slice-waits.result.now place c.index-waits-place.result within c.index-waits-place.is in
-    range_grown (string_bytes c.args.text.now) (string_bytes c.loop-place.text) (string_bytes c.push_place.new.text) (logged_line t (log_meant log)) place c.loop-place.invariant
-    (c.in_ok-push_place.ensures ∙ ap (λ line. string_bytes c.loop-place.text ++ line) (ap₂ (place_line t place) round (rw c.as_slice-waits.ensures at wait)))
+    range_grown c.args.text.now.items c.loop-place.text.items c.push_place.new.text.items (logged_line t (log_meant log)) place c.loop-place.invariant
+    (c.in_ok-push_place.ensures ∙ ap (λ line. c.loop-place.text.items ++ line) (ap₂ (place_line t place) round (rw c.as_slice-waits.ensures at wait)))

@@ -1,10 +1,10 @@
-use Rattle.std.proofs.Common.{◌≡◌, ◌+◌, arith, ap, ◌∙◌}
+use Rattle.std.proofs.Common.{◌≡◌, ◌+◌, length, arith, ap, ◌∙◌}
 use Rattle.trace_format.proofs.Facts.{spelled_fits}
 use Rattle.trace_format.specs.Steps.{step_meant}
 use Rattle.chain_plan.specs.Stretch.{chains_ahead}
 use Rattle.chain_plan.specs.Walk.{marks_of}
-use Rattle.chain_plan.proofs.Walk.{walks_on, chains_long, member_short, member_above, chain_short, walked_held, walked_stretch, walked_long, stops_apart, goes_on, end_apart, next_number}
-use Rattle.chain_plan.proofs.stretch.Stretch.next.Goals.{After-len}
+use Rattle.chain_plan.proofs.Walk.{walks_on, chains_long, member_short, member_above, chain_short, walked_held, walked_stretch, walked_long, stops_apart, goes_on, end_apart, next_number, walks_alone, walked_to}
+use Rattle.chain_plan.proofs.stretch.Stretch.next.Goals.{After-len, After-len-2}
 use Rattle.chain_plan.proofs.stretch.Stretch.next.Goals as goal
 
 pub marks_of-marks-requires : goal.marks_of-marks-requires
@@ -17,6 +17,38 @@ overflow_cast-next c =
 -- the chains so far are as many as there are ahead of the first place
 number : (c : After-len) → c.self.inside.chains_before + c.len.result ≡ chains_ahead c.args.trace.now c.end-first.result
 number c = next_number c.args.trace.now c.args.self c.end-first.result _ c.requires.stretch c.end-first.ensures (omega (arith, c.len.ensures, ap (λ s. s.chains) c.self.view_is))
+
+pub push_lone-requires : goal.push_lone-requires
+push_lone-requires c =
+    omega (arith, number (goal.at.push_lone-requires c).After-len, chains_long c.lone.invariant.walked, c.lone.invariant.walked.within, c.places.ensures.places, c.places.ensures.limit)
+
+pub lone-preserved : goal.lone-preserved
+lone-preserved c = record {
+  walked = walks_alone c.lone.invariant.walked _ _ _ (c.self.inside.chains_before + c.len.result + length c.lone.chains.items) _ c.step.ensures
+      (c.in-Some.ensures.marks c.args.trace.now.version) c.in-Some.ensures.links
+      (ap (λ before. before + length c.lone.chains.items) (number (goal.at.lone-preserved c).After-len)) c.in_ok-push_lone.ensures.chain c.in_ok-push_lone.ensures.member;
+  few = omega (arith, c.lone-test.true, c.min-limit.ensures, c.saturating_add.ensures);
+}
+
+-- the places that were walked past alone are the members so far
+alone_to : (c : After-len-2) → c.end-first.result + c.len-2.result ≡ c.lone.place
+alone_to c = omega (arith, walked_to c.lone.invariant.walked, c.len-2.ensures, c.lone.members.ok.0)
+
+pub overflow_cast-place : goal.overflow_cast-place
+overflow_cast-place c =
+    omega (arith, alone_to (goal.at.overflow_cast-place c).After-len-2, c.lone.invariant.walked.within, c.places.ensures.places, c.places.ensures.limit)
+
+pub overflow_step-place-2 : goal.overflow_step-place-2
+overflow_step-place-2 c =
+    omega (arith, alone_to (goal.at.overflow_step-place-2 c).After-len-2, c.lone.invariant.walked.within, c.places.ensures.places, c.places.ensures.limit)
+
+pub loop-place-init : goal.loop-place-init
+loop-place-init c =
+    let to = alone_to (goal.at.loop-place-init c).After-len-2 in
+    record {
+      walked = rw to c.lone.invariant.walked;
+      most = λ k least below. absurd (omega (arith, least, below, to, c.lone.invariant.few));
+    }
 
 pub overflow_add-next : goal.overflow_add-next
 overflow_add-next c =

@@ -1,43 +1,20 @@
-use Rattle.std.proofs.Common.{inl, inr, ◌∙◌, arith}
+use Rattle.std.proofs.Common.{inl, inr, ◌∙◌}
 use Rattle.std.specs.Prelude.{None, refl}
-use Rattle.std.specs.BTreeMap.{is_at}
-use Rattle.std.specs.Ordering.{nat_cmp}
 use Rattle.std.proofs.lemmas.Bool.{cases_Bool}
 use Rattle.use_line.specs.Spans.{within}
-use Rattle.std.proofs.lemmas.Bool.Decides.{nat_tests}
-use Rattle.use_line.proofs.Entries.{cut_at, keys_cut, rises_cut, put_at, rises_more, fewer}
+use Rattle.use_line.proofs.Entries.{put_at, rises_more}
 use Rattle.use_line.proofs.steps.Steps.put.Goals as goal
 
-pub invariant_of-self : goal.invariant_of-self
-invariant_of-self c = rw c.remove.ensures.entries (rises_cut (is_at (nat_cmp c.in-Some.key)) c.self.inside.entries.entries c.self.invariant)
-
-pub loop-key-preserved : goal.loop-key-preserved
-loop-key-preserved c =
-    let es = c.self.inside.entries.entries in
-    let k = c.in-Some.key in
-    let found = rw (← c.self.view_is) at c.in-Some.ensures in
-    let last = rw (← c.self.view_is) at c.loop-key.invariant.last in
-    record {
-      last = rw c.remove.ensures.entries (keys_cut k es c.args.high (λ e. omega (arith, e, found.1)) ∙ last);
-      outside = λ b out. rw c.remove.ensures.entries (cut_at k c.args.high found.1 None es b c.self.invariant found.2 last (let above = found.0 in grind (arith, nat_tests, above)) ∙ (rw c.self.view_is (c.loop-key.invariant.outside b out)));
-    }
-
-pub loop-key-smaller : goal.loop-key-smaller
-loop-key-smaller c =
-    let found = rw (← c.self.view_is) at c.in-Some.ensures in
-    rw (c.remove.ensures.entries, ← c.self.view_is) (fewer c.in-Some.key c.self.inside.entries.entries found.2)
-
 pub invariant_of-self-2 : goal.invariant_of-self-2
-invariant_of-self-2 c = rw c.in_ok-insert.ensures.entries (rises_more c.args.low c.args.value c.self-2.inside.entries.entries c.self-2.invariant)
+invariant_of-self-2 c = rw c.in_ok-insert.ensures.entries (rises_more c.args.low c.args.value c.self.inside.entries.entries c.self.invariant)
 
 pub returns : goal.returns
 returns c = λ b.
-    let es = c.self-2.inside.entries.entries in
-    let last = rw (← c.self-2.view_is) at c.loop-key.invariant.last in
-    let none = rw (← c.self-2.view_is) at c.in_default.ensures in
-    rw c.in_ok-insert.ensures.entries (put_at c.args.low c.args.high c.requires c.args.value None es b c.self-2.invariant
-    last (λ k more under. none k (omega (arith, more)) under)
+    let es = c.self.inside.entries.entries in
+    let last = rw (← c.self.view_is) at c.in_ok-part_at.ensures.last in
+    let none = rw (← c.self.view_is) at c.in_ok-part_at.ensures.none in
+    rw c.in_ok-insert.ensures.entries (put_at c.args.low c.args.high c.requires c.args.value None es b c.self.invariant last none
     ∙ (elim (cases_Bool (within c.args.low c.args.high b)) [
       | inl t ↦ rw t refl
-      | inr f ↦ rw f (rw c.self-2.view_is (c.loop-key.invariant.outside b f))
+      | inr f ↦ rw f (rw c.self.view_is (c.in_ok-part_at.ensures.outside b f))
     ]))

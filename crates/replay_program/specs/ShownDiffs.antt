@@ -1,0 +1,96 @@
+-- The model: what a comparison of two reports with the entries of a trace does to its readers and its writer.
+use Rattle.std.specs.Prelude.{◌≡◌, ⊤, Bool, List, Option, ℕ}
+use Rattle.std.specs.Io.KnownBytes.{Appends}
+use Rattle.trace_format.specs.declared.trace.Trace as trace
+use Rattle.trace_text.specs.Below.{with_entries}
+use Rattle.report_diff.specs.Inputs.{are_alike_in, are_alike_of_two, differences_in, differences_of_two}
+use Rattle.report_diff.specs.declared.comparing.Comparison.{Comparison}
+use Rattle.replay_program.specs.declared.fault.RunFault.{RunFault}
+use Rattle.replay_program.specs.declared.fault.RunFault.TheVariants.{Trace, Replay, Reports, Read, Write, Different}
+use Rattle.replay_program.specs.Diffs.{ReadsReports, ReadsTwo, TellsOfReports, TellsOfTwoReports}
+use Rattle.replay_program.specs.Runs.{ReadsTrace, TellsOfReading}
+use Rattle.replay_program.specs.Transfer.{AppendsPart}
+
+-- The text of the comparison, with the entry of the trace below each line that differs and is of one.
+abbrev pub shown_differences : trace.Trace → List ℕ → List ℕ
+shown_differences t input = with_entries t (differences_in input)
+
+abbrev pub shown_differences_of_two : trace.Trace → List ℕ → List ℕ → List ℕ
+shown_differences_of_two t first second = with_entries t (differences_of_two first second)
+
+-- The reader of the trace was read to its end, and what it had left spells a trace.
+abbrev pub ReadsSome : Option (List ℕ) → Option (List ℕ) → Type 0
+ReadsSome before after = (t : trace.Trace) × ReadsTrace before after t
+
+-- Both readers were read to their ends, that of the trace and that of two reports, which compare so.
+pub record ComparesShown (steps steps' left left' : Option (List ℕ)) (comparison : Comparison) : Type 0 where
+  pub t : trace.Trace
+  pub input : List ℕ
+  pub spelled : ReadsTrace steps steps' t
+  pub read : ReadsReports left left' input
+  pub text : comparison.text.items ≡ shown_differences t input
+  pub decided : comparison.alike ≡ are_alike_in input
+
+-- They were read so, and the writer took the whole text, and nothing else.
+pub record WritesShownDifferences (alike : Bool) (steps steps' left left' written written' : Option (List ℕ)) : Type 0 where
+  pub t : trace.Trace
+  pub input : List ℕ
+  pub spelled : ReadsTrace steps steps' t
+  pub read : ReadsReports left left' input
+  pub wrote : Appends written written' (shown_differences t input)
+  pub decided : are_alike_in input ≡ alike
+
+-- They were read so, and the writer took the first bytes of the text, but not all.
+pub record WritesShownDifferencesPart (steps steps' left left' written written' : Option (List ℕ)) : Type 0 where
+  pub t : trace.Trace
+  pub input : List ℕ
+  pub spelled : ReadsTrace steps steps' t
+  pub read : ReadsReports left left' input
+  pub wrote : AppendsPart written written' (shown_differences t input)
+
+-- What a fault tells of both readers: the trace is read first.
+abbrev pub TellsOfShown : (steps steps' left left' : Option (List ℕ)) → RunFault → Type 0
+TellsOfShown steps steps' left left' (Trace f) = TellsOfReading steps steps' (Trace f)
+TellsOfShown steps steps' left left' (Replay f) = TellsOfReading steps steps' (Replay f)
+TellsOfShown steps steps' left left' (Reports f) = ReadsSome steps steps' × TellsOfReports left left' (Reports f)
+TellsOfShown steps steps' left left' Read = ⊤
+TellsOfShown steps steps' left left' Write = ReadsSome steps steps' × TellsOfReports left left' Write
+TellsOfShown steps steps' left left' Different = ReadsSome steps steps' × TellsOfReports left left' Different
+
+-- The same of three readers, where each report has its own.
+pub record ComparesShownTwo (steps steps' left left' more more' : Option (List ℕ)) (comparison : Comparison) : Type 0 where
+  pub t : trace.Trace
+  pub first : List ℕ
+  pub second : List ℕ
+  pub spelled : ReadsTrace steps steps' t
+  pub read : ReadsTwo left left' more more' first second
+  pub text : comparison.text.items ≡ shown_differences_of_two t first second
+  pub decided : comparison.alike ≡ are_alike_of_two first second
+
+-- They were read so, and the writer took the whole text, and nothing else.
+pub record WritesShownDifferencesOfTwo (alike : Bool) (steps steps' left left' more more' written written' : Option (List ℕ)) : Type 0 where
+  pub t : trace.Trace
+  pub first : List ℕ
+  pub second : List ℕ
+  pub spelled : ReadsTrace steps steps' t
+  pub read : ReadsTwo left left' more more' first second
+  pub wrote : Appends written written' (shown_differences_of_two t first second)
+  pub decided : are_alike_of_two first second ≡ alike
+
+-- They were read so, and the writer took the first bytes of the text, but not all.
+pub record WritesShownPartOfTwo (steps steps' left left' more more' written written' : Option (List ℕ)) : Type 0 where
+  pub t : trace.Trace
+  pub first : List ℕ
+  pub second : List ℕ
+  pub spelled : ReadsTrace steps steps' t
+  pub read : ReadsTwo left left' more more' first second
+  pub wrote : AppendsPart written written' (shown_differences_of_two t first second)
+
+-- What a fault tells of the three.
+abbrev pub TellsOfShownTwo : (steps steps' left left' more more' : Option (List ℕ)) → RunFault → Type 0
+TellsOfShownTwo steps steps' left left' more more' (Trace f) = TellsOfReading steps steps' (Trace f)
+TellsOfShownTwo steps steps' left left' more more' (Replay f) = TellsOfReading steps steps' (Replay f)
+TellsOfShownTwo steps steps' left left' more more' (Reports f) = ReadsSome steps steps' × TellsOfTwoReports left left' more more' (Reports f)
+TellsOfShownTwo steps steps' left left' more more' Read = ⊤
+TellsOfShownTwo steps steps' left left' more more' Write = ReadsSome steps steps' × TellsOfTwoReports left left' more more' Write
+TellsOfShownTwo steps steps' left left' more more' Different = ReadsSome steps steps' × TellsOfTwoReports left left' more more' Different

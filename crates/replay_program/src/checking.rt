@@ -1,0 +1,144 @@
+//! A check of a trace of any version, from a reader to a writer.
+ghost use Rattle.std.specs.Prelude.{◌≡◌, ◌≢◌, ◌⊎◌, ◌≤◌, ◌+◌, ◌-◌, ◌^◌, ◌<◌, IfErr, IfOk, OnOk};
+ghost use Rattle.std.specs.Prelude.{false, length, true};
+ghost use Rattle.std.specs.Io.KnownBytes.{Keeps};
+ghost use Rattle.trace_format.specs.Grammar.{fault};
+ghost use Rattle.trace_format.specs.Text.{longest};
+ghost use Rattle.trace_format.specs.declared.fault.Kind.TheVariants.{Memory};
+ghost use Rattle.replay_program.specs.Checks.{IsAnswer, IsFaultOf, ReadsAnswer, TellsOfCheck};
+ghost use Rattle.replay_program.specs.Checks.{WritesAnswer, WritesAnswerPart, has_version_3, ok_line};
+ghost use Rattle.replay_program.specs.Forms.{written_as};
+ghost use Rattle.replay_program.specs.Runs.{most_taken, read_failures, write_failures};
+ghost use Rattle.replay_program.specs.Transfer.{ConsumesUpTo};
+
+use crate::fault::RunFault;
+use crate::forms::text_as;
+use crate::session::{no_memory, trace_in, written};
+use crate::transfer::{MOST_BYTES, Sink, Source, TextFault, read_text};
+use crate::words::Form;
+use replay_report::check_text;
+use std::alloc::{AllocError, Global};
+use trace_format::{Kind, TraceFault};
+use trace_records::{Tally, count_trace};
+
+/// Reads a trace of any version and writes how many places and rings it has. Nothing is written
+/// before the whole answer is there, and the run ends at the first failure of either side.
+///
+/// # Errors
+///
+/// Trace where the input is none, or when out of memory; Read and Write at a call that failed.
+pub fn run_check<R: Source, W: Sink>(
+    alloc: Global,
+    reader: &mut R,
+    writer: &mut W,
+    form: Form,
+) -> Result<(), RunFault>
+    requires reader { R.failures reader.old < 2 ^ 64 - 1 }
+    requires writer { W.failures writer.old < 2 ^ 64 - 1 }
+
+    // The answer is the one of the trace that the reader's bytes spell.
+    ensures done { OnOk result (WritesAnswer form (R.left reader.old)
+        (R.left reader.new) (W.written writer.old) (W.written writer.new)) }
+    ensures part { result ≡ Err RunFault.Write → WritesAnswerPart form (R.left reader.old)
+        (R.left reader.new) (W.written writer.old) (W.written writer.new) }
+    ensures nothing { IfErr result (λ fault. fault ≢ RunFault.Write
+        → Keeps (W.written writer.old) (W.written writer.new)) }
+
+    ensures taken { ConsumesUpTo most_taken (R.left reader.old) (R.left reader.new) }
+    ensures reading { IfErr result (TellsOfCheck (R.left reader.old) (R.left reader.new)) }
+    ensures read { R.failures reader.new ≡ R.failures reader.old + read_failures result }
+    ensures write { W.failures writer.new ≡ W.failures writer.old + write_failures result }
+{
+    let answer = taken_answer(alloc, reader)?;
+    let text = answer_as(alloc, form, answer)?;
+    written(writer, text.as_slice())
+}
+
+/// An answer in the form that is asked for.
+fn answer_as(alloc: Global, form: Form, answer: Vec<u8>) -> Result<Vec<u8>, RunFault>
+    ensures ok { IfOk result (λ text. text.items ≡ written_as form answer.items) }
+    ensures err { IfErr result (λ f. f ≡ RunFault.Trace (fault Memory 0)) }
+{
+    match text_as(alloc, form, answer) {
+        Ok(text) => Ok(text),
+        Err(AllocError) => Err(RunFault::Trace(no_memory())),
+    }
+}
+
+/// The answer to what the reader has left.
+fn taken_answer<R: Source>(alloc: Global, reader: &mut R) -> Result<Vec<u8>, RunFault>
+    requires { R.failures reader.old < 2 ^ 64 - 1 }
+    ensures ok { IfOk result
+        (λ answer. ReadsAnswer (R.left reader.old) (R.left reader.new) answer.items) }
+    ensures taken { ConsumesUpTo most_taken (R.left reader.old) (R.left reader.new) }
+    ensures err { IfErr result (TellsOfCheck (R.left reader.old) (R.left reader.new)) }
+    ensures read { R.failures reader.new ≡ R.failures reader.old + read_failures result }
+    ensures write { write_failures result ≡ 0 }
+{
+    match read_text(alloc, reader) {
+        Ok(text) => answer_of(alloc, text).map_err(RunFault::Trace),
+        Err(TextFault::Read) => Err(RunFault::Read),
+        Err(TextFault::Memory) => Err(RunFault::Trace(no_memory())),
+    }
+}
+
+/// The answer to a text, by its version.
+fn answer_of(alloc: Global, text: Vec<u8>) -> Result<Vec<u8>, TraceFault>
+    ensures ok { IfOk result
+        (λ answer. IsAnswer (has_version_3 text.items) text.items answer.items) }
+    ensures within { OnOk result (length text.items ≤ longest) }
+    ensures err { IfErr result (λ f. (f ≡ fault Memory 0)
+        ⊎ IsFaultOf (has_version_3 text.items) text.items f) }
+{
+    if has_version_3(text.as_slice()) {
+        answer_of_records(alloc, text.as_slice())
+    } else {
+        answer_of_trace(alloc, text)
+    }
+}
+
+fn has_version_3(text: &[u8]) -> bool
+    ensures { result ≡ has_version_3 text.now }
+{
+    text.starts_with(b"URINGTRC\x03\0\0\0")
+}
+
+/// The answer to a text of version 1 or 2.
+fn answer_of_trace(alloc: Global, text: Vec<u8>) -> Result<Vec<u8>, TraceFault>
+    ensures ok { IfOk result (λ answer. IsAnswer false text.items answer.items) }
+    ensures within { OnOk result (length text.items ≤ longest) }
+    ensures err { IfErr result (λ f. (f ≡ fault Memory 0) ⊎ IsFaultOf false text.items f) }
+{
+    let trace = trace_in(alloc, text)?;
+    match check_text(alloc, &trace) {
+        Ok(answer) => Ok(answer),
+        Err(AllocError) => Err(no_memory()),
+    }
+}
+
+/// The answer to a text of version 3.
+fn answer_of_records(alloc: Global, text: &[u8]) -> Result<Vec<u8>, TraceFault>
+    ensures ok { IfOk result (λ answer. IsAnswer true text.now answer.items) }
+    ensures within { OnOk result (length text.now ≤ longest) }
+    ensures err { IfErr result (λ f. (f ≡ fault Memory 0) ⊎ IsFaultOf true text.now f) }
+{
+    if text.len() >= MOST_BYTES {
+        return Err(TraceFault {
+            kind: Kind::Limit,
+            at: 1_073_741_824,
+        });
+    }
+    let tally = count_trace(alloc, text)?;
+    match ok_text(alloc, tally) {
+        Ok(answer) => Ok(answer),
+        Err(AllocError) => Err(no_memory()),
+    }
+}
+
+fn ok_text(alloc: Global, tally: Tally) -> Result<Vec<u8>, AllocError>
+    ensures { IfOk result (λ text. text.items ≡ ok_line tally.places tally.rings) }
+{
+    let Tally { places, rings } = tally;
+    let text = format!(in alloc; "ok {places} places {rings} rings\n")?;
+    Ok(text.into_bytes())
+}

@@ -1,0 +1,180 @@
+//! A comparison of two reports, with the entries of a trace, from readers to a writer.
+ghost use Rattle.std.specs.Prelude.{◌≡◌, ◌≢◌, ◌+◌, ◌-◌, ◌^◌, ◌<◌, IfErr, IfOk, OnOk, false, true};
+ghost use Rattle.std.specs.Io.KnownBytes.{Keeps};
+ghost use Rattle.trace_text.specs.Below.{with_entries};
+ghost use Rattle.replay_program.specs.Runs.{most_taken, write_failures};
+ghost use Rattle.replay_program.specs.ShownDiffs.{ComparesShown, ComparesShownTwo, TellsOfShown};
+ghost use Rattle.replay_program.specs.ShownDiffs.{TellsOfShownTwo, WritesShownDifferences};
+ghost use Rattle.replay_program.specs.ShownDiffs.{WritesShownDifferencesOfTwo};
+ghost use Rattle.replay_program.specs.ShownDiffs.{WritesShownDifferencesPart, WritesShownPartOfTwo};
+ghost use Rattle.replay_program.specs.Transfer.{ConsumesUpTo};
+
+use crate::differing::{comparison_of_two, taken_comparison};
+use crate::fault::{ReportsFault, RunFault};
+use crate::session::{taken_trace, written};
+use crate::transfer::{Sink, Source};
+use crate::words::Form;
+use report_diff::Comparison;
+use std::alloc::{AllocError, Global};
+use trace_format::Trace;
+use trace_text::with_entries;
+
+/// Reads a trace, then two reports, one after another, and writes where these differ, with the
+/// entry below each line that differs and is of one. Nothing is written before the whole text is
+/// there, and the run ends at the first failure of a side.
+///
+/// # Errors
+///
+/// Trace where the first input is none; else as those of [`crate::run_diff`].
+pub fn run_diff_shown<T: Source, R: Source, W: Sink>(
+    alloc: Global,
+    trace: &mut T,
+    reader: &mut R,
+    writer: &mut W,
+) -> Result<(), RunFault>
+    requires trace { T.failures trace.old < 2 ^ 64 - 1 }
+    requires reader { R.failures reader.old < 2 ^ 64 - 1 }
+    requires writer { W.failures writer.old < 2 ^ 64 - 1 }
+
+    // The text is the one of the trace and the two reports that the readers' bytes are.
+    ensures alike { OnOk result (WritesShownDifferences true (T.left trace.old) (T.left trace.new)
+        (R.left reader.old) (R.left reader.new) (W.written writer.old) (W.written writer.new)) }
+    ensures different { result ≡ Err RunFault.Different
+        → WritesShownDifferences false (T.left trace.old) (T.left trace.new)
+        (R.left reader.old) (R.left reader.new) (W.written writer.old) (W.written writer.new) }
+    ensures part { result ≡ Err RunFault.Write
+        → WritesShownDifferencesPart (T.left trace.old) (T.left trace.new)
+        (R.left reader.old) (R.left reader.new) (W.written writer.old) (W.written writer.new) }
+    ensures nothing { IfErr result (λ fault. fault ≢ RunFault.Write → fault ≢ RunFault.Different
+        → Keeps (W.written writer.old) (W.written writer.new)) }
+
+    ensures taken { ConsumesUpTo most_taken (T.left trace.old) (T.left trace.new)
+        × ConsumesUpTo most_taken (R.left reader.old) (R.left reader.new) }
+    ensures reading { IfErr result (TellsOfShown (T.left trace.old) (T.left trace.new)
+        (R.left reader.old) (R.left reader.new)) }
+    ensures write { W.failures writer.new ≡ W.failures writer.old + write_failures result }
+{
+    let comparison = shown_comparison(alloc, trace, reader)?;
+    written(writer, comparison.text.as_slice())?;
+    if comparison.alike {
+        Ok(())
+    } else {
+        Err(RunFault::Different)
+    }
+}
+
+/// How the two reports that a reader has left compare, with the entries of the trace that another
+/// one has left.
+fn shown_comparison<T: Source, R: Source>(
+    alloc: Global,
+    trace: &mut T,
+    reader: &mut R,
+) -> Result<Comparison, RunFault>
+    requires trace { T.failures trace.old < 2 ^ 64 - 1 }
+    requires reader { R.failures reader.old < 2 ^ 64 - 1 }
+    ensures ok { IfOk result (ComparesShown (T.left trace.old) (T.left trace.new)
+        (R.left reader.old) (R.left reader.new)) }
+    ensures taken { ConsumesUpTo most_taken (T.left trace.old) (T.left trace.new)
+        × ConsumesUpTo most_taken (R.left reader.old) (R.left reader.new) }
+    ensures err { IfErr result (TellsOfShown (T.left trace.old) (T.left trace.new)
+        (R.left reader.old) (R.left reader.new)) }
+    ensures write { write_failures result ≡ 0 }
+    ensures neither { IfErr result
+        (λ fault. (fault ≢ RunFault.Write) × (fault ≢ RunFault.Different)) }
+{
+    let trace = taken_trace(alloc, trace)?;
+    let comparison = taken_comparison(alloc, reader, Form::Text)?;
+    comparison_shown(alloc, &trace, comparison)
+}
+
+/// A comparison, with the entries of a trace in its text.
+fn comparison_shown(
+    alloc: Global,
+    trace: &Trace,
+    comparison: Comparison,
+) -> Result<Comparison, RunFault>
+    ensures text { IfOk result
+        (λ shown. shown.text.items ≡ with_entries trace.now comparison.text.items) }
+    ensures alike { IfOk result (λ shown. shown.alike ≡ comparison.alike) }
+    ensures err { IfErr result (λ fault. fault ≡ RunFault.Reports ReportsFault.Memory) }
+{
+    match with_entries(alloc, trace, comparison.text.as_slice()) {
+        Ok(text) => Ok(Comparison {
+            text,
+            alike: comparison.alike,
+        }),
+        Err(AllocError) => Err(RunFault::Reports(ReportsFault::Memory)),
+    }
+}
+
+/// The same of two reports, each from a reader of its own.
+///
+/// # Errors
+///
+/// As those of [`run_diff_shown`].
+pub fn run_diff_of_two_shown<T: Source, R: Source, S: Source, W: Sink>(
+    alloc: Global,
+    trace: &mut T,
+    first: &mut R,
+    second: &mut S,
+    writer: &mut W,
+) -> Result<(), RunFault>
+    requires trace { T.failures trace.old < 2 ^ 64 - 1 }
+    requires first { R.failures first.old < 2 ^ 64 - 1 }
+    requires second { S.failures second.old < 2 ^ 64 - 1 }
+    requires writer { W.failures writer.old < 2 ^ 64 - 1 }
+
+    // The text is the one of the trace and the two reports that the readers' bytes are.
+    ensures alike { OnOk result (WritesShownDifferencesOfTwo true
+        (T.left trace.old) (T.left trace.new) (R.left first.old) (R.left first.new)
+        (S.left second.old) (S.left second.new) (W.written writer.old) (W.written writer.new)) }
+    ensures different { result ≡ Err RunFault.Different → WritesShownDifferencesOfTwo false
+        (T.left trace.old) (T.left trace.new) (R.left first.old) (R.left first.new)
+        (S.left second.old) (S.left second.new) (W.written writer.old) (W.written writer.new) }
+    ensures part { result ≡ Err RunFault.Write → WritesShownPartOfTwo
+        (T.left trace.old) (T.left trace.new) (R.left first.old) (R.left first.new)
+        (S.left second.old) (S.left second.new) (W.written writer.old) (W.written writer.new) }
+    ensures nothing { IfErr result (λ fault. fault ≢ RunFault.Write → fault ≢ RunFault.Different
+        → Keeps (W.written writer.old) (W.written writer.new)) }
+
+    ensures taken { ConsumesUpTo most_taken (T.left trace.old) (T.left trace.new)
+        × (ConsumesUpTo most_taken (R.left first.old) (R.left first.new)
+        × ConsumesUpTo most_taken (S.left second.old) (S.left second.new)) }
+    ensures reading { IfErr result (TellsOfShownTwo (T.left trace.old) (T.left trace.new)
+        (R.left first.old) (R.left first.new) (S.left second.old) (S.left second.new)) }
+    ensures write { W.failures writer.new ≡ W.failures writer.old + write_failures result }
+{
+    let comparison = shown_comparison_of_two(alloc, trace, first, second)?;
+    written(writer, comparison.text.as_slice())?;
+    if comparison.alike {
+        Ok(())
+    } else {
+        Err(RunFault::Different)
+    }
+}
+
+/// How the reports that two readers have left compare, with the entries of a trace.
+fn shown_comparison_of_two<T: Source, R: Source, S: Source>(
+    alloc: Global,
+    trace: &mut T,
+    first: &mut R,
+    second: &mut S,
+) -> Result<Comparison, RunFault>
+    requires trace { T.failures trace.old < 2 ^ 64 - 1 }
+    requires first { R.failures first.old < 2 ^ 64 - 1 }
+    requires second { S.failures second.old < 2 ^ 64 - 1 }
+    ensures ok { IfOk result (ComparesShownTwo (T.left trace.old) (T.left trace.new)
+        (R.left first.old) (R.left first.new) (S.left second.old) (S.left second.new)) }
+    ensures taken { ConsumesUpTo most_taken (T.left trace.old) (T.left trace.new)
+        × (ConsumesUpTo most_taken (R.left first.old) (R.left first.new)
+        × ConsumesUpTo most_taken (S.left second.old) (S.left second.new)) }
+    ensures err { IfErr result (TellsOfShownTwo (T.left trace.old) (T.left trace.new)
+        (R.left first.old) (R.left first.new) (S.left second.old) (S.left second.new)) }
+    ensures write { write_failures result ≡ 0 }
+    ensures neither { IfErr result
+        (λ fault. (fault ≢ RunFault.Write) × (fault ≢ RunFault.Different)) }
+{
+    let trace = taken_trace(alloc, trace)?;
+    let comparison = comparison_of_two(alloc, first, second, Form::Text)?;
+    comparison_shown(alloc, &trace, comparison)
+}

@@ -1,0 +1,12 @@
+//! Traces from text: what a text that people write means, and where it means nothing.
+#![tactic(auto)]
+
+mod draft;
+mod entry;
+mod fault;
+mod fields;
+mod lines;
+mod make;
+
+pub use fault::{MakeFault, TextFault};
+pub use make::make_bytes;

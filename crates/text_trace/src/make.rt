@@ -1,0 +1,113 @@
+//! Bytes from text.
+ghost use Rattle.std.specs.Prelude.{◌≡◌, ◌-◌, IfErr, IfOk, length};
+ghost use Rattle.trace_format.specs.declared.trace.Trace.{Trace as TraceOf};
+ghost use Rattle.trace_format.specs.Text.{SpellsTrace};
+ghost use Rattle.text_trace.specs.Places.{IsTold, told_at};
+
+use crate::draft::line_of_byte;
+use crate::fault::{MakeFault, TextFault};
+use crate::lines::{
+    Lines, descriptions_of, items_of, records_of, rings_of, slots_behind, text_end, version_of,
+};
+use std::alloc::Global;
+use std::collections::BTreeMap;
+use text_words::{Fault, ReadError, Reason, Source, refused};
+use trace_format::{Kind, Series, Trace, Version, read_trace, write_trace};
+
+/// How many bytes the strings of a text may mean.
+const MOST_BYTES: u64 = 1_073_741_824;
+
+/// The trace that a text means.
+fn trace_of(alloc: Global, lines: &mut Lines, text: &[u8]) -> Result<Trace, ReadError> {
+    let source = Source {
+        rest: text,
+        room: MOST_BYTES,
+    };
+    let (version, source) = version_of(source)?;
+    let mut names = BTreeMap::new(alloc);
+    let (items, source) = items_of(alloc, &mut names, lines, source)?;
+    let (descriptions, source) = descriptions_of(alloc, &names, lines, source)?;
+    let (descriptors, source) = descriptors_of(alloc, version, lines, source)?;
+    let (rings, source) = rings_of(alloc, lines, source)?;
+    let (records, source) = records_of(alloc, lines, source)?;
+    text_end(source)?;
+    Ok(Trace {
+        version,
+        items: Series::from_vec(items),
+        descriptions: Series::from_vec(descriptions),
+        descriptors: Series::from_vec(descriptors),
+        rings: Series::from_vec(rings),
+        records,
+    })
+}
+
+/// The table of descriptors: a line of it can stand where the version has one.
+fn descriptors_of<'a>(
+    alloc: Global,
+    version: Version,
+    lines: &mut Lines,
+    source: Source<'a>,
+) -> Result<(Vec<u32>, Source<'a>), ReadError> {
+    if version.rules().most_descriptors == 0 {
+        return Ok((Vec::new(alloc), source));
+    }
+    slots_behind(alloc, b"descriptors", lines, source)
+}
+
+/// Where so many bytes of a text are left.
+fn place_of(text: &[u8], fault: Fault) -> TextFault
+    ensures { result ≡ told_at text.now (length text.now - fault.left) fault.reason }
+{
+    let before = &text[..text.len() - fault.left.min(text.len())];
+    let mut line: u64 = 1;
+    let mut column: u64 = 1;
+    for byte in before {
+        if *byte == b'\n' {
+            line += 1;
+            column = 1;
+        } else {
+            column += 1;
+        }
+    }
+    TextFault {
+        line,
+        column,
+        reason: fault.reason,
+    }
+}
+
+/// The bytes that a text means, where they are those of a trace.
+fn made(alloc: Global, text: &[u8]) -> Result<Vec<u8>, ReadError>
+    ensures { IfOk result (λ bytes. (t : TraceOf) × SpellsTrace bytes.items t) }
+{
+    let mut lines = Vec::new(alloc);
+    let trace = trace_of(alloc, &mut lines, text)?;
+    let bytes = write_trace(alloc, &trace)?;
+    match read_trace(alloc, bytes.clone()?) {
+        Ok(_) => Ok(bytes),
+        Err(fault) if fault.kind == Kind::Memory => Err(ReadError::OutOfMemory),
+        Err(fault) => {
+            let line = line_of_byte(&trace, fault.at);
+            let left = lines.get(line).copied().unwrap_or(text.len());
+            Err(refused(Reason::Trace(fault.kind), left))
+        }
+    }
+}
+
+/// The bytes of the trace that a text means. It takes time linear in the text and the bytes, but
+/// for look-ups of paths.
+///
+/// # Errors
+///
+/// Text with the first place at which the text is none, or the line that makes bytes that are no
+/// part of a trace; Memory where an allocation was refused.
+pub fn make_bytes(alloc: Global, text: &[u8]) -> Result<Vec<u8>, MakeFault>
+    ensures trace { IfOk result (λ bytes. (t : TraceOf) × SpellsTrace bytes.items t) }
+    ensures fault { IfErr result (IsTold text.now) }
+{
+    match made(alloc, text) {
+        Ok(bytes) => Ok(bytes),
+        Err(ReadError::OutOfMemory) => Err(MakeFault::Memory),
+        Err(ReadError::Fault(fault)) => Err(MakeFault::Text(place_of(text, fault))),
+    }
+}

@@ -1,0 +1,10 @@
+pub mod Fields
+pub mod Start
+pub mod Front
+pub mod Records
+pub mod Whole
+pub mod Spelling
+pub mod Names
+pub mod Read
+pub mod Sources
+pub mod Tallies

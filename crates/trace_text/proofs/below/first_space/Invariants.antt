@@ -1,0 +1,5 @@
+use Rattle.std.proofs.Common.{◌≡◌, ◌==◌, ◌<◌, ℕ, false, get_or}
+use Rattle.trace_text.proofs.below.first_space.Given as goal
+
+abbrev pub invariant-loop-place : goal.invariant-loop-place
+invariant-loop-place l = (k : ℕ) → k < l.place → (get_or l.bytes k 0 == 32) ≡ false

@@ -1,0 +1,10 @@
+use Rattle.std.proofs.Common.{rules, tests}
+use Rattle.std.proofs.lemmas.Iterator.Consumers.{map_from_collect}
+use Rattle.std.proofs.lemmas.Iterator.Splits.{YieldsList-from_slice_split}
+use Rattle.trace_text.proofs.below.lines.Goals as goal
+
+pub returns : goal.returns
+returns c =
+    let split = c.split.ensures in
+    map_from_collect _ c.collect.ensures.ran
+    (YieldsList-from_slice_split _ _ c.args.text.now split.rest split.done split.closure (λ x r q k. search (rules, tests)))

@@ -1,0 +1,219 @@
+"""Traces from text: `make` gives the bytes that model_make.py says a text means, or refuses it at the same line and column for the same reason.
+The texts are those of examples, of recorded traces and of drawn ones; such with some letters changed; and mistakes that people make."""
+import random
+from functools import partial
+from typing import Iterator, List, Optional, Tuple
+
+import days
+import examples
+import model_make
+import model_text
+from drawing import Draw
+from harness import Answer, Job, Outcome, Program, difference, first, read, shown
+from text import Fields
+
+# How many traces are drawn, and how many changed texts, in how many lots.
+DRAWN, LOTS = 3_000, 6
+# The KiB of memory that a hostile text may take.
+HOSTILE_MEMORY = 100 << 10
+LETTERS = b' \t\n\r"\\#=|@-*.x[],0123456789abcdef~\x00\xff/ODNLo'
+WORDS = (b"fd=1", b"len=4", b"-", b"-*3", b'"a"*16', b"x\"00\"", b"@1", b"of=/a", b"size=9", b"IO_LINK", b"0x80", b"pos=1", b"[1,2]", b"path=/a", b"...", b"\\\n", b"# c", b"O_RDWR",
+         b"ring", b"enter 0", b"\nNOP", b"\ndir /q", b"rw_flags=RWF_SYNC|1", b"off=-1", b"1", b"00", b"18446744073709551616")
+FRONT = "uring-trace 2\nfile /a \"abc\"\nopen 0 /a O_RDWR\ndescriptors 0 -\nring 0\n  slots 0 -*3\n  buffer 0 0x1000 16\n"
+
+# Mistakes: a text, and what is told of it.
+MISTAKES: Tuple[Tuple[str, str], ...] = (
+    ("", "1:1: expected `uring-trace 1` or `uring-trace 2`"),
+    ("uring-trace\n", "1:12: expected `uring-trace 1` or `uring-trace 2`"),
+    ("uring-trace 3\n", "1:13: expected `uring-trace 1` or `uring-trace 2`"),
+    ("uring-trace 1 2\n", "1:15: expected the end of the line"),
+    ("uring-trace 1\nfiel /a\n", "2:1: expected a line of a trace, or an operation"),
+    ("uring-trace 1\nfile\n", "2:5: expected a path"),
+    ("uring-trace 1\nfile a\n", "2:1: Path: expected a slash before each name of 1 to 255 bytes"),
+    ("uring-trace 1\nfile /d/a\n", "2:1: NoParent: expected a line above for the directory of this path"),
+    ("uring-trace 1\nfile /a\n\ndir /a\n", "4:1: Exists: a line above has the same path"),
+    ("uring-trace 1\nfile /a\\20b\n", "2:8: expected a visible character, or `\\xHH` for a byte"),
+    ("uring-trace 1\nfile /a b\n", "2:9: expected a string"),
+    ("uring-trace 1\nfile /a \"a\\qc\"\n", "2:11: expected one of \\n \\t \\r \\0 \\\" \\\\ \\xHH"),
+    ("uring-trace 1\nfile /a \"abc\nopen 0 /a O_RDWR\n", "2:13: expected a visible character, an escape or a quotation mark"),
+    ("uring-trace 1\nfile /a \"abc\"*0\n", "2:15: expected a count from 1 on"),
+    ("uring-trace 1\nfile /a \"abc\"3\n", "2:14: expected a string"),
+    ("uring-trace 1\nfile /a x\"0g\"\n", "2:11: expected two hexadecimal digits or a quotation mark"),
+    ("uring-trace 1\nfile /a \"\\0\"*99999999999\n", "2:9: expected strings of at most 1073741824 bytes in all"),
+    ("uring-trace 1\nfile /a \"abc\" ...\n", "2:15: the bytes here were left out by `show --first`"),
+    ("uring-trace 1\nfile /a size=2 \"abc\"\n", "2:1: Limit: a number on this line is out of its range"),
+    ("uring-trace 1\nname /b of=/a\n", "2:12: expected the path of an item above, or `@` and its number"),
+    ("uring-trace 1\nname /b /a\n", "2:9: expected of=PATH"),
+    ("uring-trace 1\nopen 0 /a O_RDWR\n", "2:8: expected the path of an item above, or `@` and its number"),
+    ("uring-trace 1\nfile /a\nopen 1 /a O_RDWR\n", "3:6: expected the number 0, which is next"),
+    ("uring-trace 1\nfile /a\nopen 0 /a O_CREAT\n", "3:11: expected O_RDONLY, O_WRONLY or O_RDWR, perhaps with |O_APPEND"),
+    ("uring-trace 1\nopen 0 / O_RDWR\n", "2:1: Limit: a number on this line is out of its range"),
+    ("uring-trace 1\ndescriptors 0\n", "2:1: a line of this kind cannot stand behind those above"),
+    ("uring-trace 1\nring 1\n", "2:6: expected the number 0, which is next"),
+    ("uring-trace 1\nring 0\n  slots 0\n", "3:3: Reference: a number on this line names nothing above"),
+    ("uring-trace 1\nring 0\n  slots - *3\n", "3:11: expected a number"),
+    ("uring-trace 1\nring 0\n  slots -*1025\n", "3:9: there is one more of these than a trace may have"),
+    ("uring-trace 1\nring 0\n  buffer 0 0x1000\n", "3:18: expected a number"),
+    ("uring-trace 1\nring 0\n  buffer 0 4096 8\n  buffer 1 4100 8\n", "4:3: Overlap: a buffer above has some of these addresses"),
+    ("uring-trace 1\nring 0\nfile /a\n", "3:1: a line of this kind cannot stand behind those above"),
+    ("uring-trace 1\nring 0\nNOP\n", "3:1: expected `enter RING` above an entry"),
+    ("uring-trace 1\nring 0\nenter 1\n  NOP\n", "3:1: Reference: a number on this line names nothing above"),
+    (FRONT + "enter 0\n  READ fd=0 lenn=4\n", "9:13: expected a flag, a field of this operation or a string"),
+    (FRONT + "enter 0\n  READ fd=0 fd=1\n", "9:13: this stands here for the second time"),
+    (FRONT + "enter 0\n  READ FIXED_FILE IO_LINK FIXED_FILE\n", "9:27: the same flag stands here twice"),
+    (FRONT + "enter 0\n  READ off=99999999999999999999\n", "9:12: expected a number of at most 64 bits"),
+    (FRONT + "enter 0\n  READ len=4294967296\n", "9:12: expected a number of at most 32 bits"),
+    (FRONT + "enter 0\n  READ off=1k\n", "9:12: expected a number"),
+    (FRONT + "enter 0\n  READ off=0X10\n", "9:12: expected a number"),
+    (FRONT + "enter 0\n  READ rw_flags=RWF_SYNC|RWF_FAST\n", "9:17: expected a number or a flag of this field"),
+    (FRONT + "enter 0\n  OPENAT dfd=AT_FDCWD path=/b open_flags=O_RDWR|O_CREATE\n", "9:42: expected a number or a flag of this field"),
+    (FRONT + "enter 0\n  OPENAT open_flags=O_RDWR|2\n", "9:21: the same flag stands here twice"),
+    (FRONT + "enter 0\n  WRITE len=3 \"ab\"\n", "9:3: Side: the bytes of this entry do not fit it"),
+    (FRONT + "enter 0\n  READV [4,8\n", "9:9: expected lengths, as [4,8]"),
+    (FRONT + "enter 0\n  READV [4,,8]\n", "9:12: expected a number"),
+    (FRONT + "enter 0\n  NOP\n  read fd=0\n", "10:3: expected a line of a trace, or an operation"),
+    (FRONT + "fill 0 at=1 \"a\"\n", "8:8: expected buffer=N"),
+    (FRONT + "fill 0 buffer=0 at=16 \"a\"\n", "8:1: Reference: a number on this line names nothing above"),
+)
+
+
+def answer_of(program: Program, text: bytes) -> Answer:
+    """What `make` is to answer."""
+    try:
+        made = model_make.made_of(text)
+    except model_make.Refused as refused:
+        return Answer(1, b"", model_make.refusal_line(text, refused.at, refused.why))
+    checked = program.run(["check"], made.trace)
+    if checked.status == 0:
+        return Answer(0, made.trace, b"")
+    return Answer(1, b"", model_make.refusal_of(text, made, checked.errors))
+
+
+def changed(source: random.Random, text: bytes) -> bytes:
+    """A text with one to three letters, words or lines changed."""
+    for _ in range(source.randrange(1, 4)):
+        at = source.randrange(len(text) + 1)
+        kind = source.randrange(7)
+        if kind == 0:
+            text = text[:at] + bytes([source.choice(LETTERS)]) + text[at:]
+        elif kind == 1:
+            text = text[:at] + text[at + source.randrange(1, 4) :]
+        elif kind == 2:
+            text = text[:at] + bytes([source.choice(LETTERS)]) + text[at + 1 :]
+        elif kind == 3:
+            gap = text.find(b" ", at)
+            text = text[:gap] + b" " + source.choice(WORDS) + text[gap:] if gap >= 0 else text
+        elif kind == 4:
+            words = text.split(b" ")
+            first_, second = source.randrange(len(words)), source.randrange(len(words))
+            words[first_], words[second] = words[second], words[first_]
+            text = b" ".join(words)
+        else:
+            lines = text.split(b"\n")
+            line = lines.pop(source.randrange(len(lines)))
+            where = source.randrange(len(lines) + 1)
+            text = b"\n".join([*lines[:where], *([line] * (kind - 5)), *lines[where:]])
+    return text
+
+
+def trace_of(seed: int) -> bytes:
+    return Fields(seed).trace() if seed % 2 else Draw(seed).trace()
+
+
+def of_drawn(program: Program, seed: int) -> Optional[str]:
+    """How the way there and back of a drawn trace fails, if it does, or that of its text with some letters changed."""
+    trace = trace_of(seed)
+    if program.run(["check"], trace).status != 0:
+        return None
+    text = program.run(["show", *(["--places"] if seed % 3 == 0 else [])], trace).output
+    told = difference(program.run(["make"], text), Answer(0, trace, b""))
+    other = changed(random.Random(seed), text)
+    told = told or difference(program.run(["make"], other), answer_of(program, other))
+    return told and "{} ({!r})".format(told, other)
+
+
+def lot(program: Program, seeds: range) -> List[Outcome]:
+    faults = ["seed {}: {}".format(seed, told) for seed in seeds for told in [of_drawn(program, seed)] if told]
+    day = " of {}".format(days.written()) if seeds[0] >= days.SEEDS_A_DAY else ""
+    return [Outcome("texts there and back, {} to {}{} by {}".format(seeds[0], seeds[-1], day, program.compiler), first(faults))]
+
+
+def of_mistakes(program: Program) -> List[Outcome]:
+    faults = []
+    for text, told in MISTAKES:
+        wanted = Answer(1, b"", "text refused: {}\n".format(told).encode())
+        wrong = difference(program.run(["make"], text.encode()), wanted) or difference(answer_of(program, text.encode()), wanted)
+        faults += ["{!r}: {}".format(text, wrong)] if wrong else []
+    return [Outcome("{} mistakes in a text by {}".format(len(MISTAKES), program.compiler), first(faults))]
+
+
+def by_hand() -> Iterator[Tuple[str, str]]:
+    """Texts as people write them, and the same as `show` gives them."""
+    front = "uring-trace 1\nfile /a \"0123456789\"\nopen 0 /a O_RDWR\nring 0\n  slots 0 -*3\n"
+    yield front + "enter 0\n  WRITE FIXED_FILE off=2 \"ab\"\n", front.replace("\n", " # a comment\n\n").replace("  ", "\t") + "enter\t0\r\n WRITE \"a\" off=0x2 \\\n  FIXED_FILE x\"62\"\r\n# the end"
+    yield front + "enter 0\n  READ FIXED_FILE off=-1 len=8\n", front + "enter 0\nOP_22 len=010 off=0xffffffffffffffff fd=0 FIXED_FILE user_data=0"
+    yield front + "enter 0\n  READ fd=-1 len=3 rw_flags=RWF_HIPRI|RWF_SYNC\n", front + "enter 0\n  READ op_flags=5 fd=0xffffffff len=3\n"
+    yield front + "enter 0\n  READV FIXED_FILE [4,8]\n", front + "enter 0\n  READV [4,8] len=2 FIXED_FILE\n"
+
+
+def of_hand(program: Program) -> List[Outcome]:
+    faults = []
+    for text, other in by_hand():
+        one, two = program.run(["make"], text.encode()), program.run(["make"], other.encode())
+        faults += [repr(other)] if one.status or two.status or one != two else []
+    return [Outcome("texts written by hand, by {}".format(program.compiler), first(faults))]
+
+
+def hostile() -> Iterator[Tuple[str, bytes]]:
+    """Texts of about a megabyte that ask for much work or room."""
+    front, most = FRONT.encode(), 1 << 20
+
+    def filled(start: bytes, piece: bytes, end: bytes = b"\n") -> bytes:
+        return front + start + piece * (most // len(piece)) + end
+
+    yield "one byte a billion times and more", front + b"fill 0 buffer=0 \"\\0\"*1073741825" + b" " * most + b"\n"
+    yield "empty strings", filled(b"fill 0 buffer=0 ", b'""*18446744073709551615 ')
+    yield "lines that go on", filled(b"fill 0 buffer=0 ", b"\\\n", b'"a"\n')
+    yield "a backslash and blanks", filled(b"fill 0 buffer=0 \\", b" ", b"x\n")
+    yield "comments", filled(b"", b"#\n")
+    yield "nothing but feeds", filled(b"", b"\n")
+    yield "calls with no entry", filled(b"", b"enter 0\n")
+    yield "entries of one call", filled(b"enter 0\n", b"NOP\n")
+    yield "calls with one entry each", filled(b"", b"enter 0\nNOP\n")
+    yield "a long path", filled(b"enter 0\nOPENAT path=", b"/a")
+    yield "paths that are no items", b"uring-trace 1\n" + b"dir /a\n" * (most // 7)
+    yield "lengths", filled(b"enter 0\nREADV [0", b",0", b"]\n")
+    yield "flags that are none", filled(b"enter 0\nREAD rw_flags=0", b"|0")
+    yield "a number with many digits", filled(b"enter 0\nREAD off=0x", b"0")
+    yield "a string that does not end", filled(b'fill 0 buffer=0 "', b"a", b"")
+    yield "a word that is none", filled(b"", b"x", b"")
+    yield "slots", filled(b"ring 1\nslots ", b"- ")
+
+
+def of_hostile(program: Program) -> List[Outcome]:
+    """Each takes at most a second of a processor and 100 MB, and is made a trace or refused."""
+    faults = []
+    for label, text in hostile():
+        got = program.run(["make"], text, shell='ulimit -t 1; ulimit -v {}; exec "$@"'.format(HOSTILE_MEMORY))
+        is_well = got.status == 0 and not got.errors or got.status == 1 and not got.output and got.errors.startswith(b"text refused: ")
+        faults += [] if is_well else ["{}: {}".format(label, shown(got))]
+    return [Outcome("{} hostile texts by {}".format(len(list(hostile())), program.compiler), first(faults))]
+
+
+def of_examples(program: Program) -> List[Outcome]:
+    """The text of each example and recorded trace means that trace."""
+    outcomes = []
+    for at, names in examples.walked():
+        for name in sorted(it for it in names if it.endswith(".trace") and it[: -len("trace")] + "refused" not in names):
+            trace = read(at, name)
+            wrong = difference(program.run(["make"], model_text.show(trace)), Answer(0, trace, b""))
+            outcomes.append(Outcome("what the text of {} means by {}".format(name, program.compiler), wrong))
+    return outcomes
+
+
+def jobs(programs: List[Program]) -> List[Job]:
+    size = DRAWN // LOTS
+    starts = [at + back for back in (0, days.first_seed()) for at in range(0, DRAWN // 2, size)]
+    lots = [range(at, at + size) for at in starts]
+    found: List[Job] = [partial(each, it) for it in programs for each in (of_examples, of_mistakes, of_hand, of_hostile)]
+    return found + [partial(lot, program, it) for program in programs for it in (lots if program is programs[0] else lots[:1])]

@@ -1,0 +1,527 @@
+"""What a text means by docs/TEXT.md alone: the bytes of a trace, or the first place at which it is refused, and why."""
+import re
+import struct
+from typing import Dict, List, NamedTuple, Optional, Tuple
+
+from model_text import ACCESSES, BITS, ENTRY_FLAGS, ESCAPES, KEYS, OPERATIONS, ORDER, Table, style_of
+from traces import ENTRY, READV, WRITE, WRITEV, description, directory, file, fill, head, name, two_paths, with_side
+
+# How many there may be of each kind, and how many bytes all strings may mean.
+MOST = {"item": 65_535, "description": 65_535, "ring": 64, "slot": 1_024, "buffer": 1_024, "entry": 32_768, "place": 1_048_576}
+MOST_BYTES, LONGEST_PATH = 1 << 30, 65_535
+# Blanks between words: the end of a line behind a backslash is one. What stands between lines. A word.
+BLANKS, BETWEEN, WORD = re.compile(rb"(?:[ \t\r]|\\[ \t\r]*(?:\n|\Z))*"), re.compile(rb"(?:[ \t\r\n]|#[^\n]*)*"), re.compile(rb"[^ \t\r\n]*")
+LETTERS = {letter: byte for byte, letter in ESCAPES.items()}
+# Why bytes are no trace, by the name that `check` tells.
+OF_TRACE = {
+    "Path": "Path: expected a slash before each name of 1 to 255 bytes",
+    "NoParent": "NoParent: expected a line above for the directory of this path",
+    "Exists": "Exists: a line above has the same path",
+    "Reference": "Reference: a number on this line names nothing above",
+    "Side": "Side: the bytes of this entry do not fit it",
+    "Overlap": "Overlap: a buffer above has some of these addresses",
+    "Limit": "Limit: a number on this line is out of its range",
+}
+
+
+class Refused(Exception):
+    """The text means nothing from a place on."""
+
+    def __init__(self, at: int, why: str) -> None:
+        super().__init__(at, why)
+        self.at, self.why = at, why
+
+
+class Word(NamedTuple):
+    """A word, and where it begins."""
+
+    text: bytes
+    at: int
+
+    def behind(self, count: int) -> "Word":
+        return Word(self.text[count:], self.at + count)
+
+    def value(self, key: str) -> Optional["Word"]:
+        return self.behind(len(key) + 1) if self.text.startswith(key.encode() + b"=") else None
+
+
+class Made(NamedTuple):
+    """The bytes that a text means, and of each line that makes some where they begin and where the line does."""
+
+    trace: bytes
+    lines: List[Tuple[int, int]]
+
+    def line_of(self, byte: int) -> int:
+        return max((it for it in self.lines if it[0] <= byte), default=self.lines[0])[1]
+
+
+def place_of(text: bytes, at: int) -> Tuple[int, int]:
+    """Line and column, both from 1."""
+    return text.count(b"\n", 0, at) + 1, at - text.rfind(b"\n", 0, at)
+
+
+def digits(word: Word, base: int, bits: int, why: str, at: int) -> int:
+    known = {2: b"01", 8: b"01234567", 10: b"0123456789", 16: b"0123456789abcdef"}[base]
+    if not word.text or word.text.strip(known):
+        raise Refused(at, why)
+    number = int(word.text, base)
+    if number >> bits:
+        raise Refused(at, "expected a number of at most {} bits".format(bits))
+    return number
+
+
+def number_of(word: Word, bits: int, how: str = "decimal", flags: Optional[Table] = None) -> int:
+    """A number: decimal, 0x and hexadecimal, 0 and octal, or a minus; or such parts and names with bars between them."""
+    why = "expected a number or a flag of this field" if how == "flags" else "expected a number"
+    if word.text.startswith(b"-"):
+        if word.text.startswith(b"-0"):
+            raise Refused(word.at, "expected a number")
+        number = digits(word.behind(1), 10, bits, "expected a number", word.at)
+        if number > 1 << (bits - 1):
+            raise Refused(word.at, "expected a number of at most {} bits".format(bits))
+        return (1 << bits) - number
+    total = 0
+    for part in word.text.split(b"|"):
+        named = (flags or {}).get(part.decode("latin1"))
+        if how == "descriptor" and part == b"AT_FDCWD":
+            named = (1 << 32) - 100
+        if named is None:
+            base, front = (16, 2) if part.startswith(b"0x") else (8, 1) if part.startswith(b"0") and len(part) > 1 else (10, 0)
+            named = digits(Word(part[front:], word.at), base, bits, why, word.at)
+        if total & named:
+            raise Refused(word.at, "the same flag stands here twice")
+        total |= named
+    return total
+
+
+def count_of(word: Word) -> int:
+    if word.text.startswith(b"0") or not word.text or word.text.strip(b"0123456789"):
+        raise Refused(word.at, "expected a count from 1 on")
+    if int(word.text) >> 64:
+        raise Refused(word.at, "expected a number of at most 64 bits")
+    return int(word.text)
+
+
+def path_of(word: Word) -> bytes:
+    if not word.text:
+        raise Refused(word.at, "expected a path")
+    path, at = bytearray(), 0
+    while at < len(word.text):
+        found = re.compile(rb"\\x([0-9a-f]{2})|([!-\[\]-~])").match(word.text, at)
+        if not found:
+            raise Refused(word.at + at, "expected a visible character, or `\\xHH` for a byte")
+        path += bytes.fromhex(found[1].decode()) if found[1] else found[2]
+        at = found.end()
+    if len(path) > LONGEST_PATH:
+        raise Refused(word.at, "expected a path of at most 65535 bytes")
+    return bytes(path)
+
+
+class Reader:
+    """A text, and the place up to which it has been read."""
+
+    def __init__(self, text: bytes) -> None:
+        self.text, self.at, self.room = text, 0, MOST_BYTES
+        self.paths: Dict[bytes, int] = {b"/": 0}
+        self.parts: List[bytes] = []
+        self.lines: List[Tuple[int, int]] = []
+        self.made = 32
+
+    # Words.
+
+    def match(self, pattern: "re.Pattern[bytes]", at: int) -> "re.Match[bytes]":
+        found = pattern.match(self.text, at)
+        assert found
+        return found
+
+    def first(self) -> Word:
+        """The first word of the next line that has one."""
+        at = self.match(BETWEEN, self.at).end()
+        return Word(self.match(WORD, at)[0], at)
+
+    def peek(self) -> Word:
+        at = self.match(BLANKS, self.at).end()
+        return Word(self.match(WORD, at)[0], at)
+
+    def pass_word(self, word: Word) -> Word:
+        self.at = word.at + len(word.text)
+        return word
+
+    def next(self) -> Word:
+        return self.pass_word(self.peek())
+
+    def is_at_end(self) -> bool:
+        return self.text[self.peek().at : self.peek().at + 1] in (b"", b"\n", b"#")
+
+    def end(self) -> None:
+        at = self.peek().at
+        if not self.is_at_end():
+            raise Refused(at, "expected the end of the line")
+        feed = self.text.find(b"\n", at)
+        self.at = len(self.text) if feed < 0 else feed + 1
+
+    def begin(self, count: int, kind: str) -> Word:
+        """Passes the first word of a line, before which there are so many of its kind."""
+        word = self.first()
+        if count >= MOST[kind]:
+            raise Refused(word.at, "there is one more of these than a trace may have")
+        self.pass_word(word)
+        return word
+
+    def add(self, line: Word, made: bytes, hidden: int = 0) -> None:
+        """Adds the bytes that a line makes; so many before them are of no line."""
+        self.lines.append((self.made + hidden, line.at))
+        self.parts.append(made)
+        self.made += len(made)
+
+    # Values.
+
+    def next_path(self) -> bytes:
+        if self.is_at_end():
+            raise Refused(self.peek().at, "expected a path")
+        return path_of(self.next())
+
+    def keyed(self, key: str, bits: int) -> Optional[int]:
+        value = self.peek().value(key)
+        if value is None:
+            return None
+        number = number_of(value, bits)
+        self.next()
+        return number
+
+    def node(self, word: Word) -> int:
+        if word.text.startswith(b"@"):
+            return number_of(word.behind(1), 32)
+        path = path_of(word)
+        if path not in self.paths:
+            raise Refused(word.at, "expected the path of an item above, or `@` and its number")
+        return self.paths[path]
+
+    def next_number(self, number: int) -> None:
+        word = self.next()
+        try:
+            told = number_of(word, 64)
+        except Refused:
+            told = -1
+        if told != number:
+            raise Refused(word.at, "expected the number {}, which is next".format(number))
+
+    def is_string(self) -> bool:
+        return self.peek().text.startswith((b'"', b'x"'))
+
+    def letters(self, at: int) -> Tuple[bytes, int]:
+        """The bytes of a string up to its mark, and the place behind it."""
+        found = bytearray()
+        while self.text[at : at + 1] != b'"':
+            here = self.text[at : at + 1]
+            if here == b"\\":
+                escape = re.compile(rb"\\(?:x([0-9a-f]{2})|(.))", re.S).match(self.text, at)
+                letter = escape[2].decode("latin1") if escape and escape[2] else None
+                if not escape or letter is not None and letter not in LETTERS:
+                    raise Refused(at, 'expected one of \\n \\t \\r \\0 \\" \\\\ \\xHH')
+                found += bytes([LETTERS[letter]]) if letter is not None else bytes.fromhex(escape[1].decode())
+                at = escape.end()
+            elif b" " <= here <= b"~":
+                found += here
+                at += 1
+            else:
+                raise Refused(at, "expected a visible character, an escape or a quotation mark")
+        return bytes(found), at + 1
+
+    def pairs(self, at: int) -> Tuple[bytes, int]:
+        """The same of a string of digits."""
+        found = bytearray()
+        while self.text[at : at + 1] != b'"':
+            pair = re.compile(rb"[0-9a-f]{2}").match(self.text, at)
+            if not pair:
+                raise Refused(at, "expected two hexadecimal digits or a quotation mark")
+            found += bytes.fromhex(pair[0].decode())
+            at += 2
+        return bytes(found), at + 1
+
+    def string(self) -> bytes:
+        start = self.peek()
+        if start.text.startswith(b'"'):
+            once, at = self.letters(start.at + 1)
+        elif start.text.startswith(b'x"'):
+            once, at = self.pairs(start.at + 2)
+        else:
+            cut = start.text.startswith(b"...")
+            raise Refused(start.at, "the bytes here were left out by `show --first`" if cut else "expected a string")
+        behind, times = Word(self.match(WORD, at)[0], at), 1
+        if behind.text.startswith(b"*"):
+            times = count_of(behind.behind(1))
+        if len(once) * times > self.room:
+            raise Refused(start.at, "expected strings of at most 1073741824 bytes in all")
+        if behind.text and not behind.text.startswith(b"*"):
+            raise Refused(at, "expected a string")
+        self.pass_word(behind)
+        self.room -= len(once) * times
+        return once * times if once else b""
+
+    def strings(self) -> bytes:
+        parts = []
+        while not self.is_at_end():
+            parts.append(self.string())
+        return b"".join(parts)
+
+    # Lines.
+
+    def version(self) -> int:
+        word = self.first()
+        if word.text != b"uring-trace":
+            raise Refused(word.at, "expected `uring-trace 1` or `uring-trace 2`")
+        self.pass_word(word)
+        number = self.next()
+        if number.text not in (b"1", b"2"):
+            raise Refused(number.at, "expected `uring-trace 1` or `uring-trace 2`")
+        self.end()
+        return int(number.text)
+
+    def items(self) -> int:
+        count = 0
+        while self.first().text in (b"dir", b"file", b"name"):
+            line = self.begin(count, "item")
+            path = self.next_path()
+            if line.text == b"dir":
+                made = directory(path)
+            elif line.text == b"file":
+                size = self.keyed("size", 64)
+                data = self.strings()
+                made = file(path, len(data) if size is None else size, data)
+            else:
+                value = self.peek().value("of")
+                if value is None:
+                    raise Refused(self.peek().at, "expected of=PATH")
+                made = name(path, self.node(value))
+                self.next()
+            self.end()
+            count += 1
+            self.paths.setdefault(path, count)
+            self.add(line, made)
+        return count
+
+    def descriptions(self) -> int:
+        count = 0
+        while self.first().text == b"open":
+            line = self.begin(count, "description")
+            self.next_number(count)
+            if self.is_at_end():
+                raise Refused(self.peek().at, "expected a path")
+            node = self.node(self.peek())
+            self.next()
+            access, _, append = self.peek().text.decode("latin1").partition("|")
+            if access not in ACCESSES or self.peek().text != access.encode() and append != "O_APPEND":
+                raise Refused(self.peek().at, "expected O_RDONLY, O_WRONLY or O_RDWR, perhaps with |O_APPEND")
+            self.next()
+            position = self.keyed("pos", 64) or 0
+            self.end()
+            self.add(line, description(node, ACCESSES.index(access), int(append == "O_APPEND"), position))
+            count += 1
+        return count
+
+    def slots(self) -> List[int]:
+        slots: List[int] = []
+        if self.is_at_end():
+            raise Refused(self.peek().at, "expected a slot: a number, `-` or `-*COUNT`")
+        while not self.is_at_end():
+            word = self.peek()
+            if word.text == b"-" or word.text.startswith(b"-*"):
+                more = 1 if word.text == b"-" else count_of(word.behind(2))
+                added = [0] * min(more, MOST["slot"] + 1)
+            else:
+                number = number_of(word, 32)
+                if number + 1 >> 32:
+                    raise Refused(word.at, "expected a number of at most 32 bits")
+                added = [number + 1]
+            if len(slots) + len(added) > MOST["slot"]:
+                raise Refused(word.at, "there is one more of these than a trace may have")
+            slots += added
+            self.next()
+        self.end()
+        return slots
+
+    def rings(self) -> int:
+        count = 0
+        while self.first().text == b"ring":
+            line = self.begin(count, "ring")
+            self.next_number(count)
+            self.end()
+            count += 1
+            slots_line, slots = None, []
+            if self.first().text == b"slots":
+                slots_line = self.pass_word(self.first())
+                slots = self.slots()
+            self.add(line, struct.pack("<H", len(slots)))
+            buffers: List[Tuple[Word, bytes]] = []
+            while self.first().text == b"buffer":
+                buffer = self.begin(len(buffers), "buffer")
+                self.next_number(len(buffers))
+                address = number_of(self.next(), 64)
+                buffers.append((buffer, struct.pack("<QI", address, number_of(self.next(), 32))))
+                self.end()
+            packed = struct.pack("<{}I".format(len(slots)), *slots) + struct.pack("<H", len(buffers))
+            if slots_line:
+                self.add(slots_line, packed)
+            else:
+                self.parts.append(packed)
+                self.made += len(packed)
+            for buffer, made in buffers:
+                self.add(buffer, made)
+        return count
+
+    def records(self) -> int:
+        count = places = 0
+        while self.first().text in (b"enter", b"fill"):
+            line = self.begin(count, "place")
+            if line.text == b"enter":
+                places += self.enter(line, places)
+            else:
+                if places >= MOST["place"]:
+                    raise Refused(line.at, "there is one more of these than a trace may have")
+                self.fill(line)
+                places += 1
+            count += 1
+        return count
+
+    def fill(self, line: Word) -> None:
+        ring = number_of(self.next(), 8)
+        buffer = self.keyed("buffer", 16)
+        if buffer is None:
+            raise Refused(self.peek().at, "expected buffer=N")
+        offset = self.keyed("at", 32) or 0
+        data = self.strings()
+        self.end()
+        self.add(line, fill(ring, buffer, offset, data))
+
+    def enter(self, line: Word, places: int) -> int:
+        ring = number_of(self.next(), 8)
+        self.end()
+        entries: List[Tuple[Word, bytes]] = []
+        while opcode_of(self.first().text) is not None:
+            first = self.begin(len(entries), "entry")
+            if places + len(entries) >= MOST["place"]:
+                raise Refused(first.at, "there is one more of these than a trace may have")
+            entries.append((first, Draft(opcode_of(first.text) or 0).read(self)))
+        self.add(line, struct.pack("<BBH", 1, ring, len(entries)))
+        for first, made in entries:
+            self.add(first, made)
+        return len(entries)
+
+    def trace(self) -> Made:
+        version = self.version()
+        items, descriptions, table = self.items(), self.descriptions(), []
+        if version == 2 and self.first().text == b"descriptors":
+            line = self.pass_word(self.first())
+            table = self.slots()
+            self.add(line, struct.pack("<{}I".format(len(table)), *table))
+        rings, records = self.rings(), self.records()
+        stray = self.first()
+        if stray.text:
+            known = b"dir file name open descriptors ring slots buffer".split()
+            order, entry = "a line of this kind cannot stand behind those above", "expected `enter RING` above an entry"
+            other = entry if opcode_of(stray.text) is not None else "expected a line of a trace, or an operation"
+            raise Refused(stray.at, order if stray.text in known else other)
+        return Made(head(items, descriptions, rings, records, len(table), version) + b"".join(self.parts), self.lines)
+
+
+def opcode_of(word: bytes) -> Optional[int]:
+    text = word.decode("latin1")
+    if text in OPERATIONS:
+        return OPERATIONS.index(text)
+    number = re.fullmatch(r"OP_(0|[1-9][0-9]{0,2})", text, re.A)
+    return int(number[1]) if number and int(number[1]) < 256 else None
+
+
+class Draft:
+    """What the words of an entry have said so far."""
+
+    def __init__(self, opcode: int) -> None:
+        self.fields: Dict[str, int] = {"opcode": opcode}
+        self.paths: Dict[str, bytes] = {}
+        self.lengths: Optional[List[int]] = None
+        self.data = b""
+        own = {style_of(opcode, key).name: key for key in ORDER}
+        self.known = {**{key: key for key in ORDER}, **own}
+
+    def read(self, reader: Reader) -> bytes:
+        strings = []
+        while not reader.is_at_end():
+            if reader.is_string():
+                strings.append(reader.string())
+            else:
+                self.word(reader.peek())
+                reader.next()
+        reader.end()
+        self.data = b"".join(strings)
+        return self.bytes()
+
+    def word(self, word: Word) -> None:
+        text = word.text.decode("latin1")
+        key, sign, _ = text.partition("=")
+        if text in ENTRY_FLAGS:
+            bit = 1 << ENTRY_FLAGS.index(text)
+            if self.fields.get("flags", 0) & bit:
+                raise Refused(word.at, "the same flag stands here twice")
+            self.fields["flags"] = self.fields.get("flags", 0) | bit
+        elif text.startswith("["):
+            self.vector(word)
+        elif text == "...":
+            raise Refused(word.at, "the bytes here were left out by `show --first`")
+        elif sign and key in ("path", "old", "new"):
+            if key in self.paths:
+                raise Refused(word.at, "this stands here for the second time")
+            value = word.behind(len(key) + 1)
+            self.paths[key] = path_of(value) if value.text else b""
+        elif sign and key in self.known:
+            field = self.known[key]
+            if field in self.fields:
+                raise Refused(word.at, "this stands here for the second time")
+            style = style_of(self.fields["opcode"], field)
+            self.fields[field] = number_of(word.behind(len(key) + 1), BITS[field], style.how, style.flags)
+        else:
+            raise Refused(word.at, "expected a flag, a field of this operation or a string")
+
+    def vector(self, word: Word) -> None:
+        if self.lengths is not None:
+            raise Refused(word.at, "this stands here for the second time")
+        if len(word.text) < 2 or not word.text.endswith(b"]"):
+            raise Refused(word.at, "expected lengths, as [4,8]")
+        at, self.lengths = word.at + 1, []
+        for part in word.text[1:-1].split(b","):
+            self.lengths.append(number_of(Word(part, at), 64))
+            at += len(part) + 1
+
+    def bytes(self) -> bytes:
+        lengths = self.lengths or []
+        side = struct.pack("<{}Q".format(len(lengths)), *lengths) + self.paths.get("path", b"")
+        if "old" in self.paths or "new" in self.paths:
+            side += two_paths(self.paths.get("old", b""), self.paths.get("new", b""))
+        side += self.data
+        opcode = self.fields["opcode"]
+        default = len(self.data) if opcode == WRITE else len(lengths) if opcode in (READV, WRITEV) else 0
+        whole = {**dict.fromkeys(KEYS, 0), "len": default, **self.fields}
+        whole["fd"] -= (whole["fd"] >> 31) << 32
+        return with_side(ENTRY.pack(*(whole[key] for key in KEYS)), side)
+
+
+def made_of(text: bytes) -> Made:
+    """What a text means, whether its bytes are a trace or not."""
+    return Reader(text).trace()
+
+
+def make(text: bytes) -> bytes:
+    return made_of(text).trace
+
+
+def refusal_line(text: bytes, at: int, why: str) -> bytes:
+    """The line on standard error for a text that is refused from a place on."""
+    line, column = place_of(text, at)
+    return "text refused: {}:{}: {}\n".format(line, column, why).encode()
+
+
+def refusal_of(text: bytes, made: Made, told: bytes) -> bytes:
+    """The same where the bytes are no trace, by what `check` tells of them."""
+    found = re.fullmatch(rb"trace refused: (\w+) at (\d+)\n", told)
+    assert found, told
+    return refusal_line(text, made.line_of(int(found[2])), OF_TRACE[found[1].decode()])

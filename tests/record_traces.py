@@ -1,0 +1,135 @@
+"""Puts the bytes of traces of version 3 together, by docs/NEXT.md, and draws such traces: the same of one seed each time. Directories, names and
+descriptions are those of traces.py."""
+import random
+import struct
+from typing import List, Sequence, Tuple
+
+import traces
+from drawing import ADDRESSES, LAST, Draw, altered
+from traces import ENTRY, WRITE, WRITEV
+
+END = b"\7"
+# What a new ring gets in a slot.
+SLOT, DESCRIPTOR, DESCRIPTION = 0, 1, 2
+
+Holder = Tuple[int, int, int]
+Buffers = Sequence[Tuple[int, int]]
+
+
+def head(items: int = 0, descriptions: int = 0, table: int = 0, full: int = 0) -> bytes:
+    return struct.pack("<8s6I", b"URINGTRC", 3, items, descriptions, table, full, 0)
+
+
+def file(path: bytes, size: int, ranges: Sequence[Tuple[int, bytes]] = ()) -> bytes:
+    each = (struct.pack("<QI", offset, len(data)) + data for offset, data in ranges)
+    return traces.file_head(path, size, len(ranges)) + b"".join(each)
+
+
+def descriptor(number: int, description: int) -> bytes:
+    return struct.pack("<II", number, description)
+
+
+def ring(slots: int = 0, full: Sequence[Tuple[int, Holder]] = (), buffers: Buffers = (), queue: int = LAST) -> bytes:
+    parts = [struct.pack("<B3I", 5, queue, slots, len(full)), *(struct.pack("<IBII", number, *holder) for number, holder in full)]
+    return b"".join([*parts, struct.pack("<H", len(buffers)), *(struct.pack("<QI", *buffer) for buffer in buffers)])
+
+
+def ring_ends(number: int) -> bytes:
+    return struct.pack("<BI", 6, number)
+
+
+def enter(number: int, entries: Sequence[bytes]) -> bytes:
+    return struct.pack("<BIH", 1, number, len(entries)) + b"".join(entries)
+
+
+def fill(number: int, buffer: int, offset: int, data: bytes) -> bytes:
+    return struct.pack("<BIHBII", 2, number, buffer, 0, offset, len(data)) + data
+
+
+def fill_of_zeros(number: int, buffer: int, offset: int, count: int) -> bytes:
+    return struct.pack("<BIHBII", 2, number, buffer, 1, offset, count)
+
+
+def stored(entry: bytes) -> bytes:
+    """An entry of traces.py with its side bytes."""
+    return entry[:64] + b"\0" + entry[64:]
+
+
+def zeros(entry: bytes) -> bytes:
+    """A WRITE or a WRITEV of zeros, whose lengths alone stand there."""
+    length = ENTRY.unpack(entry[:64])[6]
+    lengths = 8 * length if entry[0] == WRITEV and length <= 1024 else 0
+    return entry[:64] + b"\1" + entry[64 : 68 + lengths]
+
+
+class Records(Draw):
+    """Draws a trace of version 3."""
+
+    tables, records = (0, 1, 3, 5, 40), 14
+
+    def __init__(self, seed: int) -> None:
+        super().__init__(seed)
+        self.version = 2
+        # The rings that are there.
+        self.there: List[int] = []
+
+    def trace(self) -> bytes:
+        items, nodes = self.items()
+        described = [self.described(nodes) for _ in range(self.source.randrange(1, self.most_described + 1))]
+        self.table, self.handles_end = self.one(self.tables), len(described)
+        full = [descriptor(number, it - 1) for number, it in enumerate(self.handles(len(described), self.table)) if it]
+        records = [self.next_record() for _ in range(self.source.randrange(self.records))]
+        return b"".join([head(len(items), len(described), self.table, len(full)), *items, *described, *full, *records, END])
+
+    def file(self, path: bytes, size: int) -> bytes:
+        ranges, end = [], 0
+        for _ in range(self.source.randrange(4)):
+            offset = end + (0 if self.rarely(3) else self.source.randrange(max(size // 3, 1)))
+            data = self.data()[: max(size - offset, 0)]
+            if data:
+                ranges.append((offset, data))
+                end = offset + len(data)
+        return file(path, size, ranges)
+
+    def next_record(self) -> bytes:
+        if not self.there or self.rarely(5):
+            return self.new_ring()
+        number = self.one(self.there)
+        if self.rarely(12):
+            self.there.remove(number)
+            return ring_ends(number)
+        return self.record(number)
+
+    def new_ring(self) -> bytes:
+        slots = self.source.randrange(self.most_slots)
+        full = [(number, self.holder()) for number in range(slots) if not self.rarely(3)]
+        queue = self.source.randrange(len(self.slots)) if self.slots and self.rarely(3) else LAST
+        buffers = [(address, self.one(self.buffer_sizes)) for address in ADDRESSES[: self.source.randrange(4)]]
+        self.there.append(len(self.slots))
+        self.slots.append(slots)
+        self.buffers.append(buffers)
+        return ring(slots, full, buffers, queue)
+
+    def holder(self) -> Holder:
+        with_slots = [it for it in self.there if self.slots[it]]
+        if with_slots and self.rarely(3):
+            number = self.one(with_slots)
+            return SLOT, number, self.source.randrange(self.slots[number])
+        if self.table and self.rarely(2):
+            return DESCRIPTOR, 0, self.source.randrange(self.table)
+        return DESCRIPTION, 0, self.source.randrange(self.handles_end)
+
+    def entered(self, number: int, entries: List[bytes]) -> bytes:
+        return enter(number, entries)
+
+    def filled(self, number: int, index: int, offset: int, data: bytes) -> bytes:
+        return fill_of_zeros(number, index, offset, len(data)) if self.rarely(2) else fill(number, index, offset, data)
+
+    def entry(self, number: int) -> bytes:
+        made = super().entry(number)
+        return zeros(made) if made[0] in (WRITE, WRITEV) and self.rarely(2) else stored(made)
+
+
+def changed(seed: int) -> bytes:
+    """A drawn trace of version 3 with some bytes changed, taken out or put in, or cut short."""
+    return altered(Records(seed).trace(), random.Random("changed records {}".format(seed)))
