@@ -695,9 +695,7 @@ static void no_files(void)
 			continue;
 		add(&ring, OP_WRITE, number, "spec", 4, 0);
 		add(&ring, OP_READ, number, buffer, 4, 0);
-		go(&ring, 0);
-		usleep(1000);
-		drain(&ring);
+		go(&ring, 2);
 	}
 }
 
