@@ -8,7 +8,7 @@ VERSION = $(shell sed -n 's/^## \([0-9.]*\).*/\1/p' CHANGELOG.md | head -n 1)
 ROOT = $(DESTDIR)$(PREFIX)
 SHARE = $(ROOT)/share/doc/uring-replay
 # What the tools in Python share, and with what they draw traces.
-SHARED = tools/shared/playing.py tools/shared/trace_parts.py tests/traces.py tests/model.py tests/drawing.py tests/play_drawing.py
+SHARED = tools/shared/playing.py tools/shared/trace_parts.py tests/traces.py tests/model.py tests/drawing.py tests/record_traces.py tests/play_drawing.py
 BUILD = out
 STAGE = $(BUILD)/deb
 

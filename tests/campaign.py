@@ -12,11 +12,14 @@ from typing import Dict, List, Optional, Sequence, Set, Tuple
 
 import flight
 import play
+import record_traces
+from by_models import MODELS
 from harness import EXAMPLES, TOP, Answer, Job, Outcome, Program, first, read, shown, skipped
 from model import World
 from mounted import Passthrough
 from player import Player
-from traces import WRITE
+from record_traces import DESCRIPTION, DESCRIPTOR, SLOT, stored
+from traces import AT_FDCWD, FIXED_FILE, NOP, OPENAT, READ, WRITE, description, entry
 
 MINIMISE, CAMPAIGN = (os.path.join(TOP, "tools", it) for it in ("uring_minimise", "uring_campaign"))
 SECONDS, FEW = 300, 10
@@ -78,6 +81,29 @@ def least(player: Player, program: Program) -> List[Outcome]:
         is_well = is_well and again.status == 4 and again.output == written["diff"]
         outcomes.append(Outcome("uring_minimise: {}".format(name), None if is_well else "{} {!r}".format(shown(got), written)))
     return outcomes
+
+
+def rings_of_rings() -> bytes:
+    """A trace of version 3 whose last WRITE goes through a slot that was a slot of another ring before."""
+    files = [record_traces.file(b"/a", 40, [(2, b"a"), (30, b"bc")]), record_traces.file(b"/b", 0)]
+    on = FIXED_FILE
+    early = [entry(READ, on, length=4, user_data=5), entry(OPENAT, fd=AT_FDCWD, own_flags=0x42, file_index=3, side=b"/c"), entry(WRITE, on, 2, length=5, side=b"hello")]
+    late = [entry(NOP), entry(READ, on, 0, 3, 4), entry(WRITE, on, 1, 7, 13, b"thirteen byte", user_data=9), entry(READ, on, 1, length=20)]
+    records = [record_traces.ring(3, [(0, (DESCRIPTION, 0, 0)), (1, (DESCRIPTION, 0, 1))], [(4096, 64)]), record_traces.enter(0, [stored(it) for it in early]),
+               record_traces.fill_of_zeros(0, 0, 3, 9), record_traces.ring(2, [(0, (DESCRIPTOR, 0, 2)), (1, (SLOT, 0, 1))]), record_traces.ring(1, queue=0),
+               record_traces.ring_ends(0), record_traces.enter(1, [record_traces.zeros(entry(WRITE, on, 0, 0, 6, bytes(6))), *map(stored, late)])]
+    front = [record_traces.head(2, 2, 4, 1), *files, description(1), description(2), record_traces.descriptor(2, 0)]
+    return b"".join([*front, *records, record_traces.END])
+
+
+def least_of_version_3(player: Player) -> List[Outcome]:
+    """Of a trace of version 3 the write is left, with the ring that it is on and the one that its slot comes from."""
+    name = "uring_minimise: a trace of version 3"
+    got, written = minimised(player, MODELS, rings_of_rings(), ["--player", wrong_player(player)])
+    lines = written.get("report", b"").split(b"\n")
+    is_well = got.status == 0 and lines[:3] == [b"uring-report 2", b"2 ring=1 user=0 res=13 posted", b"tree"]
+    is_well = is_well and MODELS.run(["serial", "--sums"], written["trace"]).output == written["report"] and b"1 different" in written["diff"]
+    return [Outcome(name, None if is_well else "{} {!r}".format(shown(got), written))]
 
 
 def told(program: Program, trace: bytes) -> bytes:
@@ -309,4 +335,5 @@ def jobs(programs: List[Program]) -> List[Job]:
     if lacking:
         return [lambda: skipped("the tools that look for differences", lacking)]
     found: List[Job] = [partial(it, player, program) for it in (least, raced, refusals, collected, campaign_words, over_lower)]
+    found.append(partial(least_of_version_3, player))
     return found + [partial(by_parallel, player, program, it) for it in ("parallel", "xargs")]

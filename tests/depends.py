@@ -8,6 +8,7 @@ from typing import Callable, Dict, Iterator, List, Optional, Sequence, Set, Tupl
 
 import days
 import model_depends
+import model_records
 from drawing import Draw, Near, Opens
 from harness import Answer, Job, Outcome, Program, difference, first, read, shown
 from model import World, report, report_of, run_step
@@ -62,7 +63,7 @@ def order_of(waits: Waits, chosen: Callable[[List[int]], int]) -> List[int]:
 
 def report_in(trace: bytes, order: Sequence[int]) -> bytes:
     """The report where the places run in this order."""
-    world = World(trace)
+    world = model_records.world_of(trace)
     places = model_depends.places_of(world)
     return report_of(world, {it: run_step(world, places[it].chain, places[it].at) for it in order})
 

@@ -10,7 +10,8 @@ from functools import partial
 from typing import Iterator, List, NamedTuple, Optional, Tuple
 
 import needs
-from harness import EXAMPLES, TOP, Job, Outcome, Program, first, skipped
+from by_models import MODELS
+from harness import EXAMPLES, TOP, Job, Outcome, Program, first, read, skipped
 
 # These have transcripts (```console), which are run; the README is for a first look, and short.
 RUN = ("README.md", "docs/GUIDE.md", "docs/PLAYING.md", "docs/FINDING.md")
@@ -273,6 +274,22 @@ TIMED = b"uring-report 1\nring 0\n" + b"".join(b"%d user=0 res=100 posted op=22 
                                               for it in range(10)) + b"10 user=0 op=0\nend\n"
 
 
+TIMED_BY_PLACES = b"uring-report 2\n1 ring=3 user=1 res=4 posted submitted=10 completed=500\n4 ring=9 user=1 res=4 posted submitted=20 completed=800\nend\n"
+
+
+def of_version_3(files: List[str]) -> Outcome:
+    """Of a trace of version 3 each place has its box, in the lane of its ring, by the models."""
+    trace = read("version_3", "slots_get_what_is_held_then.trace")
+    texts = [MODELS.run([it], trace).output for it in ("rounds", "serial")]
+    for file, text in zip(files, texts):
+        with open(file, "wb") as opened:
+            opened.write(text)
+    status, picture = timeline(files, b"")
+    is_well = status == 0 and nodes_in(picture, "title") == texts[0].count(b" round=") + texts[0].count(b" after=")
+    lanes = [it for it in (b">ring 0<", b">ring 1<", b">fills, rings<") if picture.count(it) != 1]
+    return Outcome("tools/uring_timeline: a trace of version 3", None if is_well and not lanes else "status {}, lacks {}".format(status, lanes))
+
+
 def is_table(got: Tuple[int, bytes]) -> Optional[str]:
     rows = {tuple(it.split()[:-1]): it.split()[-1] for it in got[1].decode().splitlines()[1:]}
     wanted = {("all", "entries"): "10", ("all", "seconds"): "0.001", ("all", "entries/s"): "10000", ("all", "MB/s"): "1.0", ("READ", "entries"): "10",
@@ -295,8 +312,10 @@ def pictures(program: Program) -> List[Outcome]:
             outcomes.append(Outcome("{}: as drawn".format(name), fault))
             boxes, places = nodes_in(picture, "title"), texts[0].count(b" round=") + texts[0].count(b" after=")
             outcomes.append(Outcome("{}: places and waits".format(name), None if boxes == places else "{} of {} are drawn".format(boxes, places)))
+        outcomes.append(of_version_3(files))
         timed = b"uring-report 1\nring 3\n0 user=1 res=4 posted submitted=10 completed=500\nend\n"
-        for label, given, wanted in (("a text of times", timed, 0), ("a report without times", texts[1], 1), ("a trace", b"URINGTRC", 1)):
+        cases = (("a text of times", timed, 0), ("a text of times of version 3", TIMED_BY_PLACES, 0), ("a report without times", texts[1], 1), ("a trace", b"URINGTRC", 1))
+        for label, given, wanted in cases:
             status, _ = timeline([], given)
             outcomes.append(Outcome("tools/uring_timeline: {}".format(label), None if status == wanted else "status {}, wanted {}".format(status, wanted)))
         outcomes.append(Outcome("tools/uring_timeline --table", is_table(timeline(["--table"], TIMED))))

@@ -26,7 +26,7 @@ OF_FILES = (READ, WRITE, READV, WRITEV, READ_FIXED, WRITE_FIXED, FSYNC, FALLOCAT
 # Words that a line of a report may be given, the first ones of lines, and whole lines.
 FACTS = (b"outside=x", b"op=22", b"posted", b"silent", b"", b"=", b"res=1", b"size=0", b"outside", b"a=b=c", b"a=b", b"sum=large", b"tree-sum=ab", b"submitted=5",
          b"completed=9", b"completed")
-FIRST_WORDS = (b"dir", b"file", b"slot", b"descriptor", b"buffer", b"tree", b"ring", b"0", b"1")
+FIRST_WORDS = (b"dir", b"file", b"link", b"slot", b"descriptor", b"buffer", b"tree", b"ring", b"0", b"1")
 LINES = (b"", b" ", b"tree", b"slots", b"buffers x", b"dir", b"slot 1", b"descriptor 0 desc=1", b"7 user=1")
 
 
@@ -67,11 +67,14 @@ class Draw:
         items, nodes = self.items()
         described = [self.described(nodes) for _ in range(self.source.randrange(1, self.most_described + 1))]
         self.table = self.one(self.tables) if self.version == 2 else 0
-        table = descriptor_table(self.handles(len(described), self.table))
+        table = self.handles(len(described), self.table)
         rings = [self.ring(len(described)) for _ in range(self.source.randrange(1, 4))]
         records = [self.record(self.source.randrange(len(rings))) for _ in range(self.source.randrange(1, self.records))]
+        return self.whole(items, described, table, rings, records)
+
+    def whole(self, items: List[bytes], described: List[bytes], table: List[int], rings: List[bytes], records: List[bytes]) -> bytes:
         front = head(len(items), len(described), len(rings), len(records), self.table, self.version)
-        return b"".join([front, *items, *described, table, *rings, *records])
+        return b"".join([front, *items, *described, descriptor_table(table), *rings, *records])
 
     def items(self) -> Tuple[List[bytes], List[Tuple[int, bool]]]:
         """Items, and the nodes that there are then, each with whether it is a file."""
@@ -107,7 +110,10 @@ class Draw:
     def ring(self, described: int) -> bytes:
         self.slots.append(self.source.randrange(self.most_slots))
         self.buffers.append([(address, self.one(self.buffer_sizes)) for address in ADDRESSES[: self.source.randrange(4)]])
-        return ring(self.handles(described, self.slots[-1]), self.buffers[-1])
+        return self.registered(self.handles(described, self.slots[-1]), self.buffers[-1])
+
+    def registered(self, slots: List[int], buffers: List[Tuple[int, int]]) -> bytes:
+        return ring(slots, buffers)
 
     def record(self, number: int) -> bytes:
         buffers = self.buffers[number]
@@ -222,6 +228,14 @@ class Near(Draw):
         return [directory(b"/a"), *(file(path, size) for path, size in zip(self.paths[1:], sizes))], [(0, False), (1, False), (2, True), (3, True)]
 
 
+class Second(Draw):
+    """Draws a trace of version 2."""
+
+    def __init__(self, seed: int) -> None:
+        super().__init__(seed)
+        self.version = 2
+
+
 class Opens(Near):
     """Draws a trace whose steps take, close and use ordinary descriptors."""
 
@@ -283,3 +297,42 @@ def two_reports(seed: int) -> bytes:
     source = random.Random("reports {}".format(seed))
     seeds = (seed, seed if source.randrange(4) else seed + 1)
     return b"".join(report_changed(source, model.report(Draw(it).trace(), source.randrange(2) > 0)) for it in seeds)
+
+
+def by_places(source: random.Random, report: bytes) -> bytes:
+    """A report of version 1 as one of version 2: its entries in the order of their places, each with its ring, and perhaps links in the tree."""
+    entries, others, ring_line = [], [], b""
+    for line in report.split(b"\n")[1:-1]:
+        words = line.split(b" ")
+        if words[0] == b"ring":
+            ring_line = b"ring=" + words[1]
+        elif words[0].isdigit():
+            entries.append(b" ".join([words[0], ring_line, *words[1:]]))
+        else:
+            others.append(line)
+    links = [b"link /l%d node=%d to=%s" % (it, 90 + it, source.choice((b"a", b"../b"))) for it in range(source.randrange(3))]
+    entries.sort(key=lambda line: int(line.split(b" ")[0]))
+    return b"\n".join([b"uring-report 2", *entries, others[0], *links, *others[1:], b""])
+
+
+def risen(report: bytes) -> bytes:
+    """A report in which each entry that does not rise is left out."""
+    lines, last = [], -1
+    for line in report.split(b"\n"):
+        word = line.split(b" ")[0]
+        if not word.isdigit() or int(word) > last:
+            last = int(word) if word.isdigit() else last
+            lines.append(line)
+    return b"\n".join(lines)
+
+
+def two_reports_by_places(seed: int) -> bytes:
+    """The same in version 2, mostly with places that rise. One in eight pairs has its first report in version 1."""
+    source = random.Random("reports by places {}".format(seed))
+    seeds, texts = (seed, seed if source.randrange(4) else seed + 1), []
+    for it in seeds:
+        report = model.report(Draw(it).trace(), source.randrange(2) > 0)
+        made = report if not texts and source.randrange(8) == 0 else by_places(source, report)
+        made = report_changed(source, made)
+        texts.append(made if source.randrange(4) == 0 else risen(made))
+    return b"".join(texts)

@@ -56,7 +56,11 @@ def of_changed(program: Program, seed: int) -> Optional[str]:
 
 def of_reports(program: Program, seed: int) -> Optional[str]:
     """How the program differs from the model on two reports, if it does."""
-    text = two_reports(seed)
+    return as_compared(program, two_reports(seed))
+
+
+def as_compared(program: Program, text: bytes) -> Optional[str]:
+    """The same of two reports in one text."""
     try:
         told, are_alike = model_diff.difference(text)
         wanted = Answer(0 if are_alike else 4, told, b"")

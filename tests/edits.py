@@ -4,8 +4,8 @@
     tests/edits.py             looks at every edit: each text that it replaces stands once in its file
     tests/edits.py NAME ..     tries all edits of these crates, also those in crates/NAME/edits, which `rt ci` does not try
 
-`rt ci` tries the edits in crates/NAME/must-fail. For these it proves the crate a second time, so the low crates have theirs in
-crates/NAME/edits: what a low crate promises, the proofs above it need. The second form copies what git has of the repository into a
+`rt ci` tries the edits in crates/NAME/must-fail. For these it proves the crate a second time, so the crates that take long have theirs in
+crates/NAME/edits. The second form copies what git has of the repository into a
 folder of its own, puts the edits where `rt must-fail` looks for them, and runs it. Ends with 1 where an edit does not do what it is to.
 """
 import os

@@ -7,12 +7,13 @@ import struct
 import subprocess
 import time
 from functools import partial
-from typing import Callable, List, Sequence, Tuple
+from typing import Callable, List, Sequence, Tuple, Type
 
 import play
-from harness import EXAMPLES, Job, Outcome, Program, first, shown, skipped
+from by_models import MODELS
+from harness import EXAMPLES, Job, Outcome, Program, first, read, shown, skipped
 from mounted import Passthrough
-from play_drawing import Wide
+from play_drawing import Wide, WideRecords
 from player import UNTRIED, Player, against
 from traces import AT_FDCWD, CLOSE, DRAIN, FIXED_FILE, HARDLINK, LINK, MKDIRAT, NOP, OPENAT, READ, SKIP, WRITE
 from traces import description, enter, entry, fill, file, head, ring
@@ -57,24 +58,25 @@ def planted(player: Player, program: Program) -> List[Outcome]:
 def passed_through(player: Player, program: Program, words: Sequence[str]) -> List[Outcome]:
     """Without the plant nothing differs."""
     name = "flight: through a file system in user space{}".format("".join(" " + it for it in words))
-    traces = [play.Played(seed).trace() for seed in range(12)] + [shared_blocks()]
+    traces = [(program, it) for it in [*(play.Played(seed).trace() for seed in range(12)), shared_blocks()]]
+    traces += [(MODELS, play.PlayedRecords(seed).trace()) for seed in range(6)]
     with Passthrough(words) as there:
         if there.lacking:
             return skipped(name, there.lacking)
-        each = [player.compared(program, it, program.run(["serial", "--sums"], it).output, mode, there.mount) for it in traces for mode in ("chains", "flight")]
+        each = [player.compared(by, it, by.run(["serial", "--sums"], it).output, mode, there.mount) for by, it in traces for mode in ("chains", "flight")]
     return [Outcome(name, first([it.fault for it in each if it.fault]), first([it.untried for it in each if it.untried]))]
 
 
-def much(player: Player, program: Program, seeds: range) -> List[Outcome]:
+def much(player: Player, program: Program, kind: Type[Wide], seeds: range) -> List[Outcome]:
     """Drawn traces of many steps that mostly use different things: nothing differs, and most is compared."""
     faults, entries, outside = [], 0, 0
     for seed in seeds:
-        trace = Wide(seed).trace()
+        trace = kind(seed).trace()
         report, place = program.run(["serial", "--sums"], trace).output, player.directories()[seed % len(player.directories())]
         found = player.compared(program, trace, report, "flight", place)
         faults += ["wide {} in {}: {}".format(seed, place, found.fault)] if found.fault else []
         entries, outside = entries + sum(found.counts["entries"]), outside + found.counts["entries"][2]
-    name = "flight: wide traces {} to {}".format(seeds.start, seeds.stop - 1)
+    name = "flight: {} {} to {}".format(kind.__name__, seeds.start, seeds.stop - 1)
     return [Outcome(name, first(faults) or (None if 100 * outside < (100 - play.COMPARED) * entries else "of {} entries {} are outside".format(entries, outside)))]
 
 
@@ -278,6 +280,20 @@ def paced(player: Player, program: Program) -> List[Outcome]:
     return [*outcomes, Outcome("flight: as soon as may be", fault)]
 
 
+def paced_records(player: Player) -> List[Outcome]:
+    """The results of a trace of version 3 are times for another play."""
+    trace, path = read("version_3", "slots_get_what_is_held_then.trace"), os.path.join(player.folder.name, "times-of-version-3")
+    report, depends = (MODELS.run(it, trace).output for it in (["serial", "--sums"], ["depends"]))
+    first_play = player.steered(trace, report, [], b"", "", depends)
+    with open(path, "wb") as opened:
+        opened.write(first_play.output)
+    got = player.steered(trace, report, ["--pace", path], b"", "", depends)
+    starts = [[at for at, _ in times(it.output)] for it in (first_play, got)]
+    soon = [late for early, late in zip(*starts) if late < early - starts[0][0]]
+    compared = against(MODELS, report, got)
+    return [Outcome("flight: at the times of a play of version 3", compared.fault or ("too soon: {}".format(starts) if soon else None), compared.untried)]
+
+
 def wrong_times(player: Player, program: Program) -> List[Outcome]:
     trace, recorded = spaced()
     report, depends = (program.run(it, trace).output for it in (["serial", "--sums"], ["depends"]))
@@ -467,6 +483,7 @@ def jobs(programs: List[Program]) -> List[Job]:
     found: List[Job] = [partial(it, player, program) for it in each]
     found += [partial(passed_through, player, program, it) for it in ((), ("cached",), ("writeback", "cached"))]
     found += [partial(crowded, player, program, seed) for seed in range(4)]
-    found += [partial(much, player, program, range(at, at + 8)) for at in (0, 8)]
+    found += [partial(much, player, program, Wide, range(at, at + 8)) for at in (0, 8)]
+    found += [partial(much, player, MODELS, WideRecords, range(8)), partial(paced_records, player)]
     found += [partial(changed_texts, player, program, seed) for seed in range(4)]
     return found + [partial(interrupted, player, program, it) for it in (signal.SIGTERM, signal.SIGINT)]

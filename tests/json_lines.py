@@ -7,7 +7,7 @@ import re
 from functools import partial
 from typing import Any, List, Optional, Sequence, Tuple
 
-from drawing import Draw
+from drawing import Draw, by_places
 from drawing import two_reports as two_drawn_reports
 from examples import names as examples
 from harness import EXAMPLES, Answer, Job, Outcome, Program, difference, first, read, spoken, two_reports
@@ -20,7 +20,7 @@ USAGE = 2
 Pairs = List[Tuple[str, Any]]
 
 # The facts of reports that are numbers; every other one is a string.
-WHOLE = {"node", "desc", "len", "res", "round", "after"}
+WHOLE = {"ring", "node", "desc", "len", "res", "round", "after"}
 COUNT = r"(?P<{0}>\d+)"
 COUNTS = ("rounds", "widest", "longest", "span", "large")
 TEXTS = ("mean", "places", "pairs", "parallelism", "bytes", "span-bytes", "parallelism-bytes")
@@ -54,7 +54,7 @@ def meant(line: str) -> Pairs:
         kind = "place" if not rest or rest.startswith(" round=") else "pair" if rest.startswith(" after=") else "entry"
         return [("kind", kind), ("place", int(place[1])), *facts(rest)]
     for pattern, keys in (
-        (r"(dir|file) ([^ ]*)", [("path", str)]),
+        (r"(dir|file|link) ([^ ]*)", [("path", str)]),
         (r"(slot) (\d+) (\d+)", [("ring", int), ("slot", int)]),
         (r"(buffer) (\d+) (\d+)", [("ring", int), ("number", int)]),
         (r"(descriptor) (\d+)", [("number", int)]),
@@ -143,7 +143,8 @@ def of_drawn(program: Program, seed: int) -> List[str]:
     faults = of_trace(program, trace)
     report = program.run(["serial", "--sums"], trace)
     if report.status == 0:
-        faults += [told for told in [of_words(program, ["diff"], report.output + changed(draw, report.output))] if told]
+        pairs = [text + changed(draw, text) for text in (report.output, by_places(draw.source, report.output))]
+        faults += [told for pair in pairs for told in [of_words(program, ["diff"], pair)] if told]
     return faults + of_odd(program, two_drawn_reports(seed))
 
 

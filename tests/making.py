@@ -67,6 +67,7 @@ MISTAKES: Tuple[Tuple[str, str], ...] = (
     (FRONT + "enter 0\n  READ off=0X10\n", "9:12: expected a number"),
     (FRONT + "enter 0\n  READ rw_flags=RWF_SYNC|RWF_FAST\n", "9:17: expected a number or a flag of this field"),
     (FRONT + "enter 0\n  OPENAT dfd=AT_FDCWD path=/b open_flags=O_RDWR|O_CREATE\n", "9:42: expected a number or a flag of this field"),
+    (FRONT + "enter 0\n  RENAMEAT old=/" + "n" * 65_535 + " new=/b\n", "9:16: expected a path of at most 65535 bytes"),
     (FRONT + "enter 0\n  OPENAT open_flags=O_RDWR|2\n", "9:21: the same flag stands here twice"),
     (FRONT + "enter 0\n  WRITE len=3 \"ab\"\n", "9:3: Side: the bytes of this entry do not fit it"),
     (FRONT + "enter 0\n  READV [4,8\n", "9:9: expected lengths, as [4,8]"),
@@ -153,6 +154,7 @@ def by_hand() -> Iterator[Tuple[str, str]]:
     yield front + "enter 0\n  WRITE FIXED_FILE off=2 \"ab\"\n", front.replace("\n", " # a comment\n\n").replace("  ", "\t") + "enter\t0\r\n WRITE \"a\" off=0x2 \\\n  FIXED_FILE x\"62\"\r\n# the end"
     yield front + "enter 0\n  READ FIXED_FILE off=-1 len=8\n", front + "enter 0\nOP_22 len=010 off=0xffffffffffffffff fd=0 FIXED_FILE user_data=0"
     yield front + "enter 0\n  READ fd=-1 len=3 rw_flags=RWF_HIPRI|RWF_SYNC\n", front + "enter 0\n  READ op_flags=5 fd=0xffffffff len=3\n"
+    yield front + "enter 0\n  OPENAT path=/" + "n" * 70_000 + "\n", front + "enter 0\n  OPENAT dfd=0 path=/" + "\\x6e" * 70_000 + "\n"
     yield front + "enter 0\n  READV FIXED_FILE [4,8]\n", front + "enter 0\n  READV [4,8] len=2 FIXED_FILE\n"
 
 

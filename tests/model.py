@@ -1,7 +1,7 @@
 """What a trace gives, by docs/PROFILE.md and docs/FORMAT.md alone: a second replayer, that runs one step after another."""
 import hashlib
 import struct
-from typing import Dict, Iterator, List, NamedTuple, Optional, Sequence, Tuple, Union
+from typing import Dict, Iterator, List, NamedTuple, Optional, Sequence, Set, Tuple, Union
 
 from traces import AT_FDCWD, CLOSE, FALLOCATE, FIXED_FILE, FSYNC, FTRUNCATE, GREATEST_SIZE, HARDLINK, LINK, LINKAT, MKDIRAT, NOP, OPENAT, READ
 from traces import BUFFER_SELECT, DRAIN, GREATEST_BUFFER, READ_FIXED, READV, RENAMEAT, SKIP, UNLINKAT, WRITE, WRITE_FIXED, WRITEV
@@ -93,6 +93,8 @@ class Description:
 
 
 class Entry(NamedTuple):
+    """The fields of an entry and its side bytes, without those that are written where `is_zeros` says that they are zeros."""
+
     opcode: int
     flags: int
     fd: int
@@ -105,6 +107,7 @@ class Entry(NamedTuple):
     personality: int
     file_index: int
     side: bytes
+    is_zeros: bool = False
 
     def vectors(self) -> List[int]:
         return list(struct.unpack_from("<{}Q".format(self.length), self.side))
@@ -144,15 +147,32 @@ class Entry(NamedTuple):
         return self.side[8 * self.length :] if self.opcode == WRITEV else self.side
 
 
-def entry_of(fields: bytes, side: bytes) -> Entry:
+def entry_of(fields: bytes, side: bytes, is_zeros: bool = False) -> Entry:
     opcode, flags, _, fd, offset, address, length, own, user, buffer, personality, index, _, _ = struct.unpack("<BBHiQQIIQHHIQQ", fields)
-    return Entry(opcode, flags, fd, offset, address, length, own, user, buffer, personality, index, side)
+    return Entry(opcode, flags, fd, offset, address, length, own, user, buffer, personality, index, side, is_zeros)
 
 
 class Fill(NamedTuple):
     buffer: int
     offset: int
-    data: bytes
+    data: Bytes
+
+
+class Holder(NamedTuple):
+    """What a slot of a new ring gets: what a slot of a ring holds, or a descriptor, or a description of the start."""
+
+    what: int
+    ring: int
+    number: int
+
+
+SLOT, DESCRIPTOR, DESCRIPTION = 0, 1, 2
+
+
+class NewRing(NamedTuple):
+    """What the full slots of a new ring get."""
+
+    full: Sequence[Tuple[int, Holder]]
 
 
 class Reply(NamedTuple):
@@ -163,14 +183,16 @@ class Reply(NamedTuple):
 
 
 Answer = Tuple[int, Optional[bytes]]
-Step = Union[Entry, Fill]
+Step = Union[Entry, Fill, NewRing]
 
 
 class Chain:
-    """Steps of a ring that are linked, by its number; the place of the first of them, and the errors of their tests by themselves."""
+    """Steps of a ring that are linked, by its number; the place of the first of them, the errors of their tests by themselves, and the
+    queue of the ring."""
 
-    def __init__(self, number: int, first: int, ring: int, steps: Sequence[Step], faults: Sequence[int] = ()) -> None:
+    def __init__(self, number: int, first: int, ring: int, steps: Sequence[Step], faults: Sequence[int] = (), queue: Optional[int] = None) -> None:
         self.number, self.first, self.ring, self.steps, self.faults = number, first, ring, steps, faults
+        self.queue = ring if queue is None else queue
         self.is_doomed = any(faults)
         self.is_drained = any(it.flags & DRAIN for it in steps if isinstance(it, Entry))
         # The member that broke it.
@@ -199,6 +221,8 @@ class Reader:
 
 
 class World:
+    """What a trace of version 1 or 2 starts with, and its chains; and what becomes of it as they run."""
+
     def __init__(self, text: bytes) -> None:
         source = Reader(text)
         within(source.take(8) == b"URINGTRC", "Magic", 0)
@@ -206,24 +230,30 @@ class World:
         self.items, self.described = source.number("I", MOST_ITEMS), source.number("I", MOST_ITEMS)
         rings, records = source.number("I", MOST_RINGS), source.number("I", MOST_PLACES)
         table = source.number("I", MOST_OF_TABLE if self.version == 2 else 0)
-        self.nodes: Dict[int, Node] = {0: {}}
-        self.item_paths = {0: b"/"}
-        for item in range(1, self.items + 1):
-            self.add_item(source, item)
-        self.descriptions = {it: self.description(source) for it in range(self.described)}
+        self.read_start(source)
         self.table = self.handles(source, table)
-        self.slots: List[List[Optional[int]]] = []
-        self.buffers: List[List[Tuple[int, Bytes]]] = []
         for _ in range(rings):
             self.slots.append(self.handles(source, source.number("H", 1024)))
             self.buffers.append([])
             for _ in range(source.number("H", 1024)):
                 self.add_buffer(source)
-        self.places = 0
-        self.chains: List[Chain] = []
         for _ in range(records):
             self.add_record(source)
         within(source.next == len(text), "Trailing", source.next)
+
+    def read_start(self, source: Reader) -> None:
+        """Items and descriptions, of which there are `items` and `described`."""
+        self.nodes: Dict[int, Node] = {0: {}}
+        self.item_paths = {0: b"/"}
+        for item in range(1, self.items + 1):
+            self.add_item(source, item)
+        self.descriptions = {it: self.description(source) for it in range(self.described)}
+        self.slots: List[List[Optional[int]]] = []
+        self.buffers: List[List[Tuple[int, Bytes]]] = []
+        # Rings that end in the trace.
+        self.ended: Set[int] = set()
+        self.places = 0
+        self.chains: List[Chain] = []
 
     def handles(self, source: Reader, count: int) -> List[Optional[int]]:
         numbers = (source.number("I", self.described, 0, "Reference") for _ in range(count))
@@ -245,12 +275,15 @@ class World:
         if kind == 1:
             self.nodes[item] = {}
         elif kind == 2:
-            size = source.number("Q", GREATEST_SIZE)
-            self.nodes[item] = Bytes(size, source.take(source.number("I", size)))
+            self.nodes[item] = self.file(source)
         else:
             number = source.field("I")
             within(isinstance(self.nodes.get(number), Bytes), "Reference", source.at)
         parent[name] = number
+
+    def file(self, source: Reader) -> Bytes:
+        size = source.number("Q", GREATEST_SIZE)
+        return Bytes(size, source.take(source.number("I", size)))
 
     def description(self, source: Reader) -> Description:
         node = source.field("I")
@@ -280,11 +313,15 @@ class World:
             return
         count = source.number("H", MOST_OF_RECORD)
         within(self.places + count <= MOST_PLACES, "Limit", source.at)
+        self.add_chains(ring, (self.entry(source) for _ in range(count)), count)
+
+    def add_chains(self, ring: int, entries: Iterator[Entry], count: int, queue: Optional[int] = None) -> None:
+        """The chains of a record of so many entries."""
         members: List[Entry] = []
-        for number in range(1, count + 1):
-            members.append(self.entry(source))
-            if number == count or not members[-1].flags & (LINK | HARDLINK):
-                self.chains.append(Chain(len(self.chains), self.places, ring, members, [fault(self.version, it) for it in members]))
+        for number, entry in enumerate(entries, 1):
+            members.append(entry)
+            if number == count or not entry.flags & (LINK | HARDLINK):
+                self.chains.append(Chain(len(self.chains), self.places, ring, members, [fault(self.version, it) for it in members], queue))
                 self.places += len(members)
                 members = []
 
@@ -295,7 +332,7 @@ class World:
         at = source.at
         count = source.field("I")
         within(offset + count <= self.buffers[ring][buffer][1].size, "Reference", at)
-        return Fill(buffer, offset, source.take(count))
+        return Fill(buffer, offset, Bytes(count, source.take(count)))
 
     @staticmethod
     def entry(source: Reader) -> Entry:
@@ -337,6 +374,12 @@ class World:
         return node is directory or isinstance(node, dict) and any(self.is_above(it, directory) for it in node.values())
 
     # Open files.
+
+    def held_by(self, holder: Holder) -> Optional[int]:
+        """The number of the description that a slot, a descriptor or the start has."""
+        if holder.what == DESCRIPTION:
+            return holder.number
+        return (self.slots[holder.ring] if holder.what == SLOT else self.table)[holder.number]
 
     def held(self, ring: int, entry: Entry) -> Optional[int]:
         """The number of the description to which `fd` leads."""
@@ -404,7 +447,7 @@ class World:
         description = self.open_file(ring, entry)
         need(description.access != 0, EBADF)
         node = self.nodes[description.node]
-        source = self.buffer_of(ring, entry) if entry.opcode == WRITE_FIXED else None
+        source = self.buffer_of(ring, entry) if entry.opcode == WRITE_FIXED else (Bytes(entry.asked()), 0) if entry.is_zeros else None
         need(entry.offset < HALF or entry.offset == AT_POSITION, EINVAL)
         start = node.size if description.append else description.position if entry.offset == AT_POSITION else entry.offset
         need(start < GREATEST_SIZE or not entry.asked(), EFBIG)
@@ -551,7 +594,7 @@ class World:
     def buffer_lines(self, has_sums: bool) -> Iterator[str]:
         for ring, buffers in enumerate(self.buffers):
             for index, (_, held) in enumerate(buffers):
-                if held.size:
+                if held.size and ring not in self.ended:
                     line = "buffer {} {} len={}".format(ring, index, held.size)
                     yield "{} sum={}".format(line, held.sum()) if has_sums else line
 
@@ -582,7 +625,7 @@ def test(version: int, entry: Entry) -> None:
         need(not (own & CLOEXEC and entry.file_index) and entry.file_index != LAST, EINVAL)
     if opcode == CLOSE:
         need(not (entry.file_index and entry.fd) and entry.file_index != LAST, EINVAL)
-    allowed = {RENAMEAT: (0, 1, 2) if version == 2 else (0, 1), UNLINKAT: (0, 0x200), LINKAT: (0, 0x400)}
+    allowed = {RENAMEAT: (0, 1) if version == 1 else (0, 1, 2), UNLINKAT: (0, 0x200), LINKAT: (0, 0x400)}
     need(opcode not in allowed or own in allowed[opcode], EINVAL)
     for path in entry.paths() if opcode in names else ():
         need(path != b"", ENOENT)
@@ -594,7 +637,11 @@ def run_step(world: World, chain: Chain, at: int) -> Reply:
     """Runs a step of a chain of which those before it have run."""
     step = chain.steps[at]
     if isinstance(step, Fill):
-        world.buffers[chain.ring][step.buffer][1].put(step.offset, step.data)
+        world.buffers[chain.ring][step.buffer][1].copy(step.offset, step.data, 0, step.data.size)
+        return Reply(0, False)
+    if isinstance(step, NewRing):
+        for number, holder in step.full:
+            world.slots[chain.ring][number] = world.held_by(holder)
         return Reply(0, False)
     if chain.is_doomed:
         return Reply(-(chain.faults[at] or ECANCELED), at == 0 or not chain.steps[0].flags & SKIP)
@@ -616,26 +663,45 @@ def visible(text: bytes) -> str:
 
 
 def report(text: bytes, has_sums: bool = True) -> bytes:
-    """The report of a trace; or it is Refused."""
-    world = World(text)
+    """The report of a trace of version 1 or 2; or it is Refused."""
+    return report_by_turns(World(text), has_sums)
+
+
+def report_by_turns(world: World, has_sums: bool = True) -> bytes:
+    """The report of a world where no place has run, which run now one after another."""
     replies = {chain.first + at: run_step(world, chain, at) for chain in world.chains for at in range(len(chain.steps))}
     return report_of(world, replies, has_sums)
 
 
 def report_of(world: World, replies: Dict[int, Reply], has_sums: bool = True) -> bytes:
     """The report of a world in which every place has run, and of their replies."""
-    lines: List[List[str]] = [[] for _ in world.slots]
-    for chain in world.chains:
-        for place, step in enumerate(chain.steps, chain.first):
-            if isinstance(step, Entry):
-                reply = replies[place]
-                shown = " data={}{}".format(reply.data.hex(), "+" if reply.moved > SHOWN else "") if reply.data else ""
-                posted = "posted" if reply.posted else "silent"
-                lines[chain.ring].append("{} user={} res={} {}{}".format(place, step.user_data, reply.result, posted, shown))
-    whole = ["uring-report 1"]
-    for ring, its in enumerate(lines):
-        whole += ["ring {}".format(ring), *its]
+    whole = lines_in_order(world, replies) if world.version == 3 else lines_by_ring(world, replies)
     whole += ["tree", *(world.tree_line(path, node, has_sums) for path, node in sorted(world.paths()))]
-    whole += ["slots", *(line for ring, handles in enumerate(world.slots) for line in world.handle_lines("slot {}".format(ring), handles))]
+    slots = ((ring, handles) for ring, handles in enumerate(world.slots) if ring not in world.ended)
+    whole += ["slots", *(line for ring, handles in slots for line in world.handle_lines("slot {}".format(ring), handles))]
     whole += [*world.handle_lines("descriptor", world.table), "buffers", *world.buffer_lines(has_sums), "end", ""]
     return "\n".join(whole).encode()
+
+
+def facts_of(entry: Entry, reply: Reply) -> str:
+    """What is told of an entry behind its place, and the ring where that is told."""
+    shown = " data={}{}".format(reply.data.hex(), "+" if reply.moved > SHOWN else "") if reply.data else ""
+    return "user={} res={} {}{}".format(entry.user_data, reply.result, "posted" if reply.posted else "silent", shown)
+
+
+def entries_of(world: World) -> Iterator[Tuple[int, int, Entry]]:
+    """Each entry, behind its place and its ring."""
+    for chain in world.chains:
+        yield from ((place, chain.ring, step) for place, step in enumerate(chain.steps, chain.first) if isinstance(step, Entry))
+
+
+def lines_by_ring(world: World, replies: Dict[int, Reply]) -> List[str]:
+    lines = [["ring {}".format(ring)] for ring in range(len(world.slots))]
+    for place, ring, entry in entries_of(world):
+        lines[ring].append("{} {}".format(place, facts_of(entry, replies[place])))
+    return ["uring-report 1", *(line for its in lines for line in its)]
+
+
+def lines_in_order(world: World, replies: Dict[int, Reply]) -> List[str]:
+    lines = ("{} ring={} {}".format(place, ring, facts_of(entry, replies[place])) for place, ring, entry in entries_of(world))
+    return ["uring-report 2", *lines]

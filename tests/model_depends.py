@@ -3,6 +3,7 @@ from bisect import bisect_left
 from itertools import groupby
 from typing import Any, Dict, Iterator, List, NamedTuple, Optional, Sequence, Tuple
 
+import model_records
 from model import READS, WRITES, Entry, World, run_step
 from model_rounds import ALL_DESCRIPTORS, BUFFER, BYTES, DESCRIPTOR, All, AnyItem, Item, Place, Use, item_text, row, used
 
@@ -71,11 +72,14 @@ class Handling(NamedTuple):
         return user.item if self.is_wide and isinstance(user.item, Item) else self.written or self.read
 
 
-def handling(uses: Sequence[Use]) -> Handling:
+def handlings(uses: Sequence[Use]) -> List[Handling]:
+    """One, unless it is a new ring, which may read several descriptors, or none."""
     own = [it for it in uses if isinstance(it.item, Item) and it.item.kind == DESCRIPTOR]
     is_wide = any(isinstance(it.item, All) for it in uses)
     written = next((it.item for it in own if it.is_written), None)
-    return Handling(is_wide, written, next((it.item for it in own if not is_wide and not it.is_written), None))
+    if is_wide or written:
+        return [Handling(is_wide, written, next((it.item for it in own if not is_wide and not it.is_written), None))]
+    return [Handling(False, None, it.item) for it in own]
 
 
 class Descriptors:
@@ -141,11 +145,11 @@ class Known:
 
     def waits(self, uses: Sequence[Use]) -> Dict[int, Item]:
         """For whom a place waits that uses the world so, each with the first of its items by which it does."""
-        written, way = {it.item for it in uses if it.is_written}, handling(uses)
+        written, ways = {it.item for it in uses if it.is_written}, handlings(uses)
         found: Dict[int, Item] = {}
         for use in uses:
             if is_of_descriptors(use.item):
-                pairs = ((it.place, way.shared(it)) for it in self.descriptors.before(way))
+                pairs = ((it.place, way.shared(it)) for way in ways for it in self.descriptors.before(way))
             else:
                 pairs = self.met(use, use.item in written)
             for place, item in pairs:
@@ -159,7 +163,8 @@ class Known:
                 self.parts[item[:3]] = self.parts.get(item[:3], Part()).then(User(place, item), item in written)
             elif item.low < item.end:
                 self.lines.setdefault(item[:3], Line()).add(place, item, item in written)
-        self.descriptors.add(place, handling(uses))
+        for way in handlings(uses):
+            self.descriptors.add(place, way)
 
 
 def is_of_descriptors(item: AnyItem) -> bool:
@@ -239,11 +244,11 @@ def graph_of(world: World, told: Sequence[Told]) -> bytes:
 
 def depends(text: bytes) -> bytes:
     """What `depends` tells of a trace; or it is Refused."""
-    world = World(text)
+    world = model_records.world_of(text)
     return text_of(world, in_turn(world))
 
 
 def graph(text: bytes) -> bytes:
     """The same as a graph."""
-    world = World(text)
+    world = model_records.world_of(text)
     return graph_of(world, in_turn(world))

@@ -1,13 +1,16 @@
 """How two reports differ, by docs/FORMAT.md alone: a second comparison."""
+import re
 from typing import Dict, Iterator, List, NamedTuple, Optional, Tuple
 
-BEGINNING, END = b"uring-report 1", b"end"
+VERSIONS, END = {b"uring-report 1": 1, b"uring-report 2": 2}, b"end"
 # What stands behind these names is no fact of a line; and the most bytes of a subject that are shown.
 TIMES, MOST_SHOWN = (b"submitted", b"completed"), 128
 SECTIONS = (b"entries", b"tree", b"slots", b"buffers")
 HEADINGS = (b"uring-report", b"ring", b"tree", b"slots", b"buffers", b"end", b"")
 # Of a first word the section of its line, and how many words its subject has; of any other the line is an entry.
-KINDS = {b"dir": (b"tree", 2), b"file": (b"tree", 2), b"slot": (b"slots", 3), b"descriptor": (b"slots", 2), b"buffer": (b"buffers", 3)}
+KINDS = {b"dir": (b"tree", 2), b"file": (b"tree", 2), b"link": (b"tree", 2), b"slot": (b"slots", 3), b"descriptor": (b"slots", 2), b"buffer": (b"buffers", 3)}
+# The greatest place that a line can have.
+MOST_PLACE = (1 << 32) - 1
 
 
 class Refused(Exception):
@@ -66,19 +69,36 @@ def line_of(text: bytes) -> Line:
 
 
 def report_in(side: str, lines: List[bytes]) -> List[bytes]:
-    """The lines of a text ahead of its first line `end`, behind which nothing may stand."""
-    if lines[:1] != [BEGINNING]:
+    """The lines of a text ahead of its first line `end`, behind which nothing may stand. In version 2 places rise."""
+    if not lines or lines[0] not in VERSIONS:
         raise Refused("the {} does not begin with uring-report 1".format(side))
     if END not in lines:
         raise Refused("the first has no line end" if side == "first" else "the second has no end")
     end = lines.index(END)
     if lines[end + 1 :] not in ([], [b""]):
         raise Refused("the {} goes on behind its end".format(side))
+    if VERSIONS[lines[0]] == 2:
+        refuse_unless_rising(side, lines[:end])
     return lines[:end]
+
+
+def refuse_unless_rising(side: str, lines: List[bytes]) -> None:
+    last = -1
+    for number, line in enumerate(lines, 1):
+        word = line.split(b" ")[0]
+        if word in HEADINGS or word in KINDS:
+            continue
+        is_place = re.fullmatch(rb"0|[1-9][0-9]{0,9}", word) and int(word) <= MOST_PLACE
+        if not is_place or int(word) <= last:
+            raise Refused("line {} of the {} is out of order at {}".format(number, side, shown(word)))
+        last = int(word)
 
 
 def reports(first: List[bytes], second: List[bytes]) -> Tuple[Report, Report]:
     both = [(side, report_in(side, lines)) for side, lines in (("first", first), ("second", second))]
+    versions = [VERSIONS[lines[0]] for lines in (first, second)]
+    if versions[0] != versions[1]:
+        raise Refused("the first is uring-report {}, the second uring-report {}".format(*versions))
     one, two = (Report(side, lines) for side, lines in both)
     return one, two
 

@@ -102,9 +102,7 @@ def count_of(word: Word) -> int:
     return int(word.text)
 
 
-def path_of(word: Word) -> bytes:
-    if not word.text:
-        raise Refused(word.at, "expected a path")
+def letters_of(word: Word) -> bytes:
     path, at = bytearray(), 0
     while at < len(word.text):
         found = re.compile(rb"\\x([0-9a-f]{2})|([!-\[\]-~])").match(word.text, at)
@@ -112,9 +110,20 @@ def path_of(word: Word) -> bytes:
             raise Refused(word.at + at, "expected a visible character, or `\\xHH` for a byte")
         path += bytes.fromhex(found[1].decode()) if found[1] else found[2]
         at = found.end()
+    return bytes(path)
+
+
+def counted(path: bytes, word: Word) -> bytes:
+    """A path whose length stands in two bytes."""
     if len(path) > LONGEST_PATH:
         raise Refused(word.at, "expected a path of at most 65535 bytes")
-    return bytes(path)
+    return path
+
+
+def path_of(word: Word) -> bytes:
+    if not word.text:
+        raise Refused(word.at, "expected a path")
+    return counted(letters_of(word), word)
 
 
 class Reader:
@@ -472,7 +481,8 @@ class Draft:
             if key in self.paths:
                 raise Refused(word.at, "this stands here for the second time")
             value = word.behind(len(key) + 1)
-            self.paths[key] = path_of(value) if value.text else b""
+            path = letters_of(value)
+            self.paths[key] = counted(path, value) if key == "old" else path
         elif sign and key in self.known:
             field = self.known[key]
             if field in self.fields:

@@ -1,7 +1,9 @@
 """What `rounds` tells of a trace, by docs/ACCESS.md and docs/FORMAT.md alone: the round of each place, and for whom and by what it waited."""
 from typing import Any, Dict, Iterable, Iterator, List, NamedTuple, Optional, Sequence, Tuple, Union
 
-from model import AT_POSITION, CREAT, LAST, READS, TRUNC, WRITES, Chain, Entry, Fill, Step, World, run_step, visible
+import model
+import model_records
+from model import AT_POSITION, CREAT, LAST, READS, TRUNC, WRITES, Chain, Entry, Fill, Holder, NewRing, Step, World, run_step, visible
 from traces import AT_FDCWD, CLOSE, FALLOCATE, FIXED_FILE, FSYNC, FTRUNCATE, GREATEST_SIZE, LINKAT, MKDIRAT, OPENAT, READ_FIXED
 from traces import RENAMEAT, UNLINKAT, WRITE_FIXED
 
@@ -167,7 +169,9 @@ def handle(world: World, ring: int, is_slot: bool, number: int, is_written: bool
 def row(world: World, place: Place) -> List[Use]:
     step, ring = place.step(), place.chain.ring
     if isinstance(step, Fill):
-        return [written(BUFFER, (ring, step.buffer), step.offset, step.offset + len(step.data))]
+        return [written(BUFFER, (ring, step.buffer), step.offset, step.offset + step.data.size)]
+    if isinstance(step, NewRing):
+        return row_of_ring(world, ring, step)
     if step.opcode in (*MOVING, FSYNC):
         return [*handle(world, ring, bool(step.flags & FIXED_FILE), step.fd & LAST, False), *row_of_opened(world, ring, step)]
     if step.opcode == OPENAT:
@@ -175,6 +179,19 @@ def row(world: World, place: Place) -> List[Use]:
     if step.opcode == CLOSE:
         return handle(world, ring, step.file_index > 0, step.file_index - 1 if step.file_index else step.fd & LAST, True)
     return row_of_names(world, place, step) if step.opcode in ON_PATHS else []
+
+
+def row_of_ring(world: World, ring: int, step: NewRing) -> List[Use]:
+    """A new ring writes its full slots and its buffers, and reads what gives the slots theirs."""
+    slots = [written(SLOT, (ring, number)) for number, _ in step.full]
+    buffers = [written(BUFFER, (ring, index), 0, held.size) for index, (_, held) in enumerate(world.buffers[ring])]
+    return [*slots, *(Use(item, False) for _, holder in step.full for item in item_of(holder)), *buffers]
+
+
+def item_of(holder: Holder) -> List[Item]:
+    """A description of the start is no item."""
+    items = {model.SLOT: [Item(SLOT, (holder.ring, holder.number))], model.DESCRIPTOR: [Item(DESCRIPTOR, holder.number)]}
+    return items.get(holder.what, [])
 
 
 def row_of_opened(world: World, ring: int, entry: Entry) -> List[Use]:
@@ -266,7 +283,7 @@ def row_of_names(world: World, place: Place, entry: Entry) -> List[Use]:
 def order(place: Place) -> List[Use]:
     """The order of its ring and its chain, which each place uses."""
     chain = place.chain
-    return [Use(Item(ORDER, chain.ring), chain.is_drained), *([written(CHAIN, chain.number)] if len(chain.steps) > 1 else [])]
+    return [Use(Item(ORDER, chain.queue), chain.is_drained), *([written(CHAIN, chain.number)] if len(chain.steps) > 1 else [])]
 
 
 def used(world: World, place: Place, own: List[Use]) -> List[Use]:
@@ -281,7 +298,7 @@ def used(world: World, place: Place, own: List[Use]) -> List[Use]:
 
 def decides(step: Step, item: AnyItem) -> bool:
     """Whether it hangs on this item of a step which ones the others are."""
-    if isinstance(step, Fill):
+    if not isinstance(step, Entry):
         return False
     return bool({SLOT, DESCRIPTOR, DESCRIPTION} & set(kinds(item))) if step.opcode in MOVING else step.opcode in ON_PATHS and NAME in kinds(item)
 
@@ -318,14 +335,14 @@ def unknown(world: World, place: Place, own: List[Use]) -> List[Use]:
 def new_ones(world: World, place: Place) -> List[Use]:
     """All that an OPENAT or a MKDIRAT may make."""
     step, node, description = place.step(), world.items + 1 + place.number, world.described + place.number
-    if isinstance(step, Fill) or step.opcode not in (OPENAT, MKDIRAT):
+    if not isinstance(step, Entry) or step.opcode not in (OPENAT, MKDIRAT):
         return []
     return [*(made(kind, node) for kind in (SIZE, BYTES, COUNT)), made(DESCRIPTION, description), made(POSITION, description)]
 
 
 def reached_room(step: Step, own: List[Use], reached: Reached) -> List[Use]:
     """The slot or the descriptors in which an OPENAT may put the description."""
-    if isinstance(step, Fill) or step.opcode != OPENAT:
+    if not isinstance(step, Entry) or step.opcode != OPENAT:
         return []
     if not step.file_index and reached.writes(ALL_DESCRIPTORS):
         return [Use(ALL_DESCRIPTORS, True)]
@@ -390,7 +407,7 @@ def item_text(world: World, item: AnyItem) -> str:
         return "bytes {} to {} of buffer {} {}".format(low, end, *owner)
     if kind == SLOT:
         return "slot {} {}".format(*owner)
-    front = {ORDER: "order of ring", CHAIN: "chain", DESCRIPTOR: "descriptor", POSITION: "position of description"}
+    front = {ORDER: "order of ring", CHAIN: "chain", DESCRIPTOR: "descriptor", DESCRIPTION: "description", POSITION: "position of description"}
     return "{} {}".format(front[kind], owner)
 
 
@@ -409,7 +426,7 @@ def sums(told: List[Told]) -> List[str]:
 
 def rounds(text: bytes, window: int) -> bytes:
     """What `rounds` tells of a trace; or it is Refused."""
-    world = World(text)
+    world = model_records.world_of(text)
     told = in_rounds(world, window)
     lines = ["uring-rounds 1"]
     for place, it in enumerate(told):
@@ -420,7 +437,7 @@ def rounds(text: bytes, window: int) -> bytes:
 
 def graph(text: bytes, window: int) -> bytes:
     """The same as a graph."""
-    world = World(text)
+    world = model_records.world_of(text)
     lines = ["digraph rounds {"]
     for place, it in enumerate(in_rounds(world, window)):
         lines.append('  {} [label="{} in round {}"];'.format(place, place, it.round))

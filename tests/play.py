@@ -11,7 +11,7 @@ import sys
 import threading
 from collections import Counter
 from functools import partial
-from typing import List, Optional, Tuple
+from typing import Callable, List, Optional, Sequence, Tuple, Type
 
 if __name__ == "__main__":
     sys.dont_write_bytecode = True
@@ -20,14 +20,19 @@ import drawing
 import hostile_traces
 import play_contained
 import play_rows
-from harness import BUILT, EXAMPLES, TOP, Answer, Job, Outcome, Program, first, guarded, shown, skipped
-from play_drawing import UNCOUNTED, Played
+import record_traces
+from by_models import MODELS
+from examples import VERSION_3
+from harness import BUILT, EXAMPLES, TOP, Answer, Job, Outcome, Program, difference, first, guarded, shown, skipped
+from model import AT_POSITION
+from play_drawing import UNCOUNTED, Played, PlayedRecords
 from player import MODES, UNTRIED, Player, against
 from traces import AT_FDCWD, FALLOCATE, FIXED_FILE, FSYNC, FTRUNCATE, HARDLINK, LINK, LINKAT, MKDIRAT, NOP, OPENAT, READ, RENAMEAT, SKIP, UNLINKAT
 from traces import description, directory, enter, entry, file, head, ring, two_paths
 
-# Drawn traces in the test command, each played in each mode in one of the directories; and how many of them with bytes changed.
-DRAWN, CHANGED, EACH = 200, 200, 25
+# Drawn traces in the test command, each played in each mode in one of the directories; how many of them with bytes changed; and how many of both of
+# version 3.
+DRAWN, CHANGED, EACH, OF_VERSION_3 = 200, 200, 25, 100
 # Of a hundred entries of drawn traces, played a chain at a time, so many are compared at least.
 COMPARED = 80
 TRACE = os.path.join(EXAMPLES, "read_four_bytes.trace")
@@ -38,9 +43,9 @@ def read(path: str) -> bytes:
         return file_.read()
 
 
-def examples() -> List[Tuple[str, bytes]]:
-    folders = (EXAMPLES, os.path.join(EXAMPLES, "recorded"))
-    return [(it[:-6], read(os.path.join(at, it))) for at in folders for it in sorted(os.listdir(at)) if it.endswith(".trace")]
+def examples(folders: Sequence[str] = ("", "recorded")) -> List[Tuple[str, bytes]]:
+    each = ((os.path.join(EXAMPLES, at), it) for at in folders for it in sorted(os.listdir(os.path.join(EXAMPLES, at))))
+    return [(it[:-6], read(os.path.join(at, it))) for at, it in each if it.endswith(".trace")]
 
 
 def listed_words() -> List[str]:
@@ -64,6 +69,16 @@ def limits(player: Player) -> List[Outcome]:
     return [Outcome("play: one past the limit {}".format(name), fault) for name, fault in each]
 
 
+def limits_of_version_3(player: Player, program: Program) -> List[Outcome]:
+    """The same of version 3, by `check` and by the second reader."""
+    outcomes = []
+    for name, trace in record_traces.past_limits():
+        checked = program.run(["check"], trace)
+        fault = difference(checked, MODELS.run(["check"], trace)) or ("it is accepted" if not checked.status else refusal(player, trace, checked.errors))
+        outcomes.append(Outcome("play: one past the limit of version 3 of {}".format(name), fault))
+    return outcomes
+
+
 def played(player: Player, program: Program, label: str, trace: bytes, places: List[str]) -> List[Outcome]:
     """One trace in each mode in some directories; one that the replayer refuses the player refuses by the same line."""
     report = program.run(["serial", "--sums"], trace)
@@ -81,8 +96,8 @@ def played(player: Player, program: Program, label: str, trace: bytes, places: L
 class Share:
     """How many entries of drawn traces were played a chain at a time, and how many of them are outside."""
 
-    def __init__(self) -> None:
-        self.entries, self.outside, self.lock = 0, 0, threading.Lock()
+    def __init__(self, what: str) -> None:
+        self.what, self.entries, self.outside, self.lock = what, 0, 0, threading.Lock()
 
     def add(self, counts: List[int]) -> None:
         with self.lock:
@@ -90,14 +105,14 @@ class Share:
 
     def outcome(self) -> Outcome:
         fault = None if 100 * (self.entries - self.outside) >= COMPARED * self.entries else "of {} entries {} are outside".format(self.entries, self.outside)
-        return Outcome("play: most of drawn traces is compared", fault)
+        return Outcome("play: most of {} is compared".format(self.what), fault)
 
 
-def drawn(player: Player, program: Program, share: Share, seeds: range) -> List[Outcome]:
+def drawn(player: Player, program: Program, share: Share, kind: Type[drawing.Draw], seeds: range) -> List[Outcome]:
     """Drawn traces: nothing differs."""
     faults, untried = [], []
     for seed in seeds:
-        trace = Played(seed).trace()
+        trace = kind(seed).trace()
         report = program.run(["serial", "--sums"], trace).output
         place = player.directories()[seed % len(player.directories())]
         for mode in MODES:
@@ -107,14 +122,14 @@ def drawn(player: Player, program: Program, share: Share, seeds: range) -> List[
             faults += ["drawn {} {}: {} is not listed".format(seed, mode, it) for it in set(found.words) - set(listed_words())]
             if mode == "chains":
                 share.add(found.counts["entries"])
-    return [Outcome("play: drawn traces {} to {}".format(seeds.start, seeds.stop - 1), first(faults), first(untried))]
+    return [Outcome("play: {} {} to {}".format(share.what, seeds.start, seeds.stop - 1), first(faults), first(untried))]
 
 
-def changed(player: Player, program: Program, seeds: range) -> List[Outcome]:
+def changed(player: Player, program: Program, what: str, made: Callable[[int], bytes], seeds: range) -> List[Outcome]:
     """Traces with bytes changed, as they stand: the player refuses those that the replayer refuses, and plays the others or says why it cannot."""
     faults = []
     for seed in seeds:
-        trace = drawing.changed(seed)
+        trace = made(seed)
         checked, got = program.run(["check"], trace), player.play([], trace)
         if checked.status:
             fault = refusal(player, trace, checked.errors)
@@ -122,7 +137,7 @@ def changed(player: Player, program: Program, seeds: range) -> List[Outcome]:
             is_told = got.status in (3, UNTRIED) and got.errors.startswith(b"uring_play: ") or got.status == 0
             fault = None if is_told else shown(got)
         faults += ["changed {}: {}".format(seed, fault)] if fault else []
-    return [Outcome("play: changed traces {} to {}".format(seeds.start, seeds.stop - 1), first(faults))]
+    return [Outcome("play: {} {} to {}".format(what, seeds.start, seeds.stop - 1), first(faults))]
 
 
 # --- The player by itself ---------------------------------------------------------------------------------------------
@@ -227,7 +242,9 @@ def on_less(player: Player, program: Program) -> List[Outcome]:
         is_well = got.status == 0 and word in got.output and not against(program, expected, got).fault if word else got.status == UNTRIED
         is_well = is_well and (lacking != 54 or b"\nslots\n" not in got.output)
         outcomes.append(Outcome("the player: a kernel without opcode {}".format(lacking), None if is_well else shown(got)))
-    return outcomes
+    got = player.with_less(lacking=54).play([os.path.join(EXAMPLES, VERSION_3, "rings_of_one_queue.trace")])
+    is_well = got.status == UNTRIED and b"slot" in got.errors
+    return [*outcomes, Outcome("the player: a slot of another ring, on a kernel without opcode 54", None if is_well else shown(got))]
 
 
 def unread(player: Player) -> List[Outcome]:
@@ -252,6 +269,49 @@ def too_small(player: Player) -> List[Outcome]:
     got = Program(player.program, "").run(["-q", "-d", player.folder.name], trace, shell='ulimit -f 100; exec "$@"')
     is_well = got.status == 3 and got.errors.startswith(b"uring_play: /a\\x0a: it cannot have 1099511627776 bytes: ")
     return [Outcome("the player: a tree that is too large", None if is_well else shown(got))]
+
+
+def rings_in_turn(count: int) -> bytes:
+    """A trace of version 3 whose rings come and go, each with a slot of the one before it."""
+    records = []
+    for number in range(count):
+        source = (record_traces.SLOT, number - 1, 0) if number else (record_traces.DESCRIPTION, 0, 0)
+        read_one = record_traces.stored(entry(READ, FIXED_FILE, offset=AT_POSITION, length=1))
+        records += [record_traces.ring(1, [(0, source)], [(4096, 4096)]), record_traces.enter(number, [read_one])]
+        records += [record_traces.ring_ends(number - 1)] if number else []
+    front = record_traces.head(1, 1) + record_traces.file(b"/a", 5_000, [(0, b"0123456789"), (4_096, b"abc")]) + description(1)
+    return b"".join([front, *records, record_traces.END])
+
+
+def rings_go(player: Player) -> List[Outcome]:
+    """More rings than may be open at once, one after another, in each order."""
+    trace, outcomes = rings_in_turn(400), []
+    report, *others = (MODELS.run(it, trace).output for it in (["serial", "--sums"], ["rounds", "--window", "4"], ["depends"]))
+    paths = [[it, os.path.join(player.folder.name, "in-turn" + it)] for it in ("--expected", "--rounds", "--depends")]
+    for (_, path), text in zip(paths, (report, *others)):
+        with open(path, "wb") as file_:
+            file_.write(text)
+    for label, more in (("chains", []), ("rounds", paths[1]), ("flight", paths[2])):
+        got = Program(player.program, "").run(["-q", "-d", player.folder.name, *paths[0], *more], trace, shell='ulimit -n 200; exec "$@"')
+        found = against(MODELS, report, got)
+        outcomes.append(Outcome("the player: rings that come and go, in {}".format(label), found.fault, found.untried))
+    return outcomes
+
+
+def sparse(player: Player) -> List[Outcome]:
+    """A file by ranges has its bytes, and takes little room."""
+    ranges, name = ((0, b"begin"), (1 << 30, b"middle" * 1_000), ((1 << 33) - 3, b"end")), "the player: files by ranges are sparse"
+    made = player.play(["--prepare"], record_traces.head(1) + record_traces.file(b"/a", 1 << 34, ranges) + record_traces.END)
+    folder = made.output.decode().strip()
+    if made.status or not os.path.isdir(folder):
+        return [Outcome(name, shown(made))]
+    path = os.path.join(folder, "a")
+    status = os.stat(path)
+    with open(path, "rb") as file_:
+        is_well = all(file_.seek(offset) == offset and file_.read(len(data) + 1) == data + b"\0" for offset, data in ranges)
+    is_well = is_well and status.st_size == 1 << 34 and status.st_blocks * 512 < 1 << 24
+    shutil.rmtree(folder)
+    return [Outcome(name, None if is_well else "{} bytes in {} blocks".format(status.st_size, status.st_blocks))]
 
 
 def statuses(player: Player) -> List[Outcome]:
@@ -326,14 +386,14 @@ def compiles(player: Player, compiler: str) -> List[Outcome]:
 class Ending:
     """Jobs that run side by side: behind the last of them to end it is looked at what all of them came to."""
 
-    def __init__(self, player: Player, share: Share, count: int) -> None:
-        self.player, self.share, self.count, self.lock = player, share, count, threading.Lock()
+    def __init__(self, player: Player, shares: Sequence[Share], count: int) -> None:
+        self.player, self.shares, self.count, self.lock = player, shares, count, threading.Lock()
 
     def run(self, job: Job) -> List[Outcome]:
         outcomes = guarded(job)
         with self.lock:
             self.count -= 1
-            return outcomes if self.count else [*outcomes, self.left_behind(), self.share.outcome()]
+            return outcomes if self.count else [*outcomes, self.left_behind(), *(it.outcome() for it in self.shares)]
 
     def left_behind(self) -> Outcome:
         left = [os.path.join(at, it) for at in self.player.directories() for it in os.listdir(at) if it.startswith("uring_play.")]
@@ -345,15 +405,20 @@ def jobs(programs: List[Program]) -> List[Job]:
     lacking = player.lacking() or player.lacking_in_system(TRACE)
     if lacking:
         return [lambda: skipped("the player", lacking), partial(play_rows.words_agree, listed_words())]
-    program, share = programs[0], Share()
-    each: List[Job] = [partial(it, player, program) for it in (long_chains, silences, stuck, on_less, notices, made_up_for, prepared, play_rows.outcomes)]
-    each += [partial(it, player) for it in (limits, unread, interrupted, too_small, statuses)]
+    program = programs[0]
+    shares = (Share("drawn traces"), Share("drawn traces of version 3"))
+    each: List[Job] = [partial(it, player, program) for it in (limits_of_version_3, long_chains, silences, stuck, on_less, notices, made_up_for, prepared, play_rows.outcomes)]
+    each += [partial(it, player) for it in (limits, unread, interrupted, too_small, rings_go, sparse, statuses)]
     each += [partial(compiles, player, it) for it in ("gcc", "clang")]
     each += [partial(play_rows.words_agree, listed_words()), *play_contained.jobs(player, program)]
-    each += [partial(drawn, player, program, share, range(at, at + EACH)) for at in range(0, DRAWN, EACH)]
-    each += [partial(changed, player, program, range(at, at + EACH)) for at in range(0, CHANGED, EACH)]
+    each += [partial(drawn, player, program, shares[0], Played, range(at, at + EACH)) for at in range(0, DRAWN, EACH)]
+    each += [partial(drawn, player, MODELS, shares[1], PlayedRecords, range(at, at + EACH)) for at in range(0, OF_VERSION_3, EACH)]
+    each += [partial(changed, player, program, "changed traces", drawing.changed, range(at, at + EACH)) for at in range(0, CHANGED, EACH)]
+    kind = "changed traces of version 3"
+    each += [partial(changed, player, program, kind, record_traces.changed, range(at, at + EACH)) for at in range(0, OF_VERSION_3, EACH)]
     each += [partial(played, player, program, name, trace, player.directories()) for name, trace in examples()]
-    ending = Ending(player, share, len(each))
+    each += [partial(played, player, MODELS, "version 3 " + name, trace, player.directories()) for name, trace in examples([VERSION_3])]
+    ending = Ending(player, shares, len(each))
     return [partial(ending.run, it) for it in each]
 
 

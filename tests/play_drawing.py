@@ -3,8 +3,9 @@ they would be soft-linked, and mostly post, so that few chains have to be cut an
 from typing import List, Tuple
 
 import drawing
+import record_traces
 from traces import CLOSE, DRAIN, FALLOCATE, FSYNC, FTRUNCATE, HARDLINK, LINK, LINKAT, MKDIRAT, NOP, OPENAT, READ, READ_FIXED, READV, RENAMEAT, SKIP
-from traces import UNLINKAT, WRITE, WRITE_FIXED, WRITEV, directory, file
+from traces import UNLINKAT, WRITE, WRITE_FIXED, WRITEV, directory
 
 # The opcodes whose failure breaks no chain in Linux, and is silent with CQE_SKIP_SUCCESS.
 UNCOUNTED = (FSYNC, FALLOCATE, FTRUNCATE, RENAMEAT, UNLINKAT, MKDIRAT, LINKAT)
@@ -20,6 +21,10 @@ class Played(drawing.Draw):
             flags = flags & ~LINK | HARDLINK if flags & LINK else flags
             flags &= ~SKIP if not self.rarely(4) else ~0
         return bytes([opcode, flags]) + drawn[2:]
+
+
+class PlayedRecords(record_traces.Records, Played):
+    """Draws such a trace of version 3."""
 
 
 class Wide(Played):
@@ -38,10 +43,16 @@ class Wide(Played):
         for folder in range(self.folders):
             for path in [b"/d%d" % folder, *(b"/d%d/" % folder + it for it in self.names[: self.files])]:
                 size, is_file = self.one(drawing.SIZES), path.count(b"/") > 1
-                items.append(file(path, size, self.data()[:size]) if is_file else directory(path))
+                items.append(self.file(path, size) if is_file else directory(path))
                 nodes.append((len(items), is_file))
                 self.paths.append(path)
         return items, nodes
 
     def path(self) -> bytes:
         return self.one(self.paths) if self.rarely(2) else b"/d%d/" % self.source.randrange(self.folders) + self.one(self.names)
+
+
+class WideRecords(record_traces.Records, Wide):
+    """Draws such a trace of version 3, with rings that come and go."""
+
+    records, tables = Wide.records, Wide.tables

@@ -5,7 +5,7 @@ import struct
 from typing import List, Sequence, Tuple
 
 import traces
-from drawing import ADDRESSES, LAST, Draw, altered
+from drawing import ADDRESSES, LAST, Draw, Second, altered
 from traces import ENTRY, WRITE, WRITEV
 
 END = b"\7"
@@ -62,14 +62,39 @@ def zeros(entry: bytes) -> bytes:
     return entry[:64] + b"\1" + entry[64 : 68 + lengths]
 
 
-class Records(Draw):
+def table_of(handles: Sequence[int]) -> List[bytes]:
+    """The full descriptors of a table of version 2."""
+    return [descriptor(number, it - 1) for number, it in enumerate(handles) if it]
+
+
+class Carried(Second):
+    """Draws the trace of version 2 that Second draws of a seed, carried over to version 3: its rings are the first records."""
+
+    def whole(self, items: List[bytes], described: List[bytes], table: List[int], rings: List[bytes], records: List[bytes]) -> bytes:
+        full = table_of(table)
+        return b"".join([head(len(items), len(described), len(table), len(full)), *items, *described, *full, *rings, *records, END])
+
+    def file(self, path: bytes, size: int) -> bytes:
+        data = self.data()[:size]
+        return file(path, size, [(0, data)] if data else [])
+
+    def registered(self, slots: List[int], buffers: Buffers) -> bytes:
+        return ring(len(slots), [(number, (DESCRIPTION, 0, it - 1)) for number, it in enumerate(slots) if it], buffers)
+
+    def entered(self, number: int, entries: List[bytes]) -> bytes:
+        return enter(number, [stored(it) for it in entries])
+
+    def filled(self, number: int, index: int, offset: int, data: bytes) -> bytes:
+        return fill(number, index, offset, data)
+
+
+class Records(Second):
     """Draws a trace of version 3."""
 
     tables, records = (0, 1, 3, 5, 40), 14
 
     def __init__(self, seed: int) -> None:
         super().__init__(seed)
-        self.version = 2
         # The rings that are there.
         self.there: List[int] = []
 
@@ -77,7 +102,7 @@ class Records(Draw):
         items, nodes = self.items()
         described = [self.described(nodes) for _ in range(self.source.randrange(1, self.most_described + 1))]
         self.table, self.handles_end = self.one(self.tables), len(described)
-        full = [descriptor(number, it - 1) for number, it in enumerate(self.handles(len(described), self.table)) if it]
+        full = table_of(self.handles(len(described), self.table))
         records = [self.next_record() for _ in range(self.source.randrange(self.records))]
         return b"".join([head(len(items), len(described), self.table, len(full)), *items, *described, *full, *records, END])
 
@@ -128,6 +153,24 @@ class Records(Draw):
     def entry(self, number: int) -> bytes:
         made = super().entry(number)
         return zeros(made) if made[0] in (WRITE, WRITEV) and self.rarely(2) else stored(made)
+
+
+def past_limits() -> List[Tuple[str, bytes]]:
+    """Traces that are one past a limit of version 3, by what they have too much of; they go no further."""
+    start, last = head(0, 0, 3), LAST - 1
+    full = [(0, (SLOT, 0, 0))]
+    return [
+        ("items", head(items=(1 << 24) + 1)), ("descriptions", head(descriptions=(1 << 20) + 1)), ("descriptors", head(table=(1 << 20) + 1)),
+        ("full descriptors", head(table=3, full=4)), ("bytes of a file", head(items=1) + file(b"/a", (1 << 40) + 1)),
+        ("a range", head(items=1) + file(b"/a", 3, [(2, b"ab")])), ("slots", start + ring((1 << 20) + 1)), ("full slots", start + ring(0, full)),
+        ("the sources of a slot", start + ring(1, [(0, (3, 0, 0))])), ("the ring of a descriptor", start + ring(1, [(0, (DESCRIPTOR, 1, 0))])),
+        ("a descriptor", start + ring(1, [(0, (DESCRIPTOR, 0, 3))])), ("a queue", start + ring(queue=0)), ("buffers", start + ring(buffers=[(0, 0)] * 16_385)),
+        ("bytes of a buffer", start + ring(buffers=[(0, (1 << 30) + 1)])), ("the end of a buffer", start + ring(buffers=[((1 << 64) - 4, 4)])),
+        ("entries", start + ring() + struct.pack("<BIH", 1, 0, 32_769)), ("a buffer", start + ring() + fill(0, 0, 0, b"")),
+        ("rings", start + ring() + enter(1, [])), ("forms of an entry", start + ring() + enter(0, [bytes(64) + b"\2"])),
+        ("bytes of a record", start + ring() + enter(0, [bytes(64) + struct.pack("<BI", 0, last)])), ("zeros", start + ring() + enter(0, [bytes(64) + b"\1"])),
+        ("forms of a fill", start + ring(buffers=[(0, 9)]) + struct.pack("<BIHB", 2, 0, 0, 2)), ("kinds", start + b"\x08"),
+    ]
 
 
 def changed(seed: int) -> bytes:

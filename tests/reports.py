@@ -1,19 +1,28 @@
-"""What `diff` refuses, what it passes over, and that it takes time in proportion to its input."""
+"""What `diff` refuses, what it passes over, pairs of version 2 by hand and drawn, and that it takes time in proportion to its input."""
+import os
 from functools import partial
 from typing import List, Tuple
 
-from harness import Answer, Job, Outcome, Program, difference, reports_refused, shown
+import drawn
+from drawing import two_reports_by_places
+from harness import EXAMPLES, Answer, Job, Outcome, Program, difference, first, read, reports_refused, shown
 
-HEADING, END = b"uring-report 1\n", b"end\n"
+HEADING, SECOND_HEADING, END = b"uring-report 1\n", b"uring-report 2\n", b"end\n"
 NOTHING = "".join(it + " 0 equal, 0 different, 0 outside\n" for it in ("entries", "tree", "slots", "buffers"))
 ENTRY = b"0 user=7 res=4 posted\n"
 # How many facts a line may have, and how often a line is said beside one with so many, and the processor seconds of each, which are 0.1
 # to 0.5 on a busy machine. With each fact looked for among all others it was 55, and with each line compared anew over 100.
 FACTS, REPEATED, MOST_SECONDS = 200_000, 20_000, 1.5
+# How many pairs of version 2 are drawn, and how many in one lot.
+DRAWN, LOT = 900, 300
 
 
 def report(*lines: bytes) -> bytes:
     return b"".join((HEADING, *lines, END))
+
+
+def by_places(*lines: bytes) -> bytes:
+    return b"".join((SECOND_HEADING, *lines, END))
 
 
 def counted(entries: int = 0, tree: int = 0, large: int = 0) -> bytes:
@@ -42,9 +51,34 @@ def refusals() -> List[Tuple[str, bytes, Answer]]:
     ]
 
 
+def refusals_by_places() -> List[Tuple[str, bytes, Answer]]:
+    """The same of version 2."""
+    one, two, ten = (b"%d ring=0 user=7 res=4 posted\n" % place for place in (1, 2, 10))
+    well, greatest = by_places(one, two, ten), b"4294967295 ring=0 user=7 posted\n"
+    cases = [
+        ("a place that falls", by_places(one, ten, two) + well, "line 4 of the first is out of order at 2"),
+        ("a place twice", well + by_places(one, two, two), "line 4 of the second is out of order at 2"),
+        ("a place that falls behind the tree", well + by_places(two, b"tree\n", b"dir /d\n", one), "line 5 of the second is out of order at 1"),
+        ("an entry of no place", well + by_places(one, b"x ring=0\n"), "line 3 of the second is out of order at x"),
+        ("a zero before a place", well + by_places(b"01 ring=0\n"), "line 2 of the second is out of order at 01"),
+        ("a plus before a place", well + by_places(b"+1 ring=0\n"), "line 2 of the second is out of order at +1"),
+        ("a place of 33 bits", well + by_places(greatest, b"4294967296 ring=0\n"), "line 3 of the second is out of order at 4294967296"),
+        ("a place of many digits", well + by_places(b"1" * 200 + b" ring=0\n"), "line 2 of the second is out of order at {}+".format("1" * 128)),
+        ("a second that falls and has no end", well + by_places(ten, one)[:-4], "the second has no end"),
+        ("another target of a link", well + by_places(one, b"tree\n", b"link /l to=a\n", b"link /l to=b\n"), "line 5 of the second says otherwise of link /l"),
+        ("version 1 beside version 2", report(ENTRY) + well, "the first is uring-report 1, the second uring-report 2"),
+        ("version 2 beside version 1", well + report(ENTRY), "the first is uring-report 2, the second uring-report 1"),
+        ("another version beside one that falls", report(ENTRY) + by_places(ten, one), "line 3 of the second is out of order at 1"),
+        ("another version beside one that says otherwise", report(ENTRY, b"0 user=8\n") + well, "the first is uring-report 1, the second uring-report 2"),
+        ("version 3", well + by_places(one).replace(b"report 2", b"report 3"), "the second does not begin with uring-report 1"),
+    ]
+    return [(name, text, reports_refused(told)) for name, text, told in cases]
+
+
 def comparisons() -> List[Tuple[str, bytes, Answer]]:
     """Reports that are compared, each pair with what is told of it."""
     large = b"file /a size=16777217 sum=large"
+    places = [b"%d ring=1 user=7 res=4 posted\n" % place for place in (0, 9, 10, 4_294_967_295)]
     with_sum, other_sum = (large + b" tree-sum=" + it * 32 + b"\n" for it in (b"ab", b"cd"))
     return [
         ("a repeated line", report(ENTRY, ENTRY) + report(b"0 posted res=4 user=7\n", ENTRY), Answer(0, counted(entries=1), b"")),
@@ -56,6 +90,8 @@ def comparisons() -> List[Tuple[str, bytes, Answer]]:
         ("a large file with its sum", report(b"tree\n", with_sum) * 2, Answer(0, counted(tree=1), b"")),
         ("a large file with another sum", report(b"tree\n", with_sum) + report(b"tree\n", other_sum),
          Answer(4, b"- " + with_sum + b"+ " + other_sum + counted().replace(b"tree 0 equal, 0", b"tree 0 equal, 1"), b"")),
+        ("places of version 2, the greatest one too", by_places(*places) * 2, Answer(0, counted(entries=4), b"")),
+        ("places of version 1 in any order", report(*places[::-1]) + report(*places), Answer(0, counted(entries=4), b"")),
         ("names on one side", report(b"0 user=7 res=-2 posted name=OPENAT errno=ENOENT\n") + report(b"0 user=7 res=-2 posted op=18\n"),
          Answer(0, counted(entries=1), b"")),
     ]
@@ -63,6 +99,19 @@ def comparisons() -> List[Tuple[str, bytes, Answer]]:
 
 def told(program: Program, name: str, given: bytes, wanted: Answer) -> List[Outcome]:
     return [Outcome("diff of {} by {}".format(name, program.compiler), difference(program.run(["diff"], given), wanted))]
+
+
+def examples_by_places() -> List[Tuple[str, bytes, Answer]]:
+    """The pairs of version 2 in examples/compared/, with what is told of them."""
+    at = os.path.join(EXAMPLES, "compared")
+    names = sorted(it[: -len(".told")] for it in os.listdir(at) if it.endswith(".told"))
+    return [(name, read(at, name + ".first") + read(at, name + ".second"), Answer(4, read(at, name + ".told"), b"")) for name in names]
+
+
+def drawn_by_places(program: Program, seeds: range) -> List[Outcome]:
+    """Drawn pairs of version 2, as the second comparison gives."""
+    faults = ["seed {}: {}".format(seed, told) for seed in seeds for told in [drawn.as_compared(program, two_reports_by_places(seed))] if told]
+    return [Outcome("diff of drawn reports of version 2, {} to {}, by {}".format(seeds[0], seeds[-1], program.compiler), first(faults))]
 
 
 def quick(program: Program, name: str, given: bytes, wanted: Answer) -> List[Outcome]:
@@ -87,7 +136,8 @@ def many() -> List[Tuple[str, bytes, Answer]]:
 def jobs(programs: List[Program]) -> List[Job]:
     made: List[Job] = []
     for program in programs:
-        made += [partial(told, program, *case) for case in (*refusals(), *comparisons())]
+        made += [partial(told, program, *case) for case in (*refusals(), *refusals_by_places(), *comparisons(), *examples_by_places())]
+        made += [partial(drawn_by_places, program, range(at, at + LOT)) for at in range(0, DRAWN if program is programs[0] else LOT, LOT)]
         # Rattle's own compiler makes slower programs.
         made += [partial(quick, program, *case) for case in many()] if program is programs[0] else []
     return made

@@ -102,9 +102,18 @@ def of_examples(program: Program) -> List[Outcome]:
     return outcomes
 
 
+def of_long_paths(program: Program) -> List[Outcome]:
+    """Paths beside entries that are longer than two bytes count. The first one of two is not."""
+    long = b"/" + b"n" * 65_535
+    sides = ((traces.OPENAT, long), (traces.RENAMEAT, traces.two_paths(long[1:], long)))
+    entries = [traces.entry(opcode, 0, traces.AT_FDCWD, 0, 0, side) for opcode, side in sides]
+    trace = b"".join([traces.head(0, 0, 1, 1, 0, 2), traces.ring([], []), traces.enter(0, entries)])
+    return [Outcome("the text of long paths by {}".format(program.compiler), of_trace(program, trace, 20))]
+
+
 def jobs(programs: List[Program]) -> List[Job]:
     size = DRAWN // LOTS
     starts = [at + back for back in (0, days.first_seed()) for at in range(0, DRAWN // 2, size)]
     lots = [range(at, at + size) for at in starts]
-    found: List[Job] = [partial(of_examples, it) for it in programs]
+    found: List[Job] = [partial(of, it) for it in programs for of in (of_examples, of_long_paths)]
     return found + [partial(lot, program, it) for program in programs for it in (lots if program is programs[0] else lots[:1])]

@@ -1,24 +1,36 @@
-"""A trace (docs/FORMAT.md) as its parts, for tools that change it. The parts are read from a trace that `uring_replay check` accepts."""
+"""A trace (docs/FORMAT.md, docs/NEXT.md) as its parts, for tools that change it. The parts are read from a trace that `uring_replay check` accepts."""
 import struct
-from typing import Iterator, List, NamedTuple, Tuple, Union
+from typing import Iterator, List, NamedTuple, Optional, Tuple, Union
 
+import record_traces
 import traces
+from record_traces import DESCRIPTION
+from traces import WRITE, WRITEV
 
 DIRECTORY, FILE, NAME = 1, 2, 3
-ENTER = 1
+# What begins a record of version 3.
+ENTER, FILL, RING, RING_ENDS, END = 1, 2, 5, 6, 7
+# The queue of a ring that continues no other, and the most bytes that a write moves.
+OWN, MOST_MOVED = (1 << 32) - 1, 0x7FFFF000
 
 
 class Item(NamedTuple):
+    """A name. Bytes of a file that are in no range are zeros; in versions 1 and 2 a range begins at 0, and there is one at most."""
+
     kind: int
     path: bytes
     size: int = 0
-    stored: bytes = b""
+    ranges: Tuple[Tuple[int, bytes], ...] = ()
     of: int = 0  # of a name: the number of its file
 
-    def text(self) -> bytes:
+    def text(self, version: int) -> bytes:
         if self.kind == DIRECTORY:
             return traces.directory(self.path)
-        return traces.file(self.path, self.size, self.stored) if self.kind == FILE else traces.name(self.path, self.of)
+        if self.kind == NAME:
+            return traces.name(self.path, self.of)
+        if version == 3:
+            return record_traces.file(self.path, self.size, self.ranges)
+        return traces.file(self.path, self.size, self.ranges[0][1] if self.ranges else b"")
 
 
 class Description(NamedTuple):
@@ -29,7 +41,7 @@ class Description(NamedTuple):
 
 
 class Entry(NamedTuple):
-    """The fields of struct io_uring_sqe in order, and the side bytes."""
+    """The fields of struct io_uring_sqe in order, and the side bytes; of a write of zeros the lengths of its vectors alone."""
 
     opcode: int
     flags: int
@@ -46,46 +58,100 @@ class Entry(NamedTuple):
     third: int
     last: int
     side: bytes
+    is_zeros: bool = False
 
-    def text(self) -> bytes:
-        return traces.with_side(traces.ENTRY.pack(*self[:-1]), self.side)
+    def zeros(self) -> int:
+        """How many zeros a write of zeros writes."""
+        if self.opcode == WRITE:
+            return min(self.length, MOST_MOVED)
+        total = sum(struct.unpack("<{}Q".format(len(self.side) // 8), self.side))
+        return min(total, MOST_MOVED) if total < 1 << 63 else 0
 
-
-class Ring(NamedTuple):
-    slots: Tuple[int, ...]
-    buffers: Tuple[Tuple[int, int], ...]
+    def text(self, version: int) -> bytes:
+        fields = traces.ENTRY.pack(*self[:14])
+        if self.is_zeros:
+            return fields + struct.pack("<BI", 1, len(self.side) + self.zeros()) + self.side
+        whole = traces.with_side(fields, self.side)
+        return record_traces.stored(whole) if version == 3 else whole
 
 
 class Enter(NamedTuple):
     ring: int
     entries: Tuple[Entry, ...]
 
-    def text(self) -> bytes:
-        return traces.enter(self.ring, [it.text() for it in self.entries])
+    def text(self, version: int) -> bytes:
+        each = [it.text(version) for it in self.entries]
+        return record_traces.enter(self.ring, each) if version == 3 else traces.enter(self.ring, each)
 
 
 class Fill(NamedTuple):
+    """Bytes that are put into a buffer, or none: zeros."""
+
     ring: int
     buffer: int
     offset: int
-    data: bytes
+    count: int
+    data: Optional[bytes]
 
-    def text(self) -> bytes:
-        return traces.fill(*self)
+    def text(self, version: int) -> bytes:
+        if self.data is None:
+            return record_traces.fill_of_zeros(self.ring, self.buffer, self.offset, self.count)
+        return (record_traces if version == 3 else traces).fill(self.ring, self.buffer, self.offset, self.data)
+
+
+class NewRing(NamedTuple):
+    """A ring: how many slots it has, what the full ones get, its buffers, and the ring whose queue it continues. In versions 1 and 2 it is no record
+    of the text, and its slots get descriptions of the start."""
+
+    slots: int
+    full: Tuple[Tuple[int, record_traces.Holder], ...]
+    buffers: Tuple[Tuple[int, int], ...]
+    queue: int = OWN
+
+    def text(self, version: int) -> bytes:
+        if version == 3:
+            return record_traces.ring(self.slots, self.full, self.buffers, self.queue)
+        held = {slot: number + 1 for slot, (_, _, number) in self.full}
+        return traces.ring([held.get(it, 0) for it in range(self.slots)], self.buffers)
+
+
+class RingEnds(NamedTuple):
+    ring: int
+
+    def text(self, _: int) -> bytes:
+        return record_traces.ring_ends(self.ring)
+
+
+Record = Union[Enter, Fill, NewRing, RingEnds]
 
 
 class Trace(NamedTuple):
+    """In versions 1 and 2 the rings are the first records."""
+
     version: int
     items: Tuple[Item, ...]
     descriptions: Tuple[Description, ...]
     table: Tuple[int, ...]
-    rings: Tuple[Ring, ...]
-    records: Tuple[Union[Enter, Fill], ...]
+    records: Tuple[Record, ...]
 
     def text(self) -> bytes:
-        counts = (len(self.items), len(self.descriptions), len(self.rings), len(self.records), len(self.table))
-        parts = [traces.head(*counts, self.version), *(it.text() for it in self.items), *(traces.description(*it) for it in self.descriptions)]
-        return b"".join([*parts, traces.descriptor_table(self.table), *(traces.ring(*it) for it in self.rings), *(it.text() for it in self.records)])
+        items, descriptions = [it.text(self.version) for it in self.items], [traces.description(*it) for it in self.descriptions]
+        records, rings = [it.text(self.version) for it in self.records], len(self.rings())
+        if self.version == 3:
+            full = record_traces.table_of(self.table)
+            front = record_traces.head(len(items), len(descriptions), len(self.table), len(full))
+            return b"".join([front, *items, *descriptions, *full, *records, record_traces.END])
+        front = traces.head(len(items), len(descriptions), rings, len(records) - rings, len(self.table), self.version)
+        return b"".join([front, *items, *descriptions, traces.descriptor_table(self.table), *records])
+
+    def rings(self) -> List[NewRing]:
+        return [it for it in self.records if isinstance(it, NewRing)]
+
+    def places_of(self, record: Record) -> int:
+        """How many places a record has."""
+        if isinstance(record, Enter):
+            return len(record.entries)
+        return int(isinstance(record, Fill) or isinstance(record, NewRing) and self.version == 3)
 
     def entries(self) -> Iterator[Tuple[int, int, int, Entry]]:
         """Each entry, behind the number of its record, its number there, and its place."""
@@ -93,10 +159,10 @@ class Trace(NamedTuple):
         for number, record in enumerate(self.records):
             for at, entry in enumerate(record.entries if isinstance(record, Enter) else ()):
                 yield number, at, place + at, entry
-            place += len(record.entries) if isinstance(record, Enter) else 1
+            place += self.places_of(record)
 
     def places(self) -> int:
-        return sum(len(it.entries) if isinstance(it, Enter) else 1 for it in self.records)
+        return sum(map(self.places_of, self.records))
 
 
 class Source:
@@ -118,28 +184,40 @@ class Source:
     def numbers(self, count: int) -> Tuple[int, ...]:
         return self.fields("{}I".format(count))
 
+    def buffers(self) -> Tuple[Tuple[int, int], ...]:
+        return tuple(self.fields("QI") for _ in range(self.number("H")))
 
-def item_of(source: Source) -> Item:
+
+def range_of(source: Source) -> Tuple[int, bytes]:
+    offset, length = source.fields("QI")
+    return offset, source.take(length)
+
+
+def item_of(source: Source, version: int) -> Item:
     kind, length = source.fields("BH")
     path = source.take(length)
     if kind == DIRECTORY:
         return Item(kind, path)
     if kind == NAME:
         return Item(kind, path, of=source.number("I"))
-    size, stored = source.fields("QI")
-    return Item(kind, path, size, source.take(stored))
+    size, count = source.fields("QI")
+    if version == 3:
+        return Item(kind, path, size, tuple(range_of(source) for _ in range(count)))
+    return Item(kind, path, size, ((0, source.take(count)),) if count else ())
 
 
-def ring_of(source: Source) -> Ring:
+def ring_of(source: Source) -> NewRing:
+    """A ring of version 1 or 2."""
     slots = source.numbers(source.number("H"))
-    return Ring(slots, tuple(source.fields("QI") for _ in range(source.number("H"))))
+    return NewRing(len(slots), tuple((slot, (DESCRIPTION, 0, it - 1)) for slot, it in enumerate(slots) if it), source.buffers())
 
 
-def record_of(source: Source) -> Union[Enter, Fill]:
+def record_of(source: Source) -> Record:
+    """A record of version 1 or 2."""
     kind, ring = source.fields("BB")
     if kind != ENTER:
         buffer, offset, length = source.fields("HII")
-        return Fill(ring, buffer, offset, source.take(length))
+        return Fill(ring, buffer, offset, length, source.take(length))
     entries: List[Entry] = []
     for _ in range(source.number("H")):
         fields = traces.ENTRY.unpack(source.take(traces.ENTRY.size))
@@ -147,9 +225,60 @@ def record_of(source: Source) -> Union[Enter, Fill]:
     return Enter(ring, tuple(entries))
 
 
+# --- Version 3 ------------------------------------------------------------------------------------------------------------
+
+def entry_of(source: Source) -> Entry:
+    fields = traces.ENTRY.unpack(source.take(traces.ENTRY.size))
+    is_zeros, count = source.fields("BI")
+    opcode, length = fields[0], fields[6]
+    if is_zeros:
+        count = 8 * length if opcode == WRITEV and length <= 1024 else 0
+    return Entry(*fields, source.take(count), bool(is_zeros))
+
+
+def new_ring_of(source: Source) -> NewRing:
+    queue, slots, count = source.fields("3I")
+    full = tuple((source.number("I"), source.fields("BII")) for _ in range(count))
+    return NewRing(slots, full, source.buffers(), queue)
+
+
+def fill_of(source: Source, ring: int) -> Fill:
+    buffer, form, offset, count = source.fields("HBII")
+    return Fill(ring, buffer, offset, count, None if form else source.take(count))
+
+
+def records_of(source: Source) -> Iterator[Record]:
+    kind = source.number("B")
+    while kind != END:
+        if kind == RING:
+            yield new_ring_of(source)
+        else:
+            ring = source.number("I")
+            if kind == ENTER:
+                yield Enter(ring, tuple(entry_of(source) for _ in range(source.number("H"))))
+            else:
+                yield fill_of(source, ring) if kind == FILL else RingEnds(ring)
+        kind = source.number("B")
+
+
+def table_of(source: Source, size: int, full: int) -> Tuple[int, ...]:
+    """A table as version 2 has it, of its full descriptors."""
+    held = dict(source.numbers(2) for _ in range(full))
+    return tuple(held[it] + 1 if it in held else 0 for it in range(size))
+
+
+def start_of(source: Source, version: int, items: int, descriptions: int) -> Tuple[Tuple[Item, ...], Tuple[Description, ...]]:
+    return tuple(item_of(source, version) for _ in range(items)), tuple(Description(*source.fields("IBBQ")) for _ in range(descriptions))
+
+
 def parts_of(text: bytes) -> Trace:
     source = Source(text)
     source.take(8)
-    version, items, descriptions, rings, records, table = source.fields("6I")
-    return Trace(version, tuple(item_of(source) for _ in range(items)), tuple(Description(*source.fields("IBBQ")) for _ in range(descriptions)),
-                 source.numbers(table), tuple(ring_of(source) for _ in range(rings)), tuple(record_of(source) for _ in range(records)))
+    version, items, descriptions, *counts = source.fields("6I")
+    start = start_of(source, version, items, descriptions)
+    if version == 3:
+        return Trace(version, *start, table_of(source, counts[0], counts[1]), tuple(records_of(source)))
+    rings, records, table = counts
+    held = source.numbers(table)
+    each = [*(ring_of(source) for _ in range(rings)), *(record_of(source) for _ in range(records))]
+    return Trace(version, *start, held, tuple(each))

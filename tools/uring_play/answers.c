@@ -1,4 +1,5 @@
 #include "answers.h"
+#include "entry.h"
 #include "trace.h"
 
 #include <inttypes.h>
@@ -50,6 +51,11 @@ static u64 read_lines(const char *path, const char *heading, char last, take_lin
 	return told;
 }
 
+static const char *heading_of_report(void)
+{
+	return has_ring_records() ? "uring-report 2" : "uring-report 1";
+}
+
 static bool take_answer(u64 place, const char *line, const char *end)
 {
 	struct entry *entry = trace.by_place[place];
@@ -65,7 +71,7 @@ static bool take_answer(u64 place, const char *line, const char *end)
 
 void read_expected(const char *path)
 {
-	read_lines(path, "uring-report 1", 't', take_answer);
+	read_lines(path, heading_of_report(), 't', take_answer);
 	for (u32 place = 0; place < trace.places; place++) {
 		if (trace.by_place[place] && !trace.by_place[place]->is_expected)
 			die("%s: it does not tell of place %u; is it another trace's?", path,
@@ -120,7 +126,7 @@ u64 *read_times(const char *path)
 
 	times = allocate(trace.places * sizeof *times);
 	memset(times, 0xff, trace.places * sizeof *times);
-	if (!read_lines(path, "uring-report 1", 't', take_time))
+	if (!read_lines(path, heading_of_report(), 't', take_time))
 		die("%s: no entry has submitted=", path);
 	for (u32 place = 0; place < trace.places; place++)
 		first = min64(first, times[place]);

@@ -1,4 +1,5 @@
 #include "apart.h"
+#include "entry.h"
 #include "lacks.h"
 #include "uring.h"
 

@@ -1,5 +1,6 @@
 #include "chains.h"
 #include "apart.h"
+#include "entry.h"
 #include "mend.h"
 #include "uring.h"
 

@@ -1,5 +1,6 @@
 #include "depends.h"
 #include "chains.h"
+#include "entry.h"
 #include "trace.h"
 
 #include <inttypes.h>

@@ -1,5 +1,6 @@
 #include "figures.h"
 #include "answers.h"
+#include "entry.h"
 #include "opcodes.h"
 #include "pieces.h"
 #include "trace.h"

@@ -41,6 +41,7 @@ static u32 arena_number; /* which is given out */
 static int folded = -1;
 static u64 mapped_bytes; /* behind the arenas */
 static u8 **read_into;	 /* by place, for reads that are in flight */
+static const u8 *zeros;	 /* as many as an entry writes at most, which take no memory */
 
 /* --- Memory -------------------------------------------------------------------------------------
  */
@@ -63,6 +64,8 @@ void prepare_memory(void)
 	if (folded < 0 || ftruncate(folded, FOLDED))
 		die("memory for great reads: %s", strerror(errno));
 	read_into = allocate(trace.places * sizeof *read_into);
+	if (trace.most_zeros)
+		zeros = map(NULL, trace.most_zeros);
 }
 
 static bool is_full(const struct arena *arena)
@@ -201,6 +204,11 @@ static u64 fill_path(struct span path, i32 *directory)
 	return *below(copy) ? address_of(below(copy)) : address_of(".");
 }
 
+const u8 *bytes_written(const struct entry *entry)
+{
+	return entry->is_zeros ? zeros : entry->side + lengths_of(entry);
+}
+
 /* The vectors of an entry of too many of them are not looked at. Bytes that are written are those
  * of the trace's text. */
 static void fill_vectors(struct entry *entry, struct io_uring_sqe *sqe)
@@ -215,7 +223,7 @@ static void fill_vectors(struct entry *entry, struct io_uring_sqe *sqe)
 	if (sqe->opcode == OP_READV)
 		read_into[entry->place] = memory_to_read(asked);
 	u64 first = address_of(sqe->opcode == OP_READV ? read_into[entry->place]
-						       : entry->side + 8 * count);
+						       : bytes_written(entry));
 	for (u64 it = 0; it < count; it++) {
 		u64 length = number_at(entry->side + 8 * it, 8);
 		vectors[it] = (struct iovec){ (void *)(uintptr_t)(first + at), length };
@@ -320,7 +328,7 @@ void fill_entry(struct entry *entry, struct io_uring_sqe *sqe)
 		read_into[entry->place] = memory_to_read(asked_of(entry));
 		sqe->addr = address_of(read_into[entry->place]);
 	} else if (opcode == OP_WRITE) {
-		sqe->addr = address_of(entry->side);
+		sqe->addr = address_of(bytes_written(entry));
 	} else if (opcode == OP_READV || opcode == OP_WRITEV) {
 		fill_vectors(entry, sqe);
 	} else if (looks_at_buffer(opcode)) {

@@ -2,7 +2,7 @@
 #ifndef FILL_H
 #define FILL_H
 
-#include "trace.h"
+#include "entry.h"
 
 #include <linux/io_uring.h>
 
@@ -13,6 +13,8 @@ u32 hold_memory(void);
 void let_memory_go(u32 number);
 /* Fills a submission entry. */
 void fill_entry(struct entry *entry, struct io_uring_sqe *sqe);
+/* The bytes that a WRITE or WRITEV brings. */
+const u8 *bytes_written(const struct entry *entry);
 /* Keeps the first bytes that a played read brought. */
 void keep_data(struct entry *entry);
 /* Whether so much of what is held is in use that no more entries should be filled with it, where

@@ -4,6 +4,7 @@
 #include "fill.h"
 #include "mend.h"
 #include "pieces.h"
+#include "registered.h"
 #include "rings.h"
 #include "trace.h"
 #include "watch.h"
@@ -21,9 +22,10 @@ struct part {
 	u32 count;
 	bool is_left;
 };
-/* What starts as a whole: a chain, in parts one after another, or the fill of a buffer. */
+/* What starts as a whole: a chain, in parts one after another, or a step that is no entry. */
 struct unit {
-	const struct record *fill; /* or NULL */
+	const struct record *record; /* of such a step, else NULL */
+	u32 first, count;	     /* its places */
 	u32 next_part, end_part;
 	u64 due;	     /* when it starts at the soonest, from the start of the play */
 	u32 waiting;	     /* for how many it still waits: each pair counts */
@@ -35,7 +37,7 @@ static u32 unit_count, finished;
 static struct part *parts;
 static u32 part_count;
 /* The units that wait for a unit: those of unit U are from later_from[U] on. */
-static u64 *later_from;
+static u64 *later_from, pair_count;
 static u32 *later;
 /* Those that wait for none any more: a heap, the first of the trace on top. */
 static u32 *ready, ready_count;
@@ -44,7 +46,7 @@ static struct piece **flying;
 static u32 flying_count;
 static u32 *quiet, quiet_count;
 /* Of each ring: entries that are filled and not submitted, and those that may still post. */
-static u32 filled[MOST_RINGS], reserved[MOST_RINGS];
+static u32 *filled, *reserved;
 static u64 looked_at, heard_last;
 static u64 next_due; /* of the first that waits for its time alone; NO_TIME if there is none */
 
@@ -56,6 +58,16 @@ static void add_part(struct entry *first, u32 count, bool is_left)
 	parts[part_count++] = (struct part){ first, count, is_left };
 }
 
+static void add_unit(u32 *unit_of, const struct record *record, u32 first, u32 count)
+{
+	units[unit_count] = (struct unit){
+		.record = record, .first = first, .count = count, .next_part = part_count
+	};
+	for (u32 at = 0; at < count; at++)
+		unit_of[first + at] = unit_count;
+	unit_count++;
+}
+
 /* Makes the units, in the order of the trace; gives of each place its unit. */
 static u32 *make_units(void)
 {
@@ -65,22 +77,34 @@ static u32 *make_units(void)
 	parts = allocate(trace.places * sizeof *parts);
 	for (u32 number = 0; number < trace.record_count; number++) {
 		const struct record *record = &trace.records[number];
-		if (record->kind == 2) {
-			unit_of[record->place] = unit_count;
-			units[unit_count++].fill = record;
-		}
+		if (record->kind == RECORD_FILL || record->kind == RECORD_RING)
+			add_unit(unit_of, record, record->place, 1);
 		for (u32 from = 0, count; from < record->count; from += count) {
 			count = chain_length(record, from);
-			units[unit_count].next_part = part_count;
+			add_unit(unit_of, NULL, record->place + from, count);
 			plan_chain(record->entries + from, count, add_part);
-			units[unit_count].end_part = part_count;
-			for (u32 at = 0; at < count; at++)
-				unit_of[record->place + from + at] = unit_count;
-			unit_count++;
+			units[unit_count - 1].end_part = part_count;
 		}
 		go_on();
 	}
 	return unit_of;
+}
+
+/* Of a place that uses rings which the trace makes, the units that make them. */
+static void each_maker(u32 place, const u32 *unit_of, void (*each)(u32 earlier, u32 unit))
+{
+	const struct record *record = trace.record_at[place];
+	u32 ring = record ? record->ring : trace.by_place[place]->ring;
+	u32 maker = unit_of[trace.rings[ring].place];
+
+	if (maker != unit_of[place])
+		each(maker, unit_of[place]);
+	for (u32 at = 0; record && record->kind == RECORD_RING && at < trace.rings[ring].full_count;
+	     at++) {
+		const struct full_slot *it = &trace.rings[ring].full[at];
+		if (it->kind == OF_SLOT)
+			each(unit_of[trace.rings[it->ring].place], unit_of[place]);
+	}
 }
 
 /* Each pair of units of which the later one waits for the earlier one. */
@@ -88,6 +112,8 @@ static void each_pair(const struct waits *waits, const u32 *unit_of,
 		      void (*each)(u32 earlier, u32 unit))
 {
 	for (u32 place = 0; place < trace.places; place++) {
+		if (has_ring_records())
+			each_maker(place, unit_of, each);
 		for (u64 at = waits->starts[place]; at < waits->starts[place + 1]; at++) {
 			u32 earlier = unit_of[waits->earlier[at]];
 			if (earlier != unit_of[place])
@@ -100,6 +126,7 @@ static void count_pair(u32 earlier, u32 unit)
 {
 	later_from[earlier + 1]++;
 	units[unit].waiting++;
+	pair_count++;
 }
 
 /* The last of each is put first, so that in the end each count is where it begins. */
@@ -112,8 +139,8 @@ static void put_pair(u32 earlier, u32 unit)
 static void turn_around(const struct waits *waits, const u32 *unit_of)
 {
 	later_from = allocate((unit_count + 2ULL) * sizeof *later_from);
-	later = allocate(waits->starts[trace.places] * sizeof *later);
 	each_pair(waits, unit_of, count_pair);
+	later = allocate(pair_count * sizeof *later);
 	for (u32 at = 0; at < unit_count; at++)
 		later_from[at + 1] += later_from[at];
 	later_from[unit_count + 1] = later_from[unit_count];
@@ -171,6 +198,8 @@ static void drop_first_ready(void)
 static void finish(u32 number)
 {
 	finished++;
+	for (u32 at = 0; at < units[number].count; at++)
+		leave_place(units[number].first + at);
 	for (u64 at = later_from[number]; at < later_from[number + 1]; at++) {
 		if (!--units[later[at]].waiting)
 			add_ready(later[at]);
@@ -203,13 +232,17 @@ static void fly(u32 number, const struct part *part)
 }
 
 /* Goes on with a unit, of which nothing is in flight, as far as that can be; false where there is
- * no room. What is made up for is so where nothing else is in flight. */
+ * no room. What is made up for is so where nothing else is in flight, and a ring is made there. */
 static bool advance(u32 number)
 {
 	struct unit *unit = &units[number];
 
-	if (unit->fill)
-		put_bytes(unit->fill);
+	if (unit->record && unit->record->kind == RECORD_RING && flying_count) {
+		quiet[quiet_count++] = number;
+		return true;
+	}
+	if (unit->record)
+		play_record(unit->record);
 	while (unit->next_part < unit->end_part) {
 		const struct part *part = &parts[unit->next_part];
 		if (!part->is_left && !has_room(part))
@@ -250,7 +283,8 @@ static void start_some(void)
 
 static void submit_filled(void)
 {
-	for (u32 ring = 0; ring < trace.ring_count; ring++) {
+	for (u32 at = 0; at < live_count(); at++) {
+		u32 ring = live_ring(at);
 		if (filled[ring])
 			submit(ring, filled[ring]);
 		filled[ring] = 0;
@@ -320,7 +354,7 @@ static void bring_down_silent(void)
 	}
 }
 
-/* Where nothing is in flight, makes up for all that waited for such a moment. */
+/* Where nothing is in flight, does all that waited for such a moment. */
 static void use_quiet(void)
 {
 	while (quiet_count && !flying_count) {
@@ -328,10 +362,13 @@ static void use_quiet(void)
 		struct unit *unit = &units[number];
 		if (unit->piece) {
 			land(number);
-			continue;
+		} else if (unit->record) {
+			play_record(unit->record);
+			finish(number);
+		} else {
+			look_at(parts[unit->next_part++].first);
+			add_ready(number);
 		}
-		look_at(parts[unit->next_part++].first);
-		add_ready(number);
 	}
 }
 
@@ -339,9 +376,9 @@ static void hear_all(void)
 {
 	u32 taken = 0;
 
-	for (u32 ring = 0; ring < trace.ring_count; ring++) {
-		if (reserved[ring])
-			taken += hear_ring(ring);
+	for (u32 at = 0; at < live_count(); at++) {
+		if (reserved[live_ring(at)])
+			taken += hear_ring(live_ring(at));
 	}
 	if (taken)
 		heard_last = play_time();
@@ -394,6 +431,9 @@ void play_in_flight(const struct waits *waits, const u64 *times)
 	ready = allocate(unit_count * sizeof *ready);
 	flying = allocate(options.in_flight * sizeof *flying);
 	quiet = allocate(unit_count * sizeof *quiet);
+	filled = allocate(trace.ring_count * sizeof *filled);
+	reserved = allocate(trace.ring_count * sizeof *reserved);
+	count_uses();
 	make_pieces(options.in_flight);
 	for (u32 number = 0; number < unit_count; number++) {
 		if (!units[number].waiting)

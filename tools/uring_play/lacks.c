@@ -1,4 +1,5 @@
 #include "lacks.h"
+#include "entry.h"
 #include "mend.h"
 #include "rings.h"
 #include "trace.h"

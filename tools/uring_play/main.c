@@ -12,6 +12,7 @@
 #include "numbers.h"
 #include "pieces.h"
 #include "play.h"
+#include "registered.h"
 #include "results.h"
 #include "rings.h"
 #include "trace.h"
@@ -31,8 +32,8 @@
 enum { MOST_PATIENCE = 86400 };
 
 static const char version[] = "uring_play 0.1.0\n"
-			      "trace formats 1 and 2\n"
-			      "report format 1\n";
+			      "trace formats 1, 2 and 3\n"
+			      "report formats 1 and 2\n";
 
 static const char help[] =
 	"Usage: uring_play [OPTION..] [TRACE]\n"
@@ -277,12 +278,6 @@ static int *open_descriptions(void)
 	return opened;
 }
 
-static void close_descriptions(const int *opened)
-{
-	for (u32 at = 0; at < trace.description_count; at++)
-		close(opened[at]);
-}
-
 static void limit_sizes(void)
 {
 	struct rlimit limit;
@@ -305,13 +300,23 @@ static void play(void)
 	counts.seconds = (double)play_time() * 1e-9;
 }
 
+/* Where rings are no records of the trace, they are there from the start on. */
+static void make_first_rings(void)
+{
+	for (u32 ring = 0; ring < trace.ring_count && !has_ring_records(); ring++) {
+		make_ring(ring);
+		fill_slots(ring);
+	}
+}
+
 /* Makes all that the trace starts with. */
 static void set_the_scene(void)
 {
-	open_rings(most_at_once());
+	prepare_rings(most_at_once());
 	try_kernel();
 	if (options.async)
 		try_threads();
+	end_own_ring();
 	if (options.depends)
 		watch_rings();
 	if (options.pace)
@@ -319,12 +324,12 @@ static void set_the_scene(void)
 	try_file_system();
 	lay_out();
 	int *descriptions = open_descriptions();
-	register_all(descriptions);
+	hold_descriptions(descriptions);
+	make_first_rings();
 	prepare_memory();
 	limit_sizes();
 	enter_table(descriptions);
-	close_descriptions(descriptions);
-	free(descriptions);
+	let_descriptions_go();
 }
 
 /* Plays the trace, one chain at a time, in rounds or in flight. */

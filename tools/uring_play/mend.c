@@ -1,5 +1,6 @@
 #include "mend.h"
 #include "confine.h"
+#include "fill.h"
 #include "numbers.h"
 #include "rings.h"
 #include "tree.h"
@@ -103,7 +104,7 @@ static const u8 *bytes_of(const struct entry *entry)
 	if (it.opcode == OP_WRITE_FIXED)
 		return ring->buffers[it.buffer].memory +
 		       (it.address - ring->buffers[it.buffer].address);
-	return entry->side + (it.opcode == OP_WRITEV ? 8ULL * it.length : 0);
+	return bytes_written(entry);
 }
 
 /* Appends what an entry would have, and leaves the position. */

@@ -6,6 +6,7 @@
 #include "mend.h"
 #include "numbers.h"
 #include "results.h"
+#include "registered.h"
 #include "rings.h"
 #include "tree.h"
 #include "uring.h"
@@ -272,9 +273,24 @@ void end_piece(struct piece *piece)
 	free_pieces[free_count++] = (u32)(piece - pieces);
 }
 
-void put_bytes(const struct record *record)
+static void put_bytes(const struct record *record)
 {
-	if (record->length)
-		memcpy(trace.rings[record->ring].buffers[record->buffer].memory + record->offset,
-		       record->bytes, record->length);
+	u8 *memory = trace.rings[record->ring].buffers[record->buffer].memory;
+
+	if (record->length && record->bytes)
+		memcpy(memory + record->offset, record->bytes, record->length);
+	else if (record->length)
+		memset(memory + record->offset, 0, record->length);
+}
+
+void play_record(const struct record *record)
+{
+	if (record->kind == RECORD_FILL) {
+		put_bytes(record);
+		return;
+	}
+	let_open();
+	make_ring(record->ring);
+	fill_slots(record->ring);
+	let_none_open();
 }

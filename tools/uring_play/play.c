@@ -2,7 +2,9 @@
 #include "apart.h"
 #include "chains.h"
 #include "fill.h"
+#include "numbers.h"
 #include "pieces.h"
+#include "registered.h"
 #include "rings.h"
 #include "trace.h"
 #include "uring.h"
@@ -58,8 +60,10 @@ void play_chains(void)
 	make_pieces(1);
 	for (u32 at = 0; at < trace.record_count; at++) {
 		const struct record *record = &trace.records[at];
-		if (record->kind == 2)
-			put_bytes(record);
+		if (record->kind == RECORD_FILL || record->kind == RECORD_RING)
+			play_record(record);
+		if (record->kind == RECORD_RING_ENDS)
+			end_ring(record->ring);
 		for (u32 from = 0, count; from < record->count; from += count) {
 			count = chain_length(record, from);
 			plan_chain(record->entries + from, count, play_members);
@@ -100,10 +104,14 @@ static u32 *by_round(const u32 *rounds, u32 count, u32 *starts)
 	return places;
 }
 
+/* Of each ring how many entries are in flight. */
+static u32 *in_flight;
+
 /* Waits for what is in flight on all rings. */
-static void wait_for_all(u32 *in_flight)
+static void wait_for_all(void)
 {
-	for (u32 ring = 0; ring < trace.ring_count; ring++) {
+	for (u32 at = 0; at < live_count(); at++) {
+		u32 ring = live_ring(at);
 		while (in_flight[ring]) {
 			bool came = wait_for(ring, in_flight[ring], options.patience * 1000);
 			u32 taken = hear_ring(ring);
@@ -117,26 +125,48 @@ static void wait_for_all(u32 *in_flight)
 	}
 }
 
-/* Fills the queues with places of a round, as many as there is room for; gives how many places were
- * taken, and of each ring how many are to be submitted. */
-static u32 fill_batch(const u32 *places, u32 count, u32 *filled)
+/* The ring of an entry may be of a later round: then it is there before, with empty slots. */
+static void need_ring(u32 ring)
 {
+	if (is_open(ring))
+		return;
+	let_open();
+	make_ring(ring);
+	let_none_open();
+}
+
+/* Fills the queue of its ring with an entry; false where there is no room. */
+static bool fill_alone(struct entry *entry)
+{
+	need_ring(entry->ring);
+	if (in_flight[entry->ring] == room_of(entry->ring))
+		return false;
+	entry->apart = entry->expected == -ECANCELED ? APART_LINKS : why_apart(entry);
+	if (entry->apart != NOT_APART)
+		return true;
+	struct io_uring_sqe *sqe = next_sqe(entry->ring, in_flight[entry->ring]++);
+	fill_entry(entry, sqe);
+	sqe->flags &= (u8) ~(FLAG_LINK | FLAG_HARD | FLAG_DRAIN | FLAG_SKIP);
+	return true;
+}
+
+/* Fills the queues with places of a round, as many as there is room for; gives how many places were
+ * taken. A new ring is taken only where nothing is filled. */
+static u32 fill_batch(const u32 *places, u32 count)
+{
+	bool is_filled = false;
 	u32 at;
 
 	for (at = 0; at < count && !is_crowded(); at++) {
 		struct entry *entry = trace.by_place[places[at]];
-		if (!entry) {
-			put_bytes(trace.fill_at[places[at]]);
-			continue;
-		}
-		if (filled[entry->ring] == room_of(entry->ring))
+		const struct record *record = trace.record_at[places[at]];
+		if (record && record->kind == RECORD_RING && is_filled)
 			break;
-		entry->apart = entry->expected == -ECANCELED ? APART_LINKS : why_apart(entry);
-		if (entry->apart != NOT_APART)
-			continue;
-		struct io_uring_sqe *sqe = next_sqe(entry->ring, filled[entry->ring]++);
-		fill_entry(entry, sqe);
-		sqe->flags &= (u8) ~(FLAG_LINK | FLAG_HARD | FLAG_DRAIN | FLAG_SKIP);
+		if (record)
+			play_record(record);
+		else if (!fill_alone(entry))
+			break;
+		is_filled |= !record;
 	}
 	return at;
 }
@@ -153,18 +183,18 @@ static void look_at_alone(struct entry *entry)
 
 static u32 play_batch(const u32 *places, u32 count)
 {
-	u32 in_flight[MOST_RINGS] = { 0 };
 	u32 memory = hold_memory();
-	u32 taken = fill_batch(places, count, in_flight);
+	u32 taken = fill_batch(places, count);
 
-	for (u32 ring = 0; ring < trace.ring_count; ring++) {
-		if (in_flight[ring])
-			submit(ring, in_flight[ring]);
+	for (u32 at = 0; at < live_count(); at++) {
+		if (in_flight[live_ring(at)])
+			submit(live_ring(at), in_flight[live_ring(at)]);
 	}
-	wait_for_all(in_flight);
+	wait_for_all();
 	for (u32 at = 0; at < taken; at++) {
 		if (trace.by_place[places[at]])
 			look_at_alone(trace.by_place[places[at]]);
+		leave_place(places[at]);
 	}
 	let_memory_go(memory);
 	return taken;
@@ -175,6 +205,8 @@ void play_rounds(const u32 *rounds, u32 count)
 	u32 *starts = allocate((count + 2) * sizeof *starts);
 	u32 *places = by_round(rounds, count, starts);
 
+	in_flight = allocate(trace.ring_count * sizeof *in_flight);
+	count_uses();
 	make_pieces(0);
 	for (u32 at = 0; at < trace.places; go_on()) {
 		u32 round = rounds[places[at]];

@@ -1,5 +1,6 @@
 #include "results.h"
 #include "apart.h"
+#include "entry.h"
 #include "nodes.h"
 #include "numbers.h"
 #include "rings.h"
@@ -19,7 +20,10 @@ enum { CHUNK = 1 << 20 };
 
 static void write_entry(FILE *file, const struct entry *entry)
 {
-	fprintf(file, "%u user=%" PRIu64, entry->place, fields_of(entry).user);
+	fprintf(file, "%u", entry->place);
+	if (has_ring_records())
+		fprintf(file, " ring=%u", entry->ring);
+	fprintf(file, " user=%" PRIu64, fields_of(entry).user);
 	if (entry->state == ENTRY_SILENT)
 		fputs(" silent", file);
 	else if (entry->state != ENTRY_UNPLAYED)
@@ -41,7 +45,18 @@ static void write_entry(FILE *file, const struct entry *entry)
 	fputc('\n', file);
 }
 
-static void write_entries(FILE *file)
+/* In version 3 lines stand in the order of the places. */
+static void write_in_order(FILE *file)
+{
+	fputs("uring-report 2\n", file);
+	for (u32 place = 0; place < trace.places; place++) {
+		if (trace.by_place[place])
+			write_entry(file, trace.by_place[place]);
+		go_on();
+	}
+}
+
+static void write_by_ring(FILE *file)
 {
 	fputs("uring-report 1\n", file);
 	for (u32 ring = 0; ring < trace.ring_count; ring++) {
@@ -53,6 +68,14 @@ static void write_entries(FILE *file)
 		}
 		go_on();
 	}
+}
+
+static void write_entries(FILE *file)
+{
+	if (has_ring_records())
+		write_in_order(file);
+	else
+		write_by_ring(file);
 }
 
 /* What an open descriptor shows of its description. */
@@ -76,7 +99,7 @@ static void write_slots(FILE *file)
 		return;
 	fputs("slots\n", file);
 	for (u32 ring = 0; ring < trace.ring_count; ring++) {
-		for (u32 slot = 0; slot < trace.rings[ring].slot_count; slot++) {
+		for (u32 slot = 0; is_open(ring) && slot < trace.rings[ring].slot_count; slot++) {
 			int opened = slot_file(ring, slot);
 			if (opened < 0)
 				continue;
@@ -112,7 +135,7 @@ static void write_buffers(FILE *file)
 	fputs("buffers\n", file);
 	for (u32 ring = 0; ring < trace.ring_count; ring++) {
 		for (u32 at = 0; at < trace.rings[ring].buffer_count; at++) {
-			if (!trace.rings[ring].buffers[at].length)
+			if (!trace.rings[ring].buffers[at].memory)
 				continue;
 			fprintf(file, "buffer %u %u ", ring, at);
 			write_buffer(file, &trace.rings[ring].buffers[at]);

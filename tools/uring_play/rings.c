@@ -10,7 +10,6 @@
 #include <sys/epoll.h>
 #include <sys/mman.h>
 #include <sys/syscall.h>
-#include <sys/uio.h>
 #include <time.h>
 #include <unistd.h>
 
@@ -18,10 +17,8 @@
 #define OP_FIXED_FD_INSTALL 54
 #define SETUP_SUBMIT_ALL (1U << 7)
 #define EPOLL_PWAIT2 441
-enum { PAGE = 4096, MOST_QUEUED = 32768, FEWEST_QUEUED = 8, MOST_TRIES = 20 };
+enum { MOST_QUEUED = 32768, FEWEST_QUEUED = 8, MOST_TRIES = 20 };
 #define SECOND 1000000000ULL
-/* Buffers are pinned: a trace of few bytes may have more of them than there is memory. */
-#define MOST_PINNED (1ULL << 31)
 
 struct ring {
 	int descriptor;
@@ -29,8 +26,14 @@ struct ring {
 	u32 *queue_tail, *completion_head, *completion_tail;
 	struct io_uring_sqe *sqes;
 	struct io_uring_cqe *cqes;
+	void *queue;
+	size_t queue_size;
+	u32 index; /* among those that are there */
+	bool is_there;
 };
-static struct ring rings[MOST_RINGS];
+static struct ring *rings; /* the last one is the player's own */
+static u32 *live, live_rings;
+static u32 fewest;
 static bool is_slot_shown;
 static int all_rings = -1; /* a descriptor that is ready where a ring has a completion */
 
@@ -55,9 +58,7 @@ static void pause_for_a_while(void)
 	nanosleep(&a_while, NULL);
 }
 
-/* Whether a call that wanted memory is to be tried again: what a user may lock is let go some time
- * after an earlier ring, or one of another program, has ended. */
-static bool is_tried_again(u32 *tries)
+bool is_tried_again(u32 *tries)
 {
 	if (errno != ENOMEM || ++*tries > MOST_TRIES)
 		return false;
@@ -91,14 +92,16 @@ static struct io_uring_params set_up(struct ring *ring, u32 wanted)
 }
 
 /* Both queues lie in one mapping. Entries are taken from the queue in the order of its array. */
-static void open_ring(struct ring *ring, u32 wanted)
+static void set_up_queues(struct ring *ring, u32 wanted)
 {
 	struct io_uring_params params = set_up(ring, wanted);
 	size_t queue = params.sq_off.array + params.sq_entries * sizeof(u32);
 	size_t completions = params.cq_off.cqes + params.cq_entries * sizeof(struct io_uring_cqe);
-	u8 *memory = map_part(ring, queue > completions ? queue : completions, IORING_OFF_SQ_RING);
-	u32 *array = (u32 *)(void *)(memory + params.sq_off.array);
 
+	ring->queue_size = queue > completions ? queue : completions;
+	ring->queue = map_part(ring, ring->queue_size, IORING_OFF_SQ_RING);
+	u8 *memory = ring->queue;
+	u32 *array = (u32 *)(void *)(memory + params.sq_off.array);
 	ring->sqes = map_part(ring, params.sq_entries * sizeof *ring->sqes, IORING_OFF_SQES);
 	ring->entries = params.sq_entries;
 	ring->queue_tail = (u32 *)(void *)(memory + params.sq_off.tail);
@@ -111,116 +114,107 @@ static void open_ring(struct ring *ring, u32 wanted)
 		array[at] = at;
 }
 
-void open_rings(u32 fewest)
+static void watch_ring(const struct ring *ring)
 {
-	for (u32 number = 0; number < trace.ring_count; number++) {
-		u32 longest = trace.rings[number].longest;
-		open_ring(&rings[number], (longest > fewest ? longest : fewest) + 1);
-	}
+	struct epoll_event event = { .events = EPOLLIN };
+
+	if (all_rings >= 0 && epoll_ctl(all_rings, EPOLL_CTL_ADD, ring->descriptor, &event))
+		die("rings cannot be waited for: %s", strerror(errno));
+}
+
+void open_ring(u32 number)
+{
+	struct ring *ring = &rings[number];
+	u32 longest = number < trace.ring_count ? trace.rings[number].longest : 0;
+
+	set_up_queues(ring, (longest > fewest ? longest : fewest) + 1);
+	ring->is_there = true;
+	ring->index = live_rings;
+	live[live_rings++] = number;
+	watch_ring(ring);
+}
+
+/* A mapped ring keeps its files registered, so they are let go first. */
+void close_ring(u32 number)
+{
+	struct ring *ring = &rings[number];
+
+	register_with(number, IORING_UNREGISTER_FILES, NULL, 0);
+	if (all_rings >= 0)
+		epoll_ctl(all_rings, EPOLL_CTL_DEL, ring->descriptor, NULL);
+	munmap(ring->sqes, ring->entries * sizeof *ring->sqes);
+	munmap(ring->queue, ring->queue_size);
+	close(ring->descriptor);
+	ring->is_there = false;
+	live[ring->index] = live[--live_rings];
+	rings[live[ring->index]].index = ring->index;
+}
+
+void close_rings(void)
+{
+	while (live_rings)
+		close_ring(live[0]);
+}
+
+bool is_open(u32 number)
+{
+	return rings[number].is_there;
+}
+
+u32 live_count(void)
+{
+	return live_rings;
+}
+
+u32 live_ring(u32 at)
+{
+	return live[at];
 }
 
 void watch_rings(void)
 {
-	struct epoll_event event = { .events = EPOLLIN };
-
 	all_rings = move_up(epoll_create1(EPOLL_CLOEXEC));
-	for (u32 number = 0; number < trace.ring_count; number++) {
-		if (epoll_ctl(all_rings, EPOLL_CTL_ADD, rings[number].descriptor, &event))
-			die("rings cannot be waited for: %s", strerror(errno));
-	}
+	for (u32 at = 0; at < live_rings; at++)
+		watch_ring(&rings[live[at]]);
 }
 
-static long register_with(const struct ring *ring, u32 what, const void *list, u32 count)
+long register_with(u32 number, u32 what, const void *list, u32 count)
 {
-	return syscall(__NR_io_uring_register, ring->descriptor, what, list, count);
+	return syscall(__NR_io_uring_register, rings[number].descriptor, what, list, count);
+}
+
+/* --- The player's own ring ----------------------------------------------------------------------
+ */
+
+void prepare_rings(u32 wanted)
+{
+	fewest = wanted;
+	rings = allocate((trace.ring_count + 1ULL) * sizeof *rings);
+	live = allocate((trace.ring_count + 1ULL) * sizeof *live);
+	if (trace.ring_count)
+		open_ring(trace.ring_count);
+}
+
+void end_own_ring(void)
+{
+	if (trace.ring_count)
+		close_ring(trace.ring_count);
 }
 
 void ask_for_opcodes(bool lacking[OPCODES])
 {
 	struct io_uring_probe *probe =
 		allocate(sizeof *probe + OPCODES * sizeof(struct io_uring_probe_op));
+	u32 own = trace.ring_count;
 
-	if (trace.ring_count && register_with(&rings[0], IORING_REGISTER_PROBE, probe, OPCODES) < 0)
+	if (own && register_with(own, IORING_REGISTER_PROBE, probe, OPCODES) < 0)
 		die_with(STATUS_UNTRIED, "the kernel does not say what it serves: %s",
 			 strerror(errno));
-	for (u32 opcode = 0; trace.ring_count && opcode < OPCODES; opcode++)
+	for (u32 opcode = 0; own && opcode < OPCODES; opcode++)
 		lacking[opcode] = opcode >= probe->ops_len ||
 				  !(probe->ops[opcode].flags & IO_URING_OP_SUPPORTED);
 	is_slot_shown = !lacking[OP_FIXED_FD_INSTALL];
 	free(probe);
-}
-
-/* Memory of a buffer: where the recorded one lay within its page, so that the same pages are used.
- */
-static void make_buffer(struct buffer *it)
-{
-	u64 within = it->address & (PAGE - 1);
-	void *memory = mmap(NULL, within + it->length, PROT_READ | PROT_WRITE,
-			    MAP_PRIVATE | MAP_ANONYMOUS, -1, 0);
-
-	if (memory == MAP_FAILED)
-		die("a buffer of %u bytes: %s", it->length, strerror(errno));
-	it->memory = (u8 *)memory + within;
-}
-
-static void register_files(const struct ring *ring, const struct ring_of_trace *it,
-			   const int *descriptions)
-{
-	int files[MOST_REGISTERED];
-
-	for (u32 at = 0; at < it->slot_count; at++)
-		files[at] = it->slots[at] ? descriptions[it->slots[at] - 1] : -1;
-	if (it->slot_count && register_with(ring, IORING_REGISTER_FILES, files, it->slot_count) < 0)
-		die("files cannot be registered: %s", strerror(errno));
-}
-
-static void register_buffers(const struct ring *ring, struct ring_of_trace *it)
-{
-	struct iovec buffers[MOST_REGISTERED];
-	u32 tries = 0;
-	long fault;
-
-	for (u32 at = 0; at < it->buffer_count; at++) {
-		if (it->buffers[at].length)
-			make_buffer(&it->buffers[at]);
-		buffers[at] = (struct iovec){ it->buffers[at].memory, it->buffers[at].length };
-	}
-	if (!it->buffer_count)
-		return;
-	do
-		fault = register_with(ring, IORING_REGISTER_BUFFERS, buffers, it->buffer_count);
-	while (fault < 0 && is_tried_again(&tries));
-	/* Out of memory that may be locked is a matter of the system's, not of the trace. */
-	if (fault < 0)
-		die_with(errno == ENOMEM ? STATUS_UNTRIED : STATUS_FAILED,
-			 "buffers cannot be registered: %s", strerror(errno));
-}
-
-void register_all(const int *descriptions)
-{
-	u64 pinned = 0;
-
-	for (u32 number = 0; number < trace.ring_count; number++) {
-		for (u32 at = 0; at < trace.rings[number].buffer_count; at++)
-			pinned += trace.rings[number].buffers[at].length;
-	}
-	if (pinned > MOST_PINNED)
-		die("the buffers have %llu bytes together, and at most %llu can be pinned",
-		    (unsigned long long)pinned, (unsigned long long)MOST_PINNED);
-	for (u32 number = 0; number < trace.ring_count; number++) {
-		register_files(&rings[number], &trace.rings[number], descriptions);
-		register_buffers(&rings[number], &trace.rings[number]);
-		go_on();
-	}
-}
-
-/* A mapped ring keeps its files registered, so they are let go first. */
-void close_rings(void)
-{
-	for (u32 number = 0; number < trace.ring_count; number++) {
-		register_with(&rings[number], IORING_UNREGISTER_FILES, NULL, 0);
-		close(rings[number].descriptor);
-	}
 }
 
 /* --- Submission and completions -----------------------------------------------------------------
@@ -307,13 +301,13 @@ void wait_for_any(const u32 *wanted, u64 nanoseconds)
 	struct epoll_event event;
 	u32 count = 0, last = 0;
 
-	for (u32 number = 0; number < trace.ring_count; number++) {
-		if (!wanted[number])
+	for (u32 at = 0; at < live_rings; at++) {
+		if (!wanted[live[at]])
 			continue;
-		if (completions_of(&rings[number]))
+		if (completions_of(&rings[live[at]]))
 			return;
 		count++;
-		last = number;
+		last = live[at];
 	}
 	go_on();
 	if (!count && all_rings < 0)
@@ -363,7 +357,7 @@ static int run_own(u32 number, const struct io_uring_sqe *it)
 void try_threads(void)
 {
 	const struct io_uring_sqe nop = { .flags = FLAG_ASYNC };
-	int result = trace.ring_count ? run_own(0, &nop) : 0;
+	int result = trace.ring_count ? run_own(trace.ring_count, &nop) : 0;
 
 	if (result < 0)
 		die_with(STATUS_UNTRIED, "the kernel runs no entry in a thread of its own: %s",

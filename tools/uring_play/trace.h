@@ -1,4 +1,4 @@
-/* The trace as it was read (docs/FORMAT.md), and what became of each entry. */
+/* The trace as it was read (docs/FORMAT.md, docs/NEXT.md), and what became of each entry. */
 #ifndef TRACE_H
 #define TRACE_H
 
@@ -6,10 +6,6 @@
 
 enum {
 	MOST_BYTES = 1 << 30,
-	MOST_RINGS = 64,
-	MOST_REGISTERED = 1024,
-	MOST_RECORDS = 1 << 20,
-	MOST_PLACES = 1 << 20,
 	MOST_ENTRIES = 1 << 15,
 	DATA_SHOWN = 32,
 };
@@ -18,12 +14,18 @@ enum {
 
 enum item_kind { ITEM_DIRECTORY = 1, ITEM_FILE = 2, ITEM_NAME = 3 };
 
+/* Bytes of a file; all that are in none are zeros. */
+struct range {
+	u64 offset;
+	u32 length;
+	const u8 *bytes;
+};
 struct item {
 	u8 kind;
 	char *path;
 	u64 size;
-	u32 stored, of;
-	const u8 *bytes;
+	u32 range_count, of;
+	struct range *ranges;
 };
 struct description {
 	u32 node;
@@ -34,6 +36,14 @@ struct buffer {
 	u64 address;
 	u32 length;
 	u8 *memory;
+};
+enum holder_kind { OF_SLOT, OF_DESCRIPTOR, OF_START };
+/* What a slot of a new ring gets: what a slot of an earlier ring holds, or a descriptor, or a
+ * description of the start. */
+struct full_slot {
+	u32 slot;
+	u8 kind;
+	u32 ring, number;
 };
 
 /* What is known of an entry once it was played. */
@@ -76,8 +86,8 @@ struct piece;
 struct entry {
 	const u8 *sqe;
 	const u8 *side;
-	u32 side_length, place;
-	u8 ring;
+	u32 side_length, place, ring;
+	bool is_zeros;		 /* it writes zeros, which do not stand in the text */
 	bool is_expected;	 /* the report tells of it */
 	bool is_posted_expected; /* with a completion that is posted */
 	bool is_submitted;
@@ -90,61 +100,38 @@ struct entry {
 	u8 data[DATA_SHOWN + 1];
 	u64 data_length;
 };
+/* A new ring and its end are records of version 3 alone; an end has no place. */
+enum record_kind { RECORD_ENTRIES = 1, RECORD_FILL = 2, RECORD_RING = 5, RECORD_RING_ENDS = 6 };
 struct record {
-	u8 kind, ring;
-	u32 count, place;
-	struct entry *entries;
+	u8 kind;
+	u32 ring, count, place;
+	struct entry *entries; /* of other records none */
 	u32 buffer, offset, length;
-	const u8 *bytes;
+	const u8 *bytes; /* NULL for zeros */
 };
 struct ring_of_trace {
-	u32 slot_count, buffer_count;
-	u32 *slots;
+	u32 slot_count, full_count, buffer_count;
+	struct full_slot *full;
 	struct buffer *buffers;
 	bool has_skip;
-	u32 longest; /* the most entries of a record */
+	bool has_ended; /* the trace ends it */
+	u32 longest;	/* the most entries of a record */
+	u32 place;	/* where the trace makes it, in version 3 */
 };
 struct trace {
 	u32 version, item_count, description_count, ring_count, record_count, table_size, places;
 	struct item *items; /* from 1 on */
 	struct description *descriptions;
-	u32 *table;
-	struct ring_of_trace rings[MOST_RINGS];
+	u32 *table; /* the number of a description and 1, or 0 */
+	struct ring_of_trace *rings;
 	struct record *records;
-	struct entry **by_place; /* NULL for a fill */
-	struct record **fill_at; /* NULL for an entry */
+	struct entry **by_place;   /* NULL for another step */
+	struct record **record_at; /* of a step that is no entry its record, else NULL */
+	u64 most_zeros;		   /* that an entry writes */
 };
 extern struct trace trace;
-
-/* Fields of an entry. */
-struct fields {
-	u8 opcode, flags;
-	i32 fd;
-	u64 offset, address, user;
-	u32 length, own_flags, file_index;
-	u16 buffer, personality;
-};
-struct fields fields_of(const struct entry *entry);
-
-/* A path of an entry: of RENAMEAT and LINKAT the old one and, as the second, the new one. */
-struct span {
-	const u8 *bytes;
-	u64 length;
-};
-struct span path_of(const struct entry *entry);
-struct span new_path_of(const struct entry *entry);
-/* Whether an opcode has a path, and whether it has two. */
-bool is_on_names(u8 opcode);
-bool has_two_paths(u8 opcode);
-
-/* Whether the profile serves an opcode. */
-bool is_served(u8 opcode);
-/* How many bytes a read or write asks for. */
-u64 asked_of(const struct entry *entry);
-bool is_read(u8 opcode);
-bool is_transfer(u8 opcode);
-/* Whether a result is a failure that breaks a chain, by the profile. */
-bool is_failure(const struct entry *entry, i32 result);
+/* Whether its rings are records, and not there from the start on. */
+bool has_ring_records(void);
 
 /* Reads a trace, or ends the player with status 1 and the line of docs/FORMAT.md. The judge is
  * uring_replay check. */

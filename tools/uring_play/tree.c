@@ -68,21 +68,34 @@ int open_item(u32 number, int flags)
 	return descriptor;
 }
 
+/* What lies between ranges is a hole. */
+static void write_range(int descriptor, const struct item *item, const struct range *it)
+{
+	u32 done = 0;
+
+	while (done < it->length) {
+		ssize_t moved = pwrite(descriptor, it->bytes + done, it->length - done,
+				       (off_t)(it->offset + done));
+		if (moved <= 0)
+			die("%s: it cannot be written: %s", shown(item->path), strerror(errno));
+		done += (u32)moved;
+		go_on();
+	}
+}
+
 static void make_file(const struct item *item)
 {
 	int flags = O_WRONLY | O_CREAT | O_EXCL | O_CLOEXEC;
 	int descriptor = openat(tree_root, below(item->path), flags, 0644);
-	u32 done = 0;
+	u64 end = 0;
 
 	if (descriptor < 0)
 		die("%s: it cannot be made: %s", shown(item->path), strerror(errno));
-	while (done < item->stored) {
-		ssize_t moved = write(descriptor, item->bytes + done, item->stored - done);
-		if (moved <= 0)
-			die("%s: it cannot be written: %s", shown(item->path), strerror(errno));
-		done += (u32)moved;
+	for (u32 at = 0; at < item->range_count; at++) {
+		write_range(descriptor, item, &item->ranges[at]);
+		end = item->ranges[at].offset + item->ranges[at].length;
 	}
-	if (item->size > item->stored && ftruncate(descriptor, (off_t)item->size))
+	if (item->size > end && ftruncate(descriptor, (off_t)item->size))
 		die("%s: it cannot have %" PRIu64 " bytes: %s", shown(item->path), item->size,
 		    strerror(errno));
 	if (close(descriptor))

@@ -412,6 +412,14 @@ void leave(const struct flight *flight)
 		unsettle(flight->changes, OUTSIDE_UNSEEN);
 }
 
+void leave_flights_of(const struct record *record)
+{
+	for (const struct flight *it = record->of->first; it; it = it->next) {
+		if (it->entry->record == record)
+			leave(it);
+	}
+}
+
 void leave_unseen(void)
 {
 	for (u32 at = 0; at < ring_count; at++) {

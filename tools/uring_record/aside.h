@@ -25,6 +25,8 @@ void outside_ended(struct flight *flight, pid_t thread, i32 result);
 void leave(const struct flight *flight);
 /* At the end of all: what entries in flight may have changed is not told. */
 void leave_unseen(void);
+/* The same of the entries of a record that are in flight. */
+void leave_flights_of(const struct record *record);
 
 /* The recorded form of an entry that is put aside: its side bytes are in memory of their own. */
 void aside_form(const struct entry *entry, struct io_uring_sqe *sqe, u8 **side, u32 *length);

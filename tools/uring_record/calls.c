@@ -96,7 +96,7 @@ static void add_on_file(struct call *call, struct io_uring_sqe *sqe, bool moves,
 			u32 length, i32 result)
 {
 	int file = kind_of(call->number)->file, copy = call->flight->used->descriptor;
-	bool has_table = file != NONE && !options.version_one && call->process == home_process();
+	bool has_table = file != NONE && options.format != 1 && call->process == home_process();
 	struct opened *opened = has_table ? opened_at((int)call->arguments[file]) : NULL;
 	bool is_there = opened && !opened->is_unsure && is_same(opened->descriptor, copy);
 
@@ -313,7 +313,7 @@ static void ended_rename(struct call *call, i64 result)
 	u32 flags = flags_of(call);
 
 	(void)result;
-	if (flags & RENAME_EXCHANGE && !options.version_one)
+	if (flags & RENAME_EXCHANGE && options.format != 1)
 		trace.uses_table = true; /* (version 1 has no exchange) */
 	add_two_names(call, OP_RENAMEAT, flags);
 }
@@ -363,7 +363,7 @@ static void ended_open(struct call *call, i64 result)
 		*slot = release(*slot);
 		is_told_by(call, make_open(our_ring(), 1, name, kept, 0));
 	}
-	if (name && trace.uses_table && !options.version_one && call->process == home_process()) {
+	if (name && trace.uses_table && options.format != 1 && call->process == home_process()) {
 		begin_batch();
 		ensure_number(call->process, (int)result);
 	}

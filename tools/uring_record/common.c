@@ -5,7 +5,7 @@
 #include <stdlib.h>
 #include <string.h>
 
-struct options options = { .trace = "uring.trace", .root = ".", .limit = MOST_BYTES };
+struct options options = { .trace = "uring.trace", .root = ".", .format = 2 };
 
 void die(const char *format, ...)
 {
@@ -39,6 +39,11 @@ char *copy_bytes(const char *text, size_t length)
 char *copy_text(const char *text)
 {
 	return copy_bytes(text, strlen(text));
+}
+
+bool is_zero(const u8 *bytes, u64 length)
+{
+	return !length || (!*bytes && !memcmp(bytes, bytes + 1, length - 1));
 }
 
 void *grow(void *list, u64 count, u64 *room, size_t size)

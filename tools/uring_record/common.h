@@ -15,15 +15,15 @@ enum { STATUS_FAILED = 125, STATUS_NOT_RUN = 126, STATUS_NOT_FOUND = 127 };
 #define MOST_BYTES (1ULL << 30)
 
 struct options {
-	const char *trace;   /* the file of the trace */
+	const char *trace;   /* the file of the trace, or "-" for standard output */
 	const char *results; /* the file of the kernel's results, or NULL */
 	const char *root;    /* the directory that is the root of the trace's tree */
-	bool version_one;    /* ordinary descriptors are rewritten as slots */
+	unsigned format;     /* the version of the trace; in 1 ordinary descriptors are slots */
 	bool replace;	     /* entries outside the profile are recorded as NOP */
 	bool drain;	     /* the kernel is given IO_DRAIN on each head of a chain */
 	bool wait;	     /* each call waits for what it submits */
 	bool touched;	     /* bytes of files that the command does not use are not stored */
-	u64 limit;	     /* the most bytes that the trace may have */
+	u64 limit;	     /* the most bytes that the trace may have, 0 for its format's */
 	bool all_sums;	     /* the results have tree sums of large files */
 	bool verbose;	     /* notes are said as they come up */
 };
@@ -40,6 +40,9 @@ char *copy_bytes(const char *text, size_t length);
 /* Room for one more element behind `count`; use it through GROW. */
 void *grow(void *list, u64 count, u64 *room, size_t size);
 #define GROW(list, count, room) ((list) = grow((list), (count), &(room), sizeof *(list)))
+
+/* Whether bytes are all zeros. */
+bool is_zero(const u8 *bytes, u64 length);
 
 /* Whether two ranges share a byte; an empty one shares none. */
 static inline bool overlap(u64 from, u64 to, u64 other_from, u64 other_to)

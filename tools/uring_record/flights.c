@@ -12,7 +12,7 @@
 #include <string.h>
 
 /* So many flights that post nothing are kept in a ring. */
-enum { MOST_QUIET = 4096, MOST_LOOKS = 64 };
+enum { MOST_QUIET = 4096, MOST_LOOKS = 64, MOST_ALIKE = 65536 };
 
 static u64 quiet_count;
 static u32 opens_in_flight;
@@ -72,6 +72,7 @@ struct flight *new_flight(struct ring *ring, struct entry *entry, pid_t process)
 	memset(flight, 0, offsetof(struct flight, touches));
 	flight->entry = entry;
 	flight->ring = ring;
+	flight->renewals = ring->renewals;
 	flight->process = process;
 	flight->buffer = NO_BUFFER;
 	return flight;
@@ -113,14 +114,27 @@ void mark_alike(struct entry *entry)
 	for (struct entry *next; entry; entry = next) {
 		next = entry->alike;
 		entry->alike = NULL;
+		entry->is_alike = false;
 		put_outside(entry, OUTSIDE_USER);
+	}
+}
+
+/* The results of entries that may have had each other's are known to be one: none is marked. */
+static void settle_alike(struct entry *entry)
+{
+	for (struct entry *next; entry; entry = next) {
+		next = entry->alike;
+		entry->alike = NULL;
+		entry->is_alike = false;
 	}
 }
 
 void land(struct flight *flight)
 {
 	struct ring *ring = flight->ring;
+	struct record *record = flight->entry->record;
 
+	flight->entry->is_landed = true;
 	forget_spans(flight);
 	leave_chain(flight);
 	if (flight->previous)
@@ -148,6 +162,10 @@ void land(struct flight *flight)
 	ring->in_flight--;
 	flight->next = spare;
 	spare = flight;
+	if (record && record->is_gone) {
+		record->flying--;
+		leave_record(record);
+	}
 }
 
 /* Whether an entry may have a result, as far as its opcode tells. */
@@ -180,6 +198,25 @@ static struct flight *next_of(struct flight *from, u64 user_data, i32 result, u3
 	return NULL;
 }
 
+/* The entries that may have had the result of a flight are marked, and so will it be. */
+static void give_up(struct flight *flight)
+{
+	mark_alike(flight->alike);
+	flight->alike = NULL;
+	flight->alike_count = 0;
+	flight->is_mixed = true;
+}
+
+void give_up_alike(void)
+{
+	for (u32 at = 0; at < ring_count; at++) {
+		for (struct flight *it = rings[at]->first; it; it = it->next) {
+			if (it->alike)
+				give_up(it);
+		}
+	}
+}
+
 /* A completion may be of two flights or more, and is taken for one: they are marked unless all have
  * one result. */
 static void take_for(struct flight *taken, struct flight *other, i32 result)
@@ -188,7 +225,7 @@ static void take_for(struct flight *taken, struct flight *other, i32 result)
 
 	note("a completion whose user_data several entries in flight have is taken for the first",
 	     entry);
-	if (taken->is_mixed || (taken->alike && taken->alike_result != result) ||
+	if (taken->is_mixed || is_told(entry) || (taken->alike && taken->alike_result != result) ||
 	    (other && other->alike && other->alike_result != result)) {
 		mark_alike(taken->alike);
 		mark_alike(other ? other->alike : NULL);
@@ -202,8 +239,11 @@ static void take_for(struct flight *taken, struct flight *other, i32 result)
 	}
 	entry->alike = taken->alike;
 	taken->alike = NULL;
-	if (!other || other->is_mixed)
+	if (!other || other->is_mixed) {
+		settle_alike(entry);
 		return;
+	}
+	entry->is_alike = true;
 	if (other->alike) { /* (both lists had this result) */
 		struct entry *last = entry;
 		while (last->alike)
@@ -212,6 +252,11 @@ static void take_for(struct flight *taken, struct flight *other, i32 result)
 	}
 	other->alike = entry;
 	other->alike_result = result;
+	other->alike_count += taken->alike_count + 1;
+	if (options.format == 3 && other->alike_count > MOST_ALIKE) {
+		/* (these are kept, and so are all entries behind the first of them) */
+		give_up(other);
+	}
 }
 
 struct flight *flight_of(struct ring *ring, u64 user_data, i32 result, bool *is_sure)

@@ -31,10 +31,12 @@ struct flight {
 	pid_t process;
 	u64 sequence, chain,
 		barrier;  /* its number in the ring, its chain's, and the ring's barrier for it */
+	u64 renewals;	  /* those of its ring when it was submitted */
 	bool is_deferred; /* it may begin later than its submission */
 	bool opens;	  /* it opens a number of the table in the replay */
 	struct entry *alike; /* entries that may have had its completion, with their result */
 	i32 alike_result;
+	u32 alike_count;
 	bool meets_name;	       /* another one in flight touches its name */
 	bool is_mixed;		       /* they had several results */
 	bool is_late;		       /* it writes what a read in flight puts there */
@@ -75,6 +77,8 @@ void land(struct flight *flight);
 struct flight *flight_of(struct ring *ring, u64 user_data, i32 result, bool *is_sure);
 /* Marks entries that may have had each other's results. */
 void mark_alike(struct entry *entry);
+/* Marks all entries that may have had another's result, of all rings. */
+void give_up_alike(void);
 /* Lets go of flights without a completion that have ended once this one has. */
 void land_quiet_before(const struct flight *flight);
 

@@ -8,7 +8,7 @@
 struct entry *make(struct ring *ring, const struct io_uring_sqe *sqe, const void *side, u32 length,
 		   i32 result)
 {
-	struct record *record = new_record(ring->number, 1);
+	struct record *record = new_record(ring, 1);
 	struct entry *entry = record->entries;
 
 	record->count = 1;
@@ -23,7 +23,7 @@ struct entry *make(struct ring *ring, const struct io_uring_sqe *sqe, const void
 	entry->result = result;
 	if (trace.is_lost)
 		put_outside(entry, OUTSIDE_CHANGED);
-	ring->is_begun = true;
+	entry->is_landed = true;
 	add_record(record);
 	return entry;
 }

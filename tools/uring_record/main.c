@@ -8,6 +8,7 @@
 #include "paths.h"
 #include "rings.h"
 #include "start.h"
+#include "stream.h"
 #include "tracer.h"
 
 #include <errno.h>
@@ -21,11 +22,15 @@ static const char help[] =
 	"\n"
 	"Runs a command, and writes what it submits through io_uring as a trace for uring_replay.\n"
 	"\n"
-	"  -o, --output FILE    the trace (uring.trace)\n"
+	"  -o, --output FILE    the trace (uring.trace); - for standard output: the command's own "
+	"goes to\n"
+	"                       standard error then\n"
 	"  -k, --results FILE   the kernel's results, to compare the replay's report with\n"
 	"  -r, --root FOLDER    the root of the trace's tree (the working directory)\n"
-	"  -1, --version-1      version 1 of the format: ordinary descriptors become slots 512 and "
-	"up\n"
+	"      --format N       the version of the format: 2 (if left out), 1 or 3. In 1 ordinary\n"
+	"                       descriptors become slots 512 and up; 3 is written as the command "
+	"runs\n"
+	"  -1, --version-1      the same as --format 1\n"
 	"  -n, --nop            an entry outside the profile is recorded as NOP, so that chains "
 	"hold\n"
 	"  -d, --drain          each ring runs in recorded order: the kernel is given IO_DRAIN on "
@@ -35,9 +40,9 @@ static const char help[] =
 	"  -t, --touched        bytes of files that the command never opens, renames or links are "
 	"not "
 	"stored\n"
-	"  -l, --limit BYTES    the most bytes that the trace may have (1073741824): there the "
-	"recording\n"
-	"                       ends, and the command runs on\n"
+	"  -l, --limit BYTES    the most bytes that the trace may have (1073741824, without end in "
+	"version\n"
+	"                       3): there the recording ends, and the command runs on\n"
 	"      --all-sums       the results have tree sums of files over 16 MiB\n"
 	"  -v, --verbose        what is not told faithfully is said as it comes up\n"
 	"  -h, --help           this text\n"
@@ -48,16 +53,24 @@ static const char help[] =
 	"the recorder failed, 126 where the command could not be run, 127 where it was not "
 	"found.\n";
 
-static const char version[] = "uring_record 1, for traces of versions 1 and 2\n";
+static const char version[] = "uring_record 1, for traces of versions 1, 2 and 3\n";
 
 static const struct option long_options[] = {
-	{ "output", required_argument, NULL, 'o' }, { "results", required_argument, NULL, 'k' },
-	{ "root", required_argument, NULL, 'r' },   { "version-1", no_argument, NULL, '1' },
-	{ "nop", no_argument, NULL, 'n' },	    { "drain", no_argument, NULL, 'd' },
-	{ "wait", no_argument, NULL, 'w' },	    { "touched", no_argument, NULL, 't' },
-	{ "limit", required_argument, NULL, 'l' },  { "verbose", no_argument, NULL, 'v' },
-	{ "help", no_argument, NULL, 'h' },	    { "version", no_argument, NULL, 'V' },
-	{ "all-sums", no_argument, NULL, 's' },	    { NULL, 0, NULL, 0 },
+	{ "output", required_argument, NULL, 'o' },
+	{ "results", required_argument, NULL, 'k' },
+	{ "root", required_argument, NULL, 'r' },
+	{ "version-1", no_argument, NULL, '1' },
+	{ "nop", no_argument, NULL, 'n' },
+	{ "drain", no_argument, NULL, 'd' },
+	{ "wait", no_argument, NULL, 'w' },
+	{ "touched", no_argument, NULL, 't' },
+	{ "limit", required_argument, NULL, 'l' },
+	{ "verbose", no_argument, NULL, 'v' },
+	{ "help", no_argument, NULL, 'h' },
+	{ "version", no_argument, NULL, 'V' },
+	{ "all-sums", no_argument, NULL, 's' },
+	{ "format", required_argument, NULL, 'f' },
+	{ NULL, 0, NULL, 0 },
 };
 
 /* A trace may not be limited to less: its descriptions, table and rings are always there. */
@@ -70,10 +83,29 @@ static u64 read_limit(const char *text)
 
 	errno = 0;
 	u64 limit = strtoull(text, &end, 10);
-	if (errno || *text < '0' || *text > '9' || *end || limit < LEAST_LIMIT ||
-	    limit > MOST_BYTES)
-		die("--limit is a number of bytes from 65536 to 1073741824, not %s", text);
+	if (errno || *text < '0' || *text > '9' || *end || limit < LEAST_LIMIT)
+		die("--limit is a number of bytes, 65536 or more, not %s", text);
 	return limit;
+}
+
+/* Reads the version of the format. */
+static unsigned read_format(const char *text)
+{
+	if (*text < '1' || *text > '3' || text[1])
+		die("--format is 1, 2 or 3, not %s", text);
+	return (unsigned)(*text - '0');
+}
+
+/* What options may not go together, once all are known; the limit of the format where none is
+ * given. */
+static void settle_options(void)
+{
+	if (options.format == 3 && options.touched)
+		die("--touched is not for --format 3, which stores files before they are used");
+	if (options.format != 3 && options.limit > MOST_BYTES)
+		die("--limit is at most 1073741824 for versions 1 and 2");
+	if (!options.limit)
+		options.limit = options.format == 3 ? UINT64_MAX : MOST_BYTES;
 }
 
 /* Says what was asked for; gives the status. */
@@ -86,8 +118,6 @@ static int say(const char *text)
 static bool *switch_of(int letter)
 {
 	switch (letter) {
-	case '1':
-		return &options.version_one;
 	case 'n':
 		return &options.replace;
 	case 'd':
@@ -118,6 +148,12 @@ static bool take_option(int letter, int *status)
 	case 'o':
 		options.trace = optarg;
 		return true;
+	case '1':
+		options.format = 1;
+		return true;
+	case 'f':
+		options.format = read_format(optarg);
+		return true;
 	case 'k':
 		options.results = optarg;
 		return true;
@@ -140,6 +176,26 @@ static bool take_option(int letter, int *status)
 	}
 }
 
+/* Writes a trace of version 1 or 2, and its results. */
+static void write_as_whole(const struct final_tree *tree)
+{
+	number_places();
+	u64 bytes = write_trace(), places = number_places();
+	for (u64 at = 0; at < trace.record_count; at++)
+		count_outside(trace.records[at]);
+	write_results(tree);
+	summary(places, bytes, ring_count);
+}
+
+/* Writes what is left of a trace of version 3, and of its results. */
+static void end_as_stream(const struct final_tree *tree)
+{
+	u64 bytes = end_stream();
+
+	close_results(tree);
+	summary(trace.gone_places, bytes, trace.ring_numbers);
+}
+
 /* Reads the options, runs the command, and writes what came of it. */
 int main(int count, char **words)
 {
@@ -153,6 +209,7 @@ int main(int count, char **words)
 	}
 	if (optind == count)
 		die("there is no command; try uring_record --help");
+	settle_options();
 	set_root(options.root);
 	try_output(options.trace);
 	if (options.results)
@@ -165,10 +222,9 @@ int main(int count, char **words)
 	leave_unseen();
 	struct final_tree *tree =
 		options.results && !trace.is_lost && !trace.is_ended ? read_final_tree() : NULL;
-	number_places();
-	u64 bytes = write_trace(), places = number_places();
-	if (options.results)
-		write_results(tree);
-	summary(places, bytes, ring_count);
+	if (options.format == 3)
+		end_as_stream(tree);
+	else
+		write_as_whole(tree);
 	return status;
 }

@@ -18,6 +18,8 @@ struct note {
 	u64 count;
 	const struct entry *entry, *other;
 	u64 records;
+	u64 places[2]; /* where the entries are kept no more: their places */
+	bool has_place[2];
 };
 static struct note *notes;
 static u64 note_count, note_room;
@@ -34,8 +36,22 @@ static struct note *note_of(const char *what)
 			return &notes[at];
 	}
 	GROW(notes, note_count, note_room);
-	notes[note_count] = (struct note){ .what = copy_text(what), .records = trace.record_count };
+	notes[note_count] = (struct note){ .what = copy_text(what),
+					   .records = trace.gone + trace.record_count };
 	return &notes[note_count++];
+}
+
+/* Puts an entry into a note, or its place where it is known. */
+static void set_noted(struct note *it, unsigned which, const struct entry *entry)
+{
+	if (entry && is_told(entry)) {
+		it->places[which] = entry->place;
+		it->has_place[which] = true;
+	} else if (which) {
+		it->other = entry;
+	} else {
+		it->entry = entry;
+	}
 }
 
 void note_pair(const char *what, const struct entry *one, const struct entry *other)
@@ -43,8 +59,8 @@ void note_pair(const char *what, const struct entry *one, const struct entry *ot
 	struct note *found = note_of(what);
 
 	if (!found->count++) {
-		found->entry = one;
-		found->other = other;
+		set_noted(found, 0, one);
+		set_noted(found, 1, other);
 	}
 	if (options.verbose)
 		fprintf(stderr, "uring_record: %s\n", what);
@@ -72,17 +88,59 @@ void note_name(const char *what, const char *name)
 /* The place of the first step behind so many records. */
 static u64 place_behind(u64 records)
 {
-	u64 place = 0;
+	u64 place = trace.gone_places;
 
 	for (u64 at = 0; at < records && at < trace.record_count; at++)
-		place += trace.records[at]->kind == RECORD_FILL ? 1 : trace.records[at]->count;
+		place += places_of(trace.records[at]);
 	return place;
 }
 
-/* The place of an entry, or of the one that an ordinary call became. */
-static u64 place_of(const struct entry *entry)
+/* An entry, or the one that an ordinary call became. */
+static const struct entry *told_entry(const struct entry *entry)
 {
-	return entry->told_by ? entry->told_by->place : entry->place;
+	return entry && entry->told_by ? entry->told_by : entry;
+}
+
+/* Keeps the place of one of the entries of a note, where it is one of a record. */
+static void keep_place(struct note *it, unsigned which, const struct record *record)
+{
+	const struct entry **noted = which ? &it->other : &it->entry;
+	const struct entry *entry = told_entry(*noted);
+
+	if (!entry || entry < record->entries || entry >= record->entries + record->room)
+		return;
+	it->places[which] = entry->place;
+	it->has_place[which] = true;
+	*noted = NULL;
+}
+
+void keep_places(const struct record *record, u64 number, u64 place)
+{
+	for (u64 at = 0; at < note_count; at++) {
+		struct note *it = &notes[at];
+		if (!it->entry && !it->has_place[0] && it->records == number) {
+			it->places[0] = place;
+			it->has_place[0] = true;
+		}
+		keep_place(it, 0, record);
+		keep_place(it, 1, record);
+	}
+}
+
+void count_outside(const struct record *record)
+{
+	for (u32 in = 0; in < record->count; in++)
+		counts.outside[record->entries[in].outside]++;
+}
+
+/* The place of one of the entries of a note. */
+static u64 place_of(const struct note *it, unsigned which)
+{
+	const struct entry *entry = told_entry(which ? it->other : it->entry);
+
+	if (it->has_place[which])
+		return it->places[which];
+	return entry ? entry->place : place_behind(it->records);
 }
 
 /* Says each note, with where it came up first. */
@@ -90,12 +148,11 @@ static void say_notes(void)
 {
 	for (u64 at = 0; at < note_count; at++) {
 		const struct note *it = &notes[at];
-		u64 place = it->entry ? place_of(it->entry) : place_behind(it->records);
 		fprintf(stderr,
 			"uring_record: note: %s (%" PRIu64 " time%s, first at place %" PRIu64,
-			it->what, it->count, it->count == 1 ? "" : "s", place);
-		if (it->other)
-			fprintf(stderr, " and place %" PRIu64, place_of(it->other));
+			it->what, it->count, it->count == 1 ? "" : "s", place_of(it, 0));
+		if (it->other || it->has_place[1])
+			fprintf(stderr, " and place %" PRIu64, place_of(it, 1));
 		fputs(")\n", stderr);
 	}
 }
@@ -132,19 +189,14 @@ static void say_flags(void)
 /* Says how many entries lie outside, and why. */
 static void say_outside(void)
 {
-	u64 by_reason[OUTSIDE_COUNT] = { 0 }, all = 0;
+	u64 all = 0;
 
-	for (u64 at = 0; at < trace.record_count; at++) {
-		const struct record *record = trace.records[at];
-		for (u32 in = 0; in < record->count; in++)
-			by_reason[record->entries[in].outside]++;
-	}
 	for (int why = INSIDE + 1; why < OUTSIDE_COUNT; why++)
-		all += by_reason[why];
+		all += counts.outside[why];
 	fprintf(stderr, "uring_record: outside: %" PRIu64, all);
 	for (int why = INSIDE + 1; why < OUTSIDE_COUNT; why++) {
-		if (by_reason[why])
-			fprintf(stderr, ", %s %" PRIu64, outside_words[why], by_reason[why]);
+		if (counts.outside[why])
+			fprintf(stderr, ", %s %" PRIu64, outside_words[why], counts.outside[why]);
 	}
 	fputc('\n', stderr);
 }
@@ -158,8 +210,10 @@ void summary(u64 places, u64 bytes, u32 rings)
 	fprintf(stderr,
 		"uring_record: version %d, %" PRIu64 " bytes, %" PRIu64
 		" places, %u rings, %" PRIu64 " names, %" PRIu64 " descriptions\n",
-		trace.uses_table ? 2 : 1, bytes, places, rings, trace.item_count,
-		trace.description_count);
+		options.format == 3 ? 3
+		: trace.uses_table  ? 2
+				    : 1,
+		bytes, places, rings, trace.item_count, trace.description_count);
 	fprintf(stderr,
 		"uring_record: %" PRIu64 " entries: %" PRIu64 " by slot, %" PRIu64
 		" by descriptor, %" PRIu64 " at the position; %" PRIu64 " side bytes\n",

@@ -17,10 +17,15 @@ struct counts {
 	u64 calls;	   /* ordinary calls that are recorded */
 	u64 fills, filled; /* fills, and their bytes */
 	u64 side_bytes;
+	u64 outside[OUTSIDE_COUNT]; /* entries of the trace by why they are not compared */
 	u64 not_taken; /* entries that the kernel left in the queue, which come again */
 };
 extern struct counts counts;
 
+/* Keeps the places of notes at a record that is kept no more: its number, and its first place. */
+void keep_places(const struct record *record, u64 number, u64 place);
+/* Counts the entries of a record by why they are not compared. */
+void count_outside(const struct record *record);
 /* Says it all; `places` and `bytes` are those of the trace. */
 void summary(u64 places, u64 bytes, u32 rings);
 

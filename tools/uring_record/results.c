@@ -18,6 +18,8 @@
 
 enum { MOST_SUMMED = 16777216, CHUNK = 1 << 16 };
 
+static FILE *file;
+
 /* A name of the tree at the end. */
 struct name {
 	char *path;
@@ -196,7 +198,7 @@ struct final_tree *read_final_tree(void)
 }
 
 /* A path as a report has it. */
-static void write_path(FILE *file, const char *path)
+static void write_path(const char *path)
 {
 	for (const unsigned char *at = (const unsigned char *)path; *at; at++) {
 		if (*at >= 0x21 && *at <= 0x7e && *at != '\\')
@@ -207,13 +209,13 @@ static void write_path(FILE *file, const char *path)
 }
 
 /* The part `tree`. */
-static void write_tree(FILE *file, const struct final_tree *tree)
+static void write_tree(const struct final_tree *tree)
 {
 	fputs("tree\n", file);
 	for (u64 at = 0; at < tree->count; at++) {
 		const struct name *it = &tree->names[at];
 		fputs(it->is_directory ? "dir " : "file ", file);
-		write_path(file, it->path);
+		write_path(it->path);
 		if (!it->is_directory && !it->is_untold)
 			fprintf(file, " size=%" PRIu64, it->size);
 		if (!it->is_directory && !it->is_untold && *it->sum)
@@ -227,9 +229,12 @@ static void write_tree(FILE *file, const struct final_tree *tree)
 }
 
 /* The line of an entry. */
-static void write_entry(FILE *file, const struct entry *entry)
+static void write_entry(const struct record *record, const struct entry *entry)
 {
-	fprintf(file, "%" PRIu64 " user=%" PRIu64, entry->place, (u64)entry->sqe.user_data);
+	fprintf(file, "%" PRIu64, entry->place);
+	if (options.format == 3)
+		fprintf(file, " ring=%u", record->ring);
+	fprintf(file, " user=%" PRIu64, (u64)entry->sqe.user_data);
 	if (entry->state == ENTRY_UNSEEN)
 		fputs(" completion=unseen", file);
 	else if (entry->state == ENTRY_SILENT)
@@ -257,9 +262,15 @@ static void write_entry(FILE *file, const struct entry *entry)
 	fputc('\n', file);
 }
 
+void write_results_of(const struct record *record)
+{
+	for (u32 in = 0; file && in < record->count; in++)
+		write_entry(record, &record->entries[in]);
+}
+
 /* The entries of each ring in recorded order: records are put with their rings once, not looked
  * for. */
-static void write_entries(FILE *file)
+static void write_entries(void)
 {
 	struct record **by_ring = allocate(trace.record_count * sizeof *by_ring);
 	u64 starts[MOST_RINGS + 1] = { 0 }, next[MOST_RINGS];
@@ -273,26 +284,46 @@ static void write_entries(FILE *file)
 		by_ring[next[trace.records[at]->ring]++] = trace.records[at];
 	for (u32 ring = 0; ring < ring_count; ring++) {
 		fprintf(file, "ring %u\n", ring);
-		for (u64 at = starts[ring]; at < starts[ring + 1]; at++) {
-			const struct record *record = by_ring[at];
-			for (u32 in = 0; in < record->count; in++)
-				write_entry(file, &record->entries[in]);
-		}
+		for (u64 at = starts[ring]; at < starts[ring + 1]; at++)
+			write_results_of(by_ring[at]);
 	}
 	free(by_ring);
 }
 
-void write_results(const struct final_tree *tree)
+void open_results(void)
 {
-	FILE *file = fopen(options.results, "wb");
-
-	if (!file)
+	file = options.results ? fopen(options.results, "wbe") : NULL;
+	if (options.results && !file)
 		die("%s: %s", options.results, strerror(errno));
-	fputs("uring-report 1\n", file);
-	write_entries(file);
+	if (file)
+		fprintf(file, "uring-report %d\n", options.format == 3 ? 2 : 1);
+}
+
+void flush_results(void)
+{
+	while (file && fflush(file)) {
+		if (errno == EINTR)
+			continue;
+		die("%s: %s", options.results, strerror(errno));
+	}
+}
+
+void close_results(const struct final_tree *tree)
+{
+	if (!file)
+		return;
 	if (tree)
-		write_tree(file, tree);
+		write_tree(tree);
 	fputs("end\n", file);
 	if (ferror(file) | fclose(file))
 		die("%s: %s", options.results, strerror(errno));
+	file = NULL;
+}
+
+void write_results(const struct final_tree *tree)
+{
+	open_results();
+	if (file)
+		write_entries();
+	close_results(tree);
 }

@@ -1,4 +1,5 @@
 #include "rings.h"
+#include "begun.h"
 #include "made.h"
 #include "memory.h"
 #include "notes.h"
@@ -13,8 +14,9 @@
 #include <sys/syscall.h>
 #include <unistd.h>
 
-struct ring *rings[MOST_RINGS];
+struct ring **rings;
 u32 ring_count;
+static u64 ring_room;
 
 static struct ring *ours;
 
@@ -23,10 +25,9 @@ static struct ring *new_ring(void)
 {
 	struct ring *ring = allocate(sizeof *ring);
 
-	ring->number = (u8)ring_count;
+	ring->number = ring_count;
 	ring->descriptor = -1;
-	for (u32 at = 0; at < MOST_INDEXES; at++)
-		ring->mapped[at] = -1;
+	GROW(rings, ring_count, ring_room);
 	rings[ring_count++] = ring;
 	return ring;
 }
@@ -71,6 +72,7 @@ static void close_ring(struct ring *ring)
 		if (ring->now[slot])
 			let_go_of(ring->now[slot]);
 	}
+	end_ring(ring);
 }
 
 void let_go_of_process(pid_t process)
@@ -230,7 +232,7 @@ static void empty_slot(struct ring *ring, u32 slot)
 
 u32 most_slots(void)
 {
-	return options.version_one ? VERSION_ONE_SLOTS : MOST_SLOTS;
+	return options.format == 1 ? VERSION_ONE_SLOTS : MOST_SLOTS;
 }
 
 /* Keeps which file comes into a slot that a trace does not have. */
@@ -253,44 +255,90 @@ static void keep_beyond(struct ring *ring, int descriptor)
 	ring->beyond[ring->beyond_count++] = file;
 }
 
-/* Whether a ring is closed, and nothing of it is left that a later one with its number would find.
- */
-static bool is_closed(struct ring *ring)
+/* In version 3, buffers that are registered anew are those of another ring: the others are let go.
+ * (None is registered now.) */
+static void forget_buffers(struct ring *ring)
+{
+	for (u32 at = 0; options.format == 3 && at < ring->buffer_count; at++) {
+		free(ring->buffers[at].values);
+		free(ring->buffers[at].unknown);
+		ring->buffers[at] = (struct buffer){ 0 };
+	}
+	if (options.format == 3)
+		ring->buffer_count = 0;
+}
+
+/* Whether a ring is closed, and nothing of it is left that a later one in its place would find. */
+static bool is_closed(const struct ring *ring, bool looks)
 {
 	if (ring->is_ours || ring->first || ring->has_quiet || ring->has_index)
 		return false;
-	return ring->descriptor < 0 || !is_ring(ring->process, ring->descriptor);
+	return ring->descriptor < 0 || (looks && !is_ring(ring->process, ring->descriptor));
 }
 
-/* A closed ring for a new one, which goes on with its number: its slots are emptied. NULL where
- * there is none. */
-static struct ring *take_closed_ring(void)
+/* A ring that is known to be closed, or with `looks` is found to be, or NULL. */
+static struct ring *find_closed_ring(bool looks)
 {
-	struct ring *ring = NULL;
+	for (u32 at = 0; at < ring_count; at++) {
+		if (is_closed(rings[at], looks))
+			return rings[at];
+	}
+	return NULL;
+}
 
-	for (u32 at = 0; at < ring_count && !ring; at++)
-		ring = is_closed(rings[at]) ? rings[at] : NULL;
-	if (!ring)
-		return NULL;
+/* Empties the slots of a ring for a new one: in version 3 that has none of them. */
+static void empty_slots(struct ring *ring)
+{
+	end_ring(ring);
 	for (u32 slot = 0; slot < ring->slot_count; slot++) {
-		if (ring->now[slot] || ring->foreign[slot])
+		if (ring->now[slot] || ring->foreign[slot] || ring->slots[slot])
 			empty_slot(ring, slot);
 	}
-	for (u32 index = 0; index < MOST_INDEXES; index++)
-		ring->mapped[index] = -1;
+	if (options.format != 3)
+		return;
+	ring->slot_count = ring->registered = 0;
+	forget_buffers(ring);
+}
+
+/* A closed ring for a new one, which goes on in its place: its slots are emptied. NULL where there
+ * is none. */
+static struct ring *take_closed_ring(bool looks)
+{
+	struct ring *ring = find_closed_ring(looks);
+
+	if (!ring)
+		return NULL;
+	empty_slots(ring);
+	memset(ring->mapped, 0, ring->index_count * sizeof *ring->mapped);
 	ring->sq = ring->cq = ring->sqes = 0;
 	ring->index_count = ring->seen = ring->claimed = ring->callers = 0;
 	ring->user = 0;
 	ring->is_shared = false;
-	note("a ring goes on with the number of one that is closed", NULL);
+	if (options.format != 3)
+		note("a ring goes on with the number of one that is closed", NULL);
 	return ring;
+}
+
+/* A ring of version 3 for a new one. Whether older ones are closed is looked at where there are
+ * twice as many as at the last look. */
+static struct ring *ring_of_any_number(void)
+{
+	static u32 next_look = MOST_RINGS;
+	bool looks = ring_count >= next_look;
+	struct ring *ring = take_closed_ring(looks);
+
+	if (looks && !ring)
+		next_look = 2 * ring_count;
+	return ring ? ring : new_ring();
 }
 
 struct ring *add_ring(pid_t process, int descriptor)
 {
 	forget_descriptor(process, descriptor);
 	/* One place is kept for the ring of ordinary calls. */
-	struct ring *ring = ring_count + !ours < MOST_RINGS ? new_ring() : take_closed_ring();
+	struct ring *ring = options.format == 3		      ? ring_of_any_number()
+			    : ring_count + !ours < MOST_RINGS ? new_ring()
+							      : take_closed_ring(true);
 	if (!ring) {
 		GROW(strangers, stranger_count, stranger_room);
 		strangers[stranger_count++] = (struct stranger){ process, descriptor };
@@ -338,6 +386,7 @@ void update_slots(struct ring *ring, pid_t thread, u32 from, u64 list, u32 count
 /* Registers a list of descriptors, which says how many slots there are. */
 static void add_slots(struct ring *ring, pid_t thread, u64 list, u32 count)
 {
+	renew_ring(ring);
 	ring->registered = count;
 	if (count > ring->slot_count)
 		ring->slot_count = count < MOST_SLOTS ? count : MOST_SLOTS;
@@ -365,15 +414,17 @@ void start_slots(struct ring *ring)
 }
 
 /* An index of the command whose buffer is not in the trace. */
-enum { LEFT_OUT = -2 };
+enum { LEFT_OUT = -1 };
 
-/* The buffer of the trace with such a range: one that is there, else a new one, or LEFT_OUT. */
+/* The buffer of the trace with such a range, from 1: one that is there, else a new one, or
+ * LEFT_OUT.
+ */
 static i32 buffer_of(struct ring *ring, u32 index, u64 address, u64 length)
 {
 	for (u32 at = 0; at < ring->buffer_count; at++) {
 		const struct buffer *it = &ring->buffers[at];
 		if (it->length == length && it->address == address)
-			return (i32)at;
+			return (i32)at + 1;
 		if (overlap(address, address + length, it->address, it->address + it->length)) {
 			note("a registered buffer that overlaps an earlier one is left out", NULL);
 			return LEFT_OUT;
@@ -389,10 +440,11 @@ static i32 buffer_of(struct ring *ring, u32 index, u64 address, u64 length)
 		note("a registered buffer beyond the 1,024th or 1 GiB is left out", NULL);
 		return LEFT_OUT;
 	}
+	renew_ring(ring);
 	if (ring->buffer_count <= free_index)
 		ring->buffer_count = free_index + 1;
 	ring->buffers[free_index] = (struct buffer){ .address = address, .length = length };
-	return (i32)free_index;
+	return (i32)free_index + 1;
 }
 
 /* Puts a range of memory at an index of the command. */
@@ -402,7 +454,7 @@ static void set_buffer(struct ring *ring, u32 index, u64 address, u64 length)
 		return;
 	if (index >= ring->index_count)
 		ring->index_count = index + 1;
-	ring->mapped[index] = length ? buffer_of(ring, index, address, length) : -1;
+	ring->mapped[index] = length ? buffer_of(ring, index, address, length) : 0;
 }
 
 /* Puts a list of ranges at indexes; without a list they are emptied. */
@@ -430,7 +482,7 @@ static void clone_buffers(struct ring *ring, const struct ring *from, pid_t thre
 	u32 count = clone.count ? clone.count : from->index_count;
 	for (u32 at = 0; at < count && clone.from + at < MOST_INDEXES; at++) {
 		i32 index = from->mapped[clone.from + at];
-		const struct buffer *buffer = index < 0 ? NULL : &from->buffers[index];
+		const struct buffer *buffer = index <= 0 ? NULL : &from->buffers[index - 1];
 		set_buffer(ring, clone.to + at, buffer ? buffer->address : 0,
 			   buffer ? buffer->length : 0);
 	}
@@ -448,6 +500,7 @@ static void registered_files(struct ring *ring, pid_t thread, u32 operation, u64
 		add_slots(ring, thread, argument, count);
 		break;
 	case IORING_UNREGISTER_FILES:
+		renew_ring(ring);
 		set_slots(ring, thread, 0, 0, ring->slot_count);
 		ring->registered = 0;
 		break;
@@ -475,14 +528,15 @@ static void registered_buffers(struct ring *ring, pid_t thread, u32 operation, u
 
 	switch (operation) {
 	case IORING_REGISTER_BUFFERS:
+		forget_buffers(ring);
 		set_buffers(ring, thread, 0, argument, count);
 		break;
 	case IORING_UNREGISTER_BUFFERS:
-		for (u32 at = 0; at < ring->index_count; at++)
-			ring->mapped[at] = -1;
+		memset(ring->mapped, 0, ring->index_count * sizeof *ring->mapped);
 		break;
 	case IORING_REGISTER_BUFFERS2:
 		fetch(thread, argument, &all, sizeof all);
+		forget_buffers(ring);
 		set_buffers(ring, thread, 0, all.data, all.nr);
 		break;
 	case IORING_REGISTER_BUFFERS_UPDATE:

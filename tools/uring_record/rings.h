@@ -17,9 +17,11 @@ struct buffer {
 struct flight;
 
 struct ring {
-	u8 number;
-	bool is_ours;  /* it has the ordinary calls */
-	bool is_begun; /* it has records */
+	u32 number;
+	bool has_number; /* of version 3: there is a ring with its number in the trace */
+	bool is_ours;	 /* it has the ordinary calls */
+	bool is_begun;	 /* it has records, and in version 3 its ring has its slots and buffers */
+	u64 renewals;	 /* how often it got a new number in version 3 */
 
 	/* The queues in the command's memory. */
 	pid_t process;	 /* which made it */
@@ -49,8 +51,8 @@ struct ring {
 	struct opened
 		*foreign[MOST_SLOTS]; /* what is no file of the tree, which the command has there */
 
-	/* Buffers of the trace, and which of them the command's indexes are: -1 for none, less for
-	 * one that is left out. */
+	/* Buffers of the trace, and which of them, from 1, the command's indexes are: 0 for none,
+	 * less for one that is left out. */
 	u32 buffer_count, index_count;
 	struct buffer buffers[MOST_BUFFERS];
 	i32 mapped[MOST_INDEXES];
@@ -67,7 +69,7 @@ struct ring {
 	u64 barrier;		 /* entries numbered below have ended before a later one begins */
 };
 
-extern struct ring *rings[MOST_RINGS];
+extern struct ring **rings;
 extern u32 ring_count;
 
 /* A new ring with a descriptor of a process, which no other ring has from then on; NULL where the

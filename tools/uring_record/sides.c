@@ -249,7 +249,7 @@ void take_side(struct flight *flight, pid_t thread)
 static void add_fill(struct flight *flight, struct buffer *buffer, u64 offset, const u8 *bytes,
 		     u64 length)
 {
-	struct record *record = new_record(flight->ring->number, 0);
+	struct record *record = new_record(flight->ring, 0);
 
 	record->kind = RECORD_FILL;
 	record->buffer = (u16)flight->buffer;
@@ -259,7 +259,6 @@ static void add_fill(struct flight *flight, struct buffer *buffer, u64 offset, c
 	memcpy(record->bytes, bytes, length);
 	memcpy(buffer->values + offset, bytes, length);
 	memset(buffer->unknown + offset, 0, length);
-	flight->ring->is_begun = true;
 	add_record(record);
 	counts.fills++;
 	counts.filled += length;
@@ -277,7 +276,8 @@ static bool mark_awaited(struct search *search, const struct span *span)
 	const struct awaited *awaited = search->context;
 	u64 from = span->from > search->from ? span->from : search->from;
 
-	if (span->flight->ring == awaited->ring)
+	if (span->flight->ring == awaited->ring &&
+	    span->flight->renewals == awaited->ring->renewals)
 		memset(awaited->bytes + (from - search->from), 1,
 		       min64(span->to, search->to) - from);
 	return false;

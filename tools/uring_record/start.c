@@ -1,4 +1,5 @@
 #include "start.h"
+#include "encode.h"
 #include "flights.h"
 #include "made.h"
 #include "notes.h"
@@ -6,6 +7,7 @@
 #include "output.h"
 #include "paths.h"
 #include "rings.h"
+#include "stream.h"
 #include "table.h"
 
 #include <dirent.h>
@@ -119,6 +121,47 @@ static void store_bytes(struct item *item, int descriptor, const struct stat *st
 	trace.bytes += stored;
 }
 
+/* Finds the ranges of a file's bytes, which are read when the trace is written. */
+static void store_ranges(struct item *item, int descriptor, const struct stat *status)
+{
+	bool is_read = descriptor >= 0 && find_ranges(&item->ranges, descriptor, item->size);
+	u64 bytes = bytes_of_ranges(&item->ranges);
+
+	if (!is_read) {
+		note_name("a file of the start that cannot be read", item->path);
+		set_doubt(status->st_dev, status->st_ino, OUTSIDE_UNREADABLE);
+	} else if (!would_fit(bytes)) {
+		note_name("a file of the start whose bytes do not fit into the trace", item->path);
+		set_doubt(status->st_dev, status->st_ino, OUTSIDE_LARGE);
+	} else {
+		trace.bytes += bytes;
+		return;
+	}
+	item->ranges.count = 0;
+}
+
+void put_file_ranges(const struct item *item)
+{
+	char *full = outside_path(item->path);
+	bool is_named = item->descriptor < 0 && item->ranges.count;
+	int descriptor = is_named ? open(full, O_RDONLY | O_CLOEXEC | O_NOFOLLOW | O_NONBLOCK)
+				  : item->descriptor;
+	bool is_read = true;
+	struct stat status;
+
+	put_number(item->ranges.count, 4);
+	for (u64 at = 0; at < item->ranges.count; at++)
+		is_read &= put_range(&item->ranges.list[at], descriptor);
+	if (!is_read) {
+		note_name("a file of the start that cannot be read", item->path);
+		if (!(descriptor < 0 ? lstat(full, &status) : fstat(descriptor, &status)))
+			set_doubt(status.st_dev, status.st_ino, OUTSIDE_UNREADABLE);
+	}
+	if (is_named && descriptor >= 0)
+		close(descriptor);
+	free(full);
+}
+
 /* Adds a file; false where the trace is at its limit. */
 static bool add_file(int descriptor, char *path, const struct stat *status)
 {
@@ -130,6 +173,8 @@ static bool add_file(int descriptor, char *path, const struct stat *status)
 	set_node(status, (u32)trace.item_count);
 	if (options.touched && item->size)
 		set_doubt(status->st_dev, status->st_ino, OUTSIDE_UNTOUCHED);
+	else if (options.format == 3)
+		store_ranges(item, descriptor, status);
 	else
 		store_bytes(item, descriptor, status);
 	return true;
@@ -260,7 +305,10 @@ static u32 add_unlinked(int descriptor, const struct stat *status)
 		sprintf(name, "%s%d", unlinked_name, (int)trace.item_count + 1);
 		if (add_file(again, name, status))
 			node = (u32)trace.item_count;
-		close(again);
+		if (options.format == 3 && node != NO_ITEM)
+			trace.items[node - 1].descriptor = again;
+		else
+			close(again);
 	}
 	return node;
 }
@@ -376,6 +424,7 @@ void start_without_submission(void)
 		return;
 	note("the command submitted nothing", NULL);
 	start_tree();
+	begin_stream();
 }
 
 void start(pid_t process)
@@ -393,5 +442,6 @@ void start(pid_t process)
 			make_path(OP_UNLINKAT, 0, trace.items[at].path);
 	}
 	look_at_mappings(process);
+	begin_stream();
 	clock_gettime(CLOCK_MONOTONIC, &began);
 }

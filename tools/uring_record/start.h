@@ -14,6 +14,8 @@ u64 time_now(void);
  * or one of a full path, whose bytes are stored now. */
 void is_touched(int descriptor);
 void is_touched_by_name(const char *full);
+/* Puts the bytes of a file of the start by ranges, as they are now. */
+void put_file_ranges(const struct item *item);
 /* For a command that submitted nothing: its trace has the tree, as it is now, and nothing else. */
 void start_without_submission(void);
 /* The process whose descriptors are the table. */

@@ -78,7 +78,7 @@ static enum outside outside_by_fields(const struct ring *ring, const struct io_u
 		return OUTSIDE_FLAGS;
 	if (opcode == OP_FALLOCATE && sqe->len & (0x08 | 0x20 | 0x40))
 		return OUTSIDE_FLAGS;
-	if (opcode == OP_RENAMEAT && sqe->rename_flags & ~(options.version_one ? 1U : 3U))
+	if (opcode == OP_RENAMEAT && sqe->rename_flags & ~(options.format == 1 ? 1U : 3U))
 		return OUTSIDE_FLAGS;
 	if (opcode == OP_LINKAT && sqe->hardlink_flags & ~0x400U)
 		return OUTSIDE_FLAGS;
@@ -137,13 +137,20 @@ static struct opened *foreign_in(const struct ring *ring, u32 slot)
 	return slot < ring->slot_count ? ring->foreign[slot] : NULL;
 }
 
+/* Whether an entry on what is no file of the tree is written so that its replay changes nothing: in
+ * version 3 also one on a number, which may be in flight for long. */
+static bool goes_aside(const struct io_uring_sqe *sqe)
+{
+	return sqe->flags & FLAG_FIXED || (options.format == 3 && works_on_file(sqe->opcode));
+}
+
 /* The same for a slot: what the entry writes there is not told. */
 static void slot_leads_elsewhere(struct flight *flight, struct opened *foreign)
 {
 	struct entry *entry = flight->entry;
 
 	leads_elsewhere(entry);
-	entry->is_aside |= entry->sqe.flags & FLAG_FIXED;
+	entry->is_aside |= goes_aside(&entry->sqe);
 	if (!changes_file(entry->sqe.opcode))
 		return;
 	unsettle(foreign, OUTSIDE_CHANGED);
@@ -196,11 +203,11 @@ static void ensure_place(struct flight *flight)
 	}
 	if (!works_on_file(sqe->opcode) && !closes)
 		return;
-	enum leads leads = options.version_one ? ensure_slot(ring, flight->process, sqe->fd)
-					       : ensure_number(flight->process, sqe->fd);
+	enum leads leads = (options.format == 1) ? ensure_slot(ring, flight->process, sqe->fd)
+						 : ensure_number(flight->process, sqe->fd);
 	if (leads == LEADS_ELSEWHERE)
 		number_leads_elsewhere(flight);
-	if (!options.version_one || leads != LEADS_TO_FILE)
+	if (options.format != 1 || leads != LEADS_TO_FILE)
 		return;
 	if (closes) {
 		sqe->file_index = VERSION_ONE_SLOTS + (u32)sqe->fd + 1;
@@ -246,7 +253,7 @@ static void find_description(struct flight *flight)
 		flight->open_flags = entry->sqe.open_flags;
 		flight->used = new_direct(flight->names[0] ? flight->names[0] : "/",
 					  entry->sqe.open_flags);
-		if (options.version_one && !entry->sqe.file_index) {
+		if (options.format == 1 && !entry->sqe.file_index) {
 			note("an OPENAT to a descriptor, which version 1 does not have", entry);
 			put_aside(entry, OUTSIDE_DESCRIPTOR);
 		}
@@ -267,11 +274,11 @@ static void find_buffer(struct flight *flight)
 	struct entry *entry = flight->entry;
 	i32 index = flight->ring->mapped[entry->sqe.buf_index];
 
-	if (index < -1) {
+	if (index < 0) {
 		note("an entry with a registered buffer that is left out", entry);
 		put_aside(entry, OUTSIDE_BUFFER);
 	}
-	flight->buffer = index < 0 ? NO_BUFFER : (u32)index;
+	flight->buffer = index <= 0 ? NO_BUFFER : (u32)index - 1;
 	entry->sqe.buf_index = (u16)flight->buffer;
 }
 
@@ -386,6 +393,7 @@ static void read_entries(struct ring *ring, pid_t thread, struct record *record,
 			return;
 		}
 		entry->opcode = entry->sqe.opcode;
+		entry->record = record;
 		bool is_head = !record->count || !goes_on(&entry[-1].sqe);
 		if (options.drain && is_head && !(entry->sqe.flags & (FLAG_DRAIN | FLAG_SKIP)))
 			drain_in_kernel(thread, address, entry->sqe.flags);
@@ -468,7 +476,7 @@ struct record *submission(struct ring *ring, pid_t thread, pid_t process, u32 wa
 		return NULL;
 	start(ring->submitter);
 	begin_batch();
-	struct record *record = new_record(ring->number, count);
+	struct record *record = new_record(ring, count);
 	read_entries(ring, thread, record, head, count);
 	read_sides_ahead(record, thread);
 	record->from = head;
@@ -478,12 +486,12 @@ struct record *submission(struct ring *ring, pid_t thread, pid_t process, u32 wa
 		const struct io_uring_sqe *sqe = &record->entries[at].sqe;
 		opens += opens_in_table(sqe);
 		trace.uses_table |=
-			!options.version_one && sqe->opcode == OP_RENAMEAT && sqe->rename_flags & 2;
+			options.format != 1 && sqe->opcode == OP_RENAMEAT && sqe->rename_flags & 2;
 	}
-	if (opens && !options.version_one)
+	if (opens && options.format != 1)
 		match_lowest(ring->submitter, opens, count_opens_in_flight());
 	take_entries(ring, thread, record);
-	ring->is_begun = true;
+	record->is_open = true;
 	add_record(record);
 	return record;
 }
@@ -508,9 +516,25 @@ static void look_at_numbers(struct ring *ring, const struct record *record)
 	}
 }
 
+bool is_all_taken(const struct record *record)
+{
+	const struct ring *ring = record->of;
+	u32 head;
+
+	return ring->sq &&
+	       fetch(ring->submitter, ring->sq + ring->sq_offsets.head, &head, sizeof head) &&
+	       head - record->from >= record->claimed && head - record->from <= ring->sq_entries;
+}
+
 void submitted(struct ring *ring, pid_t thread, struct record *record, u32 taken)
 {
 	ring->callers--;
+	record->is_open = false;
+	if (record->is_gone) { /* (all of it was taken, and is written) */
+		leave_record(record);
+		reap(ring, thread, true);
+		return;
+	}
 	if (has_others(ring->submitter, thread))
 		look_at_numbers(ring, record);
 	if (taken < record->count)

@@ -1,4 +1,5 @@
 #include "trace.h"
+#include "begun.h"
 #include "notes.h"
 #include "rings.h"
 
@@ -15,6 +16,12 @@ enum {
 	DESCRIPTION_BYTES = 14,
 	ENTRIES_BYTES = 4,
 	FILL_BYTES = 12,
+	NUMBER_BYTES = 4,
+	/* what version 3 has more of each */
+	MORE_OF_ENTRIES = 3,
+	MORE_OF_FILL = 4,
+	MORE_OF_ENTRY = 1,
+	MORE_OF_NUMBER = 4,
 };
 
 struct trace trace;
@@ -66,13 +73,19 @@ void end_recording(const char *why)
 		why);
 }
 
+/* Bytes of a part, with those that version 3 has more. */
+static u64 more_of(u64 bytes, u64 more)
+{
+	return options.format == 3 ? bytes + more : bytes;
+}
+
 /* The bytes of the trace without its names, files and records. */
 static u64 fixed_bytes(void)
 {
 	u64 bytes = HEADER_BYTES + DESCRIPTION_BYTES * (trace.description_count + 1) +
-		    4ULL * trace.table_size;
+		    more_of(NUMBER_BYTES, MORE_OF_NUMBER) * trace.table_size;
 
-	for (u32 at = 0; at < ring_count; at++)
+	for (u32 at = 0; options.format != 3 && at < ring_count; at++)
 		bytes += 4 + 4ULL * rings[at]->slot_count + 12ULL * rings[at]->buffer_count;
 	return bytes;
 }
@@ -94,8 +107,10 @@ struct item *add_item(enum item_kind kind, char *path)
 {
 	u64 bytes = ITEM_BYTES + strlen(path);
 
-	if (trace.item_count == MOST_ITEMS)
-		end_recording("the trace has 65,535 names, as many as it may have");
+	if (trace.item_count == (options.format == 3 ? MOST_ITEMS_3 : MOST_ITEMS))
+		end_recording(options.format == 3
+				      ? "the trace has 16,777,216 names, as many as it may have"
+				      : "the trace has 65,535 names, as many as it may have");
 	if (!has_room(bytes)) {
 		free(path);
 		return NULL;
@@ -103,7 +118,7 @@ struct item *add_item(enum item_kind kind, char *path)
 	trace.bytes += bytes;
 	GROW(trace.items, trace.item_count, trace.item_room);
 	struct item *item = &trace.items[trace.item_count++];
-	*item = (struct item){ .kind = kind, .path = path };
+	*item = (struct item){ .kind = kind, .path = path, .descriptor = -1 };
 	return item;
 }
 
@@ -158,12 +173,13 @@ void set_doubt(dev_t device, ino_t inode, enum outside why)
 		node->doubt = why;
 }
 
-struct record *new_record(u8 ring, u32 count)
+struct record *new_record(struct ring *ring, u32 count)
 {
 	struct record *record = allocate(sizeof *record);
 
 	record->kind = RECORD_ENTRIES;
-	record->ring = ring;
+	record->of = ring;
+	record->room = count;
 	record->entries = count ? allocate(count * sizeof *record->entries) : NULL;
 	return record;
 }
@@ -171,20 +187,69 @@ struct record *new_record(u8 ring, u32 count)
 /* The bytes of an entry in the trace. */
 static u64 bytes_of(const struct entry *entry)
 {
-	return sizeof entry->sqe + 4 + entry->side_length;
+	return sizeof entry->sqe + more_of(4, MORE_OF_ENTRY) + entry->side_length;
+}
+
+u32 places_of(const struct record *record)
+{
+	switch (record->kind) {
+	case RECORD_ENTRIES:
+		return record->count;
+	case RECORD_RING_ENDS:
+		return 0;
+	default:
+		return 1;
+	}
+}
+
+void free_record(struct record *record)
+{
+	for (u32 at = 0; at < record->room; at++)
+		free(record->entries[at].side);
+	free(record->entries);
+	free(record->bytes);
+	free(record);
+}
+
+void leave_record(struct record *record)
+{
+	if (record->is_gone && !record->is_open && !record->flying)
+		free_record(record);
+}
+
+bool is_told(const struct entry *entry)
+{
+	return entry->record && entry->record->is_gone;
 }
 
 void add_record(struct record *record)
 {
-	u64 bytes = record->kind == RECORD_FILL ? FILL_BYTES + record->length : ENTRIES_BYTES;
-	u32 places = record->kind == RECORD_FILL ? 1 : record->count;
+	begin_ring(record->of);
+	append_record(record);
+}
+
+/* Ends the recording where a record has more places than the trace has room for. */
+static void look_at_places(u64 places)
+{
+	if (options.format == 3 && trace.places + places > MOST_PLACES_3)
+		end_recording("the trace has 2,147,483,648 places, as many as it may have");
+	else if (options.format != 3 && trace.places + places > MOST_PLACES)
+		end_recording("the trace has 1,048,576 places, as many as it may have");
+}
+
+void append_record(struct record *record)
+{
+	u64 bytes = record->kind == RECORD_ENTRIES
+			    ? more_of(ENTRIES_BYTES, MORE_OF_ENTRIES)
+			    : more_of(FILL_BYTES, MORE_OF_FILL) + record->length;
+	u32 places = places_of(record);
 
 	for (u32 at = 0; at < record->count; at++)
 		bytes += bytes_of(&record->entries[at]);
-	if (trace.places + places > MOST_PLACES)
-		end_recording("the trace has 1,048,576 places, as many as it may have");
+	look_at_places(places);
 	if (!has_room(bytes))
 		return;
+	record->ring = record->of->number;
 	record->is_added = true;
 	trace.bytes += bytes;
 	trace.places += places;
@@ -312,24 +377,25 @@ static void mark_chain(struct entry *head, const struct entry *end)
 		put_outside(it, OUTSIDE_CHAIN);
 }
 
+u64 number_record(struct record *record, u64 place)
+{
+	struct entry *head = record->entries, *end = head + record->count;
+
+	for (struct entry *it = head; it < end; it++) {
+		it->place = place + (u64)(it - record->entries);
+		if (it + 1 < end && goes_on(&it->sqe))
+			continue;
+		mark_chain(head, it + 1);
+		head = it + 1;
+	}
+	return place + places_of(record);
+}
+
 u64 number_places(void)
 {
 	u64 place = 0;
 
-	for (u64 at = 0; at < trace.record_count; at++) {
-		struct record *record = trace.records[at];
-		if (record->kind == RECORD_FILL) {
-			place++;
-			continue;
-		}
-		struct entry *head = record->entries, *end = head + record->count;
-		for (struct entry *it = head; it < end; it++) {
-			it->place = place++;
-			if (it + 1 < end && goes_on(&it->sqe))
-				continue;
-			mark_chain(head, it + 1);
-			head = it + 1;
-		}
-	}
+	for (u64 at = 0; at < trace.record_count; at++)
+		place = number_record(trace.records[at], place);
 	return place;
 }

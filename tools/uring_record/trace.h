@@ -3,6 +3,7 @@
 #define TRACE_H
 
 #include "common.h"
+#include "ranges.h"
 #include "uring.h"
 
 #include <sys/stat.h>
@@ -11,13 +12,16 @@
 enum {
 	MOST_ITEMS = 65535,
 	MOST_RINGS = 64,
+	MOST_RINGS_3 = 1048576,
 	MOST_PLACES = 1048576,
+	MOST_ITEMS_3 = 16777216,
 	MOST_TABLE = 1024,
 	MOST_SLOTS = 1024,
 	MOST_BUFFERS = 1024,
 	MOST_IN_RECORD = 32768,
 	DATA_SHOWN = 32,
 };
+#define MOST_PLACES_3 (1ULL << 31)
 #define NO_ITEM UINT32_MAX
 
 enum item_kind { ITEM_DIRECTORY = 1, ITEM_FILE = 2, ITEM_NAME = 3 };
@@ -30,6 +34,9 @@ struct item {
 	u32 stored; /* how many bytes of `bytes` are stored */
 	u8 *bytes;
 	u32 of; /* of another name: the item that it names */
+	struct file_ranges
+		ranges; /* the same bytes in version 3, which are read when it is written */
+	int descriptor; /* of a file without a name, on that file; else -1 */
 };
 
 /* An open file description of the start. */
@@ -79,11 +86,14 @@ struct entry {
 	struct io_uring_sqe sqe; /* as recorded */
 	u8 *side;
 	u32 side_length;
-	u8 opcode;	      /* as submitted */
-	bool replaced;	      /* recorded as NOP */
-	bool is_aside;	      /* outside: it is written so that its replay changes nothing */
-	struct entry *head;   /* the first of its chain; NULL of what the recorder makes */
-	struct entry *alike;  /* another one that may have had its result */
+	u8 opcode;	       /* as submitted */
+	bool replaced;	       /* recorded as NOP */
+	bool is_aside;	       /* outside: it is written so that its replay changes nothing */
+	struct record *record; /* the call's; NULL of what the recorder makes */
+	struct entry *head;    /* the first of its chain; NULL of what the recorder makes */
+	struct entry *alike;   /* another one that may have had its result */
+	bool is_alike;	       /* it is one of those that may be marked still */
+	bool is_landed;	       /* it is in flight no more */
 	struct entry *turned; /* of a head: the first member that may end otherwise in the replay */
 	enum entry_state state;
 	enum outside outside;
@@ -95,16 +105,30 @@ struct entry {
 	const struct entry *told_by; /* of an ordinary call that ran: the entry that it became */
 };
 
-enum record_kind { RECORD_ENTRIES = 1, RECORD_FILL = 2 };
+/* (the last two are of version 3) */
+enum record_kind {
+	RECORD_ENTRIES = 1,
+	RECORD_FILL = 2,
+	RECORD_RING = 5,
+	RECORD_RING_ENDS = 6,
+};
 
-/* What one call submitted, or bytes that the program put into a registered buffer. */
+/* What one call submitted, bytes that the program put into a registered buffer, or a ring's begin
+ * or end. */
 struct record {
 	enum record_kind kind;
-	u8 ring;
-	u32 count;
-	bool is_added; /* it is in the trace */
-	u32 from;      /* where in the queue its call begins */
-	u32 claimed;   /* how many places of the queue its call takes, or would have taken */
+	struct ring *of;
+	u32 ring;	 /* its number, once the record is in the trace */
+	u32 count, room; /* entries, and those that it was made for: the kernel may leave some */
+	bool is_added;	 /* it is in the trace */
+	bool is_open;	 /* its call runs still: the kernel may leave entries of it */
+	bool is_put;	 /* it was written */
+	bool is_gone; /* its results were written: it is kept for its call, and what is in flight */
+	u32 flying;   /* so many entries are in flight then */
+	u32 settled;  /* so many of its entries will be written as they are now */
+	u32 final;    /* so many will have no other result or mark */
+	u32 from;     /* where in the queue its call begins */
+	u32 claimed;  /* how many places of the queue its call takes, or would have taken */
 	struct entry *entries;
 	u16 buffer;
 	u32 offset;
@@ -122,6 +146,8 @@ struct trace {
 	bool is_lost;		      /* something is not in it: results are not compared */
 	bool is_ended;		      /* it is at a limit: nothing is added */
 	u64 bytes, places;	      /* of its names, files and records; of its records */
+	u64 gone, gone_places;	      /* records that are kept no more, and their places */
+	u32 ring_numbers;	      /* rings that are in it */
 	bool uses_table;	      /* it is of version 2 */
 	u32 table_size;		      /* how many descriptors the process may have */
 	u32 table[MOST_TABLE];	      /* 0, or a description and 1 */
@@ -147,9 +173,19 @@ void set_node(const struct stat *status, u32 item);
 enum outside doubt_of(dev_t device, ino_t inode);
 void set_doubt(dev_t device, ino_t inode, enum outside why);
 
-/* A record without entries, which is in no trace yet, and its being put at the end of the trace. */
-struct record *new_record(u8 ring, u32 count);
+/* A record without entries, which is in no trace yet, and its being put at the end of the trace,
+ * behind that of its ring where version 3 wants one. */
+struct record *new_record(struct ring *ring, u32 count);
 void add_record(struct record *record);
+/* The same of a record whose ring has its number. */
+void append_record(struct record *record);
+/* How many places a record has. */
+u32 places_of(const struct record *record);
+void free_record(struct record *record);
+/* Frees a record whose results were written, once nothing needs it. */
+void leave_record(struct record *record);
+/* Whether the results of an entry were written already. */
+bool is_told(const struct entry *entry);
 /* Takes away the last entry of a record, which is in the trace or not. */
 void drop_entry(struct record *record);
 
@@ -174,7 +210,9 @@ void put_aside(struct entry *entry, enum outside why);
 /* Whether the replay may do otherwise with an entry: it, or an earlier member of its chain, is
  * outside. */
 bool is_doubtful(const struct entry *entry);
-/* Gives each entry its place, and each member of a chain whose course is not told its mark. */
+/* Gives each entry of a record its place, from one on, and each member of a chain whose course is
+ * not told its mark; gives the place behind. The same of all records. */
+u64 number_record(struct record *record, u64 place);
 u64 number_places(void);
 
 #endif

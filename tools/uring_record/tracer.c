@@ -8,6 +8,7 @@
 #include "others.h"
 #include "signals.h"
 #include "start.h"
+#include "stream.h"
 #include "submissions.h"
 
 #include <errno.h>
@@ -95,6 +96,8 @@ static void forget_thread(pid_t id)
 		if (gone->id != id)
 			continue;
 		*it = gone->next;
+		if (gone->record)
+			gone->record->is_open = false;
 		unwatch_thread(id);
 		forget_call(&gone->call);
 		free(gone);
@@ -419,6 +422,7 @@ static void enter_ended(struct thread *thread, i64 result)
 		submitted(thread->ring, thread->id, thread->record, result > 0 ? (u32)result : 0);
 	else
 		reap(thread->ring, thread->id, true);
+	thread->record = NULL;
 	if (thread->is_changed)
 		put_back(thread, result);
 	thread->is_changed = thread->is_held = false;
@@ -695,6 +699,9 @@ static void become_command(char **words, const int *go)
 {
 	char byte;
 
+	/* (the trace has standard output for itself) */
+	if (!strcmp(options.trace, "-"))
+		dup2(STDERR_FILENO, STDOUT_FILENO);
 	close(go[1]);
 	if (read(go[0], &byte, 1) != 1)
 		_exit(STATUS_FAILED);
@@ -731,7 +738,7 @@ static pid_t start_command(char **words)
 		limit.rlim_cur = limit.rlim_max;
 		setrlimit(RLIMIT_NOFILE, &limit);
 	}
-	take_signals(child, options.wait);
+	take_signals(child, options.wait || options.format == 3);
 	if (ptrace(PTRACE_SEIZE, child, 0, wanted))
 		die("the command cannot be traced: %s", strerror(errno));
 	if (write(go[1], "", 1) != 1)
@@ -833,14 +840,15 @@ static void end_command(void)
 	}
 }
 
-/* At a tick: looks at signals and at calls that wait; gives the signal that ends the recording at
- * once, or 0. */
+/* At a tick: looks at signals and at calls that wait, and gives the files what was written; gives
+ * the signal that ends the recording at once, or 0. */
 static int at_tick(void)
 {
 	for (struct thread *it = threads; it; it = it->next) {
 		if (it->is_in_call && it->is_held && it->ring)
 			look_at_held(it);
 	}
+	flush_stream();
 	return pass_signals();
 }
 
@@ -873,7 +881,9 @@ int run_command(char **words, bool *has_run)
 		}
 		*has_run |= status >> 16 == PTRACE_EVENT_EXEC;
 		struct thread *thread = thread_of(id);
-		if (WIFSTOPPED(status) && stopped(thread, status, &signal_to_pass))
+		bool goes_on = WIFSTOPPED(status) && stopped(thread, status, &signal_to_pass);
+		write_known();
+		if (goes_on)
 			ptrace(thread->is_in_call ? PTRACE_SYSCALL : PTRACE_CONT, id, 0,
 			       signal_to_pass);
 	}

@@ -125,6 +125,30 @@ fn a_line_that_says_otherwise_is_named(rt: HostRuntime) {
     );
 }
 
+#[test]
+fn entries_of_version_two_rise(rt: HostRuntime) {
+    let first =
+        "uring-report 2\n2 ring=1 user=7 res=4 posted\n10 ring=0 user=8 res=0 posted\ntree\nlink /l node=1 to=a\nend\n";
+    let second =
+        "uring-report 2\n2 ring=0 user=7 res=4 posted\n10 ring=0 user=8 res=0 posted\ntree\nlink /l node=1 to=b\nend\n";
+    let told = "- 2 ring=1 user=7 res=4 posted
++ 2 ring=0 user=7 res=4 posted
+- link /l node=1 to=a
++ link /l node=1 to=b
+entries 1 equal, 1 different, 0 outside
+tree 0 equal, 1 different, 0 outside
+slots 0 equal, 0 different, 0 outside
+buffers 0 equal, 0 different, 0 outside
+";
+    assert!(rt; tells(rt.alloc(), first, second, told) && are_alike(rt.alloc(), first));
+    let turned = "uring-report 2\n10 user=8\n9 user=7\nend\n";
+    let words = "line 3 of the second is out of order at 9";
+    assert!(rt; fault_says(rt.alloc(), first, turned, words));
+    let elder = "uring-report 1\n10 user=8\n9 user=7\nend\n";
+    let words = "the first is uring-report 1, the second uring-report 2";
+    assert!(rt; fault_says(rt.alloc(), elder, first, words));
+}
+
 /// Whether two texts are refused in these words.
 fn fault_says(alloc: Global, first: &str, second: &str, words: &str) -> bool {
     let Err(DiffFault::Refused(why)) = compare_two(alloc, first.as_bytes(), second.as_bytes())

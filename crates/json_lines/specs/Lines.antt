@@ -86,6 +86,7 @@ unfoldable pub keys_of : List ℕ → List (List ℕ)
 keys_of word =
     if bytes_eq word (codes "dir") then codes "path" ∷ []
     else if bytes_eq word (codes "file") then codes "path" ∷ []
+    else if bytes_eq word (codes "link") then codes "path" ∷ []
     else if bytes_eq word (codes "slot") then codes "ring" ∷ codes "slot" ∷ []
     else if bytes_eq word (codes "buffer") then codes "ring" ∷ codes "number" ∷ []
     else if bytes_eq word (codes "descriptor") then codes "number" ∷ []

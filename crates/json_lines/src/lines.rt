@@ -170,7 +170,7 @@ fn push_more(text: &mut Vec<u8>, word: &[u8], more: &[&[u8]]) -> Result<(), Allo
     ensures { OnOk result (text.new.items ≡ text.old.items
         ++ keyed_json (keys_of word.now) (texts more.now)) }
 {
-    if word == b"dir".as_slice() || word == b"file".as_slice() {
+    if word == b"dir".as_slice() || word == b"file".as_slice() || word == b"link".as_slice() {
         push_words(text, &[b"path"], more)
     } else if word == b"slot".as_slice() {
         push_words(text, &[b"ring", b"slot"], more)

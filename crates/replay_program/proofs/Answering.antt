@@ -11,7 +11,7 @@ use Rattle.replay_program.specs.declared.words.Form.{Form}
 use Rattle.replay_program.specs.Checks.{ReadsAnswer, TellsOfCheck, WritesAnswer, WritesAnswerPart}
 use Rattle.replay_program.specs.Forms.{written_as}
 use Rattle.replay_program.specs.Runs.{reads_failed, writes_failed}
-use Rattle.replay_program.specs.Transfer.{AppendsPart}
+use Rattle.byte_transfer.specs.Transfer.{AppendsPart}
 
 -- the whole answer went out
 pub whole : (form : Form) (left left' written written' : Option (List ℕ)) (answer bytes : List ℕ) (r : Result ⊤ RunFault) → ReadsAnswer left left' answer → bytes ≡ written_as form answer

@@ -9,7 +9,7 @@ use Rattle.replay_program.specs.declared.fault.ReportsFault.TheVariants.{Refused
 use Rattle.replay_program.specs.declared.words.Form.{Form}
 use Rattle.replay_program.specs.Diffs.{ComparesReports, ComparesTwoReports, TellsOfText, TellsOfTwoReports, WritesDifferencesPart, WritesPartOfTwo}
 use Rattle.replay_program.specs.Runs.{writes_failed}
-use Rattle.replay_program.specs.Transfer.{AppendsPart, ConsumesUpTo}
+use Rattle.byte_transfer.specs.Transfer.{AppendsPart, ConsumesUpTo}
 
 -- a part of the text went out
 pub part : (form : Form) (left left' written written' : Option (List ℕ)) (comparison : Comparison) (bytes : List ℕ) → ComparesReports form left left' comparison → bytes ≡ comparison.text.items

@@ -9,7 +9,7 @@ use Rattle.replay_program.specs.declared.fault.RunFault.TheVariants.{Different, 
 use Rattle.replay_program.specs.declared.words.Form.{Form}
 use Rattle.replay_program.specs.declared.words.Options.{Options}
 use Rattle.replay_program.specs.Runs.{IsOutputOf, ReadsTrace, ReplayWantsMemoryOrThread, TellsOfReading, WritesOutput, WritesPart, read_failures, reads_failed, writes_failed}
-use Rattle.replay_program.specs.Transfer.{AppendsPart}
+use Rattle.byte_transfer.specs.Transfer.{AppendsPart}
 use Rattle.replay_program.proofs.Faults.{different_is_not_write}
 
 -- a fault that the writer had no part in is no failed write

@@ -10,7 +10,7 @@ use Rattle.replay_program.specs.declared.words.Form.TheVariants.{Text}
 use Rattle.replay_program.specs.Diffs.{ComparesReports, ComparesTwoReports, TellsOfReports, TellsOfTwoReports}
 use Rattle.replay_program.specs.Runs.{ReadsTrace, TellsOfReading, writes_failed}
 use Rattle.replay_program.specs.ShownDiffs.{ComparesShown, ComparesShownTwo, ReadsSome, TellsOfShown, TellsOfShownTwo, WritesShownDifferencesPart, WritesShownPartOfTwo}
-use Rattle.replay_program.specs.Transfer.{AppendsPart}
+use Rattle.byte_transfer.specs.Transfer.{AppendsPart}
 
 -- a comparison, with the entries of the trace in its text
 pub compares : (steps steps' left left' : Option (List ℕ)) (t : trace.Trace) (comparison shown : Comparison) → ReadsTrace steps steps' t → ComparesReports Text left left' comparison

@@ -10,7 +10,7 @@ use Rattle.replay_program.specs.declared.fault.RunFault.{RunFault}
 use Rattle.replay_program.specs.declared.fault.RunFault.TheVariants.{Write}
 use Rattle.replay_program.specs.Runs.{ReadsTrace}
 use Rattle.replay_program.specs.Shows.{WritesShown, WritesShownPart}
-use Rattle.replay_program.specs.Transfer.{AppendsPart}
+use Rattle.byte_transfer.specs.Transfer.{AppendsPart}
 
 -- the whole text went out
 pub whole : (look : Look) (left left' written written' : Option (List ℕ)) (t : Trace) (bytes : List ℕ) (r : Result ⊤ RunFault) → ReadsTrace left left' t → bytes ≡ text_of look t

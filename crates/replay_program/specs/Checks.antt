@@ -14,7 +14,7 @@ use Rattle.trace_records.specs.Whole as of_records
 use Rattle.trace_records.specs.declared.trace.Trace as records
 use Rattle.replay_report.specs.Report.{line}
 use Rattle.replay_program.specs.Forms.{written_as}
-use Rattle.replay_program.specs.Transfer.{AppendsPart}
+use Rattle.byte_transfer.specs.Transfer.{AppendsPart}
 use Rattle.replay_program.specs.declared.fault.RunFault.{RunFault}
 use Rattle.replay_program.specs.declared.fault.RunFault.TheVariants.{Trace, Replay, Reports, Read, Write, Different}
 use Rattle.replay_program.specs.declared.words.Form.{Form}

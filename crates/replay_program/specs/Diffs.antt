@@ -11,7 +11,7 @@ use Rattle.replay_program.specs.declared.fault.ReportsFault.TheVariants.{Refused
 use Rattle.replay_program.specs.declared.words.Form.{Form}
 use Rattle.replay_program.specs.Forms.{written_as}
 use Rattle.replay_program.specs.Runs.{most_taken}
-use Rattle.replay_program.specs.Transfer.{AppendsPart}
+use Rattle.byte_transfer.specs.Transfer.{AppendsPart}
 
 -- The reader was read to its end, and what it had left is two reports.
 pub record ReadsReports (before after : Option (List ℕ)) (input : List ℕ) : Type 0 where

@@ -4,7 +4,6 @@ pub mod Forms
 pub mod Limits
 pub mod Runs
 pub mod Status
-pub mod Transfer
 pub mod Words
 pub mod Shows
 pub mod Makes

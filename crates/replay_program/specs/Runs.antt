@@ -22,7 +22,7 @@ use Rattle.replay_report.specs.declared.showing.Shown.{Shown}
 use Rattle.round_report.specs.Rounds.{graph_text, log_of, rounds_text}
 use Rattle.depend_report.specs.Whole.{IsTextOf}
 use Rattle.replay_program.specs.Forms.{form_in, written_as}
-use Rattle.replay_program.specs.Transfer.{AppendsPart}
+use Rattle.byte_transfer.specs.Transfer.{AppendsPart}
 use Rattle.replay_program.specs.declared.words.Form.{Form}
 
 -- The report of the sequential run of a trace.

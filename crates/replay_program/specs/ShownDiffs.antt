@@ -9,7 +9,7 @@ use Rattle.replay_program.specs.declared.fault.RunFault.{RunFault}
 use Rattle.replay_program.specs.declared.fault.RunFault.TheVariants.{Trace, Replay, Reports, Read, Write, Different}
 use Rattle.replay_program.specs.Diffs.{ReadsReports, ReadsTwo, TellsOfReports, TellsOfTwoReports}
 use Rattle.replay_program.specs.Runs.{ReadsTrace, TellsOfReading}
-use Rattle.replay_program.specs.Transfer.{AppendsPart}
+use Rattle.byte_transfer.specs.Transfer.{AppendsPart}
 
 -- The text of the comparison, with the entry of the trace below each line that differs and is of one.
 abbrev pub shown_differences : trace.Trace → List ℕ → List ℕ

@@ -5,7 +5,7 @@ use Rattle.trace_format.specs.declared.trace.Trace as trace
 use Rattle.trace_text.specs.Shown.{text_of}
 use Rattle.trace_text.specs.declared.look.Look.{Look}
 use Rattle.replay_program.specs.Runs.{ReadsTrace}
-use Rattle.replay_program.specs.Transfer.{AppendsPart}
+use Rattle.byte_transfer.specs.Transfer.{AppendsPart}
 
 -- The reader was read to its end, and the writer took the whole text of its trace, and nothing else.
 pub record WritesShown (look : Look) (left left' written written' : Option (List ℕ)) : Type 0 where

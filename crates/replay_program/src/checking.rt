@@ -9,13 +9,13 @@ ghost use Rattle.replay_program.specs.Checks.{IsAnswer, IsFaultOf, ReadsAnswer, 
 ghost use Rattle.replay_program.specs.Checks.{WritesAnswer, WritesAnswerPart, has_version_3, ok_line};
 ghost use Rattle.replay_program.specs.Forms.{written_as};
 ghost use Rattle.replay_program.specs.Runs.{most_taken, read_failures, write_failures};
-ghost use Rattle.replay_program.specs.Transfer.{ConsumesUpTo};
+ghost use Rattle.byte_transfer.specs.Transfer.{ConsumesUpTo};
 
 use crate::fault::RunFault;
 use crate::forms::text_as;
 use crate::session::{no_memory, trace_in, written};
-use crate::transfer::{MOST_BYTES, Sink, Source, TextFault, read_text};
 use crate::words::Form;
+use byte_transfer::{MOST_BYTES, Sink, Source, TextFault, read_text};
 use replay_report::check_text;
 use std::alloc::{AllocError, Global};
 use trace_format::{Kind, TraceFault};

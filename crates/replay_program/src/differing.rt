@@ -7,13 +7,13 @@ ghost use Rattle.replay_program.specs.Diffs.{TellsOfTwoReports, WritesDifference
 ghost use Rattle.replay_program.specs.Diffs.{WritesDifferencesPart, WritesPartOfTwo};
 ghost use Rattle.replay_program.specs.Runs.{most_taken, read_failures, write_failures};
 ghost use Rattle.replay_program.specs.Forms.{written_as};
-ghost use Rattle.replay_program.specs.Transfer.{ConsumesUpTo};
+ghost use Rattle.byte_transfer.specs.Transfer.{ConsumesUpTo};
 
 use crate::fault::{ReportsFault, RunFault};
 use crate::forms::text_as;
 use crate::session::written;
-use crate::transfer::{MOST_BYTES, Sink, Source, TextFault, read_text};
 use crate::words::Form;
+use byte_transfer::{MOST_BYTES, Sink, Source, TextFault, read_text};
 use report_diff::{Comparison, DiffFault, compare, compare_two};
 use std::alloc::{AllocError, Global};
 

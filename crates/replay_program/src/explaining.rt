@@ -7,13 +7,13 @@ ghost use Rattle.replay_program.specs.ShownDiffs.{ComparesShown, ComparesShownTw
 ghost use Rattle.replay_program.specs.ShownDiffs.{TellsOfShownTwo, WritesShownDifferences};
 ghost use Rattle.replay_program.specs.ShownDiffs.{WritesShownDifferencesOfTwo};
 ghost use Rattle.replay_program.specs.ShownDiffs.{WritesShownDifferencesPart, WritesShownPartOfTwo};
-ghost use Rattle.replay_program.specs.Transfer.{ConsumesUpTo};
+ghost use Rattle.byte_transfer.specs.Transfer.{ConsumesUpTo};
 
 use crate::differing::{comparison_of_two, taken_comparison};
 use crate::fault::{ReportsFault, RunFault};
 use crate::session::{taken_trace, written};
-use crate::transfer::{Sink, Source};
 use crate::words::Form;
+use byte_transfer::{Sink, Source};
 use report_diff::Comparison;
 use std::alloc::{AllocError, Global};
 use trace_format::Trace;

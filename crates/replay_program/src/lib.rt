@@ -12,9 +12,11 @@ mod in_turn;
 mod making;
 mod session;
 mod showing;
-mod transfer;
 mod words;
 
+pub use byte_transfer::{
+    Failed, FromStd, MOST_BYTES, Sink, Source, TextFault, read_text, write_text,
+};
 pub use checking::run_check;
 pub use differing::{run_diff, run_diff_of_two};
 pub use ending::{Ending, Stream, fault_ending, usage_ending, usage_text};
@@ -23,7 +25,6 @@ pub use fault::{ReportsFault, RunFault};
 pub use making::{MakingFault, run_make};
 pub use session::{run, run_alone, told};
 pub use showing::run_show;
-pub use transfer::{Failed, FromStd, MOST_BYTES, Sink, Source, TextFault, read_text, write_text};
 pub use words::{
     Files, Form, Mode, Options, Request, Task, Usage, UsageKind, no_memory, not_text, read_words,
 };

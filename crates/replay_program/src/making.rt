@@ -1,12 +1,13 @@
 //! A trace from text, from a reader to a writer.
 ghost use Rattle.std.specs.Prelude.{◌≡◌, ◌≢◌, ◌+◌, ◌-◌, ◌^◌, ◌<◌, IfErr, OnOk};
 ghost use Rattle.std.specs.Io.KnownBytes.{IsAtEnd, Keeps};
-ghost use Rattle.replay_program.specs.Makes.{TellsOfMaking, WritesTrace, WritesTracePart};
+ghost use Rattle.replay_program.specs.Makes.{TellsOfMaking, TellsOfText, WritesMeant, WritesMeantPart};
+ghost use Rattle.replay_program.specs.Makes.{WritesTrace, WritesTracePart};
 ghost use Rattle.replay_program.specs.Makes.{making_status, reads_failed, writes_failed};
 ghost use Rattle.replay_program.specs.Runs.{most_taken};
-ghost use Rattle.replay_program.specs.Transfer.{ConsumesUpTo};
+ghost use Rattle.byte_transfer.specs.Transfer.{ConsumesUpTo};
 
-use crate::transfer::{Failed, MOST_BYTES, Sink, Source, TextFault, read_text, write_text};
+use byte_transfer::{Failed, MOST_BYTES, Sink, Source, TextFault, read_text, write_text};
 use std::alloc::Global;
 use std::error::Error;
 use std::fmt;
@@ -68,11 +69,12 @@ pub fn run_make<R: Source, W: Sink>(
     requires reader { R.failures reader.old < 2 ^ 64 - 1 }
     requires writer { W.failures writer.old < 2 ^ 64 - 1 }
 
-    // The whole reader was read, and what went out is a trace.
+    // The whole reader was read, and what went out is the trace that its text means.
     ensures ended { OnOk result (IsAtEnd (R.left reader.new)) }
-    ensures done { OnOk result (WritesTrace (W.written writer.old) (W.written writer.new)) }
-    ensures part { result ≡ Err MakingFault.Write
-        → WritesTracePart (W.written writer.old) (W.written writer.new) }
+    ensures done { OnOk result (WritesTrace (R.left reader.old)
+        (R.left reader.new) (W.written writer.old) (W.written writer.new)) }
+    ensures part { result ≡ Err MakingFault.Write → WritesTracePart (R.left reader.old)
+        (R.left reader.new) (W.written writer.old) (W.written writer.new) }
     ensures nothing { IfErr result (λ fault. fault ≢ MakingFault.Write
         → Keeps (W.written writer.old) (W.written writer.new)) }
 
@@ -96,12 +98,12 @@ pub fn run_make<R: Source, W: Sink>(
 /// Writes the trace that a text means.
 fn write_made<W: Sink>(alloc: Global, text: &[u8], writer: &mut W) -> Result<(), MakingFault>
     requires { W.failures writer.old < 2 ^ 64 - 1 }
-    ensures done { OnOk result (WritesTrace (W.written writer.old) (W.written writer.new)) }
+    ensures done { OnOk result (WritesMeant text.now (W.written writer.old) (W.written writer.new)) }
     ensures part { result ≡ Err MakingFault.Write
-        → WritesTracePart (W.written writer.old) (W.written writer.new) }
+        → WritesMeantPart text.now (W.written writer.old) (W.written writer.new) }
     ensures nothing { IfErr result (λ fault. fault ≢ MakingFault.Write
         → Keeps (W.written writer.old) (W.written writer.new)) }
-    ensures no_reading { IfErr result (λ fault. (fault ≢ MakingFault.Read) × (fault ≢ MakingFault.TooLong)) }
+    ensures told { IfErr result (TellsOfText text.now) }
     ensures write { W.failures writer.new ≡ W.failures writer.old + writes_failed result }
 {
     match make_bytes(alloc, text) {

@@ -15,14 +15,14 @@ ghost use Rattle.replay_report.specs.Report.{check_line};
 ghost use Rattle.replay_program.specs.Runs.{IsOutputOf, WritesOutput, WritesPart, most_taken};
 ghost use Rattle.replay_program.specs.Runs.{read_failures, rounds_output, sequential_report};
 ghost use Rattle.replay_program.specs.Runs.{verdict_line, write_failures};
-ghost use Rattle.replay_program.specs.Transfer.{AppendsPart, ConsumesUpTo};
+ghost use Rattle.byte_transfer.specs.Transfer.{AppendsPart, ConsumesUpTo};
 ghost use Rattle.replay_program.specs.Limits.{IsServed, IsWindow};
 
 use crate::fault::RunFault;
 use crate::forms::pieces_as;
 use crate::in_turn::serial_report;
-use crate::transfer::{Sink, Source, TextFault, read_text, write_text};
 use crate::words::{Form, Mode, Options};
+use byte_transfer::{Sink, Source, TextFault, read_text, write_text};
 use depend_report::{depends_graph, depends_text};
 use replay_core::parallel::replay;
 use replay_core::quick::replay_quick;

@@ -5,11 +5,11 @@ ghost use Rattle.trace_text.specs.Shown.{text_of};
 ghost use Rattle.replay_program.specs.Runs.{TellsOfReading, most_taken, read_failures};
 ghost use Rattle.replay_program.specs.Runs.{write_failures};
 ghost use Rattle.replay_program.specs.Shows.{WritesShown, WritesShownPart};
-ghost use Rattle.replay_program.specs.Transfer.{ConsumesUpTo};
+ghost use Rattle.byte_transfer.specs.Transfer.{ConsumesUpTo};
 
 use crate::fault::RunFault;
 use crate::session::{taken_trace, written};
-use crate::transfer::{Sink, Source};
+use byte_transfer::{Sink, Source};
 use replay_core::ReplayFault;
 use std::alloc::{AllocError, Global};
 use trace_format::Trace;

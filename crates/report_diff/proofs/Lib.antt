@@ -2,6 +2,8 @@ pub mod Slices
 pub mod Words
 pub mod Subjects
 pub mod Sets
+pub mod FirstLemmas
 pub mod RepeatLemmas
+pub mod PlaceLemmas
 pub mod IndexLemmas
 pub mod Reports

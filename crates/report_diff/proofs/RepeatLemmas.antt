@@ -1,11 +1,9 @@
 -- What a text says of one subject in more than one line, after one line more.
-use Rattle.std.proofs.Common.{◌≡◌, ℕ, ◌+◌, Bool, true, false, not, List, [], ◌∷◌, ◌++◌, length, None, Some, refl, sym, ap, ◌∙◌, arith, append_assoc}
+use Rattle.std.proofs.Common.{◌≡◌, ℕ, Bool, true, false, not, List, [], ◌∷◌, ◌++◌, refl, sym, ap, ◌∙◌, arith, append_assoc}
 use Rattle.std.specs.Prelude.{is_some}
-use Rattle.std.proofs.lemmas.Bool.{cases_Bool}
-use Rattle.std.proofs.Common.{inl, inr}
 use Rattle.std.proofs.lemmas.List.{append-nil}
 use Rattle.report_diff.specs.Lines.{line_about, subject}
-use Rattle.report_diff.specs.Repeats.{if_new, once, once_behind, otherwise, otherwise_behind, says_otherwise}
+use Rattle.report_diff.specs.Repeats.{if_new, once, once_behind}
 
 once_behind-append : (earlier xs ys : List (List ℕ)) → once_behind earlier (xs ++ ys) ≡ once_behind earlier xs ++ once_behind (earlier ++ xs) ys
 once_behind-append earlier [] ys = rw append-nil refl
@@ -24,26 +22,9 @@ once_known text line known = once_more text line ∙ rw known (append-nil (once 
 pub once_new : (text : List (List ℕ)) (line : List ℕ) → is_some (line_about text (subject line)) ≡ false → once (text ++ line ∷ []) ≡ once text ++ line ∷ []
 once_new text line new = once_more text line ∙ rw new refl
 
--- behind lines that say nothing otherwise
-behind : (earlier xs ys : List (List ℕ)) → otherwise_behind earlier xs ≡ None → otherwise_behind earlier (xs ++ ys) ≡ otherwise_behind (earlier ++ xs) ys
-behind earlier [] ys none = rw append-nil refl
-behind earlier (x ∷ xs) ys none = elim (cases_Bool (says_otherwise earlier x)) [
-  | inl other ↦ (let never : Some (length earlier + 1, subject x) ≡ None = rw other at none in cc)
-  | inr same ↦ rw (same, behind (earlier ++ x ∷ []) xs ys (rw same at none), append_assoc) refl
-]
-
 -- what a test says of a line
 pub says_same : (other : Bool) → true ≡ not other → other ≡ false
 says_same other e = grind (arith, e)
 
 pub says_other : (other : Bool) → false ≡ not other → other ≡ true
 says_other other e = grind (arith, e)
-
-pub none_more : (text : List (List ℕ)) (line : List ℕ) → otherwise text ≡ None → says_otherwise text line ≡ false → otherwise (text ++ line ∷ []) ≡ None
-unfolding otherwise
-none_more text line none same = behind [] text (line ∷ []) none ∙ rw same refl
-
-pub first_found : (text more : List (List ℕ)) (line : List ℕ) → otherwise text ≡ None → says_otherwise text line ≡ true
-    → otherwise (text ++ line ∷ more) ≡ Some (length text + 1, subject line)
-unfolding otherwise
-first_found text more line none other = behind [] text (line ∷ more) none ∙ rw other refl

@@ -1,5 +1,5 @@
 -- The form of a text, by the place of its first end.
-use Rattle.std.proofs.Common.{◌≡◌, ◌<◌, ◌≤◌, ◌+◌, ℕ, true, false, not, if◌then◌else◌, List, [], length, take, drop, Some, None, refl, min, subst, ap, ◌∙◌, inl, inr, arith}
+use Rattle.std.proofs.Common.{◌≡◌, ◌<◌, ◌≤◌, ◌+◌, ℕ, true, false, not, if◌then◌else◌, List, [], length, take, drop, Some, refl, min, subst, ap, ◌∙◌, inl, inr, arith}
 use Rattle.std.specs.List.{list_any, position_or_len}
 use Rattle.std.specs.Borrow.{Bor}
 use Rattle.std.proofs.lemmas.List.{take-map, length-map, take_all, drop_all}
@@ -10,7 +10,8 @@ use Rattle.std.proofs.lemmas.List.Sums.{fails_before_first, passes_at_first}
 use Rattle.report_diff.specs.declared.refusal.Side.{Side}
 use Rattle.report_diff.specs.declared.refusal.Flaw.TheVariants.{End, GoesOn}
 use Rattle.report_diff.specs.Lines.{lines, texts}
-use Rattle.report_diff.specs.Inputs.{begins, flaw_of, is_end, is_nothing, report_in, first_text, second_text}
+use Rattle.report_diff.specs.Inputs.{flaw_of, is_end, is_nothing, order_of, report_in, version_of, first_text, second_text}
+use Rattle.report_diff.specs.declared.version.Version.{Version}
 use Rattle.report_diff.specs.Refusals.{flaw_text}
 
 abbrev pub now : Bor (List ℕ) → List ℕ
@@ -28,20 +29,21 @@ some_end : (text : List (List ℕ)) → position_or_len is_end text < length tex
 some_end text lt = list_any_at is_end text (position_or_len is_end text) [] lt (passes_at_first is_end text [] lt)
 
 -- what is wrong with a text that has a heading: no end
-pub lacks_end : (side : Side) (all : List (Bor (List ℕ))) (end : ℕ) → begins (texts all) ≡ true → end ≡ position_or_len is_end (texts all) → end ≡ length all
+pub lacks_end : (side : Side) (version : Version) (all : List (Bor (List ℕ))) (end : ℕ) → Some version ≡ version_of (texts all) → end ≡ position_or_len is_end (texts all) → end ≡ length all
     → flaw_of side (texts all) ≡ Some (flaw_text side End)
 unfolding flaw_of
-lacks_end side all end heading place past =
+lacks_end side version all end heading place past =
     let none = no_end (texts all) (omega (arith, length-map all now)) in
-    rw (heading, none) refl
+    rw (← heading, none) refl
 
 -- or by what stands behind the end
-pub flaw_is : (side : Side) (all : List (Bor (List ℕ))) (end : ℕ) → begins (texts all) ≡ true → end ≡ position_or_len is_end (texts all) → end < length all
-    → flaw_of side (texts all) ≡ (if not (is_nothing (texts (drop (end + 1) all))) then Some (flaw_text side GoesOn) else None)
+pub flaw_is : (side : Side) (version : Version) (all : List (Bor (List ℕ))) (end : ℕ) → Some version ≡ version_of (texts all)
+    → end ≡ position_or_len is_end (texts all) → end < length all
+    → flaw_of side (texts all) ≡ (if not (is_nothing (texts (drop (end + 1) all))) then Some (flaw_text side GoesOn) else order_of side version (texts (take end all)))
 unfolding flaw_of
-flaw_is side all end heading place lt =
+flaw_is side version all end heading place lt =
     let some = some_end (texts all) (omega (arith, length-map all now)) in
-    rw (heading, some, ← drop-map now (end + 1) all, place) refl
+    rw (← heading, some, ← drop-map now (end + 1) all, report_is all end place, place) refl
 
 -- the texts of an input of both, by where the second begins
 pub first_text_is : (input : List ℕ) (all : List (Bor (List ℕ))) (end second : ℕ) → texts all ≡ lines input → end ≡ position_or_len is_end (texts all)

@@ -6,21 +6,28 @@ use Rattle.std.specs.Str.{bytes_eq}
 use Rattle.report_diff.specs.declared.comparing.Comparison.{Comparison}
 use Rattle.report_diff.specs.declared.comparing.DiffFault.{DiffFault}
 use Rattle.report_diff.specs.declared.comparing.DiffFault.TheVariants.{Memory, Refused}
+use Rattle.report_diff.specs.declared.refusal.Refusal.{Refusal}
 use Rattle.report_diff.specs.declared.refusal.Side.{Side}
 use Rattle.report_diff.specs.declared.refusal.Side.TheVariants.{First, Second}
 use Rattle.report_diff.specs.declared.refusal.Flaw.TheVariants.{Heading, End, GoesOn}
+use Rattle.report_diff.specs.declared.version.Version.{Version}
+use Rattle.report_diff.specs.declared.version.Version.TheVariants.{One, Two}
 use Rattle.report_diff.specs.Lines.{lines}
-use Rattle.report_diff.specs.Refusals.{flaw_text, otherwise_text, refusal_text, shown_subject}
+use Rattle.report_diff.specs.Refusals.{flaw_text, order_text, otherwise_text, refusal_text, shown_subject, versions_text}
+use Rattle.report_diff.specs.Places.{first_fall}
 use Rattle.report_diff.specs.Repeats.{otherwise}
 use Rattle.report_diff.specs.Differences.{are_alike, difference_text}
 
 abbrev pub is_end : List ℕ → Bool
 is_end line = bytes_eq line (codes "end")
 
--- Whether a text begins with the heading of a report.
-abbrev pub begins : List (List ℕ) → Bool
-begins [] = false
-begins (line ∷ more) = bytes_eq line (codes "uring-report 1")
+-- The version of the report that a text begins with, by its heading.
+abbrev pub version_in : List ℕ → Option Version
+version_in line = if bytes_eq line (codes "uring-report 1") then Some One else if bytes_eq line (codes "uring-report 2") then Some Two else None
+
+abbrev pub version_of : List (List ℕ) → Option Version
+version_of [] = None
+version_of (line ∷ more) = version_in line
 
 -- Whether nothing stands behind a line but its line feed.
 abbrev pub is_nothing : List (List ℕ) → Bool
@@ -32,23 +39,37 @@ is_nothing _ = false
 unfoldable pub report_in : List (List ℕ) → List (List ℕ)
 report_in text = before_first is_end text
 
--- What is wrong with the form of a text: its heading lacks, or its end, or it goes on behind that.
-unfoldable pub flaw_of : Side → List (List ℕ) → Option (List ℕ)
-flaw_of side text =
-    if not (begins text) then Some (flaw_text side Heading)
-    else if not (list_any is_end text) then Some (flaw_text side End)
+-- What is wrong with the order of a report: in version 2 the places of the entries rise.
+abbrev pub order_of : Side → Version → List (List ℕ) → Option (List ℕ)
+order_of side One report = None
+order_of side Two report = option_map (λ found. order_text side found.0 (shown_subject found.1)) (first_fall report)
+
+-- What is wrong with the form of a text: its heading lacks, or its end, or it goes on behind that, or its lines have another order.
+abbrev pub flaw_behind : Side → List (List ℕ) → Option Version → Option (List ℕ)
+flaw_behind side text None = Some (flaw_text side Heading)
+flaw_behind side text (Some version) =
+    if not (list_any is_end text) then Some (flaw_text side End)
     else if not (is_nothing (after_first is_end text)) then Some (flaw_text side GoesOn)
-    else None
+    else order_of side version (report_in text)
+
+unfoldable pub flaw_of : Side → List (List ℕ) → Option (List ℕ)
+flaw_of side text = flaw_behind side text (version_of text)
+
+-- Two reports of different versions are not compared.
+abbrev pub versions_flaw : Option Version → Option Version → Option (List ℕ)
+versions_flaw (Some One) (Some Two) = Some (versions_text One Two)
+versions_flaw (Some Two) (Some One) = Some (versions_text Two One)
+versions_flaw _ _ = None
 
 -- What is wrong with what a report says: a line says otherwise of its subject than an earlier one.
 abbrev pub otherwise_of : Side → List (List ℕ) → Option (List ℕ)
 otherwise_of side report = option_map (λ found. otherwise_text side found.0 (shown_subject found.1)) (otherwise report)
 
--- Why the lines of two texts are not two reports: the form of one, or else what one says.
+-- Why the lines of two texts are not two reports of one version: the form of one, their versions, or else what one says.
 unfoldable pub refusal_of : List (List ℕ) → List (List ℕ) → Option (List ℕ)
 refusal_of first second =
-    option_or (flaw_of First first) (option_or (flaw_of Second second)
-    (option_or (otherwise_of First (report_in first)) (otherwise_of Second (report_in second))))
+    option_or (flaw_of First first) (option_or (flaw_of Second second) (option_or (versions_flaw (version_of first) (version_of second))
+    (option_or (otherwise_of First (report_in first)) (otherwise_of Second (report_in second)))))
 
 -- How the reports of two texts compare.
 unfoldable pub differences_of : List (List ℕ) → List (List ℕ) → List ℕ
@@ -57,7 +78,7 @@ differences_of first second = difference_text (report_in first) (report_in secon
 unfoldable pub are_alike_of : List (List ℕ) → List (List ℕ) → Bool
 are_alike_of first second = are_alike (report_in first) (report_in second)
 
--- The lines of two texts are two reports, and this is how they compare.
+-- The lines of two texts are two reports of one version, and this is how they compare.
 pub record ComparesLines (first second : List (List ℕ)) (comparison : Comparison) : Type 0 where
   pub reports : refusal_of first second ≡ None
   pub text : comparison.text.items ≡ differences_of first second
@@ -72,6 +93,12 @@ TellsOfLines first second Memory = ⊤
 abbrev pub TellsFlaw : Side → List (List ℕ) → DiffFault → Type 0
 TellsFlaw side text (Refused why) = flaw_of side text ≡ Some (refusal_text why)
 TellsFlaw side text Memory = ⊤
+
+abbrev pub TellsVersions : List (List ℕ) → List (List ℕ) → Refusal → Type 0
+TellsVersions first second why = versions_flaw (version_of first) (version_of second) ≡ Some (refusal_text why)
+
+abbrev pub TellsOrder : Side → Version → List (List ℕ) → Refusal → Type 0
+TellsOrder side version report why = order_of side version report ≡ Some (refusal_text why)
 
 abbrev pub TellsOtherwise : Side → List (List ℕ) → DiffFault → Type 0
 TellsOtherwise side report (Refused why) = otherwise_of side report ≡ Some (refusal_text why)

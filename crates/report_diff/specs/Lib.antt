@@ -1,5 +1,6 @@
 pub mod Lines
 pub mod Repeats
+pub mod Places
 pub mod Refusals
 pub mod Differences
 pub mod Known

@@ -1,5 +1,5 @@
 -- The model: the lines of a report, what each is about and what it says. At the end, a view of code: the map of the lines by what they are about.
-use Rattle.std.specs.Prelude.{ℕ, ◌≡◌, ◌==◌, Bool, not, List, [], ◌∷◌, length, map, filter, take, drop, codes, Option, None, Some, if◌then◌else◌}
+use Rattle.std.specs.Prelude.{ℕ, ◌≡◌, ◌+◌, ◌==◌, Bool, not, List, [], ◌∷◌, ◌++◌, length, map, filter, take, drop, codes, Option, None, Some, if◌then◌else◌}
 use Rattle.std.specs.List.{before_first, find, list_any, position_or_len, slice_split, join_with_byte}
 use Rattle.std.specs.Str.{bytes_eq}
 use Rattle.std.specs.Borrow.{Bor}
@@ -30,7 +30,7 @@ heading_words = codes "uring-report" ∷ codes "ring" ∷ codes "tree" ∷ codes
 -- What a line is, by its first word.
 unfoldable pub kind_of : List ℕ → Kind
 kind_of word =
-    if bytes_eq word (codes "dir") then Name else if bytes_eq word (codes "file") then Name
+    if bytes_eq word (codes "dir") then Name else if bytes_eq word (codes "file") then Name else if bytes_eq word (codes "link") then Name
     else if bytes_eq word (codes "slot") then Slot else if bytes_eq word (codes "descriptor") then Descriptor
     else if bytes_eq word (codes "buffer") then Buffer
     else if list_any (bytes_eq word) heading_words then Heading else Entry
@@ -69,6 +69,11 @@ section_of Name = Some Tree
 section_of Slot = Some Slots
 section_of Descriptor = Some Slots
 section_of Buffer = Some Buffers
+
+-- The first line that a test finds behind the lines before it: its number, from 1, and its subject.
+abbrev pub first_behind : (List (List ℕ) → List ℕ → Bool) → List (List ℕ) → List (List ℕ) → Option (ℕ × List ℕ)
+first_behind test earlier [] = None
+first_behind test earlier (line ∷ more) = if test earlier line then Some (length earlier + 1, subject line) else first_behind test (earlier ++ line ∷ []) more
 
 -- The first line of a text about a subject.
 unfoldable pub line_about : List (List ℕ) → List ℕ → Option (List ℕ)

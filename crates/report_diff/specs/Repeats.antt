@@ -1,9 +1,9 @@
 -- The model: what a text says of one subject in more than one line. At the end, a view of code: the lines of a text by their subjects.
-use Rattle.std.specs.Prelude.{ℕ, ◌≡◌, ◌+◌, Bool, false, not, ◌&&◌, is_some, List, [], ◌∷◌, ◌++◌, length, Option, None, Some, if◌then◌else◌}
+use Rattle.std.specs.Prelude.{ℕ, ◌≡◌, Bool, false, not, ◌&&◌, is_some, List, [], ◌∷◌, ◌++◌, Option, None, Some, if◌then◌else◌}
 use Rattle.std.specs.List.{list_all, list_any}
 use Rattle.std.specs.Str.{bytes_eq}
 use Rattle.report_diff.specs.declared.index.Index.{Index}
-use Rattle.report_diff.specs.Lines.{Knows, facts, line_about, line_kind, section_of, subject, texts}
+use Rattle.report_diff.specs.Lines.{Knows, facts, first_behind, line_about, line_kind, section_of, subject, texts}
 
 -- Two lines have the same facts where each fact of one is a fact of the other.
 abbrev pub all_among : List (List ℕ) → List (List ℕ) → Bool
@@ -21,14 +21,9 @@ differs_from line (Some earlier) = not (have_same_facts earlier line)
 unfoldable pub says_otherwise : List (List ℕ) → List ℕ → Bool
 says_otherwise earlier line = is_some (section_of (line_kind line)) && differs_from line (line_about earlier (subject line))
 
--- The first line that says otherwise of its subject than an earlier one: its number, from 1, and its subject.
-abbrev pub otherwise_behind : List (List ℕ) → List (List ℕ) → Option (ℕ × List ℕ)
-otherwise_behind earlier [] = None
-otherwise_behind earlier (line ∷ more) =
-    if says_otherwise earlier line then Some (length earlier + 1, subject line) else otherwise_behind (earlier ++ line ∷ []) more
-
+-- The first line that says otherwise of its subject than an earlier one.
 unfoldable pub otherwise : List (List ℕ) → Option (ℕ × List ℕ)
-otherwise text = otherwise_behind [] text
+otherwise text = first_behind says_otherwise [] text
 
 -- The lines of a text without those whose subject an earlier one has.
 abbrev pub if_new : List (List ℕ) → List ℕ → List (List ℕ)

@@ -3,17 +3,19 @@ ghost use Rattle.std.specs.Prelude.{◌≡◌, ◌≤◌, IfErr, IfOk, List, Non
 ghost use Rattle.std.specs.List.{flat_map, position_or_len};
 ghost use Rattle.report_diff.specs.Differences.{Adds, Holds, are_alike, difference_text, found};
 ghost use Rattle.report_diff.specs.Differences.{of_first, of_second};
-ghost use Rattle.report_diff.specs.Inputs.{Compares, ComparesLines, ComparesTwo, TellsFlaw};
-ghost use Rattle.report_diff.specs.Inputs.{TellsOfInput, TellsOfLines, TellsOfTwo, begins};
-ghost use Rattle.report_diff.specs.Inputs.{flaw_of, is_end, is_nothing, report_in};
+ghost use Rattle.report_diff.specs.Inputs.{Compares, ComparesLines, ComparesTwo, TellsFlaw, TellsVersions};
+ghost use Rattle.report_diff.specs.Inputs.{TellsOfInput, TellsOfLines, TellsOfTwo};
+ghost use Rattle.report_diff.specs.Inputs.{flaw_of, is_end, is_nothing, report_in, version_of, versions_flaw};
 ghost use Rattle.report_diff.specs.declared.comparing.DiffFault.TheVariants.{Memory, Refused};
 ghost use Rattle.report_diff.specs.Lines.{texts};
 ghost use Rattle.report_diff.specs.Repeats.{IsIndex};
 
 use crate::index::Index;
 use crate::lines::lines;
+use crate::places::in_order;
 use crate::refusal::{Flaw, Refusal, Side};
 use crate::telling::{Told, counts_text, no_difference};
+use crate::version::Version;
 use std::alloc::{AllocError, Global};
 
 /// How two reports compare.
@@ -85,26 +87,43 @@ fn compare_lines(alloc: Global, first: &[&[u8]], second: &[&[u8]]) -> Result<Com
     ensures ok { IfOk result (ComparesLines (texts first.now) (texts second.now)) }
     ensures err { IfErr result (TellsOfLines (texts first.now) (texts second.now)) }
 {
-    let first = report_in(Side::First, first)?;
-    let second = report_in(Side::Second, second)?;
-    let first = Index::of(alloc, Side::First, first)?;
-    let second = Index::of(alloc, Side::Second, second)?;
-    Ok(compared(alloc, &first, &second)?)
+    let one = report_in(Side::First, first)?;
+    let other = report_in(Side::Second, second)?;
+    of_one_version(first, second)?;
+    let one = Index::of(alloc, Side::First, one)?;
+    let other = Index::of(alloc, Side::Second, other)?;
+    Ok(compared(alloc, &one, &other)?)
 }
 
-/// The lines of a text up to its first line `end`, behind which nothing may stand.
+/// Refuses two reports of different versions.
+fn of_one_version(first: &[&[u8]], second: &[&[u8]]) -> Result<(), Refusal>
+    ensures ok { OnOk result
+        (versions_flaw (version_of (texts first.now)) (version_of (texts second.now)) ≡ None) }
+    ensures err { IfErr result (TellsVersions (texts first.now) (texts second.now)) }
+{
+    let (first, second) = match (Version::of(first), Version::of(second)) {
+        (Some(first), Some(second)) if first != second => (first, second),
+        _ => return Ok(()),
+    };
+    Err(Refusal {
+        side: Side::Second,
+        flaw: Flaw::Versions { first, second },
+    })
+}
+
+/// The lines of a text up to its first line `end`, behind which nothing may stand, in their order.
 #[tactic(auto, unfolding(crate::specs::Inputs::flaw_of, crate::specs::Inputs::report_in))]
 fn report_in<'t, 'a>(side: Side, text: &'t [&'a [u8]]) -> Result<&'t [&'a [u8]], Refusal>
     ensures report { IfOk result (λ report. texts report.now ≡ report_in (texts text.now)) }
     ensures whole { OnOk result (flaw_of side (texts text.now) ≡ None) }
     ensures err { IfErr result (λ why. TellsFlaw side (texts text.now) (Refused why)) }
 {
-    if !begins(text) {
+    let Some(version) = Version::of(text) else {
         return Err(Refusal {
             side,
             flaw: Flaw::Heading,
         });
-    }
+    };
     let end = end_of(text);
     if end == text.len() {
         return Err(Refusal {
@@ -118,17 +137,8 @@ fn report_in<'t, 'a>(side: Side, text: &'t [&'a [u8]]) -> Result<&'t [&'a [u8]],
             flaw: Flaw::GoesOn,
         });
     }
+    in_order(side, version, &text[..end])?;
     Ok(&text[..end])
-}
-
-/// Whether lines begin with the heading of a report.
-fn begins(lines: &[&[u8]]) -> bool
-    ensures { result ≡ begins (texts lines.now) }
-{
-    match lines.first() {
-        Some(line) => *line == b"uring-report 1".as_slice(),
-        None => false,
-    }
 }
 
 /// Whether nothing stands behind a line but its line feed.

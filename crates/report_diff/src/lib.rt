@@ -3,6 +3,7 @@
 //! [`compare`] takes both reports from one input and tells where they differ. A line is about its
 //! *subject*, its first words; the other words are its *facts*. Two lines of one subject agree where
 //! no fact of one contradicts the other: what only one of them tells is no difference.
+//! Both have one version. In version 2 the places of the entries rise.
 //! `specs/Differences.antt` has the rules.
 #![tactic(auto)]
 
@@ -11,8 +12,11 @@ mod facts;
 mod index;
 mod known;
 mod lines;
+mod places;
 mod refusal;
 mod telling;
+mod version;
 
 pub use comparing::{Comparison, DiffFault, compare, compare_two};
 pub use refusal::{Flaw, Refusal, Shown, Side};
+pub use version::Version;

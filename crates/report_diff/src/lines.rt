@@ -4,6 +4,7 @@ ghost use Rattle.std.specs.List.{list_any};
 ghost use Rattle.std.specs.Str.{bytes_eq};
 ghost use Rattle.report_diff.specs.Lines.{first_words, heading_words, kind_of, line_kind, lines};
 ghost use Rattle.report_diff.specs.Lines.{section_of, subject, subject_words, texts, words};
+ghost use Rattle.report_diff.specs.Places.{is_entry};
 
 use std::alloc::{AllocError, Global};
 
@@ -13,7 +14,7 @@ pub(crate) enum Kind {
     /// The heading of a report, a ring or a section, or the end of a report.
     Heading,
     Entry,
-    /// A directory or a file.
+    /// A directory, a file or a symbolic link.
     Name,
     Slot,
     Descriptor,
@@ -34,7 +35,7 @@ impl Kind {
     fn of(word: &[u8]) -> Kind
         ensures { result ≡ kind_of word.now }
     {
-        if word == b"dir".as_slice() || word == b"file".as_slice() {
+        if word == b"dir".as_slice() || word == b"file".as_slice() || word == b"link".as_slice() {
             Kind::Name
         } else if word == b"slot".as_slice() {
             Kind::Slot
@@ -58,6 +59,15 @@ impl Kind {
             Kind::Slot | Kind::Buffer => 3,
             Kind::Name | Kind::Descriptor => 2,
             Kind::Heading | Kind::Entry => 1,
+        }
+    }
+
+    pub(crate) fn is_entry(self) -> bool
+        ensures { result ≡ is_entry self }
+    {
+        match self {
+            Kind::Entry => true,
+            _ => false,
         }
     }
 

@@ -2,6 +2,7 @@
 ghost use Rattle.std.specs.Prelude.{◌≡◌, Some};
 ghost use Rattle.report_diff.specs.Refusals.{refusal_text, shown_byte, shown_subject, side_name};
 
+use crate::version::Version;
 use arrayvec::ArrayString;
 use std::fmt;
 
@@ -27,6 +28,10 @@ pub enum Flaw {
     End,
     /// More lines follow the line `end`.
     GoesOn,
+    /// The two reports have different versions.
+    Versions { first: Version, second: Version },
+    /// A line, by its number from 1, is of an entry whose place does not rise.
+    Order { line: usize, subject: Shown },
     /// A line, by its number from 1, has other facts than an earlier one of its subject.
     Otherwise { line: usize, subject: Shown },
 }
@@ -62,6 +67,17 @@ impl fmt::Display for Refusal {
                 Side::Second => f.write_str("the second has no end"),
             },
             Flaw::GoesOn => write!(f, "the {side} goes on behind its end"),
+            Flaw::Versions { first, second } => {
+                let (first, second) = (first.number(), second.number());
+                write!(
+                    f,
+                    "the first is uring-report {first}, the second uring-report {second}"
+                )
+            }
+            Flaw::Order { line, subject } => {
+                let subject = subject.as_str();
+                write!(f, "line {line} of the {side} is out of order at {subject}")
+            }
             Flaw::Otherwise { line, subject } => {
                 let subject = subject.as_str();
                 write!(f, "line {line} of the {side} says otherwise of {subject}")

@@ -2,9 +2,9 @@
 #![tactic(auto)]
 
 mod names;
-mod strings;
+mod paths;
 mod words;
 
 pub use names::{name_at, opcode_name};
-pub use strings::{push_path, push_pieces, push_string};
+pub use paths::push_path;
 pub use words::{glyph, push_bytes, push_decimal, push_hexadecimal, push_octal, push_signed};

@@ -1,5 +1,5 @@
 -- The model: the line of an entry.
-use Rattle.std.specs.Prelude.{ℕ, ◌+◌, ◌-◌, ◌/◌, ◌^◌, ◌==◌, ◌&&◌, ◌||◌, not, nat_lt, nat_eq, min, Bool, List, [], ◌++◌, length, take, drop, Option, None, Some, Result, Ok, Err, bit_and, bit_or, codes, is_some, unwrap_or, option_map, slice_index, if◌then◌else◌}
+use Rattle.std.specs.Prelude.{ℕ, ◌+◌, ◌-◌, ◌/◌, ◌^◌, ◌==◌, ◌&&◌, ◌||◌, not, nat_lt, nat_eq, min, Bool, true, false, List, [], ◌++◌, length, take, drop, Option, None, Some, Result, Ok, Err, bit_and, bit_or, codes, is_some, unwrap_or, option_map, slice_index, if◌then◌else◌}
 use Rattle.std.specs.Int.{cast_signed, to_le_bytes, w16, w32, w64}
 use Rattle.std.specs.List.{before_first, slice_split, starts_with}
 use Rattle.std.specs.Str.{bytes_eq}
@@ -7,7 +7,7 @@ use Rattle.sqe_codec.specs.declared.sqe.Sqe.{Sqe}
 use Rattle.text_words.specs.declared.fault.Fault.{Fault}
 use Rattle.text_words.specs.declared.fault.Reason.TheVariants as why
 use Rattle.text_words.specs.Numbers.{number, number_at}
-use Rattle.text_words.specs.Paths.{path_at}
+use Rattle.text_words.specs.Paths.{letters_of}
 use Rattle.text_words.specs.Read.{Rest, Word, ◌>>=◌, fault, known, refuse_if, repeated, taken}
 use Rattle.text_words.specs.Strings.{is_string, more_string}
 use Rattle.text_words.specs.Words.{behind_next, is_at_end, line_end, next_word, value_at}
@@ -75,15 +75,12 @@ add_field d field word value = do
   n ← number_at (style_of d.sqe.opcode field) (bits_of field) value
   Ok (record d { sqe = with_field d.sqe field n; given = bit_or d.given (mark_of field) })
 
--- a path beside an entry, which may be empty
-unfoldable pub path_or_none : Word → Result (List ℕ) Fault
-path_or_none word = if length word.bytes == 0 then Ok [] else path_at word
-
--- the same, where none was told before
-unfoldable pub first_path : Option (List ℕ) → Word → Word → Result (Option (List ℕ)) Fault
-first_path before word value = do
+-- A path beside an entry, which may be empty, where none was told before. Two bytes count the first one of two.
+unfoldable pub first_path : Bool → Option (List ℕ) → Word → Word → Result (Option (List ℕ)) Fault
+first_path is_counted before word value = do
   _ ← refuse_if (is_some before) (fault why.FieldTwice word.left)
-  path ← path_or_none value
+  path ← letters_of value
+  _ ← refuse_if (is_counted && nat_lt 65535 (length path)) (fault why.PathLong value.left)
   Ok (Some path)
 
 -- one length more, 8 bytes, of a part that begins where so many bytes of the text are left
@@ -133,11 +130,11 @@ add_number d word = do
 -- a word that is a key and a value
 unfoldable pub add_keyed : Draft → Word → Result Draft Fault
 add_keyed d word = elim (value_at word (codes "path")) [
-  | Some value ↦ first_path d.path word value >>= λ path. Ok (record d { path = path })
+  | Some value ↦ first_path false d.path word value >>= λ path. Ok (record d { path = path })
   | None ↦ elim (value_at word (codes "old")) [
-    | Some value ↦ first_path d.old_path word value >>= λ path. Ok (record d { old_path = path })
+    | Some value ↦ first_path true d.old_path word value >>= λ path. Ok (record d { old_path = path })
     | None ↦ elim (value_at word (codes "new")) [
-      | Some value ↦ first_path d.new_path word value >>= λ path. Ok (record d { new_path = path })
+      | Some value ↦ first_path false d.new_path word value >>= λ path. Ok (record d { new_path = path })
       | None ↦ add_number d word
     ]
   ]

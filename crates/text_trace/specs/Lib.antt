@@ -3,4 +3,9 @@ pub mod Entry
 pub mod Lines
 pub mod Named
 pub mod Parts
+pub mod Items
+pub mod Records
+pub mod Made
+pub mod Found
+pub mod Whole
 pub mod Places

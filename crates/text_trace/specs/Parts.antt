@@ -1,4 +1,4 @@
--- The model: the parts of a text: all descriptions, all rings, all records.
+-- The model: the parts of a text: all descriptions and all rings.
 use Rattle.std.specs.Prelude.{ℕ, nat_le, Bool, List, [], ◌∷◌, ◌++◌, length, Option, None, Some, Result, Ok, codes, if◌then◌else◌}
 use Rattle.std.specs.Str.{bytes_eq}
 use Rattle.trace_format.specs.declared.trace.Description.{Description}

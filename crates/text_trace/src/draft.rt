@@ -1,45 +1,60 @@
 //! Which line made a byte of a trace.
-use trace_format::{Item, Node, Record, Ring, Trace};
+ghost use Rattle.std.specs.Prelude.{◌≡◌, List, ℕ, ◌∷◌, ◌++◌, length, map};
+ghost use Rattle.std.specs.List.{flat_map};
+ghost use Rattle.trace_format.specs.Spelling.{buffer_bytes, description_bytes, entry_text};
+ghost use Rattle.trace_format.specs.Spelling.{item_bytes};
+ghost use Rattle.text_trace.specs.Found.{found_in};
+ghost use Rattle.text_trace.specs.Made.{line_of_byte, record_lines, ring_lines, slots_lines};
+ghost use Rattle.text_trace.specs.Made.{table_lines};
 
-/// Where the line of a byte is looked for: how many bytes the trace has before the next line, how
-/// many lines have been passed, and whether it is found.
+use trace_format::{Buffer, Description, Entries, Entry, Item, Node, Record, Ring, Trace};
+
+/// Where the line of a byte is looked for: how many bytes stand before it, the lines that are
+/// left, and the line, if it is found.
 #[derive(Clone, Copy)]
-struct Search {
+struct Search<'a> {
     at: u64,
-    start: u64,
-    line: usize,
-    found: bool,
+    lines: &'a [usize],
+    found: Option<usize>,
 }
 
 /// A line of so many bytes.
-fn passed(search: Search, len: u64) -> Search {
-    let end = search.start.saturating_add(len);
-    if search.found || search.at < end {
+fn passed<'a>(search: Search<'a>, len: u128) -> Search<'a>
+    ensures { (bytes : List ℕ) (more : List (List ℕ)) → length bytes ≡ len
+        → found_in result more ≡ found_in search.entry (bytes ∷ more) }
+{
+    if search.found.is_some() || search.lines.is_empty() {
+        return search;
+    }
+    if u128::from(search.at) < len {
         return Search {
-            found: true,
+            found: Some(search.lines[0]),
             ..search
         };
     }
     Search {
-        start: end,
-        line: search.line.saturating_add(1),
+        at: search.at - len as u64,
+        lines: &search.lines[1..],
         ..search
     }
 }
 
 /// How many bytes an item has.
-fn item_len(item: &Item) -> u64 {
-    let node = match &item.node {
+fn item_len(item: &Item) -> u128
+    ensures { result ≡ length (item_bytes item.now) }
+{
+    let node: u128 = match &item.node {
         Node::Directory => 0,
-        Node::File { size: _, stored } => (stored.as_slice().len() as u64).saturating_add(12),
+        Node::File { size: _, stored } => stored.as_slice().len() as u128 + 12,
         Node::OtherName { number: _ } => 4,
     };
-    (item.path.as_slice().len() as u64)
-        .saturating_add(3)
-        .saturating_add(node)
+    item.path.as_slice().len() as u128 + 3 + node
 }
 
-fn in_items(search: Search, items: &[Item]) -> Search {
+fn in_items<'a>(search: Search<'a>, items: &[Item]) -> Search<'a>
+    ensures { (more : List (List ℕ)) → found_in result more
+        ≡ found_in search.entry (map item_bytes items.now ++ more) }
+{
     let mut search = search;
     for item in items {
         search = passed(search, item_len(item));
@@ -47,36 +62,76 @@ fn in_items(search: Search, items: &[Item]) -> Search {
     search
 }
 
-/// So many lines of so many bytes.
-fn in_lines(search: Search, count: usize, len: u64) -> Search {
+/// How many bytes a description has.
+fn description_len(_description: Description) -> u128
+    ensures { result ≡ length (description_bytes _description) }
+{
+    14
+}
+
+fn in_descriptions<'a>(search: Search<'a>, descriptions: &[Description]) -> Search<'a>
+    ensures { (more : List (List ℕ)) → found_in result more
+        ≡ found_in search.entry (map description_bytes descriptions.now ++ more) }
+{
     let mut search = search;
-    for _ in 0..count {
-        search = passed(search, len);
+    for description in descriptions {
+        search = passed(search, description_len(*description));
     }
     search
 }
 
-/// The line of some slots, if there is one.
-fn in_slots(search: Search, count: usize, more: u64) -> Search {
-    if count == 0 {
-        return Search {
-            start: search.start.saturating_add(more),
-            ..search
-        };
+/// The line of the table of descriptors, if there is one.
+fn in_table<'a>(search: Search<'a>, table: &[u32]) -> Search<'a>
+    ensures { (more : List (List ℕ)) → found_in result more
+        ≡ found_in search.entry (table_lines table.now ++ more) }
+{
+    if table.is_empty() {
+        return search;
     }
-    passed(
-        search,
-        (count as u64).saturating_mul(4).saturating_add(more),
-    )
+    passed(search, table.len() as u128 * 4)
 }
 
-fn in_ring(search: Search, ring: &Ring) -> Search {
-    let search = passed(search, 2);
-    let search = in_slots(search, ring.slots.as_slice().len(), 2);
-    in_lines(search, ring.buffers.as_slice().len(), 12)
+/// The lines of a ring and of its slots, with two bytes behind the slots.
+fn in_slots<'a>(search: Search<'a>, slots: &[u32]) -> Search<'a>
+    ensures { (count : List ℕ) (more : List (List ℕ)) → length count ≡ 2
+        → found_in result more ≡ found_in search.entry (slots_lines slots.now count ++ more) }
+{
+    if slots.is_empty() {
+        return passed(search, 4);
+    }
+    passed(passed(search, 2), slots.len() as u128 * 4 + 2)
 }
 
-fn in_rings(search: Search, rings: &[Ring]) -> Search {
+/// How many bytes a buffer has.
+fn buffer_len(_buffer: Buffer) -> u128
+    ensures { result ≡ length (buffer_bytes _buffer) }
+{
+    12
+}
+
+fn in_buffers<'a>(search: Search<'a>, buffers: &[Buffer]) -> Search<'a>
+    ensures { (more : List (List ℕ)) → found_in result more
+        ≡ found_in search.entry (map buffer_bytes buffers.now ++ more) }
+{
+    let mut search = search;
+    for buffer in buffers {
+        search = passed(search, buffer_len(*buffer));
+    }
+    search
+}
+
+fn in_ring<'a>(search: Search<'a>, ring: &Ring) -> Search<'a>
+    ensures { (more : List (List ℕ)) → found_in result more
+        ≡ found_in search.entry (ring_lines ring.now ++ more) }
+{
+    let search = in_slots(search, ring.slots.as_slice());
+    in_buffers(search, ring.buffers.as_slice())
+}
+
+fn in_rings<'a>(search: Search<'a>, rings: &[Ring]) -> Search<'a>
+    ensures { (more : List (List ℕ)) → found_in result more
+        ≡ found_in search.entry (flat_map ring_lines rings.now ++ more) }
+{
     let mut search = search;
     for ring in rings {
         search = in_ring(search, ring);
@@ -84,44 +139,63 @@ fn in_rings(search: Search, rings: &[Ring]) -> Search {
     search
 }
 
-fn in_record(search: Search, record: &Record) -> Search {
-    match record {
-        Record::Enter { ring: _, entries } => {
-            let mut search = passed(search, 4);
-            for number in 0..entries.len() {
-                let side = entries.at(number).side().len() as u64;
-                search = passed(search, side.saturating_add(68));
-            }
-            search
-        }
+/// How many bytes an entry has.
+fn entry_len(entry: &Entry<'_>) -> u128
+    ensures { result ≡ length (entry_text entry.now) }
+{
+    entry.side().len() as u128 + 68
+}
+
+fn in_entries<'a>(search: Search<'a>, entries: &Entries) -> Search<'a>
+    ensures { (more : List (List ℕ)) → found_in result more
+        ≡ found_in search.entry (map entry_text entries.now ++ more) }
+{
+    let mut search = search;
+    for number in 0..entries.len() {
+        search = passed(search, entry_len(&entries.at(number)));
+    }
+    search
+}
+
+fn in_record<'a>(search: Search<'a>, made: &Record) -> Search<'a>
+    ensures { (more : List (List ℕ)) → found_in result more
+        ≡ found_in search.entry (record_lines made.now ++ more) }
+{
+    match made {
+        Record::Enter { ring: _, entries } => in_entries(passed(search, 4), entries),
         Record::Fill {
             ring: _,
             buffer: _,
             offset: _,
             bytes,
-        } => passed(search, (bytes.as_slice().len() as u64).saturating_add(12)),
+        } => passed(search, bytes.as_slice().len() as u128 + 12),
     }
 }
 
-fn in_records(search: Search, records: &[Record]) -> Search {
+fn in_records<'a>(search: Search<'a>, records: &[Record]) -> Search<'a>
+    ensures { (more : List (List ℕ)) → found_in result more
+        ≡ found_in search.entry (flat_map record_lines records.now ++ more) }
+{
     let mut search = search;
-    for record in records {
-        search = in_record(search, record);
+    for made in records {
+        search = in_record(search, made);
     }
     search
 }
 
-/// The number of the line that made a byte, among those that make some.
-pub(crate) fn line_of_byte(trace: &Trace, at: u64) -> usize {
+/// The line that made a byte of a trace, among those that make some.
+#[tactic(auto, unfolding(crate::specs::Made::line_of_byte))]
+pub(crate) fn line_of_byte(trace: &Trace, lines: &[usize], at: u64) -> Option<usize>
+    ensures { result ≡ line_of_byte trace.now lines.now at }
+{
     let search = Search {
-        at,
-        start: 32,
-        line: 0,
-        found: false,
+        at: at.saturating_sub(32),
+        lines,
+        found: None,
     };
     let search = in_items(search, trace.items.as_slice());
-    let search = in_lines(search, trace.descriptions.as_slice().len(), 14);
-    let search = in_slots(search, trace.descriptors.as_slice().len(), 0);
+    let search = in_descriptions(search, trace.descriptions.as_slice());
+    let search = in_table(search, trace.descriptors.as_slice());
     let search = in_rings(search, trace.rings.as_slice());
-    in_records(search, trace.records.as_slice()).line
+    in_records(search, trace.records.as_slice()).found
 }

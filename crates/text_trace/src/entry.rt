@@ -7,7 +7,7 @@ ghost use Rattle.text_trace.specs.Entry.{add_all, add_field, add_flag, add_keyed
 ghost use Rattle.text_trace.specs.Entry.{add_next, add_number, add_word, add_words, default_len};
 ghost use Rattle.text_trace.specs.Entry.{draft_of, empty, entry_of, fields_of, first_path, has_brackets};
 ghost use Rattle.text_trace.specs.Entry.{len_bytes, lengths_at, mark_of, more_lengths};
-ghost use Rattle.text_trace.specs.Entry.{path_or_none, side_of, two_paths, with_field};
+ghost use Rattle.text_trace.specs.Entry.{side_of, two_paths, with_field};
 ghost use Rattle.text_trace.specs.Fields.{bits_of};
 
 use crate::fields::{Field, bits_of, entry_flag_of, field_of, style_of};
@@ -15,8 +15,11 @@ use sqe_codec::Sqe;
 use std::alloc::{AllocError, Global};
 use text_words::{
     ReadError, Reason, Source, Word, add_string, behind, behind_next, is_at_end, is_string,
-    line_end, next_word, number_at, part_at, path_at, refused, u64_at, value_at,
+    letters_of, line_end, next_word, number_at, part_at, refused, u64_at, value_at,
 };
+
+/// The most bytes that a path may have whose length stands in two bytes.
+const LONGEST_COUNTED: usize = 65_535;
 
 /// What the words of an entry have said so far.
 #[derive(Drop)]
@@ -157,33 +160,27 @@ fn add_field(
     Ok(())
 }
 
-/// A path beside an entry, which may be empty.
-#[tactic(auto, unfolding(crate::specs::Entry::path_or_none))]
-fn path_or_none(alloc: Global, word: Word<'_>) -> Result<Vec<u8>, ReadError>
-    ensures { Gives (λ path. path.items) result (path_or_none (word_of word.entry)) }
-{
-    if word.bytes.is_empty() {
-        return Ok(Vec::new(alloc));
-    }
-    path_at(alloc, word)
-}
-
-/// A place where a path is put, once.
+/// A place where a path is put, once. Two bytes count the first one of two.
 #[tactic(auto, unfolding(crate::specs::Entry::first_path))]
 fn add_path(
     alloc: Global,
+    is_counted: bool,
     place: &mut Option<Vec<u8>>,
     word: Word<'_>,
     value: Word<'_>,
 ) -> Result<(), ReadError>
     ensures { Gives (λ _. option_map (λ v. v.items) place.new) result
-        (first_path (option_map (λ v. v.items) place.old) (word_of word.entry)
+        (first_path is_counted (option_map (λ v. v.items) place.old) (word_of word.entry)
         (word_of value.entry)) }
 {
     if place.is_some() {
         return Err(refused(Reason::FieldTwice, word.left));
     }
-    *place = Some(path_or_none(alloc, value)?);
+    let path = letters_of(alloc, value)?;
+    if is_counted && path.len() > LONGEST_COUNTED {
+        return Err(refused(Reason::PathLong, value.left));
+    }
+    *place = Some(path);
     Ok(())
 }
 
@@ -287,13 +284,13 @@ fn add_keyed(alloc: Global, draft: &mut Draft, word: Word<'_>) -> Result<(), Rea
         (add_keyed (draft_of draft.old) (word_of word.entry)) }
 {
     if let Some(value) = value_at(word, b"path") {
-        return add_path(alloc, &mut draft.path, word, value);
+        return add_path(alloc, false, &mut draft.path, word, value);
     }
     if let Some(value) = value_at(word, b"old") {
-        return add_path(alloc, &mut draft.old_path, word, value);
+        return add_path(alloc, true, &mut draft.old_path, word, value);
     }
     if let Some(value) = value_at(word, b"new") {
-        return add_path(alloc, &mut draft.new_path, word, value);
+        return add_path(alloc, false, &mut draft.new_path, word, value);
     }
     add_number(draft, word)
 }

@@ -12,7 +12,7 @@ use trace_text::{FlagSet, entry_flag_name, fd_key, len_key, off_key};
 
 /// A field of an entry.
 #[derive(Clone, Copy)]
-pub(crate) enum Field {
+pub enum Field {
     Fd,
     Off,
     Addr,

@@ -1,5 +1,6 @@
 //! The lines of a text, but those of entries.
-ghost use Rattle.std.specs.Prelude.{◌≡◌, ◌≤◌, ◌+◌, [], ◌∷◌, ◌++◌, false, IfOk, OnOk, length};
+ghost use Rattle.std.specs.Prelude.{◌≡◌, ◌≤◌, ◌+◌, ◌-◌, ℕ, List, [], ◌∷◌, ◌++◌, false, IfOk};
+ghost use Rattle.std.specs.Prelude.{OnOk, length, min};
 ghost use Rattle.trace_format.specs.Counts.{places_in, places_limit, step_count};
 ghost use Rattle.text_words.specs.Numbers.{number_in};
 ghost use Rattle.text_words.specs.declared.numbers.Style.TheVariants.{Plain};
@@ -12,10 +13,13 @@ ghost use Rattle.text_trace.specs.Lines.{next_slots};
 ghost use Rattle.text_trace.specs.Lines.{next_number, next_path, node_at, node_of, other_of};
 ghost use Rattle.text_trace.specs.Lines.{ring_line, slots_of, stray, text_end, version_named};
 ghost use Rattle.text_trace.specs.Lines.{version_of};
-ghost use Rattle.text_trace.specs.Named.{named};
+ghost use Rattle.text_trace.specs.Items.{items_of, number_of, one_item};
+ghost use Rattle.text_trace.specs.Named.{KnowsOneMore, named};
 ghost use Rattle.text_trace.specs.Parts.{begins, buffers_of, descriptions_of, one_buffer};
 ghost use Rattle.text_trace.specs.Parts.{one_description, one_ring, ring_of, rings_of};
 ghost use Rattle.text_trace.specs.Parts.{slots_behind};
+ghost use Rattle.text_trace.specs.Records.{enter_of, entries_of, one_entry, one_fill, one_record};
+ghost use Rattle.text_trace.specs.Records.{record_of, records_of, step_of};
 
 use crate::entry::entry_of;
 use crate::fields::opcode_of;
@@ -27,8 +31,8 @@ use text_words::{
     u64_at, value_at, word_behind,
 };
 use trace_format::{
-    Access, Blob, Buffer, Description, EntriesBuilder, Item, Node, Record, Records, Ring, Series,
-    Version,
+    Access, Blob, Buffer, Description, Entries, EntriesBuilder, Item, Node, Record, Records, Ring,
+    Series, Version,
 };
 
 /// How many items, and how many descriptions, a trace has at most.
@@ -236,44 +240,64 @@ fn node_of<'a>(
     }
 }
 
+/// Notes the number of an item by its path, unless an earlier one has the path.
+fn note_name(names: &mut Names, path: &Vec<u8>, number: u32) -> Result<(), AllocError>
+    ensures { OnOk result (KnowsOneMore names.old names.new path.now.items number) }
+{
+    if names.contains_key(path) {
+        return Ok(());
+    }
+    names.insert(path.clone()?, number)?;
+    Ok(())
+}
+
 /// Adds the item of a line.
+#[tactic(auto, unfolding(crate::specs::Items::one_item))]
 fn add_item<'a>(
     alloc: Global,
     names: &mut Names,
     items: &mut Vec<Item>,
+    lines: &mut Lines,
     kind: Kind,
     source: Source<'a>,
-) -> Result<Source<'a>, ReadError> {
+) -> Result<Source<'a>, ReadError>
+    requires { named names.old ≡ number_of items.old.items }
+    ensures read { Gives (λ s. (items.new.items, lines.new.items, rest_of s)) result
+        (one_item (items.old.items, lines.old.items, rest_of source.entry) kind) }
+    ensures names { OnOk result (named names.new ≡ number_of items.new.items) }
+{
     let word = first_word(source);
     if items.len() >= MOST_ITEMS {
         return Err(refused(Reason::TooMany, word.left));
     }
-    let (path, source) = next_path(alloc, behind_first(source))?;
-    let (node, source) = node_of(alloc, names, kind, source)?;
-    if !names.contains_key(&path) {
-        names.insert(path.clone()?, items.len() as u32 + 1)?;
-    }
+    let (path, after) = next_path(alloc, behind_first(source))?;
+    let (node, after) = node_of(alloc, names, kind, after)?;
+    note_name(names, &path, items.len() as u32 + 1)?;
     let path = Blob::from_vec(alloc, path)?;
+    add_line(lines, word)?;
     items.push(Item { path, node })?;
-    Ok(source)
+    Ok(after)
 }
 
-/// All items.
+/// All items, and their numbers by their paths.
 pub(crate) fn items_of<'a>(
     alloc: Global,
     names: &mut Names,
     lines: &mut Lines,
     source: Source<'a>,
-) -> Result<(Vec<Item>, Source<'a>), ReadError> {
+) -> Result<(Vec<Item>, Source<'a>), ReadError>
+    requires { named names.old ≡ number_of [] }
+    ensures read { Gives (λ x. (x.0.items, lines.new.items, rest_of x.1)) result
+        (items_of lines.old.items (rest_of source.entry)) }
+    ensures names { IfOk result (λ x. named names.new ≡ number_of x.0.items) }
+{
     let mut items = Vec::new(alloc);
     let mut source = source;
     for _ in 0..source.rest.len() {
-        let word = first_word(source);
-        let Some(kind) = kind_of(word.bytes) else {
+        let Some(kind) = kind_of(first_word(source).bytes) else {
             break;
         };
-        add_line(lines, word)?;
-        source = add_item(alloc, names, &mut items, kind, source)?;
+        source = add_item(alloc, names, &mut items, lines, kind, source)?;
     }
     Ok((items, source))
 }
@@ -651,47 +675,65 @@ pub(crate) fn rings_of<'a>(
     Ok((rings, source))
 }
 
-/// Adds the entry of a line.
+/// Adds the entry of a line behind so many, where there may be as many as `most`.
+#[tactic(auto, unfolding(crate::specs::Records::one_entry))]
 fn add_entry<'a>(
     alloc: Global,
     entries: &mut EntriesBuilder,
+    count: &mut usize,
+    most: usize,
+    lines: &mut Lines,
     opcode: u8,
     source: Source<'a>,
 ) -> Result<Source<'a>, ReadError>
-    ensures { OnOk result (length entries.new ≡ length entries.old + 1) }
+    requires { count.old ≡ length entries.old }
+    ensures read { Gives (λ s. (entries.new, lines.new.items, rest_of s)) result
+        (one_entry most (entries.old, lines.old.items, rest_of source.entry) opcode) }
+    ensures count { OnOk result (count.new ≡ length entries.new) }
+    ensures within { OnOk result (count.new ≤ most) }
 {
-    let (sqe, side, source) = entry_of(alloc, opcode, behind_first(source))?;
+    let word = first_word(source);
+    if *count >= most {
+        return Err(refused(Reason::TooMany, word.left));
+    }
+    let (sqe, side, after) = entry_of(alloc, opcode, behind_first(source))?;
+    add_line(lines, word)?;
     entries.push(&sqe, side.as_slice())?;
-    Ok(source)
+    *count += 1;
+    Ok(after)
+}
+
+/// How many entries one `enter` has at most, behind so many steps.
+fn most_entries(used: usize) -> usize
+    requires { used ≤ places_limit }
+    ensures { result ≡ min 32768 (places_limit - used) }
+{
+    MOST_ENTRIES.min(MOST_PLACES - used)
 }
 
 /// The entries of one `enter`, behind so many steps.
-fn add_entries<'a>(
+fn entries_of<'a>(
     alloc: Global,
-    entries: &mut EntriesBuilder,
     used: usize,
     lines: &mut Lines,
     source: Source<'a>,
-) -> Result<(usize, Source<'a>), ReadError>
+) -> Result<(Entries, Source<'a>), ReadError>
     requires { used ≤ places_limit }
-    ensures count { IfOk result (λ x. length entries.new ≡ length entries.old + x.0) }
-    ensures within { IfOk result (λ x. used + x.0 ≤ places_limit) }
+    ensures read { Gives (λ x. (x.0, lines.new.items, rest_of x.1)) result
+        (entries_of used lines.old.items (rest_of source.entry)) }
+    ensures within { IfOk result (λ x. used + length x.0 ≤ places_limit) }
 {
+    let mut entries = EntriesBuilder::new(alloc);
     let mut count = 0;
+    let most = most_entries(used);
     let mut source = source;
     for _ in 0..source.rest.len() {
-        let word = first_word(source);
-        let Some(opcode) = opcode_of(word.bytes) else {
+        let Some(opcode) = opcode_of(first_word(source).bytes) else {
             break;
         };
-        if count >= MOST_ENTRIES || count >= MOST_PLACES - used {
-            return Err(refused(Reason::TooMany, word.left));
-        }
-        add_line(lines, word)?;
-        source = add_entry(alloc, entries, opcode, source)?;
-        count += 1;
+        source = add_entry(alloc, &mut entries, &mut count, most, lines, opcode, source)?;
     }
-    Ok((count, source))
+    Ok((entries.build(alloc)?, source))
 }
 
 /// The ring that entries were handed to.
@@ -706,6 +748,7 @@ fn enter_line(source: Source<'_>) -> Result<(u8, Source<'_>), ReadError>
 }
 
 /// The entries that a ring was handed at once.
+#[tactic(auto, unfolding(crate::specs::Records::enter_of))]
 fn enter_of<'a>(
     alloc: Global,
     used: usize,
@@ -713,12 +756,12 @@ fn enter_of<'a>(
     source: Source<'a>,
 ) -> Result<(Record, Source<'a>), ReadError>
     requires { used ≤ places_limit }
-    ensures { IfOk result (λ x. used + places_in (x.0 ∷ []) ≤ places_limit) }
+    ensures read { Gives (λ x. (x.0, lines.new.items, rest_of x.1)) result
+        (enter_of used lines.old.items (rest_of source.entry)) }
+    ensures within { IfOk result (λ x. used + places_in (x.0 ∷ []) ≤ places_limit) }
 {
     let (ring, source) = enter_line(source)?;
-    let mut entries = EntriesBuilder::new(alloc);
-    let (_, source) = add_entries(alloc, &mut entries, used, lines, source)?;
-    let entries = entries.build(alloc)?;
+    let (entries, source) = entries_of(alloc, used, lines, source)?;
     Ok((Record::Enter { ring, entries }, source))
 }
 
@@ -761,6 +804,24 @@ fn fill_of<'a>(alloc: Global, source: Source<'a>) -> Result<(Record, Source<'a>)
     ))
 }
 
+/// The same, behind so many steps.
+#[tactic(auto, unfolding(crate::specs::Records::one_fill))]
+fn one_fill<'a>(
+    alloc: Global,
+    used: usize,
+    source: Source<'a>,
+) -> Result<(Record, Source<'a>), ReadError>
+    ensures read { (lines : List ℕ) → Gives (λ x. (x.0, lines, rest_of x.1)) result
+        (one_fill used lines (rest_of source.entry)) }
+    ensures within { IfOk result (λ x. used + places_in (x.0 ∷ []) ≤ places_limit) }
+{
+    if used >= MOST_PLACES {
+        return Err(refused(Reason::TooMany, first_word(source).left));
+    }
+    let (record, after) = fill_of(alloc, source)?;
+    Ok((record, after))
+}
+
 /// How many steps a record has.
 fn step_count(made: &Record) -> usize
     ensures { result ≡ step_count made.now }
@@ -778,11 +839,15 @@ enum Step {
     Fill,
 }
 
-fn step_of(word: &[u8]) -> Option<Step> {
-    match word {
-        b"enter" => Some(Step::Enter),
-        b"fill" => Some(Step::Fill),
-        _ => None,
+fn step_of(word: &[u8]) -> Option<Step>
+    ensures { result ≡ step_of word.now }
+{
+    if word == b"enter".as_slice() {
+        Some(Step::Enter)
+    } else if word == b"fill".as_slice() {
+        Some(Step::Fill)
+    } else {
+        None
     }
 }
 
@@ -795,17 +860,43 @@ fn record_of<'a>(
     source: Source<'a>,
 ) -> Result<(Record, Source<'a>), ReadError>
     requires { used ≤ places_limit }
-    ensures { IfOk result (λ x. used + places_in (x.0 ∷ []) ≤ places_limit) }
+    ensures read { Gives (λ x. (x.0, lines.new.items, rest_of x.1)) result
+        (record_of step used lines.old.items (rest_of source.entry)) }
+    ensures within { IfOk result (λ x. used + places_in (x.0 ∷ []) ≤ places_limit) }
 {
     match step {
         Step::Enter => enter_of(alloc, used, lines, source),
-        Step::Fill => {
-            if used >= MOST_PLACES {
-                return Err(refused(Reason::TooMany, first_word(source).left));
-            }
-            fill_of(alloc, source)
-        }
+        Step::Fill => one_fill(alloc, used, source),
     }
+}
+
+/// Adds a record, and how many steps it has.
+#[tactic(auto, unfolding(crate::specs::Records::one_record))]
+fn add_record<'a>(
+    alloc: Global,
+    records: &mut Vec<Record>,
+    used: &mut usize,
+    lines: &mut Lines,
+    step: Step,
+    source: Source<'a>,
+) -> Result<Source<'a>, ReadError>
+    requires used { used.old ≡ places_in records.old.items }
+    requires within { used.old ≤ places_limit }
+    ensures read { Gives (λ s. (records.new.items, lines.new.items, rest_of s)) result
+        (one_record (records.old.items, lines.old.items, rest_of source.entry) step) }
+    ensures used { OnOk result (used.new ≡ places_in records.new.items) }
+    ensures within { OnOk result (used.new ≤ places_limit) }
+    ensures few { OnOk result (length records.new.items ≤ places_limit) }
+{
+    let word = first_word(source);
+    if records.len() >= MOST_PLACES {
+        return Err(refused(Reason::TooMany, word.left));
+    }
+    add_line(lines, word)?;
+    let (record, after) = record_of(alloc, step, *used, lines, source)?;
+    *used += step_count(&record);
+    records.push(record)?;
+    Ok(after)
 }
 
 /// All records.
@@ -813,23 +904,18 @@ pub(crate) fn records_of<'a>(
     alloc: Global,
     lines: &mut Lines,
     source: Source<'a>,
-) -> Result<(Records, Source<'a>), ReadError> {
+) -> Result<(Records, Source<'a>), ReadError>
+    ensures { Gives (λ x. (x.0, lines.new.items, rest_of x.1)) result
+        (records_of lines.old.items (rest_of source.entry)) }
+{
     let mut records = Vec::new(alloc);
     let mut used = 0;
     let mut source = source;
     for _ in 0..source.rest.len() {
-        let word = first_word(source);
-        let Some(step) = step_of(word.bytes) else {
+        let Some(step) = step_of(first_word(source).bytes) else {
             break;
         };
-        if records.len() >= MOST_PLACES {
-            return Err(refused(Reason::TooMany, word.left));
-        }
-        add_line(lines, word)?;
-        let (record, after) = record_of(alloc, step, used, lines, source)?;
-        used += step_count(&record);
-        records.push(record)?;
-        source = after;
+        source = add_record(alloc, &mut records, &mut used, lines, step, source)?;
     }
     Ok((Records::from_vec(alloc, records)?, source))
 }

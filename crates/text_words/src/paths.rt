@@ -81,7 +81,11 @@ fn push_path_byte<'a>(
 }
 
 /// The bytes that the letters of a word are.
-fn letters_of(alloc: Global, word: Word<'_>) -> Result<Vec<u8>, ReadError>
+///
+/// # Errors
+///
+/// The fault of the word, or out of memory.
+pub fn letters_of(alloc: Global, word: Word<'_>) -> Result<Vec<u8>, ReadError>
     ensures { Gives (λ path. path.items) result (letters_of (word_of word.entry)) }
 {
     let mut path = Vec::new(alloc);

@@ -10,9 +10,10 @@ ghost use Rattle.trace_text.specs.Entry.{vector_count};
 use crate::fields::{push_fd, push_key, push_later};
 use crate::look::Look;
 use crate::names::{push_entry_flags, push_opcode};
+use crate::pieces::push_pieces;
 use sqe_codec::Sqe;
 use std::alloc::AllocError;
-use text_forms::{push_bytes, push_decimal, push_path, push_pieces};
+use text_forms::{push_bytes, push_decimal, push_path};
 use trace_format::Entry;
 
 /// The first bytes, where there is a limit.

@@ -11,6 +11,9 @@ mod fields;
 mod lines;
 mod look;
 mod names;
+mod pieces;
+mod plain;
+mod quoted;
 mod show;
 
 pub use below::with_entries;

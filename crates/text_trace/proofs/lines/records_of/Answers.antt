@@ -1,10 +1,35 @@
-use Rattle.std.proofs.Common.{[], ◌∷◌, arith, length-append}
-use Rattle.trace_format.proofs.Sums.{places_in-push}
+use Rattle.std.proofs.Common.{◌≡◌, None, Some, ap, refl, sym, ◌∙◌}
+use Rattle.text_words.specs.Read.{Word, rest_of}
+use Rattle.text_words.specs.Words.{first_word}
+use Rattle.text_words.proofs.Exits.{goes_out}
+use Rattle.text_words.proofs.Loops.{fails, goes_on, is_done, stops}
+use Rattle.text_trace.specs.Records.{records_of, step_of}
 use Rattle.text_trace.proofs.lines.records_of.Goals as goal
+use Rattle.text_trace.proofs.lines.records_of.Goals.{else-loop-test, then-loop-test+in_default}
+
+pub returns-in_err-source : goal.returns-in_err-source
+unfolding records_of
+returns-in_err-source c =
+    let named : Some c.in-Some.step ≡ step_of (first_word (rest_of c.loop.source)).bytes = rw (ap (λ w. w.bytes) c.first_word.ensures) at c.in-Some.ensures in
+    goes_out _ _ _ _ _ c.from_residual.ensures.1 c.in_err-source.ensures.read
+    (λ f e. fails c.loop-test.true (rw (← named, e) refl) c.loop.invariant.read)
 
 pub loop-preserved : goal.loop-preserved
-loop-preserved c = rw c.in_ok-push.ensures.items (record {
-  used = omega (arith, places_in-push c.loop.records.items c.in_ok-record.record, c.loop.invariant.used, c.step_count.ensures);
-  within = omega (arith, c.in_ok-record.ensures, c.step_count.ensures);
-  few = omega (arith, length-append c.loop.records.items (c.in_ok-record.record ∷ []));
-})
+loop-preserved c =
+    let named : Some c.in-Some.step ≡ step_of (first_word (rest_of c.loop.source)).bytes = rw (ap (λ w. w.bytes) c.first_word.ensures) at c.in-Some.ensures in
+    record {
+      read = goes_on c.loop-test.true (rw (← named, c.in_ok-source.ensures.read) refl) c.loop.invariant.read;
+      used = c.in_ok-source.ensures.used;
+      within = c.in_ok-source.ensures.within;
+      few = c.in_ok-source.ensures.few;
+    }
+
+pub returns : goal.returns
+unfolding records_of
+returns c = rw c.in_ok-from_vec.ensures (elim c.loop-test.branch [
+  | else-loop-test w ↦ is_done w.loop-test.false c.loop.invariant.read
+  | then-loop-test+in_default w ↦
+      let none : step_of (first_word (rest_of c.loop.source)).bytes ≡ None =
+      sym (w.step_of.ensures ∙ ap (λ (x : Word). step_of x.bytes) w.first_word.ensures) ∙ w.in_default.is in
+      stops (rw none refl) c.loop.invariant.read
+])

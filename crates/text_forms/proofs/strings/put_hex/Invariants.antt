@@ -1,7 +1,0 @@
-use Rattle.std.proofs.Common.{◌≡◌, ◌*◌, take}
-use Rattle.std.specs.List.{flat_map}
-use Rattle.text_forms.specs.Strings.{hex_byte}
-use Rattle.text_forms.proofs.strings.put_hex.Given as goal
-
-abbrev pub invariant-loop-i : goal.invariant-loop-i
-invariant-loop-i l = take (2 * l.i) l.room ≡ flat_map hex_byte (take l.i l.bytes)

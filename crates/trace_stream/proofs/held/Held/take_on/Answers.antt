@@ -1,0 +1,14 @@
+use Rattle.std.proofs.Common.{length, ap, refl, arith}
+use Rattle.trace_stream.proofs.Grows.{none_came, came_on}
+use Rattle.trace_stream.proofs.held.Held.take_on.Goals as goal
+
+pub loop-alloc-init : goal.loop-alloc-init
+loop-alloc-init g c =
+    record { grew = none_came _ _; wanted = ap length c.rest-wanted.ensures.rest; failures = refl }
+
+pub loop-alloc-preserved : goal.loop-alloc-preserved
+loop-alloc-preserved g c = record {
+  grew = came_on _ _ _ _ _ _ _ c.loop-alloc.invariant.grew (rw c.if-not-branch.false at c.in_ok-take_piece.ensures.ok);
+  wanted = c.loop-alloc.invariant.wanted;
+  failures = omega (arith, c.in_ok-take_piece.ensures.failures, c.loop-alloc.invariant.failures);
+}

@@ -1,0 +1,81 @@
+-- The model: what a stream of a trace stands for, what its next record makes of it, and what its faults tell.
+use Rattle.std.specs.Prelude.{◌≡◌, ◌⊎◌, ◌++◌, ◌∷◌, [], ⊤, ℕ, Bool, true, false, List, length, Option, None, Some}
+use Rattle.std.specs.Io.KnownBytes.{Consumes, IsAtEnd}
+use Rattle.trace_format.specs.Grammar.{fault}
+use Rattle.trace_format.specs.declared.fault.Kind.TheVariants.{Memory, Short}
+use Rattle.trace_format.specs.declared.fault.TraceFault.{TraceFault}
+use Rattle.trace_records.specs.Front.{Front, no_records, after}
+use Rattle.trace_records.specs.Tallies.{IsTallyOf}
+use Rattle.trace_records.specs.Whole.{SpellsTrace, IsFront, HasFault, IsRefusal}
+use Rattle.trace_records.specs.declared.counting.Tally.{Tally}
+use Rattle.trace_records.specs.declared.record.Record.{Record}
+use Rattle.trace_records.specs.declared.start.Start.{Start}
+use Rattle.trace_records.specs.declared.trace.Trace.{Trace}
+use Rattle.trace_stream.specs.Held.{Ended}
+use Rattle.trace_stream.specs.declared.fault.StreamFault.{StreamFault}
+use Rattle.trace_stream.specs.declared.fault.StreamFault.TheVariants as faults
+use Rattle.trace_stream.specs.declared.stream.Stream.{Stream}
+
+-- the front behind records
+abbrev pub behind : Front → List Record → Front
+behind front [] = front
+behind front (r ∷ rs) = behind (after front r) rs
+
+-- a start and records so far
+abbrev pub trace_of : Start → List Record → Trace
+trace_of s rs = record { start = s; records = rs }
+
+-- The bytes that were taken are those of the start and the records so far, and those that are held.
+pub record Stands (s : Stream) (taken : List ℕ) (rs : List Record) : Type 0 where
+  pub text : List ℕ
+  pub spelled : IsFront text (trace_of s.start rs)
+  pub held_behind : taken ≡ text ++ s.held.rest
+  pub place_is : s.held.place ≡ length text
+  pub front_is : s.front ≡ behind no_records rs
+
+-- The stream goes on by a record, or the bytes that were taken spell the trace, and the reader is at its end.
+abbrev pub GoesTo : Option (List ℕ) → Stream → Stream → List ℕ → List Record → Option Record → Type 0
+GoesTo left s s' taken rs (Some r) = (s'.start ≡ s.start) × Stands s' taken (rs ++ r ∷ [])
+GoesTo left s s' taken rs None = SpellsTrace taken (trace_of s.start rs) × IsAtEnd left × (s'.front ≡ behind no_records rs)
+
+-- What was taken before and what the reader lost gives the next record, or the end.
+abbrev pub Gives : Option (List ℕ) → Option (List ℕ) → Stream → Stream → Option Record → Type 0
+Gives left left' s s' x =
+    (more : List ℕ) × Consumes left left' more × ((taken : List ℕ) (rs : List Record) → Stands s taken rs → GoesTo left' s s' (taken ++ more) rs x)
+
+-- They have the fault. Of a reader that failed and of memory that ran out nothing is told.
+abbrev pub GivesFault : Option (List ℕ) → Option (List ℕ) → Stream → StreamFault → Type 0
+GivesFault left left' s faults.Read = ⊤
+GivesFault left left' s (faults.Trace f) =
+    (f ≡ fault Memory 0)
+    ⊎ ((more : List ℕ) × Consumes left left' more × ((taken : List ℕ) (rs : List Record) → Stands s taken rs → HasFault (taken ++ more) f) × Ended f left')
+
+-- A stream begins: what was read ahead and what the reader lost is a start, and what is held.
+abbrev pub Opens : List ℕ → Option (List ℕ) → Option (List ℕ) → Stream → Type 0
+Opens ahead left left' s = (more : List ℕ) × Consumes left left' more × Stands s (ahead ++ more) []
+
+-- The text that was read ahead and that the reader lost has the fault, and spells no trace, whatever follows; or it ends too early, and the reader is at its end.
+pub record IsFaultOf (ahead : List ℕ) (left left' : Option (List ℕ)) (f : TraceFault) : Type 0 where
+  pub more : List ℕ
+  pub taken : Consumes left left' more
+  pub is : IsRefusal (ahead ++ more) f
+  pub ended : Ended f left'
+  pub stays : (f.kind ≡ Short → ⊥) → (later : List ℕ) → IsRefusal ((ahead ++ more) ++ later) f
+
+abbrev pub Tells : List ℕ → Option (List ℕ) → Option (List ℕ) → StreamFault → Type 0
+Tells ahead left left' faults.Read = ⊤
+Tells ahead left left' (faults.Trace f) = (f ≡ fault Memory 0) ⊎ IsFaultOf ahead left left' f
+
+-- The reader was read to its end, and what was read ahead and what it had left spells a trace with this tally.
+pub record Counts (ahead : List ℕ) (left left' : Option (List ℕ)) (tally : Tally) : Type 0 where
+  pub more : List ℕ
+  pub taken : Consumes left left' more
+  pub ended : IsAtEnd left'
+  pub trace : Trace
+  pub spelled : SpellsTrace (ahead ++ more) trace
+  pub counted : IsTallyOf tally trace.records
+
+-- The stream goes on by some record, or not.
+abbrev pub Steps : Option (List ℕ) → Option (List ℕ) → Stream → Stream → Bool → Type 0
+Steps left left' s s' true = (r : Record) × Gives left left' s s' (Some r)
+Steps left left' s s' false = Gives left left' s s' None

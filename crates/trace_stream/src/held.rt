@@ -1,0 +1,134 @@
+//! Bytes that were taken from a reader and not used yet.
+ghost use Rattle.std.specs.Prelude.{◌≡◌, ◌+◌, ◌-◌, ◌<◌, ◌≤◌, ◌^◌, drop, length, IfOk, IfErr, OnOk};
+ghost use Rattle.trace_stream.specs.Held.{Gains, IsOutside, failed};
+
+use crate::fault::{StreamFault, no_memory};
+use byte_transfer::{Failed, Source};
+use std::alloc::{AllocError, Global};
+use std::marker::Model;
+
+/// The most bytes that one call reads.
+const PIECE: usize = 65_536;
+
+/// Nothing is read behind so many bytes of a text: numbers of places have 64 bits.
+const MOST: u64 = 4_611_686_018_427_387_904;
+
+/// The bytes of a text that were taken and not used yet, and where in the text they stand.
+#[derive(Drop)]
+pub(crate) struct Held {
+    bytes: Vec<u8>,
+    used: usize,
+    place: u64,
+}
+
+impl Model for Held {
+    ghost use Rattle.std.specs.Prelude.{◌≤◌, ◌<◌, ◌+◌, ◌^◌, drop, vec_len};
+    ghost use Rattle.trace_stream.specs.Held as meant;
+
+    ghost Value = { meant.Held };
+
+    ghost view = { λ h. record { rest = drop h.used h.bytes.items; place = h.place } };
+
+    ghost invariant = { λ h. (h.used ≤ vec_len h.bytes)
+        × (h.place + vec_len h.bytes < h.used + 2 ^ 63) };
+}
+
+impl Held {
+    /// The first bytes of a text.
+    pub(crate) fn new(bytes: Vec<u8>) -> Self
+        ensures { result ≡ record { rest = bytes.items; place = 0 } }
+    {
+        Held {
+            bytes,
+            used: 0,
+            place: 0,
+        }
+    }
+
+    pub(crate) fn rest(&self) -> &[u8]
+        ensures rest { result.now ≡ self.now.rest }
+        ensures bound { self.now.place + length self.now.rest < 2 ^ 63 }
+    {
+        &self.bytes[self.used..]
+    }
+
+    pub(crate) fn place(&self) -> u64
+        ensures { result ≡ self.now.place }
+    {
+        self.place
+    }
+
+    /// The first bytes were used.
+    pub(crate) fn skip(&mut self, count: usize)
+        requires { count ≤ length self.old.rest }
+        ensures rest { self.new.rest ≡ drop count self.old.rest }
+        ensures place { self.new.place ≡ self.old.place + count }
+        ensures bound { self.new.place + length self.new.rest < 2 ^ 63 }
+    {
+        self.used += count;
+        self.place += count as u64;
+    }
+
+    /// Lets go of the bytes that were used.
+    fn let_go(&mut self, alloc: Global) -> Result<(), AllocError>
+        ensures same { OnOk result (self.new ≡ self.old) }
+        ensures bound { self.new.place + length self.new.rest < 2 ^ 63 }
+    {
+        let mut bytes = Vec::new(alloc);
+        bytes.extend_from_slice(&self.bytes[self.used..])?;
+        self.bytes = bytes;
+        self.used = 0;
+        Ok(())
+    }
+
+    /// Takes one piece more, and tells whether the reader had one.
+    fn take_piece<R: Source>(&mut self, alloc: Global, reader: &mut R) -> Result<bool, StreamFault>
+        requires { R.failures reader.old < 2 ^ 64 - 1 }
+        ensures ok { IfOk result
+            (λ some. Gains some self.old self.new (R.left reader.old) (R.left reader.new)) }
+        ensures err { IfErr result IsOutside }
+        ensures failures { R.failures reader.new ≡ R.failures reader.old + failed result }
+        ensures bound { self.new.place + length self.new.rest < 2 ^ 63 }
+    {
+        if self.place > MOST || (self.bytes.len() - self.used) as u64 > MOST - self.place {
+            return Err(no_memory());
+        }
+        let mut piece = [0; PIECE];
+        match reader.read_some(&mut piece) {
+            Ok(0) => Ok(false),
+            Ok(count) => match self.bytes.extend_from_slice(&piece[..count]) {
+                Ok(()) => Ok(true),
+                Err(AllocError) => Err(no_memory()),
+            },
+            Err(Failed) => Err(StreamFault::Read),
+        }
+    }
+
+    /// Takes more bytes than are held, or those that the reader has left, and tells whether it had
+    /// any. So what is read again and again takes linear time.
+    pub(crate) fn take_on<R: Source>(
+        &mut self,
+        alloc: Global,
+        reader: &mut R,
+    ) -> Result<bool, StreamFault>
+        requires { R.failures reader.old < 2 ^ 64 - 1 }
+        ensures ok { IfOk result
+            (λ some. Gains some self.old self.new (R.left reader.old) (R.left reader.new)) }
+        ensures err { IfErr result IsOutside }
+        ensures failures { R.failures reader.new ≡ R.failures reader.old + failed result }
+        ensures bound { self.new.place + length self.new.rest < 2 ^ 63 }
+    {
+        if self.let_go(alloc).is_err() {
+            return Err(no_memory());
+        }
+        let wanted = self.rest().len();
+        let mut some = false;
+        while self.rest().len() - wanted <= wanted {
+            if !self.take_piece(alloc, reader)? {
+                return Ok(some);
+            }
+            some = true;
+        }
+        Ok(true)
+    }
+}

@@ -1,0 +1,124 @@
+//! A trace that is taken from a reader record by record.
+ghost use Rattle.std.specs.Prelude.{◌≡◌, ◌+◌, ◌-◌, ◌<◌, ◌^◌, false, length, IfOk, IfErr, IfSome, OnOk};
+ghost use Rattle.trace_stream.specs.Held.{HasMore, IsOutside, Trails, failed};
+ghost use Rattle.trace_stream.specs.Streams.{Gives, GivesFault, Opens, Tells};
+
+use crate::fault::StreamFault;
+use crate::held::Held;
+use crate::parts::{record_on, start_on};
+use byte_transfer::Source;
+use std::alloc::Global;
+use trace_format::{Kind, TraceFault};
+use trace_records::{Front, Record, Start, Tally};
+
+/// A trace of version 3 that is taken from a reader, which stands beside it. It keeps the start,
+/// and the bytes of one record.
+#[derive(Drop)]
+pub struct Stream {
+    held: Held,
+    start: Start,
+    front: Front,
+}
+
+/// Whether a byte is held, or the reader has one.
+fn has_more<R: Source>(alloc: Global, held: &mut Held, reader: &mut R) -> Result<bool, StreamFault>
+    requires { R.failures reader.old < 2 ^ 64 - 1 }
+    ensures ok { IfOk result
+        (λ more. HasMore more held.old (R.left reader.old) (R.left reader.new)) }
+    ensures err { IfErr result IsOutside }
+    ensures failures { R.failures reader.new ≡ R.failures reader.old + failed result }
+    ensures bound { held.new.place + length held.new.rest < 2 ^ 63 }
+{
+    if held.rest().is_empty() {
+        held.take_on(alloc, reader)
+    } else {
+        Ok(true)
+    }
+}
+
+/// Looks for a byte behind the end of a trace.
+fn at_end<R: Source>(alloc: Global, held: &mut Held, reader: &mut R) -> Result<(), StreamFault>
+    requires { R.failures reader.old < 2 ^ 64 - 1 }
+    ensures ok { OnOk result (HasMore false held.old (R.left reader.old) (R.left reader.new)) }
+    ensures err { IfErr result (Trails held.old (R.left reader.old) (R.left reader.new)) }
+    ensures failures { R.failures reader.new ≡ R.failures reader.old + failed result }
+    ensures bound { held.new.place + length held.new.rest < 2 ^ 63 }
+{
+    let at = held.place();
+    if has_more(alloc, held, reader)? {
+        return Err(StreamFault::Trace(TraceFault {
+            kind: Kind::Trailing,
+            at,
+        }));
+    }
+    Ok(())
+}
+
+impl Stream {
+    /// The start of a trace, whose first bytes were read ahead.
+    ///
+    /// # Errors
+    ///
+    /// Read where the reader failed, else the first fault of the trace.
+    pub fn open<R: Source>(
+        alloc: Global,
+        ahead: Vec<u8>,
+        reader: &mut R,
+    ) -> Result<Self, StreamFault>
+        requires { R.failures reader.old < 2 ^ 64 - 1 }
+        ensures ok { IfOk result (Opens ahead.items (R.left reader.old) (R.left reader.new)) }
+        ensures err { IfErr result (Tells ahead.items (R.left reader.old) (R.left reader.new)) }
+        ensures failures { R.failures reader.new ≡ R.failures reader.old + failed result }
+    {
+        let mut held = Held::new(ahead);
+        let start = start_on(alloc, &mut held, reader)?;
+        Ok(Stream {
+            held,
+            start,
+            front: Front::new(alloc),
+        })
+    }
+
+    /// The next record, none where the trace ends and the reader too. After a fault the stream
+    /// stands for nothing.
+    ///
+    /// # Errors
+    ///
+    /// Read where the reader failed, else the first fault of the trace.
+    pub fn next<R: Source>(
+        &mut self,
+        alloc: Global,
+        reader: &mut R,
+    ) -> Result<Option<Record>, StreamFault>
+        requires { R.failures reader.old < 2 ^ 64 - 1 }
+        ensures ok { IfOk result
+            (Gives (R.left reader.old) (R.left reader.new) self.old self.new) }
+        ensures err { IfErr result
+            (GivesFault (R.left reader.old) (R.left reader.new) self.old) }
+        ensures on { IfOk result (λ x. IfSome x (λ _. (self.old.held.place < self.new.held.place)
+            × (self.new.held.place < 2 ^ 63))) }
+        ensures failures { R.failures reader.new ≡ R.failures reader.old + failed result }
+    {
+        match record_on(alloc, &self.start, &self.front, &mut self.held, reader)? {
+            Some(record) => {
+                self.front.add(alloc, &record)?;
+                Ok(Some(record))
+            }
+            None => {
+                at_end(alloc, &mut self.held, reader)?;
+                Ok(None)
+            }
+        }
+    }
+
+    /// How many places and rings the records so far have.
+    pub fn tally(&self) -> Tally
+        ensures places { result.places ≡ self.now.front.places }
+        ensures rings { result.rings ≡ length self.now.front.rings }
+    {
+        Tally {
+            places: self.front.places(),
+            rings: self.front.rings(),
+        }
+    }
+}

@@ -1,0 +1,69 @@
+#!/usr/bin/env python3
+"""The models as a program that takes traces of every version, from standard input: `check`, `serial`, `rounds`, `depends` and `diff`. So the tests have
+the answers of a trace of version 3, of which the replayer tells places and rings alone."""
+import argparse
+import os
+import sys
+from typing import Tuple
+
+if __name__ == "__main__":
+    sys.dont_write_bytecode = True
+
+import model_depends
+import model_diff
+import model_records
+import model_rounds
+from harness import Answer, Input, Program, Words, refused, reports_refused
+from model import Refused
+
+
+class Models(Program):
+    """The models in the place of a built program."""
+
+    def run(self, words: Words, given: Input, *_) -> Answer:
+        assert isinstance(given, bytes)
+        return answer(asked(words), given)
+
+
+MODELS = Models(os.path.abspath(__file__), "the models")
+
+
+def asked(words: Words) -> argparse.Namespace:
+    known = argparse.ArgumentParser(description=__doc__, formatter_class=argparse.RawDescriptionHelpFormatter)
+    known.add_argument("command", choices=("check", "serial", "rounds", "depends", "diff"))
+    known.add_argument("--sums", action="store_true", help="of serial: with the sums of files and buffers")
+    known.add_argument("--window", type=int, default=64, help="of rounds: how many places are looked at (64)")
+    return known.parse_args([str(it) for it in words])
+
+
+def told(given: argparse.Namespace, text: bytes) -> Tuple[bytes, int]:
+    """What a command writes, and its status."""
+    if given.command == "diff":
+        lines, are_alike = model_diff.difference(text)
+        return lines, 0 if are_alike else 4
+    if given.command == "check":
+        return model_records.answer(text).encode(), 0
+    if given.command == "serial":
+        return model_records.report(text, given.sums), 0
+    return model_rounds.rounds(text, given.window) if given.command == "rounds" else model_depends.depends(text), 0
+
+
+def answer(given: argparse.Namespace, text: bytes) -> Answer:
+    try:
+        output, status = told(given, text)
+    except Refused as fault:
+        return refused(str(fault))
+    except model_diff.Refused as fault:
+        return reports_refused(str(fault))
+    return Answer(status, output, b"")
+
+
+def main() -> int:
+    got = answer(asked(sys.argv[1:]), sys.stdin.buffer.read())
+    sys.stdout.buffer.write(got.output)
+    sys.stderr.buffer.write(got.errors)
+    return got.status
+
+
+if __name__ == "__main__":
+    sys.exit(main())

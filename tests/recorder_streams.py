@@ -1,0 +1,266 @@
+"""Recordings of version 3: written as the command runs, read by the second replayer, and compared with what the kernel gave."""
+import os
+import re
+import shutil
+import signal
+import subprocess
+import time
+from functools import partial
+from typing import Callable, List, NamedTuple, Optional, Sequence, Tuple
+
+import model_records
+from harness import Answer, Job, Outcome, Program, first, shown, skipped, spoken
+from model import Refused
+from recorded import SOURCES, Compared, compared, read_file
+from recorder import SECONDS, Built, Ran, accepted, fault_of, ran_in, tools
+
+FORMAT = ["--format", "3"]
+# Programs that end as they do alone, and of which all results are told alike: their traces are replayed by the second replayer.
+PROGRAMS: Sequence[Tuple[str, Sequence[str]]] = (
+    *(("streams", it) for it in (["many", "300"], ["pending", "300"], ["blocked", "1000"], ["alike", "300"], ["zeros"], ["anew", "12"])),
+    *(("harm", it) for it in (["last-end"], ["two-threads"], ["locks"], ["executes"], ["registers"], ["at-once", "1000", "23", "alike"])),
+)
+# Programs of bad.c that keep to nothing: their traces are accepted.
+BAD = ("tail-too-far", "any-bytes", "any-fields", "overflow", "without-queue", "children", "vforks", "another-program", "killed-while-waiting", "by-index", "registrations", "huge-files")
+MIB = 1 << 20
+# What a recording takes at most for many more entries, in KiB: it keeps less than this of them.
+MORE = 24 * 1024
+
+
+class Told(NamedTuple):
+    """A recording of version 3 beside its folder, and what its replay gives beside the kernel's results."""
+
+    ran: Ran
+    path: str
+    fault: Optional[str]
+    compared: Optional[Compared]
+
+
+def streams() -> Built:
+    """The tools, with the programs of this part."""
+    built = tools()
+    for name in ("streams", "submitter"):
+        if not built.reason and not os.path.exists(built.file(name)):
+            built.reason = built.compile(name, [os.path.join(SOURCES, "test", name + ".c")])
+    return built
+
+
+def rising(kernel: str) -> Optional[str]:
+    """Why results are none of version 3."""
+    lines = kernel.split("\n")
+    places = [int(it.split(" ")[0]) for it in lines if re.match(r"\d+ ring=\d+ user=", it)]
+    if lines[0] != "uring-report 2" or lines[-2:] != ["end", ""]:
+        return "the results begin with {!r} and end with {!r}".format(lines[0], lines[-2:])
+    return None if places == sorted(set(places)) else "the places of the results do not rise"
+
+
+def record(program: Program, name: str, words: Sequence[str], command: Sequence[str], replays: bool = True, recorder: str = "uring_record") -> Told:
+    """Records a command with --format 3 in a folder of its own."""
+    built = streams()
+    path = built.directory("format-3-" + name)
+    ran = ran_in(path, [built.file(recorder), *FORMAT, "-o", path + ".trace", "-k", path + ".kernel", *words, "--", *command])
+    has_fault = ran.status is None or "ERROR: AddressSanitizer" in ran.said() or "runtime error" in ran.said()
+    fault = fault_of(ran) if has_fault else accepted(program, path + ".trace")
+    if fault:
+        return Told(ran, path, fault, None)
+    kernel = read_file(path + ".kernel").decode()
+    found = compared(model_records.report(read_file(path + ".trace")).decode(), kernel) if replays else None
+    fault = rising(kernel) or (first(found.differing) if found else None)
+    return Told(ran, path, fault, found)
+
+
+def told(program: Program) -> List[Outcome]:
+    """Programs end as they do alone, and their replay gives what the kernel gave."""
+    built, outcomes = streams(), []
+    for at, (name, mode) in enumerate(PROGRAMS):
+        alone = ran_in(built.directory("alone-{}".format(at)), [built.file(name), *mode])
+        made = record(program, "told{}".format(at), [], [built.file(name), *mode], recorder="strict_record")
+        fault = made.fault if made.ran[:2] == alone[:2] else "{}, wanted {}".format(fault_of(made.ran), fault_of(alone))
+        if not fault and made.compared and not made.compared.counts["entries"][0]:
+            fault = "there is no entry to compare"
+        outcomes.append(Outcome("version 3: {} {}".format(name, spoken(mode)), fault))
+    for mode in BAD:
+        made = record(program, "bad-" + mode, [], [built.file("bad"), mode], replays=False, recorder="strict_record")
+        outcomes.append(Outcome("version 3: bad {}".format(mode), made.fault))
+    return outcomes
+
+
+def sixteen(program: Program) -> List[Outcome]:
+    """The sixteen calls have the counts that they have in version 2."""
+    built, outcomes = streams(), []
+    for words in ([], ["--drain"], ["--wait"]):
+        name = "sixteen" + "".join(words)
+        made = record(program, name, words, [built.file("sixteen")])
+        second = built.directory("format-2-" + name)
+        ran = ran_in(second, [built.file("uring_record"), "-o", second + ".trace", "-k", second + ".kernel", *words, "--", built.file("sixteen")])
+        fault = made.fault or (fault_of(ran) if ran.status else None)
+        if not fault and made.compared:
+            wanted = compared(model_records.report(read_file(second + ".trace")).decode(), read_file(second + ".kernel").decode()).lines()
+            fault = None if made.compared.lines() == wanted else "it has {!r}, wanted {!r}".format(made.compared.lines(), wanted)
+        outcomes.append(Outcome("version 3: the sixteen calls, {}".format(spoken(words)), fault))
+    return outcomes
+
+
+def rings(program: Program) -> List[Outcome]:
+    """More rings than version 2 has, one after another and at once, and what is registered anew: all of it is recorded."""
+    harm, outcomes = streams().file("harm"), []
+    cases = ((["1000"], "ok 3000 places 1000 rings\n", 2000), (["400", "open"], "ok 1200 places 400 rings\n", 800))
+    for mode, wanted, entries in cases:
+        made = record(program, "rings-" + "-".join(mode), [], [harm, "rings", *mode])
+        got = program.run(["check"], made.path + ".trace").output.decode()
+        fault = made.fault or (None if got == wanted else repr(got))
+        if not fault and made.compared and (made.compared.counts["entries"], made.compared.counts["tree"]) != ([entries, 0, 0], [1, 0, 0]):
+            fault = made.compared.lines()
+        outcomes.append(Outcome("version 3: rings {}".format(" ".join(mode)), fault))
+    made = record(program, "anew", [], [streams().file("streams"), "anew", "30"])
+    # (30 rings, and of each a fill before either of its writes, and three entries)
+    fault = made.fault or (None if made.compared and made.compared.counts["entries"] == [90, 0, 0] else "not all entries are equal")
+    got = program.run(["check"], made.path + ".trace").output
+    return [*outcomes, Outcome("version 3: files and buffers registered anew", fault or (None if got == b"ok 180 places 30 rings\n" else repr(got)))]
+
+
+def sparse(program: Program) -> List[Outcome]:
+    """Files are stored by their ranges, and writes of zeros by their lengths."""
+    built = streams()
+    path = built.directory("sparse")
+    with open(os.path.join(path, "image"), "wb") as file:
+        file.truncate(4 << 30)
+        for place, letter in ((1 << 30, b"a"), ((3 << 30) + 7 * 4096, b"b")):
+            file.seek(place)
+            file.write(letter * 4096)
+    ran = ran_in(path, [built.file("uring_record"), *FORMAT, "-o", path + ".trace", "--", built.file("streams"), "zeros"])
+    trace = read_file(path + ".trace") if ran.status == 0 else b""
+    fault = None if ran.status == 0 else fault_of(ran)
+    fault = fault or accepted(program, path + ".trace")
+    wanted = [(1 << 30, b"a"), ((3 << 30) + 7 * 4096, b"b")]
+    stored = [offset.to_bytes(8, "little") + (4096).to_bytes(4, "little") + letter * 4096 for offset, letter in wanted]
+    if not fault and (len(trace) >= MIB or not all(it in trace for it in stored)):
+        fault = "{} bytes, and not the two ranges".format(len(trace))
+    # (of writes of 32,768, 63 and 64 bytes, and of one of two vectors, only the second is stored)
+    if not fault and len(trace) - 2 * 4096 >= 1024:
+        fault = "{} bytes: zeros are stored".format(len(trace))
+    return [Outcome("version 3: a sparse file of 4 GiB, and writes of zeros", fault)]
+
+
+class Fronts(model_records.Records):
+    """Tells of a trace, also of one that is cut off, where each record begins, and how many places are before it."""
+
+    def __init__(self, text: bytes, fronts: List[Tuple[int, int]]) -> None:
+        self.fronts = fronts
+        super().__init__(text)
+
+    def next_record(self) -> bool:
+        self.fronts.append((self.source.next, self.places))
+        return super().next_record()
+
+
+def cut(program: Program) -> List[Outcome]:
+    """A call with many bytes is several records, which end where a chain does."""
+    made = record(program, "large", [], [streams().file("streams"), "large"], replays=False)
+    fronts: List[Tuple[int, int]] = []
+    if not made.fault:
+        Fronts(read_file(made.path + ".trace"), fronts)
+    counts = [behind - before for (_, before), (_, behind) in zip(fronts, fronts[1:])]
+    # (a ring; chains of three entries, until they have 4 MiB; the end)
+    is_well = counts == [1, 6, 6, 0]
+    return [Outcome("version 3: a call of 12 MiB", made.fault or (None if is_well else "records of {} places".format(counts)))]
+
+
+def killed(program: Program) -> List[Outcome]:
+    """A recorder that is killed leaves whole records, with their results."""
+    built = streams()
+    path = built.directory("killed")
+    started = subprocess.Popen([built.file("uring_record"), *FORMAT, "-o", path + ".trace", "-k", path + ".kernel", "--", built.file("streams"), "many", "100000000"], cwd=path)
+    end = time.monotonic() + SECONDS
+    while time.monotonic() < end and (not os.path.exists(path + ".trace") or os.path.getsize(path + ".trace") < 8 * MIB):
+        time.sleep(0.01)
+    started.send_signal(signal.SIGKILL)
+    started.wait()
+    trace, kernel = read_file(path + ".trace"), read_file(path + ".kernel")
+    fronts: List[Tuple[int, int]] = [(0, 0)]
+    try:
+        Fronts(trace, fronts)
+        return [Outcome("version 3: a recorder that is killed", "its trace is whole")]
+    except Refused as refused:
+        fault = None if str(refused) == "Short at {}".format(len(trace)) else str(refused)
+    whole, places = fronts[-1]
+    got = program.run(["check"], trace[:whole] + b"\7")
+    if not fault and (got != Answer(0, "ok {} places 1 rings\n".format(places).encode(), b"") or len(trace) - whole > MIB or places < 1000):
+        fault = "{} bytes, of which {} are whole: {}".format(len(trace), whole, shown(got))
+    last = kernel[: kernel.rfind(b"\n") + 1].split(b"\n")[-2].split(b" ")[0]
+    if not fault and int(last) < places // 2:
+        fault = "{} places, and results up to that of place {}".format(places, last)
+    return [Outcome("version 3: a recorder that is killed", fault)]
+
+
+def piped(program: Program) -> List[Outcome]:
+    """A trace on standard output, of each version; the command's own output goes to standard error."""
+    built, outcomes = streams(), []
+    for version in ("1", "2", "3"):
+        path = built.directory("piped" + version)
+        words = [built.file("uring_record"), "--format", version, "-o", "-", "-k", path + ".kernel", "--", "sh", "-c", '"$0" blocks 2; exit 3', built.file("harm")]
+        ran = ran_in(path, words)
+        got = program.run(["check"], ran.output)
+        fault = None if ran.status == 3 and b"all written\n" in ran.errors and got.status == 0 else "{}, {}".format(fault_of(ran), shown(got))
+        outcomes.append(Outcome("the recorder: version {} on standard output".format(version), fault))
+    path = built.directory("gone")
+    ran = ran_in(path, ["bash", "-c", '"$@" | head -c 10 > /dev/null; exit "${PIPESTATUS[0]}"', "sh", built.file("uring_record"), *FORMAT, "-o", "-", "--", built.file("streams"), "many", "100000"])
+    outcomes.append(Outcome("version 3: a reader that goes away", None if ran.status == 125 and b"Broken pipe" in ran.errors else fault_of(ran)))
+    if not shutil.which("zstd"):
+        return [*outcomes, Outcome("version 3: through zstd", skipped="there is no zstd")]
+    path = built.directory("zstd")
+    line = '"$0" --format 3 -o - -- "$1" many 1000 2>/dev/null | zstd -3 -q > "$2.zst" && zstd -dcq "$2.zst"'
+    ran = ran_in(path, ["sh", "-c", line, built.file("uring_record"), built.file("streams"), path])
+    got = program.run(["check"], ran.output)
+    return [*outcomes, Outcome("version 3: through zstd", None if got.output == b"ok 1001 places 1 rings\n" else shown(got))]
+
+
+def peak(path: str, command: Sequence[str]) -> Tuple[int, int]:
+    """The status of a recording, and the most memory that it had, in KiB."""
+    with open(os.devnull, "wb") as nothing:
+        started = subprocess.Popen(command, cwd=path, stdin=subprocess.DEVNULL, stdout=nothing, stderr=nothing)
+        _, status, used = os.wait4(started.pid, 0)
+        started.returncode = os.waitstatus_to_exitcode(status)
+    return started.returncode, used.ru_maxrss
+
+
+def memory(_: Program) -> List[Outcome]:
+    """A hundred times the entries take little more memory, also where one is in flight all the while, or all have one user_data."""
+    built, outcomes = streams(), []
+    for mode in ("many", "pending", "blocked", "alike"):
+        peaks = []
+        for count in ("1000", "100000"):
+            path = built.directory("memory-{}-{}".format(mode, count))
+            words = [built.file("uring_record"), *FORMAT, "-o", "/dev/null", "-k", path + ".kernel", "--", built.file("streams"), mode, count]
+            status, most = peak(path, words)
+            peaks.append(most)
+            fault = "it ended with {}".format(status) if status else None
+        if not fault and peaks[1] > peaks[0] + MORE:
+            fault = "{} KiB for 1,000 entries, and {} KiB for 100,000".format(*peaks)
+        fault = fault or rising(read_file(path + ".kernel").decode())
+        outcomes.append(Outcome("version 3: memory, {}".format(mode), fault))
+    return outcomes
+
+
+def options(program: Program) -> List[Outcome]:
+    """What goes together, and the limit."""
+    built, outcomes = streams(), []
+    for words in (["--format", "4"], ["--format", "11"], [*FORMAT, "--touched"], ["--format", "2", "--limit", "1073741825"], [*FORMAT, "--limit", "12"]):
+        ran = ran_in(built.folder.name, [built.file("uring_record"), *words, "true"])
+        outcomes.append(Outcome("the recorder: {}".format(spoken(words)), None if ran.status == 125 and b"uring_record: --" in ran.errors else fault_of(ran)))
+    made = record(program, "limit", ["--limit", "1000000"], [built.file("streams"), "many", "2000"])
+    size = os.path.getsize(made.path + ".trace")
+    fault = made.fault or (None if made.ran.status == 0 and b"the recording ends here" in made.ran.errors else fault_of(made.ran))
+    fault = fault or (None if 800000 < size <= 1000000 else "{} bytes".format(size))
+    outcomes.append(Outcome("version 3: --limit is used up and kept", fault))
+    return outcomes
+
+
+def part(run: Callable[[Program], List[Outcome]], programs: List[Program]) -> List[Outcome]:
+    """A part, where it can be tried."""
+    reason = streams().reason
+    return skipped("version 3: {}".format(run.__name__), reason) if reason else run(programs[0])
+
+
+def jobs(programs: List[Program]) -> List[Job]:
+    return [partial(part, it, programs) for it in (told, sixteen, rings, sparse, cut, killed, piped, memory, options)]

@@ -1,0 +1,255 @@
+#include "records.h"
+#include "entry.h"
+#include "parts.h"
+#include "text.h"
+#include "uring.h"
+
+#include <stdlib.h>
+
+enum {
+	MOST_ITEMS = 1 << 24,
+	MOST_NUMBERS = 1 << 20,
+	MOST_BUFFERS = 16384,
+	RECORD_END = 7,
+};
+#define MOST_PLACES (1U << 31)
+/* The queue of a ring that continues no other. */
+#define NO_QUEUE UINT32_MAX
+/* The most bytes of a record. */
+#define MOST_OF_RECORD ((u64)UINT32_MAX)
+
+static u64 ring_room, record_room;
+/* Which rings have ended so far. */
+static bool *is_over;
+static u64 over_count, over_room;
+
+u32 take_records_header(void)
+{
+	trace.item_count = take_limited(4, MOST_ITEMS, "Limit");
+	trace.description_count = take_limited(4, MOST_NUMBERS, "Limit");
+	trace.table_size = take_limited(4, MOST_NUMBERS, "Limit");
+	u32 full = take_limited(4, trace.table_size, "Limit");
+	take_limited(4, 0, "Limit");
+	return full;
+}
+
+void take_ranges(struct item *item)
+{
+	u32 count = (u32)take_number(4);
+	u64 end = 0, room = 0;
+
+	for (; item->range_count < count; item->range_count++) {
+		GROW(item->ranges, item->range_count, room);
+		struct range *it = &item->ranges[item->range_count];
+		it->offset = take_between(8, end, item->size, "Limit");
+		it->length = (u32)take_between(4, 1, item->size - it->offset, "Limit");
+		it->bytes = take(it->length);
+		end = it->offset + it->length;
+	}
+}
+
+/* A number of something that is there: one below an end. */
+static u32 take_below(u32 end)
+{
+	u64 at = text_at(), number = take_number(4);
+
+	if (number >= end)
+		refuse("Reference", at);
+	return (u32)number;
+}
+
+/* The next one of numbers that rise from `low` on, below an end. */
+static u32 take_rising(u32 low, u32 end)
+{
+	u64 at = text_at(), number = take_number(4);
+
+	if (number < low || number >= end)
+		refuse("Limit", at);
+	return (u32)number;
+}
+
+static void take_descriptors(u32 full)
+{
+	trace.table = allocate(trace.table_size * sizeof *trace.table);
+	for (u32 low = 0; full; full--) {
+		u32 number = take_rising(low, trace.table_size);
+		trace.table[number] = take_below(trace.description_count) + 1;
+		low = number + 1;
+	}
+}
+
+/* The number of a ring that is there. */
+static u32 take_ring_number(void)
+{
+	u64 at = text_at(), number = take_number(4);
+
+	if (number >= trace.ring_count || is_over[number])
+		refuse("Reference", at);
+	return (u32)number;
+}
+
+/* --- Rings --------------------------------------------------------------------------------------
+ */
+
+static void take_full_slot(struct full_slot *it)
+{
+	it->kind = (u8)take_limited(1, OF_START, "Limit");
+	if (it->kind == OF_SLOT) {
+		it->ring = take_ring_number();
+		it->number = take_below(trace.rings[it->ring].slot_count);
+		return;
+	}
+	it->ring = take_limited(4, 0, "Limit");
+	it->number =
+		take_below(it->kind == OF_DESCRIPTOR ? trace.table_size : trace.description_count);
+}
+
+/* A queue decides alone what a drained entry waits for. So it is read, and not kept: the player
+ * keeps drains by the order in which it plays. */
+static void take_queue(void)
+{
+	u64 at = text_at(), queue = take_number(4);
+
+	if (queue != NO_QUEUE && queue >= trace.ring_count)
+		refuse("Reference", at);
+}
+
+static void take_new_ring(void)
+{
+	struct ring_of_trace ring = { .place = trace.places };
+	u32 low = 0;
+
+	take_queue();
+	ring.slot_count = take_limited(4, MOST_NUMBERS, "Limit");
+	u32 count = take_limited(4, ring.slot_count, "Limit");
+	ring.full = allocate(count * sizeof *ring.full);
+	for (; ring.full_count < count; ring.full_count++) {
+		struct full_slot *it = &ring.full[ring.full_count];
+		it->slot = take_rising(low, ring.slot_count);
+		low = it->slot + 1;
+		take_full_slot(it);
+	}
+	take_buffers(&ring, MOST_BUFFERS);
+	GROW(trace.rings, trace.ring_count, ring_room);
+	GROW(is_over, over_count, over_room);
+	is_over[over_count++] = false;
+	trace.rings[trace.ring_count++] = ring;
+}
+
+/* --- Entries and fills --------------------------------------------------------------------------
+ */
+
+/* An entry whose side bytes are there. */
+static void take_stored_entry(struct entry *entry, u64 begin)
+{
+	u64 at = text_at(), count = take_number(4);
+
+	if (text_at() + count - begin > MOST_OF_RECORD)
+		refuse("Limit", at);
+	entry->side_length = (u32)count;
+	entry->side = take(count);
+	if (!fits(entry))
+		refuse("Side", at);
+}
+
+/* An entry that writes zeros: of its side bytes those of its lengths alone are there. */
+static void take_entry_of_zeros(struct entry *entry)
+{
+	u64 at = text_at(), count = take_number(4);
+
+	entry->is_zeros = true;
+	entry->side_length = (u32)min64(count, lengths_of(entry));
+	entry->side = take(entry->side_length);
+	if (!fits_count(entry, count))
+		refuse("Side", at);
+	if (trace.most_zeros < count)
+		trace.most_zeros = count;
+}
+
+static void take_entry(struct entry *entry, u64 begin)
+{
+	entry->sqe = take(64);
+	bool is_write = entry->sqe[0] == OP_WRITE || entry->sqe[0] == OP_WRITEV;
+	if (take_limited(1, is_write ? 1 : 0, "Limit"))
+		take_entry_of_zeros(entry);
+	else
+		take_stored_entry(entry, begin);
+}
+
+static void take_entries(struct record *record, u64 begin)
+{
+	record->ring = take_ring_number();
+	record->count = take_limited(2, MOST_ENTRIES, "Limit");
+	if (record->count > MOST_PLACES - trace.places)
+		refuse("Limit", text_at() - 2);
+	make_entries(record);
+	for (u32 at = 0; at < record->count; at++) {
+		take_entry(&record->entries[at], begin);
+		add_entry(record, &record->entries[at]);
+	}
+}
+
+static void take_fill(struct record *record)
+{
+	record->ring = take_ring_number();
+	take_number_of_buffer(record);
+	bool is_zeros = take_limited(1, 1, "Limit");
+	take_part(record);
+	record->bytes = is_zeros ? NULL : take(record->length);
+}
+
+/* --- Records ------------------------------------------------------------------------------------
+ */
+
+/* The kind of a record: what is not served, and what there is no more room for, is refused. */
+static u8 take_kind(void)
+{
+	u64 at = text_at();
+	u8 kind = (u8)take_number(1);
+	bool is_served_kind = (kind >= RECORD_ENTRIES && kind <= RECORD_FILL) ||
+			      (kind >= RECORD_RING && kind <= RECORD_END);
+	bool is_step = kind == RECORD_FILL || kind == RECORD_RING;
+
+	if (!is_served_kind || (is_step && trace.places == MOST_PLACES) ||
+	    (kind == RECORD_RING && trace.ring_count == MOST_NUMBERS))
+		refuse("Limit", at);
+	return kind;
+}
+
+static bool take_record(struct record *record)
+{
+	u64 begin = text_at();
+
+	*record = (struct record){ .kind = take_kind(), .place = trace.places };
+	switch (record->kind) {
+	case RECORD_ENTRIES:
+		take_entries(record, begin);
+		return true;
+	case RECORD_FILL:
+		take_fill(record);
+		break;
+	case RECORD_RING:
+		record->ring = trace.ring_count;
+		take_new_ring();
+		break;
+	case RECORD_RING_ENDS:
+		record->ring = take_ring_number();
+		is_over[record->ring] = true;
+		trace.rings[record->ring].has_ended = true;
+		return true;
+	default:
+		return false;
+	}
+	trace.places++;
+	return true;
+}
+
+void take_records(u32 full)
+{
+	take_descriptors(full);
+	do
+		GROW(trace.records, trace.record_count, record_room);
+	while (take_record(&trace.records[trace.record_count++]));
+	trace.record_count--;
+	free(is_over);
+}

@@ -1,0 +1,257 @@
+#include "encode.h"
+#include "aside.h"
+#include "start.h"
+
+#include <errno.h>
+#include <fcntl.h>
+#include <signal.h>
+#include <stdlib.h>
+#include <string.h>
+#include <unistd.h>
+
+/* Bytes are given to the file when there are so many. Version 3 cuts a record where a chain ends
+ * behind so many bytes. A write of so many zeros has a short form there. */
+enum { BUFFER = 1 << 20, ENOUGH = 1 << 22, LEAST_ZEROS = 64, MOST_LENGTHS = 1024 };
+/* More bytes no record of version 3 has, and no entry more beside its side bytes. */
+#define MOST_OF_RECORD UINT32_MAX
+enum { BESIDE = 69, RECORD_HEAD = 7 };
+enum form { FORM_STORED = 0, FORM_ZEROS = 1 };
+
+static int file = -1;
+static bool is_counting;
+static u8 buffer[BUFFER];
+static u64 used, written;
+
+void open_trace(void)
+{
+	/* (a reader that goes away is a fault of the recorder's, with its status) */
+	signal(SIGPIPE, SIG_IGN);
+	do {
+		file = strcmp(options.trace, "-")
+			       ? open(options.trace, O_WRONLY | O_CREAT | O_TRUNC | O_CLOEXEC, 0666)
+			       : STDOUT_FILENO;
+	} while (file < 0 && errno == EINTR);
+	if (file < 0)
+		die("%s: %s", options.trace, strerror(errno));
+}
+
+bool is_trace_open(void)
+{
+	return file >= 0;
+}
+
+/* Gives bytes to the file. */
+static void write_out(const u8 *bytes, u64 length)
+{
+	ssize_t moved;
+
+	for (u64 at = 0; at < length; at += (u64)moved) {
+		moved = write(file, bytes + at, length - at);
+		if (moved < 0 && errno == EINTR)
+			moved = 0;
+		if (moved < 0)
+			die("%s: %s", options.trace, strerror(errno));
+	}
+}
+
+void flush_trace(void)
+{
+	write_out(buffer, used);
+	used = 0;
+}
+
+void close_trace(void)
+{
+	flush_trace();
+	if (close(file))
+		die("%s: %s", options.trace, strerror(errno));
+	file = -1;
+}
+
+u64 bytes_put(void)
+{
+	return written;
+}
+
+void count_anew(void)
+{
+	written = 0;
+}
+
+void put(const void *bytes, u64 length)
+{
+	written += length;
+	if (file < 0 || is_counting)
+		return;
+	if (used + length > BUFFER)
+		flush_trace();
+	if (length > BUFFER) {
+		write_out(bytes, length);
+	} else if (length) {
+		memcpy(buffer + used, bytes, length);
+		used += length;
+	}
+}
+
+void put_zeros(u64 length)
+{
+	static const u8 zeros[4096];
+
+	for (u64 left = length; left; left -= min64(left, sizeof zeros))
+		put(zeros, min64(left, sizeof zeros));
+}
+
+void put_number(u64 number, unsigned bytes)
+{
+	u8 spelled[8];
+
+	for (unsigned at = 0; at < bytes; at++)
+		spelled[at] = (u8)(number >> (8 * at));
+	put(spelled, bytes);
+}
+
+void put_item(const struct item *item)
+{
+	u64 length = strlen(item->path);
+
+	put_number(item->kind, 1);
+	put_number(length, 2);
+	put(item->path, length);
+	if (item->kind == ITEM_NAME) {
+		put_number(item->of, 4);
+	} else if (item->kind == ITEM_FILE) {
+		put_number(item->size, 8);
+		if (options.format == 3) {
+			put_file_ranges(item);
+			return;
+		}
+		put_number(item->stored, 4);
+		put(item->bytes, item->stored);
+	}
+}
+
+void put_description(const struct description *description)
+{
+	put_number(description->node, 4);
+	put_number(description->access, 1);
+	put_number(description->append, 1);
+	put_number(description->position, 8);
+}
+
+/* Of a write whose bytes are many zeros, how many side bytes are before them; else all. */
+static u32 before_zeros(u8 opcode, u32 vectors, const u8 *side, u32 length)
+{
+	u32 lengths = opcode == OP_WRITEV && vectors <= MOST_LENGTHS ? 8 * vectors : 0;
+	bool writes = opcode == OP_WRITE || (opcode == OP_WRITEV && vectors <= MOST_LENGTHS);
+	bool is_long = writes && length >= lengths && length - lengths >= LEAST_ZEROS;
+
+	return is_long && is_zero(side + lengths, length - lengths) ? lengths : length;
+}
+
+/* An entry with its side bytes. */
+static void put_entry(const struct entry *entry)
+{
+	struct io_uring_sqe sqe = entry->sqe;
+	u8 *changed = NULL;
+	u32 length = entry->side_length;
+
+	if (entry->is_aside)
+		aside_form(entry, &sqe, &changed, &length);
+	const u8 *side = changed ? changed : entry->side;
+	u32 stored = options.format == 3 ? before_zeros(sqe.opcode, sqe.len, side, length) : length;
+	put(&sqe, sizeof sqe);
+	if (options.format == 3)
+		put_number(stored < length ? FORM_ZEROS : FORM_STORED, 1);
+	put_number(length, 4);
+	put(side, stored);
+	free(changed);
+}
+
+/* Where the part of a record ends that begins at an entry: behind a chain with which it has enough
+ * bytes. Versions 1 and 2 have no parts. */
+static u32 end_of_part(const struct record *record, u32 from)
+{
+	u64 bytes = 0;
+
+	for (u32 at = from; options.format == 3 && at < record->count; at++) {
+		const struct entry *entry = &record->entries[at];
+		bytes += BESIDE + (u64)entry->side_length;
+		if (bytes >= ENOUGH && !goes_on(&entry->sqe))
+			return at + 1;
+	}
+	return record->count;
+}
+
+bool is_too_long(const struct record *record)
+{
+	for (u32 from = 0, to; from < record->count; from = to) {
+		u64 bytes = RECORD_HEAD;
+		to = end_of_part(record, from);
+		for (u32 at = from; at < to; at++)
+			bytes += BESIDE + (u64)record->entries[at].side_length;
+		if (bytes > MOST_OF_RECORD)
+			return true;
+	}
+	return false;
+}
+
+/* The entries of a call. */
+static void put_entries(const struct record *record)
+{
+	for (u32 from = 0, to; from < record->count; from = to) {
+		to = end_of_part(record, from);
+		put_number(RECORD_ENTRIES, 1);
+		put_number(record->ring, options.format == 3 ? 4 : 1);
+		put_number(to - from, 2);
+		for (u32 at = from; at < to; at++)
+			put_entry(&record->entries[at]);
+	}
+}
+
+/* Bytes that come into a buffer. */
+static void put_fill(const struct record *record)
+{
+	bool is_short = record->length >= LEAST_ZEROS && is_zero(record->bytes, record->length);
+
+	put_number(RECORD_FILL, 1);
+	put_number(record->ring, options.format == 3 ? 4 : 1);
+	put_number(record->buffer, 2);
+	if (options.format == 3)
+		put_number(is_short ? FORM_ZEROS : FORM_STORED, 1);
+	put_number(record->offset, 4);
+	put_number(record->length, 4);
+	if (options.format != 3 || !is_short)
+		put(record->bytes, record->length);
+}
+
+void put_record(const struct record *record)
+{
+	switch (record->kind) {
+	case RECORD_ENTRIES:
+		put_entries(record);
+		break;
+	case RECORD_FILL:
+		put_fill(record);
+		break;
+	case RECORD_RING:
+		put_number(RECORD_RING, 1);
+		put(record->bytes, record->length);
+		break;
+	case RECORD_RING_ENDS:
+		put_number(RECORD_RING_ENDS, 1);
+		put_number(record->ring, 4);
+		break;
+	}
+}
+
+u64 size_of_record(const struct record *record)
+{
+	u64 before = written;
+
+	is_counting = true;
+	put_record(record);
+	is_counting = false;
+	u64 size = written - before;
+	written = before;
+	return size;
+}

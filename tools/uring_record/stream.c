@@ -1,0 +1,245 @@
+#include "stream.h"
+#include "aside.h"
+#include "encode.h"
+#include "notes.h"
+#include "output.h"
+#include "start.h"
+#include "submissions.h"
+
+#include <stdlib.h>
+#include <string.h>
+#include <unistd.h>
+
+enum { RECORD_END = 7, SHIFTED = 1024, MANY_BEHIND = 16, MOST_HELD = 65536 };
+
+/* So many of the records that are kept were put into the trace, and of so many the results too. */
+static u64 put_count, told_count;
+/* Nothing more is put: the trace is at its limit. */
+static bool is_full;
+
+/* The descriptor table: its full numbers. */
+static void put_table(void)
+{
+	for (u32 at = 0; at < trace.table_size; at++) {
+		u32 known = description_at(at);
+		if (!known)
+			continue;
+		put_number(at, 4);
+		put_number(known - 1, 4);
+	}
+}
+
+/* How many numbers of the table are full. */
+static u32 count_full(void)
+{
+	u32 full = 0;
+
+	for (u32 at = 0; at < trace.table_size; at++)
+		full += description_at(at) != 0;
+	return full;
+}
+
+/* Puts a name of the tree. The bytes of a file are read now, and not again. */
+static void put_name(struct item *item)
+{
+	put_item(item);
+	free(item->ranges.list);
+	item->ranges = (struct file_ranges){ 0 };
+	if (item->descriptor >= 0)
+		close(item->descriptor);
+	item->descriptor = -1;
+}
+
+void begin_stream(void)
+{
+	bool has_root = has_taken_numbers();
+
+	if (options.format != 3)
+		return;
+	open_trace();
+	open_results();
+	put("URINGTRC", 8);
+	put_number(3, 4);
+	put_number(trace.item_count, 4);
+	put_number(trace.description_count + has_root, 4);
+	put_number(trace.table_size, 4);
+	put_number(count_full(), 4);
+	put_number(0, 4);
+	for (u64 at = 0; at < trace.item_count; at++)
+		put_name(&trace.items[at]);
+	put_descriptions(has_root);
+	put_table();
+	flush_trace();
+	flush_results();
+}
+
+/* Whether a call that has not ended has left nothing in its queue. */
+static bool is_ended(const struct record *record)
+{
+	bool is_behind = trace.record_count - put_count > MANY_BEHIND;
+
+	return !record->is_open || (is_behind && is_all_taken(record));
+}
+
+/* Whether an entry is written as it is now, whatever its completion is. */
+static bool is_settled_entry(const struct entry *entry)
+{
+	u8 opcode = entry->sqe.opcode;
+
+	return entry->is_landed || entry->is_aside || opcode == OP_NOP || !is_served(opcode);
+}
+
+/* Whether the bytes of a record are known. */
+static bool is_settled(struct record *record)
+{
+	while (record->settled < record->count &&
+	       is_settled_entry(&record->entries[record->settled]))
+		record->settled++;
+	return record->settled == record->count;
+}
+
+/* Whether the results of a record are known, and no mark is put there any more. */
+static bool is_final(struct record *record)
+{
+	while (record->final < record->count && record->entries[record->final].is_landed &&
+	       !record->entries[record->final].is_alike)
+		record->final++;
+	return record->final == record->count;
+}
+
+/* Whether the trace has no room for a record, which ends the recording. */
+static bool is_over(const struct record *record)
+{
+	bool is_limited = options.limit != UINT64_MAX;
+
+	if (is_too_long(record))
+		end_recording("a chain has more bytes than a record may have");
+	else if (is_limited && bytes_put() + size_of_record(record) + 1 > options.limit)
+		end_recording("the trace has as many bytes as it may have");
+	else
+		return false;
+	return true;
+}
+
+/* Puts the next record, and lets its bytes go that nothing in flight has. */
+static void put_next(void)
+{
+	struct record *record = trace.records[put_count++];
+
+	is_full = is_full || is_over(record);
+	if (is_full)
+		return;
+	put_record(record);
+	record->is_put = true;
+	for (u32 at = 0; at < record->count; at++) {
+		struct entry *entry = &record->entries[at];
+		if (!entry->is_landed)
+			continue;
+		free(entry->side);
+		entry->side = NULL;
+	}
+}
+
+/* Tells the results of the next record that was put, and lets it go; its call may run still. */
+static void tell_next(void)
+{
+	struct record *record = trace.records[told_count];
+	u64 behind = number_record(record, trace.gone_places);
+
+	keep_places(record, trace.gone + told_count, trace.gone_places);
+	if (record->is_put) {
+		write_results_of(record);
+		count_outside(record);
+		trace.gone_places = behind;
+	}
+	told_count++;
+	for (u32 at = 0; at < record->count; at++)
+		record->flying += record->entries[at].record && !record->entries[at].is_landed;
+	record->is_gone = true;
+	leave_record(record);
+}
+
+/* Whether so many places are kept that nothing is waited for any longer. */
+static bool is_crowded(void)
+{
+	return trace.places > trace.gone_places + MOST_HELD;
+}
+
+/* Whether the results of a record are written now. Where many are kept behind it, what is in flight
+ * is told as if it never ended. */
+static bool is_told_now(struct record *record)
+{
+	if (is_final(record))
+		return true;
+	if (!is_crowded())
+		return false;
+	give_up_alike();
+	if (is_final(record))
+		return true;
+	note("an entry that is in flight while many later ones end: it is told as unseen",
+	     &record->entries[record->final]);
+	leave_flights_of(record);
+	return true;
+}
+
+/* The records that are kept are moved to the front where many before them are gone. */
+static void shift_records(void)
+{
+	if (told_count != trace.record_count &&
+	    (told_count < SHIFTED || 2 * told_count < trace.record_count))
+		return;
+	trace.record_count -= told_count;
+	put_count -= told_count;
+	trace.gone += told_count;
+	if (trace.record_count)
+		memmove(trace.records, trace.records + told_count,
+			trace.record_count * sizeof *trace.records);
+	told_count = 0;
+}
+
+/* Whether a record is put now. Where many are kept behind it, what is in flight is put as it is. */
+static bool is_put_now(struct record *record)
+{
+	if (!is_ended(record))
+		return false;
+	if (is_settled(record))
+		return true;
+	if (is_crowded())
+		leave_flights_of(record);
+	return is_crowded();
+}
+
+/* Writes what is known, or all. */
+static void write_records(bool all)
+{
+	u64 before = put_count + told_count;
+
+	while (put_count < trace.record_count && (all || is_put_now(trace.records[put_count])))
+		put_next();
+	while (told_count < put_count && (all || is_told_now(trace.records[told_count])))
+		tell_next();
+	if (put_count + told_count != before)
+		shift_records();
+}
+
+void write_known(void)
+{
+	if (is_trace_open())
+		write_records(false);
+}
+
+void flush_stream(void)
+{
+	if (!is_trace_open())
+		return;
+	flush_trace();
+	flush_results();
+}
+
+u64 end_stream(void)
+{
+	write_records(true);
+	put_number(RECORD_END, 1);
+	close_trace();
+	return bytes_put();
+}
