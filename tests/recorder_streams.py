@@ -6,6 +6,7 @@ import signal
 import subprocess
 import time
 from functools import partial
+from threading import Lock
 from typing import Callable, List, NamedTuple, Optional, Sequence, Tuple
 
 import model_records
@@ -36,12 +37,16 @@ class Told(NamedTuple):
     compared: Optional[Compared]
 
 
+LOCK = Lock()
+
+
 def streams() -> Built:
-    """The tools, with the programs of this part."""
+    """The tools, with the programs of this part, built by the first that asks for them."""
     built = tools()
-    for name in ("streams", "submitter"):
-        if not built.reason and not os.path.exists(built.file(name)):
-            built.reason = built.compile(name, [os.path.join(SOURCES, "test", name + ".c")])
+    with LOCK:
+        for name in ("streams", "submitter"):
+            if not built.reason and not os.path.exists(built.file(name)):
+                built.reason = built.compile(name, [os.path.join(SOURCES, "test", name + ".c")])
     return built
 
 

@@ -98,14 +98,17 @@ static inline void submit(struct ring *ring, unsigned waited)
 		fail("io_uring_enter");
 }
 
-/* Takes the next completion's result, which has to be there; a kernel without the opcode is told by
- * EINVAL. */
+/* Takes the next completion's result; a kernel without the opcode is told by EINVAL. It waits where
+ * the call that submitted came back too early, as one of a polled ring may on a busy machine. */
 static inline int take(struct ring *ring)
 {
 	unsigned head = *ring->cq_head;
 
-	if (head == __atomic_load_n(ring->cq_tail, __ATOMIC_ACQUIRE))
-		fail("a completion that is lacking");
+	while (head == __atomic_load_n(ring->cq_tail, __ATOMIC_ACQUIRE))
+		if (syscall(SYS_io_uring_enter, ring->descriptor, 0, 1, IORING_ENTER_GETEVENTS, NULL,
+			    0) < 0 &&
+		    errno != EINTR)
+			fail("a completion that is lacking");
 	int result = ring->cqes[head & *ring->cq_mask].res;
 	__atomic_store_n(ring->cq_head, head + 1, __ATOMIC_RELEASE);
 	return result;
