@@ -36,6 +36,13 @@ ABOUT = {
 }
 
 
+class Run(NamedTuple):
+    """A command, and the trace that it is given."""
+
+    words: List[str]
+    trace: str
+
+
 class Cost(NamedTuple):
     """The least time and the most memory of some runs."""
 
@@ -43,25 +50,25 @@ class Cost(NamedTuple):
     megabytes: float
 
 
-def once(words: List[str], trace: str) -> Cost:
-    """Runs a program on a trace to its end."""
-    with open(trace, "rb") as given, open(os.devnull, "wb") as nowhere:
+def once(run: Run) -> Cost:
+    """Runs a command to its end."""
+    with open(run.trace, "rb") as given, open(os.devnull, "wb") as nowhere:
         began = time.monotonic()
-        started = subprocess.Popen(words, stdin=given, stdout=nowhere)
+        started = subprocess.Popen(run.words, stdin=given, stdout=nowhere)
         _, status, usage = os.wait4(started.pid, 0)
         seconds = time.monotonic() - began
     started.returncode = os.waitstatus_to_exitcode(status)
     if status:
-        sys.exit("{} ended with status {} on {}".format(" ".join(words), started.returncode, trace))
+        sys.exit("{} ended with status {} on {}".format(" ".join(run.words), started.returncode, run.trace))
     return Cost(seconds, usage.ru_maxrss / 1024)
 
 
-def least(programs: List[List[str]], trace: str, best: int) -> List[Cost]:
-    """The cost of each program, the programs in turn."""
-    costs = [Cost(float("inf"), 0.0) for _ in programs]
+def least(runs: List[Run], best: int) -> List[Cost]:
+    """The cost of each run, the runs in turn."""
+    costs = [Cost(float("inf"), 0.0) for _ in runs]
     for _ in range(best):
-        for place, words in enumerate(programs):
-            cost = once(words, trace)
+        for place, run in enumerate(runs):
+            cost = once(run)
             costs[place] = Cost(min(costs[place].seconds, cost.seconds), max(costs[place].megabytes, cost.megabytes))
     return costs
 

@@ -47,8 +47,12 @@ def counted(commands: List[List[str]], kind: str, times: int, entries: int, fold
     return Counted([instructions(command, trace) for command in commands], int(words[1]))
 
 
+def added(fewer: Counted, more: Counted) -> List[int]:
+    """The instructions for an entry: what the second half of the entries adds, so without start and items."""
+    entries = more.entries - fewer.entries
+    return [round((b - a) / entries) for a, b in zip(fewer.instructions, more.instructions)]
+
+
 def an_entry(commands: List[List[str]], kind: str, entries: int, folder: str) -> List[int]:
-    """The instructions of each command for an entry: what the second half of the entries adds, so without start and items."""
-    fewer, more = [counted(commands, kind, times, entries, folder) for times in (1, 2)]
-    added = more.entries - fewer.entries
-    return [round((b - a) / added) for a, b in zip(fewer.instructions, more.instructions)]
+    """The instructions of each command for an entry."""
+    return added(*(counted(commands, kind, times, entries, folder) for times in (1, 2)))

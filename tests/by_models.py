@@ -1,6 +1,6 @@
 #!/usr/bin/env python3
 """The models as a program that takes traces of every version, from standard input: `check`, `serial`, `rounds`, `depends` and `diff`. So the tests have
-the answers of a trace of version 3, of which the replayer tells places and rings alone."""
+answers that the replayer did not give."""
 import argparse
 import os
 import sys

@@ -11,6 +11,7 @@ import examples
 import model
 import model_depends
 import model_diff
+import model_records
 import model_rounds
 import model_text
 from drawing import Draw, Near, changed, two_reports
@@ -22,7 +23,7 @@ DRAWN, LOTS, IN_ROUNDS = 3_000, 6, 5
 
 def by_model(trace: bytes, has_sums: bool) -> Answer:
     try:
-        return Answer(0, model.report(trace, has_sums), b"")
+        return Answer(0, model_records.report(trace, has_sums), b"")
     except model.Refused as fault:
         return refused(str(fault))
 

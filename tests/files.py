@@ -344,7 +344,7 @@ def at_terminals(program: Program) -> List[Outcome]:
     cases = [
         ("a report", read(EXAMPLE + ".report"), "trace refused: Magic at 0", "hint: the input is not a trace."),
         ("an empty input", b"", "trace refused: Short at 0", "hint: the input is empty."),
-        ("another version", trace[:8] + b"\x09" + trace[9:], "trace refused: Version at 8", "hint: the trace has another version"),
+        ("another version", trace[:8] + b"\x09" + trace[9:], "trace refused: Version at 8", "hint: the trace has a version that this command does not read"),
         ("a short trace", trace[:100], "trace refused: Short at 100", ""),
     ]
     for label, given, line, hint in cases:
@@ -376,7 +376,7 @@ def errors_at_terminal(program: Program, words: Words, given: bytes) -> Tuple[in
 def versions(program: Program) -> List[Outcome]:
     """The version by both spellings, on standard output."""
     at = Folder(program)
-    wanted = Answer(0, b"uring_replay 0.1.0\ntrace formats 1 and 2\nreport format 1\n", b"")
+    wanted = Answer(0, b"uring_replay 0.1.0\ntrace formats 1, 2 and 3\nreport formats 1 and 2\n", b"")
     for words in (["--version"], ["-V"]):
         at.ask("the version", words, wanted)
         at.ask("a full output", words, fault("write"), shell='exec "$@" > /dev/full')

@@ -82,6 +82,12 @@ def handlings(uses: Sequence[Use]) -> List[Handling]:
     return [Handling(False, None, it.item) for it in own]
 
 
+def in_conflict(ways: Sequence[Handling], others: Sequence[Handling]) -> bool:
+    """Whether one of two places writes a descriptor that the other one uses."""
+    pairs = [*((way, other) for way in ways for other in others), *((other, way) for way in ways for other in others)]
+    return any(way.written and (other.is_wide or way.written in (other.written, other.read)) for way, other in pairs)
+
+
 class Descriptors:
     """All descriptors, as one part of the world."""
 
@@ -129,6 +135,8 @@ class Known:
         self.parts: Dict[Tuple[Any, ...], Part] = {}
         self.lines: Dict[Tuple[Any, ...], Line] = {}
         self.descriptors = Descriptors()
+        # How each place so far uses descriptors.
+        self.ways: List[List[Handling]] = []
 
     def of(self, item: Item) -> List[Part]:
         """The parts of an item."""
@@ -149,14 +157,21 @@ class Known:
         found: Dict[int, Item] = {}
         for use in uses:
             if is_of_descriptors(use.item):
-                pairs = ((it.place, way.shared(it)) for way in ways for it in self.descriptors.before(way))
+                found_before = [(it.place, way.shared(it)) for way in ways for it in self.descriptors.before(way)]
+                pairs = iter([it for it in found_before if not self.is_passed(it[0], ways)])
             else:
                 pairs = self.met(use, use.item in written)
             for place, item in pairs:
                 found.setdefault(place, item)
         return dict(sorted(found.items()))
 
+    def is_passed(self, place: int, ways: List[Handling]) -> bool:
+        """Whether one of both uses several descriptors, and a place between them conflicts with both."""
+        is_several = max(len(ways), len(self.ways[place])) > 1
+        return is_several and any(in_conflict(it, self.ways[place]) and in_conflict(it, ways) for it in self.ways[place + 1 :])
+
     def add(self, place: int, uses: Sequence[Use]) -> None:
+        self.ways.append(handlings(uses))
         written = {it.item for it in uses if it.is_written}
         for item in dict.fromkeys(it.item for it in uses if not is_of_descriptors(it.item)):
             if item.kind not in (BYTES, BUFFER):

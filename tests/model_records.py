@@ -1,4 +1,4 @@
-"""What a trace of version 3 gives, or why it is none: the second replayer (model.py) with a reader by docs/NEXT.md alone, as far as that is served.
+"""What a trace of version 3 gives, or why it is none: the second replayer (model.py) with a reader by docs/FORMAT.md alone.
 Traces of other versions are model.py's."""
 from typing import List, Optional, Tuple
 

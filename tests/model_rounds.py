@@ -171,7 +171,7 @@ def row(world: World, place: Place) -> List[Use]:
     if isinstance(step, Fill):
         return [written(BUFFER, (ring, step.buffer), step.offset, step.offset + step.data.size)]
     if isinstance(step, NewRing):
-        return row_of_ring(world, ring, step)
+        return row_of_ring(ring, step)
     if step.opcode in (*MOVING, FSYNC):
         return [*handle(world, ring, bool(step.flags & FIXED_FILE), step.fd & LAST, False), *row_of_opened(world, ring, step)]
     if step.opcode == OPENAT:
@@ -181,11 +181,9 @@ def row(world: World, place: Place) -> List[Use]:
     return row_of_names(world, place, step) if step.opcode in ON_PATHS else []
 
 
-def row_of_ring(world: World, ring: int, step: NewRing) -> List[Use]:
-    """A new ring writes its full slots and its buffers, and reads what gives the slots theirs."""
-    slots = [written(SLOT, (ring, number)) for number, _ in step.full]
-    buffers = [written(BUFFER, (ring, index), 0, held.size) for index, (_, held) in enumerate(world.buffers[ring])]
-    return [*slots, *(Use(item, False) for _, holder in step.full for item in item_of(holder)), *buffers]
+def row_of_ring(ring: int, step: NewRing) -> List[Use]:
+    """A new ring reads, of each of its full slots, what gives it its content, and writes the slot."""
+    return [it for number, holder in step.full for it in (*(Use(item, False) for item in item_of(holder)), written(SLOT, (ring, number)))]
 
 
 def item_of(holder: Holder) -> List[Item]:

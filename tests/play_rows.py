@@ -111,7 +111,7 @@ def rows() -> List[Row]:
             Play(world(entry(READ, FIXED_FILE, offset=(1 << 63) - 2, length=4)), [(0, b"res=0", b"res=-22")])]),
         Row("READ with BUFFER_SELECT", [Play(world(entry(READ, FIXED_FILE | BUFFER_SELECT, length=4)), [(0, b"res=-95", b"res=-105")])]),
         Row("CQE_SKIP_SUCCESS and IO_DRAIN on one ring", [Play(world(entry(NOP, SKIP), entry(NOP, DRAIN)), [(1, b"res=0", b"res=-95")])]),
-        Row("A relative path with a descriptor of the table (version 2)", [
+        Row("A relative path with a descriptor of the table (from version 2 on)", [
             Play(world(on_names(OPENAT, b"f", fd=0, file_index=1), table=(2, 0)), [(0, b"res=-9", b"res=0")])]),
         Row("A path with a component `.` or `..`, or with a last slash", [
             Play(world(*(on_names(OPENAT, it, file_index=1) for it in (b"/./a", b"/d/../a", b"/d/"))), [(it, b"res=-22", b"res=0") for it in range(3)])]),

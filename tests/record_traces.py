@@ -1,6 +1,7 @@
-"""Puts the bytes of traces of version 3 together, by docs/NEXT.md, and draws such traces: the same of one seed each time. Directories, names and
-descriptions are those of traces.py."""
+"""Puts the bytes of traces of version 3 together, by docs/FORMAT.md, and draws such traces: the same of one seed each time. Directories, names and
+descriptions are those of traces.py. What is of version 2 becomes a part of version 3 here, and so does its report."""
 import random
+import re
 import struct
 from typing import List, Sequence, Tuple
 
@@ -67,6 +68,37 @@ def table_of(handles: Sequence[int]) -> List[bytes]:
     return [descriptor(number, it - 1) for number, it in enumerate(handles) if it]
 
 
+def file_of(path: bytes, size: int, data: bytes) -> bytes:
+    """A file of version 2, of which the first bytes are stored."""
+    return file(path, size, [(0, data)] if data else [])
+
+
+def ring_of(slots: Sequence[int], buffers: Buffers) -> bytes:
+    """A ring of version 2, whose full slots get what they have there: descriptions of the start."""
+    return ring(len(slots), [(number, (DESCRIPTION, 0, it - 1)) for number, it in enumerate(slots) if it], buffers)
+
+
+def behind_rings(report: bytes, trace: bytes) -> bytes:
+    """The report of a trace of version 2, which may be cut behind its header, as that of the one that is carried over: entries in the order of their
+    places, and all that is numbered by places behind those of the rings."""
+    items, described, rings = struct.unpack_from("<3I", trace, 12)
+    front, end = report.decode().split("\ntree\n")
+    lines, ring = [], ""
+    for line in front.split("\n")[1:]:
+        if line.startswith("ring "):
+            ring = line[len("ring ") :]
+        else:
+            place, facts = line.split(" ", 1)
+            lines.append((int(place) + rings, ring, facts))
+    starts = {"node": items + 1, "desc": described}
+
+    def moved(found: "re.Match[str]") -> str:
+        return "{}={}".format(found[1], int(found[2]) + (rings if int(found[2]) >= starts[found[1]] else 0))
+
+    told = ["{} ring={} {}".format(*it) for it in sorted(lines)]
+    return "\n".join(["uring-report 2", *told, "tree", re.sub(r"(?<= )(node|desc)=(\d+)", moved, end)]).encode()
+
+
 class Carried(Second):
     """Draws the trace of version 2 that Second draws of a seed, carried over to version 3: its rings are the first records."""
 
@@ -75,11 +107,10 @@ class Carried(Second):
         return b"".join([head(len(items), len(described), len(table), len(full)), *items, *described, *full, *rings, *records, END])
 
     def file(self, path: bytes, size: int) -> bytes:
-        data = self.data()[:size]
-        return file(path, size, [(0, data)] if data else [])
+        return file_of(path, size, self.data()[:size])
 
     def registered(self, slots: List[int], buffers: Buffers) -> bytes:
-        return ring(len(slots), [(number, (DESCRIPTION, 0, it - 1)) for number, it in enumerate(slots) if it], buffers)
+        return ring_of(slots, buffers)
 
     def entered(self, number: int, entries: List[bytes]) -> bytes:
         return enter(number, [stored(it) for it in entries])

@@ -1,6 +1,6 @@
-"""`check` of traces of version 3: those of examples/version_3/, drawn ones, and such with bytes changed. It says what a second reader says
-(model_records.py), and this one says what stands beside the examples. Every other command refuses such a trace at its version. The second
-replayer gives the reports that stand beside the examples, and of traces of version 2 that are carried over what it gives of these."""
+"""Traces of version 3: those of examples/version_3/, drawn ones, and such with bytes changed. The program gives what a second replayer gives
+(model_records.py), and tells of rounds and dependencies what model_rounds.py and model_depends.py tell. `show` refuses such a trace at its version.
+The second replayer gives what stands beside the examples, and of traces of version 2 that are carried over what it gives of these."""
 import os
 import random
 import re
@@ -16,22 +16,36 @@ import model_rounds
 import record_traces
 from depends import order_of, report_in, waits_of
 from examples import VERSION_3
-from harness import EXAMPLES, Answer, Job, Outcome, Program, difference, first, read, refused
+from harness import EXAMPLES, TOP, Answer, Job, Outcome, Program, difference, first, read, refused
 from model import Refused
 from traces import DRAIN, NOP, entry
 
-# How many of each kind are drawn, in how many lots; and each of how many traces is also given to the other commands.
-DRAWN, LOTS, BY_OTHERS = 3_000, 6, 50
+# How many of each kind are drawn, in how many lots; each of how many traces is also replayed in rounds, and each of how many is given to `show`.
+DRAWN, LOTS, IN_ROUNDS, BY_SHOW = 3_000, 6, 5, 50
 # How many traces of version 2 are carried over, in how many lots.
 CARRIED, CARRIED_LOTS = 500, 2
+# How many by the command of bench/.
+BY_BENCH = 20
 # How many drawn traces run in other orders.
 ORDERED = 200
-OTHERS = (["serial"], ["run"], ["compare"], ["rounds"], ["depends"], ["show"])
+# The commands that replay, and with how many workers and which window an example is replayed.
+REPLAYING = (["serial"], ["run"], ["compare"], ["rounds"], ["depends"])
+PAIRS = ((1, 1), (2, 2), (4, 7), (4, 64), (64, 4096))
+EQUAL = Answer(0, b"equal\n", b"")
 
 
 def by_model(trace: bytes) -> Answer:
+    """What `check` says of a trace."""
     try:
         return Answer(0, model_records.answer(trace).encode(), b"")
+    except Refused as fault:
+        return refused(str(fault))
+
+
+def replayed_by_model(trace: bytes, has_sums: bool) -> Answer:
+    """What `serial` gives of it."""
+    try:
+        return Answer(0, model_records.report(trace, has_sums), b"")
     except Refused as fault:
         return refused(str(fault))
 
@@ -42,9 +56,28 @@ def as_json(line: bytes) -> bytes:
     return '{{"kind":"ok","places":"{}","rings":{}}}\n'.format(places, rings).encode()
 
 
-def by_others(program: Program, trace: bytes) -> Optional[str]:
-    """How another command serves a trace of version 3, if one does."""
-    return first([told for words in OTHERS for told in [difference(program.run(words, trace), refused("Version at 8"))] if told])
+def by_show(program: Program, trace: bytes) -> Optional[str]:
+    """How `show` serves a trace of version 3, if it does."""
+    return difference(program.run(["show"], trace), refused("Version at 8"))
+
+
+def of_rounds(program: Program, trace: bytes, window: int, has_graph: bool) -> Optional[str]:
+    """How what the program tells of rounds differs from the model, if it does."""
+    give, words = (model_rounds.graph, ["--dot"]) if has_graph else (model_rounds.rounds, [])
+    return difference(program.run(["rounds", "--window", str(window), *words], trace), Answer(0, give(trace, window), b""))
+
+
+def of_depends(program: Program, trace: bytes, has_graph: bool) -> Optional[str]:
+    """The same of what places depend on."""
+    give, words = (model_depends.graph, ["--dot"]) if has_graph else (model_depends.depends, [])
+    return difference(program.run(["depends", *words], trace), Answer(0, give(trace), b""))
+
+
+def in_rounds(program: Program, trace: bytes, workers: int, window: int, words: List[str]) -> Optional[str]:
+    """How a replay in rounds differs from the second replayer, if it does."""
+    pair = ["--workers", str(workers), "--window", str(window), *words]
+    told = difference(program.run(["run", "--sums", *pair], trace), replayed_by_model(trace, True))
+    return told or difference(program.run(["compare", *pair], trace), EQUAL)
 
 
 def of_drawn(program: Program, seed: int) -> Optional[str]:
@@ -54,38 +87,21 @@ def of_drawn(program: Program, seed: int) -> Optional[str]:
     if wanted.status != 0:
         return "it is refused: {!r}".format(wanted.errors)
     told = difference(program.run(["check"], trace), wanted)
-    if not told and seed % BY_OTHERS == 0:
+    told = told or difference(program.run(["serial", "--sums"], trace), replayed_by_model(trace, True))
+    window, has_graph = 64 if seed % 3 == 0 else 1 + seed % 7, seed % 5 == 0
+    told = told or (of_depends(program, trace, has_graph) if seed % 2 else of_rounds(program, trace, window, has_graph))
+    if not told and seed % IN_ROUNDS == 0:
+        told = in_rounds(program, trace, 1 + seed % 4, 1 + seed % 7, ["--eager"] if seed % 2 else [])
+    if not told and seed % BY_SHOW == 0:
         told = difference(program.run(["check", "--json"], trace), wanted._replace(output=as_json(wanted.output)))
-        told = told or by_others(program, trace)
+        told = told or by_show(program, trace)
     return told
 
 
 def of_changed(program: Program, seed: int) -> Optional[str]:
-    """The same of a changed trace, which may be of any version then."""
+    """The same of a changed trace, which may be of any version then. It is without sums: its buffers may be of any length."""
     trace = record_traces.changed(seed)
-    return difference(program.run(["check"], trace), by_model(trace))
-
-
-def behind_rings(report: bytes, trace: bytes) -> bytes:
-    """The report of a trace of version 2 as that of the one that is carried over: entries in the order of their places, and all that is numbered by
-    places behind those of the rings."""
-    world = model.World(trace)
-    rings = len(world.slots)
-    front, end = report.decode().split("\ntree\n")
-    lines, ring = [], ""
-    for line in front.split("\n")[1:]:
-        if line.startswith("ring "):
-            ring = line[len("ring ") :]
-        else:
-            place, facts = line.split(" ", 1)
-            lines.append((int(place) + rings, ring, facts))
-    starts = {"node": world.items + 1, "desc": world.described}
-
-    def moved(found: "re.Match[str]") -> str:
-        return "{}={}".format(found[1], int(found[2]) + (rings if int(found[2]) >= starts[found[1]] else 0))
-
-    told = ["{} ring={} {}".format(*it) for it in sorted(lines)]
-    return "\n".join(["uring-report 2", *told, "tree", re.sub(r"(?<= )(node|desc)=(\d+)", moved, end)]).encode()
+    return difference(program.run(["check"], trace), by_model(trace)) or difference(program.run(["serial"], trace), replayed_by_model(trace, False))
 
 
 def carried(seeds: range) -> List[Outcome]:
@@ -93,10 +109,19 @@ def carried(seeds: range) -> List[Outcome]:
     faults = []
     for seed in seeds:
         before = drawing.Second(seed).trace()
-        got, wanted = model_records.report(record_traces.Carried(seed).trace()), behind_rings(model.report(before), before)
+        got, wanted = model_records.report(record_traces.Carried(seed).trace()), record_traces.behind_rings(model.report(before), before)
         faults += ["seed {}: {}".format(seed, difference(Answer(0, got, b""), Answer(0, wanted, b"")))] if got != wanted else []
     day = " of {}".format(days.written()) if seeds[0] >= days.SEEDS_A_DAY else ""
     return [Outcome("the second replayer of traces {} to {}{} carried over to version 3".format(seeds[0], seeds[-1], day), first(faults))]
+
+
+def by_bench() -> List[Outcome]:
+    """bench/carried.py carries a drawn trace of version 2 over to what is drawn of the same seed in version 3, and refuses one that is cut."""
+    command = Program(os.path.join(TOP, "bench", "carried.py"), "Python")
+    told = [difference(command.run([], drawing.Second(seed).trace()), Answer(0, record_traces.Carried(seed).trace(), b"")) for seed in range(BY_BENCH)]
+    cut = command.run([], drawing.Second(0).trace()[:-1])
+    told += [None if cut.errors.startswith(b"trace refused: Short at ") and cut.status == 1 else "it takes a trace that is cut"]
+    return [Outcome("drawn traces that bench/carried.py carries over", first([it for it in told if it]))]
 
 
 def in_other_orders(seeds: range) -> List[Outcome]:
@@ -113,15 +138,19 @@ def in_other_orders(seeds: range) -> List[Outcome]:
     return [Outcome("other orders of traces {} to {} of version 3, by the models".format(seeds[0], seeds[-1]), first(faults))]
 
 
-def queues() -> List[Outcome]:
-    """By the models a drained entry waits for the rings and entries of its queue, and for no others."""
+def queues(programs: List[Program]) -> List[Outcome]:
+    """A drained entry waits for the rings and entries of its queue, and for no others."""
     outcomes = []
     for label, queue, wanted in (("of an earlier ring", 0, [0, 1, 2]), ("of its own", drawing.LAST, [1])):
         rings = [record_traces.ring(), record_traces.ring(queue=queue)]
         nops = [record_traces.enter(it, [record_traces.stored(entry(NOP, flags))]) for it, flags in ((0, 0), (1, DRAIN))]
-        told = model_depends.depends(b"".join([record_traces.head(), *rings, *nops, record_traces.END])).decode()
+        trace = b"".join([record_traces.head(), *rings, *nops, record_traces.END])
+        told = model_depends.depends(trace).decode()
         waits = [int(it) for it in re.findall(r"^3 after=(\d+) on=order of ring {}$".format(min(queue, 1)), told, re.M)]
         outcomes.append(Outcome("a drain of a queue {}, by the models".format(label), None if waits == wanted else told))
+        for program in programs:
+            fault = difference(program.run(["depends"], trace), Answer(0, told.encode(), b""))
+            outcomes.append(Outcome("a drain of a queue {} by {}".format(label, program.compiler), fault))
     return outcomes
 
 
@@ -136,19 +165,39 @@ def names() -> List[str]:
     return sorted(it[: -len(".trace")] for it in os.listdir(os.path.join(EXAMPLES, VERSION_3)) if it.endswith(".trace"))
 
 
+def as_refused(program: Program, trace: bytes, wanted: Answer) -> Optional[str]:
+    """How a command that replays serves a trace that is refused, if one does."""
+    return first([told for words in REPLAYING for told in [difference(program.run(words, trace), wanted)] if told])
+
+
+def replayed(program: Program, trace: bytes, report: Answer) -> Optional[str]:
+    """How what the program gives of an example differs from what stands beside it and from what the models tell, if it does."""
+    each = [difference(program.run([it], trace), report) for it in ("serial", "run")]
+    each.append(difference(program.run(["serial", "--sums"], trace), replayed_by_model(trace, True)))
+    each += [in_rounds(program, trace, *pair, words) for pair in PAIRS for words in ([], ["--eager"])]
+    each += [of_rounds(program, trace, window, has_graph) for window in (1, 2, 64) for has_graph in (False, True)]
+    each += [of_depends(program, trace, has_graph) for has_graph in (False, True)]
+    return first([it for it in each if it])
+
+
 def of_example(programs: List[Program], name: str) -> List[Outcome]:
-    """What stands beside an example, by the program and by the second reader; what others say of it."""
+    """What stands beside an example, by the program and by the second replayer."""
     trace = read(VERSION_3, name + ".trace")
     is_refused = os.path.exists(os.path.join(EXAMPLES, VERSION_3, name + ".refused"))
     wanted = Answer(1, b"", read(VERSION_3, name + ".refused")) if is_refused else Answer(0, read(VERSION_3, name + ".check"), b"")
     outcomes = [Outcome("the second reader of {} of version 3".format(name), difference(by_model(trace), wanted))]
     if not is_refused:
         report = Answer(0, read(VERSION_3, name + ".report"), b"")
-        outcomes.append(Outcome("the second replayer of {} of version 3".format(name), difference(Answer(0, model_records.report(trace, False), b""), report)))
+        outcomes.append(Outcome("the second replayer of {} of version 3".format(name), difference(replayed_by_model(trace, False), report)))
+    if os.path.exists(os.path.join(EXAMPLES, VERSION_3, name + ".depends")):
+        told = difference(Answer(0, model_depends.depends(trace), b""), Answer(0, read(VERSION_3, name + ".depends"), b""))
+        outcomes.append(Outcome("the second program on what {} of version 3 depends on".format(name), told))
     for program in programs:
         label = "{} of version 3 {{}} by {}".format(name, program.compiler)
         outcomes.append(Outcome(label.format("check"), difference(program.run(["check"], trace), wanted)))
-        outcomes.append(Outcome(label.format("by other commands"), by_others(program, trace)))
+        told = as_refused(program, trace, wanted) if is_refused else replayed(program, trace, report)
+        outcomes.append(Outcome(label.format("by commands that replay"), told))
+        outcomes.append(Outcome(label.format("show"), by_show(program, trace)))
     return outcomes
 
 
@@ -170,5 +219,6 @@ def jobs(programs: List[Program]) -> List[Job]:
     lots = [(program, range(at, at + each)) for program in programs for at in (starts if program is programs[0] else starts[:: LOTS])]
     shown: List[Job] = [*(partial(of_example, programs, it) for it in names()), *(partial(fronts, it) for it in programs)]
     part = CARRIED // CARRIED_LOTS
-    shown += [queues, partial(in_other_orders, range(ORDERED)), *(partial(carried, range(at + back, at + back + part)) for back in (0, days.first_seed()) for at in range(0, CARRIED, part))]
+    of_version_2 = [partial(carried, range(at + back, at + back + part)) for back in (0, days.first_seed()) for at in range(0, CARRIED, part)]
+    shown += [by_bench, partial(queues, programs), partial(in_other_orders, range(ORDERED)), *of_version_2]
     return shown + [partial(lot, program, what, unlike, seeds) for program, seeds in lots for what, unlike in kinds]

@@ -1,4 +1,4 @@
-"""A trace (docs/FORMAT.md, docs/NEXT.md) as its parts, for tools that change it. The parts are read from a trace that `uring_replay check` accepts."""
+"""A trace (docs/FORMAT.md) as its parts, for tools that change it. The parts are read from a trace that `uring_replay check` accepts."""
 import struct
 from typing import Iterator, List, NamedTuple, Optional, Tuple, Union
 

@@ -285,12 +285,16 @@ static void put_bytes(const struct record *record)
 
 void play_record(const struct record *record)
 {
-	if (record->kind == RECORD_FILL) {
-		put_bytes(record);
-		return;
+	bool is_fill = record->kind == RECORD_FILL;
+
+	/* In rounds a fill may come before its ring: that is there before, with empty slots. */
+	if (!is_fill || !is_open(record->ring)) {
+		let_open();
+		make_ring(record->ring);
+		if (!is_fill)
+			fill_slots(record->ring);
+		let_none_open();
 	}
-	let_open();
-	make_ring(record->ring);
-	fill_slots(record->ring);
-	let_none_open();
+	if (is_fill)
+		put_bytes(record);
 }

@@ -1,4 +1,4 @@
-/* The parts of a trace that version 3 has of its own (docs/NEXT.md). */
+/* The parts of a trace that version 3 has of its own (docs/FORMAT.md). */
 #ifndef RECORDS_H
 #define RECORDS_H
 

@@ -1,4 +1,4 @@
-/* The trace as it was read (docs/FORMAT.md, docs/NEXT.md), and what became of each entry. */
+/* The trace as it was read (docs/FORMAT.md), and what became of each entry. */
 #ifndef TRACE_H
 #define TRACE_H
 

@@ -1,4 +1,4 @@
-/* The bytes of a file that are not zeros, by ranges: docs/NEXT.md. */
+/* The bytes of a file that are not zeros, by ranges: docs/FORMAT.md. */
 #ifndef RANGES_H
 #define RANGES_H
 

@@ -10,9 +10,10 @@ use Rattle.std.proofs.lemmas.Bool.Decides.{nat_tests}
 use Rattle.std.proofs.lemmas.Grind.{common_steps}
 use Rattle.std.proofs.lemmas.List.FromFn.{filter_of_map_range_with_len_more, length-map-range_with_len, get_or-map-range_with_len, map-range_with_len_more}
 use Rattle.trace_format.specs.declared.entry.Entry.{Entry}
-use Rattle.trace_format.specs.declared.trace.Trace.{Trace}
+use Rattle.recording.specs.declared.recording.Recording.{Recording}
 use Rattle.chain_plan.specs.declared.role.Role.{Role}
-use Rattle.trace_format.specs.Steps.{Step, places, step_at, steps}
+use Rattle.recording.specs.Limits.{places_limit}
+use Rattle.recording.specs.Steps.{Step, places, step_at}
 use Rattle.entry_checks.specs.Check.{has, io_drain, skip_success}
 use Rattle.chain_plan.specs.Chain.{action_passes, entry_passes, has_link, is_linked, same_record, chain_of, ahead, fails_check, role}
 use Rattle.chain_plan.specs.declared.stretch.Member.{Member}
@@ -31,38 +32,38 @@ abbrev drains : Entry → Bool
 drains e = has e.sqe.flags io_drain
 
 -- the places below n that stand in a chain
-abbrev pub below : Trace → ℕ → ℕ → List ℕ
+abbrev pub below : Recording → ℕ → ℕ → List ℕ
 below t n c = filter (λ k. chain_of t k == c) (range_with_len 0 n)
 
 -- what a plan keeps of a place, and of a chain as far as the places below n show it
-abbrev pub member_at : Trace → ℕ → Member
+abbrev pub member_at : Recording → ℕ → Member
 member_at t k = record { chain = chain_of t k; ahead = ahead t k; quiet = entry_passes t skips (k - ahead t k) }
 
 -- whether a place stands in a chain with others, and whether it fails its tests there
-abbrev joins : Trace → ℕ → Bool
+abbrev joins : Recording → ℕ → Bool
 joins t k = entry_passes t has_link k || not (ahead t k == 0)
 
-abbrev fails_joined : Trace → ℕ → Bool
+abbrev fails_joined : Recording → ℕ → Bool
 fails_joined t k = joins t k && entry_passes t (fails_check t) k
 
-abbrev pub chain_over : Trace → List ℕ → Chain
+abbrev pub chain_over : Recording → List ℕ → Chain
 chain_over t ks = record { length = length ks; doomed = list_any (fails_joined t) ks; barrier = list_any (entry_passes t drains) ks }
 
-abbrev pub chain_at : Trace → ℕ → ℕ → Chain
+abbrev pub chain_at : Recording → ℕ → ℕ → Chain
 chain_at t n c = chain_over t (below t n c)
 
 -- what a step may be followed from
-abbrev pub link_of : Trace → ℕ → Option Step → Option Linked
+abbrev pub link_of : Recording → ℕ → Option Step → Option Linked
 link_of t k None = None
 link_of t k (Some u) = link_from (member_at t k) u.from_record (entry_passes t has_link k)
 
 -- what the place n may follow
-abbrev pub link_at : Trace → ℕ → Option Linked
+abbrev pub link_at : Recording → ℕ → Option Linked
 link_at t zero = None
 link_at t (suc k) = link_of t k (step_at t k)
 
 -- the walk from the place `first`, to which none is linked, has come to the place n
-pub record Walked (t : Trace) (first n : ℕ) (ms : List Member) (cs : List Chain) (l : Option Linked) : Type 0 where
+pub record Walked (t : Recording) (first n : ℕ) (ms : List Member) (cs : List Chain) (l : Option Linked) : Type 0 where
   pub starts : IsApart t first
   pub forward : first ≤ n
   pub within : n ≤ places t
@@ -71,22 +72,22 @@ pub record Walked (t : Trace) (first n : ℕ) (ms : List Member) (cs : List Chai
   pub link : (s : Step) → step_at t n ≡ Some s → followed l s.from_record ≡ followed (link_at t n) s.from_record
 
 -- the place n stands in its chain, and in no other
-below_more : (t : Trace) (n c : ℕ) → below t (suc n) c ≡ below t n c ++ cond (chain_of t n == c) (n ∷ []) []
+below_more : (t : Recording) (n c : ℕ) → below t (suc n) c ≡ below t n c ++ cond (chain_of t n == c) (n ∷ []) []
 below_more t n c =
     let one : n + 1 ≡ suc n = omega arith in
     rw one at (simp map-id at (filter_of_map_range_with_len_more (λ k. chain_of t k == c) (λ k. k) 0 n n (omega arith)))
 
-pub below_here : (t : Trace) (n : ℕ) → below t (suc n) (chain_of t n) ≡ below t n (chain_of t n) ++ n ∷ []
+pub below_here : (t : Recording) (n : ℕ) → below t (suc n) (chain_of t n) ≡ below t n (chain_of t n) ++ n ∷ []
 below_here t n = below_more t n (chain_of t n) ∙ rw (eq-eqb (chain_of t n) _ refl) refl
 
-pub below_other : (t : Trace) (n c : ℕ) → (chain_of t n ≡ c → ⊥) → below t (suc n) c ≡ below t n c
+pub below_other : (t : Recording) (n c : ℕ) → (chain_of t n ≡ c → ⊥) → below t (suc n) c ≡ below t n c
 below_other t n c other = below_more t n c ∙ rw (ne_eqb _ _ other) (append-nil (below t n c))
 
 -- every earlier place stands in one of the chains so far
-chain_of-suc : (t : Trace) (k : ℕ) → chain_of t k ≤ chain_of t (suc k)
+chain_of-suc : (t : Recording) (k : ℕ) → chain_of t k ≤ chain_of t (suc k)
 chain_of-suc t k = grind arith
 
-chain_of-mono : (t : Trace) (k n : ℕ) → k ≤ n → chain_of t k ≤ chain_of t n
+chain_of-mono : (t : Recording) (k n : ℕ) → k ≤ n → chain_of t k ≤ chain_of t n
 chain_of-mono t k zero le =
     let e : k ≡ 0 = omega arith in
     rw e (omega arith)
@@ -95,26 +96,26 @@ chain_of-mono t k (suc n) le = elim (cases_eq k (suc n)) [
   | inr ne ↦ omega (arith, chain_of-mono t k n (omega (arith, ne)), chain_of-suc t n)
 ]
 
-pub chain_within : (t : Trace) (k n : ℕ) → k < n → chain_of t k < chains_ahead t n
+pub chain_within : (t : Recording) (k n : ℕ) → k < n → chain_of t k < chains_ahead t n
 chain_within t k zero lt = absurd (omega arith)
 chain_within t k (suc n) lt = omega (arith, chain_of-mono t k n (omega arith))
 
 -- no place below n stands in a chain that comes later
-below_next : (t : Trace) (n m c : ℕ) → m ≤ n → chains_ahead t n ≤ c → below t m c ≡ []
+below_next : (t : Recording) (n m c : ℕ) → m ≤ n → chains_ahead t n ≤ c → below t m c ≡ []
 below_next t n zero c le new = refl
 below_next t n (suc m) c le new = below_other t m c (λ e. absurd (omega (arith, e, chain_within t m n (omega arith)))) ∙ below_next t n m c (omega arith) new
 
-pub chains_ahead-le : (t : Trace) (n : ℕ) → chains_ahead t n ≤ n
+pub chains_ahead-le : (t : Recording) (n : ℕ) → chains_ahead t n ≤ n
 chains_ahead-le t zero = omega arith
 chains_ahead-le t (suc zero) = omega arith
 chains_ahead-le t (suc (suc n)) = grind (arith, chains_ahead-le t (suc n))
 
-pub ahead-le : (t : Trace) (k : ℕ) → ahead t k ≤ k
+pub ahead-le : (t : Recording) (k : ℕ) → ahead t k ≤ k
 ahead-le t zero = omega arith
 ahead-le t (suc k) = grind (arith, ahead-le t k)
 
 -- the count of chains beside the chain of the place n
-count_near : (t : Trace) (n : ℕ) → (chain_of t n ≤ chains_ahead t n) × (chains_ahead t n ≤ suc (chain_of t n))
+count_near : (t : Recording) (n : ℕ) → (chain_of t n ≤ chains_ahead t n) × (chains_ahead t n ≤ suc (chain_of t n))
 count_near t zero = (omega arith, omega arith)
 count_near t (suc k) = (grind arith, grind arith)
 
@@ -122,7 +123,7 @@ count_near t (suc k) = (grind arith, grind arith)
 follows_link : (m : Member) (u r : ℕ) (b : Bool) → followed (link_from m u b) r ≡ (if b && u == r then Some m else None)
 follows_link m u r b = grind arith
 
-followed_is : (t : Trace) (k : ℕ) (s : Step) → step_at t (suc k) ≡ Some s
+followed_is : (t : Recording) (k : ℕ) (s : Step) → step_at t (suc k) ≡ Some s
     → followed (link_at t (suc k)) s.from_record ≡ (if is_linked t k then Some (member_at t k) else None)
 followed_is t k s now = by (step_at t k) refl
   where
@@ -131,7 +132,7 @@ followed_is t k s now = by (step_at t k) refl
     by (Some u) e = rw (follows_link (member_at t k) u.from_record s.from_record (entry_passes t has_link k), now, e) refl
 
 -- the member of the place n
-next_if : (t : Trace) (k : ℕ) (s : Step) → step_at t (suc k) ≡ Some s → (b : Bool) → is_linked t k ≡ b
+next_if : (t : Recording) (k : ℕ) (s : Step) → step_at t (suc k) ≡ Some s → (b : Bool) → is_linked t k ≡ b
     → member_after (if b then Some (member_at t k) else None) (suc (chain_of t k)) (action_passes skips (Some s)) ≡ member_at t (suc k)
 next_if t k s now true e =
     let head : suc k - suc (ahead t k) ≡ k - ahead t k = omega arith in
@@ -140,20 +141,20 @@ next_if t k s now false e =
     let start : suc k - 0 ≡ suc k = omega arith in
     rw (e, start, now) refl
 
-pub member_next : (t : Trace) (n : ℕ) (s : Step) → step_at t n ≡ Some s → member_after (followed (link_at t n) s.from_record) (chains_ahead t n) (action_passes skips (Some s)) ≡ member_at t n
+pub member_next : (t : Recording) (n : ℕ) (s : Step) → step_at t n ≡ Some s → member_after (followed (link_at t n) s.from_record) (chains_ahead t n) (action_passes skips (Some s)) ≡ member_at t n
 member_next t zero s now =
     let start : 0 - 0 ≡ 0 = omega arith in
     rw (start, now) refl
 member_next t (suc k) s now = rw (followed_is t k s now) (next_if t k s now (is_linked t k) refl)
 
 -- whether the place n follows another one of its chain
-abbrev follows_at : Trace → ℕ → Step → Bool
+abbrev follows_at : Recording → ℕ → Step → Bool
 follows_at t n s = is_some (followed (link_at t n) s.from_record)
 
-abbrev marks_at : Trace → ℕ → Step → Marks
+abbrev marks_at : Recording → ℕ → Step → Marks
 marks_at t n s = marks_of t.version (follows_at t n s) s
 
-follows_is : (t : Trace) (n : ℕ) (s : Step) → step_at t n ≡ Some s → follows_at t n s ≡ not (ahead t n == 0)
+follows_is : (t : Recording) (n : ℕ) (s : Step) → step_at t n ≡ Some s → follows_at t n s ≡ not (ahead t n == 0)
 follows_is t zero s now = refl
 follows_is t (suc k) s now = rw (followed_is t k s now) (grind (arith, nat_tests))
 
@@ -161,14 +162,14 @@ follows_is t (suc k) s now = rw (followed_is t k s now) (grind (arith, nat_tests
 any_push : (p : ℕ → Bool) (ks : List ℕ) (n : ℕ) → list_any p (ks ++ n ∷ []) ≡ (list_any p ks || p n)
 any_push p ks n = grind (arith, common_steps)
 
-chain_grown : (t : Trace) (n : ℕ) (s : Step) → step_at t n ≡ Some s
+chain_grown : (t : Recording) (n : ℕ) (s : Step) → step_at t n ≡ Some s
     → with_member (chain_at t n (chain_of t n)) (marks_at t n s) ≡ chain_at t (suc n) (chain_of t n)
 chain_grown t n s now =
     let ks = below t n (chain_of t n) in
     sym (ap (chain_over t) (below_here t n)
     ∙ rw (length_push ks n, any_push (fails_joined t) ks n, any_push (entry_passes t drains) ks n, ← follows_is t n s now, now) refl)
 
-chain_same : (t : Trace) (n c : ℕ) → (chain_of t n ≡ c → ⊥) → chain_at t n c ≡ chain_at t (suc n) c
+chain_same : (t : Recording) (n c : ℕ) → (chain_of t n ≡ c → ⊥) → chain_at t n c ≡ chain_at t (suc n) c
 chain_same t n c other = ap (chain_over t) (sym (below_other t n c other))
 
 -- a chain with one member more, among the others
@@ -182,34 +183,34 @@ length-counted cs c m le near = grind (arith, common_steps)
 abbrev IsShort : Option Member → Type 0
 IsShort o = IfSome o (λ m. m.ahead + 1 < 2 ^ 32)
 
-short_of : (t : Trace) (k r : ℕ) (o : Option Step) → k < 2 ^ 20 → IsShort (followed (link_of t k o) r)
+short_of : (t : Recording) (k r : ℕ) (o : Option Step) → k < places_limit → IsShort (followed (link_of t k o) r)
 short_of t k r None lt = tt
 short_of t k r (Some u) lt = grind (arith, ahead-le t k)
 
-short_at : (t : Trace) (n r : ℕ) → n ≤ 2 ^ 20 → IsShort (followed (link_at t n) r)
+short_at : (t : Recording) (n r : ℕ) → n ≤ places_limit → IsShort (followed (link_at t n) r)
 short_at t zero r le = tt
 short_at t (suc k) r le = short_of t k r (step_at t k) (omega arith)
 
-below-more-le : (t : Trace) (n c : ℕ) → length (below t (suc n) c) ≤ length (below t n c) + 1
+below-more-le : (t : Recording) (n c : ℕ) → length (below t (suc n) c) ≤ length (below t n c) + 1
 below-more-le t n c = grind (arith, common_steps, below_more t n c)
 
-below-le : (t : Trace) (n c : ℕ) → length (below t n c) ≤ n
+below-le : (t : Recording) (n c : ℕ) → length (below t n c) ≤ n
 below-le t zero c = omega arith
 below-le t (suc n) c = omega (arith, below-more-le t n c, below-le t n c)
 
 -- a place that joins no other follows none, and none follows it
-not_linking : (t : Trace) (k : ℕ) → joins t k ≡ false → (entry_passes t has_link k ≡ false) × (ahead t k ≡ 0)
+not_linking : (t : Recording) (k : ℕ) → joins t k ≡ false → (entry_passes t has_link k ≡ false) × (ahead t k ≡ 0)
 not_linking t k is = grind (arith, nat_tests)
 
-starts_chain : (t : Trace) (k : ℕ) → ahead t k ≡ 0 → chains_ahead t k ≤ chain_of t k
+starts_chain : (t : Recording) (k : ℕ) → ahead t k ≡ 0 → chains_ahead t k ≤ chain_of t k
 starts_chain t zero none = omega arith
 starts_chain t (suc k) none = grind arith
 
-ends_chain : (t : Trace) (k : ℕ) → entry_passes t has_link k ≡ false → chain_of t (suc k) ≡ suc (chain_of t k)
+ends_chain : (t : Recording) (k : ℕ) → entry_passes t has_link k ≡ false → chain_of t (suc k) ≡ suc (chain_of t k)
 ends_chain t k none = grind (arith, nat_tests)
 
 -- a chain with such a place has no other
-alone : (t : Trace) (n k c : ℕ) → k < n → chain_of t k ≡ c → joins t k ≡ false → length (below t n c) ≤ 1
+alone : (t : Recording) (n k c : ℕ) → k < n → chain_of t k ≡ c → joins t k ≡ false → length (below t n c) ≤ 1
 alone t zero k c lt here is = absurd (omega arith)
 alone t (suc n) k c lt here is = elim (cases_eq k n) [
   | inl e ↦
@@ -223,7 +224,7 @@ alone t (suc n) k c lt here is = elim (cases_eq k n) [
 ]
 
 -- tests that agree on the places of a chain
-any_same : (t : Trace) (p q : ℕ → Bool) (n c : ℕ) → ((k : ℕ) → k < n → chain_of t k ≡ c → p k ≡ q k) → list_any p (below t n c) ≡ list_any q (below t n c)
+any_same : (t : Recording) (p q : ℕ → Bool) (n c : ℕ) → ((k : ℕ) → k < n → chain_of t k ≡ c → p k ≡ q k) → list_any p (below t n c) ≡ list_any q (below t n c)
 any_same t p q zero c h = refl
 any_same t p q (suc n) c h =
     let more = λ (r : ℕ → Bool). ap (list_any r) (below_more t n c) ∙ list_any-append r (below t n c) (cond (chain_of t n == c) (n ∷ []) []) in
@@ -233,7 +234,7 @@ any_same t p q (suc n) c h =
     ]) ∙ sym (more q)
 
 -- of a chain with several members each is tested
-pub doomed_same : (t : Trace) (n c : ℕ) → (leb 2 (length (below t n c)) && list_any (fails_joined t) (below t n c)) ≡ (leb 2 (length (below t n c)) && list_any (entry_passes t (fails_check t)) (below t n c))
+pub doomed_same : (t : Recording) (n c : ℕ) → (leb 2 (length (below t n c)) && list_any (fails_joined t) (below t n c)) ≡ (leb 2 (length (below t n c)) && list_any (entry_passes t (fails_check t)) (below t n c))
 doomed_same t n c = elim (cases_Bool (leb 2 (length (below t n c)))) [
   | inl e ↦ ap (λ b. leb 2 (length (below t n c)) && b) (any_same t (fails_joined t) (entry_passes t (fails_check t)) n c (λ k lt here. tested k lt here (leb-true 2 (length (below t n c)) e)))
   | inr e ↦ rw e refl
@@ -246,20 +247,20 @@ doomed_same t n c = elim (cases_Bool (leb 2 (length (below t n c)))) [
     ]
 
 -- the chains ahead of a place are no fewer further on
-ahead-mono : (t : Trace) (k n : ℕ) → k ≤ n → chains_ahead t k ≤ chains_ahead t n
+ahead-mono : (t : Recording) (k n : ℕ) → k ≤ n → chains_ahead t k ≤ chains_ahead t n
 ahead-mono t zero n le = omega arith
 ahead-mono t (suc k) zero le = absurd (omega arith)
 ahead-mono t (suc k) (suc n) le = omega (arith, chain_of-mono t k n (omega arith))
 
 -- a place to which none is linked begins a chain, behind those ahead of it
-apart_above : (t : Trace) (n k : ℕ) → IsApart t n → n ≤ k → chains_ahead t n ≤ chain_of t k
+apart_above : (t : Recording) (n k : ℕ) → IsApart t n → n ≤ k → chains_ahead t n ≤ chain_of t k
 apart_above t zero k apart le = omega arith
 apart_above t (suc j) k apart le =
     let next : chain_of t (suc j) ≡ suc (chain_of t j) = rw apart refl in
     omega (arith, next, chain_of-mono t (suc j) k le)
 
 -- so its chains ahead get no further members
-below_kept : (t : Trace) (n m c : ℕ) → IsApart t n → n ≤ m → c < chains_ahead t n → below t m c ≡ below t n c
+below_kept : (t : Recording) (n m c : ℕ) → IsApart t n → n ≤ m → c < chains_ahead t n → below t m c ≡ below t n c
 below_kept t n zero c apart le lt =
     let e : n ≡ 0 = omega arith in
     rw e refl
@@ -271,7 +272,7 @@ below_kept t n (suc m) c apart le lt = elim (cases_eq n (suc m)) [
 ]
 
 -- a place that follows none, as the walk sees it
-pub seen_apart : (t : Trace) (n : ℕ) (s : Step) → step_at t n ≡ Some s → followed (link_at t n) s.from_record ≡ None → IsApart t n
+pub seen_apart : (t : Recording) (n : ℕ) (s : Step) → step_at t n ≡ Some s → followed (link_at t n) s.from_record ≡ None → IsApart t n
 seen_apart t zero s now none = tt
 seen_apart t (suc k) s now none = by (is_linked t k) refl
   where
@@ -280,7 +281,7 @@ seen_apart t (suc k) s now none = by (is_linked t k) refl
     by false e = e
 
 -- and one that follows another, which is the place before it
-seen_following : (t : Trace) (n : ℕ) (s : Step) → step_at t n ≡ Some s → is_some (followed (link_at t n) s.from_record) ≡ true → (k : ℕ) → suc k ≡ n → is_linked t k ≡ true
+seen_following : (t : Recording) (n : ℕ) (s : Step) → step_at t n ≡ Some s → is_some (followed (link_at t n) s.from_record) ≡ true → (k : ℕ) → suc k ≡ n → is_linked t k ≡ true
 seen_following t zero s now some k e = absurd (omega (arith, e))
 seen_following t (suc m) s now some k e = let d : k ≡ m = omega (arith, e) in rw d (by (is_linked t m) refl)
   where
@@ -288,15 +289,15 @@ seen_following t (suc m) s now some k e = let d : k ≡ m = omega (arith, e) in 
     by true q = q
     by false q = absurd (true≢false (sym (rw (followed_is t m s now, q) at some)))
 
-apart_follows : (t : Trace) (n : ℕ) (s : Step) → IsApart t n → step_at t n ≡ Some s → None ≡ followed (link_at t n) s.from_record
+apart_follows : (t : Recording) (n : ℕ) (s : Step) → IsApart t n → step_at t n ≡ Some s → None ≡ followed (link_at t n) s.from_record
 apart_follows t zero s apart now = refl
 apart_follows t (suc k) s apart now = sym (followed_is t k s now ∙ rw apart refl)
 
 -- no place is linked to the end of the trace
-pub end_apart : (t : Trace) (n : ℕ) → places t ≤ n → IsApart t n
+pub end_apart : (t : Recording) (n : ℕ) → places t ≤ n → IsApart t n
 end_apart t zero le = tt
 end_apart t (suc k) le =
-    let none : step_at t (suc k) ≡ None = slice_get_past (steps t) (suc k) le in
+    let none : step_at t (suc k) ≡ None = slice_get_past t.steps (suc k) le in
     rw none (by (step_at t k) (entry_passes t has_link k))
   where
     by : (o : Option Step) (b : Bool) → (b && same_record o None) ≡ false
@@ -310,7 +311,7 @@ fill_from f a n xs d long h =
     ext_get_or d xs _ (long ∙ sym (length-map-range_with_len f a n)) (λ k lt. h k (omega arith) ∙ sym (get_or-map-range_with_len f a n k (a + k) d (omega arith) refl))
 
 -- what the walk has found so far
-module _ {t : Trace} {first n : ℕ} {ms : List Member} {cs : List Chain} {l : Option Linked} (w : Walked t first n ms cs l) where
+module _ {t : Recording} {first n : ℕ} {ms : List Member} {cs : List Chain} {l : Option Linked} (w : Walked t first n ms cs l) where
   abbrev before : ℕ
   before = chains_ahead t first
 
@@ -379,7 +380,7 @@ module _ {t : Trace} {first n : ℕ} {ms : List Member} {cs : List Chain} {l : O
       rw (longer, grown, linking, is, marked, follows, total, member_next t n s now, one) (record {
         starts = w.starts;
         forward = omega (arith, w.forward);
-        within = omega (arith, slice_get_within (steps t) n s now);
+        within = omega (arith, slice_get_within t.steps n s now);
         each_member = ap (λ xs. xs ++ member_at t n ∷ []) w.each_member
             ∙ sym (rw longer_by at (map-range_with_len_more (member_at t) first (n - first) n (omega (arith, w.forward))));
         each_chain = chains_next s now;
@@ -390,12 +391,12 @@ module _ {t : Trace} {first n : ℕ} {ms : List Member} {cs : List Chain} {l : O
   pub chains_long : before + length cs ≤ n
   chains_long = omega (arith, chain_total, forward_ahead, chains_ahead-le t n)
 
-  pub chain_short : n ≤ 2 ^ 20 → (j : ℕ) (c : Chain) → slice_get cs j ≡ Some c → c.length + 1 < 2 ^ 32
+  pub chain_short : n ≤ places_limit → (j : ℕ) (c : Chain) → slice_get cs j ≡ Some c → c.length + 1 < 2 ^ 32
   chain_short le j c h =
       let there : c ≡ chain_at t n (before + j) = sym (get_or_from_slice_get cs j c c h) ∙ chain_read j c (slice_get_within cs j c h) in
       omega (arith, ap (λ x. x.length) there, below-le t n (before + j))
 
-  pub member_short : (s : Step) (a : Option Member) → step_at t n ≡ Some s → n ≤ 2 ^ 20 → a ≡ followed l s.from_record → IsShort a
+  pub member_short : (s : Step) (a : Option Member) → step_at t n ≡ Some s → n ≤ places_limit → a ≡ followed l s.from_record → IsShort a
   member_short s a now le e = rw (e, w.link s now) (short_at t n s.from_record le)
 
   -- the member of the place n is of a chain that began in the walk
@@ -418,7 +419,7 @@ module _ {t : Trace} {first n : ℕ} {ms : List Member} {cs : List Chain} {l : O
         omega (arith, chain, chain_total, member_total, forward_ahead, chain_within t (first + k) n (omega (arith, member_total))),
       )
 
-  pub walked_held : n ≤ 2 ^ 20 → IsHeld first before cs ms
+  pub walked_held : n ≤ places_limit → IsHeld first before cs ms
   walked_held le = record {
     each = members_held;
     places = omega (arith, member_total, w.forward);
@@ -470,7 +471,7 @@ module _ {t : Trace} {first n : ℕ} {ms : List Member} {cs : List Chain} {l : O
   walked_long = omega (arith, length-map ms (joined before cs), member_total, w.forward)
 
 -- a walk goes on past a step that follows none and has no link flag
-pub walks_alone : {t : Trace} {first n : ℕ} {ms : List Member} {cs : List Chain} → Walked t first n ms cs None
+pub walks_alone : {t : Recording} {first n : ℕ} {ms : List Member} {cs : List Chain} → Walked t first n ms cs None
     → (s : Step) (more : List Member) (next : List Chain) (count : ℕ) (marks : Marks)
     → step_at t n ≡ Some s → marks ≡ marks_of t.version false s → marks.links ≡ false → count ≡ chains_ahead t first + length cs
     → next ≡ counted cs (length cs) marks → more ≡ ms ++ member_after None count marks.skips ∷ [] → Walked t first (n + 1) more next None
@@ -480,24 +481,24 @@ walks_alone {t} {first} {n} {ms} {cs} w s more next count marks now marked apart
     (grown ∙ ap (λ k. counted cs k marks) here) (rw apart refl) longer
 
 -- a walk has as many members as it has places
-pub walked_to : {t : Trace} {first n : ℕ} {ms : List Member} {cs : List Chain} {l : Option Linked} → Walked t first n ms cs l → n ≡ first + length ms
+pub walked_to : {t : Recording} {first n : ℕ} {ms : List Member} {cs : List Chain} {l : Option Linked} → Walked t first n ms cs l → n ≡ first + length ms
 walked_to w = omega (arith, member_total w, w.forward)
 
-pub length-roles : (t : Trace) → length (roles t) ≡ places t
+pub length-roles : (t : Recording) → length (roles t) ≡ places t
 length-roles t = length-map-range_with_len (role t) 0 (places t)
 
 -- the number of the chain behind a stretch
-pub next_number : (t : Trace) (s : Roles) (first next : ℕ) → IsStretch t s → first ≡ end_of s → next ≡ s.chains → next ≡ chains_ahead t first
+pub next_number : (t : Recording) (s : Roles) (first next : ℕ) → IsStretch t s → first ≡ end_of s → next ≡ s.chains → next ≡ chains_ahead t first
 next_number t s first next stretch at number = number ∙ stretch.chains ∙ ap (chains_ahead t) (sym at)
 
 -- the role that is read of a stretch is the place's
-pub role_in : (t : Trace) (s : Roles) (k : ℕ) (r : Role) → IsStretch t s → s.first ≤ k → slice_get s.roles (k - s.first) ≡ Some r → r ≡ role t k
+pub role_in : (t : Recording) (s : Roles) (k : ℕ) (r : Role) → IsStretch t s → s.first ≤ k → slice_get s.roles (k - s.first) ≡ Some r → r ≡ role t k
 role_in t s k r stretch from here =
     sym (get_or_from_slice_get s.roles (k - s.first) r r here) ∙ ap (λ xs. get_or xs (k - s.first) r) stretch.roles
     ∙ get_or-map-range_with_len (role t) s.first (length s.roles) (k - s.first) k r (slice_get_within s.roles (k - s.first) r here) (omega arith)
 
 -- the role that is read is the place's
-pub role_is : (t : Trace) (us : List Role) (k : ℕ) (r : Role) → us ≡ roles t → slice_get us k ≡ Some r → r ≡ role t k
+pub role_is : (t : Recording) (us : List Role) (k : ℕ) (r : Role) → us ≡ roles t → slice_get us k ≡ Some r → r ≡ role t k
 role_is t us k r own here =
     let all : length us ≡ places t = ap length own ∙ length-roles t in
     sym (get_or_from_slice_get us k r r here) ∙ ap (λ xs. get_or xs k r) own

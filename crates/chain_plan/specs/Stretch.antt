@@ -1,8 +1,8 @@
 -- A view of code: the roles of places that follow one another, of whole chains.
 use Rattle.std.specs.Prelude.{ℕ, suc, zero, ◌≡◌, ◌+◌, ◌<◌, ◌≤◌, ◌^◌, List, Some, false, true, length, map}
 use Rattle.std.specs.List.{range_with_len, slice_get}
-use Rattle.trace_format.specs.declared.trace.Trace.{Trace}
-use Rattle.trace_format.specs.Steps.{places}
+use Rattle.recording.specs.declared.recording.Recording.{Recording}
+use Rattle.recording.specs.Steps.{places}
 use Rattle.chain_plan.specs.declared.role.Role.{Role}
 use Rattle.chain_plan.specs.declared.stretch.Member.{Member}
 use Rattle.chain_plan.specs.declared.stretch.Chain.{Chain}
@@ -20,21 +20,21 @@ abbrev pub end_of : Roles → ℕ
 end_of s = s.first + length s.roles
 
 -- How many chains the places ahead of a place make.
-abbrev pub chains_ahead : Trace → ℕ → ℕ
+abbrev pub chains_ahead : Recording → ℕ → ℕ
 chains_ahead t zero = 0
 chains_ahead t (suc k) = suc (chain_of t k)
 
 -- Whether no place ahead of this one is linked to it.
-abbrev pub IsApart : Trace → ℕ → Type 0
+abbrev pub IsApart : Recording → ℕ → Type 0
 IsApart t zero = Unit
 IsApart t (suc k) = is_linked t k ≡ false
 
 -- Whether each place from one on, ahead of the end, follows the place before it.
-abbrev pub AreFollowing : Trace → ℕ → ℕ → Type 0
+abbrev pub AreFollowing : Recording → ℕ → ℕ → Type 0
 AreFollowing t from end = (k : ℕ) → from ≤ suc k → suc k < end → is_linked t k ≡ true
 
 -- Whether these are the roles of places of a trace, up to the end of a chain.
-pub record IsStretch (t : Trace) (s : Roles) : Type 0 where
+pub record IsStretch (t : Recording) (s : Roles) : Type 0 where
   pub roles : s.roles ≡ map (role t) (range_with_len s.first (length s.roles))
   pub within : end_of s ≤ places t
   pub apart : IsApart t (end_of s)

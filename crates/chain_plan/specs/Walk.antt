@@ -4,7 +4,7 @@ use Rattle.std.proofs.Common.{get_or}
 use Rattle.std.proofs.Math.ListN.{set}
 use Rattle.trace_format.specs.declared.version.Version.{Version}
 use Rattle.chain_plan.specs.declared.role.Role.{Role}
-use Rattle.trace_format.specs.Steps.{Step}
+use Rattle.recording.specs.Steps.{Step}
 use Rattle.entry_checks.specs.Check.{check, has, io_drain, skip_success}
 use Rattle.chain_plan.specs.Chain.{action_passes, has_link}
 use Rattle.chain_plan.specs.declared.stretch.Member.{Member}

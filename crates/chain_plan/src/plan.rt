@@ -1,17 +1,17 @@
 //! The roles of all places of a trace.
 ghost use Rattle.std.specs.Prelude.{◌≡◌, ◌<◌, length, IfOk, Some};
 ghost use Rattle.std.specs.List.{slice_get};
-ghost use Rattle.trace_format.specs.Steps.{places};
-ghost use Rattle.trace_format.specs.Text.{IsSpelled};
-ghost use Rattle.trace_format.specs.declared.trace.Trace.{Trace};
+ghost use Rattle.recording.specs.Steps.{places};
+ghost use Rattle.recording.specs.Accepted.{IsAccepted};
+ghost use Rattle.recording.specs.declared.recording.Recording.{Recording};
 ghost use Rattle.chain_plan.specs.Chain.{role};
 ghost use Rattle.chain_plan.specs.Plan.{roles};
 
 use crate::role::Role;
 use crate::stretch::Stretch;
+use recording::Recording;
 use std::alloc::{AllocError, Global};
 use std::marker::Model;
-use trace_format::Trace;
 
 /// The roles of the places of a trace.
 #[derive(Drop)]
@@ -34,8 +34,8 @@ impl Model for Plan {
 impl Plan {
     /// The plan of a trace, in one walk over its places. Time and memory are linear in the places
     /// and the bytes beside their entries.
-    pub fn of(alloc: Global, trace: &Trace) -> Result<Self, AllocError>
-        requires { IsSpelled trace.now }
+    pub fn of(alloc: Global, trace: &Recording) -> Result<Self, AllocError>
+        requires { IsAccepted trace.now }
         ensures roles { IfOk result (λ p. p ≡ roles trace.now) }
         ensures places { IfOk result (λ p. length p ≡ places trace.now) }
     {
@@ -47,7 +47,7 @@ impl Plan {
     pub fn role(&self, place: u32) -> Role
         requires { place < length self.now }
         ensures at_place { slice_get self.now place ≡ Some result }
-        ensures of_trace { (t : Trace) → self.now ≡ roles t → result ≡ role t place }
+        ensures of_trace { (t : Recording) → self.now ≡ roles t → result ≡ role t place }
     {
         self.all.role(place)
     }

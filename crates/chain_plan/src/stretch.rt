@@ -3,10 +3,10 @@ ghost use Rattle.std.specs.Prelude.{◌≡◌, ◌<◌, ◌≤◌, ◌+◌, ◌-
 ghost use Rattle.std.specs.Prelude.{◌∷◌, [], ◌++◌, IfOk, IfSome, None, OnOk, Some, false};
 ghost use Rattle.std.specs.List.{slice_get};
 ghost use Rattle.trace_format.specs.Sides.{is_side_of};
-ghost use Rattle.trace_format.specs.Steps.{places, step_meant, submit};
-ghost use Rattle.trace_format.specs.Text.{IsSpelled};
+ghost use Rattle.recording.specs.Steps.{places, step_meant, submit};
+ghost use Rattle.recording.specs.Accepted.{IsAccepted};
 ghost use Rattle.trace_format.specs.declared.entry.Entry.{Entry};
-ghost use Rattle.trace_format.specs.declared.trace.Trace.{Trace};
+ghost use Rattle.recording.specs.declared.recording.Recording.{Recording};
 ghost use Rattle.trace_format.specs.declared.version.Version.{Version};
 ghost use Rattle.chain_plan.specs.Stretch.{AreFollowing, IsStretch, end_of};
 ghost use Rattle.chain_plan.specs.Walk.{marks_of, followed, member_after};
@@ -15,10 +15,10 @@ ghost use Rattle.chain_plan.specs.declared.stretch.Chain.{Chain};
 
 use crate::role::Role;
 use entry_checks::check;
+use recording::{Action, Recording, Step, Version};
 use sqe_codec::{CQE_SKIP_SUCCESS, IO_DRAIN, IO_HARDLINK, IO_LINK};
 use std::alloc::{AllocError, Global};
 use std::marker::Model;
-use trace_format::{Action, Step, Trace, Version};
 
 /// A place in its chain: the chain's number, how many members stand ahead, and whether the head has
 /// the skip flag.
@@ -98,11 +98,7 @@ fn marks_of(step: &Step<'_>, version: Version, follows: bool) -> Marks
                 fails: (links || follows) && check(entry, version).is_err(),
             }
         }
-        Action::Fill {
-            buffer: _,
-            offset: _,
-            bytes: _,
-        } => Marks {
+        Action::Fill { .. } | Action::Register(_) => Marks {
             links: false,
             skips: false,
             drains: false,
@@ -130,11 +126,7 @@ fn lone_marks(step: &Step<'_>) -> Option<Marks>
                 fails: false,
             })
         }
-        Action::Fill {
-            buffer: _,
-            offset: _,
-            bytes: _,
-        } => Some(Marks {
+        Action::Fill { .. } | Action::Register(_) => Some(Marks {
             links: false,
             skips: false,
             drains: false,
@@ -241,7 +233,7 @@ impl Stretch {
     /// The stretch of no places, ahead of the first one. It takes no memory.
     pub fn new(alloc: Global) -> Self
         ensures start { end_of result ≡ 0 }
-        ensures stretch { (t : Trace) → IsStretch t result }
+        ensures stretch { (t : Recording) → IsStretch t result }
     {
         Stretch {
             first: 0,
@@ -265,8 +257,8 @@ impl Stretch {
     /// # Errors
     ///
     /// Out of memory.
-    pub fn next(self, trace: &Trace, least: u32) -> Result<Self, AllocError>
-        requires spelled { IsSpelled trace.now }
+    pub fn next(self, trace: &Recording, least: u32) -> Result<Self, AllocError>
+        requires spelled { IsAccepted trace.now }
         requires stretch { IsStretch trace.now self }
         ensures stretch { IfOk result (λ s. IsStretch trace.now s) }
         ensures behind { IfOk result (λ s. s.first ≡ end_of self) }

@@ -13,7 +13,7 @@ use Rattle.std.proofs.lemmas.List.Elements.{All-contains_itself, All-from_recurs
 use Rattle.std.proofs.lemmas.Map.Keys.{IsStrictlyIncreasing-from_sorted}
 use Rattle.std.proofs.lemmas.Map.Lookups.{exact_unsigned}
 use Rattle.std.proofs.lemmas.Map.Views.{btree_map_get_iff, btree_map_contains_key_iff}
-use Rattle.trace_format.specs.declared.trace.Trace.{Trace}
+use Rattle.recording.specs.declared.recording.Recording.{Recording}
 use Rattle.world_parts.specs.Items.{Atom, Item, one, Use, Footprint, member_of, same_atom, share, has_atom, writes_atom}
 use Rattle.world_parts.proofs.Collision.{any_passes, both, either_left, either_right, left, right, member-share, same_atom_refl, true_of}
 use Rattle.world_parts.proofs.Sharing.{holds_true}
@@ -87,7 +87,7 @@ clash_atom f g a h = elim (cases_Bool (is_of_descriptors (one a))) [
       (a, refl, (uses.0, uses.1, there.1))
 ]
 
-module _ (t : Trace) (k j : ℕ) where
+module _ (t : Recording) (k j : ℕ) where
   -- a use by which a place waits shares an item with the other one
   item_there : (u : Use) → UseWaits (foot_at t) k u j → (x : Item) × (shared_with u (foot_at t j) ≡ Some x)
   item_there u w =
@@ -114,7 +114,7 @@ module _ (t : Trace) (k j : ℕ) where
   told_where_waiting None none w = let n = use_there w in absurd (none n.0 n.1 n.2)
   told_where_waiting (Some i) first w = refl
 
-module _ (t : Trace) (k : ℕ) (f : Footprint) (feet : List Footprint) (mine : f ≡ foot_at t k) (there : AreFeet t k feet) where
+module _ (t : Recording) (k : ℕ) (f : Footprint) (feet : List Footprint) (mine : f ≡ foot_at t k) (there : AreFeet t k feet) where
   -- an entry that tells what the rule says
   abbrev IsRight : ℕ × ℕ → Type 0
   IsRight e = (x : Item) × (waited_by f feet e ≡ Some (record { after = e.0; on = x })) × WaitsFor t k e.0 × WaitsOn t k e.0 x

@@ -3,7 +3,7 @@ use Rattle.std.specs.Prelude.{◌≡◌, ℕ, ℤ, pos, negsuc, Bool, false, Lis
 use Rattle.std.specs.List.Sorted.{IsStrictlyIncreasing}
 use Rattle.std.specs.Option.{option_map, unwrap_or}
 use Rattle.entry_checks.specs.Operation.{asked}
-use Rattle.trace_format.specs.declared.trace.Trace.{Trace}
+use Rattle.recording.specs.declared.recording.Recording.{Recording}
 use Rattle.world_parts.specs.Items.{Item}
 use Rattle.op_meaning.specs.Step.{Turn, runs, turn, reply_of, run_world}
 use Rattle.wave_pick.specs.Holding.{shared_with}
@@ -16,11 +16,11 @@ pub record Waited : Type 0 where
   pub on : Item
 
 -- A place waits for an earlier one by an item: what the first of its uses by which it waits shares with the first of the other's that this one collides with.
-abbrev pub WaitsOn : Trace → ℕ → ℕ → Item → Type 0
+abbrev pub WaitsOn : Recording → ℕ → ℕ → Item → Type 0
 WaitsOn t k j x = (i : ℕ) × IsFirstUse (foot_at t) k j (Some i) × (shared_with (use_at (foot_at t k) i) (foot_at t j) ≡ Some x)
 
 -- All that a place waits for, each once and rising, and the item by which it does.
-pub record AreWaits (t : Trace) (k : ℕ) (ws : List Waited) : Type 0 where
+pub record AreWaits (t : Recording) (k : ℕ) (ws : List Waited) : Type 0 where
   pub rising : IsStrictlyIncreasing (map (λ w. w.after) ws)
   pub each : All (λ w. WaitsFor t k w.after × WaitsOn t k w.after w.on) ws
   pub all : (j : ℕ) → WaitsFor t k j → Contains (map (λ w. w.after) ws) j
@@ -39,5 +39,5 @@ abbrev pub moved_by : Turn → ℤ → ℕ
 moved_by u res = if is_transfer u then above_zero res else 0
 
 -- The bytes that a place moves in the sequential run.
-abbrev pub moved_at : Trace → ℕ → ℕ
+abbrev pub moved_at : Recording → ℕ → ℕ
 moved_at t k = let s = run_world t k in unwrap_or (option_map (λ u. moved_by u (reply_of t k s u).res) (turn t k s)) 0

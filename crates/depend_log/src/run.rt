@@ -8,8 +8,8 @@ ghost use Rattle.dependencies.specs.Rule.{foot_at};
 ghost use Rattle.foot_waits.specs.Told.{IsAt};
 ghost use Rattle.op_meaning.specs.Step.{run_world};
 ghost use Rattle.op_meaning.specs.Turns.{turn_meant};
-ghost use Rattle.trace_format.specs.Steps.{places};
-ghost use Rattle.trace_format.specs.Text.{IsSpelled};
+ghost use Rattle.recording.specs.Steps.{places};
+ghost use Rattle.recording.specs.Accepted.{IsAccepted};
 
 use crate::shared::add_waits;
 use crate::wait::{PlaceWaits, Wait};
@@ -18,8 +18,8 @@ use entry_checks::Op;
 use foot_print::foot_in;
 use foot_waits::Waits;
 use op_meaning::{Turn, TurnKind, run_on_state, turn_of};
+use recording::{Recording, Series};
 use std::alloc::{AllocError, Global};
-use trace_format::{Series, Trace};
 use world_parts::{Footprint, State};
 
 /// What is known of the places of a trace so far: the world that they leave in the sequential run,
@@ -40,8 +40,8 @@ impl Dependencies {
     /// # Errors
     ///
     /// Out of memory.
-    pub fn new(alloc: Global, trace: &Trace) -> Result<Self, AllocError>
-        requires { IsSpelled trace.now }
+    pub fn new(alloc: Global, trace: &Recording) -> Result<Self, AllocError>
+        requires { IsAccepted trace.now }
         ensures run { IfOk result (HasRun trace.now) }
         ensures first { IfOk result (λ known. next_place known ≡ 0) }
     {
@@ -64,16 +64,14 @@ impl Dependencies {
     /// # Errors
     ///
     /// Out of memory; what is known can then only be dropped.
-    pub fn next(&mut self, alloc: Global, trace: &Trace) -> Result<PlaceWaits, AllocError>
-        requires trace { IsSpelled trace.now }
+    pub fn next(&mut self, alloc: Global, trace: &Recording) -> Result<PlaceWaits, AllocError>
+        requires trace { IsAccepted trace.now }
         requires run { HasRun trace.now self.old }
         requires place { next_place self.old < places trace.now }
         ensures waits { IfOk result (IsPlaceWaits trace.now (next_place self.old)) }
         ensures run { OnOk result (HasRun trace.now self.new) }
         ensures place { OnOk result (next_place self.new ≡ next_place self.old + 1) }
     {
-        // There are fewer places than numbers for them.
-        let _many = trace.places();
         let role_there = self.plan.role(self.place);
         let footprint = foot_in(alloc, self.place, trace, &role_there, &self.state)?;
         let waits = self.waits_for(alloc, trace, &footprint)?;
@@ -90,7 +88,7 @@ impl Dependencies {
     fn waits_for(
         &mut self,
         alloc: Global,
-        trace: &Trace,
+        trace: &Recording,
         footprint: &Footprint,
     ) -> Result<Vec<Wait>, AllocError>
         requires run { HasRun trace.now self.old }
@@ -107,8 +105,13 @@ impl Dependencies {
     }
 
     /// Runs the next place, and tells how many bytes it moves.
-    fn run(&mut self, alloc: Global, trace: &Trace, role_there: &Role) -> Result<u32, AllocError>
-        requires trace { IsSpelled trace.now }
+    fn run(
+        &mut self,
+        alloc: Global,
+        trace: &Recording,
+        role_there: &Role,
+    ) -> Result<u32, AllocError>
+        requires trace { IsAccepted trace.now }
         requires place { self.old.place < places trace.now }
         requires role { role_there.now ≡ role trace.now self.old.place }
         requires state { self.old.state ≡ run_world trace.now self.old.place }

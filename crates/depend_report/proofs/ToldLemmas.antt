@@ -3,7 +3,7 @@ use Rattle.std.proofs.Common.{◌≡◌, ℕ, ◌+◌, List, [], ◌∷◌, ◌+
 use Rattle.std.specs.List.{enumerate_from, flat_map}
 use Rattle.std.proofs.lemmas.List.Sums.{sum_by_push}
 use Rattle.std.proofs.lemmas.Grind.{flat_map-append}
-use Rattle.trace_format.specs.declared.trace.Trace.{Trace}
+use Rattle.recording.specs.declared.recording.Recording.{Recording}
 use Rattle.replay_report.specs.Report.{line}
 use Rattle.depend_log.specs.Waits.{Waited}
 use Rattle.depend_log.specs.declared.wait.PlaceWaits.{PlaceWaits}
@@ -50,7 +50,7 @@ pub spans_long : (ps : List PlaceWaits) → length (spans ps) ≡ length ps
 spans_long ps = let long = weights_long (λ p. 1) [] ps in omega (arith, long)
 
 -- what one place more makes of what is told
-abbrev pub told_after : Trace → Told → PlaceWaits → Told
+abbrev pub told_after : Recording → Told → PlaceWaits → Told
 told_after t d p = record {
   text = d.text ++ place_lines t (length d.spans) p.waits;
   spans = d.spans ++ (1 + heaviest_before d.spans p.waits) ∷ [];
@@ -65,14 +65,14 @@ tell text spans loads pairs bytes = record { text = text; spans = spans; loads =
 told_by : {a x : List ℕ} {b y : List ℕ} {d z : List ℕ} {m n : ℕ} {p q : ℕ} → a ≡ x → b ≡ y → d ≡ z → m ≡ n → p ≡ q → tell a b d m p ≡ tell x y z n q
 told_by e f g h i = rw (e, f, g, h, i) refl
 
-told_more : (t : Trace) (ps : List PlaceWaits) (p : PlaceWaits) → told_after t (told t ps) p ≡ told t (ps ++ p ∷ [])
+told_more : (t : Recording) (ps : List PlaceWaits) (p : PlaceWaits) → told_after t (told t ps) p ≡ told t (ps ++ p ∷ [])
 told_more t ps p =
     let head = line (codes "uring-depends 1") in
     let text = ap (λ k. (head ++ all_lines t ps) ++ place_lines t k p.waits) (spans_long ps) ∙ pieces_more (λ q. place_lines t q.0 q.1.waits) head ps p in
     told_by text (weights_more (λ q. 1) [] ps p) (weights_more (λ q. q.moved) [] ps p) (sym (sum_by_push (λ q. length q.waits) ps p)) (sym (sum_by_push (λ q. q.moved) ps p))
 
 -- a text that tells of some places, and then of one more
-pub told_grows : (t : Trace) (ps : List PlaceWaits) (p : PlaceWaits) (d : Told) (k : ℕ) (ws : List Waited) (moved : ℕ) (text spans loads : List ℕ) → d ≡ told t ps → k ≡ length d.spans → ws ≡ p.waits → moved ≡ p.moved
+pub told_grows : (t : Recording) (ps : List PlaceWaits) (p : PlaceWaits) (d : Told) (k : ℕ) (ws : List Waited) (moved : ℕ) (text spans loads : List ℕ) → d ≡ told t ps → k ≡ length d.spans → ws ≡ p.waits → moved ≡ p.moved
     → text ≡ d.text ++ place_lines t k ws → spans ≡ d.spans ++ (1 + heaviest_before d.spans ws) ∷ [] → loads ≡ d.loads ++ (p.moved + heaviest_before d.loads ws) ∷ []
     → tell text spans loads (d.pairs + length ws) (d.bytes + moved) ≡ told t (ps ++ p ∷ [])
 told_grows t ps p d k ws moved text spans loads is at waits bytes text_is spans_is loads_is =
@@ -89,13 +89,13 @@ ending_told ps pairs bytes =
     (spans_long ps)
 
 -- a text of some places, with its end
-pub told_whole : (t : Trace) (ps : List PlaceWaits) (d : Told) (text : List ℕ) → d ≡ told t ps → text ≡ (d.text ++ ending d.spans d.loads d.pairs d.bytes) ++ line (codes "end") → text ≡ depends_text t ps
+pub told_whole : (t : Recording) (ps : List PlaceWaits) (d : Told) (text : List ℕ) → d ≡ told t ps → text ≡ (d.text ++ ending d.spans d.loads d.pairs d.bytes) ++ line (codes "end") → text ≡ depends_text t ps
 told_whole t ps d text is text_is =
     text_is ∙ ap (λ e. (e.text ++ ending e.spans e.loads e.pairs e.bytes) ++ line (codes "end")) is
     ∙ ap (λ end. ((line (codes "uring-depends 1") ++ all_lines t ps) ++ end) ++ line (codes "end")) (ending_told ps (pair_count ps) (bytes_moved ps))
 
 -- what one place more makes of what is drawn
-abbrev pub drawn_after : Trace → Drawn → PlaceWaits → Drawn
+abbrev pub drawn_after : Recording → Drawn → PlaceWaits → Drawn
 drawn_after t d p = record { text = d.text ++ place_node t d.places p.waits; places = d.places + 1 }
 
 abbrev pub draw : List ℕ → ℕ → Drawn
@@ -104,9 +104,9 @@ draw text places = record { text = text; places = places }
 drawn_by : {a x : List ℕ} {m n : ℕ} → a ≡ x → m ≡ n → draw a m ≡ draw x n
 drawn_by e f = rw (e, f) refl
 
-drawn_more : (t : Trace) (ps : List PlaceWaits) (p : PlaceWaits) → drawn_after t (drawn t ps) p ≡ drawn t (ps ++ p ∷ [])
+drawn_more : (t : Recording) (ps : List PlaceWaits) (p : PlaceWaits) → drawn_after t (drawn t ps) p ≡ drawn t (ps ++ p ∷ [])
 drawn_more t ps p = drawn_by (pieces_more (λ q. place_node t q.0 q.1.waits) (line (codes "digraph depends {")) ps p) (sym (length-append ps (p ∷ [])))
 
 -- a graph of some places, and of one more
-pub drawn_grows : (t : Trace) (ps : List PlaceWaits) (p : PlaceWaits) (d : Drawn) (ws : List Waited) (text : List ℕ) → d ≡ drawn t ps → ws ≡ p.waits → text ≡ d.text ++ place_node t d.places ws → draw text (d.places + 1) ≡ drawn t (ps ++ p ∷ [])
+pub drawn_grows : (t : Recording) (ps : List PlaceWaits) (p : PlaceWaits) (d : Drawn) (ws : List Waited) (text : List ℕ) → d ≡ drawn t ps → ws ≡ p.waits → text ≡ d.text ++ place_node t d.places ws → draw text (d.places + 1) ≡ drawn t (ps ++ p ∷ [])
 drawn_grows t ps p d ws text is waits text_is = drawn_by (text_is ∙ ap (λ vs. d.text ++ place_node t d.places vs) waits) refl ∙ ap (λ e. drawn_after t e p) is ∙ drawn_more t ps p

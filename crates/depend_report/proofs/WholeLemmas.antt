@@ -3,17 +3,17 @@ use Rattle.std.proofs.Common.{◌≡◌, ℕ, ◌+◌, List, [], ◌∷◌, ◌+
 use Rattle.std.proofs.Math.Seq.{get_or-append_seam}
 use Rattle.std.proofs.lemmas.Bool.{cases_lt}
 use Rattle.std.proofs.lemmas.List.{get_or_append_left}
-use Rattle.trace_format.specs.declared.trace.Trace.{Trace}
+use Rattle.recording.specs.declared.recording.Recording.{Recording}
 use Rattle.depend_log.specs.Places.{IsPlaceWaits}
 use Rattle.depend_log.specs.declared.wait.PlaceWaits.{PlaceWaits}
 use Rattle.depend_report.specs.Told.{Told, told}
 use Rattle.depend_report.specs.Whole.{AreFirst}
 use Rattle.depend_report.proofs.ToldLemmas.{spans_long}
 
-pub none_first : (t : Trace) → AreFirst t [] 0
+pub none_first : (t : Recording) → AreFirst t [] 0
 none_first t = record { many = refl; each = λ k d lt. absurd (omega (arith, lt)) }
 
-pub first_more : (t : Trace) (ps : List PlaceWaits) (p : PlaceWaits) (n : ℕ) → AreFirst t ps n → IsPlaceWaits t n p → AreFirst t (ps ++ p ∷ []) (n + 1)
+pub first_more : (t : Recording) (ps : List PlaceWaits) (p : PlaceWaits) (n : ℕ) → AreFirst t ps n → IsPlaceWaits t n p → AreFirst t (ps ++ p ∷ []) (n + 1)
 first_more t ps p n first is = record {
   many = length-append ps (p ∷ []) ∙ ap (λ m. m + 1) first.many;
   each = λ k d lt. elim (cases_lt k n) [
@@ -27,5 +27,5 @@ first_more t ps p n first is = record {
 }
 
 -- each place has a path
-pub paths_told : (t : Trace) (ps : List PlaceWaits) (d : Told) (n : ℕ) → d ≡ told t ps → AreFirst t ps n → length d.spans ≡ n
+pub paths_told : (t : Recording) (ps : List PlaceWaits) (d : Told) (n : ℕ) → d ≡ told t ps → AreFirst t ps n → length d.spans ≡ n
 paths_told t ps d n is first = ap (λ (e : Told). length e.spans) is ∙ spans_long ps ∙ first.many

@@ -1,6 +1,6 @@
 -- A view of code: what a text holds before its end, and what is kept of its places.
 use Rattle.std.specs.Prelude.{ℕ, ◌++◌, List, length, codes}
-use Rattle.trace_format.specs.declared.trace.Trace.{Trace}
+use Rattle.recording.specs.declared.recording.Recording.{Recording}
 use Rattle.replay_report.specs.Report.{line}
 use Rattle.depend_log.specs.declared.wait.PlaceWaits.{PlaceWaits}
 use Rattle.depend_report.specs.Depends.{all_lines, all_nodes, bytes_moved, count_line, pair_count, path_lines}
@@ -15,7 +15,7 @@ pub record Told : Type 0 where
   pub bytes : ℕ
 
 -- What is told of some places.
-abbrev pub told : Trace → List PlaceWaits → Told
+abbrev pub told : Recording → List PlaceWaits → Told
 told t ps = record { text = line (codes "uring-depends 1") ++ all_lines t ps; spans = paths.spans ps; loads = paths.loads ps; pairs = pair_count ps; bytes = bytes_moved ps }
 
 -- The lines at the end that are told of them.
@@ -29,5 +29,5 @@ pub record Drawn : Type 0 where
   pub text : List ℕ
   pub places : ℕ
 
-abbrev pub drawn : Trace → List PlaceWaits → Drawn
+abbrev pub drawn : Recording → List PlaceWaits → Drawn
 drawn t ps = record { text = line (codes "digraph depends {") ++ all_nodes t ps; places = length ps }

@@ -5,13 +5,13 @@ ghost use Rattle.depend_log.specs.declared.wait.PlaceWaits.{PlaceWaits};
 ghost use Rattle.depend_report.specs.Depends.{depends_graph, place_node};
 ghost use Rattle.depend_report.specs.Told.{drawn};
 ghost use Rattle.round_report.specs.Rounds.{arrow_line};
-ghost use Rattle.trace_format.specs.declared.trace.Trace.{Trace};
+ghost use Rattle.recording.specs.declared.recording.Recording.{Recording};
 
 use depend_log::{PlaceWaits, Wait};
+use recording::Recording;
 use round_report::push_arrow_line;
 use std::alloc::{AllocError, Global};
 use std::marker::Model;
-use trace_format::Trace;
 
 /// What the places of a trace so far wait for, as a graph in the language of graphviz's dot(1). It
 /// takes memory for the text alone.
@@ -36,7 +36,7 @@ impl DependsGraph {
     ///
     /// Out of memory.
     pub fn new(alloc: Global) -> Result<Self, AllocError>
-        ensures { (trace : Trace) → IfOk result (λ graph. graph ≡ drawn trace []) }
+        ensures { (trace : Recording) → IfOk result (λ graph. graph ≡ drawn trace []) }
     {
         Ok(DependsGraph {
             text: Vec::from_slice(alloc, b"digraph depends {\n")?,
@@ -53,7 +53,7 @@ impl DependsGraph {
     pub fn push_place(
         &mut self,
         alloc: Global,
-        trace: &Trace,
+        trace: &Recording,
         place: &PlaceWaits,
     ) -> Result<(), AllocError>
         requires { self.old.places < 2 ^ 64 - 1 }
@@ -72,7 +72,7 @@ impl DependsGraph {
     ///
     /// Out of memory.
     pub fn finish(self) -> Result<Vec<u8>, AllocError>
-        ensures { (trace : Trace) (places : List PlaceWaits) → self ≡ drawn trace places
+        ensures { (trace : Recording) (places : List PlaceWaits) → self ≡ drawn trace places
             → IfOk result (λ text. text.items ≡ depends_graph trace places) }
     {
         let mut text = self.text;
@@ -85,7 +85,7 @@ impl DependsGraph {
 fn push_node(
     alloc: Global,
     text: &mut Vec<u8>,
-    trace: &Trace,
+    trace: &Recording,
     place: usize,
     waits: &[Wait],
 ) -> Result<(), AllocError>
@@ -101,7 +101,7 @@ fn push_node(
 fn push_arrows(
     alloc: Global,
     text: &mut Vec<u8>,
-    trace: &Trace,
+    trace: &Recording,
     place: usize,
     waits: &[Wait],
 ) -> Result<(), AllocError>
@@ -118,7 +118,7 @@ fn push_arrows(
 fn push_arrow(
     alloc: Global,
     text: &mut Vec<u8>,
-    trace: &Trace,
+    trace: &Recording,
     place: usize,
     wait: &Wait,
 ) -> Result<(), AllocError>

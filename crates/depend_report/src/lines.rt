@@ -6,15 +6,15 @@ ghost use Rattle.depend_report.specs.Depends.{count_line, depends_text, path_lin
 ghost use Rattle.depend_report.specs.Depends.{wait_line};
 ghost use Rattle.depend_report.specs.Paths.{path_line};
 ghost use Rattle.depend_report.specs.Told.{ending, told};
-ghost use Rattle.trace_format.specs.declared.trace.Trace.{Trace};
+ghost use Rattle.recording.specs.declared.recording.Recording.{Recording};
 
 use crate::paths::Paths;
 use depend_log::{PlaceWaits, Wait};
+use recording::Recording;
 use round_report::{push_after, push_quotient};
 use std::alloc::{AllocError, Global};
 use std::marker::Model;
 use text_forms::{push_bytes, push_decimal};
-use trace_format::Trace;
 
 /// What the places of a trace so far wait for, as lines. It takes memory for the text, and for two
 /// numbers a place.
@@ -55,7 +55,7 @@ impl DependsText {
     ///
     /// Out of memory.
     pub fn new(alloc: Global) -> Result<Self, AllocError>
-        ensures { (trace : Trace) → IfOk result (λ text. text ≡ told trace []) }
+        ensures { (trace : Recording) → IfOk result (λ text. text ≡ told trace []) }
     {
         Ok(DependsText {
             text: Vec::from_slice(alloc, b"uring-depends 1\n")?,
@@ -71,7 +71,7 @@ impl DependsText {
     /// # Errors
     ///
     /// Out of memory.
-    pub fn push_place(&mut self, trace: &Trace, place: &PlaceWaits) -> Result<(), AllocError>
+    pub fn push_place(&mut self, trace: &Recording, place: &PlaceWaits) -> Result<(), AllocError>
         requires { length self.old.spans < 2 ^ 32 - 1 }
         ensures { (places : List PlaceWaits) → self.old ≡ told trace.now places
             → OnOk result (self.new ≡ told trace.now (places ++ place.now ∷ [])) }
@@ -91,7 +91,7 @@ impl DependsText {
     ///
     /// Out of memory.
     pub fn finish(self, alloc: Global) -> Result<Vec<u8>, AllocError>
-        ensures { (trace : Trace) (places : List PlaceWaits) → self ≡ told trace places
+        ensures { (trace : Recording) (places : List PlaceWaits) → self ≡ told trace places
             → IfOk result (λ text. text.items ≡ depends_text trace places) }
     {
         let DependsText {
@@ -112,7 +112,7 @@ impl DependsText {
 /// The lines of a place: one for each that it waits for, or its number alone.
 fn push_lines(
     text: &mut Vec<u8>,
-    trace: &Trace,
+    trace: &Recording,
     place: usize,
     waits: &[Wait],
 ) -> Result<(), AllocError>
@@ -130,7 +130,12 @@ fn push_lines(
 }
 
 /// The line of a place with one that it waits for.
-fn push_line(text: &mut Vec<u8>, trace: &Trace, place: usize, wait: &Wait) -> Result<(), AllocError>
+fn push_line(
+    text: &mut Vec<u8>,
+    trace: &Recording,
+    place: usize,
+    wait: &Wait,
+) -> Result<(), AllocError>
     ensures { OnOk result (text.new.items ≡ text.old.items
         ++ wait_line trace.now place wait.now) }
 {

@@ -4,14 +4,14 @@ ghost use Rattle.depend_log.specs.Running.{HasRun, next_place};
 ghost use Rattle.depend_log.specs.declared.wait.PlaceWaits.{PlaceWaits};
 ghost use Rattle.depend_report.specs.Told.{drawn, told};
 ghost use Rattle.depend_report.specs.Whole.{AreFirst, IsTextOf};
-ghost use Rattle.trace_format.specs.Steps.{places};
-ghost use Rattle.trace_format.specs.Text.{IsSpelled};
+ghost use Rattle.recording.specs.Steps.{places};
+ghost use Rattle.recording.specs.Accepted.{IsAccepted};
 
 use crate::graph::DependsGraph;
 use crate::lines::DependsText;
 use depend_log::Dependencies;
+use recording::Recording;
 use std::alloc::{AllocError, Global};
-use trace_format::Trace;
 
 /// What each place of a trace waits for directly in the sequential run, as text: a line for each
 /// pair, then how many places and pairs there are, and the longest path of places each of which
@@ -20,8 +20,8 @@ use trace_format::Trace;
 /// # Errors
 ///
 /// Out of memory.
-pub fn depends_text(alloc: Global, trace: &Trace) -> Result<Vec<u8>, AllocError>
-    requires { IsSpelled trace.now }
+pub fn depends_text(alloc: Global, trace: &Recording) -> Result<Vec<u8>, AllocError>
+    requires { IsAccepted trace.now }
     ensures { IfOk result (λ text. IsTextOf false trace.now text.items) }
 {
     let mut known = Box::new(alloc, Dependencies::new(alloc, trace)?)?;
@@ -36,8 +36,8 @@ pub fn depends_text(alloc: Global, trace: &Trace) -> Result<Vec<u8>, AllocError>
 /// # Errors
 ///
 /// Out of memory.
-pub fn depends_graph(alloc: Global, trace: &Trace) -> Result<Vec<u8>, AllocError>
-    requires { IsSpelled trace.now }
+pub fn depends_graph(alloc: Global, trace: &Recording) -> Result<Vec<u8>, AllocError>
+    requires { IsAccepted trace.now }
     ensures { IfOk result (λ text. IsTextOf true trace.now text.items) }
 {
     let mut known = Box::new(alloc, Dependencies::new(alloc, trace)?)?;
@@ -49,11 +49,11 @@ pub fn depends_graph(alloc: Global, trace: &Trace) -> Result<Vec<u8>, AllocError
 /// The lines of all places.
 fn push_lines(
     alloc: Global,
-    trace: &Trace,
+    trace: &Recording,
     known: &mut Dependencies,
     text: &mut DependsText,
 ) -> Result<(), AllocError>
-    requires trace { IsSpelled trace.now }
+    requires trace { IsAccepted trace.now }
     requires run { HasRun trace.now known.old }
     requires first { next_place known.old ≡ 0 }
     requires head { text.old ≡ told trace.now [] }
@@ -70,11 +70,11 @@ fn push_lines(
 /// The nodes of all places, and the arrows.
 fn push_nodes(
     alloc: Global,
-    trace: &Trace,
+    trace: &Recording,
     known: &mut Dependencies,
     graph: &mut DependsGraph,
 ) -> Result<(), AllocError>
-    requires trace { IsSpelled trace.now }
+    requires trace { IsAccepted trace.now }
     requires run { HasRun trace.now known.old }
     requires first { next_place known.old ≡ 0 }
     requires head { graph.old ≡ drawn trace.now [] }

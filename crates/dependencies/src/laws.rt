@@ -3,19 +3,19 @@
 //! They are functions without effect: a call brings the law into a proof.
 ghost use Rattle.foot_print.specs.Replayed.{replayed};
 ghost use Rattle.interleaving.specs.Dependencies.{DependenciesSuffice};
-ghost use Rattle.trace_format.specs.Text.{IsSpelled};
-ghost use Rattle.trace_format.specs.declared.trace.Trace.{Trace};
+ghost use Rattle.recording.specs.Accepted.{IsAccepted};
+ghost use Rattle.recording.specs.declared.recording.Recording.{Recording};
 ghost use Rattle.dependencies.specs.Orders.{DueOrdersEndAsTheModel};
 ghost use Rattle.dependencies.specs.Rule.{WaitsAreDependencies, WaitsSuffice};
 ghost use Rattle.wave_pick.specs.Lawful.{covered};
 
 use interleaving::{Footprinted, dependencies_suffice};
 
-/// The replays of traces that some bytes spell, as systems of numbered steps.
+/// The replays of accepted recordings, as systems of numbered steps.
 struct Replays;
 
 impl Footprinted for Replays {
-    ghost Trace = { (t : Trace) × IsSpelled t };
+    ghost Trace = { (t : Recording) × IsAccepted t };
 
     ghost system = { λ x. replayed x.0 };
 
@@ -28,8 +28,8 @@ impl Footprinted for Replays {
 /// starts only when all that it waits for have finished gives the world and the replies of the
 /// sequential run, which are the model's.
 pub fn dependencies_are_enough()
-    ensures suffice { (t : Trace) → IsSpelled t → DependenciesSuffice (replayed t) }
-    ensures model { (t : Trace) → IsSpelled t → DueOrdersEndAsTheModel t }
+    ensures suffice { (t : Recording) → IsAccepted t → DependenciesSuffice (replayed t) }
+    ensures model { (t : Recording) → IsAccepted t → DueOrdersEndAsTheModel t }
 {
     dependencies_suffice::<Replays>();
 }
@@ -39,6 +39,6 @@ pub fn dependencies_are_enough()
 /// every other atom is one. Each place for which one waits directly is one that it depends on; and to
 /// wait for all of these is to wait for all that it depends on.
 pub fn direct_waits_are_enough()
-    ensures each { (t : Trace) → WaitsAreDependencies t }
-    ensures suffice { (t : Trace) → WaitsSuffice t }
+    ensures each { (t : Recording) → WaitsAreDependencies t }
+    ensures suffice { (t : Recording) → WaitsSuffice t }
 {}

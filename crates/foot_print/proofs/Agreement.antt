@@ -6,7 +6,7 @@ use Rattle.std.specs.List.{list_any}
 use Rattle.std.specs.Option.{option_map, option_and_then}
 use mathlib.Core.Path.{sym, subst, ap, ◌∙◌}
 use lib.Dec.{eqb_refl}
-use Rattle.trace_format.specs.declared.trace.Trace.{Trace}
+use Rattle.recording.specs.declared.recording.Recording.{Recording}
 use Rattle.entry_checks.specs.Operation.{File, in_slot, at_descriptor}
 use Rattle.world_parts.specs.World.{World, slot, descriptor}
 use Rattle.op_meaning.specs.Site.{in_ring}
@@ -43,7 +43,7 @@ pub agree_head : (s u : World) (a : Atom) (w : Bool) (f : Footprint) → Agree (
 agree_head s u a w f h = h.same a (either_left _ _ (same_atom_refl a))
 
 -- The open file description that a number stands for, and its handle, are the same.
-pub held_same : (t : Trace) (s u : World) (r : ℕ) (f : File) → Agree (map reads (held_item (in_ring t r) f)) s u → held (in_ring t r) u f ≡ held (in_ring t r) s f
+pub held_same : (t : Recording) (s u : World) (r : ℕ) (f : File) → Agree (map reads (held_item (in_ring t r) f)) s u → held (in_ring t r) u f ≡ held (in_ring t r) s f
 held_same t s u r (in_slot n) h =
     elim (ltb n (slot_count t r)) as (λ c. Agree (map reads (cond c (one (slot_at r n) ∷ []) [])) s u → cond c (slot u r n) None ≡ cond c (slot s r n) None) [
       | true ↦ λ k. sym (k.same (slot_at r n) (either_left _ _ (both _ _ (eqb_refl r) (eqb_refl n))))
@@ -56,7 +56,7 @@ held_same t s u r (at_descriptor n) h =
     ] h
 
 -- Where two worlds agree on what leads to an open file, it is the same.
-pub handle_same : (t : Trace) (s u : World) (r : ℕ) (f : File) → Agree (file_seen (in_ring t r) s f) s u → handle (in_ring t r) u f ≡ handle (in_ring t r) s f
+pub handle_same : (t : Recording) (s u : World) (r : ℕ) (f : File) → Agree (file_seen (in_ring t r) s f) s u → handle (in_ring t r) u f ≡ handle (in_ring t r) s f
 handle_same t s u r f a =
     ap (λ d. option_and_then (handle_of u) d) (held_same t s u r f (agree_left s u _ _ a)) ∙ at_description (held (in_ring t r) s f) (agree_right s u (file_reads (in_ring t r) f) _ a)
   where

@@ -3,7 +3,7 @@ use native.Mathlib.Omega.{arith}
 use Rattle.std.specs.Prelude.{◌≡◌, ℕ, true, T, Option, Some, None, is_some, refl, IfSome}
 use Rattle.std.specs.Option.{option_map, option_and_then}
 use mathlib.Core.Path.{sym, subst, ap, ◌∙◌}
-use Rattle.trace_format.specs.declared.trace.Trace.{Trace}
+use Rattle.recording.specs.declared.recording.Recording.{Recording}
 use Rattle.finite_maps.specs.Table.{get}
 use Rattle.file_tree.specs.Tree.{Names, target, kind_of_node}
 use Rattle.world_parts.specs.World.{World, IsWorld, kind, names, Description, opened_by}
@@ -29,13 +29,13 @@ unused_number s i w free = record {
     opened_apart : (o : Option Description) → IfSome (option_map (opened_by s) o) (λ x. is_some x.target.kind ≡ true) → IfSome (option_map (opened_by s) o) (λ x. ¬ (x.target.node ≡ i))
     opened_apart o h = grind (arith, apart)
 
-pub awaits_unused : (t : Trace) (k : ℕ) (s : World) → Awaits t k s → Unused t k s
+pub awaits_unused : (t : Recording) (k : ℕ) (s : World) → Awaits t k s → Unused t k s
 awaits_unused t k s w =
     let u = unused_number s (made_node t k) w.is_world w.no_node in
     record { no_node = w.no_node; no_description = w.no_description; unnamed = u.unnamed; unopened = u.unopened }
 
 -- The number of the node that a place makes is unused.
-pub node_unused : (t : Trace) (k : ℕ) (u : World) → Unused t k u → making.Unused u (made_node t k)
+pub node_unused : (t : Recording) (k : ℕ) (u : World) → Unused t k u → making.Unused u (made_node t k)
 node_unused t k u v = record { no_node = v.no_node; unnamed = v.unnamed; unopened = v.unopened }
 
 -- What is made of nothing is made of none.

@@ -1,20 +1,21 @@
 -- At the start of a trace the numbers of all places are unused.
 use Rattle.std.proofs.lemmas.Bool.{ne_eqb}
-use Rattle.std.specs.Prelude.{◌≡◌, ℕ, suc, cond, ◌+◌, ◌≤◌, List, [], ◌∷◌, length, Some, None, refl}
+use Rattle.std.specs.Prelude.{◌≡◌, ℕ, suc, cond, ◌+◌, ◌≤◌, List, [], ◌∷◌, ◌++◌, map, length, Some, None, refl}
 use Rattle.std.specs.Option.{option_map}
 use Rattle.std.specs.Ordering.{nat_cmp}
 use Rattle.std.specs.Cmp.{unsigned_tied}
 use mathlib.Core.Path.{ap, ◌∙◌}
 use native.Mathlib.Omega.{arith}
 use lib.Dec.{eqb→eq}
-use Rattle.trace_format.specs.declared.trace.Trace.{Trace}
-use Rattle.trace_format.specs.declared.trace.Item.{Item}
-use Rattle.trace_format.specs.declared.trace.Node.{Node as InitialNode}
-use Rattle.trace_format.specs.declared.trace.Node.TheVariants.{Directory, File, OtherName}
+use Rattle.recording.specs.declared.recording.Recording.{Recording}
+use Rattle.trace_records.specs.declared.start.Item.{Item}
+use Rattle.trace_records.specs.declared.start.Node.{Node as InitialNode}
+use Rattle.trace_records.specs.declared.start.Node.TheVariants.{Directory, File, OtherName}
+use Rattle.trace_records.specs.declared.start.Range.{Range}
 use Rattle.finite_maps.specs.Table.{Table, empty, get, insert, get-insert, get-assign, number_keys, adjust_number}
-use Rattle.world_parts.specs.World.{World, Description, apply, apply_all, make_node, write_bytes, set_size}
+use Rattle.world_parts.specs.World.{World, Description, apply, apply_all, make_node, set_size}
 use Rattle.file_tree.specs.Tree.{Node, a_directory, a_file, new_node}
-use Rattle.world_parts.specs.Start.{start, name_at, with_node, with_items, descriptions_from, bare}
+use Rattle.world_parts.specs.Start.{start, name_at, range_written, with_node, with_items, descriptions_from, bare}
 use Rattle.foot_print.specs.Replayed.{IsBefore}
 
 -- Nothing stands at a number or above it.
@@ -35,11 +36,15 @@ above_adjust f n m k h q le = let there = get-assign number_keys.total m k (opti
 above_named : (n : ℕ) (s : World) (path : List ℕ) (i : ℕ) → Above n s.nodes → Above n (name_at s path i).nodes
 above_named n s path i h = grind (arith, above_adjust)
 
+above_contents : (n : ℕ) (s : World) (i size : ℕ) (ranges : List Range) → Above n s.nodes → Above n (apply_all (map (range_written i) ranges ++ set_size i size ∷ []) s).nodes
+above_contents n s i size [] h = above_adjust _ n s.nodes i h
+above_contents n s i size (r ∷ ranges) h = above_contents n (apply (range_written i r) s) i size ranges (above_adjust _ n s.nodes i h)
+
 above_node : (s : World) (i : ℕ) (path : List ℕ) (x : InitialNode) → Above i s.nodes → Above (suc i) (with_node s i path x).nodes
 above_node s i path Directory h = above_named (suc i) (apply (make_node i a_directory) s) path i (above_insert i s.nodes (new_node a_directory) h)
-above_node s i path (File size stored) h =
-    above_named (suc i) (apply_all (make_node i a_file ∷ write_bytes i 0 stored ∷ set_size i size ∷ []) s) path i
-    (above_adjust _ (suc i) _ i (above_adjust _ (suc i) _ i (above_insert i s.nodes (new_node a_file) h)))
+above_node s i path (File size ranges) h =
+    above_named (suc i) (apply_all (make_node i a_file ∷ map (range_written i) ranges ++ set_size i size ∷ []) s) path i
+    (above_contents (suc i) (apply (make_node i a_file) s) i size ranges (above_insert i s.nodes (new_node a_file) h))
 above_node s i path (OtherName j) h = above_named (suc i) s path j (λ q le. h q (omega arith))
 
 above_items : (xs : List Item) (s : World) (i : ℕ) → Above i s.nodes → Above (i + length xs) (with_items s i xs).nodes
@@ -55,7 +60,7 @@ above_descriptions (d ∷ ds) n q le =
 pub above_bare : Above 1 bare.nodes
 above_bare = above_insert 0 empty (Node.directory empty 0) (λ q le. refl)
 
-pub starts_before : (t : Trace) → IsBefore t 0 (start t)
+pub starts_before : (t : Recording) → IsBefore t 0 (start t)
 starts_before t j le = record {
   no_node = above_items t.items bare 1 above_bare _ (omega arith);
   no_description = above_descriptions t.descriptions 0 _ (omega arith);

@@ -8,7 +8,7 @@ use native.Mathlib.Omega.{arith}
 use lib.Dec.{ltb→lt, lt→ltb}
 use Rattle.sqe_codec.specs.declared.errno.Errno.{Errno}
 use Rattle.sqe_codec.specs.declared.errno.Errno.TheVariants.{ENAMETOOLONG, EBADF, ENOTDIR}
-use Rattle.trace_format.specs.declared.trace.Trace.{Trace}
+use Rattle.recording.specs.declared.recording.Recording.{Recording}
 use Rattle.sqe_codec.specs.Answers.{each, each_ok, ◌>>=◌, ◌>>◌, require}
 use Rattle.trace_format.specs.Paths.{components}
 use Rattle.entry_checks.specs.Operation.{Operation, File, Span, Path, OpenFlags, file_limit, at_position, in_slot, at_descriptor}
@@ -38,7 +38,7 @@ below_made k first i at unused h = elim (cases_lt i (first + k)) [
       absurd (none_some (at i) (subst (λ x. at x ≡ None) same (unused (i - first) (omega (arith, l)))) h)
 ]
 
-module _ (t : Trace) (k : ℕ) (s : World) (w : IsWorld s) (before : IsBefore t k s) where
+module _ (t : Recording) (k : ℕ) (s : World) (w : IsWorld s) (before : IsBefore t k s) where
   node_before : (i : ℕ) → IsSome (kind s i) → T (ltb i (made_node t k))
   node_before i h = below_made k (length t.items + 1) i (kind s) (λ j l. ap (option_map kind_of_node) (before j l).no_node) h
 

@@ -1,7 +1,7 @@
 -- Places whose access sets don't collide commute: from the covers alone, whatever the operations are.
 use Rattle.std.specs.Prelude.{◌≡◌, ℕ, true, false, not, T, refl}
 use mathlib.Core.Path.{sym, subst, ◌∙◌}
-use Rattle.trace_format.specs.declared.trace.Trace.{Trace}
+use Rattle.recording.specs.declared.recording.Recording.{Recording}
 use Rattle.world_parts.specs.World.{World}
 use Rattle.op_meaning.specs.Step.{step_world}
 use Rattle.world_parts.specs.Items.{Atom, value, Footprint, has_atom, writes_atom, collide, Agree}
@@ -11,7 +11,7 @@ use Rattle.world_parts.proofs.Collision.{first_unwritten, second_unwritten, writ
 use Rattle.world_parts.proofs.Values.{atoms_make_the_world}
 use Rattle.foot_print.proofs.Awaiting.{awaits_unused}
 
-module _ (cover : FootprintsCover) (keep : StepsKeepWorlds) (t : Trace) (j k : ℕ) (s : World) (wj : Awaits t j s) (wk : Awaits t k s) (apart : ¬ (j ≡ k)) (free : T (not (collide (footprint t j s) (footprint t k s)))) where
+module _ (cover : FootprintsCover) (keep : StepsKeepWorlds) (t : Recording) (j k : ℕ) (s : World) (wj : Awaits t j s) (wk : Awaits t k s) (apart : ¬ (j ≡ k)) (free : T (not (collide (footprint t j s) (footprint t k s)))) where
   abbrev F : Footprint
   F = footprint t j s
 

@@ -1,7 +1,7 @@
 -- The laws of every operation, so every access set covers its place.
 use native.Mathlib.Omega.{arith}
 use Rattle.std.specs.Prelude.{◌≡◌, ℕ, min, Ok}
-use Rattle.trace_format.specs.declared.trace.Trace.{Trace}
+use Rattle.recording.specs.declared.recording.Recording.{Recording}
 use Rattle.trace_format.specs.Sides.{most_moved}
 use Rattle.entry_checks.specs.Operation.{Operation, nop, readv, writev, fsync, read_fixed, write_fixed, fallocate, openat, close, read, write, renameat, unlinkat, mkdirat, linkat, ftruncate}
 use Rattle.world_parts.specs.World.{World, IsWorld}
@@ -22,16 +22,16 @@ use Rattle.foot_print.proofs.KeepOpen.{openat_keeps}
 use Rattle.foot_print.proofs.KeepContents.{AllOfContents, contents_leave, read_contents, write_contents, fallocate_contents, ftruncate_contents, close_contents}
 
 -- What an operation owes in a world: what it uses tells what it does and supports it, and it keeps a world.
-pub record OpLaws (t : Trace) (k r : ℕ) (s : World) (o : Operation) : Type 0 where
+pub record OpLaws (t : Recording) (k r : ℕ) (s : World) (o : Operation) : Type 0 where
   pub owes : Owes t k r o s
   pub keeps : Keeps t k r s o
 
 -- An operation that only changes contents keeps a world.
-of_contents : (t : Trace) (k r : ℕ) (s : World) (o : Operation) → Owes t k r o s → IsWorld s → ((x : Effect) → meaning (sited t k r) s o ≡ Ok x → AllOfContents x.changes) → OpLaws t k r s o
+of_contents : (t : Recording) (k r : ℕ) (s : World) (o : Operation) → Owes t k r o s → IsWorld s → ((x : Effect) → meaning (sited t k r) s o ≡ Ok x → AllOfContents x.changes) → OpLaws t k r s o
 of_contents t k r s o owes w c = record { owes = owes; keeps = λ x e. contents_leave t k s x.changes (c x e) w }
 
 -- The laws of each operation.
-pub laws : (t : Trace) (k r : ℕ) (o : Operation) (s : World) → Awaits t k s → OpLaws t k r s o
+pub laws : (t : Recording) (k r : ℕ) (o : Operation) (s : World) → Awaits t k s → OpLaws t k r s o
 laws t k r nop s w = of_contents t k r s nop (nop_owes t k r s w) w.is_world (λ x e. grind arith)
 laws t k r (readv f o n) s w = of_contents t k r s (readv f o n) (readv_owes t k r s f o n w) w.is_world (read_contents t s r f o (min n most_moved) (Ok reply))
 laws t k r (writev f o new) s w = of_contents t k r s (writev f o new) (writev_owes t k r s f o new w) w.is_world (write_contents t s r f o (Ok new))

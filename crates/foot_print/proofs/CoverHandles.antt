@@ -5,7 +5,7 @@ use Rattle.std.specs.Option.{is_some}
 use mathlib.Core.Path.{sym, subst, ap}
 use lib.Dec.{eqb_refl}
 use Rattle.sqe_codec.specs.declared.errno.Errno.TheVariants.{EBADF, EINVAL}
-use Rattle.trace_format.specs.declared.trace.Trace.{Trace}
+use Rattle.recording.specs.declared.recording.Recording.{Recording}
 use Rattle.sqe_codec.specs.Answers.{◌>>◌, require}
 use Rattle.entry_checks.specs.Operation.{nop, fsync, close, File, in_slot, at_descriptor}
 use Rattle.world_parts.specs.World.{World, slot, set_slot, set_descriptor}
@@ -19,13 +19,13 @@ use Rattle.foot_print.proofs.Agreement.{held_same}
 use Rattle.foot_print.proofs.Accepted.{ok_require, after_require, supports_effect}
 use Rattle.foot_print.proofs.CoverOperation.{Owes}
 
-pub nop_owes : (t : Trace) (k r : ℕ) (s : World) → Awaits t k s → Owes t k r nop s
+pub nop_owes : (t : Recording) (k r : ℕ) (s : World) → Awaits t k s → Owes t k r nop s
 nop_owes t k r s w = record {
   tells = λ u b a d. record { same_meaning = refl; same_uses = λ c. refl };
   supports = λ u v a d e q. supports_effect [] u (done []) e q tt;
 }
 
-pub fsync_owes : (t : Trace) (k r : ℕ) (s : World) (f : File) → Awaits t k s → Owes t k r (fsync f) s
+pub fsync_owes : (t : Recording) (k r : ℕ) (s : World) (f : File) → Awaits t k s → Owes t k r (fsync f) s
 fsync_owes t k r s f w = record {
   tells = λ u b a d. record {
     same_meaning = ap (λ x. require (is_some x) EBADF >> Ok (done [])) (held_same t s u r f d);
@@ -43,16 +43,16 @@ agree_written : (s u : World) (xs : List Item) → Agree (map writes xs) s u →
 agree_written s u xs h = record { same = λ a m. h.same a (read_too xs a m) }
 
 -- The slot or descriptor of a number that is written, where it is one.
-writes_slot : (t : Trace) (r n : ℕ) → T (ltb n (slot_count t r)) → T (writes_atom (map writes (held_item (in_ring t r) (in_slot n))) (slot_at r n))
+writes_slot : (t : Recording) (r n : ℕ) → T (ltb n (slot_count t r)) → T (writes_atom (map writes (held_item (in_ring t r) (in_slot n))) (slot_at r n))
 writes_slot t r n h = subst (λ b. T (writes_atom (map writes (cond b (one (slot_at r n) ∷ []) [])) (slot_at r n))) (sym (true_of _ h)) (either_left _ _ (same_atom_refl (slot_at r n)))
 
-writes_descriptor : (t : Trace) (r n : ℕ) → T (ltb n (length t.descriptors)) → T (writes_atom (map writes (held_item (in_ring t r) (at_descriptor n))) (descriptor_at n))
+writes_descriptor : (t : Recording) (r n : ℕ) → T (ltb n (length t.descriptors)) → T (writes_atom (map writes (held_item (in_ring t r) (at_descriptor n))) (descriptor_at n))
 writes_descriptor t r n h = subst (λ b. T (writes_atom (map writes (cond b (one (descriptor_at n) ∷ []) [])) (descriptor_at n))) (sym (true_of _ h)) (either_left _ _ (eqb_refl n))
 
 there_first : {A : Type 0} (b : Bool) (x : Option A) → T (is_some (cond b x None)) → T b
 there_first b x h = grind arith
 
-pub close_owes : (t : Trace) (k r : ℕ) (s : World) (f : File) → Awaits t k s → Owes t k r (close f) s
+pub close_owes : (t : Recording) (k r : ℕ) (s : World) (f : File) → Awaits t k s → Owes t k r (close f) s
 close_owes t k r s (at_descriptor n) w = record {
   tells = λ u b a d. record {
     same_meaning = ap (λ x. require (is_some x) EBADF >> Ok (done (set_descriptor n None ∷ []))) (held_same t s u r (at_descriptor n) (agree_written s u (held_item (in_ring t r) (at_descriptor n)) d));

@@ -6,7 +6,7 @@ use mathlib.Core.Path.{subst, ap}
 use lib.Dec.{eqb_refl}
 use Rattle.sqe_codec.specs.declared.errno.Errno.{Errno}
 use Rattle.sqe_codec.specs.declared.errno.Errno.TheVariants.{EPERM, ENOENT, EEXIST, ENOTDIR, EISDIR, EINVAL, ENOTEMPTY}
-use Rattle.trace_format.specs.declared.trace.Trace.{Trace}
+use Rattle.recording.specs.declared.recording.Recording.{Recording}
 use Rattle.sqe_codec.specs.Answers.{◌>>=◌, ◌>>◌, require, each_ok}
 use Rattle.entry_checks.specs.Operation.{unlinkat, mkdirat, linkat, renameat, Path}
 use Rattle.world_parts.specs.World.{World, kind, set_name, make_node, apply}
@@ -44,7 +44,7 @@ two_names_supported f s p q x y h k l m = (
 )
 
 -- Making a directory.
-mkdirat_supports : (t : Trace) (k r : ℕ) (s : World) (p : Path) → Unused t k s → RowSupports t k r s (mkdirat p)
+mkdirat_supports : (t : Recording) (k r : ℕ) (s : World) (p : Path) → Unused t k s → RowSupports t k r s (mkdirat p)
 mkdirat_supports t k r s p w x h =
     let m = made_node t k in
     let uses : Place → Footprint = λ q. name_written q ++ writes (one (names_in m)) ∷ [] in
@@ -56,11 +56,11 @@ mkdirat_supports t k r s p w x h =
       name_supported _ (apply (make_node m a_directory) s) q (Some (new_directory m)) (holds_over _ (uses q) (name_written q) here (holds_left (name_written q) (writes (one (names_in m)) ∷ []))) (made-kind s m a_directory),
     )
 
-pub mkdirat_owes : (t : Trace) (k r : ℕ) (s : World) (p : Path) → Awaits t k s → Owes t k r (mkdirat p) s
+pub mkdirat_owes : (t : Recording) (k r : ℕ) (s : World) (p : Path) → Awaits t k s → Owes t k r (mkdirat p) s
 mkdirat_owes t k r s p w = record { tells = λ u b a d. record { same_meaning = refl; same_uses = λ c. refl }; supports = λ u v a d. mkdirat_supports t k r u p v }
 
 -- Linking.
-linkat_supports : (t : Trace) (k r : ℕ) (s : World) (old new : Path) → RowSupports t k r s (linkat old new)
+linkat_supports : (t : Recording) (k r : ℕ) (s : World) (old new : Path) → RowSupports t k r s (linkat old new)
 linkat_supports t k r s old new x h =
     let p = ok_bind (walk s.nodes old) _ x h in
     let q = ok_bind (walk s.nodes new) _ x p.2 in
@@ -70,7 +70,7 @@ linkat_supports t k r s old new x h =
     (name_supported (each_ok name_written (walk s.nodes new)) s q.0 (Some y.0) (holds_ok name_written (walk s.nodes new) q.0 q.1)
     (subst (Leads s) (ok_some p.0.target ENOENT y.0 y.1) (walk_leads s old p.0 p.1)))
 
-pub linkat_owes : (t : Trace) (k r : ℕ) (s : World) (old new : Path) → Awaits t k s → Owes t k r (linkat old new) s
+pub linkat_owes : (t : Recording) (k r : ℕ) (s : World) (old new : Path) → Awaits t k s → Owes t k r (linkat old new) s
 linkat_owes t k r s old new w = record { tells = λ u b a d. record { same_meaning = refl; same_uses = λ c. refl }; supports = λ u v a d. linkat_supports t k r u old new }
 
 -- Removing.
@@ -92,7 +92,7 @@ removal_same s u removes (Ok q) a = at q.target (agree_right s u (name_written q
     at None k = refl
     at (Some x) k = ap (λ m. m >> Ok (done (set_name q.parent q.name None ∷ []))) (may_remove_same s u removes x k)
 
-unlinkat_supports : (t : Trace) (k r : ℕ) (s : World) (p : Path) (removes : Bool) → RowSupports t k r s (unlinkat p removes)
+unlinkat_supports : (t : Recording) (k r : ℕ) (s : World) (p : Path) (removes : Bool) → RowSupports t k r s (unlinkat p removes)
 unlinkat_supports t k r s p removes x h =
     let q = ok_bind (walk s.nodes p) _ x h in
     let y = ok_bind (ok_or q.0.target ENOENT) _ x q.2 in
@@ -102,7 +102,7 @@ unlinkat_supports t k r s p removes x h =
     (holds_over row_is (name_freed removes q.0) (name_written q.0) (holds_ok (name_freed removes) (walk s.nodes p) q.0 q.1) (holds_left (name_written q.0) (cond removes (directory_names q.0.target) [])))
     tt)
 
-pub unlinkat_owes : (t : Trace) (k r : ℕ) (s : World) (p : Path) (removes : Bool) → Awaits t k s → Owes t k r (unlinkat p removes) s
+pub unlinkat_owes : (t : Recording) (k r : ℕ) (s : World) (p : Path) (removes : Bool) → Awaits t k s → Owes t k r (unlinkat p removes) s
 unlinkat_owes t k r s p removes w = record { tells = λ u b a d. record { same_meaning = removal_same s u removes (walk s.nodes p) d; same_uses = λ c. refl }; supports = λ u v a d. unlinkat_supports t k r u p removes }
 
 -- Renaming.
@@ -147,7 +147,7 @@ module _ (f : Footprint) (s : World) (p q : Place) (at_old : Holds f (name_writt
   rename_supports : (old new : Path) (flags : ℕ) → Leads s q.target → rename_to s old new flags p q x ≡ Ok e → SupportsAll f s e.changes
   rename_supports old new flags l h = grind (arith, exchange_supports, move_supports)
 
-renameat_supports : (t : Trace) (k r : ℕ) (s : World) (old new : Path) (flags : ℕ) → RowSupports t k r s (renameat old new flags)
+renameat_supports : (t : Recording) (k r : ℕ) (s : World) (old new : Path) (flags : ℕ) → RowSupports t k r s (renameat old new flags)
 renameat_supports t k r s old new flags e h =
     let p = ok_bind (walk s.nodes old) _ e h in
     let q = ok_bind (walk s.nodes new) _ e p.2 in
@@ -159,7 +159,7 @@ renameat_supports t k r s old new flags e h =
     let at_new = holds_over row_is (name_freed true q.0) (name_written q.0) (holds_over row_is names_new (name_freed true q.0) (holds_right names_old names_new) (holds_ok (name_freed true) (walk s.nodes new) q.0 q.1)) (holds_left (name_written q.0) (directory_names q.0.target)) in
     rename_supports row_is s p.0 q.0 at_old at_new x.0 (subst (Leads s) (ok_some p.0.target ENOENT x.0 x.1) (walk_leads s old p.0 p.1)) e old new flags (walk_leads s new q.0 q.1) x.2
 
-pub renameat_owes : (t : Trace) (k r : ℕ) (s : World) (old new : Path) (flags : ℕ) → Awaits t k s → Owes t k r (renameat old new flags) s
+pub renameat_owes : (t : Recording) (k r : ℕ) (s : World) (old new : Path) (flags : ℕ) → Awaits t k s → Owes t k r (renameat old new flags) s
 renameat_owes t k r s old new flags w = record {
   tells = λ u b a d.
       let from = agree_left s u (path_reads s old) (path_reads s new) a in

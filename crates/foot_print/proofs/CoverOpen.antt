@@ -7,7 +7,7 @@ use mathlib.Core.Logic.{inl}
 use native.Mathlib.Omega.{arith}
 use lib.Dec.{eqb_refl, lt→ltb, le→leb}
 use Rattle.sqe_codec.specs.declared.errno.Errno.TheVariants.{EEXIST, EISDIR, ENOTDIR, EINVAL, EMFILE}
-use Rattle.trace_format.specs.declared.trace.Trace.{Trace}
+use Rattle.recording.specs.declared.recording.Recording.{Recording}
 use Rattle.sqe_codec.specs.Answers.{◌>>=◌, ◌>>◌, require, each, each_ok}
 use Rattle.entry_checks.specs.Operation.{openat, Path, OpenFlags, file_limit, File, in_slot, at_descriptor}
 use Rattle.world_parts.specs.World.{World, kind, size, Change, set_name, set_size, make_node, make_description, apply}
@@ -33,7 +33,7 @@ use Rattle.foot_print.proofs.OpenFile.{sizes_fit}
 use Rattle.foot_print.proofs.Accepted.{err_apart, ok_same, ok_bind, ok_then, holds_left, holds_right, holds_over, holds_ok}
 
 -- The room of openat is decided by what it has of slots and descriptors.
-module _ (t : Trace) (s u : World) (r : ℕ) where
+module _ (t : Recording) (s u : World) (r : ℕ) where
   lowest_same : Agree (room_uses (in_ring t r) s None) s u → lowest_free t u ≡ lowest_free t s
   lowest_same a = λ i. find (λ n. is_none (sym (a.same (descriptor_at n) tt) i)) (range_with_len 0 (length t.descriptors))
 
@@ -45,7 +45,7 @@ module _ (t : Trace) (s u : World) (r : ℕ) where
   room_uses_same None a = ap (λ x. reads all_descriptors ∷ each (λ n. writes (one (descriptor_at n)) ∷ []) x) (lowest_same a)
   room_uses_same (Some n) a = refl
 
-openat_tells : (t : Trace) (k r : ℕ) (s u : World) (p : Path) (g : OpenFlags) (asked : Option ℕ) → RowTells t k r s u (openat p g asked)
+openat_tells : (t : Recording) (k r : ℕ) (s u : World) (p : Path) (g : OpenFlags) (asked : Option ℕ) → RowTells t k r s u (openat p g asked)
 openat_tells t k r s u p g asked x a d =
     let made = made_where (tried x) (description_made t k) in
     let rooms = agree_left s u (room_uses (in_ring t r) s asked) made (agree_left s u (room_uses (in_ring t r) s asked ++ made) _ d) in
@@ -55,7 +55,7 @@ openat_tells t k r s u p g asked x a d =
     }
 
 -- The room that is filled is written.
-room_supported : (t : Trace) (s z : World) (r d : ℕ) (asked : Option ℕ) (at : File) (f : Footprint) → room (in_ring t r) s asked ≡ Ok at → Holds f (room_uses (in_ring t r) s asked) → SupportsAll f z (filled r at d).changes
+room_supported : (t : Recording) (s z : World) (r d : ℕ) (asked : Option ℕ) (at : File) (f : Footprint) → room (in_ring t r) s asked ≡ Ok at → Holds f (room_uses (in_ring t r) s asked) → SupportsAll f z (filled r at d).changes
 room_supported t s z r d None at f h w = by (lowest_free t s) h w
   where
     by : (o : Option ℕ) → ok_or (option_map at_descriptor o) EMFILE ≡ Ok at → Holds f (reads all_descriptors ∷ each (λ n. writes (one (descriptor_at n)) ∷ []) o) → SupportsAll f z (filled r at d).changes
@@ -74,7 +74,7 @@ cuts_a_file directory create truncate other h k = grind arith
 pub second_test : (a b c : Bool) → T (is_ok (require a EEXIST >> (require b EISDIR >> require c ENOTDIR))) → T b
 second_test a b c h = grind arith
 
-module _ (t : Trace) (k : ℕ) (s : World) (g : OpenFlags) (w : Unused t k s) (q : Place) (f : Footprint) (fits : (i : ℕ) → T (has_atom f (size_of i)) → IfSome (size s i) (λ n. n ≤ file_limit)) (last : List Change) (rest : (z : World) → SupportsAll f z last) (describes : Holds f (description_made t k)) where
+module _ (t : Recording) (k : ℕ) (s : World) (g : OpenFlags) (w : Unused t k s) (q : Place) (f : Footprint) (fits : (i : ℕ) → T (has_atom f (size_of i)) → IfSome (size s i) (λ n. n ≤ file_limit)) (last : List Change) (rest : (z : World) → SupportsAll f z last) (describes : Holds f (description_made t k)) where
   abbrev m : ℕ
   m = made_node t k
 
@@ -113,7 +113,7 @@ module _ (t : Trace) (k : ℕ) (s : World) (g : OpenFlags) (w : Unused t k s) (q
   target_supported : (z : Option Target) → Leads s z → T (is_ok (may_open g z)) → Holds f (open_uses (at_place t k) (tried true) g q z) → SupportsAll f s (open_changes g m q z ++ make_description d (opened_with g (found_or_made m z)) ∷ last)
   target_supported z l c h = grind (arith, make_supported, found_supported, cuts_a_file, second_test)
 
-openat_supports : (t : Trace) (k r : ℕ) (s : World) (p : Path) (g : OpenFlags) (asked : Option ℕ) → Unused t k s
+openat_supports : (t : Recording) (k r : ℕ) (s : World) (p : Path) (g : OpenFlags) (asked : Option ℕ) → Unused t k s
     → ((i : ℕ) → T (has_atom (used t k r s true (openat p g asked)) (size_of i)) → IfSome (size s i) (λ n. n ≤ file_limit)) → RowSupports t k r s (openat p g asked)
 openat_supports t k r s p g asked w fits e h =
     let at = ok_bind (room (in_ring t r) s asked) _ e h in
@@ -130,7 +130,7 @@ openat_supports t k r s p g asked w fits e h =
     subst (λ (x : Effect). SupportsAll row_is s x.changes) (ok_same (open_as (sited t k r) g at.0 q.0) e last.0)
     (target_supported t k s g w q.0 row_is fits (filled r at.0 (made_description t k)).changes (λ z. room_supported t s z r (made_description t k) asked at.0 row_is at.1 rooms) describes q.0.target (walk_leads s p q.0 q.1) last.1 here)
 
-pub openat_owes : (t : Trace) (k r : ℕ) (s : World) (p : Path) (g : OpenFlags) (asked : Option ℕ) → Awaits t k s → Owes t k r (openat p g asked) s
+pub openat_owes : (t : Recording) (k r : ℕ) (s : World) (p : Path) (g : OpenFlags) (asked : Option ℕ) → Awaits t k s → Owes t k r (openat p g asked) s
 openat_owes t k r s p g asked w = record {
   tells = λ u. openat_tells t k r s u p g asked;
   supports = λ u v a d. openat_supports t k r u p g asked v (sizes_fit (used t k r u true (openat p g asked)) s u w.is_world d);

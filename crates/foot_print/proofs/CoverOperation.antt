@@ -7,7 +7,7 @@ use lib.Dec.{ltb→lt, le→leb}
 use Rattle.sqe_codec.specs.declared.errno.Errno.{Errno}
 use Rattle.trace_format.specs.declared.entry.Entry.{Entry}
 use Rattle.chain_plan.specs.declared.role.Role.{Role}
-use Rattle.trace_format.specs.declared.trace.Trace.{Trace}
+use Rattle.recording.specs.declared.recording.Recording.{Recording}
 use Rattle.sqe_codec.specs.Answers.{each}
 use Rattle.entry_checks.specs.Operation.{Operation}
 use Rattle.entry_checks.specs.Check.{has, io_hardlink, skip_success}
@@ -16,7 +16,7 @@ use Rattle.world_parts.specs.World.{World, Change, break_chain, apply, apply_all
 use Rattle.op_meaning.specs.Site.{in_ring, sited}
 use Rattle.op_meaning.specs.Meaning.{Effect, Found, found, meaning_by, meaning, shape}
 use Rattle.op_meaning.specs.Shape.{look}
-use Rattle.op_meaning.specs.Step.{runs, turn, step_world, step_changes, changes_in, changes_of, breaks, ring_at}
+use Rattle.op_meaning.specs.Step.{runs, turn, step_world, step_changes, changes_in, changes_of, breaks, queue_at}
 use Rattle.world_parts.specs.Items.{Atom, chain_flag, member_of, value, one, Use, writes, Footprint, has_atom, writes_atom, Agree, Holds}
 use Rattle.foot_print.specs.Footprint.{tried, uses, uses_in, row_in, as_reads, order_uses, turn_uses, footprint}
 use Rattle.foot_print.specs.Reach.{seen}
@@ -30,7 +30,7 @@ use Rattle.foot_print.proofs.CoverPlace.{Decided, footprint_same, step_reply_sam
 use Rattle.foot_print.proofs.CoverChanges.{SupportsAll, supports_all_held, agree_after_changes, kept_by_changes}
 
 -- A place whose operation is decided by its row, and whose access set supports its changes, is covered by it.
-pub covers : (t : Trace) (k : ℕ) (s : World)
+pub covers : (t : Recording) (k : ℕ) (s : World)
     → ((u : World) (r : ℕ) (e : Entry) (o : Operation) → turn t k s ≡ Some (runs r e o) → Agree (row_in (sited t k r) s o) s u → Decided t k r s u o)
     → ((u : World) → Unused t k u → Agree (footprint t k s) s u → SupportsAll (footprint t k s) u (step_changes t k s))
     → Awaits t k s → Covers t k (footprint t k s) s
@@ -69,26 +69,26 @@ pub same_run : (r q : ℕ) (e d : Entry) (o p : Operation) → Some (runs r e o)
 same_run r q e d o p h = let rings : r ≡ q = cc in let operations : o ≡ p = cc in λ i. (rings i, operations i)
 
 -- What an operation finds in a world, and uses of it, by whether the world accepts the operation.
-abbrev pub found_by : Trace → ℕ → World → Operation → Found
+abbrev pub found_by : Recording → ℕ → World → Operation → Found
 found_by t r s o = found (in_ring t r) s (look (shape o))
 
-abbrev pub used : Trace → ℕ → ℕ → World → Bool → Operation → Footprint
+abbrev pub used : Recording → ℕ → ℕ → World → Bool → Operation → Footprint
 used t k r s b o = uses (sited t k r) s (tried b) (shape o) (found_by t r s o)
 
 -- What the uses of an operation tell, given what it finds: its meaning, and the uses themselves.
-pub record Tells (t : Trace) (k r : ℕ) (s u : World) (o : Operation) : Type 0 where
+pub record Tells (t : Recording) (k r : ℕ) (s u : World) (o : Operation) : Type 0 where
   pub same_meaning : meaning_by (sited t k r) u o (found_by t r s o) ≡ meaning_by (sited t k r) s o (found_by t r s o)
   pub same_uses : (b : Bool) → uses (sited t k r) u (tried b) (shape o) (found_by t r s o) ≡ used t k r s b o
 
 -- They do so in worlds that agree on them, and on what the operation reads where it looks.
-abbrev pub RowTells : Trace → ℕ → ℕ → World → World → Operation → Type 0
+abbrev pub RowTells : Recording → ℕ → ℕ → World → World → Operation → Type 0
 RowTells t k r s u o = (b : Bool) → Agree (seen (in_ring t r) s o) s u → Agree (used t k r s b o) s u → Tells t k r s u o
 
 -- What an accepted operation uses supports its changes.
-abbrev pub RowSupports : Trace → ℕ → ℕ → World → Operation → Type 0
+abbrev pub RowSupports : Recording → ℕ → ℕ → World → Operation → Type 0
 RowSupports t k r s o = (x : Effect) → meaning (sited t k r) s o ≡ Ok x → SupportsAll (used t k r s true o) s x.changes
 
-module _ (t : Trace) (k r : ℕ) (s : World) (o : Operation) (u : World) (tells : RowTells t k r s u o) (agree : Agree (row_in (sited t k r) s o) s u) where
+module _ (t : Recording) (k r : ℕ) (s : World) (o : Operation) (u : World) (tells : RowTells t k r s u o) (agree : Agree (row_in (sited t k r) s o) s u) where
   looks : Agree (seen (in_ring t r) s o) s u
   looks = agree_left s u (seen (in_ring t r) s o) _ agree
 
@@ -127,7 +127,7 @@ module _ (t : Trace) (k r : ℕ) (s : World) (o : Operation) (u : World) (tells 
           (subst (λ f. SupportsAll f u y.changes) (uses_same true) (supports looks here y (means ∙ q)))
 
 -- The access set of a place covers it where the row of the operation that it runs tells the meaning and supports the changes.
-pub operation_covers : (t : Trace) (k : ℕ) (s : World) (r : ℕ) (e : Entry) (o : Operation) → turn t k s ≡ Some (runs r e o)
+pub operation_covers : (t : Recording) (k : ℕ) (s : World) (r : ℕ) (e : Entry) (o : Operation) → turn t k s ≡ Some (runs r e o)
     → ((u : World) → RowTells t k r s u o) → ((u : World) → Unused t k u → Agree (seen (in_ring t r) s o) s u → Agree (used t k r u true o) s u → RowSupports t k r u o)
     → Awaits t k s → Covers t k (footprint t k s) s
 operation_covers t k s r e o h tells supports w = covers t k s decides supports_changes w
@@ -139,7 +139,7 @@ operation_covers t k s r e o h tells supports w = covers t k s decides supports_
     F = footprint t k s
 
     order : Footprint
-    order = order_uses (ring_at t k) (role t k)
+    order = order_uses (queue_at t k) (role t k)
 
     up : (p : Use → Bool) → T (list_any p (row_in (sited t k r) s o)) → T (list_any p F)
     up p m = in_right p order (each (turn_uses t k s) (turn t k s)) (subst (λ x. T (list_any p (each (turn_uses t k s) x))) (sym h) m)
@@ -151,21 +151,21 @@ operation_covers t k s r e o h tells supports w = covers t k s decides supports_
     supports_changes u v a =
         subst (λ x. SupportsAll F u (each (changes_in t k s) x)) (sym h)
         (supports_append F (changes_of (meaning (sited t k r) s o)) _ u (supported t k r s o u (tells u) (record { same = λ b m. a.same b (holds.has b m) }) F (supports u v) holds)
-        (λ z. breaks_supported (role t k) (ring_at t k) e (each (turn_uses t k s) (turn t k s)) _ z))
+        (λ z. breaks_supported (role t k) (queue_at t k) e (each (turn_uses t k s) (turn t k s)) _ z))
 
 -- An access set has all uses of another.
 pub record Contains (f g : Footprint) : Type 0 where
   pub uses : (p : Use → Bool) → T (list_any p g) → T (list_any p f)
 
 -- What an operation owes in a world: what it uses tells its meaning and itself to any world or part of one that agrees on it, and supports its changes there where it is accepted.
-pub record Owes (t : Trace) (k r : ℕ) (o : Operation) (s : World) : Type 0 where
+pub record Owes (t : Recording) (k r : ℕ) (o : Operation) (s : World) : Type 0 where
   pub tells : (u : World) → RowTells t k r s u o
   pub supports : (u : World) → Unused t k u → Agree (seen (in_ring t r) s o) s u → Agree (used t k r u true o) s u → RowSupports t k r u o
 
 -- The statement of cover for one operation at every place that runs it.
 abbrev pub OperationCovers : Operation → Type 0
-OperationCovers o = (t : Trace) (k : ℕ) (s : World) (r : ℕ) (e : Entry) → turn t k s ≡ Some (runs r e o) → Awaits t k s → Covers t k (footprint t k s) s
+OperationCovers o = (t : Recording) (k : ℕ) (s : World) (r : ℕ) (e : Entry) → turn t k s ≡ Some (runs r e o) → Awaits t k s → Covers t k (footprint t k s) s
 
 -- An operation that pays what it owes in every world is covered.
-pub owed_covers : (o : Operation) → ((t : Trace) (k r : ℕ) (s : World) → Awaits t k s → Owes t k r o s) → OperationCovers o
+pub owed_covers : (o : Operation) → ((t : Recording) (k r : ℕ) (s : World) → Awaits t k s → Owes t k r o s) → OperationCovers o
 owed_covers o owes t k s r e h w = operation_covers t k s r e o h (owes t k r s w).tells (owes t k r s w).supports w

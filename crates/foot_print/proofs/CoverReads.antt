@@ -8,7 +8,7 @@ use lib.Dec.{ltb→lt, lt→ltb, leb→le, le→leb, eqb_refl}
 use Rattle.std.proofs.Math.ListN.{length-take}
 use Rattle.sqe_codec.specs.declared.errno.Errno.{Errno}
 use Rattle.sqe_codec.specs.declared.errno.Errno.TheVariants.{EBADF, EISDIR, EINVAL, EFAULT}
-use Rattle.trace_format.specs.declared.trace.Trace.{Trace}
+use Rattle.recording.specs.declared.recording.Recording.{Recording}
 use Rattle.sqe_codec.specs.Answers.{each, ◌>>◌, require}
 use Rattle.entry_checks.specs.Operation.{read, readv, read_fixed, File, Span, at_position}
 use Rattle.trace_format.specs.Sides.{most_moved}
@@ -67,7 +67,7 @@ module _ (there : Option Handle) (o n : ℕ) (span : Result Destination Errno) (
           delivered_supported h (at + length x) x to (omega arith) (λ p. c.uses (λ (z : Use). z.written && member_of z.item (position_of h.description))
           (in_content (read_content o n) (λ (z : Use). z.written && member_of z.item (position_of h.description)) there h here i (position_is_written h o p))) w
 
-pub read_owes : (t : Trace) (k r : ℕ) (s : World) (f : File) (o n : ℕ) → Awaits t k s → Owes t k r (read f o n) s
+pub read_owes : (t : Recording) (k r : ℕ) (s : World) (f : File) (o n : ℕ) → Awaits t k s → Owes t k r (read f o n) s
 read_owes t k r s f o n w = record {
   tells = λ u b a d. record { same_meaning = read_same s u (handle (in_ring t r) s f) o (min n most_moved) (Ok reply) w.is_world (agree_left s u _ _ d); same_uses = λ c. refl };
   supports = λ u v a d e q.
@@ -77,17 +77,17 @@ read_owes t k r s f o n w = record {
       (λ to h. subst (IsWritten there o (min n most_moved) (Ok reply) u row) (ok_same reply to h) tt);
 }
 
-pub readv_owes : (t : Trace) (k r : ℕ) (s : World) (f : File) (o n : ℕ) → Awaits t k s → Owes t k r (readv f o n) s
+pub readv_owes : (t : Recording) (k r : ℕ) (s : World) (f : File) (o n : ℕ) → Awaits t k s → Owes t k r (readv f o n) s
 readv_owes t k r s f o n w = let x = read_owes t k r s f o n w in record { tells = λ u b a d. let y = x.tells u b a d in record { same_meaning = y.same_meaning; same_uses = y.same_uses }; supports = x.supports }
 
 -- The range of a span in its buffer that a transfer of fewer bytes uses.
-pub in_span : (b : Bool) (t : Trace) (r : ℕ) (x : Span) (q : Use → Bool) (at : ℕ) → span_start (in_ring t r) x ≡ Some at → T (q (record { item = buffer_bytes r x.index at (at + x.length); written = b })) → T (list_any q (span_use (in_ring t r) b x))
+pub in_span : (b : Bool) (t : Recording) (r : ℕ) (x : Span) (q : Use → Bool) (at : ℕ) → span_start (in_ring t r) x ≡ Some at → T (q (record { item = buffer_bytes r x.index at (at + x.length); written = b })) → T (list_any q (span_use (in_ring t r) b x))
 in_span b t r x q at e m = subst (λ o. T (list_any q (each (λ at. record { item = buffer_bytes r x.index at (at + x.length); written = b } ∷ []) o))) (sym e) (either_left _ _ m)
 
 pub offset_in_span : (r b at n p : ℕ) → at ≤ p → p < at + n → T (member_of (buffer_bytes r b at (at + n)) (buffer_byte r b p))
 offset_in_span r b at n p below above = both (r == r && b == b) _ (both _ _ (eqb_refl r) (eqb_refl b)) (both (leb at p) _ (le→leb at p below) (lt→ltb p _ above))
 
-pub read_fixed_owes : (t : Trace) (k r : ℕ) (s : World) (f : File) (o : ℕ) (x : Span) → Awaits t k s → Owes t k r (read_fixed f o x) s
+pub read_fixed_owes : (t : Recording) (k r : ℕ) (s : World) (f : File) (o : ℕ) (x : Span) → Awaits t k s → Owes t k r (read_fixed f o x) s
 read_fixed_owes t k r s f o x w = record {
   tells = λ u b a d. record { same_meaning = read_same s u (handle (in_ring t r) s f) o n (span_destination (in_ring t r) x) w.is_world (agree_left s u _ _ (agree_left s u (moved_uses s (tried b) false o n (handle (in_ring t r) s f)) (span_use (in_ring t r) true x) d)); same_uses = λ c. refl };
   supports = λ u v a d e q.

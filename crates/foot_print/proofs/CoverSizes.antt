@@ -6,7 +6,7 @@ use native.Mathlib.Omega.{arith}
 use lib.Dec.{ltb→lt, leb→le, eqb_refl, nltb→le}
 use Rattle.sqe_codec.specs.declared.errno.Errno.{Errno}
 use Rattle.sqe_codec.specs.declared.errno.Errno.TheVariants.{EBADF, EINVAL, EFBIG, EOPNOTSUPP}
-use Rattle.trace_format.specs.declared.trace.Trace.{Trace}
+use Rattle.recording.specs.declared.recording.Recording.{Recording}
 use Rattle.sqe_codec.specs.Answers.{◌>>=◌, ◌>>◌, require}
 use Rattle.entry_checks.specs.Operation.{fallocate, ftruncate, File, file_limit}
 use Rattle.world_parts.specs.World.{World, bytes, size, Change, apply, set_size, zero_bytes}
@@ -77,7 +77,7 @@ allocated_same p x w l cs ds h = grind arith
 abbrev allocated : World → ℕ → ℕ → ℕ → Handle → Result Effect Errno
 allocated s o n mode h = allocated_by (ltb o (2 ^ 63) && not (n == 0) && ltb n (2 ^ 63)) (allocation mode) (can_write h.opened.access) (leb (o + n) file_limit) (allocate s h.opened.target.node o (o + n))
 
-pub fallocate_owes : (t : Trace) (k r : ℕ) (s : World) (f : File) (o n mode : ℕ) → Awaits t k s → Owes t k r (fallocate f o n mode) s
+pub fallocate_owes : (t : Recording) (k r : ℕ) (s : World) (f : File) (o n mode : ℕ) → Awaits t k s → Owes t k r (fallocate f o n mode) s
 fallocate_owes t k r s f o n mode w = record {
   tells = λ u b a d. record {
     same_meaning = with_handle (handle (in_ring t r) s f) (allocated s o n mode) (allocated u o n mode) (λ h e.
@@ -108,7 +108,7 @@ fallocate_owes t k r s f o n mode w = record {
 abbrev truncated : ℕ → Handle → Result Effect Errno
 truncated n h = require (ltb n (2 ^ 63)) EINVAL >> (require (can_write h.opened.access) EINVAL >> (require (leb n file_limit) EFBIG >> Ok (done (set_size h.opened.target.node n ∷ []))))
 
-pub ftruncate_owes : (t : Trace) (k r : ℕ) (s : World) (f : File) (n : ℕ) → Awaits t k s → Owes t k r (ftruncate f n) s
+pub ftruncate_owes : (t : Recording) (k r : ℕ) (s : World) (f : File) (n : ℕ) → Awaits t k s → Owes t k r (ftruncate f n) s
 ftruncate_owes t k r s f n w = record {
   tells = λ u b a d. record { same_meaning = refl; same_uses = λ x. refl };
   supports = λ u v a d e q.

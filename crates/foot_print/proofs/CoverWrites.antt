@@ -11,7 +11,7 @@ use lib.Dec.{ltb→lt, lt→ltb, leb→le, le→leb, eqb_refl, nltb→le}
 use Rattle.std.proofs.Math.ListN.{length-take}
 use Rattle.sqe_codec.specs.declared.errno.Errno.{Errno}
 use Rattle.sqe_codec.specs.declared.errno.Errno.TheVariants.{EBADF, EINVAL, EFBIG, EFAULT}
-use Rattle.trace_format.specs.declared.trace.Trace.{Trace}
+use Rattle.recording.specs.declared.recording.Recording.{Recording}
 use Rattle.sqe_codec.specs.Answers.{◌>>=◌, ◌>>◌, require}
 use Rattle.entry_checks.specs.Operation.{write, writev, write_fixed, File, Span, at_position, file_limit}
 use Rattle.trace_format.specs.Sides.{most_moved}
@@ -141,7 +141,7 @@ module _ (s : World) (o n : ℕ) (new : List ℕ) (h : Handle) (g : Footprint) (
   from_supported e q = grind (arith, moves, ltb→lt, positive)
 
 -- What a write has of its file supports its changes.
-write_supported : (t : Trace) (r : ℕ) (f : File) (o n : ℕ) (source : Result (List ℕ) Errno) (s : World) (g : Footprint) → AllSound (handle (in_ring t r) s f) → ((new : List ℕ) → source ≡ Ok new → length new ≤ n)
+write_supported : (t : Recording) (r : ℕ) (f : File) (o n : ℕ) (source : Result (List ℕ) Errno) (s : World) (g : Footprint) → AllSound (handle (in_ring t r) s f) → ((new : List ℕ) → source ≡ Ok new → length new ≤ n)
     → (e : Effect) → write_meaning s o (handle (in_ring t r) s f) source ≡ Ok e → Contains g (content_of (write_content s (tried true) o n) (handle (in_ring t r) s f)) → SupportsAll g s e.changes
 write_supported t r f o n source s g w few e q c =
     let m = ok_bind (writable (handle (in_ring t r) s f)) _ e q in
@@ -157,7 +157,7 @@ write_supported t r f o n source s g w few e q c =
     on_content : (h : Handle) → handle (in_ring t r) s f ≡ Some h → T (can_write h.opened.access) → Contains g (content s false o n h.opened.target.node h)
     on_content h there can = record { uses = λ p m. c.uses p (in_content (content s false o n) p (handle (in_ring t r) s f) h there (writable_is_file h (w h there) can) m) }
 
-pub write_owes : (t : Trace) (k r : ℕ) (s : World) (f : File) (o : ℕ) (new : List ℕ) → Awaits t k s → Owes t k r (write f o new) s
+pub write_owes : (t : Recording) (k r : ℕ) (s : World) (f : File) (o : ℕ) (new : List ℕ) → Awaits t k s → Owes t k r (write f o new) s
 write_owes t k r s f o new w = record {
   tells = λ u b a d.
       let there = handle (in_ring t r) s f in
@@ -172,7 +172,7 @@ write_owes t k r s f o new w = record {
       (record { uses = λ p m. in_left p (content_of (write_content u (tried true) o (length new)) there) (position_use o there) m });
 }
 
-pub writev_owes : (t : Trace) (k r : ℕ) (s : World) (f : File) (o : ℕ) (new : List ℕ) → Awaits t k s → Owes t k r (writev f o new) s
+pub writev_owes : (t : Recording) (k r : ℕ) (s : World) (f : File) (o : ℕ) (new : List ℕ) → Awaits t k s → Owes t k r (writev f o new) s
 writev_owes t k r s f o new w = let x = write_owes t k r s f o new w in record { tells = λ u b a d. let y = x.tells u b a d in record { same_meaning = y.same_meaning; same_uses = y.same_uses }; supports = x.supports }
 
 drop_none : {A : Type 0} (n : ℕ) → ◌≡◌ {A = List A} (drop n []) []
@@ -195,7 +195,7 @@ found_in : (o : Option (List ℕ)) (p : ℕ) → slice_get (unwrap_or o []) p �
 found_in o p = grind arith
 
 -- The bytes of a span are the same where worlds agree on them.
-span_bytes_same : (t : Trace) (s u : World) (r : ℕ) (x : Span) → Agree (span_use (in_ring t r) false x) s u → span_bytes (in_ring t r) u x ≡ span_bytes (in_ring t r) s x
+span_bytes_same : (t : Recording) (s u : World) (r : ℕ) (x : Span) → Agree (span_use (in_ring t r) false x) s u → span_bytes (in_ring t r) u x ≡ span_bytes (in_ring t r) s x
 span_bytes_same t s u r x a = by (span_start (in_ring t r) x) refl
   where
     n : ℕ
@@ -206,10 +206,10 @@ span_bytes_same t s u r x a = by (span_start (in_ring t r) x) refl
     by (Some at) e = ap (λ z. Ok z) (slice_decided (min x.length most_moved) at (unwrap_or (buffer u r x.index) []) (unwrap_or (buffer s r x.index) []) (λ p below above.
         found_in (buffer u r x.index) p ∙ sym (a.same (buffer_byte r x.index p) (in_span false t r x (λ (z : Use). member_of z.item (buffer_byte r x.index p)) at e (offset_in_span r x.index at x.length p below (omega arith)))) ∙ sym (found_in (buffer s r x.index) p)))
 
-span_bytes_fit : (t : Trace) (s : World) (r : ℕ) (x : Span) (new : List ℕ) → span_bytes (in_ring t r) s x ≡ Ok new → length new ≤ min x.length most_moved
+span_bytes_fit : (t : Recording) (s : World) (r : ℕ) (x : Span) (new : List ℕ) → span_bytes (in_ring t r) s x ≡ Ok new → length new ≤ min x.length most_moved
 span_bytes_fit t s r x new e = grind (arith, length-take)
 
-pub write_fixed_owes : (t : Trace) (k r : ℕ) (s : World) (f : File) (o : ℕ) (x : Span) → Awaits t k s → Owes t k r (write_fixed f o x) s
+pub write_fixed_owes : (t : Recording) (k r : ℕ) (s : World) (f : File) (o : ℕ) (x : Span) → Awaits t k s → Owes t k r (write_fixed f o x) s
 write_fixed_owes t k r s f o x w = record {
   tells = λ u b a d.
       let there = handle (in_ring t r) s f in

@@ -7,7 +7,7 @@ use native.Mathlib.Omega.{arith}
 use lib.Dec.{ltb→lt, leb→le}
 use Rattle.sqe_codec.specs.declared.errno.Errno.{Errno}
 use Rattle.sqe_codec.specs.declared.errno.Errno.TheVariants.{EBADF, EINVAL, EFBIG, EOPNOTSUPP}
-use Rattle.trace_format.specs.declared.trace.Trace.{Trace}
+use Rattle.recording.specs.declared.recording.Recording.{Recording}
 use Rattle.entry_checks.specs.Operation.{file_limit, File}
 use Rattle.finite_maps.specs.Table.{get, adjust_number}
 use Rattle.world_parts.specs.World.{World, IsWorld, name, Change, set_slot, set_descriptor, set_position, set_size, write_bytes, zero_bytes, write_buffer, break_chain, apply}
@@ -68,7 +68,7 @@ contents_world s _ h w = absurd h
 makes_nothing : (i d : ℕ) (c : Change) → OfContents c → Rattle.world_parts.proofs.KeepWorld.MakesOnly i d c
 makes_nothing i d c h = grind arith
 
-pub contents_leave : (t : Trace) (k : ℕ) (s : World) (cs : List Change) → AllOfContents cs → IsWorld s → Leaves t k s cs
+pub contents_leave : (t : Recording) (k : ℕ) (s : World) (cs : List Change) → AllOfContents cs → IsWorld s → Leaves t k s cs
 contents_leave t k s [] h w = (w, tt)
 contents_leave t k s (c ∷ cs) h w = (let rest = contents_leave t k (apply c s) cs h.1 (contents_world s c h.0 w) in (rest.0, (makes_nothing (made_node t k) (made_description t k) c h.0, rest.1)))
 
@@ -79,13 +79,13 @@ of_effect x y h g = subst (λ (z : Effect). AllOfContents z.changes) (ok_same x 
 advances : (h : Handle) (o end : ℕ) → AllOfContents (advance o h end)
 advances h o end = grind arith
 
-pub read_contents : (t : Trace) (s : World) (r : ℕ) (f : File) (o n : ℕ) (span : Result Destination Errno) (x : Effect) → read_meaning s o n (handle (in_ring t r) s f) span ≡ Ok x → AllOfContents x.changes
+pub read_contents : (t : Recording) (s : World) (r : ℕ) (f : File) (o n : ℕ) (span : Result Destination Errno) (x : Effect) → read_meaning s o n (handle (in_ring t r) s f) span ≡ Ok x → AllOfContents x.changes
 read_contents t s r f o n span x h = grind (arith, advances)
 
-pub write_contents : (t : Trace) (s : World) (r : ℕ) (f : File) (o : ℕ) (source : Result (List ℕ) Errno) (x : Effect) → write_meaning s o (handle (in_ring t r) s f) source ≡ Ok x → AllOfContents x.changes
+pub write_contents : (t : Recording) (s : World) (r : ℕ) (f : File) (o : ℕ) (source : Result (List ℕ) Errno) (x : Effect) → write_meaning s o (handle (in_ring t r) s f) source ≡ Ok x → AllOfContents x.changes
 write_contents t s r f o source x h = grind (arith, ltb→lt, length-take, advances)
 
-pub fallocate_contents : (t : Trace) (s : World) (r : ℕ) (f : File) (o n mode : ℕ) (x : Effect) → IsWorld s → fallocate_meaning s o n mode (handle (in_ring t r) s f) ≡ Ok x → AllOfContents x.changes
+pub fallocate_contents : (t : Recording) (s : World) (r : ℕ) (f : File) (o n mode : ℕ) (x : Effect) → IsWorld s → fallocate_meaning s o n mode (handle (in_ring t r) s f) ≡ Ok x → AllOfContents x.changes
 fallocate_contents t s r f o n mode x w h =
     let g = ok_bind (ok_or (handle (in_ring t r) s f) EBADF) _ x h in
     let a = ok_bind (ok_or (allocation mode) EOPNOTSUPP) _ x (ok_require (ltb o (2 ^ 63) && not (n == 0) && ltb n (2 ^ 63)) EINVAL _ x g.2).0 in
@@ -99,8 +99,8 @@ fallocate_contents t s r f o n mode x w h =
     by i l zero_extend = (let b = bounded s i w in (omega arith, (tt, tt)))
     by i l zero_within = (tt, tt)
 
-pub ftruncate_contents : (t : Trace) (s : World) (r : ℕ) (f : File) (n : ℕ) (x : Effect) → ftruncate_meaning n (handle (in_ring t r) s f) ≡ Ok x → AllOfContents x.changes
+pub ftruncate_contents : (t : Recording) (s : World) (r : ℕ) (f : File) (n : ℕ) (x : Effect) → ftruncate_meaning n (handle (in_ring t r) s f) ≡ Ok x → AllOfContents x.changes
 ftruncate_contents t s r f n x h = grind (arith, leb→le)
 
-pub close_contents : (t : Trace) (s : World) (r : ℕ) (f : File) (x : Effect) → close_meaning (in_ring t r) s f ≡ Ok x → AllOfContents x.changes
+pub close_contents : (t : Recording) (s : World) (r : ℕ) (f : File) (x : Effect) → close_meaning (in_ring t r) s f ≡ Ok x → AllOfContents x.changes
 close_contents t s r f x h = grind arith

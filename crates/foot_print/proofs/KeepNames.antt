@@ -8,7 +8,7 @@ use mathlib.Core.Logic.{inl, inr}
 use lib.Dec.{eqb_refl}
 use Rattle.sqe_codec.specs.declared.errno.Errno.{Errno}
 use Rattle.sqe_codec.specs.declared.errno.Errno.TheVariants.{EPERM, ENOENT, EEXIST, EBADF, ENAMETOOLONG}
-use Rattle.trace_format.specs.declared.trace.Trace.{Trace}
+use Rattle.recording.specs.declared.recording.Recording.{Recording}
 use Rattle.sqe_codec.specs.Answers.{◌>>=◌, each_ok}
 use Rattle.entry_checks.specs.Operation.{Operation, unlinkat, mkdirat, linkat, Path}
 use Rattle.trace_format.specs.Paths.{components}
@@ -98,17 +98,17 @@ named_tree s d n x h w may = tree_same (put (name s) d n (cond (is_some (name_co
     (put_tree (name s) d n (cond (is_some (name_count s d)) x None) (elim (is_some (name_count s d)) as (λ b. MayPut (name s) d n (cond b x None)) [ true ↦ may | false ↦ may_remove_name (name s) d n ]) w)
 
 -- What an accepted operation leaves: a world, in which it made nothing but what its place makes.
-abbrev pub Leaves : Trace → ℕ → World → List Change → Type 0
+abbrev pub Leaves : Recording → ℕ → World → List Change → Type 0
 Leaves t k s cs = IsWorld (apply_all cs s) × AllMakeOnly (made_node t k) (made_description t k) cs
 
-abbrev pub Keeps : Trace → ℕ → ℕ → World → Operation → Type 0
+abbrev pub Keeps : Recording → ℕ → ℕ → World → Operation → Type 0
 Keeps t k r s o = (x : Effect) → meaning (sited t k r) s o ≡ Ok x → Leaves t k s x.changes
 
-pub of_changes : (t : Trace) (k : ℕ) (s : World) (cs : List Change) (x : Effect) → ◌≡◌ {A = Result Effect Errno} (Ok (done cs)) (Ok x) → Leaves t k s cs → Leaves t k s x.changes
+pub of_changes : (t : Recording) (k : ℕ) (s : World) (cs : List Change) (x : Effect) → ◌≡◌ {A = Result Effect Errno} (Ok (done cs)) (Ok x) → Leaves t k s cs → Leaves t k s x.changes
 of_changes t k s cs x h g = subst (λ (y : Effect). Leaves t k s y.changes) (ok_same (done cs) x h) g
 
 -- One name that is set.
-one_name_leaves : (t : Trace) (k : ℕ) (s : World) (d : ℕ) (n : List ℕ) (x : Option Target) → IsWorld s → Leads s x → MayPut (name s) d n x → Leaves t k s (set_name d n x ∷ [])
+one_name_leaves : (t : Recording) (k : ℕ) (s : World) (d : ℕ) (n : List ℕ) (x : Option Target) → IsWorld s → Leads s x → MayPut (name s) d n x → Leaves t k s (set_name d n x ∷ [])
 one_name_leaves t k s d n x w l may = (is_world (apply (set_name d n x) s) (named_tree s d n x l w.tree may) (naming_sound s d n x (sound s w)), (tt, tt))
 
 -- A name that leads to what another leads to, which is no directory.
@@ -123,7 +123,7 @@ may_link look w d n e m y h f = record {
     no_directory : y.kind ≡ Some a_directory → ⊥
     no_directory c = subst (λ z. T (not (is_directory z))) c f
 
-pub linkat_keeps : (t : Trace) (k r : ℕ) (s : World) (old new : Path) → IsWorld s → Keeps t k r s (linkat old new)
+pub linkat_keeps : (t : Recording) (k r : ℕ) (s : World) (old new : Path) → IsWorld s → Keeps t k r s (linkat old new)
 linkat_keeps t k r s old new w x h =
     let p = ok_bind (walk s.nodes old) _ x h in
     let q = ok_bind (walk s.nodes new) _ x p.2 in
@@ -134,7 +134,7 @@ linkat_keeps t k r s old new w x h =
     (one_name_leaves t k s q.0.parent q.0.name (Some y.0) w (subst (Leads s) found (walk_leads s old p.0 p.1))
     (may_link (name s) w.tree q.0.parent q.0.name p.0.parent p.0.name y.0 (sym (walk_finds s old p.0 p.1) ∙ found) last.1))
 
-pub unlinkat_keeps : (t : Trace) (k r : ℕ) (s : World) (p : Path) (removes : Bool) → IsWorld s → Keeps t k r s (unlinkat p removes)
+pub unlinkat_keeps : (t : Recording) (k r : ℕ) (s : World) (p : Path) (removes : Bool) → IsWorld s → Keeps t k r s (unlinkat p removes)
 unlinkat_keeps t k r s p removes w x h =
     let q = ok_bind (walk s.nodes p) _ x h in
     let y = ok_bind (ok_or q.0.target ENOENT) _ x q.2 in
@@ -173,7 +173,7 @@ made_and_named s i d n k w u h same =
     (named_tree after d n (Some x) (made-kind s i k ∙ sym same) (subst IsTree (sym look) w.tree) (subst (λ l. MayPut l d n (Some x)) (sym look) (may_make s i d n k w u h)))
     (naming_sound after d n (Some x) (making_sound s i k u (sound s w)))
 
-pub mkdirat_keeps : (t : Trace) (k r : ℕ) (s : World) (p : Path) → Awaits t k s → Keeps t k r s (mkdirat p)
+pub mkdirat_keeps : (t : Recording) (k r : ℕ) (s : World) (p : Path) → Awaits t k s → Keeps t k r s (mkdirat p)
 mkdirat_keeps t k r s p w x h =
     let m = made_node t k in
     let q = ok_bind (walk s.nodes p) _ x h in

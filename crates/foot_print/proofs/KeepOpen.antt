@@ -4,7 +4,7 @@ use mathlib.Core.Path.{sym, subst, ap, ◌∙◌}
 use native.Mathlib.Omega.{arith}
 use lib.Dec.{eqb_refl}
 use Rattle.trace_format.specs.declared.trace.Access.TheVariants.{Read}
-use Rattle.trace_format.specs.declared.trace.Trace.{Trace}
+use Rattle.recording.specs.declared.recording.Recording.{Recording}
 use Rattle.entry_checks.specs.Operation.{openat, Path, OpenFlags, File, in_slot, at_descriptor}
 use Rattle.world_parts.specs.World.{World, kind, name, opened, set_name, set_size, set_slot, set_descriptor, make_node, make_description, apply}
 use Rattle.file_tree.specs.Tree.{a_directory, a_file, Target, IsTree, rewritten_node}
@@ -33,7 +33,7 @@ zero_asked directory create truncate zero e h = grind arith
 reads_alone : (g : OpenFlags) (x : Target) → T (is_ok (may_open g (Some x))) → x.kind ≡ Some a_directory → access_of g.access ≡ Read
 reads_alone g x h c = grind (arith, zero_asked, second_test)
 
-module _ (t : Trace) (k r : ℕ) (g : OpenFlags) (at : File) where
+module _ (t : Recording) (k r : ℕ) (g : OpenFlags) (at : File) where
   abbrev d : ℕ
   d = made_description t k
 
@@ -76,7 +76,7 @@ module _ (t : Trace) (k r : ℕ) (g : OpenFlags) (at : File) where
           let o = opened_world cut y (subst IsTree (sym look) w.is_world.tree) (sizing_sound s y.node 0 (omega arith) (sound s w.is_world)) (rewriting-kind (λ bs. resized bs 0) s y.node y.node ∙ l) some_kind (reads_alone g y c) in
           (o.0, (tt, o.1))
 
-pub openat_keeps : (t : Trace) (k r : ℕ) (s : World) (p : Path) (g : OpenFlags) (asked : Option ℕ) → Awaits t k s → Keeps t k r s (openat p g asked)
+pub openat_keeps : (t : Recording) (k r : ℕ) (s : World) (p : Path) (g : OpenFlags) (asked : Option ℕ) → Awaits t k s → Keeps t k r s (openat p g asked)
 openat_keeps t k r s p g asked w e h =
     let at = ok_bind (room (in_ring t r) s asked) _ e h in
     let q = ok_bind (walk s.nodes p) _ e at.2 in

@@ -7,7 +7,7 @@ use mathlib.Core.Path.{sym, subst, ap, ◌∙◌}
 use mathlib.Core.Logic.{inl, inr}
 use Rattle.sqe_codec.specs.declared.errno.Errno.{Errno}
 use Rattle.sqe_codec.specs.declared.errno.Errno.TheVariants.{ENOENT, EEXIST, EINVAL}
-use Rattle.trace_format.specs.declared.trace.Trace.{Trace}
+use Rattle.recording.specs.declared.recording.Recording.{Recording}
 use Rattle.sqe_codec.specs.Answers.{◌>>◌, require}
 use Rattle.entry_checks.specs.Operation.{renameat, Path}
 use Rattle.world_parts.specs.World.{World, name, name_count, IsWorld, set_name, apply}
@@ -35,7 +35,7 @@ names_put s d n x l f = λ i e m. (naming_names s d n x l e m ∙ ap (λ b. cond
 not_below : (s : World) → IsTree (name s) → (p : Path) (q : Place) → walk s.nodes p ≡ Ok q → (x : Target) → T (not (goes_below s x p)) → x.kind ≡ Some a_directory → ¬ (UpTo (name s) x.node q.parent)
 not_below s w p q h x g c = not_passed s w p q h x.node (subst (λ k. T (not (is_directory k && is_above s.nodes x.node p))) c g)
 
-module _ (t : Trace) (k : ℕ) (s : World) (w : IsWorld s) (old new : Path) (p q : Place) (walked_old : walk s.nodes old ≡ Ok p) (walked_new : walk s.nodes new ≡ Ok q) (x : Target) (found : p.target ≡ Some x) where
+module _ (t : Recording) (k : ℕ) (s : World) (w : IsWorld s) (old new : Path) (p q : Place) (walked_old : walk s.nodes old ≡ Ok p) (walked_new : walk s.nodes new ≡ Ok q) (x : Target) (found : p.target ≡ Some x) where
   at : name s p.parent p.name ≡ Some x
   at = sym (walk_finds s old p walked_old) ∙ found
 
@@ -99,7 +99,7 @@ module _ (t : Trace) (k : ℕ) (s : World) (w : IsWorld s) (old new : Path) (p q
       by true g = exchange_keeps e q.target refl g
       by false g = (let d = below (not (flags == 1 && is_some q.target)) (move_meaning s p q x q.target) g in move_keeps e d.1 q.target d.0)
 
-pub renameat_keeps : (t : Trace) (k r : ℕ) (s : World) (old new : Path) (flags : ℕ) → IsWorld s → Keeps t k r s (renameat old new flags)
+pub renameat_keeps : (t : Recording) (k r : ℕ) (s : World) (old new : Path) (flags : ℕ) → IsWorld s → Keeps t k r s (renameat old new flags)
 renameat_keeps t k r s old new flags w e h =
     let p = ok_bind (walk s.nodes old) _ e h in
     let q = ok_bind (walk s.nodes new) _ e p.2 in

@@ -6,12 +6,12 @@ use Rattle.interleaving.specs.System.{AgreeOn, Holds, DifferOnlyBy, Thinner}
 use Rattle.interleaving.specs.Rows.{RowLaws}
 use Rattle.interleaving.specs.Laws.{Cover, Laws}
 use Rattle.interleaving.proofs.ByRows.{reach_holds_foot_lem, reach_holds_reach_lem, known_same_lem, reach_same_lem, known_thinner_lem}
-use Rattle.trace_format.specs.declared.trace.Trace.{Trace}
+use Rattle.recording.specs.declared.recording.Recording.{Recording}
 use Rattle.sqe_codec.specs.Answers.{each}
 use Rattle.chain_plan.specs.Chain.{role}
 use Rattle.world_parts.specs.World.{World, IsWorld}
 use Rattle.world_parts.specs.Start.{start}
-use Rattle.op_meaning.specs.Step.{Turn, filled, runs, turn_under, step_world}
+use Rattle.op_meaning.specs.Step.{Turn, filled, registered, runs, turn_under, step_world}
 use Rattle.world_parts.specs.Items.{Atom, chain_flag, descriptor_at, one, all_descriptors, member_of, Use, Footprint, has_atom, Agree}
 use Rattle.foot_print.specs.Footprint.{footprint, turn_uses}
 use Rattle.foot_print.specs.Laws.{Awaits, CoversAt, FootprintsCover}
@@ -36,7 +36,7 @@ use Rattle.foot_print.proofs.Unmet.{deciding_within}
 use Rattle.foot_print.proofs.Writing.{is_false, not_false, unwritten, unmet, written_thin, met_thin, writes_touches, apart_from_collide_lem, collide_held_lem}
 use Rattle.world_parts.proofs.Sharing.{holds_true}
 
-module _ (t : Trace) where
+module _ (t : Recording) where
   to_holds : (r f : Footprint) → Over always r f → Holds (replayed t) r f
   to_holds r f x = (λ a e. true_of _ (x.has a tt (holds_true _ e)), λ a e. true_of _ (x.writes a tt (holds_true _ e)))
 
@@ -56,6 +56,7 @@ module _ (t : Trace) where
 
     accepted_over : (s : World) (earlier : List Footprint) (x : Option Turn) → Over always ((look_of t k s x).items ++ extras_of t k s earlier x) (each (turn_uses t k s) x)
     accepted_over s earlier (Some (filled r b at new)) = over_first always (turn_uses t k s (filled r b at new)) [] _ (over_self always _)
+    accepted_over s earlier (Some (registered r slots)) = over_self always _
     accepted_over s earlier (Some (runs r e o)) = accepted_over_row t k r s o earlier
     accepted_over s earlier _ = over_nothing always _
 
@@ -78,6 +79,7 @@ module _ (t : Trace) where
 
     extras_thin : (s : World) (earlier thin : List Footprint) → Thinner (replayed t) thin earlier → (x : Option Turn) → Over always (extras_of t k s earlier x) (extras_of t k s thin x)
     extras_thin s earlier thin n (Some (runs r e o)) = over_both always (makes t k o) _ (makes t k o) _ (over_self always _) (room_thin_held t k r s earlier thin o (written_thin t all_descriptors thin earlier n))
+    extras_thin s earlier thin n (Some (registered r slots)) = over_self always _
     extras_thin s earlier thin n _ = over_nothing always _
 
     uses_agree : (s u : World) → AgreeOn (replayed t) (running_row t k s) s u → Agree (each (turn_uses t k s) (task t k)) s u
@@ -125,7 +127,7 @@ module _ (t : Trace) where
     look_bound (Some (runs r e o)) a h = true_of _ (taken_bound t k s w before r o a (holds_true _ h))
     look_bound _ a h = absurd (holds_true _ h)
 
-module _ (t : Trace) (starts : IsWorld (start t)) where
+module _ (t : Recording) (starts : IsWorld (start t)) where
   abbrev keeping : (k : ℕ) (s : World) → IsWorld s → Unused t k s → IsWorld (step_world t k s) × ((j : ℕ) → ¬ (j ≡ k) → Awaits t j s → Awaits t j (step_world t k s))
   keeping k s w n = steps_keep_worlds t k s (awaits t k s w n)
 

@@ -4,7 +4,7 @@ use mathlib.Core.Path.{ap, ◌∙◌}
 use Rattle.std.proofs.Common.{append_assoc}
 use Rattle.sqe_codec.specs.declared.errno.Errno.TheVariants.{ENOENT}
 use Rattle.sqe_codec.specs.Answers.{each}
-use Rattle.trace_format.specs.declared.trace.Trace.{Trace}
+use Rattle.recording.specs.declared.recording.Recording.{Recording}
 use Rattle.world_parts.specs.World.{World}
 use Rattle.world_parts.specs.Items.{description_at, one, reads, Footprint, Agree}
 use Rattle.op_meaning.specs.Site.{in_ring}
@@ -16,7 +16,7 @@ use Rattle.foot_print.specs.Footprint.{file_reads, path_reads, look_reads}
 use Rattle.foot_print.proofs.Agreement.{agree_left, agree_right, held_same, handle_same}
 use Rattle.foot_print.proofs.CoverWalk.{walk_same, path_reads_same}
 
-module _ (t : Trace) (r : ℕ) (s u : World) where
+module _ (t : Recording) (r : ℕ) (s u : World) where
   pub found_same : (l : Look) → Agree (look_reads (in_ring t r) s l) s u → found (in_ring t r) u l ≡ found (in_ring t r) s l
   found_same at_nothing a = refl
   found_same (at_file f) a = λ i. record { file = handle_same t s u r f a i; place = Err ENOENT; new_place = Err ENOENT }
@@ -35,7 +35,7 @@ pub behind_looks : (order known looks : Footprint) (uses : Found → Footprint) 
 behind_looks order known looks uses z y is finds = (λ i. is i ++ uses (finds i)) ∙ append_assoc order looks (uses y)
 
 -- What was found is right for the operation that looked.
-pub finds : (t : Trace) (r : ℕ) (s : World) (l : Look) (x : Lookup) → found_meant s x ≡ found (in_ring t r) s l → Finds (in_ring t r) s l x
+pub finds : (t : Recording) (r : ℕ) (s : World) (l : Look) (x : Lookup) → found_meant s x ≡ found (in_ring t r) s l → Finds (in_ring t r) s l x
 finds t r s at_nothing x e = tt
 finds t r s (at_file f) x e = ap (λ (z : Found). z.file) e
 finds t r s (at_path p) x e = ap (λ (z : Found). z.place) e

@@ -5,7 +5,7 @@ use Rattle.chain_plan.specs.declared.role.Role.{Role}
 use Rattle.chain_plan.specs.Chain.{role}
 use Rattle.sqe_codec.specs.declared.errno.Errno.{Errno}
 use Rattle.file_tree.specs.Tree.{Target}
-use Rattle.trace_format.specs.declared.trace.Trace.{Trace}
+use Rattle.recording.specs.declared.recording.Recording.{Recording}
 use Rattle.sqe_codec.specs.Answers.{each_ok}
 use Rattle.entry_checks.specs.Operation.{Operation, File, Span, Path, OpenFlags, at_position, in_slot}
 use Rattle.file_tree.specs.Walk.{Place, names_on}
@@ -14,11 +14,12 @@ use Rattle.world_parts.specs.Items.{Atom, chain_flag, descriptor_at, description
 use Rattle.world_parts.specs.Cutting.{is_narrow_use, is_narrow}
 use Rattle.op_meaning.specs.Site.{at_place, in_ring, sited}
 use Rattle.op_meaning.specs.Meaning.{meaning, made_node, span_start, Handle, held, allocation, Allocation, lowest_free, Found, found, shape}
-use Rattle.op_meaning.specs.Step.{Turn, runs, turn, ring_at}
+use Rattle.op_meaning.specs.Step.{Turn, registered, runs, turn, queue_at}
 use Rattle.foot_print.specs.Footprint.{moved_content, moved_uses, content_of, of_file, file_seen, look_reads, uses, opened_at, use_of, as_reads, Taken, tried, is_foreseen, held_item, file_reads, transfer_range, position_written, span_use, would_extend, allocation_uses, allocated_content, resized_content, path_reads, name_written, made_where, room_where, room_uses, description_made, open_uses, row_in, order_uses, turn_uses, directory_made, name_freed}
 use Rattle.op_meaning.specs.Shape.{Shape, idle, looking, moving, allocating, resizing, closing, opening, making, freeing, linking, renaming, Look, at_nothing, at_file, at_path, at_paths, look}
 use Rattle.foot_print.specs.Parts.{FootprintsAreNarrow}
 use Rattle.foot_print.proofs.Holding.{all_append, all_each, all_each_ok}
+use Rattle.foot_print.proofs.Registering.{registering_narrow}
 use Rattle.world_parts.proofs.Collision.{both, right, left}
 
 both_narrow : (f g : Footprint) → T (is_narrow f) → T (is_narrow g) → T (is_narrow (f ++ g))
@@ -29,10 +30,10 @@ reads_narrow [] h = tt
 reads_narrow (u ∷ f) h = both (is_narrow_use (reads u.item)) _ (let narrow = left (is_narrow_use u) _ h in grind arith) (reads_narrow f (right (is_narrow_use u) _ h))
 
 -- The slot or descriptor of a number, and what an operation has of an open file.
-held_narrow : (g : Item → Use) → ((a : Atom) → T (is_narrow_use (g (one a)))) → (t : Trace) (r : ℕ) (f : File) → T (is_narrow (map g (held_item (in_ring t r) f)))
+held_narrow : (g : Item → Use) → ((a : Atom) → T (is_narrow_use (g (one a)))) → (t : Recording) (r : ℕ) (f : File) → T (is_narrow (map g (held_item (in_ring t r) f)))
 held_narrow g h t r f = grind (arith, h)
 
-module _ (t : Trace) (s : World) (r : ℕ) where
+module _ (t : Recording) (s : World) (r : ℕ) where
   seen_narrow : (f : File) → T (is_narrow (file_seen (in_ring t r) s f))
   seen_narrow f = both_narrow (file_reads (in_ring t r) f) _ (held_narrow reads (λ a. tt) t r f) (all_each is_narrow_use (λ d. reads (one (description_at d)) ∷ []) (held (in_ring t r) s f) (λ d. tt))
 
@@ -114,8 +115,9 @@ order_narrow : (r : ℕ) (c : Role) → T (is_narrow (order_uses r c))
 order_narrow r c = elim (leb 2 c.length) as (λ b. T (is_narrow (cond b (writes (one (chain_flag c.chain)) ∷ []) []))) [ true ↦ tt | false ↦ tt ]
 
 pub all_narrow : FootprintsAreNarrow
-all_narrow t k s = both_narrow (order_uses (ring_at t k) (role t k)) _ (order_narrow (ring_at t k) (role t k)) (all_each is_narrow_use (turn_uses t k s) (turn t k s) by)
+all_narrow t k s = both_narrow (order_uses (queue_at t k) (role t k)) _ (order_narrow (queue_at t k) (role t k)) (all_each is_narrow_use (turn_uses t k s) (turn t k s) by)
   where
     by : (x : Turn) → T (is_narrow (turn_uses t k s x))
     by (runs r e o) = row_in_narrow t s r k o
+    by (registered r slots) = registering_narrow r slots
     by _ = tt

@@ -8,7 +8,7 @@ use mathlib.Core.Path.{sym, subst, ap, ◌∙◌}
 use Rattle.sqe_codec.specs.declared.errno.Errno.{Errno}
 use Rattle.sqe_codec.specs.declared.errno.Errno.TheVariants.{EBADF}
 use Rattle.trace_format.specs.declared.trace.Access.TheVariants.{Read}
-use Rattle.trace_format.specs.declared.trace.Trace.{Trace}
+use Rattle.recording.specs.declared.recording.Recording.{Recording}
 use Rattle.sqe_codec.specs.Answers.{◌>>=◌}
 use Rattle.entry_checks.specs.Operation.{File, file_limit}
 use Rattle.finite_maps.specs.Table.{get}
@@ -42,7 +42,7 @@ pub on_its_file : (s u : World) (c : ℕ → Handle → Footprint) (h : Handle) 
 on_its_file s u c h i a = subst (λ b. Agree (cond b (c h.opened.target.node h) []) s u) (true_of _ i) a
 
 -- A handle is of an open description.
-pub handle_opened : (t : Trace) (s : World) (r : ℕ) (f : File) (h : Handle) → handle (in_ring t r) s f ≡ Some h → opened s h.description ≡ Some h.opened
+pub handle_opened : (t : Recording) (s : World) (r : ℕ) (f : File) (h : Handle) → handle (in_ring t r) s f ≡ Some h → opened s h.description ≡ Some h.opened
 handle_opened t s r f h e = grind arith
 
 pub kind_of : (k : Option Kind) → T (is_directory k) → k ≡ Some a_directory
@@ -57,7 +57,7 @@ pub record IsSound (o : Opened) : Type 0 where
 abbrev pub AllSound : Option Handle → Type 0
 AllSound x = (h : Handle) → x ≡ Some h → IsSound h.opened
 
-pub handles_sound : (t : Trace) (s : World) (r : ℕ) (f : File) → IsWorld s → AllSound (handle (in_ring t r) s f)
+pub handles_sound : (t : Recording) (s : World) (r : ℕ) (f : File) → IsWorld s → AllSound (handle (in_ring t r) s f)
 handles_sound t s r f w h e =
     let o = handle_opened t s r f h e in
     record {
@@ -66,7 +66,7 @@ handles_sound t s r f w h e =
     }
 
 -- It is so too in what agrees with a world on what leads to it.
-pub handles_sound_too : (t : Trace) (s u : World) (r : ℕ) (f : File) → IsWorld s → Agree (file_seen (in_ring t r) s f) s u → AllSound (handle (in_ring t r) u f)
+pub handles_sound_too : (t : Recording) (s u : World) (r : ℕ) (f : File) → IsWorld s → Agree (file_seen (in_ring t r) s f) s u → AllSound (handle (in_ring t r) u f)
 handles_sound_too t s u r f w a h e = handles_sound t s r f w h (sym (handle_same t s u r f a) ∙ e)
 
 -- What can be written is a file.
@@ -81,7 +81,7 @@ sized_file : (x : Option Node) → T (is_some (option_map kind_of_node x)) → T
 sized_file x h k = grind arith
 
 -- What is written is a file that is there.
-pub file_there : (t : Trace) (s : World) (r : ℕ) (f : File) (h : Handle) → IsSound h.opened → handle (in_ring t r) s f ≡ Some h → T (can_write h.opened.access) → T (is_some (size s h.opened.target.node))
+pub file_there : (t : Recording) (s : World) (r : ℕ) (f : File) (h : Handle) → IsSound h.opened → handle (in_ring t r) s f ≡ Some h → T (can_write h.opened.access) → T (is_some (size s h.opened.target.node))
 file_there t s r f h sound e c =
     let same = handle_kind s h.description h.opened (handle_opened t s r f h e) in
     sized_file (get s.nodes h.opened.target.node) (subst (λ k. T (is_some k)) (sym same) (subst T (sym sound.is_there) tt)) (subst (λ k. T (not (is_directory k))) (sym same) (writable_is_file h sound c))

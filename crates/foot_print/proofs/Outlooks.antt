@@ -11,7 +11,7 @@ use Rattle.std.specs.Option.{option_map}
 use Rattle.sqe_codec.specs.Answers.{each}
 use Rattle.sqe_codec.specs.declared.errno.Errno.{Errno}
 use Rattle.trace_format.specs.declared.entry.Entry.{Entry}
-use Rattle.trace_format.specs.declared.trace.Trace.{Trace}
+use Rattle.recording.specs.declared.recording.Recording.{Recording}
 use Rattle.entry_checks.specs.Operation.{Operation}
 use Rattle.chain_plan.specs.declared.role.Role.{Role}
 use Rattle.chain_plan.specs.Chain.{role}
@@ -20,14 +20,16 @@ use Rattle.world_parts.specs.World.{World, Broken, broken}
 use Rattle.foot_print.specs.Footprint.{look_reads, order_uses, row_in, turn_uses}
 use Rattle.op_meaning.specs.Site.{in_ring, sited}
 use Rattle.op_meaning.specs.Shape.{Shape, look}
-use Rattle.op_meaning.specs.Step.{Turn, filled, refused, canceled, runs, posts, running_turn, turn_under, ring_at}
+use Rattle.op_meaning.specs.Step.{Turn, filled, registered, refused, canceled, runs, posts, running_turn, turn_under, ring_at}
+use Rattle.recording.specs.Rings.{queue_of}
+use Rattle.trace_records.specs.declared.record.FullSlot.{FullSlot}
 use Rattle.op_meaning.proofs.Turns.{by_flag, under_flag}
 use Rattle.foot_print.specs.Reach.{is_canceled, look_of, order_of, seen, task, running_row}
 use Rattle.foot_print.specs.Foreseen.{meets_written, may_run, unresolved_given, decided_given, operation_given, reach_given, member_given, member_runs}
 use Rattle.foot_print.specs.Outlook.{takes_lowest, turn_takes_lowest, IsFirstWritten, WaitsBy, items_awaited, IsOutlook, Awaits, AwaitsAsOperation, MemberAwaits}
 use Rattle.foot_print.specs.declared.reaching.Awaited.TheVariants.{Items, Reach}
 use Rattle.foot_print.specs.declared.reaching.Outlook.{Outlook}
-use Rattle.foot_print.proofs.Given.{filled_given, member_is_given, refused_given}
+use Rattle.foot_print.proofs.Given.{filled_given, member_is_given, refused_given, registered_given}
 
 -- the first of some items that is written
 module _ (w : Item → Bool) where
@@ -67,7 +69,7 @@ module _ (w : Item → Bool) where
   some_from m n f e = grind (arith, first_from, in_right, either_left)
 
 -- what a place that may run an operation awaits, and its may-access set
-module _ (order : Footprint) (t : Trace) (k r : ℕ) (s : World) (w : Item → Bool) (p : Operation) (x : Shape) (shaped : x ≡ shape p) (d : Footprint) (looked : d ≡ look_reads (in_ring t r) s (look x)) where
+module _ (order : Footprint) (t : Recording) (k r : ℕ) (s : World) (w : Item → Bool) (p : Operation) (x : Shape) (shaped : x ≡ shape p) (d : Footprint) (looked : d ≡ look_reads (in_ring t r) s (look x)) where
   told_by : d ≡ seen (in_ring t r) s p
   told_by = looked ∙ ap (λ y. look_reads (in_ring t r) s (look y)) shaped
 
@@ -98,7 +100,7 @@ module _ (order : Footprint) (t : Trace) (k r : ℕ) (s : World) (w : Item → B
         }
     decided_awaits (Err e) _ l = tt
 
-module _ (t : Trace) (k : ℕ) (s : World) (w : Item → Bool) (o : Outlook) where
+module _ (t : Recording) (k : ℕ) (s : World) (w : Item → Bool) (o : Outlook) where
   -- the items that are awaited, by the place's task and its turn
   abbrev awaits_at : Footprint → Bool → Option Turn → Option Turn → Type 0
   awaits_at order waits x y = Awaits w (look_of t k s x).deciding (order ++ each (turn_uses t k s) x) (if waits then true else (if is_canceled y then false else true)) (turn_takes_lowest x) o
@@ -130,6 +132,11 @@ module _ (t : Trace) (k : ℕ) (s : World) (w : Item → Bool) (o : Outlook) whe
       let row = order_of t k ++ turn_uses t k s (filled r b at new) in
       at_task (filled r b at new) is (ap (λ o. o.reach) e ∙ filled_given t k s w r b at new is) (settled row _ (subst (Awaits w [] row true false) (sym e) (record { by = inr (refl, refl); told = refl; lowest = refl })))
 
+  pub registered_outlook : (r : ℕ) (slots : List FullSlot) → Some (registered r slots) ≡ task t k → o ≡ record { reach = order_of t k ++ turn_uses t k s (registered r slots); waits_by = Reach; takes_lowest = false } → IsOutlook t k s w o
+  registered_outlook r slots is e =
+      let row = order_of t k ++ turn_uses t k s (registered r slots) in
+      at_task (registered r slots) is (ap (λ o. o.reach) e ∙ registered_given t k s w r slots is) (settled row _ (subst (Awaits w [] row true false) (sym e) (record { by = inr (refl, refl); told = refl; lowest = refl })))
+
   pub refused_outlook : (x : Errno) (p : Bool) → Some (refused x p) ≡ task t k → o ≡ record { reach = order_of t k; waits_by = Reach; takes_lowest = false } → IsOutlook t k s w o
   refused_outlook x p is e =
       at_task (refused x p) is (ap (λ o. o.reach) e ∙ refused_given t k s w x p is)
@@ -140,8 +147,8 @@ module _ (t : Trace) (k : ℕ) (s : World) (w : Item → Bool) (o : Outlook) whe
       at_task (runs r x p) is (reach ∙ member_is_given t k s w r x p is) (running_at (order_of t k) _ r x (role t k) (broken s (role t k).chain) p awaits)
 
 -- the same, where that can be refused memory, by the ring and the role of the place
-pub members_outlook : {E : Type 0} (t : Trace) (k : ℕ) (s : World) (w : Item → Bool) (r : ℕ) (c : Role) (x : Entry) (p : Operation) → r ≡ ring_at t k → c ≡ role t k → Some (runs r x p) ≡ task t k → (o : Result Outlook E)
-    → IfOk o (λ o. o.reach ≡ member_given (sited t k r) s (order_uses r c) w c p) → IfOk o (MemberAwaits (sited t k r) s (order_uses r c) w c p) → IfOk o (IsOutlook t k s w)
+pub members_outlook : {E : Type 0} (t : Recording) (k : ℕ) (s : World) (w : Item → Bool) (r : ℕ) (c : Role) (x : Entry) (p : Operation) → r ≡ ring_at t k → c ≡ role t k → Some (runs r x p) ≡ task t k → (o : Result Outlook E)
+    → IfOk o (λ o. o.reach ≡ member_given (sited t k r) s (order_uses (queue_of t r) c) w c p) → IfOk o (MemberAwaits (sited t k r) s (order_uses (queue_of t r) c) w c p) → IfOk o (IsOutlook t k s w)
 members_outlook t k s w r c x p here own is (Ok o) reach awaits =
-    member_outlook t k s w o r x p is (reach ∙ (λ i. member_given (sited t k r) s (order_uses (here i) (own i)) w (own i) p)) (transport (λ i. MemberAwaits (sited t k r) s (order_uses (here i) (own i)) w (own i) p o) awaits)
+    member_outlook t k s w o r x p is (reach ∙ (λ i. member_given (sited t k r) s (order_uses (queue_of t (here i)) (own i)) w (own i) p)) (transport (λ i. MemberAwaits (sited t k r) s (order_uses (queue_of t (here i)) (own i)) w (own i) p o) awaits)
 members_outlook t k s w r c x p here own is (Err e) _ _ = tt

@@ -4,7 +4,7 @@ use Rattle.std.specs.Prelude.{◌≡◌, ℕ, ◌-◌, true, false, cond, [], �
 use Rattle.std.specs.Option.{option_map}
 use mathlib.Core.Logic.{inl, inr}
 use mathlib.Core.Path.{sym, subst, ap, ◌∙◌}
-use Rattle.trace_format.specs.declared.trace.Trace.{Trace}
+use Rattle.recording.specs.declared.recording.Recording.{Recording}
 use Rattle.file_tree.specs.Tree.{kind_of_node}
 use Rattle.finite_maps.specs.Table.{get}
 use Rattle.world_parts.specs.World.{World, IsWorld, kind, opened, opened_by, zero_bytes, write_buffer, apply_all}
@@ -30,7 +30,7 @@ shown P x y (inl e) h = subst (λ z. IfSome z P) (sym e) tt
 shown P x y (inr e) h = subst (λ z. IfSome z P) (sym e) h
 
 -- What a place makes is unused in each part of a world that awaits it.
-pub part_unused : (t : Trace) (k : ℕ) (s part : World) (f : Footprint) → Unused t k s → IsPartOf s f part → Unused t k part
+pub part_unused : (t : Recording) (k : ℕ) (s part : World) (f : Footprint) → Unused t k s → IsPartOf s f part → Unused t k part
 part_unused t k s part f w is = record {
   no_node = nothing kind_of_node (get part.nodes i) (hidden (kind part i) (kind s i) (is.nodes i) (ap (option_map kind_of_node) w.no_node));
   no_description = nothing (opened_by part) (get part.descriptions d) (hidden (opened part d) (opened s d) (is.descriptions d) (ap (option_map (opened_by s)) w.no_description));

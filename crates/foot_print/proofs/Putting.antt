@@ -4,7 +4,7 @@ use Rattle.std.specs.List.{list_all}
 use mathlib.Core.Path.{sym, subst, ◌∙◌}
 use lib.Dec.{eqb_refl}
 use Rattle.interleaving.specs.Gather.{in_order, replies_in_order}
-use Rattle.trace_format.specs.declared.trace.Trace.{Trace}
+use Rattle.recording.specs.declared.recording.Recording.{Recording}
 use Rattle.world_parts.specs.World.{World, IsWorld}
 use Rattle.world_parts.specs.Items.{Atom, value, Footprint, has_atom, collide}
 use Rattle.world_parts.specs.Part.{Part}
@@ -26,7 +26,7 @@ all_holes_keep : (fs : List Footprint) (s : World) → IsWorld s → IsWorld (ho
 all_holes_keep [] s w = w
 all_holes_keep (f ∷ fs) s w = all_holes_keep fs (holed f s) (holes_keep f s w)
 
-module _ (t : Trace) (s u : World) (p : Part) (ready : IsReady t s u p) where
+module _ (t : Recording) (s u : World) (p : Part) (ready : IsReady t s u p) where
   abbrev f : Footprint
   f = footprint t p.place s
 
@@ -82,7 +82,7 @@ put_is_step t s u p others r =
       others_ready = others_still t s u p r.0 others r.1 r.2;
     }
 
-module _ (t : Trace) (s : World) where
+module _ (t : Recording) (s : World) where
   world_after : (u w x : World) (ps : List Part) → AreReady t s u ps → w ≡ holed_by (footprints t s ps) u → PutsAll t s w ps x → x ≡ in_order (replayed t) u (places ps)
   world_after u w x [] r e none_left = e
   world_after u w x (p ∷ ps) r e (then_put {v = v} h hs) =
@@ -99,6 +99,6 @@ pub round_is_steps : RoundIsSteps
 round_is_steps t s after ps r h = record { world = world_after t s s _ after ps r refl h; replies = replies_after t s s ps r }
 
 -- One part more is ready, behind those that are.
-pub ready_more : (t : Trace) (s u : World) (ps : List Part) (q : Part) → AreReady t s u ps → T (list_all (λ p. are_apart t s p q) ps) → IsReady t s u q → AreReady t s u (ps ++ q ∷ [])
+pub ready_more : (t : Recording) (s u : World) (ps : List Part) (q : Part) → AreReady t s u ps → T (list_all (λ p. are_apart t s p q) ps) → IsReady t s u q → AreReady t s u (ps ++ q ∷ [])
 ready_more t s u [] q r h k = (k, tt, tt)
 ready_more t s u (p ∷ ps) q r h k = (r.0, all_append (are_apart t s p) ps (q ∷ []) r.1 (both (are_apart t s p q) _ (left (are_apart t s p q) _ h) tt), ready_more t s u ps q r.2 (right (are_apart t s p q) _ h) k)

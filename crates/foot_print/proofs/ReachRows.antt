@@ -5,7 +5,7 @@ use Rattle.std.proofs.Common.{subst}
 use Rattle.std.proofs.lemmas.List.{append-nil}
 use mathlib.Core.Path.{sym}
 use Rattle.interleaving.specs.Rows.{foot_by_rows}
-use Rattle.trace_format.specs.declared.trace.Trace.{Trace}
+use Rattle.recording.specs.declared.recording.Recording.{Recording}
 use Rattle.trace_format.specs.declared.entry.Entry.{Entry}
 use Rattle.chain_plan.specs.declared.role.Role.{Role}
 use Rattle.chain_plan.specs.Chain.{role}
@@ -19,10 +19,10 @@ use Rattle.foot_print.specs.Reach.{task, is_canceled, order_of}
 use Rattle.foot_print.specs.Replayed.{replayed, rows}
 
 -- Under any flag a place is canceled, or does what it would do if its chain weren't broken.
-abbrev pub uses_as : Trace → ℕ → World → Option Turn → Option Turn → Type 0
+abbrev pub uses_as : Recording → ℕ → World → Option Turn → Option Turn → Type 0
 uses_as t k s x y = order_of t k ++ each (turn_uses t k s) x ≡ cond (is_canceled x) (order_of t k) (order_of t k ++ each (turn_uses t k s) y)
 
-module _ (t : Trace) (k : ℕ) (s : World) where
+module _ (t : Recording) (k : ℕ) (s : World) where
   running_as : (r : ℕ) (e : Entry) (c : Role) (b : Option Broken) (o : Operation) → uses_as t k s (Some (running_turn r e c b o)) (Some (runs r e o))
   running_as r e c None o = refl
   running_as r e c (Some f) o =

@@ -2,7 +2,7 @@
 use Rattle.std.specs.Prelude.{◌≡◌, ℕ, T, ◌++◌, Option, Some, refl}
 use mathlib.Core.Path.{sym, subst, ap, ◌∙◌}
 use Rattle.op_meaning.specs.Site.{sited}
-use Rattle.trace_format.specs.declared.trace.Trace.{Trace}
+use Rattle.recording.specs.declared.recording.Recording.{Recording}
 use Rattle.sqe_codec.specs.Answers.{each}
 use Rattle.entry_checks.specs.Operation.{Operation, nop}
 use Rattle.finite_maps.specs.Table.{empty}
@@ -18,7 +18,7 @@ use Rattle.foot_print.specs.Reach.{task, order_of, running_row}
 abbrev unbroken : World → World
 unbroken s = record s { broken = empty }
 
-module _ (t : Trace) (k : ℕ) where
+module _ (t : Recording) (k : ℕ) where
   row_unbroken : (r : ℕ) (s : World) (o : Operation) → row_in (sited t k r) (unbroken s) o ≡ row_in (sited t k r) s o
   row_unbroken r s nop = refl
   row_unbroken r s _ = refl

@@ -3,7 +3,7 @@ use native.Mathlib.Omega.{arith}
 use Rattle.std.specs.Prelude.{ℕ, Bool, true, false, cond, not, ◌&&◌, ◌||◌, ◌==◌, ◌+◌, T, List, [], ◌∷◌, ◌++◌, Option, Some, None, Result, Ok, Err, is_ok}
 use mathlib.Core.Path.{subst}
 use Rattle.sqe_codec.specs.declared.errno.Errno.{Errno}
-use Rattle.trace_format.specs.declared.trace.Trace.{Trace}
+use Rattle.recording.specs.declared.recording.Recording.{Recording}
 use Rattle.sqe_codec.specs.Answers.{each, each_ok}
 use Rattle.entry_checks.specs.Operation.{Operation, Path, OpenFlags, at_position, file_limit}
 use Rattle.world_parts.specs.World.{World}
@@ -18,7 +18,7 @@ use Rattle.foot_print.specs.Reach.{written_by, shape_makes, shape_asked, room_at
 use Rattle.world_parts.proofs.Collision.{same_atom-eq}
 use Rattle.foot_print.proofs.Holding.{Over, always, drop_false, over_self, over_nothing, over_trans, over_all, over_first, over_second, over_both, over_written, over_reads, over_taken, over_content}
 
-module _ (t : Trace) (k r : ℕ) (s : World) where
+module _ (t : Recording) (k r : ℕ) (s : World) where
   abbrev shape_room : List Footprint → Shape → Footprint
   shape_room earlier x = each (room_at (in_ring t r) s (written_by earlier)) (shape_asked x)
 

@@ -3,7 +3,7 @@ use native.Mathlib.Omega.{arith}
 use Rattle.std.specs.Prelude.{◌≡◌, ℕ, Bool, true, false, cond, length, T, List, [], ◌∷◌, ◌++◌, Option, Some, None, refl, is_ok, is_none}
 use Rattle.std.specs.List.{find, range_with_len}
 use mathlib.Core.Path.{sym, subst, ap, fun_ext, ◌∙◌}
-use Rattle.trace_format.specs.declared.trace.Trace.{Trace}
+use Rattle.recording.specs.declared.recording.Recording.{Recording}
 use Rattle.sqe_codec.specs.Answers.{each}
 use Rattle.entry_checks.specs.Operation.{Operation}
 use Rattle.world_parts.specs.World.{World, descriptor}
@@ -22,7 +22,7 @@ abbrev IsLowest : Option (Option ℕ) → Type 0
 IsLowest (Some None) = Unit {0}
 IsLowest _ = ⊥
 
-module _ (t : Trace) (r : ℕ) (s u : World) where
+module _ (t : Recording) (r : ℕ) (s u : World) where
   pub seen_same : (o : Operation) → Agree (seen (in_ring t r) s o) s u → seen (in_ring t r) u o ≡ seen (in_ring t r) s o
   seen_same o = looks_same t r s u (look (shape o))
 
@@ -53,7 +53,7 @@ module _ (t : Trace) (r : ℕ) (s u : World) where
   pub room_same : (earlier : List Footprint) (o : Operation) → (written_by earlier all_descriptors ≡ false → (n : ℕ) → descriptor s n ≡ descriptor u n) → room_taken (in_ring t r) u earlier o ≡ room_taken (in_ring t r) s earlier o
   room_same earlier o h = grind (arith, room_at_same)
 
-module _ (t : Trace) (k r : ℕ) (s : World) where
+module _ (t : Recording) (k r : ℕ) (s : World) where
   in_uses : (b : Bool) (f : Footprint) (a : Atom) → T (has_atom f a) → T (has_atom (cond b f (as_reads f)) a)
   in_uses b f a h = grind (arith, has_atom-as_reads f a)
 

@@ -4,7 +4,7 @@ use Rattle.std.specs.Prelude.{ℕ, Bool, true, false, cond, not, ◌&&◌, ◌||
 use Rattle.std.specs.List.{list_all}
 use mathlib.Core.Path.{subst}
 use Rattle.sqe_codec.specs.declared.errno.Errno.{Errno}
-use Rattle.trace_format.specs.declared.trace.Trace.{Trace}
+use Rattle.recording.specs.declared.recording.Recording.{Recording}
 use Rattle.sqe_codec.specs.Answers.{each_ok}
 use Rattle.entry_checks.specs.Operation.{Operation, File, Path, OpenFlags, file_limit, at_position}
 use Rattle.world_parts.specs.World.{World}
@@ -39,7 +39,7 @@ is_name_use u = sort u.item
     sort (one (names_in d)) = true
     sort _ = false
 
-module _ (t : Trace) (k : ℕ) where
+module _ (t : Recording) (k : ℕ) where
   abbrev earlier : Atom → Bool
   earlier = is_earlier t k
 

@@ -1,5 +1,5 @@
--- A trace that some bytes spell starts in a world.
-use Rattle.std.specs.Prelude.{◌≡◌, ℕ, negsuc, zero, suc, Bool, true, false, cond, not, ◌||◌, ◌==◌, ◌+◌, ◌-◌, ◌≤◌, ◌<◌, ◌⊎◌, T, List, [], ◌∷◌, ◌++◌, length, Option, Some, None, Result, Ok, Err, is_some, refl, IfSome}
+-- A recording that is accepted starts in a world.
+use Rattle.std.specs.Prelude.{◌≡◌, ℕ, negsuc, zero, suc, Bool, true, false, cond, not, ◌||◌, ◌==◌, ◌+◌, ◌-◌, ◌≤◌, ◌<◌, ◌⊎◌, T, List, [], ◌∷◌, ◌++◌, map, length, Option, Some, None, Result, Ok, Err, is_some, refl, IfSome}
 use Rattle.std.specs.List.{All, slice_get}
 use Rattle.std.specs.Option.{option_map, option_and_then}
 use Rattle.std.specs.Ordering.{nat_cmp, eq_by_cmp}
@@ -17,22 +17,22 @@ use Rattle.sqe_codec.specs.declared.errno.Errno.{Errno}
 use Rattle.sqe_codec.specs.declared.errno.Errno.TheVariants.{EBADF, ENAMETOOLONG}
 use Rattle.sqe_codec.specs.Answers.{◌>>=◌, ◌>>◌, require}
 use Rattle.trace_format.specs.declared.trace.Access.{Access}
-use Rattle.trace_format.specs.declared.trace.Item.{Item}
-use Rattle.trace_format.specs.declared.trace.Node.{Node as InitialNode}
-use Rattle.trace_format.specs.declared.trace.Node.TheVariants.{Directory, File, OtherName}
-use Rattle.trace_format.specs.declared.trace.Ring.{Ring}
-use Rattle.trace_format.specs.declared.trace.Trace.{Trace}
-use Rattle.trace_format.specs.Paths.{components, is_directory, is_file}
-use Rattle.trace_format.specs.Sound.{NodeFits, DescriptionFits, IsSoundTrace}
-use Rattle.trace_format.specs.Text.{IsSpelled, is_item, is_node, is_directory_number}
-use Rattle.trace_format.proofs.Sound.{spelled_sound}
+use Rattle.trace_records.specs.declared.start.Item.{Item}
+use Rattle.trace_records.specs.declared.start.Node.{Node as InitialNode}
+use Rattle.trace_records.specs.declared.start.Node.TheVariants.{Directory, File, OtherName}
+use Rattle.trace_records.specs.declared.start.Range.{Range}
+use Rattle.recording.specs.declared.recording.Ring.{Ring}
+use Rattle.recording.specs.declared.recording.Recording.{Recording}
+use Rattle.trace_format.specs.Paths.{components}
+use Rattle.trace_records.specs.Start.{is_directory, is_file, is_item, is_node, is_directory_number, range_end}
+use Rattle.recording.specs.Accepted.{NodeFits, DescriptionFits, IsAccepted}
 use Rattle.entry_checks.specs.Operation.{Path, file_limit}
 use Rattle.finite_maps.specs.Table.{Table, empty, get, insert, get-insert, number_keys, pair_keys, pair_cmp}
 use Rattle.file_tree.specs.Tree.{Node, a_directory, a_file, Names, Target, target, IsTree, Above, names_it, one_below, kind_of_node, names_of_node, others_of_node, bytes_of_node}
 use Rattle.file_tree.specs.Walk.{Place, walk_from, directory_at, fits_name, starts_at_root, is_directory as is_directory_kind}
 use Rattle.extent_bytes.specs.Bytes.{resized, overwritten}
-use Rattle.world_parts.specs.World.{World, IsWorld, Description, kind, name, size, opened, opened_by, Opened, slot, descriptor, apply, apply_all, make_node, set_name, set_size, write_bytes}
-use Rattle.world_parts.specs.Start.{start, bare, name_at, with_node, with_items, descriptions_from, slots_from, ring_slots, descriptors_from}
+use Rattle.world_parts.specs.World.{World, IsWorld, Description, kind, name, size, opened, opened_by, Opened, slot, descriptor, Change, apply, apply_all, make_node, set_name, set_size}
+use Rattle.world_parts.specs.Start.{start, bare, name_at, range_written, with_node, with_items, descriptions_from, slots_from, ring_slots, descriptors_from}
 use Rattle.world_parts.proofs.Changes.{rewriting-kind}
 use Rattle.world_parts.proofs.ChangesOfNames.{naming-kind}
 use Rattle.world_parts.proofs.ChangesOfMaking.{Unused, making-kind, made-kind, making-name}
@@ -41,7 +41,7 @@ use Rattle.world_parts.proofs.KeepWorld.{sound, is_world, naming_sound, making_s
 use Rattle.foot_print.proofs.Awaiting.{unused_number, nothing}
 use Rattle.foot_print.proofs.Beginning.{above_bare}
 use Rattle.foot_print.proofs.KeepNames.{parent_there, named_tree, made_and_named}
-use Rattle.foot_print.proofs.KeepContents.{contents_leave}
+use Rattle.foot_print.proofs.KeepContents.{AllOfContents, contents_leave}
 
 -- ---- the root alone
 
@@ -139,24 +139,37 @@ directory_named s path i w u = by (walk_from after.nodes 0 (components path)) re
 
 -- ---- one item
 
--- The world with a file that is made, of a size and with stored bytes.
-abbrev with_file : World → ℕ → ℕ → List ℕ → World
-with_file s i size stored = apply_all (make_node i a_file ∷ write_bytes i 0 stored ∷ set_size i size ∷ []) s
+-- What is written into a file that is made: its ranges, and then its size.
+abbrev contents : ℕ → ℕ → List Range → List Change
+contents i size ranges = map (range_written i) ranges ++ set_size i size ∷ []
 
--- Its bytes leave the kinds that making it gave.
-file_kinds : (s : World) (i size : ℕ) (stored : List ℕ) (j : ℕ) → kind (with_file s i size stored) j ≡ kind (apply (make_node i a_file) s) j
-file_kinds s i size stored j =
-    let made = apply (make_node i a_file) s in
-    rewriting-kind (λ bs. resized bs size) (apply (write_bytes i 0 stored) made) i j ∙ rewriting-kind (λ bs. overwritten bs 0 stored) made i j
+-- The world with a file that is made, of a size and with ranges of bytes.
+abbrev with_file : World → ℕ → ℕ → List Range → World
+with_file s i size ranges = apply_all (make_node i a_file ∷ contents i size ranges) s
+
+-- Its bytes leave the kinds.
+contents_kinds : (s : World) (i size : ℕ) (ranges : List Range) (j : ℕ) → kind (apply_all (contents i size ranges) s) j ≡ kind s j
+contents_kinds s i size [] j = rewriting-kind (λ bs. resized bs size) s i j
+contents_kinds s i size (r ∷ ranges) j = contents_kinds (apply (range_written i r) s) i size ranges j ∙ rewriting-kind (λ bs. overwritten bs r.offset r.bytes) s i j
+
+-- So they leave those that making it gave.
+file_kinds : (s : World) (i size : ℕ) (ranges : List Range) (j : ℕ) → kind (with_file s i size ranges) j ≡ kind (apply (make_node i a_file) s) j
+file_kinds s i size ranges j = contents_kinds (apply (make_node i a_file) s) i size ranges j
+
+-- The ranges end within the size, and so within the largest.
+contents_fit : (i size : ℕ) (ranges : List Range) → All (λ (r : Range). range_end r ≤ size) ranges → size ≤ file_limit → AllOfContents (contents i size ranges)
+contents_fit i size [] fits limit = (limit, tt)
+contents_fit i size (r ∷ ranges) fits limit =
+    let P : Range → Type 0 = λ r. range_end r ≤ size in
+    let room = All-head P r ranges fits in
+    (omega (arith, room, limit), contents_fit i size ranges (All-tail P r ranges fits) limit)
 
 -- A file that is made leaves a world.
-file_made : (t : Trace) (s : World) (i size : ℕ) (stored : List ℕ) → IsWorld s → Unused s i → (length stored ≤ size) × (size ≤ file_limit) → IsWorld (with_file s i size stored)
-file_made t s i size stored w u fits =
+file_made : (t : Recording) (s : World) (i size : ℕ) (ranges : List Range) → IsWorld s → Unused s i → All (λ (r : Range). range_end r ≤ size) ranges × (size ≤ file_limit) → IsWorld (with_file s i size ranges)
+file_made t s i size ranges w u fits =
     let made = apply (make_node i a_file) s in
-    let room = fits.0 in
-    let limit = fits.1 in
     let world = is_world made (subst IsTree (λ z d n. sym (making-name s i a_file u d n) z) w.tree) (making_sound s i a_file u (sound s w)) in
-    (contents_leave t 0 made (write_bytes i 0 stored ∷ set_size i size ∷ []) (omega (arith, room, limit), (limit, tt)) world).0
+    (contents_leave t 0 made (contents i size ranges) (contents_fit i size ranges fits.0 fits.1) world).0
 
 -- A number that leads to no node is unused in a world.
 unused_there : (s : World) (i : ℕ) → IsWorld s → kind s i ≡ None → Unused s i
@@ -165,7 +178,7 @@ unused_there s i w h = unused_number s i w (nothing kind_of_node (get s.nodes i)
 -- What the number of an item leads to.
 abbrev IsMade : World → ℕ → InitialNode → Type 0
 IsMade s i Directory = kind s i ≡ Some a_directory
-IsMade s i (File size stored) = kind s i ≡ Some a_file
+IsMade s i (File size ranges) = kind s i ≡ Some a_file
 IsMade s i (OtherName j) = Unit {0}
 
 -- A world of the items so far, whose numbers start at 1; no later number leads to a node.
@@ -203,13 +216,13 @@ file_there s i y h m = grind arith
 -- One more item leaves the kinds of the other numbers.
 item_kinds : (s : World) (i : ℕ) (path : List ℕ) (x : InitialNode) (j : ℕ) → ¬ (j ≡ i) → kind (with_node s i path x) j ≡ kind s j
 item_kinds s i path Directory j h = naming_kinds (apply (make_node i a_directory) s) path i j ∙ making-kind s i a_directory j h
-item_kinds s i path (File size stored) j h = naming_kinds (with_file s i size stored) path i j ∙ file_kinds s i size stored j ∙ making-kind s i a_file j h
+item_kinds s i path (File size ranges) j h = naming_kinds (with_file s i size ranges) path i j ∙ file_kinds s i size ranges j ∙ making-kind s i a_file j h
 item_kinds s i path (OtherName k) j h = naming_kinds s path k j
 
 -- One more item makes what it says.
 item_made : (s : World) (i : ℕ) (path : List ℕ) (x : InitialNode) → IsMade (with_node s i path x) i x
 item_made s i path Directory = naming_kinds (apply (make_node i a_directory) s) path i i ∙ made-kind s i a_directory
-item_made s i path (File size stored) = naming_kinds (with_file s i size stored) path i i ∙ file_kinds s i size stored i ∙ made-kind s i a_file
+item_made s i path (File size ranges) = naming_kinds (with_file s i size ranges) path i i ∙ file_kinds s i size ranges i ∙ made-kind s i a_file
 item_made s i path (OtherName k) = tt
 
 -- What an item made stays made where the kind stays.
@@ -217,10 +230,10 @@ still_made : (s u : World) (i : ℕ) (y : InitialNode) → kind u i ≡ kind s i
 still_made s u i y e m = grind arith
 
 -- One more item that fits those before it leaves a world.
-item_world : (t : Trace) (s : World) (earlier : List Item) (i : ℕ) (path : List ℕ) (x : InitialNode) → IsSoFar s earlier → length earlier < i → NodeFits earlier x → IsWorld (with_node s i path x)
+item_world : (t : Recording) (s : World) (earlier : List Item) (i : ℕ) (path : List ℕ) (x : InitialNode) → IsSoFar s earlier → length earlier < i → NodeFits earlier x → IsWorld (with_node s i path x)
 item_world t s earlier i path Directory so later fits = directory_named s path i so.is_world (unused_there s i so.is_world (so.unmade i later))
-item_world t s earlier i path (File size stored) so later fits =
-    file_named (with_file s i size stored) path i (file_made t s i size stored so.is_world (unused_there s i so.is_world (so.unmade i later)) fits) (file_kinds s i size stored i ∙ made-kind s i a_file)
+item_world t s earlier i path (File size ranges) so later fits =
+    file_named (with_file s i size ranges) path i (file_made t s i size ranges so.is_world (unused_there s i so.is_world (so.unmade i later)) fits) (file_kinds s i size ranges i ∙ made-kind s i a_file)
 item_world t s earlier i path (OtherName j) so later fits =
     let f = found_item is_file earlier j fits in
     file_named s path j so.is_world (file_there s j f.x.node f.passes (found_made s is_file earlier j so f))
@@ -233,7 +246,7 @@ last_or_earlier (z ∷ xs) x zero y h = inl h
 last_or_earlier (z ∷ xs) x (suc k) y h = elim (last_or_earlier xs x k y h) [ inl a ↦ inl a | inr b ↦ inr (ap suc b.0, b.1) ]
 
 -- One more item that fits those before it leaves a world of the items so far.
-item_so_far : (t : Trace) (s : World) (earlier : List Item) (x : Item) (i : ℕ) → i ≡ suc (length earlier) → IsSoFar s earlier → NodeFits earlier x.node → IsSoFar (with_node s i x.path x.node) (earlier ++ x ∷ [])
+item_so_far : (t : Recording) (s : World) (earlier : List Item) (x : Item) (i : ℕ) → i ≡ suc (length earlier) → IsSoFar s earlier → NodeFits earlier x.node → IsSoFar (with_node s i x.path x.node) (earlier ++ x ∷ [])
 item_so_far t s earlier x i here so fits = record {
   is_world = item_world t s earlier i x.path x.node so (omega (arith, here)) fits;
   made = λ k y h. elim (last_or_earlier earlier x k y h) [
@@ -253,7 +266,7 @@ abbrev AllFit : List Item → Type 0
 AllFit items = (before after : List Item) (x : Item) → items ≡ before ++ x ∷ after → NodeFits before x.node
 
 -- Items that fit, each after those before it, leave a world of them all.
-items_so_far : (t : Trace) (items : List Item) → AllFit items → (rest earlier : List Item) (s : World) (i : ℕ) → items ≡ earlier ++ rest → i ≡ suc (length earlier) → IsSoFar s earlier → IsSoFar (with_items s i rest) items
+items_so_far : (t : Recording) (items : List Item) → AllFit items → (rest earlier : List Item) (s : World) (i : ℕ) → items ≡ earlier ++ rest → i ≡ suc (length earlier) → IsSoFar s earlier → IsSoFar (with_items s i rest) items
 items_so_far t items fit [] earlier s i e here so = subst (IsSoFar s) (sym (e ∙ append-nil earlier)) so
 items_so_far t items fit (x ∷ rest) earlier s i e here so =
     items_so_far t items fit rest (earlier ++ x ∷ []) (with_node s i x.path x.node) (suc i) (e ∙ sym (append_assoc earlier (x ∷ []) rest)) (omega (arith, here, length_push earlier x))
@@ -344,31 +357,28 @@ number_of_directory s items number so h k = elim (or_cases (number == 0) _ h) [
 seen_opened : (s : World) (P : Description → Type 0) (Q : Opened → Type 0) → ((d : Description) → P d → Q (opened_by s d)) → (o : Option Description) → IfSome o P → IfSome (option_map (opened_by s) o) Q
 seen_opened s P Q f o h = grind arith
 
--- A trace that some bytes spell starts in a world.
-pub starts_in_world : (t : Trace) → IsSpelled t → IsWorld (start t)
-starts_in_world t spelled = record {
+-- A recording that is accepted starts in a world.
+pub starts_in_world : (t : Recording) → IsAccepted t → IsWorld (start t)
+starts_in_world t accepted = record {
   root = so.is_world.root;
   tree = so.is_world.tree;
   descriptions_lead = λ d. seen_opened (start t) (DescriptionFits t.items) (λ o. is_some o.target.kind ≡ true) (λ x f. number_leads items_in t.items x.node so f.leads) (get (start t).descriptions d) (described d);
-  slots_lead = λ r n. IfSome_then (slot (start t) r n) (each_ring_slot (length t.descriptions) 0 t.rings facts.slots (r, n)) there;
-  descriptors_lead = λ n. IfSome_then (descriptor (start t) n) (each_descriptor (length t.descriptions) 0 t.descriptors facts.descriptors n) there;
+  slots_lead = λ r n. IfSome_then (slot (start t) r n) (each_ring_slot (length t.descriptions) 0 t.rings accepted.slots (r, n)) there;
+  descriptors_lead = λ n. IfSome_then (descriptor (start t) n) (each_descriptor (length t.descriptions) 0 t.descriptors accepted.descriptors n) there;
   files_fit = so.is_world.files_fit;
   directories_are_read = λ d. seen_opened (start t) (DescriptionFits t.items) (λ o. o.target.kind ≡ Some a_directory → o.access ≡ Access.Read)
       (λ x f k. f.is_read (number_of_directory items_in t.items x.node so f.leads k)) (get (start t).descriptions d) (described d);
   all_shown = so.is_world.all_shown;
 }
   where
-    facts : IsSoundTrace t
-    facts = spelled_sound t spelled
-
     items_in : World
     items_in = with_items bare 1 t.items
 
     so : IsSoFar (with_items bare 1 t.items) t.items
-    so = items_so_far t t.items facts.nodes t.items [] bare 1 refl refl nothing_made
+    so = items_so_far t t.items accepted.nodes t.items [] bare 1 refl refl nothing_made
 
     described : (d : ℕ) → IfSome (get (descriptions_from 0 t.descriptions) d) (DescriptionFits t.items)
-    described d = each_description (DescriptionFits t.items) t.descriptions 0 facts.descriptions d
+    described d = each_description (DescriptionFits t.items) t.descriptions 0 accepted.descriptions d
 
     mapped : (o : Option Description) → is_some (option_map (opened_by (start t)) o) ≡ is_some o
     mapped o = grind arith

@@ -4,7 +4,7 @@ use Rattle.std.specs.Prelude.{◌≡◌, Bool, true, false, ◌&&◌, ◌||◌, 
 use Rattle.std.specs.List.{list_any}
 use mathlib.Core.Path.{subst}
 use Rattle.interleaving.specs.System.{System, NoneWrites, Thinner, Apart, Holds}
-use Rattle.trace_format.specs.declared.trace.Trace.{Trace}
+use Rattle.recording.specs.declared.recording.Recording.{Recording}
 use Rattle.world_parts.specs.Items.{Atom, Item, member_of, share, Use, Footprint, has_atom, writes_atom, collide}
 use Rattle.foot_print.specs.Reach.{written_by, is_met}
 use Rattle.foot_print.specs.Replayed.{replayed}
@@ -34,7 +34,7 @@ atom_of_writes x (u ∷ f) h =
 pub writes_of_atom : (x : Item) (f : Footprint) (a : Atom) → T (member_of x a) → T (writes_atom f a) → T (writes_some x f)
 writes_of_atom x f a m h = any_passes _ (λ (u : Use). u.written && share u.item x) (λ (u : Use) w. both u.written _ (left u.written _ w) (member-share u.item x a (right u.written _ w) m)) f h
 
-module _ (t : Trace) where
+module _ (t : Recording) where
   m : System
   m = replayed t
 

@@ -1,7 +1,11 @@
 -- The model: what each place reads and writes, a row of uses for each operation.
 use Rattle.std.specs.Prelude.{ℕ, Bool, true, false, not, ◌&&◌, ◌||◌, ◌==◌, ltb, leb, ◌+◌, min, List, [], ◌∷◌, ◌++◌, map, length, Option, Some, None, Result, is_ok, if◌then◌else◌}
 use Rattle.chain_plan.specs.declared.role.Role.{Role}
-use Rattle.trace_format.specs.declared.trace.Trace.{Trace}
+use Rattle.recording.specs.declared.recording.Recording.{Recording}
+use Rattle.std.specs.List.{flat_map}
+use Rattle.trace_records.specs.declared.record.FullSlot.{FullSlot}
+use Rattle.trace_records.specs.declared.record.Holder.{Holder}
+use Rattle.trace_records.specs.declared.record.Holder.TheVariants.{Slot, Descriptor, Description}
 use Rattle.sqe_codec.specs.declared.errno.Errno.{Errno}
 use Rattle.sqe_codec.specs.Answers.{each, each_ok}
 use Rattle.entry_checks.specs.Operation.{Operation, File, in_slot, at_descriptor, Span, Path, OpenFlags, file_limit, at_position}
@@ -11,7 +15,7 @@ use Rattle.file_tree.specs.Tree.{Target}
 use Rattle.file_tree.specs.Walk.{Place, names_on, is_directory}
 use Rattle.op_meaning.specs.Meaning.{Site, meaning, made_node, made_description, slot_count, span_start, Handle, held, is_file, bytes_in, allocation, Allocation, extend, reserve, punch, zero_extend, zero_within, lowest_free, Found, found, shape}
 use Rattle.op_meaning.specs.Shape.{Shape, idle, looking, moving, allocating, resizing, closing, opening, making, freeing, linking, renaming, Look, at_nothing, at_file, at_path, at_paths, look}
-use Rattle.op_meaning.specs.Step.{Turn, filled, refused, canceled, runs, turn, ring_at}
+use Rattle.op_meaning.specs.Step.{Turn, filled, registered, refused, canceled, runs, turn, queue_at}
 use Rattle.world_parts.specs.Items.{chain_flag, ring_order, slot_at, descriptor_at, description_at, position_of, size_of, name_at, names_in, Item, one, file_bytes, buffer_bytes, all_descriptors, Use, reads, writes, Footprint}
 
 abbrev pub use_of : Bool → Item → Use
@@ -133,7 +137,7 @@ abbrev pub room_uses : Site → World → (asked : Option ℕ) → Footprint
 room_uses site s None = reads all_descriptors ∷ each (λ n. writes (one (descriptor_at n)) ∷ []) (lowest_free site.trace s)
 room_uses site s (Some n) = map writes (held_item site (in_slot n))
 
-abbrev pub description_made : (trace : Trace) (place : ℕ) → Footprint
+abbrev pub description_made : (trace : Recording) (place : ℕ) → Footprint
 description_made t k = writes (one (description_at (made_description t k))) ∷ writes (one (position_of (made_description t k))) ∷ []
 
 -- What openat writes at the name that it opens: the name where it may make a file, all of a file that it may cut.
@@ -201,17 +205,27 @@ uses_in site s o z =
 abbrev pub row_in : Site → World → Operation → Footprint
 row_in site s o = look_reads site s (look (shape o)) ++ uses_in site s o (found site s (look (shape o)))
 
--- Each place has its ring's order, written in a barrier, and in a chain of two or more its chain.
-abbrev pub order_uses : (ring : ℕ) → Role → Footprint
-order_uses r c = use_of c.barrier (one (ring_order r)) ∷ (if leb 2 c.length then writes (one (chain_flag c.chain)) ∷ [] else [])
+-- Each place has the order of its ring's queue, written in a barrier, and in a chain of two or more its chain.
+abbrev pub order_uses : (queue : ℕ) → Role → Footprint
+order_uses q c = use_of c.barrier (one (ring_order q)) ∷ (if leb 2 c.length then writes (one (chain_flag c.chain)) ∷ [] else [])
+
+-- What a slot of a new ring gets is read where it is held, and the slot is written.
+abbrev pub holder_item : Holder → Item
+holder_item (Slot ring number) = one (slot_at ring number)
+holder_item (Descriptor number) = one (descriptor_at number)
+holder_item (Description number) = one (description_at number)
+
+abbrev pub slot_uses : (ring : ℕ) → FullSlot → Footprint
+slot_uses r x = reads (holder_item x.holds) ∷ writes (one (slot_at r x.number)) ∷ []
 
 -- What a turn uses apart from the order; a refused or canceled place uses nothing.
-abbrev pub turn_uses : (trace : Trace) (place : ℕ) → World → Turn → Footprint
+abbrev pub turn_uses : (trace : Recording) (place : ℕ) → World → Turn → Footprint
 turn_uses t k s (filled r b at new) = writes (buffer_bytes r b at (at + length new)) ∷ []
+turn_uses t k s (registered r slots) = flat_map (slot_uses r) slots
 turn_uses t k s (refused e posted) = []
 turn_uses t k s (canceled posted) = []
 turn_uses t k s (runs r e o) = row_in (record { trace = t; place = k; ring = r }) s o
 
 -- The access set of a place in a world.
-abbrev pub footprint : (trace : Trace) (place : ℕ) → World → Footprint
-footprint t k s = order_uses (ring_at t k) (role t k) ++ each (turn_uses t k s) (turn t k s)
+abbrev pub footprint : (trace : Recording) (place : ℕ) → World → Footprint
+footprint t k s = order_uses (queue_at t k) (role t k) ++ each (turn_uses t k s) (turn t k s)

@@ -1,6 +1,6 @@
 -- A view of code: the may-access set of a place behind others, and the items by which it waits for them.
 use Rattle.std.specs.Prelude.{◌≡◌, ◌⊎◌, ℕ, Bool, true, false, ◌∷◌, ◌++◌, [], Option, Some, None, IfSome, is_some}
-use Rattle.trace_format.specs.declared.trace.Trace.{Trace}
+use Rattle.recording.specs.declared.recording.Recording.{Recording}
 use Rattle.chain_plan.specs.declared.role.Role.{Role}
 use Rattle.entry_checks.specs.Operation.{Operation, openat}
 use Rattle.world_parts.specs.World.{World, broken}
@@ -34,7 +34,7 @@ pub record IsFirstWritten (w : Item → Bool) (deciding f : Footprint) : Type 0 
   pub here : f ≡ known ++ first ∷ []
 
 -- The items by which a place that may run waits: those that decide its others, up to the first one that is written; else those of its row.
-pub record WaitsBy (t : Trace) (k : ℕ) (s : World) (w : Item → Bool) (f : Footprint) : Type 0 where
+pub record WaitsBy (t : Recording) (k : ℕ) (s : World) (w : Item → Bool) (f : Footprint) : Type 0 where
   pub runs : may_run t k s w ≡ true
   pub by : IsFirstWritten w (look_of t k s (task t k)).deciding f ⊎ ((meets_written w (look_of t k s (task t k)).deciding ≡ false) × (f ≡ running_row t k s))
 
@@ -45,7 +45,7 @@ items_awaited (Items g) f = Some g
 items_awaited Untold f = None
 
 -- The may-access set of a place, and the items by which it waits, which are told where it may run.
-pub record IsOutlook (t : Trace) (k : ℕ) (s : World) (w : Item → Bool) (o : Outlook) : Type 0 where
+pub record IsOutlook (t : Recording) (k : ℕ) (s : World) (w : Item → Bool) (o : Outlook) : Type 0 where
   pub reach : o.reach ≡ reach_given t k s w
   pub by : IfSome (items_awaited o.waits_by o.reach) (λ f. WaitsBy t k s w f)
   pub told : is_some (items_awaited o.waits_by o.reach) ≡ may_run t k s w

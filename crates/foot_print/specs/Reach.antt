@@ -1,13 +1,13 @@
 -- The model: what a place may use once earlier places that haven't finished have run.
 use Rattle.std.specs.Prelude.{ℕ, Bool, true, false, List, [], ◌∷◌, ◌++◌, Option, None, Some, if◌then◌else◌}
 use Rattle.std.specs.List.{list_any}
-use Rattle.trace_format.specs.declared.trace.Trace.{Trace}
+use Rattle.recording.specs.declared.recording.Recording.{Recording}
 use Rattle.sqe_codec.specs.Answers.{each}
 use Rattle.entry_checks.specs.Operation.{Operation, File, file_limit}
 use Rattle.chain_plan.specs.Chain.{role}
 use Rattle.world_parts.specs.World.{World}
 use Rattle.op_meaning.specs.Meaning.{Site, made_node, made_description, shape}
-use Rattle.op_meaning.specs.Step.{Turn, filled, canceled, runs, turn, turn_under, ring_at}
+use Rattle.op_meaning.specs.Step.{Turn, filled, registered, canceled, runs, turn, turn_under, queue_at}
 use Rattle.world_parts.specs.Items.{Item, file_bytes, chain_flag, size_of, names_in, one, all_names, all_bytes_and_sizes, all_positions, all_descriptions, all_descriptors, reads, writes, Footprint}
 pub use Rattle.item_index.specs.Touching.{written_by}
 use Rattle.foot_print.specs.Footprint.{foreseen, look_reads, shape_row, through, file_reads, room_uses, description_made, closing_uses, order_uses, turn_uses}
@@ -26,16 +26,16 @@ seen site s o = look_reads site s (look (shape o))
 abbrev pub taken : Site → World → Operation → Footprint
 taken site s o = shape_row site s foreseen (shape o)
 
-abbrev pub node_made : (trace : Trace) (place : ℕ) → Footprint
+abbrev pub node_made : (trace : Recording) (place : ℕ) → Footprint
 node_made t k = writes (one (size_of (made_node t k))) ∷ writes (file_bytes (made_node t k) 0 file_limit) ∷ writes (one (names_in (made_node t k))) ∷ []
 
 -- What an operation that may make a node or a description writes of their numbers.
-abbrev pub shape_makes : (trace : Trace) (place : ℕ) → Shape → Footprint
+abbrev pub shape_makes : (trace : Recording) (place : ℕ) → Shape → Footprint
 shape_makes t k (opening p g asked) = node_made t k ++ description_made t k
 shape_makes t k (making p) = node_made t k ++ description_made t k
 shape_makes t k _ = []
 
-abbrev pub makes : (trace : Trace) (place : ℕ) → Operation → Footprint
+abbrev pub makes : (trace : Recording) (place : ℕ) → Operation → Footprint
 makes t k o = shape_makes t k (shape o)
 
 -- The room for a description that an operation asks for, where it does: in a slot, or at any descriptor.
@@ -56,10 +56,10 @@ abbrev pub room_taken : Site → World → List Footprint → Operation → Foot
 room_taken site s earlier o = each (room_at site s (written_by earlier)) (room_asked o)
 
 -- All files and their descriptions, and all names, that are there at the start or are made before a place.
-abbrev pub all_files : (trace : Trace) (place : ℕ) → Footprint
+abbrev pub all_files : (trace : Recording) (place : ℕ) → Footprint
 all_files t k = writes (all_bytes_and_sizes (made_node t k)) ∷ writes (all_positions (made_description t k)) ∷ reads (all_descriptions (made_description t k)) ∷ []
 
-abbrev pub any_name : (trace : Trace) (place : ℕ) → Footprint
+abbrev pub any_name : (trace : Recording) (place : ℕ) → Footprint
 any_name t k = writes (all_names (made_node t k)) ∷ []
 
 abbrev pub unresolved_file : Site → File → Footprint
@@ -83,7 +83,7 @@ abbrev pub unresolved_row : Site → Operation → Footprint
 unresolved_row site o = unresolved_shape site (shape o)
 
 -- What a place would do if its chain weren't broken.
-abbrev pub task : (trace : Trace) (place : ℕ) → Option Turn
+abbrev pub task : (trace : Recording) (place : ℕ) → Option Turn
 task t k = turn_under t k None
 
 abbrev pub is_canceled : Option Turn → Bool
@@ -95,40 +95,41 @@ pub record LookedUp : Type 0 where
   pub deciding : Footprint
   pub items : Footprint
 
-abbrev pub look_of : (trace : Trace) (place : ℕ) → World → Option Turn → LookedUp
+abbrev pub look_of : (trace : Recording) (place : ℕ) → World → Option Turn → LookedUp
 look_of t k s (Some (runs r e o)) = record { deciding = seen (record { trace = t; place = k; ring = r }) s o; items = taken (record { trace = t; place = k; ring = r }) s o }
 look_of t k s (Some (filled r b at new)) = record { deciding = []; items = turn_uses t k s (filled r b at new) }
 look_of t k s _ = record { deciding = []; items = [] }
 
--- What a turn may use where it makes what it may make.
-abbrev pub extras_of : (trace : Trace) (place : ℕ) → World → List Footprint → Option Turn → Footprint
+-- What a turn may use that isn't looked up: what it may make, and the slots of a new ring with what they get.
+abbrev pub extras_of : (trace : Recording) (place : ℕ) → World → List Footprint → Option Turn → Footprint
 extras_of t k s earlier (Some (runs r e o)) = makes t k o ++ room_taken (record { trace = t; place = k; ring = r }) s earlier o
+extras_of t k s earlier (Some (registered r slots)) = turn_uses t k s (registered r slots)
 extras_of t k s earlier _ = []
 
-abbrev pub unresolved_of : (trace : Trace) (place : ℕ) → World → Option Turn → Footprint
+abbrev pub unresolved_of : (trace : Recording) (place : ℕ) → World → Option Turn → Footprint
 unresolved_of t k s (Some (runs r e o)) = unresolved_row (record { trace = t; place = k; ring = r }) o
 unresolved_of t k s (Some (filled r b at new)) = turn_uses t k s (filled r b at new)
 unresolved_of t k s _ = []
 
-abbrev pub order_of : (trace : Trace) (place : ℕ) → Footprint
-order_of t k = order_uses (ring_at t k) (role t k)
+abbrev pub order_of : (trace : Recording) (place : ℕ) → Footprint
+order_of t k = order_uses (queue_at t k) (role t k)
 
 -- The row of a place as running, as accepted, and where an item that decides its others isn't known yet.
-abbrev pub running_row : (trace : Trace) (place : ℕ) → World → Footprint
+abbrev pub running_row : (trace : Recording) (place : ℕ) → World → Footprint
 running_row t k s = order_of t k ++ each (turn_uses t k s) (task t k)
 
-abbrev pub accepted_row : (trace : Trace) (place : ℕ) → World → List Footprint → Footprint
+abbrev pub accepted_row : (trace : Recording) (place : ℕ) → World → List Footprint → Footprint
 accepted_row t k s earlier = order_of t k ++ ((look_of t k s (task t k)).items ++ extras_of t k s earlier (task t k))
 
-abbrev pub wide_row : (trace : Trace) (place : ℕ) → World → List Footprint → Footprint
+abbrev pub wide_row : (trace : Recording) (place : ℕ) → World → List Footprint → Footprint
 wide_row t k s earlier = order_of t k ++ (unresolved_of t k s (task t k) ++ extras_of t k s earlier (task t k))
 
 -- Whether a place is taken to run: it does where an earlier member of its chain hasn't finished.
-abbrev pub is_taken_to_run : (trace : Trace) (place : ℕ) → World → List Footprint → Bool
+abbrev pub is_taken_to_run : (trace : Recording) (place : ℕ) → World → List Footprint → Bool
 is_taken_to_run t k s earlier = if written_by earlier (one (chain_flag (role t k).chain)) then true else (if is_canceled (turn t k s) then false else true)
 
 -- The may-access set of a place in a world, given the may-access sets of the earlier places that haven't finished.
-abbrev pub reach : (trace : Trace) (place : ℕ) → World → List Footprint → Footprint
+abbrev pub reach : (trace : Recording) (place : ℕ) → World → List Footprint → Footprint
 reach t k s earlier =
     if is_taken_to_run t k s earlier then
     (if is_met (look_of t k s (task t k)).deciding earlier then wide_row t k s earlier
@@ -137,6 +138,6 @@ reach t k s earlier =
     else order_of t k
 
 -- The may-access sets of places in order, each given those before it; behind those of earlier places.
-abbrev pub reaches : Trace → World → List Footprint → (places : List ℕ) → List Footprint
+abbrev pub reaches : Recording → World → List Footprint → (places : List ℕ) → List Footprint
 reaches t s earlier [] = earlier
 reaches t s earlier (k ∷ ks) = reaches t s (earlier ++ reach t k s earlier ∷ []) ks

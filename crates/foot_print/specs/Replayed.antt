@@ -2,7 +2,7 @@
 use Rattle.std.specs.Prelude.{◌≡◌, ℕ, true, ◌≤◌, ltb, Bool, List, Option, None}
 use Rattle.interleaving.specs.System.{System}
 use Rattle.interleaving.specs.Rows.{Rows}
-use Rattle.trace_format.specs.declared.trace.Trace.{Trace}
+use Rattle.recording.specs.declared.recording.Recording.{Recording}
 use Rattle.finite_maps.specs.Table.{get}
 use Rattle.chain_plan.specs.Chain.{role}
 use Rattle.world_parts.specs.World.{World, IsWorld}
@@ -15,15 +15,15 @@ use Rattle.foot_print.specs.Footprint.{footprint}
 use Rattle.foot_print.specs.Reach.{LookedUp, look_of, task, is_canceled, is_taken_to_run, is_met, written_by, order_of, running_row, accepted_row, wide_row, reach}
 
 -- The numbers that a place makes are unused; so are those of every later place.
-pub record Unused (t : Trace) (k : ℕ) (s : World) : Type 0 where
+pub record Unused (t : Recording) (k : ℕ) (s : World) : Type 0 where
   pub no_node : get s.nodes (made_node t k) ≡ None
   pub no_description : get s.descriptions (made_description t k) ≡ None
 
-abbrev pub IsBefore : Trace → ℕ → World → Type 0
+abbrev pub IsBefore : Recording → ℕ → World → Type 0
 IsBefore t k s = (j : ℕ) → k ≤ j → Unused t j s
 
 -- Whether an atom is of no node and description that a place or a later one makes.
-abbrev pub is_earlier : Trace → ℕ → Atom → Bool
+abbrev pub is_earlier : Recording → ℕ → Atom → Bool
 is_earlier t k (description_at d) = ltb d (made_description t k)
 is_earlier t k (position_of d) = ltb d (made_description t k)
 is_earlier t k (size_of i) = ltb i (made_node t k)
@@ -33,13 +33,13 @@ is_earlier t k (names_in d) = ltb d (made_node t k)
 is_earlier t k _ = true
 
 -- All numbers that are looked up are initial or of earlier places.
-abbrev pub Bounded : Trace → ℕ → LookedUp → Type 0
+abbrev pub Bounded : Recording → ℕ → LookedUp → Type 0
 Bounded t k l = (a : Atom) → has_atom l.items a ≡ true → is_earlier t k a ≡ true
 
-abbrev pub Known : Trace → ℕ → World → List Footprint → Type 0
+abbrev pub Known : Recording → ℕ → World → List Footprint → Type 0
 Known t k s earlier = is_taken_to_run t k s earlier ≡ true → Bounded t k (look_of t k s (task t k))
 
-abbrev pub replayed : Trace → System
+abbrev pub replayed : Recording → System
 replayed t = record {
   World = World;
   Reply = Option Reply;
@@ -61,7 +61,7 @@ replayed t = record {
   Known = Known t;
 }
 
-abbrev pub rows : (t : Trace) → Rows (replayed t)
+abbrev pub rows : (t : Recording) → Rows (replayed t)
 rows t = record {
   Look = LookedUp;
   sees = λ l a. has_atom l.deciding a;

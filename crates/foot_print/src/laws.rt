@@ -8,8 +8,8 @@ ghost use Rattle.foot_print.specs.Parts.{HolesKeepWorlds, PartsAreOfTheWhole};
 ghost use Rattle.foot_print.specs.Parts.{PlacesRunOnParts, PutIsStep, RoundIsSteps};
 ghost use Rattle.foot_print.specs.Replayed.{replayed};
 ghost use Rattle.interleaving.specs.Laws.{Laws};
-ghost use Rattle.trace_format.specs.Text.{IsSpelled};
-ghost use Rattle.trace_format.specs.declared.trace.Trace.{Trace};
+ghost use Rattle.recording.specs.Accepted.{IsAccepted};
+ghost use Rattle.recording.specs.declared.recording.Recording.{Recording};
 
 /// In every world, and part of one, that agrees on a place's access set the place has the same
 /// access set and the same reply, gives what it writes the same values, and changes nothing else.
@@ -79,5 +79,5 @@ pub fn round_is_steps()
 /// that differs only where earlier unfinished places may write; it is told by what it holds; and it
 /// shrinks as those places finish.
 pub fn reaches_hold()
-    ensures { (t : Trace) → IsSpelled t → Laws (replayed t) }
+    ensures { (t : Recording) → IsAccepted t → Laws (replayed t) }
 {}

@@ -48,7 +48,7 @@ item_atom t (file_bytes i low high) b o f h =
     let le : high ≤ 2 ^ 64 = f.high in
     (byte_at i p.0, p.1, and_from (i == i) (within low high p.0) me p.2, record { row = f.row; inner = lit< tt; place = omega (arith, p.3, le); known = refl; other = refl })
 item_atom t (buffer_bytes r c low high) b o f h =
-    let p = place_in (((256 + (r * 2 ^ 32 + c)) * 16 + 11) * 2 ^ 64) low high b h in
+    let p = place_in (((256 + (r * 2 ^ 16 + c)) * 16 + 11) * 2 ^ 64) low high b h in
     let one₁ : (r == r) ≡ true = grind (arith, nat_tests) in
     let two : (c == c) ≡ true = grind (arith, nat_tests) in
     let le : high ≤ 2 ^ 64 = f.high in

@@ -36,7 +36,7 @@ in_spots s r q k low high place a b p h = in_rows (r * 16 + s) (k * 16 + q) low 
 one_place : (p q : ℕ) → within p (p + 1) q ≡ (p == q)
 one_place p q = grind (arith, nat_tests)
 
-same_inner : (r b q c : ℕ) → b < 2 ^ 32 → c < 2 ^ 32 → (256 + (r * 2 ^ 32 + b) == 256 + (q * 2 ^ 32 + c)) ≡ (r == q && b == c)
+same_inner : (r b q c : ℕ) → b < 2 ^ 16 → c < 2 ^ 16 → (256 + (r * 2 ^ 16 + b) == 256 + (q * 2 ^ 16 + c)) ≡ (r == q && b == c)
 same_inner r b q c x y = grind (arith, nat_tests)
 
 same_node : (i j : ℕ) → (256 + i == 256 + j) ≡ (i == j)
@@ -146,8 +146,8 @@ module _ (t : Numbers) (apart : AreApart t) where
       let same : b ≡ a = same_atom-eq b a (holds_true (same_atom b a) h) in
       let high : place_of t b + 1 ≤ 2 ^ 64 = f.high in
       record {
-        row = subst (λ c. row_of c < 2 ^ 48) same f.row;
-        inner = subst (λ c. inner_of c < 2 ^ 32) same f.inner;
+        row = subst (λ c. row_of c < 2 ^ 49) same f.row;
+        inner = subst (λ c. inner_of c < 2 ^ 16) same f.inner;
         place = subst (λ c. place_of t c < 2 ^ 64) same (omega (arith, high));
         known = subst (λ c. has_number t c ≡ true) same f.known;
         other = o;
@@ -155,7 +155,7 @@ module _ (t : Numbers) (apart : AreApart t) where
   atom_fits (file_bytes i low high) (byte_at j p) f n h o =
       let w = and_parts (i == j) (within low high p) h in
       let same : i ≡ j = eqb-true i j w.0 in
-      record { row = subst (λ r. 256 + r < 2 ^ 48) same f.row; inner = lit< tt; place = small_place i low high p (i == j) h f.high; known = refl; other = o }
+      record { row = subst (λ r. 256 + r < 2 ^ 49) same f.row; inner = lit< tt; place = small_place i low high p (i == j) h f.high; known = refl; other = o }
   atom_fits (file_bytes i low high) _ f n h o = absurd cc
   atom_fits (buffer_bytes r b low high) (buffer_byte q c p) f n h o =
       let w = and_parts (r == q && b == c) (within low high p) h in
@@ -163,8 +163,8 @@ module _ (t : Numbers) (apart : AreApart t) where
       let one₁ : r ≡ q = eqb-true r q v.0 in
       let two : b ≡ c = eqb-true b c v.1 in
       record {
-        row = subst (λ x. 256 + (x * 2 ^ 32 + c) < 2 ^ 48) one₁ (subst (λ y. 256 + (r * 2 ^ 32 + y) < 2 ^ 48) two f.row);
-        inner = subst (λ y. y < 2 ^ 32) two f.inner;
+        row = subst (λ x. 256 + (x * 2 ^ 16 + c) < 2 ^ 49) one₁ (subst (λ y. 256 + (r * 2 ^ 16 + y) < 2 ^ 49) two f.row);
+        inner = subst (λ y. y < 2 ^ 16) two f.inner;
         place = small_place r low high p (r == q && b == c) h f.high;
         known = refl;
         other = o;

@@ -30,7 +30,7 @@ abbrev pub row_of : Atom → ℕ
 row_of (slot_at r n) = r
 row_of (byte_at i p) = 256 + i
 row_of (buffer_size r b) = r
-row_of (buffer_byte r b p) = 256 + (r * 2 ^ 32 + b)
+row_of (buffer_byte r b p) = 256 + (r * 2 ^ 16 + b)
 row_of _ = 0
 
 abbrev pub place_of : Numbers → Atom → ℕ
@@ -47,7 +47,7 @@ place_of t (names_in d) = d
 place_of t (buffer_size r b) = b
 place_of t (buffer_byte r b p) = p
 
--- the number on the line; those of bytes, which are used in ranges, come after all others
+-- the number on the line; those of bytes, which are used in ranges, lie in rows behind the first 256
 abbrev pub spot : ℕ → ℕ → ℕ → ℕ
 spot sort row place = (row * 16 + sort) * 2 ^ 64 + place
 
@@ -65,8 +65,8 @@ spot_at t a = spot (sort_of a) (row_of a) (place_of t a)
 
 -- an atom whose numbers fit, and that is no descriptor
 pub record AtomFits (t : Numbers) (a : Atom) : Type 0 where
-  pub row : row_of a < 2 ^ 48
-  pub inner : inner_of a < 2 ^ 32
+  pub row : row_of a < 2 ^ 49
+  pub inner : inner_of a < 2 ^ 16
   pub place : place_of t a < 2 ^ 64
   pub known : has_number t a ≡ true
   pub other : is_of_descriptors (one a) ≡ false
@@ -82,7 +82,7 @@ sort_in _ = 12
 abbrev pub row_in : Item → ℕ
 row_in (one a) = row_of a
 row_in (file_bytes i low high) = 256 + i
-row_in (buffer_bytes r b low high) = 256 + (r * 2 ^ 32 + b)
+row_in (buffer_bytes r b low high) = 256 + (r * 2 ^ 16 + b)
 row_in _ = 0
 
 abbrev pub inner_in : Item → ℕ
@@ -113,8 +113,8 @@ is_narrow x = is_narrow_use (reads x)
 -- an item whose numbers fit, and that lies in one range
 pub record ItemFits (t : Numbers) (x : Item) : Type 0 where
   pub narrow : is_narrow x ≡ true
-  pub row : row_in x < 2 ^ 48
-  pub inner : inner_in x < 2 ^ 32
+  pub row : row_in x < 2 ^ 49
+  pub inner : inner_in x < 2 ^ 16
   pub high : high_in t x ≤ 2 ^ 64
   pub known : item_known t x ≡ true
 

@@ -18,6 +18,9 @@ const PLACES: u128 = 1 << 64;
 /// How many rows of a sort the line keeps number by number.
 const SINGLE_ROWS: u128 = 256;
 
+/// How many registered buffers of a ring an entry can name.
+const BUFFERS: u32 = 65_536;
+
 /// The ranges of an access set's uses. Names without a number get one.
 pub(crate) fn spans_of(
     alloc: Global,
@@ -36,7 +39,7 @@ pub(crate) fn spans_of(
     Ok(spans)
 }
 
-/// The range of a use, if it is one range.
+/// The range of a use, if it is one range, and of a buffer that an entry can name.
 fn span_of(alloc: Global, names: &mut Names, used: &Use) -> Result<Span, AllocError>
     ensures kept { OnOk result (KeepsNumbers names.old names.new) }
     ensures span { IfOk result (λ span. span ≡ span_for names.new (use_meant used.now)) }
@@ -64,8 +67,8 @@ fn span_of(alloc: Global, names: &mut Names, used: &Use) -> Result<Span, AllocEr
             Ok(single(8, 0, number, written))
         }
         Item::Names(directory) => Ok(single(9, 0, u64::from(*directory), written)),
-        Item::Buffer(ring, index, low, high) => {
-            let buffer = u128::from(*ring) * 4_294_967_296 + u128::from(*index);
+        Item::Buffer(ring, index, low, high) if *index < BUFFERS => {
+            let buffer = u128::from(*ring) * u128::from(BUFFERS) + u128::from(*index);
             Ok(range(11, SINGLE_ROWS + buffer, *low, u128::from(*high), written))
         }
         Item::AllDescriptors if !written => Ok(no_range(written)),
@@ -87,7 +90,7 @@ fn no_range(written: bool) -> Span
 /// The range of a single place in a row.
 fn single(sort: u128, row: u128, place: u64, written: bool) -> Span
     requires sort { sort ≤ 12 }
-    requires row { row < 2 ^ 48 }
+    requires row { row < 2 ^ 49 }
     ensures { result ≡ record { low = spot sort row place; high = spot sort row (place + 1); written = written } }
 {
     range(sort, row, place, u128::from(place) + 1, written)
@@ -96,7 +99,7 @@ fn single(sort: u128, row: u128, place: u64, written: bool) -> Span
 /// A range of places in a row.
 fn range(sort: u128, row: u128, low: u64, high: u128, written: bool) -> Span
     requires sort { sort ≤ 12 }
-    requires row { row < 2 ^ 48 }
+    requires row { row < 2 ^ 49 }
     requires high { high ≤ 2 ^ 64 }
     ensures { result ≡ record { low = spot sort row low; high = spot sort row high; written = written } }
 {

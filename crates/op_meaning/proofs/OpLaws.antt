@@ -2,17 +2,18 @@
 use Rattle.std.proofs.Common.{◌≡◌, refl, arith}
 use Rattle.std.proofs.lemmas.List.{length-take}
 use Rattle.std.proofs.lemmas.Result.{IfOk-weaker}
-use Rattle.std.specs.Prelude.{ℕ, zero, suc, ◌+◌, ◌-◌, ◌^◌, ◌<◌, ◌≤◌, min, ◌==◌, ltb, leb, Bool, true, false, not, ◌&&◌, T, List, [], ◌∷◌, ◌++◌, length, take, drop, Option, Some, None, Result, Ok, Err, IfOk, IfSome, ok_or, is_some, is_none, unwrap_or, if◌then◌else◌}
+use Rattle.std.specs.Prelude.{ℕ, zero, suc, ◌+◌, ◌-◌, ◌^◌, ◌<◌, ◌≤◌, min, ◌==◌, ltb, leb, Bool, true, false, not, ◌&&◌, T, List, [], ◌∷◌, ◌++◌, length, take, drop, map, Option, Some, None, Result, Ok, Err, IfOk, IfSome, ok_or, is_some, is_none, unwrap_or, if◌then◌else◌}
 use Rattle.std.specs.List.{find, range_with_len}
 use Rattle.std.specs.Option.{option_map}
 use Rattle.sqe_codec.specs.declared.errno.Errno.{Errno}
 use Rattle.sqe_codec.specs.declared.errno.Errno.TheVariants.{EPERM, ENOENT, EBADF, EEXIST, EFAULT, EFBIG, EINVAL, EMFILE, EOPNOTSUPP}
 use Rattle.sqe_codec.specs.Answers.{◌>>◌, require, each}
-use Rattle.trace_format.specs.declared.trace.Trace.{Trace}
+use Rattle.recording.specs.declared.recording.Recording.{Recording}
 use Rattle.trace_format.specs.declared.entry.Entry.{Entry}
 use Rattle.trace_format.specs.Sides.{most_moved}
-use Rattle.trace_format.specs.Text.{IsSpelled}
-use Rattle.trace_format.proofs.Sizes.{sizes}
+use Rattle.recording.specs.Accepted.{IsAccepted}
+use Rattle.recording.specs.Limits.{table_limit}
+use Rattle.trace_records.specs.declared.record.FullSlot.{FullSlot}
 use Rattle.entry_checks.specs.Operation.{Operation, nop, readv, writev, fsync, read_fixed, write_fixed, fallocate, openat, close, read, write, renameat, unlinkat, mkdirat, linkat, ftruncate, File, Span, Path, OpenFlags, asked, file_limit, at_position, in_slot, at_descriptor}
 use Rattle.entry_checks.specs.Check.{has, io_hardlink, skip_success}
 use Rattle.chain_plan.specs.declared.role.Role.{Role}
@@ -24,7 +25,7 @@ use Rattle.world_parts.specs.Paths.{is_file_name}
 use Rattle.world_parts.proofs.FileNames.{Named, AllNaming, named_place, named_changes, named_start}
 use Rattle.op_meaning.specs.Site.{at_place, in_ring, sited}
 use Rattle.op_meaning.specs.Meaning.{Effect, done, Handle, handle, held, slot_count, can_write, is_bad_offset, span_start, span_destination, span_bytes, advance, Destination, reply, into, delivered, read_effect, readable, read_meaning, write_start, write_effect, writable, write_meaning, Allocation, extend, reserve, punch, zero_extend, zero_within, allocation, allocate, fallocate_meaning, ftruncate_meaning, room, lowest_free, filled, may_open, open_changes, open_as, openat_meaning, close_meaning, may_remove, unlinkat_meaning, mkdirat_meaning, linkat_meaning, may_replace, moved_name, move_meaning, exchange_meaning, goes_below, rename_to, renameat_meaning, made_node, made_description, meaning}
-use Rattle.op_meaning.specs.Step.{Turn, filled as fills, refused, canceled, runs, breaks, failed, changes_of, changes_in, turn, step_world, run_world}
+use Rattle.op_meaning.specs.Step.{Turn, filled as fills, registered, filled_slot, refused, canceled, runs, breaks, failed, changes_of, changes_in, turn, step_world, run_world}
 use Rattle.op_meaning.proofs.Fallible.{and_then, and_so, after}
 
 -- Parts of changes.
@@ -72,7 +73,7 @@ fewer n xs le = omega (arith, length-take n xs)
 taken : (n : ℕ) (xs : List ℕ) → n ≤ most_moved → length (take n xs) ≤ most_moved
 taken n xs le = omega (arith, length-take n xs)
 
-span_short : (t : Trace) (s : World) (r : ℕ) (x : Span) → IfOk (span_bytes (in_ring t r) s x) (λ bs. length bs ≤ most_moved)
+span_short : (t : Recording) (s : World) (r : ℕ) (x : Span) → IfOk (span_bytes (in_ring t r) s x) (λ bs. length bs ≤ most_moved)
 span_short t s r x = by (span_start (in_ring t r) x)
   where
     by : (o : Option ℕ) → IfOk (ok_or (option_map (λ at. take (min x.length most_moved) (drop at (unwrap_or (buffer s r x.index) []))) o) EFAULT) (λ bs. length bs ≤ most_moved)
@@ -95,15 +96,15 @@ found_below p a (suc n) = which (p a) (found_below p (a + 1) n)
     which true h = omega arith
     which false h = weaker (find p (range_with_len (a + 1) n)) h
 
-room_small : (t : Trace) (s : World) (r : ℕ) (asked : Option ℕ) → IsSpelled t → IfOk (room (in_ring t r) s asked) FewDescriptors
-room_small t s r None spelled = by (lowest_free t s) (found_below (λ n. is_none (descriptor s n)) 0 (length t.descriptors))
+room_small : (t : Recording) (s : World) (r : ℕ) (asked : Option ℕ) → IsAccepted t → IfOk (room (in_ring t r) s asked) FewDescriptors
+room_small t s r None accepted = by (lowest_free t s) (found_below (λ n. is_none (descriptor s n)) 0 (length t.descriptors))
   where
     by : (o : Option ℕ) → IfSome o (λ k. k < 0 + length t.descriptors) → IfOk (ok_or (option_map at_descriptor o) EMFILE) FewDescriptors
     by None h = tt
-    by (Some k) h = let few : length t.descriptors ≤ 1024 = (sizes t spelled).descriptors in omega arith
-room_small t s r (Some n) spelled = after FewDescriptors (require (ltb n (slot_count t r)) EINVAL) _ tt
+    by (Some k) h = let few : length t.descriptors ≤ table_limit = accepted.sizes.descriptors in omega arith
+room_small t s r (Some n) accepted = after FewDescriptors (require (ltb n (slot_count t r)) EINVAL) _ tt
 
-opened_small : (t : Trace) (k r : ℕ) (g : OpenFlags) (at : File) (p : Place) → FewDescriptors at → (open_as (sited t k r) g at p).count ≤ most_moved
+opened_small : (t : Recording) (k r : ℕ) (g : OpenFlags) (at : File) (p : Place) → FewDescriptors at → (open_as (sited t k r) g at p).count ≤ most_moved
 opened_small t k r g (in_slot n) p few = omega arith
 opened_small t k r g (at_descriptor n) p few = few
 
@@ -153,14 +154,14 @@ module _ (P : Type 0) where
       and_then Owed (ok_or x EBADF) _ (λ h.
       after Owed (require (ltb n (2 ^ 63)) EINVAL) _ (after Owed (require (can_write h.opened.access) EINVAL) _ (after Owed (require (leb n file_limit) EFBIG) _ (still _ (tt, tt)))))
 
-  closing : (t : Trace) (s : World) (r : ℕ) (f : File) → Pays (close_meaning (in_ring t r) s f)
+  closing : (t : Recording) (s : World) (r : ℕ) (f : File) → Pays (close_meaning (in_ring t r) s f)
   closing t s r (at_descriptor n) = after Owed (require (is_some (held (in_ring t r) s (at_descriptor n))) EBADF) _ (still _ (tt, tt))
   closing t s r (in_slot n) = after Owed (require (ltb n (slot_count t r)) EINVAL) _ (after Owed (require (is_some (slot s r n)) EBADF) _ (still _ (tt, tt)))
 
   -- Names.
-  opening : (t : Trace) (k r : ℕ) (s : World) (p : Path) (g : OpenFlags) (asked : Option ℕ) → (P → IsSpelled t) → Pays (openat_meaning (sited t k r) s g asked (walk s.nodes p))
-  opening t k r s p g asked spelled =
-      and_so (λ at. P → FewDescriptors at) Owed (room (in_ring t r) s asked) _ (few (room (in_ring t r) s asked) (λ q. room_small t s r asked (spelled q))) (λ at h.
+  opening : (t : Recording) (k r : ℕ) (s : World) (p : Path) (g : OpenFlags) (asked : Option ℕ) → (P → IsAccepted t) → Pays (openat_meaning (sited t k r) s g asked (walk s.nodes p))
+  opening t k r s p g asked accepted =
+      and_so (λ at. P → FewDescriptors at) Owed (room (in_ring t r) s asked) _ (few (room (in_ring t r) s asked) (λ q. room_small t s r asked (accepted q))) (λ at h.
       and_so (λ q. T (is_file_name q.name)) Owed (walk s.nodes p) _ (named s.nodes p) (λ q good.
       after Owed (may_open g q.target) _ (record {
         small = λ w. opened_small t k r g at q (h w);
@@ -171,7 +172,7 @@ module _ (P : Type 0) where
       few (Ok at) h = h
       few (Err e) h = tt
 
-  making : (t : Trace) (k : ℕ) (s : World) (p : Path) → Pays (mkdirat_meaning (at_place t k) (walk s.nodes p))
+  making : (t : Recording) (k : ℕ) (s : World) (p : Path) → Pays (mkdirat_meaning (at_place t k) (walk s.nodes p))
   making t k s p = and_so (λ q. T (is_file_name q.name)) Owed (walk s.nodes p) _ (named s.nodes p) (λ q good. after Owed (require (is_none q.target) EEXIST) _ (still _ (tt, (good, tt))))
 
   removing : (s : World) (p : Path) (removes : Bool) → Pays (unlinkat_meaning s removes (walk s.nodes p))
@@ -212,12 +213,12 @@ module _ (P : Type 0) where
       and_so (λ p. T (is_file_name p.name)) Owed (walk s.nodes old) _ (named s.nodes old) (λ p good.
       and_so (λ q. T (is_file_name q.name)) Owed (walk s.nodes new) _ (named s.nodes new) (λ q fine. and_then Owed (ok_or p.target ENOENT) _ (λ x. renames s p q x good fine old new flags)))
 
--- That a trace is spelled, and an operation of it asks for no more than one call moves.
-abbrev Asks : Trace → Operation → Type 0
-Asks t o = IsSpelled t × IfSome (asked o) (λ n. n ≤ most_moved)
+-- That a replay accepts a trace, and an operation of it asks for no more than one call moves.
+abbrev Asks : Recording → Operation → Type 0
+Asks t o = IsAccepted t × IfSome (asked o) (λ n. n ≤ most_moved)
 
 -- What each operation owes.
-owes : (t : Trace) (k r : ℕ) (s : World) (o : Operation) → Pays (Asks t o) (meaning (sited t k r) s o)
+owes : (t : Recording) (k r : ℕ) (s : World) (o : Operation) → Pays (Asks t o) (meaning (sited t k r) s o)
 owes t k r s nop = still _ [] tt
 owes t k r s (readv f o n) = reads _ s (handle (in_ring t r) s f) o (min n most_moved) (Ok reply) (λ p. p.1)
 owes t k r s (writev f o new) = writes _ s (handle (in_ring t r) s f) o (Ok new) (λ p. p.1)
@@ -239,8 +240,8 @@ owes t k r s (ftruncate f n) = resizing _ (handle (in_ring t r) s f) n
 abbrev pub Small : Effect → Type 0
 Small x = x.count ≤ most_moved
 
-pub small : (t : Trace) (k r : ℕ) (s : World) (o : Operation) → IsSpelled t → IfSome (asked o) (λ n. n ≤ most_moved) → IfOk (meaning (sited t k r) s o) Small
-small t k r s o spelled le = IfOk-weaker (meaning (sited t k r) s o) (Owed (Asks t o)) Small (λ x h. h.small (spelled, le)) (owes t k r s o)
+pub small : (t : Recording) (k r : ℕ) (s : World) (o : Operation) → IsAccepted t → IfSome (asked o) (λ n. n ≤ most_moved) → IfOk (meaning (sited t k r) s o) Small
+small t k r s o accepted le = IfOk-weaker (meaning (sited t k r) s o) (Owed (Asks t o)) Small (λ x h. h.small (accepted, le)) (owes t k r s o)
 
 changed : (P : Type 0) (x : Result Effect Errno) → IfOk x (Owed P) → AllNaming (changes_of x)
 changed P (Ok x) h = h.names
@@ -249,22 +250,27 @@ changed P (Err e) h = tt
 chain_broken : (c : Role) (e : Entry) (fails : Bool) → AllNaming (breaks c e fails)
 chain_broken c e fails = either (fails && not (has e.sqe.flags io_hardlink) && ltb (c.member + 1) c.length) (break_chain c.chain (if has e.sqe.flags skip_success then quiet else loud) ∷ []) [] (tt, tt) tt
 
-names_of_turn : (t : Trace) (k : ℕ) (s : World) (x : Turn) → AllNaming (changes_in t k s x)
+slots_filled : (r : ℕ) (s : World) (slots : List FullSlot) → AllNaming (map (filled_slot r s) slots)
+slots_filled r s [] = tt
+slots_filled r s (x ∷ xs) = (tt, slots_filled r s xs)
+
+names_of_turn : (t : Recording) (k : ℕ) (s : World) (x : Turn) → AllNaming (changes_in t k s x)
 names_of_turn t k s (fills r b at new) = (tt, tt)
+names_of_turn t k s (registered r slots) = slots_filled r s slots
 names_of_turn t k s (refused e posted) = tt
 names_of_turn t k s (canceled posted) = tt
 names_of_turn t k s (runs r e o) =
     let x = meaning (sited t k r) s o in
     both (changes_of x) (breaks (role t k) e (failed o x)) (changed (Asks t o) x (owes t k r s o)) (chain_broken (role t k) e (failed o x))
 
-each_turn : (t : Trace) (k : ℕ) (s : World) (o : Option Turn) → AllNaming (each (changes_in t k s) o)
+each_turn : (t : Recording) (k : ℕ) (s : World) (o : Option Turn) → AllNaming (each (changes_in t k s) o)
 each_turn t k s None = tt
 each_turn t k s (Some x) = names_of_turn t k s x
 
 -- a step leaves names of files alone
-pub named_step : (t : Trace) (k : ℕ) (s : World) → Named s.nodes → Named (step_world t k s).nodes
+pub named_step : (t : Recording) (k : ℕ) (s : World) → Named s.nodes → Named (step_world t k s).nodes
 named_step t k s h = named_changes s (each (changes_in t k s) (turn t k s)) (each_turn t k s (turn t k s)) h
 
-pub named_run : (t : Trace) (n : ℕ) → Named (run_world t n).nodes
+pub named_run : (t : Recording) (n : ℕ) → Named (run_world t n).nodes
 named_run t zero = named_start t
 named_run t (suc n) = named_step t n (run_world t n) (named_run t n)

@@ -8,7 +8,7 @@ use Rattle.extent_bytes.specs.Bytes.{range_of}
 use Rattle.std.specs.Option.{option_map}
 use Rattle.sqe_codec.specs.declared.errno.Errno.{Errno}
 use Rattle.sqe_codec.specs.declared.errno.Errno.TheVariants.{EFAULT, EFBIG}
-use Rattle.trace_format.specs.declared.trace.Trace.{Trace}
+use Rattle.recording.specs.declared.recording.Recording.{Recording}
 use Rattle.trace_format.specs.Sides.{most_moved}
 use Rattle.entry_checks.specs.Operation.{Span, file_limit}
 use Rattle.world_parts.specs.World.{World, buffer}
@@ -49,7 +49,7 @@ moved_range bs at n limit count e =
     sym (take_min limit (take n ys)) ∙ ap (λ k. take k (take n ys)) both ∙ take-take count n ys (omega (arith, length-take n ys)) ∙ ap (λ k. take k ys) (sym same)
 
 -- What a write of a span's bytes answers that passes its tests.
-pub span_written : (t : Trace) (s : World) (r : ℕ) (there : Option Handle) (o : ℕ) (x : Span) (h : Handle) (at start count : ℕ) → writable there ≡ Ok h → Some at ≡ span_start (in_ring t r) x → is_bad_offset o ≡ false → start ≡ write_start s o h
+pub span_written : (t : Recording) (s : World) (r : ℕ) (there : Option Handle) (o : ℕ) (x : Span) (h : Handle) (at start count : ℕ) → writable there ≡ Ok h → Some at ≡ span_start (in_ring t r) x → is_bad_offset o ≡ false → start ≡ write_start s o h
     → (0 < length (bytes_from (buffer s r x.index) at x.length) → start < file_limit) → count ≡ min (length (bytes_from (buffer s r x.index) at x.length)) (file_limit - start)
     → write_meaning s o there (span_bytes (in_ring t r) s x) ≡ Ok (if count == 0 then done [] else write_effect o h start (range_of (unwrap_or (buffer s r x.index) []) at (at + count)))
 span_written t s r there o x h at start count passed starts good begins below e =

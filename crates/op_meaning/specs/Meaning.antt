@@ -6,8 +6,9 @@ use Rattle.sqe_codec.specs.declared.errno.Errno.{Errno}
 use Rattle.sqe_codec.specs.declared.errno.Errno.TheVariants.{EPERM, ENOENT, EBADF, EFAULT, EEXIST, ENOTDIR, EISDIR, EINVAL, EMFILE, EFBIG, ENOTEMPTY, EOPNOTSUPP}
 use Rattle.trace_format.specs.declared.trace.Access.{Access}
 use Rattle.trace_format.specs.declared.trace.Access.TheVariants.{Read, Write, Both}
-use Rattle.trace_format.specs.declared.trace.Trace.{Trace}
-use Rattle.trace_format.specs.declared.trace.Ring.{Ring}
+use Rattle.recording.specs.declared.recording.Recording.{Recording}
+use Rattle.recording.specs.declared.recording.Ring.{Ring}
+use Rattle.recording.specs.Rings.{slots_of}
 use Rattle.trace_format.specs.declared.trace.Buffer.{Buffer}
 use Rattle.sqe_codec.specs.Answers.{◌>>=◌, ◌>>◌, require}
 use Rattle.entry_checks.specs.Operation.{Operation, nop, readv, writev, fsync, read_fixed, write_fixed, fallocate, openat, close, read, write, renameat, unlinkat, mkdirat, linkat, ftruncate, File, in_slot, at_descriptor, Span, Path, OpenFlags, file_limit, at_position}
@@ -20,7 +21,7 @@ use Rattle.file_tree.specs.Walk.{Place, walk, is_above, is_directory}
 -- Where an operation stands: its trace, its place in that, and its ring.
 -- Definitions take their arguments in one order: the site, the world, what the operation asks for, and what it finds.
 pub record Site : Type 0 where
-  pub trace : Trace
+  pub trace : Recording
   pub place : ℕ
   pub ring : ℕ
 
@@ -34,15 +35,15 @@ abbrev pub done : List Change → Effect
 done cs = record { count = 0; bytes = []; changes = cs }
 
 -- The number of the node, and of the open file description, that a place makes.
-abbrev pub made_node : (trace : Trace) (place : ℕ) → ℕ
+abbrev pub made_node : (trace : Recording) (place : ℕ) → ℕ
 made_node t k = length t.items + 1 + k
 
-abbrev pub made_description : (trace : Trace) (place : ℕ) → ℕ
+abbrev pub made_description : (trace : Recording) (place : ℕ) → ℕ
 made_description t k = length t.descriptions + k
 
 -- How many registered files a ring has room for, and a registered buffer of it that is no empty entry.
-abbrev pub slot_count : (trace : Trace) (ring : ℕ) → ℕ
-slot_count t r = unwrap_or (option_map (λ (x : Ring). length x.slots) (slice_get t.rings r)) 0
+abbrev pub slot_count : (trace : Recording) (ring : ℕ) → ℕ
+slot_count t r = unwrap_or (option_map slots_of (slice_get t.rings r)) 0
 
 abbrev pub registered_buffer : Site → (index : ℕ) → Option Buffer
 registered_buffer site b = option_and_then (λ (x : Buffer). if x.len == 0 then None else Some x) (option_and_then (λ (x : Ring). slice_get x.buffers b) (slice_get site.trace.rings site.ring))
@@ -205,7 +206,7 @@ ftruncate_meaning n there = do
   require (leb n file_limit) EFBIG
   Ok (done (set_size h.opened.target.node n ∷ []))
 
-abbrev pub lowest_free : (trace : Trace) → World → Option ℕ
+abbrev pub lowest_free : (trace : Recording) → World → Option ℕ
 lowest_free t s = find (λ n. is_none (descriptor s n)) (range_with_len 0 (length t.descriptors))
 
 -- Where openat puts a description: into the slot that it names, or at the lowest free descriptor, whose number it answers.

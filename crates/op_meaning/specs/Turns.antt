@@ -1,18 +1,19 @@
 -- A view of code: what a place does, as a value of the program.
 use Rattle.std.specs.Prelude.{ℕ, ◌≤◌, IfSome}
 use Rattle.trace_format.specs.Sides.{most_moved}
-use Rattle.trace_format.specs.declared.trace.Trace.{Trace}
+use Rattle.recording.specs.declared.recording.Recording.{Recording}
 use Rattle.entry_checks.specs.Meant.{meant}
 use Rattle.entry_checks.specs.Operation.{asked}
 use Rattle.world_parts.specs.World.{World, apply_all}
-use Rattle.op_meaning.specs.Step.{Turn, filled, refused, canceled, runs, changes_in}
+use Rattle.op_meaning.specs.Step.{Turn, filled, registered, refused, canceled, runs, changes_in}
 use Rattle.op_meaning.specs.declared.turn.Turn as code
 use Rattle.op_meaning.specs.declared.turn.TurnKind.{TurnKind}
-use Rattle.op_meaning.specs.declared.turn.TurnKind.TheVariants.{Fills, Refused, Canceled, Runs}
+use Rattle.op_meaning.specs.declared.turn.TurnKind.TheVariants.{Fills, Registers, Refused, Canceled, Runs}
 
 -- what is meant by it, in a ring
 abbrev pub kind_meant : ℕ → TurnKind → Turn
 kind_meant r (Fills b at bytes) = filled r b at bytes.now
+kind_meant r (Registers slots) = registered r slots.now
 kind_meant r (Refused e posted) = refused e posted
 kind_meant r (Canceled posted) = canceled posted
 kind_meant r (Runs e o) = runs r e (meant o)
@@ -26,5 +27,5 @@ IsShort (Runs e o) = IfSome (asked (meant o)) (λ n. n ≤ most_moved)
 IsShort _ = Unit {0}
 
 -- the world that a turn leaves
-abbrev pub turn_world : Trace → ℕ → World → Turn → World
+abbrev pub turn_world : Recording → ℕ → World → Turn → World
 turn_world t k s x = apply_all (changes_in t k s x) s

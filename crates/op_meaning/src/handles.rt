@@ -14,8 +14,8 @@ ghost use Rattle.world_parts.specs.World.{World};
 use crate::limits::{AT_POSITION, REFUSED};
 use entry_checks::{BufferSpan, FileNumber};
 use file_tree::Kind;
+use recording::{Access, Buffer, Description, Recording};
 use sqe_codec::Errno;
-use trace_format::{Access, Buffer, Description, Trace};
 use world_parts::State;
 
 /// A file that is open: the number of its open file description, and what that says.
@@ -26,17 +26,17 @@ pub struct OpenFile {
 }
 
 /// How many registered files a ring has room for.
-pub fn slot_count(trace: &Trace, ring: u8) -> usize
+pub fn slot_count(trace: &Recording, ring: u32) -> usize
     ensures { result ≡ slot_count trace.now ring }
 {
     match trace.rings.as_slice().get(ring as usize) {
-        Some(registered) => registered.slots.as_slice().len(),
+        Some(registered) => registered.slot_count(),
         None => 0,
     }
 }
 
 /// The number of the open file description that a registered file of a ring holds.
-fn held_by_slot(trace: &Trace, ring: u8, slot: u32, state: &State) -> Option<u32>
+fn held_by_slot(trace: &Recording, ring: u32, slot: u32, state: &State) -> Option<u32>
     ensures { result ≡ held (in_ring trace.now ring) state.now (in_slot slot) }
 {
     if (slot as usize) < slot_count(trace, ring) {
@@ -47,7 +47,7 @@ fn held_by_slot(trace: &Trace, ring: u8, slot: u32, state: &State) -> Option<u32
 }
 
 /// The number of the open file description that a descriptor of the process holds.
-pub(crate) fn held_by_descriptor(trace: &Trace, descriptor: u32, state: &State) -> Option<u32>
+pub(crate) fn held_by_descriptor(trace: &Recording, descriptor: u32, state: &State) -> Option<u32>
     ensures { result ≡ held (in_ring trace.now 0) state.now (at_descriptor descriptor) }
 {
     if (descriptor as usize) < trace.descriptors.as_slice().len() {
@@ -60,7 +60,7 @@ pub(crate) fn held_by_descriptor(trace: &Trace, descriptor: u32, state: &State) 
 /// The number of the open file description that a file number stands for: in a slot of the ring, or
 /// at a descriptor.
 #[inline(always)]
-pub fn held(trace: &Trace, ring: u8, file: FileNumber, state: &State) -> Option<u32>
+pub fn held(trace: &Recording, ring: u32, file: FileNumber, state: &State) -> Option<u32>
     ensures { result ≡ held (in_ring trace.now ring) state.now (file_meant file) }
 {
     match file {
@@ -72,8 +72,8 @@ pub fn held(trace: &Trace, ring: u8, file: FileNumber, state: &State) -> Option<
 /// The open file that a file number stands for.
 #[inline(always)]
 pub(crate) fn open_file(
-    trace: &Trace,
-    ring: u8,
+    trace: &Recording,
+    ring: u32,
     file: FileNumber,
     state: &State,
 ) -> Option<OpenFile>
@@ -178,7 +178,7 @@ pub(crate) fn transfer_start(file: &OpenFile, offset: u64, state: &State) -> u64
 }
 
 /// A registered buffer of a ring that is no empty entry.
-pub(crate) fn registered_buffer(trace: &Trace, ring: u8, index: u16) -> Option<Buffer>
+pub(crate) fn registered_buffer(trace: &Recording, ring: u32, index: u16) -> Option<Buffer>
     ensures { result ≡ registered_buffer (in_ring trace.now ring) index }
 {
     let registered = trace.rings.as_slice().get(ring as usize)?;
@@ -190,7 +190,7 @@ pub(crate) fn registered_buffer(trace: &Trace, ring: u8, index: u16) -> Option<B
 }
 
 /// Where a span starts in its buffer, if it lies in one.
-pub fn span_start(trace: &Trace, ring: u8, span: BufferSpan) -> Option<u64>
+pub fn span_start(trace: &Recording, ring: u32, span: BufferSpan) -> Option<u64>
     ensures place { result ≡ span_start (in_ring trace.now ring) (span_meant span) }
     ensures bound { IfSome result (λ at. at + span.length < 2 ^ 32) }
 {

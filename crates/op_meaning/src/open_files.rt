@@ -198,7 +198,7 @@ pub(crate) fn closing<'a>(
 }
 
 /// Empties a slot of a ring, or frees a descriptor of the process.
-pub(crate) fn empty(ring: u8, file: FileNumber, state: &mut State) -> Result<(), AllocError>
+pub(crate) fn empty(ring: u32, file: FileNumber, state: &mut State) -> Result<(), AllocError>
     ensures { OnOk result (state.new ≡ apply_all (emptied ring file).changes state.old) }
 {
     match file {

@@ -13,7 +13,7 @@ ghost use Rattle.op_meaning.specs.Meaning.{found_or_made, openat_meaning};
 ghost use Rattle.op_meaning.specs.Opening.{changes_at, opened_as, room_found};
 ghost use Rattle.op_meaning.specs.Outcomes.{Gives};
 ghost use Rattle.op_meaning.specs.Site.{IsSite, in_ring, site_meant};
-ghost use Rattle.trace_format.specs.Text.{IsSpelled};
+ghost use Rattle.recording.specs.Accepted.{IsAccepted};
 ghost use Rattle.world_parts.specs.World.{apply_all};
 
 use crate::decision::Decision;
@@ -24,9 +24,9 @@ use crate::outcome::{Done, counted, finished};
 use crate::site::Site;
 use entry_checks::{FileNumber, OpenAtFlags, PathAt};
 use file_tree::{Kind, Place};
+use recording::{Access, Description, Recording};
 use sqe_codec::Errno;
 use std::alloc::{AllocError, Global};
-use trace_format::{Access, Description, Trace};
 use world_parts::State;
 
 /// What OPENAT opens, how, and where the description goes.
@@ -40,12 +40,12 @@ pub(crate) struct Opening<'a> {
 /// The room for a description: the slot that is asked for, or where none is the lowest free
 /// descriptor.
 fn find_room(
-    trace: &Trace,
-    ring: u8,
+    trace: &Recording,
+    ring: u32,
     asked: Option<u32>,
     state: &State,
 ) -> Result<FileNumber, Errno>
-    requires { IsSpelled trace.now }
+    requires { IsAccepted trace.now }
     ensures { room_found result ≡ meaning.room (in_ring trace.now ring) state.now asked }
 {
     match asked {
@@ -102,7 +102,7 @@ pub(crate) fn find_opening<'a>(
     asked: Option<u32>,
     state: &State,
 ) -> Result<Decision<'a>, Errno>
-    requires spelled { IsSpelled site.trace.now }
+    requires spelled { IsAccepted site.trace.now }
     requires lookup { Tells lookup.now (FindsPlace state.now (path_meant path) lookup.now) }
     ensures meaning { Decides
         (openat_meaning (site_meant site.entry) state.now (flags_meant flags) asked
@@ -155,7 +155,7 @@ fn open_node(
 /// Puts a description into its room. Answers the number of the descriptor.
 fn fill(
     alloc: Global,
-    ring: u8,
+    ring: u32,
     room: FileNumber,
     description: u32,
     state: &mut State,

@@ -12,7 +12,7 @@ ghost use Rattle.op_meaning.specs.NameChanges.{decision_meant};
 ghost use Rattle.op_meaning.specs.Outcomes.{Answers, world_after};
 ghost use Rattle.op_meaning.specs.Site.{IsSite, site_meant};
 ghost use Rattle.trace_format.specs.Sides.{most_moved};
-ghost use Rattle.trace_format.specs.Text.{IsSpelled};
+ghost use Rattle.recording.specs.Accepted.{IsAccepted};
 ghost use Rattle.world_parts.specs.World.{World};
 
 use crate::allocating::AllocationRequest;
@@ -49,7 +49,7 @@ fn decide_on_rest<'a>(
     state: &State,
 ) -> Result<Decision<'a>, Errno>
     requires rest { asked (meant op) ≡ None }
-    requires spelled { IsSpelled site.trace.now }
+    requires spelled { IsAccepted site.trace.now }
     requires lookup { Tells lookup.now
         (Finds (site_meant site) state.now (look (shape (meant op))) lookup.now) }
     ensures meaning { Decides
@@ -96,7 +96,7 @@ fn decide<'a>(
     lookup: &Lookup<'a>,
     state: &State,
 ) -> Result<Decision<'a>, Errno>
-    requires spelled { IsSpelled site.trace.now }
+    requires spelled { IsAccepted site.trace.now }
     requires lookup { Tells lookup.now
         (Finds (site_meant site) state.now (look (shape (meant op))) lookup.now) }
     ensures meaning { Decides
@@ -165,7 +165,7 @@ pub(crate) fn run_operation(
 /// Whether the world accepts an operation where an entry stands, by what its file number or its
 /// paths lead to: whether it is done without an error. It takes no memory.
 pub fn accepts<'a>(site: Site<'_>, op: Op<'a>, lookup: &Lookup<'a>, state: &State) -> bool
-    requires spelled { IsSpelled site.trace.now }
+    requires spelled { IsAccepted site.trace.now }
     requires lookup { Finds (site_meant site) state.now (look (shape (meant op))) lookup.now }
     ensures { result ≡ is_ok (meaning (site_meant site.entry) state.now (meant op.entry)) }
 {

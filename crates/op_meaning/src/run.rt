@@ -1,5 +1,5 @@
 //! A place of a trace, run on a part of the world.
-ghost use Rattle.std.specs.Prelude.{◌≡◌, ◌<◌, ◌≤◌, ◌^◌, [], IfOk, IfSome};
+ghost use Rattle.std.specs.Prelude.{◌≡◌, ◌<◌, ◌≤◌, ◌^◌, [], map, IfOk, IfSome};
 ghost use Rattle.std.specs.Prelude.{OnOk, Some, false, pos, true};
 ghost use Rattle.chain_plan.specs.Chain.{role};
 ghost use Rattle.entry_checks.specs.Meant.{meant};
@@ -7,13 +7,14 @@ ghost use Rattle.entry_checks.specs.Operation.{asked};
 ghost use Rattle.op_meaning.specs.Outcomes.{answered, fails_as, reply_with};
 ghost use Rattle.op_meaning.specs.Runs.{run_on};
 ghost use Rattle.op_meaning.specs.Site.{IsSite};
-ghost use Rattle.op_meaning.specs.Step.{breaks, error_reply};
+ghost use Rattle.op_meaning.specs.Step.{breaks, error_reply, filled_slot, held_by};
 ghost use Rattle.op_meaning.specs.Step.{reply_of, step_reply, step_world};
 ghost use Rattle.op_meaning.specs.Step as step;
 ghost use Rattle.op_meaning.specs.Turns.{turn_world};
 ghost use Rattle.trace_format.specs.Sides.{most_moved};
-ghost use Rattle.trace_format.specs.Steps.{places};
-ghost use Rattle.trace_format.specs.Text.{IsSpelled};
+ghost use Rattle.trace_records.specs.declared.record.FullSlot as full;
+ghost use Rattle.recording.specs.Steps.{places};
+ghost use Rattle.recording.specs.Accepted.{IsAccepted};
 ghost use Rattle.world_parts.specs.World.{apply_all};
 
 use crate::limits::MOST_MOVED;
@@ -25,9 +26,9 @@ use crate::turn::{Turn, TurnKind, turn_of};
 use chain_plan::Role;
 use entry_checks::Op;
 use extent_bytes::ReadBytes;
+use recording::{Entry, FullSlot, Holder, Recording};
 use sqe_codec::{CQE_SKIP_SUCCESS, Errno, IO_HARDLINK};
 use std::alloc::{AllocError, Global};
-use trace_format::{Entry, Trace};
 use world_parts::{Broken, Part, State};
 
 /// Runs the step at a place of a trace on a part of the world.
@@ -38,11 +39,11 @@ use world_parts::{Broken, Part, State};
 pub fn run_entry(
     alloc: Global,
     place: u32,
-    trace: &Trace,
+    trace: &Recording,
     role_there: &Role,
     part: &mut Part,
 ) -> Result<Reply, AllocError>
-    requires trace { IsSpelled trace.now }
+    requires trace { IsAccepted trace.now }
     requires place { place < places trace.now }
     requires role { role_there.now ≡ role trace.now place }
     ensures reply { IfOk result (λ reply. Some reply ≡ step_reply trace.now place part.old.values) }
@@ -59,11 +60,11 @@ pub fn run_entry(
 pub fn run_on_state(
     alloc: Global,
     place: u32,
-    trace: &Trace,
+    trace: &Recording,
     role_there: &Role,
     state: &mut State,
 ) -> Result<Reply, AllocError>
-    requires trace { IsSpelled trace.now }
+    requires trace { IsAccepted trace.now }
     requires place { place < places trace.now }
     requires role { role_there.now ≡ role trace.now place }
     ensures reply { IfOk result (λ reply. Some reply ≡ step_reply trace.now place state.old) }
@@ -80,6 +81,10 @@ pub fn run_on_state(
             state.fill_from_blob(ring, buffer, u64::from(*offset), bytes)?;
             Ok(silent(alloc))
         }
+        TurnKind::Registers(slots) => {
+            register(alloc, ring, slots.as_slice(), state)?;
+            Ok(silent(alloc))
+        }
         TurnKind::Refused { error, posted } => Ok(refused(alloc, *error, *posted)),
         TurnKind::Canceled { posted } => Ok(refused(alloc, Errno::ECANCELED, *posted)),
         TurnKind::Runs { entry, op } => {
@@ -87,6 +92,50 @@ pub fn run_on_state(
             run(alloc, site, entry, *op, role_there, state)
         }
     }
+}
+
+/// What a slot of a new ring gets.
+fn held_by(holder: Holder, state: &State) -> Option<u32>
+    ensures { result ≡ held_by state.now holder }
+{
+    match holder {
+        Holder::Slot { ring, number } => state.slot(ring, number),
+        Holder::Descriptor { number } => state.descriptor(number),
+        Holder::Description { number } => state.description(number).map(|_| number),
+    }
+}
+
+/// What the slots of a new ring get.
+fn all_held(
+    alloc: Global,
+    slots: &[FullSlot],
+    state: &State,
+) -> Result<Vec<Option<u32>>, AllocError>
+    ensures { IfOk result (λ held. held.items
+        ≡ map (λ (x : full.FullSlot). held_by state.now x.holds) slots.now) }
+{
+    let mut held = Vec::with_capacity(alloc, slots.len())?;
+    for slot in slots {
+        held.push(held_by(slot.holds, state))?;
+    }
+    Ok(held)
+}
+
+/// Fills the slots of a new ring with what others hold.
+fn register(
+    alloc: Global,
+    ring: u32,
+    slots: &[FullSlot],
+    state: &mut State,
+) -> Result<(), AllocError>
+    ensures { OnOk result
+        (state.new ≡ apply_all (map (filled_slot ring state.old) slots.now) state.old) }
+{
+    let held = all_held(alloc, slots, state)?;
+    for (i, slot) in slots.iter().enumerate() {
+        state.set_slot(ring, slot.number, held[i])?;
+    }
+    Ok(())
 }
 
 /// Runs an operation, and breaks its chain where it fails.
@@ -192,7 +241,7 @@ fn refused(alloc: Global, error: Errno, posted: bool) -> Reply
     }
 }
 
-/// The reply to a fill, which is not posted. It takes no memory.
+/// The reply to a fill or a new ring, which is not posted. It takes no memory.
 fn silent(alloc: Global) -> Reply
     ensures { result ≡ record { res = pos 0; bytes = []; posted = false } }
 {

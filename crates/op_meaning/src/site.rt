@@ -1,10 +1,10 @@
 //! Where the entries of a trace stand.
-use trace_format::Trace;
+use recording::Recording;
 
 /// Where an entry stands: its trace, its place in it, and its ring.
 #[derive(Clone, Copy)]
 pub struct Site<'a> {
-    pub trace: &'a Trace,
+    pub trace: &'a Recording,
     pub place: u32,
-    pub ring: u8,
+    pub ring: u32,
 }

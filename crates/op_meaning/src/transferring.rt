@@ -88,7 +88,7 @@ pub(crate) fn read(alloc: Global, read: FileRead, state: &mut State) -> Result<D
 /// Out of memory.
 pub(crate) fn read_fixed(
     alloc: Global,
-    ring: u8,
+    ring: u32,
     read: BufferRead,
     state: &mut State,
 ) -> Result<Done, AllocError>
@@ -146,7 +146,7 @@ pub(crate) fn write(
 /// Out of memory.
 pub(crate) fn write_fixed(
     alloc: Global,
-    ring: u8,
+    ring: u32,
     write: BufferWrite,
     state: &mut State,
 ) -> Result<Done, AllocError>

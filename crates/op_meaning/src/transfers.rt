@@ -23,8 +23,9 @@ use crate::limits::{LARGEST, MOST_MOVED};
 use crate::lookup::Lookup;
 use crate::site::Site;
 use entry_checks::{BufferSpan, FileNumber};
+use recording::Recording;
 use sqe_codec::Errno;
-use trace_format::{TextSlice, Trace};
+use trace_format::TextSlice;
 use world_parts::State;
 
 /// The open file that a read at an offset is from, or why it is refused.
@@ -45,8 +46,8 @@ pub(crate) fn readable_at(
 /// The open file that a read at an offset is from, and where in the registered buffer its bytes go,
 /// or why it is refused.
 pub(crate) fn readable_into(
-    trace: &Trace,
-    ring: u8,
+    trace: &Recording,
+    ring: u32,
     opened: Option<OpenFile>,
     offset: u64,
     span: BufferSpan,
@@ -229,7 +230,7 @@ pub(crate) fn writing<'a>(
 }
 
 /// How many bytes of a span, which starts at an offset of its buffer, a transfer moves.
-fn count_in_buffer(ring: u8, span: BufferSpan, at: u64, state: &State) -> u64
+fn count_in_buffer(ring: u32, span: BufferSpan, at: u64, state: &State) -> u64
     ensures count { result ≡ length (take (min span.length most_moved)
         (drop at (unwrap_or (world.buffer state.now ring span.index) []))) }
     ensures inside { 0 < result
@@ -255,8 +256,8 @@ pub(crate) struct BufferWrite {
 
 /// The write that a span asks for, cut at the largest size of a file, or why it is refused.
 fn writable_from(
-    trace: &Trace,
-    ring: u8,
+    trace: &Recording,
+    ring: u32,
     opened: Option<OpenFile>,
     offset: u64,
     span: BufferSpan,

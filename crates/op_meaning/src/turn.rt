@@ -9,22 +9,22 @@ ghost use Rattle.op_meaning.specs.Step as step;
 ghost use Rattle.op_meaning.specs.Turns.{IsShort, kind_meant, turn_meant};
 ghost use Rattle.op_meaning.specs.Step.{ring_at};
 ghost use Rattle.trace_format.specs.Sides.{is_side_of, most_moved};
-ghost use Rattle.trace_format.specs.Steps.{places};
-ghost use Rattle.trace_format.specs.Text.{IsSpelled};
+ghost use Rattle.recording.specs.Steps.{places};
+ghost use Rattle.recording.specs.Accepted.{IsAccepted};
 ghost use Rattle.world_parts.specs.Uses.{broken_meant};
 ghost use Rattle.world_parts.specs.World.{broken};
 
 use chain_plan::Role;
 use entry_checks::{Op, check};
+use recording::{Action, Blob, Entry, FullSlot, Recording, Series};
 use sqe_codec::Errno;
-use trace_format::{Action, Blob, Entry, Trace};
 use world_parts::{Broken, State};
 
 /// What a place does, and the ring of which it is.
 #[derive(Drop)]
 pub struct Turn<'a> {
     /// The number of its ring.
-    pub ring: u8,
+    pub ring: u32,
     /// What it does.
     pub kind: TurnKind<'a>,
 }
@@ -38,6 +38,8 @@ pub enum TurnKind<'a> {
         offset: u32,
         bytes: &'a Blob,
     },
+    /// It fills slots of its ring, which is new, with what others hold.
+    Registers(&'a Series<FullSlot>),
     /// It fails its tests, or stands in a chain in which a member does: its error, and whether a
     /// completion is posted.
     Refused {
@@ -59,11 +61,11 @@ pub enum TurnKind<'a> {
 #[inline(always)]
 pub fn turn_under<'a>(
     place: u32,
-    trace: &'a Trace,
+    trace: &'a Recording,
     role_there: &Role,
     flag: Option<Broken>,
 ) -> Turn<'a>
-    requires trace { IsSpelled trace.now }
+    requires trace { IsAccepted trace.now }
     requires place { place < places trace.now }
     requires role { role_there.now ≡ role trace.now place }
     ensures ring { result.ring ≡ ring_at trace.now place }
@@ -83,6 +85,7 @@ pub fn turn_under<'a>(
             offset: *offset,
             bytes: *bytes,
         },
+        Action::Register(slots) => TurnKind::Registers(*slots),
     };
     Turn {
         ring: step.ring,
@@ -93,7 +96,7 @@ pub fn turn_under<'a>(
 /// What the place of an entry does.
 #[inline(always)]
 fn submitted<'a>(
-    trace: &'a Trace,
+    trace: &'a Recording,
     entry: &Entry<'a>,
     role_there: &Role,
     flag: Option<Broken>,
@@ -141,8 +144,8 @@ fn executed<'a>(
 
 /// What a place with its role does in a world. It takes no memory.
 #[inline(always)]
-pub fn turn_of<'a>(place: u32, trace: &'a Trace, role_there: &Role, state: &State) -> Turn<'a>
-    requires trace { IsSpelled trace.now }
+pub fn turn_of<'a>(place: u32, trace: &'a Recording, role_there: &Role, state: &State) -> Turn<'a>
+    requires trace { IsAccepted trace.now }
     requires place { place < places trace.now }
     requires role { role_there.now ≡ role trace.now place }
     ensures ring { result.ring ≡ ring_at trace.now place }

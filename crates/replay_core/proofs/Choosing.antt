@@ -6,9 +6,9 @@ use Rattle.interleaving.specs.Machine.{has}
 use Rattle.interleaving.specs.Gather.{AllDifferent, SideBySide}
 use Rattle.interleaving.proofs.Members.{has-other, has-different, has-choice, has-middle}
 use Rattle.interleaving.proofs.Rounding.{rounds_gathered_lem}
-use Rattle.trace_format.specs.declared.trace.Trace.{Trace}
-use Rattle.trace_format.specs.Steps.{places}
-use Rattle.trace_format.specs.Text.{IsSpelled}
+use Rattle.recording.specs.declared.recording.Recording.{Recording}
+use Rattle.recording.specs.Steps.{places}
+use Rattle.recording.specs.Accepted.{IsAccepted}
 use Rattle.world_parts.specs.World.{World, IsWorld}
 use Rattle.world_parts.specs.Items.{Footprint, collide}
 use Rattle.foot_print.specs.Footprint.{footprint}
@@ -29,7 +29,7 @@ pub different-front : (xs : List ℕ) (k : ℕ) (rest : List ℕ) → AllDiffere
 different-front [] k rest h = refl
 different-front (x ∷ xs) k rest h = has-other k x xs (has-different k x (xs ++ k ∷ rest) h.0 (has-middle xs k rest)) ∙ different-front xs k rest h.1
 
-module _ (t : Trace) (spelled : IsSpelled t) (window : ℕ) where
+module _ (t : Recording) (spelled : IsAccepted t) (window : ℕ) where
   module _ (r : ℕ) where
     abbrev s : World
     s = (state_after t window r).world
@@ -51,7 +51,7 @@ module _ (t : Trace) (spelled : IsSpelled t) (window : ℕ) where
     chosen_within k h = let c = has-choice (Rattle.interleaving.specs.Machine.is_free (replayed t) (state_after t window r)) window (has (state_after t window r).finished) (places t) k h in (c.1, c.2)
 
 -- A place of a wave with its access set.
-chosen_from : (t : Trace) (s : World) (o : Option ℕ) (c : Chosen) → option_map (λ (k : ℕ). let x : Chosen = record { place = k; footprint = footprint t k s } in x) o ≡ Some c → (o ≡ Some c.place) × (c.footprint ≡ footprint t c.place s)
+chosen_from : (t : Recording) (s : World) (o : Option ℕ) (c : Chosen) → option_map (λ (k : ℕ). let x : Chosen = record { place = k; footprint = footprint t k s } in x) o ≡ Some c → (o ≡ Some c.place) × (c.footprint ≡ footprint t c.place s)
 chosen_from t s None c e = (cc)
 chosen_from t s (Some k) c e = (ap (option_map (λ (x : Chosen). x.place)) e, is)
   where
@@ -70,12 +70,12 @@ chosen_from t s (Some k) c e = (ap (option_map (λ (x : Chosen). x.place)) e, is
     is : c.footprint ≡ footprint t c.place s
     is = sym theirs ∙ ap (λ j. footprint t j s) here
 
-pub chosen_at : (t : Trace) (window r n : ℕ) (items : List Chosen) (c : Chosen) → items ≡ map (picking.chosen_at t (state_after t window r).world) (wave_after t window r) → slice_get items n ≡ Some c
+pub chosen_at : (t : Recording) (window r n : ℕ) (items : List Chosen) (c : Chosen) → items ≡ map (picking.chosen_at t (state_after t window r).world) (wave_after t window r) → slice_get items n ≡ Some c
     → (slice_get (wave_after t window r) n ≡ Some c.place) × (c.footprint ≡ footprint t c.place (state_after t window r).world)
 chosen_at t window r n items c e at =
     chosen_from t (state_after t window r).world (slice_get (wave_after t window r) n) c (sym (slice_get-map _ (wave_after t window r) n) ∙ ap (λ xs. slice_get xs n) (sym e) ∙ at)
 
-pub chosen_places : (t : Trace) (s : World) (ks : List ℕ) → map (λ (c : Chosen). c.place) (map (picking.chosen_at t s) ks) ≡ ks
+pub chosen_places : (t : Recording) (s : World) (ks : List ℕ) → map (λ (c : Chosen). c.place) (map (picking.chosen_at t s) ks) ≡ ks
 chosen_places t s [] = refl
 chosen_places t s (k ∷ ks) = ap (λ js. k ∷ js) (chosen_places t s ks)
 
@@ -88,7 +88,7 @@ pending-few done (suc n) = go (done n) (pending-few done n)
     go true h = omega arith
     go false h = omega (arith, length-append (pending done n) (n ∷ []))
 
-pub wave-few : (t : Trace) (window r : ℕ) → length (wave_after t window r) ≤ places t
+pub wave-few : (t : Recording) (window r : ℕ) → length (wave_after t window r) ≤ places t
 wave-few t window r =
     let s = state_after t window r in
     let ps = pending (has s.finished) (places t) in

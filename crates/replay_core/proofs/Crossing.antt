@@ -12,8 +12,8 @@ use Rattle.std.proofs.Crossing.{crosses}
 use Rattle.std.specs.contracts.alloc.AllocError as AllocError
 use Rattle.std.specs.contracts.alloc.Global as Global
 use Rattle.std.specs.contracts.result.Result as Result
-use Rattle.trace_format.specs.contracts.trace.Trace as Trace
-use Rattle.trace_format.proofs.trace.Trace.TheSendSync as trace
+use Rattle.recording.specs.contracts.recording.Recording as Recording
+use Rattle.recording.proofs.recording.Recording.TheSendSync as recording
 use Rattle.world_parts.specs.contracts.part.Part as Part
 use Rattle.world_parts.proofs.Crossing.{part_send}
 use Rattle.op_meaning.specs.contracts.reply.Reply as Reply
@@ -50,10 +50,10 @@ desk_sync = desk.the_sync Run.the_row done ghosts run_send done_send
 -- what a helper's thread takes with it
 module _ (ν : Sym) (G : RattleType) (ℓ ℓ' ℓ'' : NamedLft) where
   abbrev taken : List RattleType
-  taken = Global.the_row ∷ (shr_ref_field ℓ (Desk.the_row Run.the_row done ghosts) tt).row ∷ DeskSeat.the_row Run.the_row done ghosts ∷ (shr_ref_field ℓ' Trace.the_row tt).row ∷ (shr_ref_field ℓ'' (param 2 G) tt).row ∷ []
+  taken = Global.the_row ∷ (shr_ref_field ℓ (Desk.the_row Run.the_row done ghosts) tt).row ∷ DeskSeat.the_row Run.the_row done ghosts ∷ (shr_ref_field ℓ' Recording.the_row tt).row ∷ (shr_ref_field ℓ'' (param 2 G) tt).row ∷ []
 
   pub taken_send : IsSync (param 2 G) → IsSend (TupleAt ν taken)
   taken_send shared = recorded_send (field_at ν taken).row _ _ (type_at ν taken).to_one (struct_send (shape (type_at ν taken)) (
     (search (crosses, sendable) depth 20),
-    (shr_send _ _ _ desk_sync, (seat_send, (shr_send _ _ _ trace.the_sync, (shr_send _ _ _ shared, tt)))),
+    (shr_send _ _ _ desk_sync, (seat_send, (shr_send _ _ _ recording.the_sync, (shr_send _ _ _ shared, tt)))),
   ))

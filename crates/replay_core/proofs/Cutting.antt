@@ -8,8 +8,8 @@ use Rattle.interleaving.specs.Machine.{has}
 use Rattle.interleaving.specs.Gather.{AllDifferent}
 use Rattle.interleaving.proofs.Members.{has-here, has-later, has-different, has-middle, has-front}
 use Rattle.finite_maps.specs.Table.{get, number_keys, get-insert}
-use Rattle.trace_format.specs.declared.trace.Trace.{Trace}
-use Rattle.trace_format.specs.Text.{IsSpelled}
+use Rattle.recording.specs.declared.recording.Recording.{Recording}
+use Rattle.recording.specs.Accepted.{IsAccepted}
 use Rattle.world_parts.specs.World.{World}
 use Rattle.world_parts.specs.Items.{Footprint, collide}
 use Rattle.world_parts.specs.Part.{Part, Divided}
@@ -30,7 +30,7 @@ use Rattle.replay_core.proofs.Choosing.{side, chosen_awaits, chosen_free, differ
 use Rattle.wave_pick.proofs.Lists.{get-push}
 use Rattle.std.proofs.lemmas.List.{map_push}
 
-module _ (t : Trace) (s : World) where
+module _ (t : Recording) (s : World) where
   holed-more : (ps : List Part) (q : Part) (u : World) → holed_by (footprints t s (ps ++ q ∷ [])) u ≡ holed (footprint t q.place s) (holed_by (footprints t s ps) u)
   holed-more [] q u = refl
   holed-more (p ∷ ps) q u = holed-more ps q (holed (footprint t p.place s) u)
@@ -79,15 +79,15 @@ module _ (t : Trace) (s : World) where
   all_free q (p ∷ ps) h = both (not (collide (footprint t p.place s) (footprint t q.place s))) _ (h p.place (has-here p.place (places ps))) (all_free q ps (λ j m. h j (has-later j p.place (places ps) m)))
 
 -- What is known of a place whose part is cut out behind those of others of its round.
-pub record HasCut (t : Trace) (window r : ℕ) (ps : List Part) (rest : List ℕ) (before after : Divided) (f : Footprint) (part : Part) : Type 0 where
-  pub spelled : IsSpelled t
+pub record HasCut (t : Recording) (window r : ℕ) (ps : List Part) (rest : List ℕ) (before after : Divided) (f : Footprint) (part : Part) : Type 0 where
+  pub spelled : IsAccepted t
   pub out : AreOut t (state_after t window r).world (state_after t window r).world ps before
   pub order : places ps ++ part.place ∷ rest ≡ wave_after t window r
   pub foot : f ≡ footprint t part.place (state_after t window r).world
   pub cut : IsPartOf before.world f part.values
   pub left : after ≡ cut_from before part.place f
 
-module _ (t : Trace) (window r : ℕ) (ps : List Part) (rest : List ℕ) (before after : Divided) (f : Footprint) (part : Part) (h : HasCut t window r ps rest before after f part) where
+module _ (t : Recording) (window r : ℕ) (ps : List Part) (rest : List ℕ) (before after : Divided) (f : Footprint) (part : Part) (h : HasCut t window r ps rest before after f part) where
   abbrev s : World
   s = (state_after t window r).world
 
@@ -126,13 +126,13 @@ module _ (t : Trace) (window r : ℕ) (ps : List Part) (rest : List ℕ) (before
   }
 
 -- A place whose part isn't out yet.
-pub is_home : (t : Trace) (window r : ℕ) (spelled : IsSpelled t) (ps : List Part) (k : ℕ) (rest : List ℕ) (before : Divided)
+pub is_home : (t : Recording) (window r : ℕ) (spelled : IsAccepted t) (ps : List Part) (k : ℕ) (rest : List ℕ) (before : Divided)
     → AreOut t (state_after t window r).world (state_after t window r).world ps before → places ps ++ k ∷ rest ≡ wave_after t window r → get before.out k ≡ None
 is_home t window r spelled ps k rest before out order =
     out.out k ∙ out-none t (state_after t window r).world ps k (different-front (places ps) k rest (subst AllDifferent (sym order) (side t spelled window r).different))
 
 -- One job more.
-pub of-more : (t : Trace) (jobs more : List Run) (run : Run) → more ≡ jobs ++ run ∷ [] → run.trace.value ≡ t → AreOf t jobs → AreOf t more
+pub of-more : (t : Recording) (jobs more : List Run) (run : Run) → more ≡ jobs ++ run ∷ [] → run.trace.value ≡ t → AreOf t jobs → AreOf t more
 of-more t jobs more run e is of k other at = go (get-push jobs run other k (ap (λ xs. slice_get xs k) (sym e) ∙ at))
   where
     go : (slice_get jobs k ≡ Some other) ⊎ (run ≡ other) → other.trace.value ≡ t
@@ -142,7 +142,7 @@ of-more t jobs more run e is of k other at = go (get-push jobs run other k (ap (
 pub parts-more : (jobs more : List Run) (run : Run) → more ≡ jobs ++ run ∷ [] → parts_of more ≡ parts_of jobs ++ run.part ∷ []
 parts-more jobs more run e = ap parts_of e ∙ map_push (λ (x : Run). x.part) jobs run
 
-pub wave-more : (t : Trace) (window r n : ℕ) (jobs more : List Run) (run : Run) (k : ℕ) → more ≡ jobs ++ run ∷ [] → places (parts_of jobs) ≡ take n (wave_after t window r) → slice_get (wave_after t window r) n ≡ Some k → run.part.place ≡ k
+pub wave-more : (t : Recording) (window r n : ℕ) (jobs more : List Run) (run : Run) (k : ℕ) → more ≡ jobs ++ run ∷ [] → places (parts_of jobs) ≡ take n (wave_after t window r) → slice_get (wave_after t window r) n ≡ Some k → run.part.place ≡ k
     → places (parts_of more) ≡ take (suc n) (wave_after t window r)
 wave-more t window r n jobs more run k e wave at is =
     ap places (parts-more jobs more run e) ∙ map_push (λ (p : Part). p.place) (parts_of jobs) run.part ∙ (λ i. wave i ++ is i ∷ [])

@@ -11,9 +11,9 @@ use Rattle.std.proofs.lemmas.Option.{get_or_from_slice_get}
 use Rattle.interleaving.specs.Machine.{State, has}
 use Rattle.interleaving.specs.Rounds.{pending}
 use Rattle.interleaving.proofs.Onwards.{finished_after, pending-later, pending-all}
-use Rattle.trace_format.specs.declared.trace.Trace.{Trace}
-use Rattle.trace_format.specs.Steps.{places}
-use Rattle.trace_format.specs.Text.{IsSpelled}
+use Rattle.recording.specs.declared.recording.Recording.{Recording}
+use Rattle.recording.specs.Steps.{places}
+use Rattle.recording.specs.Accepted.{IsAccepted}
 use Rattle.foot_print.specs.Replayed.{replayed}
 use Rattle.wave_pick.specs.Rounds.{state_after, wave_after}
 use Rattle.replay_core.specs.Progressing.{IsFront}
@@ -122,12 +122,12 @@ rises-first xs ys rises k lt =
     let more = rises k (omega (arith, length-append xs ys)) in
     omega (arith, more, get_or_append_left xs ys 0 k (omega arith), get_or_append_left xs ys 0 (k + 1) lt)
 
-pub rises-front : (t : Trace) (window : ℕ) (x : State (replayed t)) (front : List ℕ) (next : ℕ) → IsFront t window x front next → IsStrictlyIncreasing front
+pub rises-front : (t : Recording) (window : ℕ) (x : State (replayed t)) (front : List ℕ) (next : ℕ) → IsFront t window x front next → IsStrictlyIncreasing front
 rises-front t window x front next h =
     rises-first front (range_with_len next (places t - next)) (subst IsStrictlyIncreasing h.all (rises-pending (has x.finished) (places t)))
 
 -- Of a front those are done that the round ran.
-pub done_is_ran : (t : Trace) → IsSpelled t → (window r : ℕ) (front : List ℕ) (next : ℕ) → IsFront t window (state_after t window r) front next
+pub done_is_ran : (t : Recording) → IsAccepted t → (window r : ℕ) (front : List ℕ) (next : ℕ) → IsFront t window (state_after t window r) front next
     → (done : List Bool) → ((k : ℕ) → k < places t → slice_get done k ≡ Some (has (state_after t window (r + 1)).finished k))
     → (k : ℕ) → has front k ≡ true → slice_index_or done k false ≡ has (wave_after t window r) k
 done_is_ran t spelled window r front next h done is k m =

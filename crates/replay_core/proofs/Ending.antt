@@ -6,9 +6,9 @@ use Rattle.interleaving.specs.System.{sequential}
 use Rattle.interleaving.specs.Machine.{State, opening, is_free, IsSequential}
 use Rattle.interleaving.proofs.Onwards.{rounds-still}
 use Rattle.interleaving.proofs.Rounding.{rounds_sequential_lem}
-use Rattle.trace_format.specs.declared.trace.Trace.{Trace}
-use Rattle.trace_format.specs.Steps.{places}
-use Rattle.trace_format.specs.Text.{IsSpelled}
+use Rattle.recording.specs.declared.recording.Recording.{Recording}
+use Rattle.recording.specs.Steps.{places}
+use Rattle.recording.specs.Accepted.{IsAccepted}
 use Rattle.sqe_codec.specs.Answers.{each}
 use Rattle.world_parts.specs.Part.{whole}
 use Rattle.op_meaning.specs.declared.reply.Reply.{Reply}
@@ -24,7 +24,7 @@ use Rattle.replay_core.specs.Progressing.{Keeps, Stands}
 use Rattle.replay_core.proofs.Lists.{take-more, take-whole, mapped-so-far}
 use Rattle.replay_core.proofs.Fronts.{front_is}
 
-module _ (t : Trace) (spelled : IsSpelled t) (p : Progress) (h : Stands t p) where
+module _ (t : Recording) (spelled : IsAccepted t) (p : Progress) (h : Stands t p) where
   abbrev x : State (replayed t)
   x = state_after t p.window p.round
 
@@ -65,7 +65,7 @@ get-replicate (suc n) zero x lt = refl
 get-replicate (suc n) (suc k) x lt = get-replicate n k x (omega arith)
 
 -- Before the first round nothing is kept.
-pub keeps_none : (t : Trace) (window : ℕ) (replies : List Reply) (rounds : List ℕ) (done : List Bool) → length replies ≡ places t → length rounds ≡ places t → done ≡ replicate (places t) false
+pub keeps_none : (t : Recording) (window : ℕ) (replies : List Reply) (rounds : List ℕ) (done : List Bool) → length replies ≡ places t → length rounds ≡ places t → done ≡ replicate (places t) false
     → Keeps t window (opening (replayed t)) replies rounds done
 keeps_none t window replies rounds done a b c = record {
   many_replies = a;

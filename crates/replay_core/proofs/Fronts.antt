@@ -10,9 +10,9 @@ use Rattle.interleaving.specs.Machine.{State, has, opening}
 use Rattle.interleaving.specs.Rounds.{pending, in_turn}
 use Rattle.interleaving.proofs.Members.{has-here, has-later, has-cases, has-pending, has-filter, has-front, has-back, has-either}
 use Rattle.interleaving.proofs.Onwards.{stays_finished, finished_by, pending-later, range-snoc, pending-all}
-use Rattle.trace_format.specs.declared.trace.Trace.{Trace}
-use Rattle.trace_format.specs.Steps.{places}
-use Rattle.trace_format.specs.Text.{IsSpelled}
+use Rattle.recording.specs.declared.recording.Recording.{Recording}
+use Rattle.recording.specs.Steps.{places}
+use Rattle.recording.specs.Accepted.{IsAccepted}
 use Rattle.foot_print.specs.Replayed.{replayed}
 use Rattle.wave_pick.specs.Rounds.{state_after, wave_after}
 use Rattle.replay_core.specs.Progressing.{IsFront}
@@ -48,7 +48,7 @@ take-within (suc w) (x ∷ xs) ys h f = ap (λ zs. x ∷ zs) (take-within w xs y
     less (inl e) = inl (omega (arith, e))
     less (inr e) = inr e
 
-module _ (t : Trace) (window : ℕ) (x : State (replayed t)) (front : List ℕ) (next : ℕ) (h : IsFront t window x front next) where
+module _ (t : Recording) (window : ℕ) (x : State (replayed t)) (front : List ℕ) (next : ℕ) (h : IsFront t window x front next) where
   empty_behind : (length front ≡ window) ⊎ (next ≡ places t) → (length front ≡ window) ⊎ (range_with_len next (places t - next) ≡ [])
   empty_behind (inl e) = inl e
   empty_behind (inr e) =
@@ -88,7 +88,7 @@ split-range a (suc b) n =
     let f : (a + 1) + b ≡ a + suc b = omega arith in
     ap (range_with_len a) e ∙ ap (λ zs. a ∷ zs) (split-range (a + 1) b n) ∙ ap (λ z. (a ∷ range_with_len (a + 1) b) ++ range_with_len z n) f
 
-module _ (t : Trace) (spelled : IsSpelled t) (window r : ℕ) (front : List ℕ) (next : ℕ) (h : IsFront t window (state_after t window r) front next) where
+module _ (t : Recording) (spelled : IsAccepted t) (window r : ℕ) (front : List ℕ) (next : ℕ) (h : IsFront t window (state_after t window r) front next) where
   abbrev x : State (replayed t)
   x = state_after t window r
 
@@ -152,7 +152,7 @@ range-to a b h =
     ap (range_with_len a) n ∙ range-snoc a (b - a) ∙ ap (λ z. range_with_len a (b - a) ++ z ∷ []) e
 
 -- Before the first round.
-pub front_first : (t : Trace) (window : ℕ) (front : List ℕ) (next : ℕ) → next ≤ places t → front ≡ range_with_len 0 (next - 0) → length front ≤ window → (length front ≡ window) ⊎ (next ≡ places t)
+pub front_first : (t : Recording) (window : ℕ) (front : List ℕ) (next : ℕ) → next ≤ places t → front ≡ range_with_len 0 (next - 0) → length front ≤ window → (length front ≡ window) ⊎ (next ≡ places t)
     → IsFront t window (opening (replayed t)) front next
 front_first t window front next high is few full =
     let e : next - 0 ≡ next = omega arith in

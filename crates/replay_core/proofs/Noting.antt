@@ -12,9 +12,9 @@ use Rattle.interleaving.specs.Rounds.{in_turn, round}
 use Rattle.interleaving.proofs.Members.{has-here, has-other, has-later, has-cases, has-filter}
 use Rattle.interleaving.proofs.Onwards.{chosen_open, ends_finished, finished_by, rounds-more, rounds-still, stays_finished, still_open}
 use Rattle.interleaving.proofs.Rounding.{rounds_finish}
-use Rattle.trace_format.specs.declared.trace.Trace.{Trace}
-use Rattle.trace_format.specs.Steps.{places}
-use Rattle.trace_format.specs.Text.{IsSpelled}
+use Rattle.recording.specs.declared.recording.Recording.{Recording}
+use Rattle.recording.specs.Steps.{places}
+use Rattle.recording.specs.Accepted.{IsAccepted}
 use Rattle.foot_print.specs.Replayed.{replayed}
 use Rattle.wave_pick.specs.Lawful.{lawful}
 use Rattle.wave_pick.specs.Rounds.{state_after, wave_after, round_of, rounds, waves}
@@ -40,7 +40,7 @@ more-same true g = refl
 more-same false g = refl
 
 -- Places that are noted with their holders have these, and others what they had.
-module _ (t : Trace) (s : State (replayed t)) where
+module _ (t : Recording) (s : State (replayed t)) where
   abbrev over : List ℕ → ℕ → Option Holder → Option Holder
   over ks k v = if has ks k then option_or (holder_in t s k) v else v
 
@@ -106,7 +106,7 @@ or-none : (o : Option Holder) → option_or o None ≡ o
 or-none None = refl
 or-none (Some h) = refl
 
-module _ (t : Trace) (window : ℕ) where
+module _ (t : Recording) (window : ℕ) where
   next_is : (r : ℕ) → state_after t window (suc r) ≡ round (replayed t) (places t) window (state_after t window r)
   next_is r = rounds-more (replayed t) (places t) window r (opening (replayed t))
 
@@ -138,7 +138,7 @@ module _ (t : Trace) (window : ℕ) where
       }
 
 -- After a round in which those of its places are told that run in the next one.
-module _ (t : Trace) (spelled : IsSpelled t) (window : ℕ) (wide : 1 ≤ window) (r : ℕ) (front : List ℕ) (next : ℕ) (h : IsFront t window (state_after t window r) front next) where
+module _ (t : Recording) (spelled : IsAccepted t) (window : ℕ) (wide : 1 ≤ window) (r : ℕ) (front : List ℕ) (next : ℕ) (h : IsFront t window (state_after t window r) front next) where
   abbrev x : State (replayed t)
   x = state_after t window r
 
@@ -224,7 +224,7 @@ module _ (t : Trace) (spelled : IsSpelled t) (window : ℕ) (wide : 1 ≤ window
       })
 
 -- Once all places are done.
-module _ (t : Trace) (spelled : IsSpelled t) (p : Progress) (h : Stands t p) (over : (p.front.items ≡ []) ⊎ (p.round ≡ places t)) where
+module _ (t : Recording) (spelled : IsAccepted t) (p : Progress) (h : Stands t p) (over : (p.front.items ≡ []) ⊎ (p.round ≡ places t)) where
   all_done : (k : ℕ) → k < places t → has (state_after t p.window p.round).finished k ≡ true
   all_done k lt = go over
     where

@@ -2,8 +2,8 @@
 use Rattle.std.proofs.Common.{◌≡◌, ◌+◌, ◌<◌, ℕ, All, List, map, filter, take, ap, sym, subst, ◌∙◌}
 use Rattle.interleaving.specs.Machine.{has}
 use Rattle.interleaving.specs.Rounds.{pending}
-use Rattle.trace_format.specs.declared.trace.Trace.{Trace}
-use Rattle.trace_format.specs.Steps.{places}
+use Rattle.recording.specs.declared.recording.Recording.{Recording}
+use Rattle.recording.specs.Steps.{places}
 use Rattle.world_parts.specs.Part.{whole}
 use Rattle.wave_pick.specs.Picking.{IsNextWave}
 use Rattle.wave_pick.specs.Rounds.{state_after}
@@ -17,7 +17,7 @@ use Rattle.replay_core.specs.Progressing.{HasChosen, HasPicked, HasRun, HasTold,
 use Rattle.replay_core.proofs.Fronts.{all_of, front_is, front_open, same_window}
 
 -- What is handed to a scheduler, and what that gives.
-module _ {t : Trace} {p : Progress} (stands : Stands t p) (front : List ℕ) (same : front ≡ p.front.items) where
+module _ {t : Recording} {p : Progress} (stands : Stands t p) (front : List ℕ) (same : front ≡ p.front.items) where
   pub are_places : All (λ k. k < places t) front
   are_places = all_of (λ (k : ℕ). k < places t) front
       (λ k m. (front_open t p.window (state_after t p.window p.round) p.front.items p.next stands.front k (ap (λ ks. has ks k) (sym same) ∙ m)).0)
@@ -39,7 +39,7 @@ module _ {t : Trace} {p : Progress} (stands : Stands t p) (front : List ℕ) (sa
       (shown ∙ front_is t p.window (state_after t p.window p.round) p.front.items p.next stands.front)
 
 -- Picking changes nothing but the scheduler.
-module _ (t : Trace) (old picked : Progress) (rest : picked ≡ record old { scheduler = picked.scheduler }) where
+module _ (t : Recording) (old picked : Progress) (rest : picked ≡ record old { scheduler = picked.scheduler }) where
   pub ready : Stands t old → HasPicked t (old.round + 1) picked → IsReady t picked
   ready stands has = subst (IsReady t) (sym rest) (record {
     window = stands.window;
@@ -56,7 +56,7 @@ module _ (t : Trace) (old picked : Progress) (rest : picked ≡ record old { sch
   still_chosen wave h = subst (λ (p : Progress). HasChosen t p wave) (sym rest) h
 
 -- Running the places changes neither the round nor what it looks at.
-module _ {t : Trace} {picked new : Progress} (ready : IsReady t picked) (ran : HasRun t picked new) where
+module _ {t : Recording} {picked new : Progress} (ready : IsReady t picked) (ran : HasRun t picked new) where
   abbrev pub window : new.window ≡ picked.window
   window = ran.rest.0
 

@@ -8,7 +8,7 @@ use lib.Dec.{eqb→eq}
 use Rattle.interleaving.specs.Machine.{State, has}
 use Rattle.interleaving.proofs.Members.{has-other}
 use Rattle.finite_maps.specs.Table.{empty, get, assign, number_keys, get-assign, same_table}
-use Rattle.trace_format.specs.declared.trace.Trace.{Trace}
+use Rattle.recording.specs.declared.recording.Recording.{Recording}
 use Rattle.world_parts.specs.World.{World, IsWorld}
 use Rattle.world_parts.specs.Items.{Footprint}
 use Rattle.world_parts.specs.Part.{Part, Divided, whole}
@@ -34,11 +34,11 @@ all_holes_keep [] s w = w
 all_holes_keep (f ∷ fs) s w = all_holes_keep fs (holed f s) (holes_keep f s w)
 
 -- A place that has run on its part, which is put back before those of others.
-pub record HasReturned (t : Trace) (s u : World) (p : Part) (ps : List Part) (before : Divided) (back : Part) : Type 0 where
+pub record HasReturned (t : Recording) (s u : World) (p : Part) (ps : List Part) (before : Divided) (back : Part) : Type 0 where
   pub out : AreOut t s u (p ∷ ps) before
   pub run : back ≡ run_on t p.place p
 
-module _ (t : Trace) (s u : World) (p : Part) (ps : List Part) (before : Divided) (back : Part) (h : HasReturned t s u p ps before back) where
+module _ (t : Recording) (s u : World) (p : Part) (ps : List Part) (before : Divided) (back : Part) (h : HasReturned t s u p ps before back) where
   abbrev f : Footprint
   f = footprint t p.place s
 
@@ -98,11 +98,11 @@ module _ (t : Trace) (s u : World) (p : Part) (ps : List Part) (before : Divided
   reply_is = steps.reply
 
 -- No part is out any more.
-pub all_home : (t : Trace) (s u : World) (d : Divided) → AreOut t s u [] d → d ≡ whole u
+pub all_home : (t : Recording) (s u : World) (d : Divided) → AreOut t s u [] d → d ≡ whole u
 all_home t s u d h = λ i. record { world = h.world i; out = same_table number_keys d.out empty (λ k. h.out k) i }
 
 -- While parts are put back: what the places so far have led to, with the parts that are left still out.
-pub record Returns (t : Trace) (window r : ℕ) (ps : List Part) (d : Divided) (replies : List Reply) (rounds : List ℕ) (done : List Bool) : Type 0 where
+pub record Returns (t : Recording) (window r : ℕ) (ps : List Part) (d : Divided) (replies : List Reply) (rounds : List ℕ) (done : List Bool) : Type 0 where
   pub state : State (replayed t)
   pub out : AreOut t (state_after t window r).world state.world ps d
   pub steps : Steps t window r (parts.places ps) state replies rounds done

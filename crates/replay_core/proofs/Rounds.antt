@@ -8,9 +8,9 @@ use Rattle.std.proofs.lemmas.Option.{slice_get-map, slice_get_within}
 use Rattle.deal_desk.specs.Desks.{AreValues}
 use Rattle.interleaving.specs.Machine.{State}
 use Rattle.interleaving.proofs.Onwards.{ran}
-use Rattle.trace_format.specs.declared.trace.Trace.{Trace}
-use Rattle.trace_format.specs.Steps.{places}
-use Rattle.trace_format.specs.Text.{IsSpelled}
+use Rattle.recording.specs.declared.recording.Recording.{Recording}
+use Rattle.recording.specs.Steps.{places}
+use Rattle.recording.specs.Accepted.{IsAccepted}
 use Rattle.world_parts.specs.Part.{Part, Divided, whole}
 use Rattle.op_meaning.specs.declared.reply.Reply.{Reply}
 use Rattle.op_meaning.specs.Step.{step_world, step_reply}
@@ -26,7 +26,7 @@ use Rattle.replay_core.proofs.Stepping.{Steps, steps-begin, steps-on, steps-end}
 use Rattle.replay_core.proofs.Returning.{Returns, all_home, reply_is}
 use Rattle.wave_pick.proofs.Lists.{get-some}
 
-module _ (t : Trace) (spelled : IsSpelled t) (window r : ℕ) where
+module _ (t : Recording) (spelled : IsAccepted t) (window r : ℕ) where
   pub begins : (jobs : List Run) (d : Divided) (replies : List Reply) (rounds : List ℕ) (done : List Bool) → r < places t → AreDealt t window r jobs d
       → Keeps t window (state_after t window r) replies rounds done → Returns t window r (parts_of jobs) d replies rounds done
   begins jobs d replies rounds done lt h keeps = record {
@@ -53,20 +53,20 @@ module _ (t : Trace) (spelled : IsSpelled t) (window r : ℕ) where
   )
 
 -- The outcome at a place of the list is that of the part there.
-pub record IsOutcomeAt (t : Trace) (jobs : List Run) (n : ℕ) (reply : Reply) (back : Part) : Type 0 where
+pub record IsOutcomeAt (t : Recording) (jobs : List Run) (n : ℕ) (reply : Reply) (back : Part) : Type 0 where
   pub part : Part
   pub here : drop n (parts_of jobs) ≡ part ∷ drop (suc n) (parts_of jobs)
   pub answer : Some reply ≡ step_reply t part.place part.values
   pub back_is : back ≡ run_on t part.place part
 
-pub outcome_at : (t : Trace) (jobs : List Run) (outcomes : List (Result (Reply × Part) AllocError)) (n : ℕ) (reply : Reply) (back : Part)
+pub outcome_at : (t : Recording) (jobs : List Run) (outcomes : List (Result (Reply × Part) AllocError)) (n : ℕ) (reply : Reply) (back : Part)
     → AreOf t jobs → AreValues (λ (run : Run) (d : Result (Reply × Part) AllocError). IsOutcome run.trace.value run.part d) jobs outcomes → slice_get outcomes n ≡ Some (Ok (reply, back)) → IsOutcomeAt t jobs n reply back
 outcome_at t jobs outcomes n reply back of values at =
     let within : n < length jobs = omega (arith, slice_get_within outcomes n (Ok (reply, back)) at, values.0) in
     let found = get-some jobs n within in
     let job : Run = found.0 in
     let is : IsOutcome job.trace.value job.part (Ok (reply, back)) = values.1 n (Ok (reply, back)) at job found.1 in
-    let its : IsOutcome t job.part (Ok (reply, back)) = subst (λ (u : Trace). IsOutcome u job.part (Ok (reply, back))) (of n job found.1) is in
+    let its : IsOutcome t job.part (Ok (reply, back)) = subst (λ (u : Recording). IsOutcome u job.part (Ok (reply, back))) (of n job found.1) is in
     record {
       part = job.part;
       here = drop-here (parts_of jobs) n job.part (slice_get-map (λ (run : Run). run.part) jobs n ∙ ap (option_map (λ (run : Run). run.part)) found.1);

@@ -8,9 +8,9 @@ use Rattle.interleaving.specs.Rounds.{in_turn, round}
 use Rattle.interleaving.proofs.Members.{has-here, has-later, has-other}
 use Rattle.interleaving.proofs.Onwards.{ran, rounds-more}
 use Rattle.interleaving.proofs.Orders.{reply-here, reply-other}
-use Rattle.trace_format.specs.declared.trace.Trace.{Trace}
-use Rattle.trace_format.specs.Steps.{places}
-use Rattle.trace_format.specs.Text.{IsSpelled}
+use Rattle.recording.specs.declared.recording.Recording.{Recording}
+use Rattle.recording.specs.Steps.{places}
+use Rattle.recording.specs.Accepted.{IsAccepted}
 use Rattle.world_parts.specs.World.{World}
 use Rattle.world_parts.specs.Part.{whole}
 use Rattle.op_meaning.specs.declared.reply.Reply.{Reply}
@@ -24,7 +24,7 @@ use Rattle.replay_core.proofs.Choosing.{chosen_within}
 use Rattle.wave_pick.proofs.Lists.{set-here, set-other}
 
 -- One place more is kept.
-pub keeps_more : (t : Trace) (window : ℕ) (x : State (replayed t)) (replies : List Reply) (rounds : List ℕ) (done : List Bool) (k r : ℕ) (reply : Reply)
+pub keeps_more : (t : Recording) (window : ℕ) (x : State (replayed t)) (replies : List Reply) (rounds : List ℕ) (done : List Bool) (k r : ℕ) (reply : Reply)
     → k < places t → Keeps t window x replies rounds done → Some reply ≡ step_reply t k x.world → round_of (waves t window) k ≡ r
     → Keeps t window (ran (replayed t) x k) (set replies k reply) (set rounds k r) (set done k true)
 keeps_more t window x replies rounds done k r reply lt h is in_round = record {
@@ -55,17 +55,17 @@ keeps_more t window x replies rounds done k r reply lt h is in_round = record {
     marked j within (inr ne) = set-other done k j true ne ∙ h.is_done j within ∙ ap Some (sym (has-other j k x.finished ne))
 
 -- What the places of a round so far have led to, what is kept of each place, and the places that are left.
-pub record Steps (t : Trace) (window r : ℕ) (ks : List ℕ) (x : State (replayed t)) (replies : List Reply) (rounds : List ℕ) (done : List Bool) : Type 0 where
+pub record Steps (t : Recording) (window r : ℕ) (ks : List ℕ) (x : State (replayed t)) (replies : List Reply) (rounds : List ℕ) (done : List Bool) : Type 0 where
   pub keeps : Keeps t window x replies rounds done
   pub leads : run (replayed t) x (in_turn ks) ≡ state_after t window (r + 1)
   pub settled : (k : ℕ) → has ks k ≡ true → (k < places t) × (round_of (waves t window) k ≡ r)
 
-pub next_state : (t : Trace) (window r : ℕ) → round (replayed t) (places t) window (state_after t window r) ≡ state_after t window (r + 1)
+pub next_state : (t : Recording) (window r : ℕ) → round (replayed t) (places t) window (state_after t window r) ≡ state_after t window (r + 1)
 next_state t window r =
     let more : suc r ≡ r + 1 = omega arith in
     sym (rounds-more (replayed t) (places t) window r (opening (replayed t))) ∙ ap (state_after t window) more
 
-pub steps-begin : (t : Trace) (spelled : IsSpelled t) (window r : ℕ) (replies : List Reply) (rounds : List ℕ) (done : List Bool) → r < places t
+pub steps-begin : (t : Recording) (spelled : IsAccepted t) (window r : ℕ) (replies : List Reply) (rounds : List ℕ) (done : List Bool) → r < places t
     → Keeps t window (state_after t window r) replies rounds done → Steps t window r (wave_after t window r) (state_after t window r) replies rounds done
 steps-begin t spelled window r replies rounds done lt keeps = record {
   keeps = keeps;
@@ -73,7 +73,7 @@ steps-begin t spelled window r replies rounds done lt keeps = record {
   settled = λ k m. ((chosen_within t spelled window r k m).0, number_is t window (places t) r (opening (replayed t)) k lt m);
 }
 
-pub steps-on : (t : Trace) (window r k : ℕ) (ks : List ℕ) (x : State (replayed t)) (replies : List Reply) (rounds : List ℕ) (done : List Bool) (reply : Reply)
+pub steps-on : (t : Recording) (window r k : ℕ) (ks : List ℕ) (x : State (replayed t)) (replies : List Reply) (rounds : List ℕ) (done : List Bool) (reply : Reply)
     → Steps t window r (k ∷ ks) x replies rounds done → Some reply ≡ step_reply t k x.world → Steps t window r ks (ran (replayed t) x k) (set replies k reply) (set rounds k r) (set done k true)
 steps-on t window r k ks x replies rounds done reply h is =
     let mine = h.settled k (has-here k ks) in
@@ -83,12 +83,12 @@ steps-on t window r k ks x replies rounds done reply h is =
       settled = λ j m. h.settled j (has-later j k ks m);
     }
 
-pub steps-end : (t : Trace) (window r : ℕ) (x : State (replayed t)) (replies : List Reply) (rounds : List ℕ) (done : List Bool)
+pub steps-end : (t : Recording) (window r : ℕ) (x : State (replayed t)) (replies : List Reply) (rounds : List ℕ) (done : List Bool)
     → Steps t window r [] x replies rounds done → Keeps t window (state_after t window (r + 1)) replies rounds done
 steps-end t window r x replies rounds done h = subst (λ (y : State (replayed t)). Keeps t window y replies rounds done) h.leads h.keeps
 
 -- While places run one after another on all of the world, which is this one.
-pub record StepsHere (t : Trace) (window r : ℕ) (ks : List ℕ) (u : World) (replies : List Reply) (rounds : List ℕ) (done : List Bool) : Type 0 where
+pub record StepsHere (t : Recording) (window r : ℕ) (ks : List ℕ) (u : World) (replies : List Reply) (rounds : List ℕ) (done : List Bool) : Type 0 where
   pub state : State (replayed t)
   pub world : u ≡ state.world
   pub steps : Steps t window r ks state replies rounds done
@@ -101,7 +101,7 @@ pub same_round-on : (before now after : Progress) → IsSameRound before now →
 same_round-on before now after p q = (q.0 ∙ p.0, q.1 ∙ p.1, q.2 ∙ p.2, q.3 ∙ p.3, q.4 ∙ p.4)
 
 -- once a round is over
-pub has_run : (t : Trace) (before after : Progress) → Keeps t before.window (state_after t before.window (before.round + 1)) after.replies after.rounds.items after.done.items
+pub has_run : (t : Recording) (before after : Progress) → Keeps t before.window (state_after t before.window (before.round + 1)) after.replies after.rounds.items after.done.items
     → after.world ≡ whole (state_after t before.window (before.round + 1)).world → IsSameRound before after → HasRun t before after
 has_run t before after keeps world rest = record {
   world = world;

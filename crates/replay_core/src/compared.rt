@@ -4,7 +4,7 @@ ghost use denote.Param.Send.{IsSync};
 ghost use Rattle.replay_core.specs.Comparing.{IsVerdictOf, WantsMemoryOrThread};
 ghost use Rattle.replay_core.specs.Rounds.{IsReplay};
 ghost use Rattle.replay_core.specs.Serial.{IsSequential};
-ghost use Rattle.trace_format.specs.Text.{IsSpelled};
+ghost use Rattle.recording.specs.Accepted.{IsAccepted};
 
 use crate::comparing::verdict_on;
 use crate::difference::Verdict;
@@ -12,10 +12,10 @@ use crate::eager::EagerGate;
 use crate::gate::{Gate, NoGate};
 use crate::parallel::replay;
 use crate::serial::{Replay, ReplayFault, replay_serial};
+use recording::Recording;
 use std::alloc::{AllocError, Global};
 use std::sync::Wait;
 use std::thread::Threads;
-use trace_format::Trace;
 
 /// What answers with a replay of its own, which may be compared with another one's.
 pub trait Replayer {
@@ -45,11 +45,11 @@ pub trait Replayer {
 /// The replay of a trace in recorded order.
 #[derive(Clone, Copy)]
 pub struct InOrder<'a> {
-    pub trace: &'a Trace,
+    pub trace: &'a Recording,
 }
 
 impl Replayer for InOrder<'_> {
-    ghost can_answer = { λ s. IsSpelled s.trace.now };
+    ghost can_answer = { λ s. IsAccepted s.trace.now };
 
     ghost answers = { λ s replay. IsSequential s.trace.now replay };
 
@@ -70,14 +70,14 @@ impl Replayer for InOrder<'_> {
 /// where it is eager, by [`EagerGate`].
 #[derive(Clone, Copy)]
 pub struct InRounds<'a> {
-    pub trace: &'a Trace,
+    pub trace: &'a Recording,
     pub workers: u32,
     pub window: u32,
     pub eager: bool,
 }
 
 impl Replayer for InRounds<'_> {
-    ghost can_answer = { λ s. IsSpelled s.trace.now × (1 ≤ s.workers) × (s.workers ≤ 64)
+    ghost can_answer = { λ s. IsAccepted s.trace.now × (1 ≤ s.workers) × (s.workers ≤ 64)
         × (1 ≤ s.window) × (s.window ≤ 4096) };
 
     ghost answers = { λ s replay. IsReplay s.trace.now s.window replay };
@@ -99,12 +99,12 @@ impl Replayer for InRounds<'_> {
 fn boxed_replay<R: Threads + Wait + Sync, G: Gate + Sync>(
     rt: &R,
     alloc: Global,
-    trace: &Trace,
+    trace: &Recording,
     workers: u32,
     window: u32,
     gate: &G,
 ) -> Result<Box<Replay>, ReplayFault>
-    requires trace { IsSpelled trace.now }
+    requires trace { IsAccepted trace.now }
     requires workers { (1 ≤ workers) × (workers ≤ 64) }
     requires window { (1 ≤ window) × (window ≤ 4096) }
     ensures ok { IfOk result (λ replay. IsReplay trace.now window replay.value) }

@@ -3,8 +3,8 @@ use crate::gate::Gate;
 use crate::round::WORTH_A_THREAD;
 use chain_plan::Role;
 use op_meaning::{Reply, run_entry};
+use recording::Recording;
 use std::alloc::{AllocError, Global};
-use trace_format::Trace;
 use world_parts::Part;
 
 /// Runs a place as [`crate::NoGate`] does, and weighs each as worth a thread. So where there is a
@@ -18,14 +18,14 @@ impl Gate for EagerGate {
         &self,
         alloc: Global,
         place: u32,
-        trace: &Trace,
+        trace: &Recording,
         role_there: &Role,
         part: &mut Part,
     ) -> Result<Reply, AllocError> {
         run_entry(alloc, place, trace, role_there, part)
     }
 
-    fn weight(&self, _trace: &Trace, _place: u32) -> u64 {
+    fn weight(&self, _trace: &Recording, _place: u32) -> u64 {
         WORTH_A_THREAD
     }
 }

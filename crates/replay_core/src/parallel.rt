@@ -1,16 +1,16 @@
 //! The replay in rounds, each on worker threads.
 ghost use Rattle.std.specs.Prelude.{◌≡◌, ◌≢◌, ◌≤◌, ◌<◌, ◌⊎◌, ◌↔◌, Err, IfOk};
 ghost use Rattle.replay_core.specs.Rounds.{IsReplay};
-ghost use Rattle.trace_format.specs.Text.{IsSpelled};
+ghost use Rattle.recording.specs.Accepted.{IsAccepted};
 
 use crate::gate::Gate;
 use crate::progress::Progress;
 use crate::round::RoundFault;
 use crate::serial::{Replay, ReplayFault};
+use recording::Recording;
 use std::alloc::Global;
 use std::sync::Wait;
 use std::thread::Threads;
-use trace_format::Trace;
 
 /// The most workers, and the most places that a round looks at.
 const MOST_WORKERS: u32 = 64;
@@ -49,12 +49,12 @@ pub(crate) fn checked(workers: u32, window: u32) -> Result<(), ReplayFault>
 pub fn replay<R: Threads + Wait + Sync, G: Gate + Sync>(
     rt: &R,
     alloc: Global,
-    trace: &Trace,
+    trace: &Recording,
     workers: u32,
     window: u32,
     gate: &G,
 ) -> Result<Replay, ReplayFault>
-    requires { IsSpelled trace.now }
+    requires { IsAccepted trace.now }
     ensures replay { IfOk result (λ replay. IsReplay trace.now window replay) }
     ensures workers { (result ≡ Err ReplayFault.Workers) ↔ ((workers ≡ 0) ⊎ (64 < workers)) }
     ensures window { (result ≡ Err ReplayFault.Window) ↔ ((1 ≤ workers) × (workers ≤ 64)
@@ -73,12 +73,12 @@ pub fn replay<R: Threads + Wait + Sync, G: Gate + Sync>(
 pub(crate) fn in_rounds<R: Threads + Wait + Sync, G: Gate + Sync>(
     rt: &R,
     alloc: Global,
-    trace: &Trace,
+    trace: &Recording,
     workers: u32,
     window: u32,
     gate: &G,
 ) -> Result<Replay, RoundFault>
-    requires trace { IsSpelled trace.now }
+    requires trace { IsAccepted trace.now }
     requires workers { workers ≤ 64 }
     requires window { 1 ≤ window }
     ensures replay { IfOk result (λ replay. IsReplay trace.now window replay) }

@@ -8,8 +8,8 @@ ghost use Rattle.replay_core.specs.Progressing.{AreDealt, Begins, HasChosen, Has
 ghost use Rattle.replay_core.specs.Progressing.{HasTold, IsFront, IsReady, IsSameRound, KeptAfter};
 ghost use Rattle.replay_core.specs.Progressing.{Stands};
 ghost use Rattle.replay_core.specs.Rounds.{IsReplay};
-ghost use Rattle.trace_format.specs.Steps.{places};
-ghost use Rattle.trace_format.specs.Text.{IsSpelled};
+ghost use Rattle.recording.specs.Steps.{places};
+ghost use Rattle.recording.specs.Accepted.{IsAccepted};
 ghost use Rattle.wave_pick.specs.Rounds.{state_after, wave_after};
 ghost use Rattle.world_parts.specs.Part.{whole};
 
@@ -21,12 +21,12 @@ use crate::serial::Replay;
 use chain_plan::Plan;
 use extent_bytes::ReadBytes;
 use op_meaning::{Replies, Reply};
+use recording::{Recording, Series};
 use round_scheduler::{Held, Scheduler};
 use std::alloc::{AllocError, Global};
 use std::snapshot::Snapshot;
 use std::sync::Wait;
 use std::thread::Threads;
-use trace_format::{Series, Trace};
 use wave_pick::Wave;
 use world_parts::{Part, World};
 
@@ -101,8 +101,8 @@ fn none_done(alloc: Global, places: u32) -> Result<Vec<bool>, AllocError>
 
 impl Progress {
     /// Before the first round.
-    pub(crate) fn new(alloc: Global, trace: &Trace, window: u32) -> Result<Self, AllocError>
-        requires trace { IsSpelled trace.now }
+    pub(crate) fn new(alloc: Global, trace: &Recording, window: u32) -> Result<Self, AllocError>
+        requires trace { IsAccepted trace.now }
         requires window { 1 ≤ window }
         ensures stands { IfOk result (λ progress. Stands trace.now progress) }
         ensures first { IfOk result
@@ -139,8 +139,8 @@ impl Progress {
     }
 
     /// The places of the next round, each with its access set.
-    fn pick(&mut self, alloc: Global, trace: &Trace, plan: &Plan) -> Result<Wave, AllocError>
-        requires trace { IsSpelled trace.now }
+    fn pick(&mut self, alloc: Global, trace: &Recording, plan: &Plan) -> Result<Wave, AllocError>
+        requires trace { IsAccepted trace.now }
         requires plan { plan.now ≡ roles trace.now }
         requires round { self.old.round < places trace.now }
         requires stands { Stands trace.now self.old }
@@ -164,11 +164,11 @@ impl Progress {
     fn pick_telling(
         &mut self,
         alloc: Global,
-        trace: &Trace,
+        trace: &Recording,
         plan: &Plan,
         rounds: &[u32],
     ) -> Result<(Wave, Series<Held>), AllocError>
-        requires trace { IsSpelled trace.now }
+        requires trace { IsAccepted trace.now }
         requires plan { plan.now ≡ roles trace.now }
         requires round { self.old.round < places trace.now }
         requires stands { Stands trace.now self.old }
@@ -215,12 +215,12 @@ impl Progress {
     fn run_here<G: Gate>(
         &mut self,
         alloc: Global,
-        trace: &Trace,
+        trace: &Recording,
         plan: &Plan,
         gate: &G,
         ran: &[u32],
     ) -> Result<(), AllocError>
-        requires trace { IsSpelled trace.now }
+        requires trace { IsAccepted trace.now }
         requires plan { plan.now ≡ roles trace.now }
         requires round { self.old.round < places trace.now }
         requires begins { Begins trace.now self.old }
@@ -240,11 +240,11 @@ impl Progress {
     fn deal(
         &mut self,
         alloc: Global,
-        trace: &Trace,
+        trace: &Recording,
         plan: &Plan,
         wave: Wave,
     ) -> Result<Vec<Run>, AllocError>
-        requires trace { IsSpelled trace.now }
+        requires trace { IsAccepted trace.now }
         requires plan { plan.now ≡ roles trace.now }
         requires begins { Begins trace.now self.old }
         requires wave { HasChosen trace.now self.old wave }
@@ -268,11 +268,11 @@ impl Progress {
     fn gather(
         &mut self,
         alloc: Global,
-        trace: &Trace,
+        trace: &Recording,
         jobs: Snapshot<Vec<Run>>,
         outcomes: Vec<Result<(Reply, Part), AllocError>>,
     ) -> Result<(), AllocError>
-        requires trace { IsSpelled trace.now }
+        requires trace { IsAccepted trace.now }
         requires round { self.old.round < places trace.now }
         requires keeps { KeptAfter trace.now self.old.round self.old }
         requires dealt { AreDealt trace.now self.old.window self.old.round jobs.value.items self.old.world }
@@ -294,13 +294,13 @@ impl Progress {
         &mut self,
         rt: &R,
         alloc: Global,
-        trace: &Trace,
+        trace: &Recording,
         plan: &Plan,
         gate: &G,
         wave: Wave,
         helpers: u32,
     ) -> Result<(), RoundFault>
-        requires trace { IsSpelled trace.now }
+        requires trace { IsAccepted trace.now }
         requires plan { plan.now ≡ roles trace.now }
         requires helpers { helpers < 64 }
         requires round { self.old.round < places trace.now }
@@ -321,14 +321,14 @@ impl Progress {
         &mut self,
         rt: &R,
         alloc: Global,
-        trace: &Trace,
+        trace: &Recording,
         plan: &Plan,
         workers: u32,
         gate: &G,
         wave: Wave,
         ran: &[u32],
     ) -> Result<(), RoundFault>
-        requires trace { IsSpelled trace.now }
+        requires trace { IsAccepted trace.now }
         requires plan { plan.now ≡ roles trace.now }
         requires workers { workers ≤ 64 }
         requires round { self.old.round < places trace.now }
@@ -346,8 +346,8 @@ impl Progress {
     }
 
     /// Looks on to the places that the next round may run.
-    fn advance(&mut self, trace: &Trace, ran: &[u32]) -> Result<(), AllocError>
-        requires trace { IsSpelled trace.now }
+    fn advance(&mut self, trace: &Recording, ran: &[u32]) -> Result<(), AllocError>
+        requires trace { IsAccepted trace.now }
         requires round { self.old.round < places trace.now }
         requires window { 1 ≤ self.old.window }
         requires world { self.old.world
@@ -371,12 +371,12 @@ impl Progress {
         &mut self,
         rt: &R,
         alloc: Global,
-        trace: &Trace,
+        trace: &Recording,
         plan: &Plan,
         workers: u32,
         gate: &G,
     ) -> Result<(), RoundFault>
-        requires trace { IsSpelled trace.now }
+        requires trace { IsAccepted trace.now }
         requires plan { plan.now ≡ roles trace.now }
         requires workers { workers ≤ 64 }
         requires round { self.old.round < places trace.now }
@@ -396,13 +396,13 @@ impl Progress {
         &mut self,
         rt: &R,
         alloc: Global,
-        trace: &Trace,
+        trace: &Recording,
         plan: &Plan,
         workers: u32,
         gate: &G,
         rounds: &[u32],
     ) -> Result<Series<Held>, RoundFault>
-        requires trace { IsSpelled trace.now }
+        requires trace { IsAccepted trace.now }
         requires plan { plan.now ≡ roles trace.now }
         requires workers { workers ≤ 64 }
         requires round { self.old.round < places trace.now }
@@ -423,13 +423,13 @@ impl Progress {
         &mut self,
         rt: &R,
         alloc: Global,
-        trace: &Trace,
+        trace: &Recording,
         plan: &Plan,
         workers: u32,
         gate: &G,
         wave: Wave,
     ) -> Result<(), RoundFault>
-        requires trace { IsSpelled trace.now }
+        requires trace { IsAccepted trace.now }
         requires plan { plan.now ≡ roles trace.now }
         requires workers { workers ≤ 64 }
         requires round { self.old.round < places trace.now }
@@ -451,11 +451,11 @@ impl Progress {
         &mut self,
         rt: &R,
         alloc: Global,
-        trace: &Trace,
+        trace: &Recording,
         workers: u32,
         gate: &G,
     ) -> Result<(), RoundFault>
-        requires trace { IsSpelled trace.now }
+        requires trace { IsAccepted trace.now }
         requires workers { workers ≤ 64 }
         requires stands { Stands trace.now self.old }
         requires first { self.old.round ≡ 0 }
@@ -476,8 +476,8 @@ impl Progress {
     }
 
     /// What the replay gives.
-    pub(crate) fn finish(self, trace: &Trace) -> Replay
-        requires trace { IsSpelled trace.now }
+    pub(crate) fn finish(self, trace: &Recording) -> Replay
+        requires trace { IsAccepted trace.now }
         requires stands { Stands trace.now self }
         requires over { (self.front.items ≡ []) ⊎ (self.round ≡ places trace.now) }
         ensures { IsReplay trace.now self.window result }

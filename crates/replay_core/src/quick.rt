@@ -2,8 +2,8 @@
 ghost use Rattle.std.specs.Prelude.{◌≡◌, ◌≢◌, ◌≤◌, ◌<◌, ◌⊎◌, ◌↔◌, Err, IfOk};
 ghost use Rattle.std.specs.List.{range_with_len};
 ghost use Rattle.op_meaning.specs.Step.{sequential_replies, sequential_world};
-ghost use Rattle.trace_format.specs.Steps.{places};
-ghost use Rattle.trace_format.specs.Text.{IsSpelled};
+ghost use Rattle.recording.specs.Steps.{places};
+ghost use Rattle.recording.specs.Accepted.{IsAccepted};
 ghost use Rattle.wave_pick.specs.Rounds.{rounds};
 ghost use Rattle.world_parts.specs.Part.{whole};
 
@@ -11,18 +11,18 @@ use crate::gate::{Gate, NoGate};
 use crate::parallel::{checked, replay};
 use crate::round::WORTH_A_THREAD;
 use crate::serial::{Replay, ReplayFault, replay_serial};
+use recording::Recording;
 use std::alloc::Global;
 use std::sync::Wait;
 use std::thread::Threads;
-use trace_format::Trace;
 
 /// How many microseconds a place has to weigh in the mean, so that rounds may pay: in them a place
 /// takes 1 to 8 more, by the window and by how many it waits for, even where none run side by side.
 const WORTH_ROUNDS: u64 = 16;
 
 /// What the places of a trace weigh together.
-fn weight_of<G: Gate>(trace: &Trace, gate: &G) -> u64
-    requires { IsSpelled trace.now }
+fn weight_of<G: Gate>(trace: &Recording, gate: &G) -> u64
+    requires { IsAccepted trace.now }
 {
     let mut weight = 0u64;
     for place in 0..trace.places() {
@@ -33,8 +33,8 @@ fn weight_of<G: Gate>(trace: &Trace, gate: &G) -> u64
 
 /// Whether a run in rounds may be the quicker one: where there is a second worker, the places are
 /// worth being looked at, and a full round of them is worth that worker. No answer depends on it.
-fn may_rounds_pay(trace: &Trace, workers: u32, window: u32) -> bool
-    requires { IsSpelled trace.now }
+fn may_rounds_pay(trace: &Recording, workers: u32, window: u32) -> bool
+    requires { IsAccepted trace.now }
 {
     if workers == 1 {
         return false;
@@ -59,11 +59,11 @@ fn may_rounds_pay(trace: &Trace, workers: u32, window: u32) -> bool
 pub fn replay_quick<R: Threads + Wait + Sync>(
     rt: &R,
     alloc: Global,
-    trace: &Trace,
+    trace: &Recording,
     workers: u32,
     window: u32,
 ) -> Result<Replay, ReplayFault>
-    requires { IsSpelled trace.now }
+    requires { IsAccepted trace.now }
     ensures world { IfOk result (λ replay. replay.world ≡ whole (sequential_world trace.now)) }
     ensures replies { IfOk result (λ replay. replay.replies ≡ sequential_replies trace.now) }
     ensures rounds { IfOk result (λ replay. (replay.rounds ≡ rounds trace.now window)

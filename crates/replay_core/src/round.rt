@@ -5,20 +5,20 @@ ghost use Rattle.deal_desk.specs.Desks.{hand_of, jobs_of, IsSeatOf, AreValues};
 ghost use Rattle.replay_core.specs.Jobs.{AreOf, IsOutcome};
 ghost use Rattle.replay_core.specs.Seats.{IsWorked, Grew};
 ghost use Rattle.replay_core.specs.declared.round.RoundFault.TheVariants.{Memory};
-ghost use Rattle.trace_format.specs.Steps.{places};
-ghost use Rattle.trace_format.specs.Text.{IsSpelled};
+ghost use Rattle.recording.specs.Steps.{places};
+ghost use Rattle.recording.specs.Accepted.{IsAccepted};
 
 use crate::gate::Gate;
 use crate::run::Run;
 use crate::workers::work;
 use deal_desk::{Desk, DeskFault, DeskSeat};
 use op_meaning::Reply;
+use recording::Recording;
 use std::alloc::{AllocError, Global};
 use std::snapshot::Snapshot;
 use std::sync::Wait;
 use std::thread;
 use std::thread::{Promise, Scope, Threads};
-use trace_format::Trace;
 use world_parts::Part;
 
 /// How many microseconds of work a thread is worth. Starting one takes a tenth to a third of that.
@@ -60,11 +60,11 @@ fn worked<G: Gate>(
     alloc: Global,
     desk: &Desk<Run>,
     mut seat: DeskSeat<Run>,
-    trace: &Trace,
+    trace: &Recording,
     gate: &G,
 ) -> DeskSeat<Run>
     requires desk { IsSeatOf desk.now seat }
-    requires spelled { IsSpelled trace.now }
+    requires spelled { IsAccepted trace.now }
     requires trace { AreOf trace.now (jobs_of desk.now) }
     requires new { ((hand_of seat).out ≡ None) × ((hand_of seat).opens ≡ false)
         × ((hand_of seat).merged ≡ 0) }
@@ -82,12 +82,12 @@ fn fan_out<'s, E, R: Threads, G: Gate + Sync>(
     scope: &Scope<'s, E>,
     desk: &'s Desk<Run>,
     opening: &mut DeskSeat<Run>,
-    trace: &'s Trace,
+    trace: &'s Recording,
     gate: &'s G,
     helpers: u32,
 ) -> bool
     requires desk { IsSeatOf desk.now opening.old }
-    requires spelled { IsSpelled trace.now }
+    requires spelled { IsAccepted trace.now }
     requires trace { AreOf trace.now (jobs_of desk.now) }
     requires opening { ((hand_of opening.old).opens ≡ true) × ((hand_of opening.old).out ≡ None) }
     requires room { (hand_of opening.old).given + helpers ≤ 65536 }
@@ -110,8 +110,8 @@ fn fan_out<'s, E, R: Threads, G: Gate + Sync>(
 
 /// How many workers a round is worth: one for each [`WORTH_A_THREAD`] that its places weigh, at
 /// least one, and no more than it has places, nor than `workers`.
-pub(crate) fn workers_worth<G: Gate>(ran: &[u32], workers: u32, trace: &Trace, gate: &G) -> u32
-    requires trace { IsSpelled trace.now }
+pub(crate) fn workers_worth<G: Gate>(ran: &[u32], workers: u32, trace: &Recording, gate: &G) -> u32
+    requires trace { IsAccepted trace.now }
     requires ran { All (λ k. k < places trace.now) ran.now }
     ensures few { result ≤ workers }
 {
@@ -130,10 +130,10 @@ pub(crate) fn run_round<R: Threads + Wait + Sync, G: Gate + Sync>(
     alloc: Global,
     jobs: Vec<Run>,
     helpers: u32,
-    trace: &Trace,
+    trace: &Recording,
     gate: &G,
 ) -> Result<Vec<Result<(Reply, Part), AllocError>>, RoundFault>
-    requires spelled { IsSpelled trace.now }
+    requires spelled { IsAccepted trace.now }
     requires trace { AreOf trace.now jobs.items }
     requires few { length jobs.items < 2 ^ 32 }
     requires helpers { helpers < 64 }
@@ -147,7 +147,7 @@ pub(crate) fn run_round<R: Threads + Wait + Sync, G: Gate + Sync>(
         rt,
         move |scope| -> Option<DeskSeat<Run>>
             requires desk { IsSeatOf shared.now opening }
-            requires spelled { IsSpelled trace.now }
+            requires spelled { IsAccepted trace.now }
             requires trace { AreOf trace.now (jobs_of shared.now) }
             requires opening { ((hand_of opening).opens ≡ true) × ((hand_of opening).out ≡ None)
                 × ((hand_of opening).given + helpers ≤ 65536) }

@@ -5,8 +5,8 @@ ghost use Rattle.std.specs.Option.{option_map};
 ghost use Rattle.replay_core.specs.Progressing.{Stands};
 ghost use Rattle.replay_core.specs.Waits.{IsRoundLog, waited_meant};
 ghost use Rattle.replay_core.specs.Noted.{AreAllNoted, AreNoted, noted};
-ghost use Rattle.trace_format.specs.Steps.{places};
-ghost use Rattle.trace_format.specs.Text.{IsSpelled};
+ghost use Rattle.recording.specs.Steps.{places};
+ghost use Rattle.recording.specs.Accepted.{IsAccepted};
 ghost use Rattle.round_scheduler.specs.Telling.{held_meant};
 ghost use Rattle.wave_pick.specs.Rounds as wave_rounds;
 
@@ -16,11 +16,11 @@ use crate::progress::Progress;
 use crate::round::RoundFault;
 use crate::serial::ReplayFault;
 use chain_plan::Plan;
+use recording::{Recording, Series};
 use round_scheduler::Held;
 use std::alloc::{AllocError, Global};
 use std::sync::Wait;
 use std::thread::Threads;
-use trace_format::{Series, Trace};
 use world_parts::Item;
 
 /// The place that another one waited for, and the item that both use.
@@ -47,10 +47,10 @@ pub struct RoundLog {
 pub fn log_rounds<R: Threads + Wait + Sync>(
     rt: &R,
     alloc: Global,
-    trace: &Trace,
+    trace: &Recording,
     window: u32,
 ) -> Result<RoundLog, ReplayFault>
-    requires { IsSpelled trace.now }
+    requires { IsAccepted trace.now }
     ensures log { IfOk result (λ log. IsRoundLog trace.now window log) }
     ensures window { (result ≡ Err ReplayFault.Window) ↔ ((window ≡ 0) ⊎ (4096 < window)) }
     ensures others { result ≢ Err ReplayFault.Workers }
@@ -70,10 +70,10 @@ pub fn log_rounds<R: Threads + Wait + Sync>(
 fn logged<R: Threads + Wait + Sync>(
     rt: &R,
     alloc: Global,
-    trace: &Trace,
+    trace: &Recording,
     window: u32,
 ) -> Result<RoundLog, RoundFault>
-    requires trace { IsSpelled trace.now }
+    requires trace { IsAccepted trace.now }
     requires window { 1 ≤ window }
     ensures log { IfOk result (λ log. IsRoundLog trace.now window log) }
     ensures alone { result ≢ Err RoundFault.NoThread }
@@ -87,10 +87,10 @@ fn logged<R: Threads + Wait + Sync>(
 fn numbered<R: Threads + Wait + Sync>(
     rt: &R,
     alloc: Global,
-    trace: &Trace,
+    trace: &Recording,
     window: u32,
 ) -> Result<Series<u32>, RoundFault>
-    requires trace { IsSpelled trace.now }
+    requires trace { IsAccepted trace.now }
     requires window { 1 ≤ window }
     ensures rounds { IfOk result (λ rounds. rounds ≡ wave_rounds.rounds trace.now window) }
     ensures alone { result ≢ Err RoundFault.NoThread }
@@ -105,11 +105,11 @@ fn numbered<R: Threads + Wait + Sync>(
 fn waits_by<R: Threads + Wait + Sync>(
     rt: &R,
     alloc: Global,
-    trace: &Trace,
+    trace: &Recording,
     window: u32,
     rounds: &[u32],
 ) -> Result<Series<Option<WaitedFor>>, RoundFault>
-    requires trace { IsSpelled trace.now }
+    requires trace { IsAccepted trace.now }
     requires window { 1 ≤ window }
     requires rounds { rounds.now ≡ wave_rounds.rounds trace.now window }
     ensures waits { IfOk result (AreAllNoted trace.now window) }
@@ -126,12 +126,12 @@ fn waits_by<R: Threads + Wait + Sync>(
 fn run_noting<R: Threads + Wait + Sync>(
     rt: &R,
     alloc: Global,
-    trace: &Trace,
+    trace: &Recording,
     rounds: &[u32],
     progress: &mut Progress,
     waits: &mut Vec<Option<WaitedFor>>,
 ) -> Result<(), RoundFault>
-    requires trace { IsSpelled trace.now }
+    requires trace { IsAccepted trace.now }
     requires stands { Stands trace.now progress.old }
     requires rounds { rounds.now ≡ wave_rounds.rounds trace.now progress.old.window }
     requires first { progress.old.round ≡ 0 }
@@ -151,8 +151,8 @@ fn run_noting<R: Threads + Wait + Sync>(
 }
 
 /// Before the first round no place has waited.
-fn no_waits(alloc: Global, trace: &Trace) -> Result<Vec<Option<WaitedFor>>, AllocError>
-    requires { IsSpelled trace.now }
+fn no_waits(alloc: Global, trace: &Recording) -> Result<Vec<Option<WaitedFor>>, AllocError>
+    requires { IsAccepted trace.now }
     ensures { IfOk result (λ waits. map (option_map waited_meant) waits.items
         ≡ replicate (places trace.now) None) }
 {

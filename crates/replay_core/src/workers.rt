@@ -3,24 +3,24 @@ ghost use Rattle.std.specs.Prelude.{◌≡◌, None};
 ghost use Rattle.deal_desk.specs.Desks.{hand_of, jobs_of, IsSeatOf};
 ghost use Rattle.replay_core.specs.Jobs.{AreOf};
 ghost use Rattle.replay_core.specs.Seats.{WorkedOff};
-ghost use Rattle.trace_format.specs.Text.{IsSpelled};
+ghost use Rattle.recording.specs.Accepted.{IsAccepted};
 
 use crate::gate::Gate;
 use crate::run::Run;
 use deal_desk::{Desk, DeskSeat};
+use recording::Recording;
 use std::alloc::Global;
-use trace_format::Trace;
 
 /// Draws jobs, runs each by the gate, and puts its outcome back, until all have been drawn.
 pub fn work<G: Gate>(
     alloc: Global,
     desk: &Desk<Run>,
     seat: &mut DeskSeat<Run>,
-    trace: &Trace,
+    trace: &Recording,
     gate: &G,
 )
     requires desk { IsSeatOf desk.now seat.old }
-    requires spelled { IsSpelled trace.now }
+    requires spelled { IsAccepted trace.now }
     requires trace { AreOf trace.now (jobs_of desk.now) }
     requires idle { (hand_of seat.old).out ≡ None }
     ensures desk { IsSeatOf desk.now seat.new }

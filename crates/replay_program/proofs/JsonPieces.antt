@@ -1,7 +1,7 @@
 -- The objects of a text that comes in pieces, and an output in its form.
 use Rattle.std.proofs.Common.{◌≡◌, ℕ, ◌+◌, ◌<◌, ◌++◌, List, length, get_or, take, sym, ap, ◌∙◌, append_assoc, refl}
 use Rattle.std.specs.List.{concat}
-use Rattle.trace_format.specs.declared.trace.Trace.{Trace}
+use Rattle.recording.specs.declared.recording.Recording.{Recording}
 use Rattle.json_lines.specs.Lines.{json_lines}
 use Rattle.replay_program.specs.declared.words.Form.{Form}
 use Rattle.replay_program.specs.declared.words.Mode.{Mode}
@@ -37,7 +37,7 @@ alone_is_no_comparison (Rounds window dot) h = absurd h
 alone_is_no_comparison (Depends dot) h = tt
 alone_is_no_comparison Check h = tt
 
-pub formed : (options : Options) (form : Form) (t : Trace) (text output : List ℕ) → IsNoComparison options.mode → IsModeOutput options.mode options.shown t text → output ≡ written_as form text
+pub formed : (options : Options) (form : Form) (t : Recording) (text output : List ℕ) → IsNoComparison options.mode → IsModeOutput options.mode options.shown t text → output ≡ written_as form text
     → IsOutputOf options form t output
 formed options form t text output other is written = record {
   text = text;

@@ -3,7 +3,7 @@ use Rattle.std.proofs.Common.{◌≡◌, ◌≢◌, ℕ, ◌+◌, inl, inr, refl
 use Rattle.std.specs.Prelude.{Option, IfErr, OnErr, OnOk, ⊤}
 use Rattle.std.specs.Io.KnownBytes.{Appends}
 use Rattle.std.proofs.lemmas.Result.{IfErr-at_err, IfErr-weaker, on_ok_weaker}
-use Rattle.trace_format.specs.declared.trace.Trace.{Trace}
+use Rattle.recording.specs.declared.recording.Recording.{Recording}
 use Rattle.replay_program.specs.declared.fault.RunFault.{RunFault}
 use Rattle.replay_program.specs.declared.fault.RunFault.TheVariants.{Different, Write}
 use Rattle.replay_program.specs.declared.words.Form.{Form}
@@ -30,7 +30,7 @@ wants_no_difference e (inl is) same = absurd (cc)
 wants_no_difference e (inr is) same = absurd (cc)
 
 -- it tells that a trace was read
-pub wants_tells : (left left' : Option (List ℕ)) (t : Trace) (e : RunFault) → ReplayWantsMemoryOrThread e → ReadsTrace left left' t → TellsOfReading left left' e
+pub wants_tells : (left left' : Option (List ℕ)) (t : Recording) (e : RunFault) → ReplayWantsMemoryOrThread e → ReadsTrace left left' t → TellsOfReading left left' e
 wants_tells left left' t e (inl is) read = subst (TellsOfReading left left') (sym is) (inl refl, (t, read))
 wants_tells left left' t e (inr is) read = subst (TellsOfReading left left') (sym is) (inr refl, (t, read))
 
@@ -44,19 +44,19 @@ wants_writes e (inl is) = ap writes_failed is
 wants_writes e (inr is) = ap writes_failed is
 
 -- the whole output went out
-pub whole : (options : Options) (form : Form) (left left' written written' : Option (List ℕ)) (t : Trace) (bytes : List ℕ) (r : Result ⊤ RunFault) → ReadsTrace left left' t → IsOutputOf options form t bytes
+pub whole : (options : Options) (form : Form) (left left' written written' : Option (List ℕ)) (t : Recording) (bytes : List ℕ) (r : Result ⊤ RunFault) → ReadsTrace left left' t → IsOutputOf options form t bytes
     → OnOk r (Appends written written' bytes) → OnOk r (WritesOutput options form left left' written written')
 whole options form left left' written written' t bytes r read is wrote =
     on_ok_weaker r (λ all. record { t = t; output = bytes; read = read; is = is; wrote = all }) wrote
 
 -- a part of it went out
-pub part : (options : Options) (form : Form) (left left' written written' : Option (List ℕ)) (t : Trace) (bytes : List ℕ) (r : Result ⊤ RunFault) → ReadsTrace left left' t → IsOutputOf options form t bytes
+pub part : (options : Options) (form : Form) (left left' written written' : Option (List ℕ)) (t : Recording) (bytes : List ℕ) (r : Result ⊤ RunFault) → ReadsTrace left left' t → IsOutputOf options form t bytes
     → OnErr r (AppendsPart written written' bytes) → r ≡ Err Write → WritesPart options form left left' written written'
 part options form left left' written written' t bytes r read is wrote failed =
     record { t = t; output = bytes; read = read; is = is; wrote = IfErr-at_err (λ f. AppendsPart written written' bytes) failed wrote }
 
 -- a write that failed tells that a trace was read
-pub tells_read : (left left' : Option (List ℕ)) (t : Trace) (r : Result ⊤ RunFault) → ReadsTrace left left' t → IfErr r (λ f. f ≡ Write) → IfErr r (TellsOfReading left left')
+pub tells_read : (left left' : Option (List ℕ)) (t : Recording) (r : Result ⊤ RunFault) → ReadsTrace left left' t → IfErr r (λ f. f ≡ Write) → IfErr r (TellsOfReading left left')
 tells_read left left' t r read = IfErr-weaker r (λ f. f ≡ Write) (TellsOfReading left left') (λ f is. subst (TellsOfReading left left') (sym is) (t, read))
 
 -- and no call of the reader failed

@@ -2,7 +2,7 @@
 use Rattle.std.proofs.Common.{◌≡◌, ◌≢◌, ℕ, ◌+◌, ◌⊎◌, inl, inr, refl, List, Result, Ok, Err, sym, ap, subst}
 use Rattle.std.specs.Prelude.{Bool, Option, IfErr, OnOk, ⊤}
 use Rattle.std.specs.Io.KnownBytes.{Appends, Keeps}
-use Rattle.trace_format.specs.declared.trace.Trace as trace
+use Rattle.recording.specs.declared.recording.Recording.{Recording}
 use Rattle.replay_core.specs.declared.serial.ReplayFault.TheVariants.{Memory}
 use Rattle.replay_core.specs.declared.difference.Verdict.{Verdict}
 use Rattle.replay_core.specs.declared.difference.Verdict.TheVariants.{Equal}
@@ -14,7 +14,7 @@ use Rattle.replay_program.specs.declared.words.Mode.TheVariants.{Compare}
 use Rattle.replay_program.specs.Runs.{ReadsTrace, TellsOfReading, WritesOutput, read_failures, reads_failed, verdict_line}
 
 -- the whole line went out
-pub told_whole : (options : Options) (form : Form) (left left' written written' : Option (List ℕ)) (t : trace.Trace) (workers window : ℕ) (eager : Bool) (v : Verdict) (r : Result ⊤ RunFault) → ReadsTrace left left' t
+pub told_whole : (options : Options) (form : Form) (left left' written written' : Option (List ℕ)) (t : Recording) (workers window : ℕ) (eager : Bool) (v : Verdict) (r : Result ⊤ RunFault) → ReadsTrace left left' t
     → options.mode ≡ Compare workers window eager → v ≡ Equal → ((r ≡ Ok tt) ⊎ (r ≡ Err Different) → Appends written written' (verdict_line v)) → OnOk r (WritesOutput options form left left' written written')
 told_whole options form left left' written written' t workers window eager v (Ok x) read mode equal whole = record { t = t; output = verdict_line v; read = read; is = record { text = verdict_line v; is = rw mode (ap verdict_line equal); written = rw mode refl }; wrote = whole (inl refl) }
 told_whole options form left left' written written' t workers window eager v (Err f) read mode equal whole = tt
@@ -38,7 +38,7 @@ told_nothing written written' (Ok x) told kept = tt
 told_nothing written written' (Err f) told kept = λ other same. kept (ap Err (told other same))
 
 -- a trace was read
-pub told_reading : (left left' : Option (List ℕ)) (t : trace.Trace) (r : Result ⊤ RunFault) → ReadsTrace left left' t → r ≢ Err Different → IfErr r Told → IfErr r (TellsOfReading left left')
+pub told_reading : (left left' : Option (List ℕ)) (t : Recording) (r : Result ⊤ RunFault) → ReadsTrace left left' t → r ≢ Err Different → IfErr r Told → IfErr r (TellsOfReading left left')
 told_reading left left' t (Ok x) read same told = tt
 told_reading left left' t (Err f) read same told = elim (told_fault f (λ e. same (ap Err e)) told) [
   | inl is ↦ subst (TellsOfReading left left') (sym is) (t, read)

@@ -1,27 +1,23 @@
 -- The model: what a check does to its reader and its writer. It takes traces of every version.
-use Rattle.std.specs.Prelude.{◌≡◌, ◌⊎◌, ◌≤◌, ◌<◌, ◌++◌, ◌∷◌, [], ⊤, Bool, true, false, codes, nat_eq, List, Option, ℕ, length}
+use Rattle.std.specs.Prelude.{◌≡◌, ◌⊎◌, ◌≤◌, ◌++◌, ⊤, Bool, true, false, codes, List, Option, ℕ, length}
 use Rattle.std.specs.Fmt.{decimal}
 use Rattle.std.specs.Io.KnownBytes.{Appends, Consumes, IsAtEnd}
-use Rattle.std.specs.List.{starts_with}
 use Rattle.trace_format.specs.Grammar.{fault}
 use Rattle.trace_format.specs.Steps.{places}
-use Rattle.trace_format.specs.Text.{SpellsTrace, IsRefusal, longest}
+use Rattle.trace_format.specs.Text.{SpellsTrace, longest}
 use Rattle.trace_format.specs.declared.fault.TraceFault.{TraceFault}
-use Rattle.trace_format.specs.declared.fault.Kind.TheVariants.{Limit, Memory}
+use Rattle.trace_format.specs.declared.fault.Kind.TheVariants.{Memory}
 use Rattle.trace_format.specs.declared.trace.Trace as trace
 use Rattle.trace_records.specs.Tallies as tallies
 use Rattle.trace_records.specs.Whole as of_records
 use Rattle.trace_records.specs.declared.trace.Trace as records
 use Rattle.replay_report.specs.Report.{line}
 use Rattle.replay_program.specs.Forms.{written_as}
+use Rattle.replay_program.specs.Recordings.{has_version_3, IsFaultOf}
 use Rattle.byte_transfer.specs.Transfer.{AppendsPart}
 use Rattle.replay_program.specs.declared.fault.RunFault.{RunFault}
 use Rattle.replay_program.specs.declared.fault.RunFault.TheVariants.{Trace, Replay, Reports, Read, Write, Different}
 use Rattle.replay_program.specs.declared.words.Form.{Form}
-
--- A text of version 3 begins with the letters of a trace and this number. All others are read as of version 1 or 2.
-abbrev pub has_version_3 : List ℕ → Bool
-has_version_3 text = starts_with nat_eq text (codes "URINGTRC" ++ 3 ∷ 0 ∷ 0 ∷ 0 ∷ [])
 
 -- The answer: how many places and rings a trace has.
 abbrev pub ok_line : ℕ → ℕ → List ℕ
@@ -32,11 +28,6 @@ abbrev pub IsAnswer : Bool → List ℕ → List ℕ → Type 0
 IsAnswer false text answer = (t : trace.Trace) × SpellsTrace text t × (answer ≡ ok_line (places t) (length t.rings))
 IsAnswer true text answer =
     (t : records.Trace) × (length text ≤ longest) × of_records.SpellsTrace text t × (answer ≡ ok_line (tallies.places t.records) (tallies.rings t.records))
-
--- The text has the fault, and spells no trace that is read. More bytes come before all else.
-abbrev pub IsFaultOf : Bool → List ℕ → TraceFault → Type 0
-IsFaultOf false text f = IsRefusal text f
-IsFaultOf true text f = ((longest < length text) × (f ≡ fault Limit longest)) ⊎ ((length text ≤ longest) × of_records.IsRefusal text f)
 
 -- The reader was read to its end, and what it had left has this answer.
 pub record ReadsAnswer (before after : Option (List ℕ)) (answer : List ℕ) : Type 0 where

@@ -2,9 +2,11 @@ pub mod Checks
 pub mod Diffs
 pub mod Forms
 pub mod Limits
-pub mod Runs
-pub mod Status
-pub mod Words
-pub mod Shows
 pub mod Makes
+pub mod Recordings
+pub mod Runs
 pub mod ShownDiffs
+pub mod Shows
+pub mod Status
+pub mod Wholes
+pub mod Words

@@ -3,8 +3,8 @@ use Rattle.std.specs.Prelude.{◌≡◌, ◌⊎◌, ◌≤◌, ◌+◌, ◌++◌
 use Rattle.std.specs.Fmt.{decimal}
 use Rattle.std.specs.Io.KnownBytes.{Appends, Consumes, IsAtEnd}
 use Rattle.trace_format.specs.Grammar.{fault}
-use Rattle.trace_format.specs.Text.{SpellsTrace, IsRefusal, longest}
-use Rattle.trace_format.specs.declared.trace.Trace as trace
+use Rattle.trace_format.specs.Text.{longest}
+use Rattle.recording.specs.declared.recording.Recording.{Recording}
 use Rattle.trace_format.specs.declared.fault.TraceFault.{TraceFault}
 use Rattle.trace_format.specs.declared.fault.Kind.TheVariants.{Memory}
 use Rattle.op_meaning.specs.Step.{sequential_world, sequential_replies}
@@ -22,11 +22,12 @@ use Rattle.replay_report.specs.declared.showing.Shown.{Shown}
 use Rattle.round_report.specs.Rounds.{graph_text, log_of, rounds_text}
 use Rattle.depend_report.specs.Whole.{IsTextOf}
 use Rattle.replay_program.specs.Forms.{form_in, written_as}
+use Rattle.replay_program.specs.Recordings.{has_version_3, SpellsRecording, IsFaultOf}
 use Rattle.byte_transfer.specs.Transfer.{AppendsPart}
 use Rattle.replay_program.specs.declared.words.Form.{Form}
 
 -- The report of the sequential run of a trace.
-abbrev pub sequential_report : trace.Trace → Shown → List ℕ
+abbrev pub sequential_report : Recording → Shown → List ℕ
 sequential_report t shown = report_of t (sequential_world t) (sequential_replies t) shown
 
 -- What a comparison writes: that both runs give the same, or else the first place whose replies differ, or that the worlds do.
@@ -36,12 +37,12 @@ verdict_line (verdict.Reply place) = line (codes "different reply " ++ decimal p
 verdict_line verdict.World = line (codes "different world")
 
 -- What the rounds of a trace give: lines, or a graph.
-abbrev pub rounds_output : Bool → trace.Trace → ℕ → List ℕ
+abbrev pub rounds_output : Bool → Recording → ℕ → List ℕ
 rounds_output false t window = rounds_text t (log_of t window)
 rounds_output true t window = graph_text t (log_of t window)
 
 -- The output for a trace, by the mode.
-abbrev pub IsModeOutput : Mode → Shown → trace.Trace → List ℕ → Type 0
+abbrev pub IsModeOutput : Mode → Shown → Recording → List ℕ → Type 0
 IsModeOutput Serial shown t output = output ≡ sequential_report t shown
 IsModeOutput (Run workers window eager) shown t output = output ≡ sequential_report t shown
 IsModeOutput (Compare workers window eager) shown t output = output ≡ verdict_line verdict.Equal
@@ -50,28 +51,28 @@ IsModeOutput (Depends dot) shown t output = IsTextOf dot t output
 IsModeOutput Check shown t output = output ≡ check_line t
 
 -- The same in the form that is asked for.
-pub record IsOutputOf (options : Options) (form : Form) (t : trace.Trace) (output : List ℕ) : Type 0 where
+pub record IsOutputOf (options : Options) (form : Form) (t : Recording) (output : List ℕ) : Type 0 where
   pub text : List ℕ
   pub is : IsModeOutput options.mode options.shown t text
   pub written : output ≡ written_as (form_in options.mode form) text
 
--- The reader was read to its end, and what it had left spells the trace.
-pub record ReadsTrace (before after : Option (List ℕ)) (t : trace.Trace) : Type 0 where
+-- The reader was read to its end, and what it had left spells a trace of this recording.
+pub record ReadsTrace (before after : Option (List ℕ)) (t : Recording) : Type 0 where
   pub text : List ℕ
   pub taken : Consumes before after text
   pub ended : IsAtEnd after
-  pub spelled : SpellsTrace text t
+  pub spelled : SpellsRecording (has_version_3 text) text t
 
 -- The reader was read to its end, or further than a trace is long, and what was taken has the fault and spells no trace.
 pub record ReadsNoTrace (before after : Option (List ℕ)) (f : TraceFault) : Type 0 where
   pub text : List ℕ
   pub taken : Consumes before after text
   pub ended : length text ≤ longest → IsAtEnd after
-  pub refused : IsRefusal text f
+  pub refused : IsFaultOf (has_version_3 text) text f
 
 -- The reader was read to its end, and the writer took the whole output for its trace, and nothing else.
 pub record WritesOutput (options : Options) (form : Form) (left left' written written' : Option (List ℕ)) : Type 0 where
-  pub t : trace.Trace
+  pub t : Recording
   pub output : List ℕ
   pub read : ReadsTrace left left' t
   pub is : IsOutputOf options form t output
@@ -79,7 +80,7 @@ pub record WritesOutput (options : Options) (form : Form) (left left' written wr
 
 -- The reader was read to its end, and the writer took the first bytes of the output for its trace, but not all.
 pub record WritesPart (options : Options) (form : Form) (left left' written written' : Option (List ℕ)) : Type 0 where
-  pub t : trace.Trace
+  pub t : Recording
   pub output : List ℕ
   pub read : ReadsTrace left left' t
   pub is : IsOutputOf options form t output
@@ -96,11 +97,11 @@ ReplayWantsMemoryOrThread f = (f ≡ Replay replay_fault.Memory) ⊎ (f ≡ Repl
 -- What a fault tells of the reader: a trace is refused by the fault that the text has; memory that ran out before the trace was there is at 0.
 abbrev pub TellsOfReading : (left left' : Option (List ℕ)) → RunFault → Type 0
 TellsOfReading left left' (Trace f) = (f ≡ fault Memory 0) ⊎ ReadsNoTrace left left' f
-TellsOfReading left left' (Replay f) = WantsMemoryOrThread f × ((t : trace.Trace) × ReadsTrace left left' t)
+TellsOfReading left left' (Replay f) = WantsMemoryOrThread f × ((t : Recording) × ReadsTrace left left' t)
 TellsOfReading left left' (Reports f) = ⊥
 TellsOfReading left left' Read = ⊤
 TellsOfReading left left' Different = ⊥
-TellsOfReading left left' Write = (t : trace.Trace) × ReadsTrace left left' t
+TellsOfReading left left' Write = (t : Recording) × ReadsTrace left left' t
 
 -- How many calls of the reader failed in a run, by how it ended; and how many of the writer.
 abbrev pub reads_failed : RunFault → ℕ

@@ -8,7 +8,7 @@ use Rattle.report_diff.specs.declared.comparing.Comparison.{Comparison}
 use Rattle.replay_program.specs.declared.fault.RunFault.{RunFault}
 use Rattle.replay_program.specs.declared.fault.RunFault.TheVariants.{Trace, Replay, Reports, Read, Write, Different}
 use Rattle.replay_program.specs.Diffs.{ReadsReports, ReadsTwo, TellsOfReports, TellsOfTwoReports}
-use Rattle.replay_program.specs.Runs.{ReadsTrace, TellsOfReading}
+use Rattle.replay_program.specs.Wholes.{ReadsWhole, TellsOfWhole}
 use Rattle.byte_transfer.specs.Transfer.{AppendsPart}
 
 -- The text of the comparison, with the entry of the trace below each line that differs and is of one.
@@ -20,13 +20,13 @@ shown_differences_of_two t first second = with_entries t (differences_of_two fir
 
 -- The reader of the trace was read to its end, and what it had left spells a trace.
 abbrev pub ReadsSome : Option (List ℕ) → Option (List ℕ) → Type 0
-ReadsSome before after = (t : trace.Trace) × ReadsTrace before after t
+ReadsSome before after = (t : trace.Trace) × ReadsWhole before after t
 
 -- Both readers were read to their ends, that of the trace and that of two reports, which compare so.
 pub record ComparesShown (steps steps' left left' : Option (List ℕ)) (comparison : Comparison) : Type 0 where
   pub t : trace.Trace
   pub input : List ℕ
-  pub spelled : ReadsTrace steps steps' t
+  pub spelled : ReadsWhole steps steps' t
   pub read : ReadsReports left left' input
   pub text : comparison.text.items ≡ shown_differences t input
   pub decided : comparison.alike ≡ are_alike_in input
@@ -35,7 +35,7 @@ pub record ComparesShown (steps steps' left left' : Option (List ℕ)) (comparis
 pub record WritesShownDifferences (alike : Bool) (steps steps' left left' written written' : Option (List ℕ)) : Type 0 where
   pub t : trace.Trace
   pub input : List ℕ
-  pub spelled : ReadsTrace steps steps' t
+  pub spelled : ReadsWhole steps steps' t
   pub read : ReadsReports left left' input
   pub wrote : Appends written written' (shown_differences t input)
   pub decided : are_alike_in input ≡ alike
@@ -44,14 +44,14 @@ pub record WritesShownDifferences (alike : Bool) (steps steps' left left' writte
 pub record WritesShownDifferencesPart (steps steps' left left' written written' : Option (List ℕ)) : Type 0 where
   pub t : trace.Trace
   pub input : List ℕ
-  pub spelled : ReadsTrace steps steps' t
+  pub spelled : ReadsWhole steps steps' t
   pub read : ReadsReports left left' input
   pub wrote : AppendsPart written written' (shown_differences t input)
 
 -- What a fault tells of both readers: the trace is read first.
 abbrev pub TellsOfShown : (steps steps' left left' : Option (List ℕ)) → RunFault → Type 0
-TellsOfShown steps steps' left left' (Trace f) = TellsOfReading steps steps' (Trace f)
-TellsOfShown steps steps' left left' (Replay f) = TellsOfReading steps steps' (Replay f)
+TellsOfShown steps steps' left left' (Trace f) = TellsOfWhole steps steps' (Trace f)
+TellsOfShown steps steps' left left' (Replay f) = TellsOfWhole steps steps' (Replay f)
 TellsOfShown steps steps' left left' (Reports f) = ReadsSome steps steps' × TellsOfReports left left' (Reports f)
 TellsOfShown steps steps' left left' Read = ⊤
 TellsOfShown steps steps' left left' Write = ReadsSome steps steps' × TellsOfReports left left' Write
@@ -62,7 +62,7 @@ pub record ComparesShownTwo (steps steps' left left' more more' : Option (List �
   pub t : trace.Trace
   pub first : List ℕ
   pub second : List ℕ
-  pub spelled : ReadsTrace steps steps' t
+  pub spelled : ReadsWhole steps steps' t
   pub read : ReadsTwo left left' more more' first second
   pub text : comparison.text.items ≡ shown_differences_of_two t first second
   pub decided : comparison.alike ≡ are_alike_of_two first second
@@ -72,7 +72,7 @@ pub record WritesShownDifferencesOfTwo (alike : Bool) (steps steps' left left' m
   pub t : trace.Trace
   pub first : List ℕ
   pub second : List ℕ
-  pub spelled : ReadsTrace steps steps' t
+  pub spelled : ReadsWhole steps steps' t
   pub read : ReadsTwo left left' more more' first second
   pub wrote : Appends written written' (shown_differences_of_two t first second)
   pub decided : are_alike_of_two first second ≡ alike
@@ -82,14 +82,14 @@ pub record WritesShownPartOfTwo (steps steps' left left' more more' written writ
   pub t : trace.Trace
   pub first : List ℕ
   pub second : List ℕ
-  pub spelled : ReadsTrace steps steps' t
+  pub spelled : ReadsWhole steps steps' t
   pub read : ReadsTwo left left' more more' first second
   pub wrote : AppendsPart written written' (shown_differences_of_two t first second)
 
 -- What a fault tells of the three.
 abbrev pub TellsOfShownTwo : (steps steps' left left' more more' : Option (List ℕ)) → RunFault → Type 0
-TellsOfShownTwo steps steps' left left' more more' (Trace f) = TellsOfReading steps steps' (Trace f)
-TellsOfShownTwo steps steps' left left' more more' (Replay f) = TellsOfReading steps steps' (Replay f)
+TellsOfShownTwo steps steps' left left' more more' (Trace f) = TellsOfWhole steps steps' (Trace f)
+TellsOfShownTwo steps steps' left left' more more' (Replay f) = TellsOfWhole steps steps' (Replay f)
 TellsOfShownTwo steps steps' left left' more more' (Reports f) = ReadsSome steps steps' × TellsOfTwoReports left left' more more' (Reports f)
 TellsOfShownTwo steps steps' left left' more more' Read = ⊤
 TellsOfShownTwo steps steps' left left' more more' Write = ReadsSome steps steps' × TellsOfTwoReports left left' more more' Write

@@ -5,20 +5,21 @@ ghost use Rattle.std.specs.Io.KnownBytes.{Keeps};
 ghost use Rattle.trace_format.specs.Grammar.{fault};
 ghost use Rattle.trace_format.specs.Text.{longest};
 ghost use Rattle.trace_format.specs.declared.fault.Kind.TheVariants.{Memory};
-ghost use Rattle.replay_program.specs.Checks.{IsAnswer, IsFaultOf, ReadsAnswer, TellsOfCheck};
-ghost use Rattle.replay_program.specs.Checks.{WritesAnswer, WritesAnswerPart, has_version_3, ok_line};
+ghost use Rattle.replay_program.specs.Checks.{IsAnswer, ReadsAnswer, TellsOfCheck};
+ghost use Rattle.replay_program.specs.Checks.{WritesAnswer, WritesAnswerPart, ok_line};
+ghost use Rattle.replay_program.specs.Recordings.{IsFaultOf, has_version_3};
 ghost use Rattle.replay_program.specs.Forms.{written_as};
 ghost use Rattle.replay_program.specs.Runs.{most_taken, read_failures, write_failures};
 ghost use Rattle.byte_transfer.specs.Transfer.{ConsumesUpTo};
 
 use crate::fault::RunFault;
 use crate::forms::text_as;
+use crate::recordings::{check_length, has_version_3};
 use crate::session::{no_memory, trace_in, written};
 use crate::words::Form;
-use byte_transfer::{MOST_BYTES, Sink, Source, TextFault, read_text};
-use replay_report::check_text;
+use byte_transfer::{Sink, Source, TextFault, read_text};
 use std::alloc::{AllocError, Global};
-use trace_format::{Kind, TraceFault};
+use trace_format::TraceFault;
 use trace_records::{Tally, count_trace};
 
 /// Reads a trace of any version and writes how many places and rings it has. Nothing is written
@@ -97,12 +98,6 @@ fn answer_of(alloc: Global, text: Vec<u8>) -> Result<Vec<u8>, TraceFault>
     }
 }
 
-fn has_version_3(text: &[u8]) -> bool
-    ensures { result ≡ has_version_3 text.now }
-{
-    text.starts_with(b"URINGTRC\x03\0\0\0")
-}
-
 /// The answer to a text of version 1 or 2.
 fn answer_of_trace(alloc: Global, text: Vec<u8>) -> Result<Vec<u8>, TraceFault>
     ensures ok { IfOk result (λ answer. IsAnswer false text.items answer.items) }
@@ -110,7 +105,11 @@ fn answer_of_trace(alloc: Global, text: Vec<u8>) -> Result<Vec<u8>, TraceFault>
     ensures err { IfErr result (λ f. (f ≡ fault Memory 0) ⊎ IsFaultOf false text.items f) }
 {
     let trace = trace_in(alloc, text)?;
-    match check_text(alloc, &trace) {
+    let tally = Tally {
+        places: trace.places(),
+        rings: trace.rings.as_slice().len(),
+    };
+    match ok_text(alloc, tally) {
         Ok(answer) => Ok(answer),
         Err(AllocError) => Err(no_memory()),
     }
@@ -122,12 +121,7 @@ fn answer_of_records(alloc: Global, text: &[u8]) -> Result<Vec<u8>, TraceFault>
     ensures within { OnOk result (length text.now ≤ longest) }
     ensures err { IfErr result (λ f. (f ≡ fault Memory 0) ⊎ IsFaultOf true text.now f) }
 {
-    if text.len() >= MOST_BYTES {
-        return Err(TraceFault {
-            kind: Kind::Limit,
-            at: 1_073_741_824,
-        });
-    }
+    check_length(text)?;
     let tally = count_trace(alloc, text)?;
     match ok_text(alloc, tally) {
         Ok(answer) => Ok(answer),

@@ -11,7 +11,7 @@ ghost use Rattle.byte_transfer.specs.Transfer.{ConsumesUpTo};
 
 use crate::differing::{comparison_of_two, taken_comparison};
 use crate::fault::{ReportsFault, RunFault};
-use crate::session::{taken_trace, written};
+use crate::session::{taken_whole, written};
 use crate::words::Form;
 use byte_transfer::{Sink, Source};
 use report_diff::Comparison;
@@ -82,7 +82,7 @@ fn shown_comparison<T: Source, R: Source>(
     ensures neither { IfErr result
         (λ fault. (fault ≢ RunFault.Write) × (fault ≢ RunFault.Different)) }
 {
-    let trace = taken_trace(alloc, trace)?;
+    let trace = taken_whole(alloc, trace)?;
     let comparison = taken_comparison(alloc, reader, Form::Text)?;
     comparison_shown(alloc, &trace, comparison)
 }
@@ -174,7 +174,7 @@ fn shown_comparison_of_two<T: Source, R: Source, S: Source>(
     ensures neither { IfErr result
         (λ fault. (fault ≢ RunFault.Write) × (fault ≢ RunFault.Different)) }
 {
-    let trace = taken_trace(alloc, trace)?;
+    let trace = taken_whole(alloc, trace)?;
     let comparison = comparison_of_two(alloc, first, second, Form::Text)?;
     comparison_shown(alloc, &trace, comparison)
 }

@@ -3,16 +3,16 @@ ghost use Rattle.std.specs.Prelude.{◌≡◌, IfErr, IfOk, OnOk};
 ghost use Rattle.op_meaning.specs.Step.{sequential_reply, sequential_world};
 ghost use Rattle.replay_program.specs.Runs.{sequential_report};
 ghost use Rattle.replay_report.specs.RingTexts.{texts_below};
-ghost use Rattle.trace_format.specs.Steps.{places};
-ghost use Rattle.trace_format.specs.Text.{IsSpelled};
+ghost use Rattle.recording.specs.Steps.{places};
+ghost use Rattle.recording.specs.Accepted.{IsAccepted};
 ghost use Rattle.world_parts.specs.Start.{start};
 
 use chain_plan::Stretch;
 use op_meaning::run_on_state;
+use recording::Recording;
 use replay_core::ReplayFault;
-use replay_report::{Answer, Pieces, RingTexts, Shown, report_of_texts};
+use replay_report::{Answer, Lines, Pieces, RingTexts, Shown, report_of_texts};
 use std::alloc::{AllocError, Global};
-use trace_format::Trace;
 use world_parts::State;
 
 /// The roles of so many places are found at once: what these wait for from memory then comes at once.
@@ -21,10 +21,10 @@ const AHEAD: u32 = 64;
 /// The report of the run in recorded order. No reply is kept behind its line.
 pub(crate) fn serial_report(
     alloc: Global,
-    trace: &Trace,
+    trace: &Recording,
     shown: Shown,
 ) -> Result<Pieces, ReplayFault>
-    requires { IsSpelled trace.now }
+    requires { IsAccepted trace.now }
     ensures ok { IfOk result (λ text. text ≡ sequential_report trace.now shown) }
     ensures err { IfErr result (λ fault. fault ≡ ReplayFault.Memory) }
 {
@@ -34,37 +34,38 @@ pub(crate) fn serial_report(
     }
 }
 
-fn report_in_turn(alloc: Global, trace: &Trace, shown: Shown) -> Result<Pieces, AllocError>
-    requires { IsSpelled trace.now }
+fn report_in_turn(alloc: Global, trace: &Recording, shown: Shown) -> Result<Pieces, AllocError>
+    requires { IsAccepted trace.now }
     ensures { IfOk result (λ text. text ≡ sequential_report trace.now shown) }
 {
     let mut state = State::of(alloc, trace)?;
-    let texts = texts_in_turn(alloc, trace, &mut state, shown.names)?;
-    report_of_texts(alloc, texts, &state, shown)
+    let lines = Lines::of(trace, shown.names);
+    let texts = texts_in_turn(alloc, trace, &mut state, lines)?;
+    report_of_texts(alloc, trace, texts, &state, shown)
 }
 
 /// Runs the places of a trace in recorded order on the world that it starts with, and gives the
-/// texts of its rings.
+/// texts of its lists of entries.
 fn texts_in_turn(
     alloc: Global,
-    trace: &Trace,
+    trace: &Recording,
     state: &mut State,
-    names: bool,
+    lines: Lines,
 ) -> Result<RingTexts, AllocError>
-    requires trace { IsSpelled trace.now }
+    requires trace { IsAccepted trace.now }
     requires state { state.old ≡ start trace.now }
     ensures world { OnOk result (state.new ≡ sequential_world trace.now) }
     ensures texts { IfOk result (λ texts. texts
-        ≡ texts_below trace.now (sequential_reply trace.now) names (places trace.now)) }
+        ≡ texts_below trace.now (sequential_reply trace.now) lines (places trace.now)) }
 {
     let mut plan = Stretch::new(alloc);
-    let mut texts = RingTexts::new(alloc, trace.rings.as_slice().len())?;
+    let mut texts = RingTexts::new(alloc, trace, lines)?;
     for place in 0..trace.places() {
         if place == plan.end() {
             plan = plan.next(trace, AHEAD)?;
         }
         let reply = run_on_state(alloc, place, trace, &plan.role(place), state)?;
-        texts.push(place, &trace.step(place), &Answer::of(&reply), names)?;
+        texts.push(place, &trace.step(place), &Answer::of(&reply), lines)?;
     }
     Ok(texts)
 }

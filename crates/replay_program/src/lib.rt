@@ -10,6 +10,7 @@ mod fault;
 mod forms;
 mod in_turn;
 mod making;
+mod recordings;
 mod session;
 mod showing;
 mod words;

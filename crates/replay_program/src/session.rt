@@ -4,7 +4,8 @@ ghost use Rattle.std.specs.Prelude.{OnErr, string_bytes};
 ghost use Rattle.std.specs.Io.KnownBytes.{Appends, Keeps};
 ghost use Rattle.op_meaning.specs.Step.{sequential_replies, sequential_world};
 ghost use Rattle.trace_format.specs.Grammar.{fault};
-ghost use Rattle.trace_format.specs.Text.{IsRefusal, IsSpelled, SpellsTrace};
+ghost use Rattle.recording.specs.Accepted.{IsAccepted};
+ghost use Rattle.trace_format.specs.Text.{IsRefusal, SpellsTrace};
 ghost use Rattle.trace_format.specs.declared.fault.Kind.TheVariants.{Memory};
 ghost use Rattle.world_parts.specs.Part.{whole};
 ghost use Rattle.replay_program.specs.Runs.{IsAlone, IsModeOutput, IsNoComparison, ReadsTrace};
@@ -15,15 +16,18 @@ ghost use Rattle.replay_report.specs.Report.{check_line};
 ghost use Rattle.replay_program.specs.Runs.{IsOutputOf, WritesOutput, WritesPart, most_taken};
 ghost use Rattle.replay_program.specs.Runs.{read_failures, rounds_output, sequential_report};
 ghost use Rattle.replay_program.specs.Runs.{verdict_line, write_failures};
+ghost use Rattle.replay_program.specs.Wholes.{ReadsWhole, TellsOfWhole};
 ghost use Rattle.byte_transfer.specs.Transfer.{AppendsPart, ConsumesUpTo};
 ghost use Rattle.replay_program.specs.Limits.{IsServed, IsWindow};
 
 use crate::fault::RunFault;
 use crate::forms::pieces_as;
 use crate::in_turn::serial_report;
+use crate::recordings::recording_in;
 use crate::words::{Form, Mode, Options};
 use byte_transfer::{Sink, Source, TextFault, read_text, write_text};
 use depend_report::{depends_graph, depends_text};
+use recording::Recording;
 use replay_core::parallel::replay;
 use replay_core::quick::replay_quick;
 use replay_core::round_log::log_rounds;
@@ -61,13 +65,12 @@ pub fn run_alone<R: Source, W: Sink>(
     ensures read { R.failures reader.new ≡ R.failures reader.old + read_failures result }
     ensures write { W.failures writer.new ≡ W.failures writer.old + write_failures result }
 {
-    let trace = taken_trace(alloc, reader)?;
+    let trace = taken_recording(alloc, reader)?;
     let output = output_alone(alloc, &trace, options, form)?;
     written_pieces(writer, &output)
 }
 
-/// The same in every mode: those that ask for workers run in rounds on threads. A check is of
-/// versions 1 and 2 here; [`crate::run_check`] takes every version.
+/// The same in every mode: those that ask for workers run in rounds on threads.
 pub fn run<T: Threads + Wait + Sync, R: Source, W: Sink>(
     rt: &T,
     alloc: Global,
@@ -94,7 +97,7 @@ pub fn run<T: Threads + Wait + Sync, R: Source, W: Sink>(
     ensures write { W.failures writer.new ≡ W.failures writer.old + write_failures result }
     ensures same { result ≢ Err RunFault.Different }
 {
-    let trace = taken_trace(alloc, reader)?;
+    let trace = taken_recording(alloc, reader)?;
     if let Mode::Compare {
         workers,
         window,
@@ -112,11 +115,11 @@ pub fn run<T: Threads + Wait + Sync, R: Source, W: Sink>(
 fn output_in_rounds<T: Threads + Wait + Sync>(
     rt: &T,
     alloc: Global,
-    trace: &Trace,
+    trace: &Recording,
     options: &Options,
     form: Form,
 ) -> Result<Pieces, RunFault>
-    requires trace { IsSpelled trace.now }
+    requires trace { IsAccepted trace.now }
     requires mode { IsServed options.now.mode }
     requires report { IsNoComparison options.now.mode }
     ensures ok { IfOk result (λ output. IsOutputOf options.now form trace.now output) }
@@ -130,10 +133,10 @@ fn output_in_rounds<T: Threads + Wait + Sync>(
 fn text_in_rounds<T: Threads + Wait + Sync>(
     rt: &T,
     alloc: Global,
-    trace: &Trace,
+    trace: &Recording,
     options: &Options,
 ) -> Result<Pieces, RunFault>
-    requires trace { IsSpelled trace.now }
+    requires trace { IsAccepted trace.now }
     requires mode { IsServed options.now.mode }
     requires report { IsNoComparison options.now.mode }
     ensures ok { IfOk result
@@ -161,11 +164,11 @@ fn text_in_rounds<T: Threads + Wait + Sync>(
 fn rounds_output<T: Threads + Wait + Sync>(
     rt: &T,
     alloc: Global,
-    trace: &Trace,
+    trace: &Recording,
     window: u32,
     dot: bool,
 ) -> Result<Pieces, ReplayFault>
-    requires trace { IsSpelled trace.now }
+    requires trace { IsAccepted trace.now }
     requires window { IsWindow window }
     ensures ok { IfOk result (λ text. text ≡ rounds_output dot trace.now window) }
     ensures err { IfErr result WantsMemoryOrThread }
@@ -187,13 +190,13 @@ fn rounds_output<T: Threads + Wait + Sync>(
 fn parallel_report<T: Threads + Wait + Sync>(
     rt: &T,
     alloc: Global,
-    trace: &Trace,
+    trace: &Recording,
     workers: u32,
     window: u32,
     eager: bool,
     shown: Shown,
 ) -> Result<Pieces, ReplayFault>
-    requires trace { IsSpelled trace.now }
+    requires trace { IsAccepted trace.now }
     requires workers { (1 ≤ workers) × (workers ≤ 64) }
     requires window { (1 ≤ window) × (window ≤ 4096) }
     ensures ok { IfOk result (λ text. text ≡ sequential_report trace.now shown) }
@@ -212,12 +215,12 @@ fn parallel_report<T: Threads + Wait + Sync>(
 fn report_on<T: Threads + Sync>(
     rt: &T,
     alloc: Global,
-    trace: &Trace,
+    trace: &Recording,
     replay: &Replay,
     shown: Shown,
     workers: u32,
 ) -> Result<Pieces, ReplayFault>
-    requires trace { IsSpelled trace.now }
+    requires trace { IsAccepted trace.now }
     requires world { replay.now.world ≡ whole (sequential_world trace.now) }
     requires replies { replay.now.replies ≡ sequential_replies trace.now }
     ensures ok { IfOk result (λ text. text ≡ sequential_report trace.now shown) }
@@ -234,12 +237,12 @@ fn report_on<T: Threads + Sync>(
 fn comparison<T: Threads + Wait + Sync>(
     rt: &T,
     alloc: Global,
-    trace: &Trace,
+    trace: &Recording,
     workers: u32,
     window: u32,
     eager: bool,
 ) -> Result<Verdict, RunFault>
-    requires trace { IsSpelled trace.now }
+    requires trace { IsAccepted trace.now }
     requires workers { (1 ≤ workers) × (workers ≤ 64) }
     requires window { (1 ≤ window) × (window ≤ 4096) }
     ensures ok { IfOk result (λ verdict. verdict ≡ Verdict.Equal) }
@@ -294,12 +297,29 @@ fn told_line(alloc: Global, verdict: Verdict) -> Result<String, AllocError>
     }
 }
 
-/// The trace that the reader has left.
-pub(crate) fn taken_trace<R: Source>(alloc: Global, reader: &mut R) -> Result<Box<Trace>, RunFault>
+/// What the trace that the reader has left recorded.
+fn taken_recording<R: Source>(alloc: Global, reader: &mut R) -> Result<Box<Recording>, RunFault>
     requires { R.failures reader.old < 2 ^ 64 - 1 }
     ensures ok { IfOk result (λ trace. ReadsTrace (R.left reader.old) (R.left reader.new) trace.value) }
+    ensures accepted { IfOk result (λ trace. IsAccepted trace.value) }
     ensures taken { ConsumesUpTo most_taken (R.left reader.old) (R.left reader.new) }
     ensures err { IfErr result (TellsOfReading (R.left reader.old) (R.left reader.new)) }
+    ensures read { R.failures reader.new ≡ R.failures reader.old + read_failures result }
+    ensures write { write_failures result ≡ 0 }
+{
+    match read_text(alloc, reader) {
+        Ok(text) => recording_in(alloc, text).map_err(RunFault::Trace),
+        Err(TextFault::Read) => Err(RunFault::Read),
+        Err(TextFault::Memory) => Err(RunFault::Trace(no_memory())),
+    }
+}
+
+/// The trace that the reader has left, of version 1 or 2.
+pub(crate) fn taken_whole<R: Source>(alloc: Global, reader: &mut R) -> Result<Box<Trace>, RunFault>
+    requires { R.failures reader.old < 2 ^ 64 - 1 }
+    ensures ok { IfOk result (λ trace. ReadsWhole (R.left reader.old) (R.left reader.new) trace.value) }
+    ensures taken { ConsumesUpTo most_taken (R.left reader.old) (R.left reader.new) }
+    ensures err { IfErr result (TellsOfWhole (R.left reader.old) (R.left reader.new)) }
     ensures read { R.failures reader.new ≡ R.failures reader.old + read_failures result }
     ensures write { write_failures result ≡ 0 }
 {
@@ -334,11 +354,11 @@ pub(crate) fn trace_in(alloc: Global, text: Vec<u8>) -> Result<Box<Trace>, Trace
 /// The output of a mode that needs no thread, in the form that is asked for.
 fn output_alone(
     alloc: Global,
-    trace: &Trace,
+    trace: &Recording,
     options: &Options,
     form: Form,
 ) -> Result<Pieces, RunFault>
-    requires trace { IsSpelled trace.now }
+    requires trace { IsAccepted trace.now }
     requires mode { IsAlone options.now.mode }
     ensures ok { IfOk result (λ output. IsOutputOf options.now form trace.now output) }
     ensures err { IfErr result (λ fault. fault ≡ RunFault.Replay ReplayFault.Memory) }
@@ -348,8 +368,8 @@ fn output_alone(
 }
 
 /// The text of a mode that needs no thread.
-fn text_alone(alloc: Global, trace: &Trace, options: &Options) -> Result<Pieces, RunFault>
-    requires trace { IsSpelled trace.now }
+fn text_alone(alloc: Global, trace: &Recording, options: &Options) -> Result<Pieces, RunFault>
+    requires trace { IsAccepted trace.now }
     requires mode { IsAlone options.now.mode }
     ensures ok { IfOk result
         (λ text. IsModeOutput options.now.mode options.now.shown trace.now text) }
@@ -363,7 +383,7 @@ fn text_alone(alloc: Global, trace: &Trace, options: &Options) -> Result<Pieces,
 }
 
 /// The line of a check.
-fn check_output(alloc: Global, trace: &Trace) -> Result<Pieces, ReplayFault>
+fn check_output(alloc: Global, trace: &Recording) -> Result<Pieces, ReplayFault>
     ensures ok { IfOk result (λ text. text ≡ check_line trace.now) }
     ensures err { IfErr result (λ fault. fault ≡ ReplayFault.Memory) }
 {
@@ -374,8 +394,8 @@ fn check_output(alloc: Global, trace: &Trace) -> Result<Pieces, ReplayFault>
 }
 
 /// What the places of a trace wait for, as lines or as a graph.
-fn depends_output(alloc: Global, trace: &Trace, dot: bool) -> Result<Pieces, ReplayFault>
-    requires { IsSpelled trace.now }
+fn depends_output(alloc: Global, trace: &Recording, dot: bool) -> Result<Pieces, ReplayFault>
+    requires { IsAccepted trace.now }
     ensures ok { IfOk result (λ text. IsTextOf dot trace.now text) }
     ensures err { IfErr result (λ fault. fault ≡ ReplayFault.Memory) }
 {

@@ -2,13 +2,13 @@
 ghost use Rattle.std.specs.Prelude.{◌≡◌, ◌≢◌, ◌+◌, ◌-◌, ◌^◌, ◌<◌, IfErr, IfOk, OnOk};
 ghost use Rattle.std.specs.Io.KnownBytes.{Keeps};
 ghost use Rattle.trace_text.specs.Shown.{text_of};
-ghost use Rattle.replay_program.specs.Runs.{TellsOfReading, most_taken, read_failures};
-ghost use Rattle.replay_program.specs.Runs.{write_failures};
+ghost use Rattle.replay_program.specs.Runs.{most_taken, read_failures, write_failures};
+ghost use Rattle.replay_program.specs.Wholes.{TellsOfWhole};
 ghost use Rattle.replay_program.specs.Shows.{WritesShown, WritesShownPart};
 ghost use Rattle.byte_transfer.specs.Transfer.{ConsumesUpTo};
 
 use crate::fault::RunFault;
-use crate::session::{taken_trace, written};
+use crate::session::{taken_whole, written};
 use byte_transfer::{Sink, Source};
 use replay_core::ReplayFault;
 use std::alloc::{AllocError, Global};
@@ -39,11 +39,11 @@ pub fn run_show<R: Source, W: Sink>(
         → Keeps (W.written writer.old) (W.written writer.new)) }
 
     ensures taken { ConsumesUpTo most_taken (R.left reader.old) (R.left reader.new) }
-    ensures reading { IfErr result (TellsOfReading (R.left reader.old) (R.left reader.new)) }
+    ensures reading { IfErr result (TellsOfWhole (R.left reader.old) (R.left reader.new)) }
     ensures read { R.failures reader.new ≡ R.failures reader.old + read_failures result }
     ensures write { W.failures writer.new ≡ W.failures writer.old + write_failures result }
 {
-    let trace = taken_trace(alloc, reader)?;
+    let trace = taken_whole(alloc, reader)?;
     let text = shown_text(alloc, &trace, look)?;
     written(writer, text.as_slice())
 }

@@ -114,8 +114,8 @@ pub struct Request<'a> {
 
 /// The version of the program, and of the formats that it reads and writes. It stands here alone.
 const VERSION: &str = "0.1.0
-trace formats 1 and 2
-report format 1";
+trace formats 1, 2 and 3
+report formats 1 and 2";
 
 /// What help says at its end.
 const STATUSES: &str = "Examples:
@@ -520,7 +520,9 @@ fn check_command<'a>(alloc: Global) -> Command<'a>
 {
     Command::new(alloc, "check")
         .after_help("Example: uring_replay check a.trace")
-        .about("Check that the input is a trace; count its places (entries and fills) and rings")
+        .about(
+            "Check that the input is a trace; count its places (entries, fills, new rings) and its rings",
+        )
 }
 
 fn show_command<'a>(alloc: Global) -> Result<Command<'a>, AllocError>

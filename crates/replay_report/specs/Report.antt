@@ -6,8 +6,9 @@ use Rattle.std.specs.Fmt.{decimal, signed_decimal}
 use Rattle.hex.specs.Hex.{encode_lower}
 use Rattle.sha2.specs.Sha256.{sha256}
 use Rattle.sqe_codec.specs.Answers.{each}
-use Rattle.trace_format.specs.declared.trace.Trace.{Trace}
-use Rattle.trace_format.specs.Steps.{Step, Action, submit, fill, places, step_at}
+use Rattle.recording.specs.declared.recording.Recording.{Recording}
+use Rattle.recording.specs.declared.recording.Ring.{Ring}
+use Rattle.recording.specs.Steps.{Step, Action, submit, fill, register, places, step_at}
 use Rattle.world_parts.specs.World.{World, bytes, size, buffer}
 use Rattle.world_parts.specs.Image.{image_of}
 use Rattle.world_parts.specs.declared.image.NameEntry.{NameEntry}
@@ -18,6 +19,7 @@ use Rattle.op_meaning.specs.declared.reply.Reply.{Reply}
 use Rattle.text_forms.specs.Names.{opcode_name}
 use Rattle.replay_report.specs.Names.{errno_name}
 use Rattle.replay_report.specs.TreeSum.{most_summed, tree_sum}
+use Rattle.replay_report.specs.declared.showing.Lines.{Lines}
 use Rattle.replay_report.specs.declared.showing.Shown.{Shown}
 use Rattle.replay_report.specs.declared.showing.SumsShown.{SumsShown}
 use Rattle.replay_report.specs.declared.showing.SumsShown.TheVariants as sums
@@ -38,9 +40,14 @@ data_text bytes =
     else if nat_le (length bytes) 32 then codes " data=" ++ encode_lower bytes
     else codes " data=" ++ encode_lower (take 32 bytes) ++ codes "+"
 
--- How the line of an entry begins: its place, its name for its caller, its result.
-abbrev pub entry_head : ℕ → ℕ → ℤ → List ℕ
-entry_head place user_data res = decimal place ++ codes " user=" ++ decimal user_data ++ codes " res=" ++ signed_decimal res ++ codes " "
+-- The ring of an entry, where lines stand in the order of places.
+abbrev pub ring_fact : Bool → ℕ → List ℕ
+ring_fact false ring = []
+ring_fact true ring = codes " ring=" ++ decimal ring
+
+-- How the line of an entry begins: its place, its ring, its name for its caller, its result.
+abbrev pub entry_head : Bool → ℕ → ℕ → ℕ → ℤ → List ℕ
+entry_head in_order place ring user_data res = decimal place ++ ring_fact in_order ring ++ codes " user=" ++ decimal user_data ++ codes " res=" ++ signed_decimal res ++ codes " "
 
 -- What follows: whether a completion is posted, and what was read.
 abbrev pub entry_outcome : Bool → List ℕ → List ℕ
@@ -62,26 +69,46 @@ names_text false opcode res = []
 names_text true opcode res = named_fact (codes " name=") (opcode_name opcode) ++ error_text res
 
 -- The line of an entry.
-abbrev pub entry_line : Bool → ℕ → ℕ → ℕ → Reply → List ℕ
-entry_line names place user_data opcode reply =
-    line (entry_head place user_data reply.res ++ entry_outcome reply.posted reply.bytes ++ names_text names opcode reply.res)
+abbrev pub entry_line : Lines → ℕ → ℕ → ℕ → ℕ → Reply → List ℕ
+entry_line lines place ring user_data opcode reply =
+    line (entry_head lines.in_order place ring user_data reply.res ++ entry_outcome reply.posted reply.bytes ++ names_text lines.names opcode reply.res)
 
--- The line of what a step does: a fill of a buffer has none.
-abbrev pub action_line : Bool → ℕ → Action → Reply → List ℕ
-action_line names place (submit entry) reply = entry_line names place entry.sqe.user_data entry.sqe.opcode reply
-action_line names place (fill buffer offset bytes) reply = []
+-- The line of what a step of a ring does: a fill of a buffer and a new ring have none.
+abbrev pub action_line : Lines → ℕ → ℕ → Action → Reply → List ℕ
+action_line lines place ring (submit entry) reply = entry_line lines place ring entry.sqe.user_data entry.sqe.opcode reply
+action_line lines place ring (fill buffer offset bytes) reply = []
+action_line lines place ring (register slots) reply = []
 
--- The line of a step, where it is one of the ring.
-abbrev pub step_line : Bool → ℕ → ℕ → Step → Reply → List ℕ
-step_line names ring place step reply = if step.ring == ring then action_line names place step.action reply else []
+-- Entries stand in a list for each ring, or all in one.
+abbrev pub list_of : Lines → Step → ℕ
+list_of lines step = if lines.in_order then 0 else step.ring
 
-abbrev pub place_line : Trace → List Reply → Bool → ℕ → ℕ → List ℕ
-place_line t replies names ring place = each (λ step. each (step_line names ring place step) (slice_get replies place)) (step_at t place)
+-- The line of a step, where it is one of the list.
+abbrev pub step_line : Lines → ℕ → ℕ → Step → Reply → List ℕ
+step_line lines n place step reply = if list_of lines step == n then action_line lines place step.ring step.action reply else []
 
--- The lines of a ring: its heading, and its entries in recorded order.
-abbrev pub ring_lines : Trace → List Reply → Bool → ℕ → List ℕ
-ring_lines t replies names ring =
-    line (codes "ring " ++ decimal ring) ++ flat_map (place_line t replies names ring) (range_with_len 0 (places t))
+abbrev pub place_line : Recording → List Reply → Lines → ℕ → ℕ → List ℕ
+place_line t replies lines n place = each (λ step. each (step_line lines n place step) (slice_get replies place)) (step_at t place)
+
+-- The list of a ring has a heading.
+abbrev pub heading : Lines → ℕ → List ℕ
+heading lines n = if lines.in_order then [] else line (codes "ring " ++ decimal n)
+
+-- The lines of a list: its heading, and its entries in recorded order.
+abbrev pub list_lines : Recording → List Reply → Lines → ℕ → List ℕ
+list_lines t replies lines n = heading lines n ++ flat_map (place_line t replies lines n) (range_with_len 0 (places t))
+
+-- How many lists there are.
+abbrev pub list_count : Lines → Recording → ℕ
+list_count lines t = if lines.in_order then 1 else length t.rings
+
+-- How the lines of a recording's entries are written, with names or without.
+abbrev pub lines_of : Recording → Bool → Lines
+lines_of t names = record { names = names; in_order = t.in_place_order }
+
+-- The first line: version 2 has the entries in the order of their places.
+abbrev pub title : Lines → List ℕ
+title lines = line (if lines.in_order then codes "uring-report 2" else codes "uring-report 1")
 
 -- A byte of a path: itself where it is a visible character but a backslash, else by its two digits.
 abbrev pub escaped_byte : ℕ → List ℕ
@@ -145,21 +172,31 @@ buffer_line s shown e =
     line (codes "buffer " ++ decimal e.ring ++ codes " " ++ decimal e.index ++ codes " len=" ++ decimal e.len ++ buffer_sum shown (unwrap_or (buffer s e.ring e.index) []))
 
 -- The line of a check: how many places and rings a trace has.
-abbrev pub check_line : Trace → List ℕ
+abbrev pub check_line : Recording → List ℕ
 check_line t = line (codes "ok " ++ decimal (places t) ++ codes " places " ++ decimal (length t.rings) ++ codes " rings")
 
+-- Whether a ring ends before the recording does. Nothing is shown of it at the end.
+abbrev pub has_ended : List Ring → ℕ → Bool
+has_ended rings n = elim (slice_get rings n) [ None ↦ false | Some r ↦ r.ended ]
+
+abbrev pub slot_shown : List Ring → SlotEntry → List ℕ
+slot_shown rings e = if has_ended rings e.ring then [] else slot_line e
+
+abbrev pub buffer_shown : List Ring → World → SumsShown → BufferEntry → List ℕ
+buffer_shown rings s shown e = if has_ended rings e.ring then [] else buffer_line s shown e
+
 -- What the world shows: its names, its full slots and descriptors, and its buffers.
-abbrev pub world_lines : World → SumsShown → List ℕ
-world_lines s shown =
+abbrev pub world_lines : List Ring → World → SumsShown → List ℕ
+world_lines rings s shown =
     line (codes "tree") ++ flat_map (name_line s shown) (image_of s).names
-    ++ line (codes "slots") ++ flat_map slot_line (image_of s).slots ++ flat_map descriptor_line (image_of s).descriptors
-    ++ line (codes "buffers") ++ flat_map (buffer_line s shown) (image_of s).buffers
+    ++ line (codes "slots") ++ flat_map (slot_shown rings) (image_of s).slots ++ flat_map descriptor_line (image_of s).descriptors
+    ++ line (codes "buffers") ++ flat_map (buffer_shown rings s shown) (image_of s).buffers
 
 -- The report of a trace, of the world at its end and of the replies of its places; with the sums and names that are asked for.
-abbrev pub report_of : Trace → World → List Reply → Shown → List ℕ
+abbrev pub report_of : Recording → World → List Reply → Shown → List ℕ
 report_of t s replies shown =
-    line (codes "uring-report 1") ++ flat_map (ring_lines t replies shown.names) (range_with_len 0 (length t.rings)) ++ world_lines s shown.sums
-    ++ line (codes "end")
+    let lines = lines_of t shown.names in
+    title lines ++ flat_map (list_lines t replies lines) (range_with_len 0 (list_count lines t)) ++ world_lines t.rings s shown.sums ++ line (codes "end")
 
 -- What a report shows with sums or without, and with no names.
 abbrev pub shown_with : Bool → Shown

@@ -3,8 +3,9 @@ ghost use Rattle.std.specs.Prelude.{◌≡◌, ◌++◌, OnOk};
 ghost use Rattle.replay_report.specs.Report.{entry_line, error_text, named_fact, names_text};
 
 use crate::answer::Answer;
-use crate::entry_line::push_facts;
+use crate::entry_line::{Head, push_facts};
 use crate::names::errno_name;
+use crate::showing::Lines;
 use std::alloc::AllocError;
 use text_forms::opcode_name;
 use trace_format::Entry;
@@ -14,23 +15,23 @@ use trace_format::Entry;
 pub(crate) fn push_entry(
     text: &mut Vec<u8>,
     place: u32,
+    ring: u32,
     entry: &Entry<'_>,
     answer: &Answer<'_>,
-    names: bool,
+    lines: Lines,
 ) -> Result<(), AllocError>
     ensures { OnOk result (text.new.items ≡ text.old.items
-        ++ entry_line names place entry.now.sqe.user_data entry.now.sqe.opcode answer.now) }
+        ++ entry_line lines place ring entry.now.sqe.user_data entry.now.sqe.opcode answer.now) }
 {
     let sqe = entry.sqe();
-    push_facts(
-        text,
+    let head = Head {
         place,
-        sqe.user_data,
-        answer.res,
-        answer.posted,
-        answer.front,
-    )?;
-    push_names(text, sqe.opcode, answer.res, names)?;
+        ring: if lines.in_order { Some(ring) } else { None },
+        user_data: sqe.user_data,
+        res: answer.res,
+    };
+    push_facts(text, head, answer.posted, answer.front)?;
+    push_names(text, sqe.opcode, answer.res, lines.names)?;
     text.push(b'\n')?;
     Ok(())
 }

@@ -3,7 +3,8 @@ ghost use Rattle.std.specs.Prelude.{◌≡◌, ◌+◌, ◌*◌, ◌<◌, ◌≤
 ghost use Rattle.std.specs.Prelude.{slice_index, take};
 ghost use Rattle.std.specs.Fmt.{decimal, signed_decimal};
 ghost use Rattle.hex.specs.Hex.{encode_lower, lower_digits};
-ghost use Rattle.replay_report.specs.Report.{data_text, entry_head, entry_outcome, posting};
+ghost use Rattle.replay_report.specs.Report.{data_text, entry_outcome, posting};
+ghost use Rattle.replay_report.specs.Heads.{head_text, ring_text};
 
 use std::alloc::AllocError;
 
@@ -13,8 +14,8 @@ pub(crate) const SHOWN: usize = 32;
 /// Room for a number.
 const NUMBER: usize = 20;
 
-/// Room for how a line begins: three numbers, a sign, and 12 bytes of words.
-const HEAD: usize = 3 * NUMBER + 13;
+/// Room for how a line begins: four numbers, a sign, and 18 bytes of words.
+const HEAD: usize = 4 * NUMBER + 19;
 
 /// Room for the bytes that are shown, with the word ahead of them.
 const DATA: usize = 2 * SHOWN + 6;
@@ -24,39 +25,65 @@ const OUTCOME: usize = DATA + 7;
 
 const ROOM: usize = HEAD + OUTCOME;
 
+/// How a line begins: the place of the entry, its ring where that is told, its name for its
+/// caller, and its result.
+#[derive(Clone, Copy)]
+pub(crate) struct Head {
+    pub place: u32,
+    pub ring: Option<u32>,
+    pub user_data: u64,
+    pub res: i32,
+}
+
 /// What each line of an entry has, without a line feed.
 pub(crate) fn push_facts(
     text: &mut Vec<u8>,
-    place: u32,
-    user_data: u64,
-    res: i32,
+    head: Head,
     posted: bool,
     bytes: &[u8],
 ) -> Result<(), AllocError>
-    ensures { OnOk result (text.new.items ≡ text.old.items
-        ++ (entry_head place user_data res ++ entry_outcome posted bytes.now)) }
+    ensures { OnOk result (text.new.items
+        ≡ text.old.items ++ (head_text head ++ entry_outcome posted bytes.now)) }
 {
     let mut line = [0; ROOM];
     let end = put_outcome(&mut line, ROOM, posted, bytes);
-    let start = put_head(&mut line, end, place, user_data, res);
+    let start = put_head(&mut line, end, head);
     text.extend_from_slice(&line[start..])
 }
 
 // Each of these writes a text so that it ends at `end`, and returns where it starts.
 
 /// How the line of an entry begins.
-fn put_head(line: &mut [u8], end: usize, place: u32, user_data: u64, res: i32) -> usize
+fn put_head(line: &mut [u8], end: usize, head: Head) -> usize
     requires room { HEAD ≤ end }
     requires within { end ≤ length line.old }
     ensures within { result ≤ length line.new }
-    ensures written { drop result line.new ≡ entry_head place user_data res ++ drop end line.old }
+    ensures written { drop result line.new ≡ head_text head ++ drop end line.old }
 {
     let end = put_text(line, end, b" ");
-    let end = put_signed(line, end, res);
+    let end = put_signed(line, end, head.res);
     let end = put_text(line, end, b" res=");
-    let end = put_number(line, end, user_data);
+    let end = put_number(line, end, head.user_data);
     let end = put_text(line, end, b" user=");
-    put_number(line, end, place as u64)
+    let end = put_ring(line, end, head.ring);
+    put_number(line, end, u64::from(head.place))
+}
+
+/// The ring of an entry, where it is told.
+fn put_ring(line: &mut [u8], end: usize, ring: Option<u32>) -> usize
+    requires room { NUMBER + 6 ≤ end }
+    requires within { end ≤ length line.old }
+    ensures room { end ≤ result + (NUMBER + 6) }
+    ensures within { result ≤ length line.new }
+    ensures written { drop result line.new ≡ ring_text ring ++ drop end line.old }
+{
+    match ring {
+        None => end,
+        Some(ring) => {
+            let end = put_number(line, end, u64::from(ring));
+            put_text(line, end, b" ring=")
+        }
+    }
 }
 
 /// Whether a completion is posted, and what was read.

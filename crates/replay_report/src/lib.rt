@@ -24,4 +24,4 @@ pub use escaping::{escaped, push_escaped};
 pub use pieces::{Piece, Pieces};
 pub use report::{check_text, report_of_texts, report_on, report_text};
 pub use ring_texts::RingTexts;
-pub use showing::{Shown, SumsShown};
+pub use showing::{Lines, Shown, SumsShown};

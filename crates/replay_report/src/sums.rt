@@ -26,7 +26,7 @@ const PIECE: u64 = 1 << 16;
 #[derive(Clone, Copy, Debug, PartialEq, Eq, PartialOrd, Ord)]
 pub enum Holder {
     File { node: u32 },
-    Buffer { ring: u8, index: u32 },
+    Buffer { ring: u32, index: u32 },
 }
 
 /// A file or a buffer, and the sum of its bytes.
@@ -265,7 +265,7 @@ fn zeros_of_file(alloc: Global, world: &State, node: u32, len: u64) -> Result<u6
 }
 
 /// The same of a buffer.
-fn zeros_of_buffer(world: &State, ring: u8, index: u32, len: u64) -> Result<u64, AllocError>
+fn zeros_of_buffer(world: &State, ring: u32, index: u32, len: u64) -> Result<u64, AllocError>
     requires { option_map length (held world.now (Holder.Buffer ring index)) ≡ Some len }
     ensures within { IfOk result (λ zeros. zeros ≤ len) }
     ensures zeros { IfOk result (λ zeros.

@@ -7,9 +7,10 @@ ghost use Rattle.std.specs.Option.{option_map};
 ghost use Rattle.sqe_codec.specs.Answers.{each};
 ghost use Rattle.replay_report.specs.Sums.{AreMade, AreSumsOf, AreTreeSums, held, shown_of};
 ghost use Rattle.world_parts.specs.World.{buffer, bytes, size};
-ghost use Rattle.replay_report.specs.Report.{IsLong, IsSized, buffer_line, buffer_sum};
+ghost use Rattle.replay_report.specs.Report.{IsLong, IsSized, buffer_line, buffer_shown, buffer_sum};
 ghost use Rattle.replay_report.specs.Report.{description_text, descriptor_line};
-ghost use Rattle.replay_report.specs.Report.{file_sum, large_sum, line, name_line, slot_line, sum_text};
+ghost use Rattle.replay_report.specs.Report.{file_sum, has_ended, large_sum, line, name_line};
+ghost use Rattle.replay_report.specs.Report.{slot_line, slot_shown, sum_text};
 ghost use Rattle.replay_report.specs.Report.{world_lines};
 ghost use Rattle.world_parts.specs.Image.{image_of};
 
@@ -18,6 +19,7 @@ use crate::made::Made;
 use crate::showing::SumsShown;
 use crate::sums::{Holder, MOST_SUMMED, Sums};
 use crate::tree_sums::TreeSums;
+use recording::Ring;
 use std::alloc::{AllocError, Global};
 use world_parts::{BufferEntry, DescriptorEntry, Image, NameEntry, SlotEntry, State};
 
@@ -26,6 +28,7 @@ use world_parts::{BufferEntry, DescriptorEntry, Image, NameEntry, SlotEntry, Sta
 pub(crate) fn push_world(
     alloc: Global,
     text: &mut Vec<u8>,
+    rings: &[Ring],
     world: &State,
     image: &Image,
     sums: Made<'_>,
@@ -33,32 +36,41 @@ pub(crate) fn push_world(
     requires image { image.now ≡ image_of world.now }
     requires sums { AreMade world.now sums }
     ensures { OnOk result (text.new.items
-        ≡ text.old.items ++ world_lines world.now (shown_of sums.entry)) }
+        ≡ text.old.items ++ world_lines rings.now world.now (shown_of sums.entry)) }
 {
     text.extend_from_slice(b"tree\n")?;
     push_names(alloc, text, world, image.names.as_slice(), sums)?;
     let mut lines = String::new(alloc);
     push_tables(
         &mut lines,
+        rings,
         image.slots.as_slice(),
         image.descriptors.as_slice(),
     )?;
     lines.push_str("buffers\n")?;
-    push_buffers(alloc, &mut lines, world, image.buffers.as_slice(), sums)?;
+    push_buffers(
+        alloc,
+        &mut lines,
+        rings,
+        world,
+        image.buffers.as_slice(),
+        sums,
+    )?;
     text.extend_from_slice(lines.as_bytes())
 }
 
 /// The lines of the full slots and of the full descriptors.
 fn push_tables(
     text: &mut String,
+    rings: &[Ring],
     slots: &[SlotEntry],
     descriptors: &[DescriptorEntry],
 ) -> Result<(), AllocError>
     ensures { OnOk result (string_bytes text.new ≡ string_bytes text.old ++ line (codes "slots")
-        ++ flat_map slot_line slots.now ++ flat_map descriptor_line descriptors.now) }
+        ++ flat_map (slot_shown rings.now) slots.now ++ flat_map descriptor_line descriptors.now) }
 {
     text.push_str("slots\n")?;
-    push_slots(text, slots)?;
+    push_slots(text, rings, slots)?;
     push_descriptors(text, descriptors)
 }
 
@@ -197,14 +209,35 @@ fn push_sum(
     write!(text, " sum={sum}")
 }
 
-fn push_slots(text: &mut String, slots: &[SlotEntry]) -> Result<(), AllocError>
+/// Whether a ring has ended, so that nothing is shown of it.
+fn has_ended(rings: &[Ring], ring: u32) -> bool
+    ensures { result ≡ has_ended rings.now ring }
+{
+    match rings.get(ring as usize) {
+        None => false,
+        Some(there) => there.ended,
+    }
+}
+
+fn push_slots(text: &mut String, rings: &[Ring], slots: &[SlotEntry]) -> Result<(), AllocError>
     ensures { OnOk result (string_bytes text.new
-        ≡ string_bytes text.old ++ flat_map slot_line slots.now) }
+        ≡ string_bytes text.old ++ flat_map (slot_shown rings.now) slots.now) }
 {
     for slot in slots {
-        push_slot(text, *slot)?;
+        push_shown_slot(text, rings, *slot)?;
     }
     Ok(())
+}
+
+/// The line of a full slot, unless its ring has ended.
+fn push_shown_slot(text: &mut String, rings: &[Ring], slot: SlotEntry) -> Result<(), AllocError>
+    ensures { OnOk result (string_bytes text.new
+        ≡ string_bytes text.old ++ slot_shown rings.now slot) }
+{
+    if has_ended(rings, slot.ring) {
+        return Ok(());
+    }
+    push_slot(text, slot)
 }
 
 fn push_slot(text: &mut String, entry: SlotEntry) -> Result<(), AllocError>
@@ -262,6 +295,7 @@ fn push_descriptor(text: &mut String, entry: DescriptorEntry) -> Result<(), Allo
 fn push_buffers(
     alloc: Global,
     text: &mut String,
+    rings: &[Ring],
     world: &State,
     buffers: &[BufferEntry],
     sums: Made<'_>,
@@ -270,12 +304,32 @@ fn push_buffers(
     requires buffers { All (IsLong world.now) buffers.now }
     ensures { OnOk result (string_bytes text.new
         ≡ string_bytes text.old
-        ++ flat_map (buffer_line world.now (shown_of sums.entry)) buffers.now) }
+        ++ flat_map (buffer_shown rings.now world.now (shown_of sums.entry)) buffers.now) }
 {
     for buffer in buffers {
-        push_buffer(alloc, text, world, *buffer, sums)?;
+        push_shown_buffer(alloc, text, rings, world, *buffer, sums)?;
     }
     Ok(())
+}
+
+/// The line of a buffer, unless its ring has ended.
+fn push_shown_buffer(
+    alloc: Global,
+    text: &mut String,
+    rings: &[Ring],
+    world: &State,
+    buffer: BufferEntry,
+    sums: Made<'_>,
+) -> Result<(), AllocError>
+    requires sums { AreMade world.now sums }
+    requires entry { IsLong world.now buffer }
+    ensures { OnOk result (string_bytes text.new ≡ string_bytes text.old
+        ++ buffer_shown rings.now world.now (shown_of sums.entry) buffer) }
+{
+    if has_ended(rings, buffer.ring) {
+        return Ok(());
+    }
+    push_buffer(alloc, text, world, buffer, sums)
 }
 
 fn push_buffer(

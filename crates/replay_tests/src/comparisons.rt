@@ -1,8 +1,9 @@
 //! What a comparison says of replayers of two traces, and the lines of that.
-ghost use Rattle.std.specs.Prelude.{IfOk};
-ghost use Rattle.trace_format.specs.Text.{IsSpelled};
+ghost use Rattle.recording.specs.Accepted.{IsAccepted};
 
 use crate::examples::READ_FOUR_BYTES;
+use crate::text::recording_of;
+use recording::Recording;
 use replay_core::{InOrder, InRounds, Verdict, compared_by};
 use replay_program::{FromStd, RunFault, told};
 use std::alloc::Global;
@@ -10,7 +11,6 @@ use std::process::Abort;
 use std::sync::Wait;
 use std::test::Fail;
 use std::thread::Threads;
-use trace_format::{Trace, read_trace};
 
 /// Where the length of the one entry of the example stands, and where a second item of its tree and
 /// the number of its items would.
@@ -23,13 +23,6 @@ const ITEMS_END: usize = 59;
 /// The bytes of the example, which reads four bytes.
 fn four_bytes(alloc: Global) -> Result<Vec<u8>, Fail> {
     Ok(hex::decode(alloc, READ_FOUR_BYTES.trace)?)
-}
-
-/// The trace of some bytes.
-fn trace_in(alloc: Global, text: Vec<u8>) -> Result<Box<Trace>, Fail>
-    ensures { IfOk result (λ trace. IsSpelled trace.value) }
-{
-    Ok(Box::new(alloc, read_trace(alloc, text)?)?)
 }
 
 /// The example, with a read of three bytes.
@@ -59,12 +52,12 @@ fn one_file_more(alloc: Global) -> Result<Vec<u8>, Fail> {
 /// of it.
 fn line_of<R: Abort + AllocGlobal + Threads + Wait + Sync>(
     rt: &R,
-    one: &Trace,
-    other: &Trace,
+    one: &Recording,
+    other: &Recording,
     line: &str,
 ) -> Verdict
-    requires one { IsSpelled one.now }
-    requires other { IsSpelled other.now }
+    requires one { IsAccepted one.now }
+    requires other { IsAccepted other.now }
 {
     let alloc = rt.alloc();
     let first = InOrder { trace: one };
@@ -86,9 +79,9 @@ fn line_of<R: Abort + AllocGlobal + Threads + Wait + Sync>(
 #[test]
 fn compares_replays_of_two_traces(rt: HostRuntime) -> Result<(), Fail> {
     let alloc = rt.alloc();
-    let four = trace_in(alloc, four_bytes(alloc)?)?;
-    let three = trace_in(alloc, three_bytes(alloc)?)?;
-    let more = trace_in(alloc, one_file_more(alloc)?)?;
+    let four = recording_of(alloc, four_bytes(alloc)?)?;
+    let three = recording_of(alloc, three_bytes(alloc)?)?;
+    let more = recording_of(alloc, one_file_more(alloc)?)?;
     assert_eq!(rt; line_of(&rt, &four, &four, "equal\n"), Verdict::Equal);
     assert_eq!(rt;
         line_of(&rt, &four, &three, "different reply 0\n"),

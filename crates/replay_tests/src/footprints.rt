@@ -1,15 +1,15 @@
 //! Access sets and may-access sets of places, and which of them collide.
 ghost use Rattle.std.specs.Prelude.{◌≡◌, ◌<◌};
 ghost use Rattle.chain_plan.specs.Plan.{roles};
-ghost use Rattle.trace_format.specs.Steps.{places};
-ghost use Rattle.trace_format.specs.Text.{IsSpelled};
+ghost use Rattle.recording.specs.Steps.{places};
+ghost use Rattle.recording.specs.Accepted.{IsAccepted};
 
 use crate::text::{Submitted, make_directory, read, remove_directory, trace_of, write};
 use chain_plan::Plan;
 use foot_print::{foot, reach};
+use recording::Recording;
 use std::alloc::{AllocError, Global};
 use std::test::Fail;
-use trace_format::Trace;
 use world_parts::{Footprint, Item, World, collide};
 
 /// Whether an access set writes an item.
@@ -54,16 +54,21 @@ struct Pair<'a> {
 }
 
 /// The access set of each place, in the world that the trace starts with.
-fn feet(alloc: Global, trace: &Trace) -> Result<Vec<Footprint>, Fail>
-    requires { IsSpelled trace.now }
+fn feet(alloc: Global, trace: &Recording) -> Result<Vec<Footprint>, Fail>
+    requires { IsAccepted trace.now }
 {
     let plan = Plan::of(alloc, trace)?;
     let world = World::of(alloc, trace)?;
     feet_in(alloc, trace, &plan, &world)
 }
 
-fn feet_in(alloc: Global, trace: &Trace, plan: &Plan, world: &World) -> Result<Vec<Footprint>, Fail>
-    requires trace { IsSpelled trace.now }
+fn feet_in(
+    alloc: Global,
+    trace: &Recording,
+    plan: &Plan,
+    world: &World,
+) -> Result<Vec<Footprint>, Fail>
+    requires trace { IsAccepted trace.now }
     requires plan { plan.now ≡ roles trace.now }
 {
     let mut feet = Vec::new(alloc);
@@ -128,8 +133,8 @@ fn places_collide_on_what_one_writes(rt: HostRuntime) -> Result<(), Fail> {
 }
 
 /// The may-access set of the first place, behind earlier may-access sets.
-fn first_reach(alloc: Global, trace: &Trace, earlier: &[Footprint]) -> Result<Footprint, Fail>
-    requires { IsSpelled trace.now }
+fn first_reach(alloc: Global, trace: &Recording, earlier: &[Footprint]) -> Result<Footprint, Fail>
+    requires { IsAccepted trace.now }
 {
     if trace.places() == 0 {
         return Err(Fail::from("one place"));
@@ -141,12 +146,12 @@ fn first_reach(alloc: Global, trace: &Trace, earlier: &[Footprint]) -> Result<Fo
 
 fn reach_in(
     alloc: Global,
-    trace: &Trace,
+    trace: &Recording,
     plan: &Plan,
     world: &World,
     earlier: &[Footprint],
 ) -> Result<Footprint, Fail>
-    requires trace { IsSpelled trace.now }
+    requires trace { IsAccepted trace.now }
     requires place { 0 < places trace.now }
     requires plan { plan.now ≡ roles trace.now }
 {

@@ -15,6 +15,8 @@ mod parts;
 #[cfg(test)]
 mod picks;
 #[cfg(test)]
+mod records;
+#[cfg(test)]
 mod replies;
 #[cfg(test)]
 mod rounds;

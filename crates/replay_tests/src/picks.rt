@@ -1,19 +1,19 @@
 //! The first round of a trace, by a look at each place of it.
 ghost use Rattle.std.specs.Prelude.{◌≡◌, ◌<◌, All, IfOk};
 ghost use Rattle.chain_plan.specs.Plan.{roles};
-ghost use Rattle.trace_format.specs.Steps.{places};
-ghost use Rattle.trace_format.specs.Text.{IsSpelled};
+ghost use Rattle.recording.specs.Steps.{places};
+ghost use Rattle.recording.specs.Accepted.{IsAccepted};
 
 use crate::text::six_places;
 use chain_plan::Plan;
+use recording::Recording;
 use std::alloc::{AllocError, Global};
 use std::test::Fail;
-use trace_format::Trace;
 use wave_pick::{Wave, pick};
 use world_parts::World;
 
 /// All places of a trace.
-fn all_places(alloc: Global, trace: &Trace) -> Result<Vec<u32>, AllocError>
+fn all_places(alloc: Global, trace: &Recording) -> Result<Vec<u32>, AllocError>
     ensures { IfOk result (λ all. All (λ k. k < places trace.now) all.items) }
 {
     let mut all = Vec::new(alloc);
@@ -39,12 +39,12 @@ fn is_round(wave: &Wave, wanted: &[u32]) -> bool {
 
 fn picks(
     alloc: Global,
-    trace: &Trace,
+    trace: &Recording,
     plan: &Plan,
     world: &World,
     wanted: &[u32],
 ) -> Result<bool, AllocError>
-    requires trace { IsSpelled trace.now }
+    requires trace { IsAccepted trace.now }
     requires plan { plan.now ≡ roles trace.now }
 {
     let all = all_places(alloc, trace)?;
@@ -55,8 +55,8 @@ fn picks(
 }
 
 /// Whether the first round of a trace is just these places.
-fn is_first_round(alloc: Global, trace: &Trace, wanted: &[u32]) -> Result<bool, AllocError>
-    requires { IsSpelled trace.now }
+fn is_first_round(alloc: Global, trace: &Recording, wanted: &[u32]) -> Result<bool, AllocError>
+    requires { IsAccepted trace.now }
 {
     let plan = Plan::of(alloc, trace)?;
     let world = World::of(alloc, trace)?;

@@ -1,10 +1,11 @@
 //! Two places run at once, each once, and a gate that is refused memory leaves no replay.
 ghost use Rattle.std.specs.Prelude.{IfOk};
-ghost use Rattle.trace_format.specs.Text.{IsSpelled};
+ghost use Rattle.recording.specs.Accepted.{IsAccepted};
 
-use crate::text::six_places;
+use crate::text::{recording_of, six_places};
 use chain_plan::Role;
 use op_meaning::{Reply, run_entry};
+use recording::{Recording, Series};
 use replay_core::comparing::verdict;
 use replay_core::parallel::replay;
 use replay_core::quick::replay_quick;
@@ -17,12 +18,11 @@ use std::sync::atomic::AtomicU64;
 use std::sync::atomic::Ordering::SeqCst;
 use std::test::Fail;
 use std::thread::Threads;
-use trace_format::{Series, Trace, read_trace};
 use world_parts::Part;
 
 /// One ring without slots and buffers, and a record of two NOPs.
-fn two_nops(alloc: Global) -> Result<Box<Trace>, Fail>
-    ensures { IfOk result (λ trace. IsSpelled trace.value) }
+fn two_nops(alloc: Global) -> Result<Box<Recording>, Fail>
+    ensures { IfOk result (λ trace. IsAccepted trace.value) }
 {
     let mut text = [0u8; 176];
     text[..8].copy_from_slice(b"URINGTRC");
@@ -31,8 +31,7 @@ fn two_nops(alloc: Global) -> Result<Box<Trace>, Fail>
     text[24] = 1;
     text[36] = 1;
     text[38] = 2;
-    let text = Vec::from_slice(alloc, &text)?;
-    Ok(Box::new(alloc, read_trace(alloc, text)?)?)
+    recording_of(alloc, Vec::from_slice(alloc, &text)?)
 }
 
 /// Counts the runs of each place, and holds place 0 until place 1 has begun, for a number of turns.
@@ -48,7 +47,7 @@ impl Gate for Meeting {
         &self,
         alloc: Global,
         place: u32,
-        trace: &Trace,
+        trace: &Recording,
         role_there: &Role,
         part: &mut Part,
     ) -> Result<Reply, AllocError> {
@@ -66,7 +65,7 @@ impl Gate for Meeting {
         run_entry(alloc, place, trace, role_there, part)
     }
 
-    fn weight(&self, _trace: &Trace, _place: u32) -> u64 {
+    fn weight(&self, _trace: &Recording, _place: u32) -> u64 {
         WORTH_A_THREAD
     }
 }
@@ -80,7 +79,7 @@ impl Gate for Refusing {
         &self,
         alloc: Global,
         place: u32,
-        trace: &Trace,
+        trace: &Recording,
         role_there: &Role,
         part: &mut Part,
     ) -> Result<Reply, AllocError> {
@@ -90,7 +89,7 @@ impl Gate for Refusing {
         run_entry(alloc, place, trace, role_there, part)
     }
 
-    fn weight(&self, _trace: &Trace, _place: u32) -> u64 {
+    fn weight(&self, _trace: &Recording, _place: u32) -> u64 {
         WORTH_A_THREAD
     }
 }
@@ -99,10 +98,10 @@ impl Gate for Refusing {
 fn rounds_by<R: Threads + Wait + Sync, G: Gate + Sync>(
     rt: &R,
     alloc: Global,
-    trace: &Trace,
+    trace: &Recording,
     gate: &G,
 ) -> Result<Series<u32>, ReplayFault>
-    requires { IsSpelled trace.now }
+    requires { IsAccepted trace.now }
 {
     let replay = replay(rt, alloc, trace, 2, 2, gate)?;
     Ok(replay.rounds)
@@ -112,10 +111,10 @@ fn rounds_by<R: Threads + Wait + Sync, G: Gate + Sync>(
 fn quick_rounds<R: Threads + Wait + Sync>(
     rt: &R,
     alloc: Global,
-    trace: &Trace,
+    trace: &Recording,
     workers: u32,
 ) -> Result<Series<u32>, ReplayFault>
-    requires { IsSpelled trace.now }
+    requires { IsAccepted trace.now }
 {
     let replay = replay_quick(rt, alloc, trace, workers, 64)?;
     Ok(replay.rounds)
@@ -125,26 +124,26 @@ fn quick_rounds<R: Threads + Wait + Sync>(
 fn fault_by<R: Threads + Wait + Sync, G: Gate + Sync>(
     rt: &R,
     alloc: Global,
-    trace: &Trace,
+    trace: &Recording,
     workers: u32,
     window: u32,
     gate: &G,
 ) -> Option<ReplayFault>
-    requires { IsSpelled trace.now }
+    requires { IsAccepted trace.now }
 {
     replay(rt, alloc, trace, workers, window, gate).err()
 }
 
 /// How a replay by a gate compares with another one.
-fn compared_with<R: Threads + Wait + Sync, G: Gate + Sync>(
+pub(crate) fn compared_with<R: Threads + Wait + Sync, G: Gate + Sync>(
     rt: &R,
     alloc: Global,
-    trace: &Trace,
+    trace: &Recording,
     workers: u32,
     gate: &G,
     serial: &Replay,
 ) -> Result<Verdict, ReplayFault>
-    requires { IsSpelled trace.now }
+    requires { IsAccepted trace.now }
 {
     let parallel = replay(rt, alloc, trace, workers, 4096, gate)?;
     Ok(verdict(serial, &parallel))
@@ -154,11 +153,11 @@ fn compared_with<R: Threads + Wait + Sync, G: Gate + Sync>(
 pub(crate) fn compared<R: Threads + Wait + Sync, G: Gate + Sync>(
     rt: &R,
     alloc: Global,
-    trace: &Trace,
+    trace: &Recording,
     workers: u32,
     gate: &G,
 ) -> Result<Verdict, ReplayFault>
-    requires { IsSpelled trace.now }
+    requires { IsAccepted trace.now }
 {
     let serial = replay_serial(alloc, trace)?;
     compared_with(rt, alloc, trace, workers, gate, &serial)

@@ -1,11 +1,12 @@
 //! Entries, and the traces that hold them.
 ghost use Rattle.std.specs.Prelude.{IfOk};
-ghost use Rattle.trace_format.specs.Text.{IsSpelled};
+ghost use Rattle.recording.specs.Accepted.{IsAccepted};
 
+use recording::Recording;
 use sqe_codec::{FIXED_FILE, IO_DRAIN, IO_LINK, Sqe, pack};
 use std::alloc::{AllocError, Global};
 use std::test::Fail;
-use trace_format::{Trace, read_trace};
+use trace_format::read_trace;
 
 // The opcodes and flags, as `linux/io_uring.h` and `linux/fcntl.h` have them.
 const OPENAT: u8 = 18;
@@ -49,8 +50,8 @@ const BLANK: Sqe = Sqe {
 /// A submitted entry, and the bytes beside it.
 #[derive(Clone, Copy)]
 pub(crate) struct Submitted<'a> {
-    sqe: Sqe,
-    side: &'a [u8],
+    pub(crate) sqe: Sqe,
+    pub(crate) side: &'a [u8],
 }
 
 /// A read of `len` bytes of a registered file.
@@ -203,9 +204,18 @@ fn head(alloc: Global) -> Result<Vec<u8>, AllocError> {
     Ok(text)
 }
 
+/// What is recorded by a text of version 1 or 2.
+#[tactic(auto, using(recording::proofs::WholeAccepted::whole_accepted))]
+pub(crate) fn recording_of(alloc: Global, text: Vec<u8>) -> Result<Box<Recording>, Fail>
+    ensures { IfOk result (λ trace. IsAccepted trace.value) }
+{
+    let trace = read_trace(alloc, text)?;
+    Ok(Box::new(alloc, Recording::of_whole(alloc, trace)?)?)
+}
+
 /// The trace of that head with a record of these entries.
-pub(crate) fn trace_of(alloc: Global, entries: &[Submitted<'_>]) -> Result<Box<Trace>, Fail>
-    ensures { IfOk result (λ trace. IsSpelled trace.value) }
+pub(crate) fn trace_of(alloc: Global, entries: &[Submitted<'_>]) -> Result<Box<Recording>, Fail>
+    ensures { IfOk result (λ trace. IsAccepted trace.value) }
 {
     trace_behind(alloc, head(alloc)?, entries)
 }
@@ -215,20 +225,20 @@ pub(crate) fn trace_behind(
     alloc: Global,
     mut text: Vec<u8>,
     entries: &[Submitted<'_>],
-) -> Result<Box<Trace>, Fail>
-    ensures { IfOk result (λ trace. IsSpelled trace.value) }
+) -> Result<Box<Recording>, Fail>
+    ensures { IfOk result (λ trace. IsAccepted trace.value) }
 {
     text.extend_from_slice(&(entries.len() as u64).to_le_bytes()[..2])?;
     for entry in entries {
         push_entry(&mut text, &entry.sqe, entry.side)?;
     }
-    Ok(Box::new(alloc, read_trace(alloc, text)?)?)
+    recording_of(alloc, text)
 }
 
 /// Two writes that share bytes 2 and 3 of a file, a chain of two NOPs, a NOP, and one that drains
 /// its ring.
-pub(crate) fn six_places(alloc: Global) -> Result<Box<Trace>, Fail>
-    ensures { IfOk result (λ trace. IsSpelled trace.value) }
+pub(crate) fn six_places(alloc: Global) -> Result<Box<Recording>, Fail>
+    ensures { IfOk result (λ trace. IsAccepted trace.value) }
 {
     let entries = [
         write(0, 0, b"abcd"),

@@ -1,14 +1,14 @@
 //! For which place, and by which item, each place of a trace waited last.
-ghost use Rattle.trace_format.specs.Text.{IsSpelled};
+ghost use Rattle.recording.specs.Accepted.{IsAccepted};
 
 use crate::text::six_places;
+use recording::Recording;
 use replay_core::ReplayFault;
 use replay_core::round_log::{RoundLog, WaitedFor, log_rounds};
 use std::alloc::Global;
 use std::sync::Wait;
 use std::test::Fail;
 use std::thread::Threads;
-use trace_format::Trace;
 use world_parts::Item;
 
 /// Whether it is this place, with these bytes of node 2.
@@ -85,10 +85,10 @@ fn places_wait_for_the_latest_that_holds_them(rt: HostRuntime) -> Result<(), Fai
 fn fault_of<R: Threads + Wait + Sync>(
     rt: &R,
     alloc: Global,
-    trace: &Trace,
+    trace: &Recording,
     window: u32,
 ) -> Option<ReplayFault>
-    requires { IsSpelled trace.now }
+    requires { IsAccepted trace.now }
 {
     log_rounds(rt, alloc, trace, window).err()
 }

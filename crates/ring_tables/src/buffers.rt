@@ -20,7 +20,7 @@ use trace_format::TextSlice;
 /// A call that answers [`AllocError`] leaves the buffers as they were.
 #[derive(Drop)]
 pub struct Buffers {
-    entries: BTreeMap<(u8, u32), Extents>,
+    entries: BTreeMap<(u32, u32), Extents>,
     alloc: Global,
 }
 
@@ -49,7 +49,7 @@ impl Buffers {
     }
 
     /// Adds a buffer of zeros, `len` bytes long, in place of the one that was there.
-    pub fn add(&mut self, ring: u8, index: u32, len: u32) -> Result<(), AllocError>
+    pub fn add(&mut self, ring: u32, index: u32, len: u32) -> Result<(), AllocError>
         ensures ok { OnOk result
             (self.new ≡ insert pair_keys.total self.old (ring, index) (replicate len 0)) }
         ensures err { OnErr result (self.new ≡ self.old) }
@@ -59,7 +59,7 @@ impl Buffers {
 
     /// Adds a buffer of zeros, `len` bytes long, which may be more than a ring registers, in place
     /// of the one that was there.
-    pub fn add_zeros(&mut self, ring: u8, index: u32, len: u64) -> Result<(), AllocError>
+    pub fn add_zeros(&mut self, ring: u32, index: u32, len: u64) -> Result<(), AllocError>
         requires { len ≤ MAX_LEN }
         ensures ok { OnOk result
             (self.new ≡ insert pair_keys.total self.old (ring, index) (replicate len 0)) }
@@ -72,7 +72,7 @@ impl Buffers {
     }
 
     /// The length of a buffer in bytes, at most 2^40.
-    pub fn len(&self, ring: u8, index: u32) -> Option<u64>
+    pub fn len(&self, ring: u32, index: u32) -> Option<u64>
         ensures value { result ≡ option_map length (get self.now (ring, index)) }
         ensures bound { IfSome result (λ len. len ≤ MAX_LEN) }
     {
@@ -81,7 +81,7 @@ impl Buffers {
 
     /// The bytes of a buffer from `lo` up to `hi`, a range within it. A buffer that isn't there has
     /// none.
-    pub fn read(&self, ring: u8, index: u32, lo: u64, hi: u64) -> Result<Vec<u8>, AllocError>
+    pub fn read(&self, ring: u32, index: u32, lo: u64, hi: u64) -> Result<Vec<u8>, AllocError>
         requires forward { lo ≤ hi }
         requires inside { hi ≤ length (bytes_at self.now ring index) }
         ensures { IfOk result
@@ -95,7 +95,7 @@ impl Buffers {
 
     /// Writes bytes over those of a buffer from `at` on. Those beyond its length are dropped, and
     /// where there is no buffer nothing changes.
-    pub fn write(&mut self, ring: u8, index: u32, at: u64, bytes: &[u8]) -> Result<(), AllocError>
+    pub fn write(&mut self, ring: u32, index: u32, at: u64, bytes: &[u8]) -> Result<(), AllocError>
         ensures ok { OnOk result
             (self.new ≡ rewritten_at (λ old. overlaid old at bytes.now) self.old ring index) }
         ensures err { OnErr result (self.new ≡ self.old) }
@@ -115,7 +115,7 @@ impl Buffers {
     /// pages share the text.
     pub fn write_text(
         &mut self,
-        ring: u8,
+        ring: u32,
         index: u32,
         at: u64,
         bytes: TextSlice<'_>,
@@ -137,7 +137,7 @@ impl Buffers {
     }
 
     /// The bytes of a buffer from `lo` up to `hi` as a list of its own, which shares their memory.
-    pub fn share(&self, ring: u8, index: u32, lo: u64, hi: u64) -> Result<Extents, AllocError>
+    pub fn share(&self, ring: u32, index: u32, lo: u64, hi: u64) -> Result<Extents, AllocError>
         requires forward { lo ≤ hi }
         requires inside { hi ≤ length (bytes_at self.now ring index) }
         ensures { IfOk result (λ part. part ≡ range_of (bytes_at self.now ring index) lo hi) }
@@ -150,7 +150,7 @@ impl Buffers {
 
     /// Makes the bytes of a buffer from `lo` up to `hi` zeros, as far as it has them. Where there
     /// is no buffer nothing changes.
-    pub fn zero(&mut self, ring: u8, index: u32, lo: u64, hi: u64) -> Result<(), AllocError>
+    pub fn zero(&mut self, ring: u32, index: u32, lo: u64, hi: u64) -> Result<(), AllocError>
         ensures ok { OnOk result (self.new
             ≡ rewritten_at (λ old. overlaid old lo (replicate (hi - lo) 0)) self.old ring index) }
         ensures err { OnErr result (self.new ≡ self.old) }
@@ -165,7 +165,7 @@ impl Buffers {
 
     /// Takes the bytes of a buffer from `lo` up to `hi` out as a list of its own, and leaves zeros
     /// there.
-    pub fn cut(&mut self, ring: u8, index: u32, lo: u64, hi: u64) -> Result<Extents, AllocError>
+    pub fn cut(&mut self, ring: u32, index: u32, lo: u64, hi: u64) -> Result<Extents, AllocError>
         requires forward { lo ≤ hi }
         requires inside { hi ≤ length (bytes_at self.old ring index) }
         ensures part { IfOk result (λ part. part ≡ range_of (bytes_at self.old ring index) lo hi) }
@@ -182,7 +182,7 @@ impl Buffers {
     /// Puts the bytes of `part` in place of those of a buffer from `lo` on. They end within it.
     pub fn put_back(
         &mut self,
-        ring: u8,
+        ring: u32,
         index: u32,
         lo: u64,
         part: Extents,
@@ -203,7 +203,7 @@ impl Buffers {
     pub fn copy_range(
         &mut self,
         source: &Buffers,
-        ring: u8,
+        ring: u32,
         index: u32,
         lo: u64,
         hi: u64,
@@ -226,7 +226,7 @@ impl Buffers {
 
     /// The buffers in the order of ring and index.
     #[tactic(auto, using(crate::proofs::Looked::held))]
-    pub fn iter(&self) -> Iter<'_, (u8, u32), Extents>
+    pub fn iter(&self) -> Iter<'_, (u32, u32), Extents>
         ensures { result ≡ self.now.entries }
     {
         self.entries.iter()

@@ -13,7 +13,7 @@ use std::marker::Model;
 /// A call that answers [`AllocError`] leaves the slots as they were.
 #[derive(Drop)]
 pub struct Slots {
-    entries: BTreeMap<(u8, u32), u32>,
+    entries: BTreeMap<(u32, u32), u32>,
 }
 
 impl Model for Slots {
@@ -41,14 +41,14 @@ impl Slots {
 
     /// The open file description that a slot of a ring holds.
     #[inline(always)]
-    pub fn get(&self, ring: u8, slot: u32) -> Option<u32>
+    pub fn get(&self, ring: u32, slot: u32) -> Option<u32>
         ensures { result ≡ get self.now (ring, slot) }
     {
         self.entries.get(&(ring, slot)).copied()
     }
 
     /// Fills a slot of a ring, or empties it, which takes no memory.
-    pub fn set(&mut self, ring: u8, slot: u32, description: Option<u32>) -> Result<(), AllocError>
+    pub fn set(&mut self, ring: u32, slot: u32, description: Option<u32>) -> Result<(), AllocError>
         ensures ok { OnOk result
             (self.new ≡ assign pair_keys.total self.old (ring, slot) description) }
         ensures err { OnErr result (self.new ≡ self.old) }
@@ -64,7 +64,7 @@ impl Slots {
 
     /// The full slots in the order of ring and slot, each with its open file description.
     #[tactic(auto, using(crate::proofs::Looked::held))]
-    pub fn iter(&self) -> Iter<'_, (u8, u32), u32>
+    pub fn iter(&self) -> Iter<'_, (u32, u32), u32>
         ensures { result ≡ self.now.entries }
     {
         self.entries.iter()

@@ -5,8 +5,8 @@ use Rattle.std.specs.Fmt.{decimal}
 use Rattle.std.specs.Option.{option_map}
 use Rattle.std.proofs.lemmas.List.{get_or-map}
 use Rattle.std.proofs.lemmas.Option.{slice_get_past}
-use Rattle.trace_format.specs.declared.trace.Trace.{Trace}
-use Rattle.trace_format.specs.declared.trace.Item as initial
+use Rattle.recording.specs.declared.recording.Recording.{Recording}
+use Rattle.trace_records.specs.declared.start.Item as initial
 use Rattle.replay_core.specs.Waits.{waited_meant}
 use Rattle.replay_core.specs.declared.round_log.WaitedFor.{WaitedFor}
 use Rattle.round_report.specs.Naming.{node_text}
@@ -15,7 +15,7 @@ pub arrow_pieces : (t a b c d e q f : List ℕ) → t ++ (a ++ (b ++ (c ++ (d ++
 arrow_pieces t a b c d e q f = simp append_assoc
 
 -- a node that no item of the trace is
-pub made_node : (t : Trace) (node index : ℕ) (items : List initial.Item) → 1 ≤ node → index ≡ node - 1 → items ≡ t.items → length items ≤ index
+pub made_node : (t : Recording) (node index : ℕ) (items : List initial.Item) → 1 ≤ node → index ≡ node - 1 → items ≡ t.items → length items ≤ index
     → codes "node of place " ++ decimal (index - length items) ≡ node_text t node
 made_node t zero index items some e same past = absurd (omega (arith, some))
 made_node t (suc n) index items some e same past =

@@ -2,17 +2,17 @@
 use Rattle.std.specs.Prelude.{ℕ, zero, suc, ◌-◌, ◌==◌, List, ◌++◌, length, codes, Option, Some, None, slice_get, if◌then◌else◌}
 use Rattle.std.specs.Fmt.{decimal}
 use Rattle.entry_checks.specs.Operation.{file_limit}
-use Rattle.trace_format.specs.declared.trace.Trace.{Trace}
-use Rattle.trace_format.specs.declared.trace.Item as initial
+use Rattle.recording.specs.declared.recording.Recording.{Recording}
+use Rattle.trace_records.specs.declared.start.Item as initial
 use Rattle.world_parts.specs.Items.{Atom, chain_flag, ring_order, slot_at, descriptor_at, description_at, position_of, size_of, byte_at, name_at, names_in, buffer_size, buffer_byte, Item, one, file_bytes, buffer_bytes, all_names, all_bytes_and_sizes, all_positions, all_descriptions, all_descriptors}
 use Rattle.replay_report.specs.Report.{escaped}
 
 -- A node below the root: by the first path that the trace has for it, or by the place that makes it.
-abbrev pub lower_node : Trace → ℕ → Option initial.Item → List ℕ
+abbrev pub lower_node : Recording → ℕ → Option initial.Item → List ℕ
 lower_node t index (Some item) = escaped item.path
 lower_node t index None = codes "node of place " ++ decimal (index - length t.items)
 
-abbrev pub node_text : Trace → ℕ → List ℕ
+abbrev pub node_text : Recording → ℕ → List ℕ
 node_text t zero = codes "/"
 node_text t (suc index) = lower_node t index (slice_get t.items index)
 
@@ -27,7 +27,7 @@ offsets low high = decimal low ++ codes " to " ++ decimal high
 abbrev pub file_offsets : ℕ → ℕ → List ℕ
 file_offsets low high = if high == file_limit then codes "from " ++ decimal low else offsets low high
 
-abbrev pub atom_text : Trace → Atom → List ℕ
+abbrev pub atom_text : Recording → Atom → List ℕ
 atom_text t (chain_flag c) = codes "chain " ++ decimal c
 atom_text t (ring_order r) = codes "order of ring " ++ decimal r
 atom_text t (slot_at r n) = codes "slot " ++ in_ring r n
@@ -42,7 +42,7 @@ atom_text t (buffer_size r b) = codes "size of buffer " ++ in_ring r b
 atom_text t (buffer_byte r b p) = codes "byte " ++ decimal p ++ codes " of buffer " ++ in_ring r b
 
 -- What an item is called. Items of many nodes or descriptions need no number: all that the trace knows so far are below theirs.
-abbrev pub item_text : Trace → Item → List ℕ
+abbrev pub item_text : Recording → Item → List ℕ
 item_text t (one a) = atom_text t a
 item_text t (file_bytes i low high) = codes "bytes " ++ file_offsets low high ++ codes " of " ++ node_text t i
 item_text t (buffer_bytes r b low high) = codes "bytes " ++ offsets low high ++ codes " of buffer " ++ in_ring r b

@@ -3,8 +3,8 @@ use Rattle.std.specs.Prelude.{ℕ, ◌==◌, ◌||◌, List, [], ◌∷◌, ◌+
 use Rattle.std.specs.List.{flat_map, range_with_len}
 use Rattle.std.specs.Option.{option_map}
 use Rattle.std.specs.Fmt.{decimal}
-use Rattle.trace_format.specs.declared.trace.Trace.{Trace}
-use Rattle.trace_format.specs.Steps.{places}
+use Rattle.recording.specs.declared.recording.Recording.{Recording}
+use Rattle.recording.specs.Steps.{places}
 use Rattle.world_parts.specs.Items.{Item}
 use Rattle.wave_pick.specs.Holding.{Holder}
 use Rattle.wave_pick.specs.Rounds.{rounds}
@@ -20,30 +20,30 @@ pub record Log : Type 0 where
   pub waits : List (Option Holder)
 
 -- The log of a trace for a window, and the one that a value of the program means.
-abbrev pub log_of : Trace → ℕ → Log
+abbrev pub log_of : Recording → ℕ → Log
 log_of t window = record { rounds = rounds t window; waits = map (waited_for t window) (range_with_len 0 (places t)) }
 
 abbrev pub log_meant : RoundLog → Log
 log_meant log = record { rounds = log.rounds; waits = map (option_map waited_meant) log.waits }
 
 -- For which place another one waits, and what both use.
-abbrev pub after_text : Trace → ℕ → Item → List ℕ
+abbrev pub after_text : Recording → ℕ → Item → List ℕ
 after_text t earlier item = codes " after=" ++ decimal earlier ++ codes " on=" ++ item_text t item
 
 -- A place that had to wait: the one that it waited for last, and what both use.
-abbrev pub wait_text : Trace → Option Holder → List ℕ
+abbrev pub wait_text : Recording → Option Holder → List ℕ
 wait_text t None = []
 wait_text t (Some h) = after_text t h.place h.item
 
 -- The line of a place.
-abbrev pub place_line : Trace → ℕ → ℕ → Option Holder → List ℕ
+abbrev pub place_line : Recording → ℕ → ℕ → Option Holder → List ℕ
 place_line t place round wait = line (decimal place ++ codes " round=" ++ decimal round ++ wait_text t wait)
 
-abbrev pub logged_line : Trace → Log → ℕ → List ℕ
+abbrev pub logged_line : Recording → Log → ℕ → List ℕ
 logged_line t log place = place_line t place (slice_index_or log.rounds place 0) (slice_index_or log.waits place None)
 
 -- The rounds as text: a line for each place, and what they come to.
-abbrev pub rounds_text : Trace → Log → List ℕ
+abbrev pub rounds_text : Recording → Log → List ℕ
 rounds_text t log =
     line (codes "uring-rounds 1") ++ flat_map (logged_line t log) (range_with_len 0 (length log.rounds)) ++ summary log.rounds log.waits ++ line (codes "end")
 
@@ -55,23 +55,23 @@ abbrev pub quoted : List ℕ → List ℕ
 quoted text = flat_map quoted_byte text
 
 -- The arrow from a place to one that waits for it, with what both use.
-abbrev pub arrow_line : Trace → ℕ → ℕ → Item → List ℕ
+abbrev pub arrow_line : Recording → ℕ → ℕ → Item → List ℕ
 arrow_line t earlier place item =
     line (codes "  " ++ decimal earlier ++ codes " -> " ++ decimal place ++ codes " [label=\"" ++ quoted (item_text t item) ++ codes "\"];")
 
 -- The arrow from the place that another one waited for.
-abbrev pub arrow : Trace → ℕ → Option Holder → List ℕ
+abbrev pub arrow : Recording → ℕ → Option Holder → List ℕ
 arrow t place None = []
 arrow t place (Some h) = arrow_line t h.place place h.item
 
 -- The node of a place, and the arrow that leads to it.
-abbrev pub place_node : Trace → ℕ → ℕ → Option Holder → List ℕ
+abbrev pub place_node : Recording → ℕ → ℕ → Option Holder → List ℕ
 place_node t place round wait =
     line (codes "  " ++ decimal place ++ codes " [label=\"" ++ decimal place ++ codes " in round " ++ decimal round ++ codes "\"];") ++ arrow t place wait
 
-abbrev pub logged_node : Trace → Log → ℕ → List ℕ
+abbrev pub logged_node : Recording → Log → ℕ → List ℕ
 logged_node t log place = place_node t place (slice_index_or log.rounds place 0) (slice_index_or log.waits place None)
 
 -- The rounds as a graph, in the language of graphviz.
-abbrev pub graph_text : Trace → Log → List ℕ
+abbrev pub graph_text : Recording → Log → List ℕ
 graph_text t log = line (codes "digraph rounds {") ++ flat_map (logged_node t log) (range_with_len 0 (length log.rounds)) ++ line (codes "}")

@@ -8,10 +8,10 @@ ghost use Rattle.round_report.specs.Rounds.{place_node, quoted, quoted_byte};
 ghost use Rattle.world_parts.specs.Uses.{item_meant};
 
 use crate::naming::push_item;
+use recording::Recording;
 use replay_core::round_log::{RoundLog, WaitedFor};
 use std::alloc::{AllocError, Global};
 use text_forms::push_bytes;
-use trace_format::Trace;
 use world_parts::Item;
 
 /// The rounds of a trace as a graph in the language of graphviz's dot(1): a node for each place
@@ -21,7 +21,7 @@ use world_parts::Item;
 /// # Errors
 ///
 /// Out of memory.
-pub fn graph_text(alloc: Global, trace: &Trace, log: &RoundLog) -> Result<Vec<u8>, AllocError>
+pub fn graph_text(alloc: Global, trace: &Recording, log: &RoundLog) -> Result<Vec<u8>, AllocError>
     requires { length log.now.waits ≡ length log.now.rounds }
     ensures { IfOk result (λ text. text.items ≡ graph_text trace.now (log_meant log.now)) }
 {
@@ -35,7 +35,7 @@ pub fn graph_text(alloc: Global, trace: &Trace, log: &RoundLog) -> Result<Vec<u8
 fn push_nodes(
     alloc: Global,
     text: &mut Vec<u8>,
-    trace: &Trace,
+    trace: &Recording,
     log: &RoundLog,
 ) -> Result<(), AllocError>
     requires { length log.now.waits ≡ length log.now.rounds }
@@ -55,7 +55,7 @@ fn push_nodes(
 fn push_node(
     alloc: Global,
     text: &mut Vec<u8>,
-    trace: &Trace,
+    trace: &Recording,
     place: usize,
     round: u32,
     wait: &Option<WaitedFor>,
@@ -72,7 +72,7 @@ fn push_node(
 fn push_arrow(
     alloc: Global,
     text: &mut Vec<u8>,
-    trace: &Trace,
+    trace: &Recording,
     place: usize,
     wait: &Option<WaitedFor>,
 ) -> Result<(), AllocError>
@@ -93,7 +93,7 @@ fn push_arrow(
 pub fn push_arrow_line(
     alloc: Global,
     text: &mut Vec<u8>,
-    trace: &Trace,
+    trace: &Recording,
     earlier: u32,
     place: usize,
     item: &Item,

@@ -9,10 +9,10 @@ ghost use Rattle.world_parts.specs.Uses.{item_meant};
 
 use crate::naming::{push_item, push_numbered};
 use crate::summary::push_summary;
+use recording::Recording;
 use replay_core::round_log::{RoundLog, WaitedFor};
 use std::alloc::{AllocError, Global};
 use text_forms::{push_bytes, push_decimal};
-use trace_format::Trace;
 use world_parts::Item;
 
 /// The rounds of a trace as text: of each place its round and, where it had to wait, the place that
@@ -23,7 +23,7 @@ use world_parts::Item;
 /// # Errors
 ///
 /// Out of memory.
-pub fn rounds_text(alloc: Global, trace: &Trace, log: &RoundLog) -> Result<Vec<u8>, AllocError>
+pub fn rounds_text(alloc: Global, trace: &Recording, log: &RoundLog) -> Result<Vec<u8>, AllocError>
     requires { length log.now.waits ≡ length log.now.rounds }
     ensures { IfOk result (λ text. text.items ≡ rounds_text trace.now (log_meant log.now)) }
 {
@@ -37,7 +37,7 @@ pub fn rounds_text(alloc: Global, trace: &Trace, log: &RoundLog) -> Result<Vec<u
 }
 
 /// The lines of all places.
-fn push_places(text: &mut Vec<u8>, trace: &Trace, log: &RoundLog) -> Result<(), AllocError>
+fn push_places(text: &mut Vec<u8>, trace: &Recording, log: &RoundLog) -> Result<(), AllocError>
     requires { length log.now.waits ≡ length log.now.rounds }
     ensures { OnOk result (text.new.items ≡ text.old.items
         ++ flat_map (logged_line trace.now (log_meant log.now))
@@ -54,7 +54,7 @@ fn push_places(text: &mut Vec<u8>, trace: &Trace, log: &RoundLog) -> Result<(), 
 /// The line of a place.
 fn push_place(
     text: &mut Vec<u8>,
-    trace: &Trace,
+    trace: &Recording,
     place: usize,
     round: u32,
     wait: &Option<WaitedFor>,
@@ -69,7 +69,11 @@ fn push_place(
 }
 
 /// For which place one had to wait, if it had to, and what both use.
-fn push_wait(text: &mut Vec<u8>, trace: &Trace, wait: &Option<WaitedFor>) -> Result<(), AllocError>
+fn push_wait(
+    text: &mut Vec<u8>,
+    trace: &Recording,
+    wait: &Option<WaitedFor>,
+) -> Result<(), AllocError>
     ensures { OnOk result (text.new.items ≡ text.old.items
         ++ wait_text trace.now (option_map waited_meant wait.now)) }
 {
@@ -86,7 +90,7 @@ fn push_wait(text: &mut Vec<u8>, trace: &Trace, wait: &Option<WaitedFor>) -> Res
 /// Out of memory.
 pub fn push_after(
     text: &mut Vec<u8>,
-    trace: &Trace,
+    trace: &Recording,
     place: u32,
     item: &Item,
 ) -> Result<(), AllocError>

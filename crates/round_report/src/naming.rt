@@ -6,14 +6,18 @@ ghost use Rattle.round_report.specs.Naming.{file_offsets, in_ring, item_text, no
 ghost use Rattle.world_parts.specs.Uses.{item_meant};
 
 use extent_bytes::MAX_LEN;
+use recording::Recording;
 use replay_report::push_escaped;
 use std::alloc::AllocError;
 use text_forms::{push_bytes, push_decimal};
-use trace_format::Trace;
 use world_parts::Item;
 
 /// What an item is called.
-pub(crate) fn push_item(text: &mut Vec<u8>, trace: &Trace, item: &Item) -> Result<(), AllocError>
+pub(crate) fn push_item(
+    text: &mut Vec<u8>,
+    trace: &Recording,
+    item: &Item,
+) -> Result<(), AllocError>
     ensures { OnOk result (text.new.items
         ≡ text.old.items ++ item_text trace.now (item_meant item.now)) }
 {
@@ -50,7 +54,7 @@ pub(crate) fn push_numbered(text: &mut Vec<u8>, what: &[u8], number: u64) -> Res
 }
 
 /// Something that has a number in a ring.
-fn push_of_ring(text: &mut Vec<u8>, what: &[u8], ring: u8, number: u32) -> Result<(), AllocError>
+fn push_of_ring(text: &mut Vec<u8>, what: &[u8], ring: u32, number: u32) -> Result<(), AllocError>
     ensures { OnOk result (text.new.items ≡ text.old.items ++ (what.now ++ in_ring ring number)) }
 {
     push_numbered(text, what, u64::from(ring))?;
@@ -58,7 +62,7 @@ fn push_of_ring(text: &mut Vec<u8>, what: &[u8], ring: u8, number: u32) -> Resul
 }
 
 /// What a node is called: the path that the trace has for it, or the place that makes it.
-fn push_node(text: &mut Vec<u8>, trace: &Trace, node: u32) -> Result<(), AllocError>
+fn push_node(text: &mut Vec<u8>, trace: &Recording, node: u32) -> Result<(), AllocError>
     ensures { OnOk result (text.new.items ≡ text.old.items ++ node_text trace.now node) }
 {
     let Some(index) = node.checked_sub(1) else {
@@ -75,7 +79,12 @@ fn push_node(text: &mut Vec<u8>, trace: &Trace, node: u32) -> Result<(), AllocEr
 }
 
 /// Something that a node has.
-fn push_of_node(text: &mut Vec<u8>, what: &[u8], trace: &Trace, node: u32) -> Result<(), AllocError>
+fn push_of_node(
+    text: &mut Vec<u8>,
+    what: &[u8],
+    trace: &Recording,
+    node: u32,
+) -> Result<(), AllocError>
     ensures { OnOk result (text.new.items ≡ text.old.items ++ (what.now ++ node_text trace.now node)) }
 {
     push_bytes(text, what)?;
@@ -85,7 +94,7 @@ fn push_of_node(text: &mut Vec<u8>, what: &[u8], trace: &Trace, node: u32) -> Re
 /// A range of a file's bytes.
 fn push_bytes_of_node(
     text: &mut Vec<u8>,
-    trace: &Trace,
+    trace: &Recording,
     node: u32,
     low: u64,
     high: u64,
@@ -120,7 +129,7 @@ fn push_offsets(text: &mut Vec<u8>, low: u64, high: u64) -> Result<(), AllocErro
 /// A range of a buffer's bytes.
 fn push_bytes_of_buffer(
     text: &mut Vec<u8>,
-    ring: u8,
+    ring: u32,
     index: u32,
     low: u64,
     high: u64,
@@ -136,7 +145,7 @@ fn push_bytes_of_buffer(
 /// A name of a directory.
 fn push_name_in_node(
     text: &mut Vec<u8>,
-    trace: &Trace,
+    trace: &Recording,
     node: u32,
     name: &[u8],
 ) -> Result<(), AllocError>

@@ -9,9 +9,9 @@ use Rattle.interleaving.specs.Rounds.{pending}
 use Rattle.interleaving.specs.Gather.{AllDifferent}
 use Rattle.interleaving.proofs.Members.{different-choice, has-filter, has-take}
 use Rattle.interleaving.proofs.Onwards.{ends_finished, rounds-more}
-use Rattle.trace_format.specs.declared.trace.Trace.{Trace}
-use Rattle.trace_format.specs.Steps.{places}
-use Rattle.trace_format.specs.Text.{IsSpelled}
+use Rattle.recording.specs.declared.recording.Recording.{Recording}
+use Rattle.recording.specs.Steps.{places}
+use Rattle.recording.specs.Accepted.{IsAccepted}
 use Rattle.world_parts.specs.World.{World}
 use Rattle.foot_print.specs.Reach.{is_met}
 use Rattle.foot_print.specs.Replayed.{replayed}
@@ -33,7 +33,7 @@ use Rattle.wave_pick.proofs.Staying.{waited}
 use Rattle.round_scheduler.proofs.Within.{fewer, first_within, place_of, within_first}
 
 -- Before the first look.
-pub begins : (t : Trace) (window : ℕ) (s begun : Scheduler) → Remembers t window s → (begun.exact ≡ true → IsIndex begun []) → (begun.exact ≡ false → begun.ahead ≡ s.ahead) → begun ≡ record s { ahead = begun.ahead; exact = begun.exact; added = begun.added } → HaveSeen t window s.round [] begun []
+pub begins : (t : Recording) (window : ℕ) (s begun : Scheduler) → Remembers t window s → (begun.exact ≡ true → IsIndex begun []) → (begun.exact ≡ false → begun.ahead ≡ s.ahead) → begun ≡ record s { ahead = begun.ahead; exact = begun.exact; added = begun.added } → HaveSeen t window s.round [] begun []
 begins t window s begun r index others rest = record {
   index = record { alone = λ e. (index e).alone e; among = λ e y g at. (cc) };
   seen = λ k e. (cc);
@@ -43,7 +43,7 @@ begins t window s begun r index others rest = record {
   free_are = refl;
 }
 
-module _ (t : Trace) (spelled : IsSpelled t) (window : ℕ) (w : World) (q : ℕ) (first : List ℕ) (a : AreFirst t window w q first) (s : Scheduler) (free : List ℕ) (h : HaveSeen t window q first s free) where
+module _ (t : Recording) (spelled : IsAccepted t) (window : ℕ) (w : World) (q : ℕ) (first : List ℕ) (a : AreFirst t window w q first) (s : Scheduler) (free : List ℕ) (h : HaveSeen t window q first s free) where
   abbrev done : ℕ → Rattle.std.specs.Prelude.Bool
   done = has (state_after t window q).finished
 

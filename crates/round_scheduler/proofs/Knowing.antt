@@ -3,7 +3,7 @@ use Rattle.std.specs.Prelude.{◌≡◌, ℕ, zero, suc, ◌<◌, Bool, true, fa
 use Rattle.std.specs.List.{list_any}
 use Rattle.std.specs.Option.{option_map}
 use Rattle.interleaving.specs.Machine.{has}
-use Rattle.trace_format.specs.declared.trace.Trace.{Trace}
+use Rattle.recording.specs.declared.recording.Recording.{Recording}
 use Rattle.std.proofs.Common.{◌⊎◌, inl, inr, sym, ap, subst, ◌∙◌, arith}
 use Rattle.std.proofs.Math.ListN.{set}
 use Rattle.std.proofs.lemmas.Bool.{cases_Bool}
@@ -56,11 +56,11 @@ pub listed_so : {s later : Scheduler} {i k : ℕ} → slice_get later.resting.it
 listed_so same l = record { list = l.list; at = ap (option_map (λ v. v.items)) same ∙ l.at; has_it = l.has_it }
 
 -- What rests on some places rests on them in each scheduler that lists it there.
-abbrev pub on_so : (t : Trace) (window r k : ℕ) {s later : Scheduler} → (on : RestsListed t window r k s) → ((i : ℕ) → has on.on i ≡ true → IsListed later i k)
+abbrev pub on_so : (t : Recording) (window r k : ℕ) {s later : Scheduler} → (on : RestsListed t window r k s) → ((i : ℕ) → has on.on i ≡ true → IsListed later i k)
     → RestsListed t window r k later
 on_so t window r k on listed = record { on = on.on; these = on.these; listed = listed }
 
-pub still_so : (t : Trace) (window q k : ℕ) {e e' : Bool} {s later : Scheduler} → (r : RestsStill t window q k e s) → ((i : ℕ) → has r.by.on i ≡ true → IsListed later i k)
+pub still_so : (t : Recording) (window q k : ℕ) {e e' : Bool} {s later : Scheduler} → (r : RestsStill t window q k e s) → ((i : ℕ) → has r.by.on i ≡ true → IsListed later i k)
     → HasReach later k (reach_after t window r.last k)
     → ((i : ℕ) → has r.by.on i ≡ true → HasReach later i (reach_after t window r.last i)) → (e' ≡ false → Covers later.ahead (reach_after t window r.last k))
     → RestsStill t window q k e' later
@@ -76,7 +76,7 @@ still_so t window q k r listed reach others covered = record {
 }
 
 -- What is known of a place is so in each scheduler with the same tables.
-module _ (t : Trace) (window q k : ℕ) (s later : Scheduler) (reaches : later.reaches ≡ s.reaches) (again : later.again ≡ s.again) (resting : later.resting ≡ s.resting) where
+module _ (t : Recording) (window q k : ℕ) (s later : Scheduler) (reaches : later.reaches ≡ s.reaches) (again : later.again ≡ s.again) (resting : later.resting ≡ s.resting) where
   pub known_so : IsKnown t window q k s → IsKnown t window q k later
   known_so known = record {
     reach = ap (λ v. slice_get v.items k) reaches ∙ known.reach;

@@ -9,9 +9,9 @@ use Rattle.interleaving.specs.Machine.{has}
 use Rattle.interleaving.specs.Rounds.{pending}
 use Rattle.interleaving.proofs.Members.{has-pending, has-take, has-snoc}
 use Rattle.interleaving.proofs.Skipping.{clear-of}
-use Rattle.trace_format.specs.declared.trace.Trace.{Trace}
-use Rattle.trace_format.specs.Steps.{places}
-use Rattle.trace_format.specs.Text.{IsSpelled}
+use Rattle.recording.specs.declared.recording.Recording.{Recording}
+use Rattle.recording.specs.Steps.{places}
+use Rattle.recording.specs.Accepted.{IsAccepted}
 use Rattle.world_parts.specs.World.{World}
 use Rattle.world_parts.specs.Items.{Footprint}
 use Rattle.foot_print.specs.Replayed.{replayed}
@@ -30,7 +30,7 @@ use Rattle.round_scheduler.proofs.Within.{before_pending, not_in_more, pending_h
 use Rattle.wave_pick.proofs.Lists.{all_or, not_both, set-here, set-other}
 
 -- A place that waits from one round to the next with the same may-access set.
-stays_so : (t : Trace) (window p k : ℕ) → Waits t window (suc p) k → reach_after t window (suc p) k ≡ reach_after t window p k → StaysAsIs t window p (suc p) k
+stays_so : (t : Recording) (window p k : ℕ) → Waits t window (suc p) k → reach_after t window (suc p) k ≡ reach_after t window p k → StaysAsIs t window p (suc p) k
 stays_so t window p k waits e = record {
   waits = waits;
   same = λ r low high. elim (cases_eq r (suc p)) [
@@ -65,7 +65,7 @@ same_rest a e = same_tables a (ap (λ (x : Scheduler). x.round) e) (ap (λ (x : 
 pub same_fresh : {s mid later : Scheduler} → IsSameRound s mid → later ≡ record mid { ahead = later.ahead; exact = later.exact; added = later.added } → IsSameRound s later
 same_fresh a e = same_tables a (ap (λ (x : Scheduler). x.round) e) (ap (λ (x : Scheduler). x.reaches) e) (ap (λ (x : Scheduler). x.again) e) (ap (λ (x : Scheduler). x.resting) e)
 
-module _ (t : Trace) (spelled : IsSpelled t) (window : ℕ) (w : World) (q : ℕ) (first : List ℕ) (a : AreFirst t window w q first) where
+module _ (t : Recording) (spelled : IsAccepted t) (window : ℕ) (w : World) (q : ℕ) (first : List ℕ) (a : AreFirst t window w q first) where
   abbrev done : ℕ → Bool
   done = has (state_after t window q).finished
 

@@ -12,8 +12,8 @@ use Rattle.interleaving.specs.System.{is_clear}
 use Rattle.interleaving.specs.Machine.{has}
 use Rattle.interleaving.specs.Rounds.{pending}
 use Rattle.interleaving.proofs.Members.{has-here, has-later, has-pending}
-use Rattle.trace_format.specs.declared.trace.Trace.{Trace}
-use Rattle.trace_format.specs.Text.{IsSpelled}
+use Rattle.recording.specs.declared.recording.Recording.{Recording}
+use Rattle.recording.specs.Accepted.{IsAccepted}
 use Rattle.chain_plan.specs.Chain.{role}
 use Rattle.world_parts.specs.Items.{Item, Use, chain_flag, one, all_descriptors, Footprint, collide}
 use Rattle.world_parts.proofs.Collision.{any_passes, either_left, true_of}
@@ -45,7 +45,7 @@ has-got (x ∷ xs) zero i e = let same : x ≡ i = cc in ap (λ j. has (j ∷ xs
 has-got (x ∷ xs) (suc y) i e = has-later i x xs (has-got xs y i e)
 
 -- The may-access sets of the places that wait, in order, are those that the machine has, turned round.
-pub reaches_turned : (t : Trace) (window q n : ℕ) → reverse (map (reach_after t window q) (pending (has (state_after t window q).finished) n)) ≡ reaches_after t window q n
+pub reaches_turned : (t : Recording) (window q n : ℕ) → reverse (map (reach_after t window q) (pending (has (state_after t window q).finished) n)) ≡ reaches_after t window q n
 reaches_turned t window q zero = refl
 reaches_turned t window q (suc n) =
     let earlier : List ℕ = pending (has (state_after t window q).finished) n in
@@ -61,7 +61,7 @@ reaches_turned t window q (suc n) =
           (ap (λ gs. reach_after t window q n ∷ gs) before)
     ]
 
-module _ (t : Trace) (spelled : IsSpelled t) (window q k : ℕ) (earlier : List ℕ) (s : Scheduler) (b : AreBefore t window q k earlier s) where
+module _ (t : Recording) (spelled : IsAccepted t) (window q k : ℕ) (earlier : List ℕ) (s : Scheduler) (b : AreBefore t window q k earlier s) where
   abbrev rs : List Footprint
   rs = reaches_after t window q k
 
@@ -168,7 +168,7 @@ module _ (t : Trace) (spelled : IsSpelled t) (window q k : ℕ) (earlier : List 
           }
 
 -- A look at a place whose access set this is, behind an index.
-module _ (t : Trace) (spelled : IsSpelled t) (window q k : ℕ) (earlier : List ℕ) (s : Scheduler) (a : AreBefore t window q k earlier s) (b : Behind) (is : IsBehind (map (reach_after t window q) earlier) b) (f : Footprint) (foot : f ≡ footprint_after t window q k) where
+module _ (t : Recording) (spelled : IsAccepted t) (window q k : ℕ) (earlier : List ℕ) (s : Scheduler) (a : AreBefore t window q k earlier s) (b : Behind) (is : IsBehind (map (reach_after t window q) earlier) b) (f : Footprint) (foot : f ≡ footprint_after t window q k) where
   abbrev before : List Footprint
   before = reaches_after t window q k
 

@@ -10,8 +10,8 @@ use Rattle.std.proofs.lemmas.Option.{none-some, same_Some}
 use Rattle.interleaving.specs.Machine.{State, has}
 use Rattle.interleaving.specs.Rounds.{pending}
 use Rattle.interleaving.proofs.Members.{has-here, has-later, has-snoc, has-take}
-use Rattle.trace_format.specs.declared.trace.Trace.{Trace}
-use Rattle.trace_format.specs.Steps.{places}
+use Rattle.recording.specs.declared.recording.Recording.{Recording}
+use Rattle.recording.specs.Steps.{places}
 use Rattle.world_parts.specs.World.{World}
 use Rattle.world_parts.specs.Items.{Item, Footprint, collide}
 use Rattle.foot_print.specs.Footprint.{footprint}
@@ -81,7 +81,7 @@ module _ (k : ℕ) (f : Footprint) (earlier : List ℕ) (table : List (Option Fo
   told_lost i e lost = λ reach there. absurd (none-some _ (sym lost ∙ ap kept_reach (found_reach reach there i e)))
 
 -- One place more.
-module _ (t : Trace) (s : State (replayed t)) (n : ℕ) (first : List ℕ) (are : first ≡ pending (has s.finished) n) (table : List (Option Footprint)) (there : HasReaches table first (reach_in t s)) (asked : ℕ → Bool) (x k : ℕ) (at : slice_get first x ≡ Some k) where
+module _ (t : Recording) (s : State (replayed t)) (n : ℕ) (first : List ℕ) (are : first ≡ pending (has s.finished) n) (table : List (Option Footprint)) (there : HasReaches table first (reach_in t s)) (asked : ℕ → Bool) (x k : ℕ) (at : slice_get first x ≡ Some k) where
   abbrev earlier : List ℕ
   earlier = take x first
 
@@ -109,7 +109,7 @@ module _ (t : Trace) (s : State (replayed t)) (n : ℕ) (first : List ℕ) (are 
       ∙ sym (told_more ∙ ap (λ b. told_so earlier ++ held_among t s (if b then k ∷ [] else [])) here ∙ ap (λ hs. told_so earlier ++ hs) (filter_map-one (λ j. with_holder j (holder_in t s j)) k))
 
 -- A round that is looked over, told of and settled.
-module _ (t : Trace) (window : ℕ) (w : World) (s mid : Scheduler) (waits first : List ℕ) (e : first ≡ take window waits) (a : AreFirst t window w s.round (take window waits)) (remembers : Remembers t window s) (free : List ℕ) (surveys : Surveys t w first s mid free) where
+module _ (t : Recording) (window : ℕ) (w : World) (s mid : Scheduler) (waits first : List ℕ) (e : first ≡ take window waits) (a : AreFirst t window w s.round (take window waits)) (remembers : Remembers t window s) (free : List ℕ) (surveys : Surveys t w first s mid free) where
   first_are : AreFirst t window w s.round first
   first_are = subst (AreFirst t window w s.round) (sym e) a
 
@@ -131,5 +131,5 @@ module _ (t : Trace) (window : ℕ) (w : World) (s mid : Scheduler) (waits first
       ∙ ap (λ ks. held_among t x (filter asked ks)) e
 
 -- What is settled is the next round.
-pub next_wave : (t : Trace) (window : ℕ) (w : World) (waits : List ℕ) (later : Scheduler) (wave : Wave) → IsSettled t window w (take window waits) later wave → IsNextWave t window w (take window waits) wave
+pub next_wave : (t : Recording) (window : ℕ) (w : World) (waits : List ℕ) (later : Scheduler) (wave : Wave) → IsSettled t window w (take window waits) later wave → IsNextWave t window w (take window waits) wave
 next_wave t window w waits later wave h = λ x same firsts. h.wave_is ∙ is_round t x (places t) window w waits same firsts

@@ -6,8 +6,8 @@ use Rattle.interleaving.specs.System.{is_clear}
 use Rattle.interleaving.specs.Machine.{has}
 use Rattle.interleaving.specs.Rounds.{pending}
 use Rattle.interleaving.specs.Gather.{AllDifferent}
-use Rattle.trace_format.specs.declared.trace.Trace.{Trace}
-use Rattle.trace_format.specs.Steps.{places}
+use Rattle.recording.specs.declared.recording.Recording.{Recording}
+use Rattle.recording.specs.Steps.{places}
 use Rattle.world_parts.specs.World.{World}
 use Rattle.world_parts.specs.Items.{Item, Footprint}
 use Rattle.foot_print.specs.Replayed.{replayed}
@@ -39,18 +39,18 @@ pub record IsListed (s : Scheduler) (i k : ℕ) : Type 0 where
   pub has_it : has list k ≡ true
 
 -- After r rounds a place rests on some earlier ones that wait.
-pub record RestsOnThese (t : Trace) (window r : ℕ) (on : List ℕ) (k : ℕ) : Type 0 where
+pub record RestsOnThese (t : Recording) (window r : ℕ) (on : List ℕ) (k : ℕ) : Type 0 where
   pub before : (i : ℕ) → has on i ≡ true → (i < k) × Waits t window r i
   pub rests : RestsOnAll t window r on k
 
 -- It is listed with each of them.
-pub record RestsListed (t : Trace) (window r k : ℕ) (s : Scheduler) : Type 0 where
+pub record RestsListed (t : Recording) (window r k : ℕ) (s : Scheduler) : Type 0 where
   pub on : List ℕ
   pub these : RestsOnThese t window r on k
   pub listed : (i : ℕ) → has on i ≡ true → IsListed s i k
 
 -- What is known of a place in the round after r others: its may-access set there, and, unless it is to be looked at again, on which places it rests.
-pub record IsKnown (t : Trace) (window r k : ℕ) (s : Scheduler) : Type 0 where
+pub record IsKnown (t : Recording) (window r k : ℕ) (s : Scheduler) : Type 0 where
   pub reach : HasReach s k (reach_after t window r k)
   pub rests : IsAgain s k ⊎ RestsListed t window r k s
 
@@ -60,7 +60,7 @@ pub record Covers (ahead : Ahead) (f : Footprint) : Type 0 where
   pub touches : (x : Item) → T (touches_item f x) → T (touched ahead x)
 
 -- In the round after the last one a place that was seen then rests still while it isn't known that the may-access set of one of the others has changed; unless the index is made anew, it has its may-access set.
-pub record RestsStill (t : Trace) (window q k : ℕ) (exact : Bool) (s : Scheduler) : Type 0 where
+pub record RestsStill (t : Recording) (window q k : ℕ) (exact : Bool) (s : Scheduler) : Type 0 where
   pub last : ℕ
   pub next : q ≡ suc last
   pub by : RestsListed t window last k s
@@ -77,12 +77,12 @@ pub record HasRoom (n : ℕ) (s : Scheduler) : Type 0 where
   pub resting : length s.resting.items ≡ n
 
 -- What a scheduler has between two rounds: each place that waits is to be looked at, or rests.
-pub record Remembers (t : Trace) (window : ℕ) (s : Scheduler) : Type 0 where
+pub record Remembers (t : Recording) (window : ℕ) (s : Scheduler) : Type 0 where
   pub room : HasRoom (places t) s
   pub each : (k : ℕ) → k < places t → Waits t window s.round k → IsAgain s k ⊎ RestsStill t window s.round k false s
 
 -- In the world after q rounds these are the first places that wait.
-pub record AreFirst (t : Trace) (window : ℕ) (w : World) (q : ℕ) (ks : List ℕ) : Type 0 where
+pub record AreFirst (t : Recording) (window : ℕ) (w : World) (q : ℕ) (ks : List ℕ) : Type 0 where
   pub world : w ≡ world_after t window q
   pub first : ks ≡ take window (pending (has (state_after t window q).finished) (places t))
 
@@ -101,30 +101,30 @@ pub record IsBehind (reaches : List Footprint) (b : Behind) : Type 0 where
   pub touches : (x : Item) → touched_before b x ≡ touched_by reaches x
 
 -- A place that waits after q rounds, and the places that wait before it, whose may-access sets the table has.
-pub record AreBefore (t : Trace) (window q k : ℕ) (earlier : List ℕ) (s : Scheduler) : Type 0 where
+pub record AreBefore (t : Recording) (window q k : ℕ) (earlier : List ℕ) (s : Scheduler) : Type 0 where
   pub waits : Waits t window q k
   pub places_are : earlier ≡ pending (has (state_after t window q).finished) k
   pub reaches_are : HaveReaches s earlier (map (reach_after t window q) earlier)
 
 -- What is seen of a place after q rounds.
-pub record IsView (t : Trace) (window q k : ℕ) (v : View) : Type 0 where
+pub record IsView (t : Recording) (window q k : ℕ) (v : View) : Type 0 where
   pub reach : v.reach ≡ reach_after t window q k
   pub rests : (r : Rest) → v.rest ≡ Some r → RestsOnThese t window q r.on.items k
   pub free : v.free ≡ is_clear (replayed t) (footprint_after t window q k) (reaches_after t window q k)
 
 -- A look at a place: where the index has the may-access sets before it, what is seen of it is right.
-abbrev pub Sees : Trace → World → ℕ → List ℕ → Scheduler → View → Type 0
+abbrev pub Sees : Recording → World → ℕ → List ℕ → Scheduler → View → Type 0
 Sees t w k earlier s v = (window : ℕ) → w ≡ world_after t window s.round → AreBefore t window s.round k earlier s → IsIndex s (map (reach_after t window s.round) earlier) → IsView t window s.round k v
 
 -- What is known after q rounds once these places have been looked at, or passed over, and which of them are free.
-pub record HaveSeen (t : Trace) (window q : ℕ) (ks : List ℕ) (s : Scheduler) (free : List ℕ) : Type 0 where
+pub record HaveSeen (t : Recording) (window q : ℕ) (ks : List ℕ) (s : Scheduler) (free : List ℕ) : Type 0 where
   pub index : IsIndex s (map (reach_after t window q) ks)
   pub seen : (k : ℕ) → has ks k ≡ true → IsKnown t window q k s
   pub others : (k : ℕ) → k < places t → Waits t window q k → has ks k ≡ false → IsAgain s k ⊎ RestsStill t window q k s.exact s
   pub free_are : free ≡ free_from t (world_after t window q) [] ks
 
 -- Looks over the first places that wait.
-abbrev pub LooksOver : Trace → World → List ℕ → Scheduler → Scheduler → List ℕ → Type 0
+abbrev pub LooksOver : Recording → World → List ℕ → Scheduler → Scheduler → List ℕ → Type 0
 LooksOver t w first s later free = (window : ℕ) → AreFirst t window w s.round first → HaveSeen t window s.round [] s [] → HaveSeen t window s.round first later free
 
 -- The number of rounds, and how much room there is, are as they were.

@@ -4,7 +4,7 @@ use Rattle.std.specs.List.{filter_map}
 use Rattle.std.specs.Option.{option_map, option_and_then}
 use Rattle.interleaving.specs.Machine.{State, has}
 use Rattle.interleaving.specs.Rounds.{pending}
-use Rattle.trace_format.specs.declared.trace.Trace.{Trace}
+use Rattle.recording.specs.declared.recording.Recording.{Recording}
 use Rattle.world_parts.specs.World.{World}
 use Rattle.world_parts.specs.Items.{Footprint, collide}
 use Rattle.world_parts.specs.Uses.{item_meant}
@@ -25,7 +25,7 @@ abbrev pub with_holder : ℕ → Option Holder → Option (ℕ × Holder)
 with_holder k o = option_map (λ h. (k, h)) o
 
 -- Of these places, in order, those that something blocks, each with its holder.
-abbrev pub held_among : (t : Trace) → State (replayed t) → List ℕ → List (ℕ × Holder)
+abbrev pub held_among : (t : Recording) → State (replayed t) → List ℕ → List (ℕ × Holder)
 held_among t s ks = filter_map (λ k. with_holder k (holder_in t s k)) ks
 
 -- Whether a number is the one that is asked for.
@@ -60,18 +60,18 @@ abbrev pub IsTold : ℕ → Footprint → List ℕ → List (Option Footprint) �
 IsTold k f earlier table told = (reach : ℕ → Footprint) → HasReaches table earlier reach → told ≡ with_holder k (latest_holder f earlier reach)
 
 -- In each state of the machine with this world, where these are the pending ones of the first n places, and a table has their may-access sets: those of them that are asked for and that something blocks, each with its holder.
-abbrev pub AreTold : Trace → World → List ℕ → List (Option Footprint) → (ℕ → Bool) → List Held → Type 0
+abbrev pub AreTold : Recording → World → List ℕ → List (Option Footprint) → (ℕ → Bool) → List Held → Type 0
 AreTold t w first table asked held =
     (s : State (replayed t)) (n : ℕ) → w ≡ s.world → first ≡ pending (has s.finished) n → HasReaches table first (reach_in t s) → map held_meant held ≡ held_among t s (filter asked first)
 
 -- What is known before the first look leads to what is known after all.
-abbrev pub Surveys : Trace → World → List ℕ → Scheduler → Scheduler → List ℕ → Type 0
+abbrev pub Surveys : Recording → World → List ℕ → Scheduler → Scheduler → List ℕ → Type 0
 Surveys t w first s later free = (window : ℕ) → AreFirst t window w s.round first → Remembers t window s → HaveSeen t window s.round first later free
 
 -- The round of the places that may run: with their access sets, and with what the next round has to know.
-pub record IsSettled (t : Trace) (window : ℕ) (w : World) (first : List ℕ) (later : Scheduler) (wave : Wave) : Type 0 where
+pub record IsSettled (t : Recording) (window : ℕ) (w : World) (first : List ℕ) (later : Scheduler) (wave : Wave) : Type 0 where
   pub wave_is : wave.places ≡ map (chosen_at t w) (free_from t w [] first)
   pub remembers : Remembers t window later
 
-abbrev pub Settles : Trace → List ℕ → Scheduler → Scheduler → Wave → Type 0
+abbrev pub Settles : Recording → List ℕ → Scheduler → Scheduler → Wave → Type 0
 Settles t free s later wave = (window : ℕ) (w : World) (first : List ℕ) → AreFirst t window w s.round first → HaveSeen t window s.round first s free → IsSettled t window w first later wave

@@ -4,8 +4,8 @@ ghost use Rattle.std.specs.Prelude.{Some, filter, length, map, take};
 ghost use Rattle.chain_plan.specs.Plan.{roles};
 ghost use Rattle.item_index.specs.Ahead.{one_at, touched, written, written_before};
 ghost use Rattle.item_index.specs.Touching as touching;
-ghost use Rattle.trace_format.specs.Steps.{places};
-ghost use Rattle.trace_format.specs.Text.{IsSpelled};
+ghost use Rattle.recording.specs.Steps.{places};
+ghost use Rattle.recording.specs.Accepted.{IsAccepted};
 ghost use Rattle.round_scheduler.specs.Grounds.{ground_holds, AddsGround, IsGround};
 ghost use Rattle.round_scheduler.specs.Grounds.{RestsOnCollision, RestsOnGrounds};
 ghost use Rattle.wave_pick.specs.Picking.{IsNextWave};
@@ -23,9 +23,9 @@ use crate::telling::{Held, reach_at, told_held};
 use chain_plan::{Plan, Role};
 use foot_print::{Outlook, foot_in, outlook_in};
 use item_index::{Ahead, Behind, writes_some};
+use recording::{Recording, Series};
 use std::alloc::{AllocError, Global};
 use std::mem;
-use trace_format::{Series, Trace};
 use wave_pick::{Chosen, Wave};
 use world_parts::{Footprint, Item, World, collide, same_uses, writes_item};
 
@@ -91,8 +91,8 @@ impl Scheduler {
     /// # Errors
     ///
     /// Out of memory.
-    pub fn new(alloc: Global, trace: &Trace) -> Result<Self, AllocError>
-        requires { IsSpelled trace.now }
+    pub fn new(alloc: Global, trace: &Recording) -> Result<Self, AllocError>
+        requires { IsAccepted trace.now }
         ensures remembers { IfOk result
             (λ scheduler. (window : ℕ) → Remembers trace.now window scheduler) }
         ensures round { IfOk result (λ scheduler. scheduler.round ≡ 0) }
@@ -122,13 +122,13 @@ impl Scheduler {
     pub fn pick(
         &mut self,
         alloc: Global,
-        trace: &Trace,
+        trace: &Recording,
         plan: &Plan,
         world: &World,
         pending: &[u32],
         window: u32,
     ) -> Result<Wave, AllocError>
-        requires trace { IsSpelled trace.now }
+        requires trace { IsAccepted trace.now }
         requires plan { plan.now ≡ roles trace.now }
         requires round { self.old.round < places trace.now }
         requires pending { All (λ k. k < places trace.now) pending.now }
@@ -155,7 +155,7 @@ impl Scheduler {
     pub fn pick_telling(
         &mut self,
         alloc: Global,
-        trace: &Trace,
+        trace: &Recording,
         plan: &Plan,
         world: &World,
         pending: &[u32],
@@ -163,7 +163,7 @@ impl Scheduler {
         numbers: &[u32],
         number: u32,
     ) -> Result<(Wave, Series<Held>), AllocError>
-        requires trace { IsSpelled trace.now }
+        requires trace { IsAccepted trace.now }
         requires plan { plan.now ≡ roles trace.now }
         requires round { self.old.round < places trace.now }
         requires pending { All (λ k. k < places trace.now) pending.now }
@@ -190,12 +190,12 @@ impl Scheduler {
     fn survey(
         &mut self,
         alloc: Global,
-        trace: &Trace,
+        trace: &Recording,
         plan: &Plan,
         world: &World,
         first: &[u32],
     ) -> Result<Vec<u32>, AllocError>
-        requires trace { IsSpelled trace.now }
+        requires trace { IsAccepted trace.now }
         requires plan { plan.now ≡ roles trace.now }
         requires room { HasRoom (places trace.now) self.old }
         requires places { All (λ k. k < places trace.now) first.now }
@@ -213,11 +213,11 @@ impl Scheduler {
     fn settle(
         &mut self,
         alloc: Global,
-        trace: &Trace,
+        trace: &Recording,
         count: usize,
         free: &[u32],
     ) -> Result<Wave, AllocError>
-        requires trace { IsSpelled trace.now }
+        requires trace { IsAccepted trace.now }
         requires round { self.old.round < places trace.now }
         requires room { HasRoom (places trace.now) self.old }
         requires places { All (λ k. k < places trace.now) free.now }
@@ -255,12 +255,12 @@ impl Scheduler {
     fn look_over(
         &mut self,
         alloc: Global,
-        trace: &Trace,
+        trace: &Recording,
         plan: &Plan,
         world: &World,
         first: &[u32],
     ) -> Result<Vec<u32>, AllocError>
-        requires trace { IsSpelled trace.now }
+        requires trace { IsAccepted trace.now }
         requires plan { plan.now ≡ roles trace.now }
         requires room { HasRoom (places trace.now) self.old }
         requires places { All (λ k. k < places trace.now) first.now }
@@ -336,14 +336,14 @@ impl Scheduler {
     fn look(
         &self,
         alloc: Global,
-        trace: &Trace,
+        trace: &Recording,
         plan: &Plan,
         world: &World,
         place: u32,
         earlier: &[u32],
         guess: usize,
     ) -> Result<View, AllocError>
-        requires trace { IsSpelled trace.now }
+        requires trace { IsAccepted trace.now }
         requires plan { plan.now ≡ roles trace.now }
         requires place { place < places trace.now }
         ensures { IfOk result (Sees trace.now world.now.world place earlier.now self.now) }

@@ -3,15 +3,15 @@
 ghost use Rattle.std.specs.Prelude.{◌≡◌, ◌<◌, All, IfOk, find, reverse, slice_get};
 ghost use Rattle.std.specs.Option.{option_copied, option_map};
 ghost use Rattle.chain_plan.specs.Plan.{roles};
-ghost use Rattle.trace_format.specs.Steps.{places};
-ghost use Rattle.trace_format.specs.Text.{IsSpelled};
+ghost use Rattle.recording.specs.Steps.{places};
+ghost use Rattle.recording.specs.Accepted.{IsAccepted};
 ghost use Rattle.round_scheduler.specs.Telling.{AreTold, IsTold, has_number};
 ghost use Rattle.round_scheduler.specs.Telling.{collides_with, held_meant, kept_reach};
 
 use chain_plan::Plan;
 use foot_print::foot_in;
+use recording::Recording;
 use std::alloc::{AllocError, Global};
-use trace_format::Trace;
 use wave_pick::shared_of;
 use world_parts::{Footprint, Item, World, collide};
 
@@ -28,7 +28,7 @@ pub struct Held {
 /// Of the first places that wait, those with a number that an earlier one of them blocks.
 pub(crate) fn told_held(
     alloc: Global,
-    trace: &Trace,
+    trace: &Recording,
     plan: &Plan,
     world: &World,
     first: &[u32],
@@ -36,7 +36,7 @@ pub(crate) fn told_held(
     numbers: &[u32],
     number: u32,
 ) -> Result<Vec<Held>, AllocError>
-    requires trace { IsSpelled trace.now }
+    requires trace { IsAccepted trace.now }
     requires plan { plan.now ≡ roles trace.now }
     requires places { All (λ k. k < places trace.now) first.now }
     ensures { IfOk result (λ held. AreTold trace.now world.now.world first.now reaches.now

@@ -6,10 +6,10 @@ use Rattle.interleaving.proofs.Ahead.{known-now}
 use Rattle.interleaving.specs.Machine.{has}
 use Rattle.sqe_codec.specs.declared.errno.Errno.{Errno}
 use Rattle.sqe_codec.specs.Answers.{each, each_ok}
-use Rattle.trace_format.specs.declared.trace.Trace.{Trace}
+use Rattle.recording.specs.declared.recording.Recording.{Recording}
 use Rattle.trace_format.specs.Paths.{components}
-use Rattle.trace_format.specs.Steps.{places}
-use Rattle.trace_format.specs.Text.{IsSpelled}
+use Rattle.recording.specs.Steps.{places}
+use Rattle.recording.specs.Accepted.{IsAccepted}
 use Rattle.entry_checks.specs.Operation.{Operation, File, Path, in_slot, at_descriptor}
 use Rattle.file_tree.specs.Walk.{names_from, directory_at, fits_name, starts_at_root}
 use Rattle.world_parts.specs.World.{World, name, slot, descriptor}
@@ -84,7 +84,7 @@ module _ (s u : World) where
   goes_two_paths : (old new : Path) → Goes s u (path_reads s old ++ path_reads s new) (path_reads u old ++ path_reads u new)
   goes_two_paths old new = goes_path (path_reads s new) (path_reads u new) (goes_one_path new) old
 
-  module _ (t : Trace) (r : ℕ) where
+  module _ (t : Recording) (r : ℕ) where
     goes_description : (x : Option ℕ) → Goes s u (each (λ d. reads (one (description_at d)) ∷ []) x) (each (λ d. reads (one (description_at d)) ∷ []) x)
     goes_description None = goes_nothing []
     goes_description (Some d) = goes_cons (reads (one (description_at d))) [] [] (λ a. goes_nothing [])
@@ -111,11 +111,11 @@ module _ (s u : World) where
     goes_seen : (o : Operation) → Goes s u (seen (in_ring t r) s o) (seen (in_ring t r) u o)
     goes_seen o = goes_look (look (shape o))
 
-  goes_deciding : (t : Trace) (k : ℕ) (x : Option Turn) → Goes s u (look_of t k s x).deciding (look_of t k u x).deciding
+  goes_deciding : (t : Recording) (k : ℕ) (x : Option Turn) → Goes s u (look_of t k s x).deciding (look_of t k u x).deciding
   goes_deciding t k (Some (runs r e o)) = goes_seen t r o
   goes_deciding t k _ = goes_nothing []
 
-module _ (t : Trace) (spelled : IsSpelled t) (window r k : ℕ) (waits : Waits t window (suc r) k) (may_run : is_taken_to_run t k (world_after t window r) (reaches_after t window r k) ≡ true) where
+module _ (t : Recording) (spelled : IsAccepted t) (window r k : ℕ) (waits : Waits t window (suc r) k) (may_run : is_taken_to_run t k (world_after t window r) (reaches_after t window r k) ≡ true) where
   abbrev s : World
   s = world_after t window r
 
@@ -142,5 +142,5 @@ module _ (t : Trace) (spelled : IsSpelled t) (window r k : ℕ) (waits : Waits t
       let agree = value_stays t spelled window r k waits known unmet (λ a h. deciding_in_reach a (ap (λ f. has_atom f a) e ∙ true_of _ (in_left (λ (v : Use). member_of v.item a) known (first ∷ rest) (holds_true _ h)))) in
       (goes_deciding s (world_after t window (suc r)) t k (task t k)).goes known rest first e (record { same = λ a h. agree a (true_of _ h) })
 
-pub deciding_begins : (t : Trace) → IsSpelled t → DecidingBegins t
+pub deciding_begins : (t : Recording) → IsAccepted t → DecidingBegins t
 deciding_begins t spelled window r k known rest first waits may_run e unmet = (begins t spelled window r k waits may_run known rest first e unmet, unmet_stays t spelled window r k waits known unmet)

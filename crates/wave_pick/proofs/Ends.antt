@@ -6,8 +6,8 @@ use Rattle.std.specs.Option.{option_map}
 use Rattle.interleaving.specs.System.{sequential}
 use Rattle.interleaving.specs.Machine.{State, IsSequential}
 use Rattle.interleaving.proofs.Onwards.{one_by_one}
-use Rattle.trace_format.specs.declared.trace.Trace.{Trace}
-use Rattle.trace_format.specs.Steps.{steps, step_at, places}
+use Rattle.recording.specs.declared.recording.Recording.{Recording}
+use Rattle.recording.specs.Steps.{steps, step_at, places}
 use Rattle.sqe_codec.specs.Answers.{each}
 use Rattle.world_parts.specs.World.{World}
 use Rattle.op_meaning.specs.declared.reply.Reply.{Reply}
@@ -21,17 +21,17 @@ mapped : {A B : Type 0} (f : A → B) (o : Option A) (x : A) → o ≡ Some x �
 mapped f o x e = ap (option_map f) e
 
 -- A place of the trace has a reply in every world.
-has_reply : (t : Trace) (k : ℕ) (s : World) → k < places t → (reply : Reply) × (step_reply t k s ≡ Some reply)
+has_reply : (t : Recording) (k : ℕ) (s : World) → k < places t → (reply : Reply) × (step_reply t k s ≡ Some reply)
 has_reply t k s lt =
     let x = get-some (steps t) k lt in
     (_, mapped _ (turn t k s) _ (mapped _ (step_at t k) x.0 x.1))
 
 -- Of the sequential run each place's reply is kept at the place.
-record KeptSoFar (t : Trace) (n : ℕ) : Type 0 where
+record KeptSoFar (t : Recording) (n : ℕ) : Type 0 where
   many : length (run_replies t n) ≡ n
   kept : (k : ℕ) → k < n → slice_get (run_replies t n) k ≡ sequential_reply t k
 
-kept_so_far : (t : Trace) (n : ℕ) → n ≤ places t → KeptSoFar t n
+kept_so_far : (t : Recording) (n : ℕ) → n ≤ places t → KeptSoFar t n
 kept_so_far t zero le = record { many = refl; kept = λ k lt. absurd (omega arith) }
 kept_so_far t (suc n) le =
     let before = kept_so_far t n (omega arith) in
@@ -46,10 +46,10 @@ kept_so_far t (suc n) le =
       ]);
     }
 
-same_worlds : (t : Trace) (n : ℕ) → sequential (replayed t) n ≡ run_world t n
+same_worlds : (t : Recording) (n : ℕ) → sequential (replayed t) n ≡ run_world t n
 same_worlds t n = one_by_one (replayed t) (run_world t) refl (λ k. refl) n
 
-pub runs_as_the_model : (t : Trace) → RunsAsTheModel t
+pub runs_as_the_model : (t : Recording) → RunsAsTheModel t
 runs_as_the_model t =
     let all = kept_so_far t (places t) (omega arith) in
     record {
@@ -58,7 +58,7 @@ runs_as_the_model t =
       each_place = all.many;
     }
 
-pub ends_as_the_model : (t : Trace) (s : State (replayed t)) → IsSequential (replayed t) (places t) s → EndsAsTheModel t s
+pub ends_as_the_model : (t : Recording) (s : State (replayed t)) → IsSequential (replayed t) (places t) s → EndsAsTheModel t s
 ends_as_the_model t s h =
     let model = runs_as_the_model t in
     record {

@@ -8,7 +8,7 @@ use Rattle.std.proofs.lemmas.Option.{none-some, option_and_then_some, same_Some}
 use Rattle.interleaving.specs.Machine.{State, has}
 use Rattle.interleaving.specs.Rounds.{pending}
 use Rattle.interleaving.proofs.Skipping.{below_suc}
-use Rattle.trace_format.specs.declared.trace.Trace.{Trace}
+use Rattle.recording.specs.declared.recording.Recording.{Recording}
 use Rattle.world_parts.specs.Items.{Item, Footprint, collide}
 use Rattle.foot_print.specs.Footprint.{footprint}
 use Rattle.foot_print.specs.Replayed.{replayed}
@@ -67,7 +67,7 @@ module _ (p : ℕ → Bool) (done : ℕ → Bool) where
 shared_there : (f g : Footprint) → collide f g ≡ true → (x : Item) × (shared_of f g ≡ Some x)
 shared_there f g c = elim (shared_of f g) as (λ o. is_some o ≡ true → (x : Item) × (o ≡ Some x)) [ None ↦ λ e. (cc) | Some x ↦ λ e. (x, refl) ] (shared_where_colliding f g ∙ c)
 
-module _ (t : Trace) (s : State (replayed t)) (k : ℕ) where
+module _ (t : Recording) (s : State (replayed t)) (k : ℕ) where
   abbrev holds : ℕ → Bool
   holds i = collide (footprint t k s.world) (reach_in t s i)
 
@@ -101,7 +101,7 @@ module _ (t : Trace) (s : State (replayed t)) (k : ℕ) where
         absurd (none-some _ (sym e ∙ ap (option_and_then by_item) f ∙ ap (option_map (λ (x : Item). let h : Holder = record { place = i; item = x } in h)) there.1))
   ] refl
 
-pub holders_hold_back : (t : Trace) → HoldersHoldBack t
+pub holders_hold_back : (t : Recording) → HoldersHoldBack t
 holders_hold_back t window r k h e =
     let s = state_after t window r in
     let found = has_holder t s k h e in
@@ -111,7 +111,7 @@ holders_hold_back t window r k h e =
       latest = λ i lt within b. not_both b.collides (found.last.later i lt within b.waits);
     }
 
-pub none_is_held_back : (t : Trace) → NoneIsHeldBack t
+pub none_is_held_back : (t : Recording) → NoneIsHeldBack t
 none_is_held_back t window r k e i b =
     let s = state_after t window r in
     not_both b.collides (found_none (λ j. collide (footprint t k s.world) (reach_in t s j)) (has s.finished) k (has_none t s k e) i b.is_before b.waits)

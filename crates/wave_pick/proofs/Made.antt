@@ -1,21 +1,23 @@
 -- The may-access set of an earlier place writes nothing that a place makes.
-use Rattle.std.specs.Prelude.{◌≡◌, ℕ, suc, Bool, true, false, cond, not, ◌||◌, ◌+◌, ◌<◌, ◌≤◌, ltb, leb, length, T, List, [], ◌∷◌, ◌++◌, map, Option, Some, None, refl}
+use Rattle.std.specs.Prelude.{◌≡◌, ℕ, suc, Bool, true, false, cond, not, ◌&&◌, ◌||◌, ◌+◌, ◌<◌, ◌≤◌, ltb, leb, length, T, List, [], ◌∷◌, ◌++◌, map, Option, Some, None, refl}
 use Rattle.std.proofs.Common.{inl, inr, sym, subst, arith}
 use Rattle.std.proofs.lemmas.Bool.{cond_both}
+use Rattle.std.specs.List.{flat_map}
 use lib.Dec.{ltb→lt, lt→ltb, eqb→eq}
-use Rattle.trace_format.specs.declared.trace.Trace.{Trace}
+use Rattle.recording.specs.declared.recording.Recording.{Recording}
+use Rattle.trace_records.specs.declared.record.FullSlot.{FullSlot}
 use Rattle.sqe_codec.specs.Answers.{each}
 use Rattle.chain_plan.specs.Chain.{role}
 use Rattle.entry_checks.specs.Operation.{File, Span, file_limit, in_slot, at_descriptor}
 use Rattle.world_parts.specs.World.{World}
-use Rattle.world_parts.specs.Items.{Atom, chain_flag, ring_order, slot_at, descriptor_at, description_at, position_of, size_of, byte_at, name_at, names_in, buffer_byte, Item, one, file_bytes, buffer_bytes, all_names, all_bytes_and_sizes, all_positions, all_descriptions, all_descriptors, member_of, Use, reads, writes, Footprint, has_atom}
-use Rattle.world_parts.proofs.Collision.{left, true_of, writes-has, same_atom-eq}
+use Rattle.world_parts.specs.Items.{Atom, chain_flag, ring_order, slot_at, descriptor_at, description_at, position_of, size_of, byte_at, name_at, names_in, buffer_byte, Item, one, file_bytes, buffer_bytes, all_names, all_bytes_and_sizes, all_positions, all_descriptions, all_descriptors, member_of, Use, reads, writes, Footprint, writes_atom}
+use Rattle.world_parts.proofs.Collision.{left, right, true_of, writes-has, same_atom-eq}
 use Rattle.world_parts.proofs.Sharing.{holds_true}
 use Rattle.op_meaning.specs.Site.{in_ring, sited}
 use Rattle.op_meaning.specs.Meaning.{made_node, made_description, slot_count, span_start, lowest_free, shape}
-use Rattle.foot_print.specs.Footprint.{use_of, held_item, file_reads, span_use, description_made}
+use Rattle.foot_print.specs.Footprint.{use_of, held_item, file_reads, span_use, description_made, holder_item, slot_uses}
 use Rattle.op_meaning.specs.Shape.{Shape, idle, looking, moving, allocating, resizing, closing, opening, making, freeing, linking, renaming}
-use Rattle.op_meaning.specs.Step.{Turn, filled, runs, ring_at}
+use Rattle.op_meaning.specs.Step.{Turn, filled, registered, runs, queue_at}
 use Rattle.foot_print.specs.Reach.{shape_makes, room_asked, room_at, unresolved_shape, written_by, is_met, node_made, makes, all_files, any_name, unresolved_file, unresolved_of, extras_of, task, look_of, order_of, running_row, accepted_row, wide_row, is_taken_to_run, reach}
 use Rattle.foot_print.specs.Replayed.{is_earlier, Known}
 use Rattle.foot_print.proofs.Cover.{all_covered}
@@ -24,11 +26,11 @@ use Rattle.foot_print.proofs.Lawful.{row_laws}
 use Rattle.foot_print.proofs.Writing.{is_false, atom_of_writes}
 use Rattle.wave_pick.specs.Waiting.{made_of}
 
--- All atoms of an access set are of no place behind k.
-record UpTo (t : Trace) (k : ℕ) (f : Footprint) : Type 0 where
-  bound : (a : Atom) → T (has_atom f a) → T (is_earlier t (suc k) a)
+-- All atoms that an access set writes are of no place behind k.
+record UpTo (t : Recording) (k : ℕ) (f : Footprint) : Type 0 where
+  bound : (a : Atom) → T (writes_atom f a) → T (is_earlier t (suc k) a)
 
-module _ (t : Trace) where
+module _ (t : Recording) where
   -- What is of an earlier place is of one before any later place.
   later_still : (i j : ℕ) → i ≤ j → (a : Atom) → T (is_earlier t i a) → T (is_earlier t j a)
   later_still i j le (description_at d) h = let l = ltb→lt d (made_description t i) h in lt→ltb d (made_description t j) (omega arith)
@@ -56,13 +58,16 @@ module _ (t : Trace) where
     nothing = record { bound = λ a h. absurd h }
 
     all : (f g : Footprint) → Bound f → Bound g → Bound (f ++ g)
-    all f g x y = record { bound = λ a h. elim (split (λ (v : Use). member_of v.item a) f g h) [ inl m ↦ x.bound a m | inr m ↦ y.bound a m ] }
+    all f g x y = record { bound = λ a h. elim (split (λ (v : Use). v.written && member_of v.item a) f g h) [ inl m ↦ x.bound a m | inr m ↦ y.bound a m ] }
 
     atom : (b : Atom) (v : Bool) → T (is_earlier t (suc k) b) → Bound (use_of v (one b) ∷ [])
-    atom b v e = record { bound = λ a h. subst (λ c. T (is_earlier t (suc k) c)) (same_atom-eq b a (drop_false _ h)) e }
+    atom b v e = record { bound = λ a h. subst (λ c. T (is_earlier t (suc k) c)) (same_atom-eq b a (right v _ (drop_false _ h))) e }
 
     item : (x : Item) (v : Bool) → ((a : Atom) → T (member_of x a) → T (is_earlier t (suc k) a)) → Bound (use_of v x ∷ [])
-    item x v g = record { bound = λ a h. g a (drop_false _ h) }
+    item x v g = record { bound = λ a h. g a (right v _ (drop_false _ h)) }
+
+    read : (x : Item) → Bound (reads x ∷ [])
+    read x = record { bound = λ a h. absurd h }
 
     of_buffer : (r b low high : ℕ) (a : Atom) → T (member_of (buffer_bytes r b low high) a) → T (is_earlier t (suc k) a)
     of_buffer r b low high (buffer_byte q c p) h = tt
@@ -99,7 +104,7 @@ module _ (t : Trace) where
     held v r (at_descriptor n) = elim (ltb n (length t.descriptors)) as (λ c. Bound (map (use_of v) (cond c (one (descriptor_at n) ∷ []) []))) [ true ↦ atom (descriptor_at n) v tt | false ↦ nothing ]
 
     order : Bound (order_of t k)
-    order = all (use_of (role t k).barrier (one (ring_order (ring_at t k))) ∷ []) _ (atom (ring_order (ring_at t k)) (role t k).barrier tt)
+    order = all (use_of (role t k).barrier (one (ring_order (queue_at t k))) ∷ []) _ (atom (ring_order (queue_at t k)) (role t k).barrier tt)
         (cond_both (leb 2 (role t k).length) _ _ Bound (λ _. atom (chain_flag (role t k).chain) true tt) (λ _. nothing))
 
     made : Bound (node_made t k ++ description_made t k)
@@ -156,6 +161,11 @@ module _ (t : Trace) where
     shape_bound r (linking old new) = names_bound
     shape_bound r (renaming old new) = names_bound
 
+    -- What the slots of a new ring get is read, and the slots are written.
+    slots_bound : (r : ℕ) (slots : List FullSlot) → Bound (flat_map (slot_uses r) slots)
+    slots_bound r [] = nothing
+    slots_bound r (x ∷ xs) = all (slot_uses r x) _ (all (reads (holder_item x.holds) ∷ []) _ (read (holder_item x.holds)) (atom (slot_at r x.number) true tt)) (slots_bound r xs)
+
     module _ (s : World) (earlier : List Footprint) where
       unresolved_of_bound : (x : Option Turn) → Bound (unresolved_of t k s x)
       unresolved_of_bound (Some (filled r b at new)) = item _ true (of_buffer r b at (at + length new))
@@ -163,13 +173,14 @@ module _ (t : Trace) where
       unresolved_of_bound _ = nothing
 
       extras_bound : (x : Option Turn) → Bound (extras_of t k s earlier x)
+      extras_bound (Some (registered r slots)) = slots_bound r slots
       extras_bound (Some (runs r e o)) = all (makes t k o) _ (makes_bound (shape o)) (room_bound s r earlier (room_asked o))
       extras_bound _ = nothing
 
       wide_bound : Bound (wide_row t k s earlier)
       wide_bound = all (order_of t k) _ order (all (unresolved_of t k s (task t k)) _ (unresolved_of_bound (task t k)) (extras_bound (task t k)))
 
-      -- A may-access set has nothing of later places.
+      -- A may-access set writes nothing of later places.
       reach_bound : Known t k s earlier → Bound (reach t k s earlier)
       reach_bound known =
           cond_both (is_taken_to_run t k s earlier) _ _ Bound
@@ -178,10 +189,10 @@ module _ (t : Trace) where
           (λ _. order)
         where
           accepted_bound : is_taken_to_run t k s earlier ≡ true → Bound (accepted_row t k s earlier)
-          accepted_bound e = all (order_of t k) _ order (all (look_of t k s (task t k)).items _ (record { bound = λ a h. up_to a (holds_true _ (known e a (true_of _ h))) }) (extras_bound (task t k)))
+          accepted_bound e = all (order_of t k) _ order (all (look_of t k s (task t k)).items _ (record { bound = λ a h. up_to a (holds_true _ (known e a (true_of _ (writes-has _ a h)))) }) (extras_bound (task t k)))
 
           row_bound : is_taken_to_run t k s earlier ≡ true → Bound (running_row t k s)
-          row_bound e = record { bound = λ a h. (accepted_bound e).bound a (holds_true _ (((row_laws t all_covered).accepted_holds_row k s earlier).0 a (true_of _ h))) }
+          row_bound e = record { bound = λ a h. (accepted_bound e).bound a (holds_true _ (((row_laws t all_covered).accepted_holds_row k s earlier).1 a (true_of _ h))) }
 
   -- What a place makes is of no earlier place.
   below_itself : (n : ℕ) → T (ltb n n) → ⊥
@@ -201,7 +212,7 @@ module _ (t : Trace) where
     unwritten_own : (x : Item) → Own k x → written_by (reach t i s earlier ∷ []) x ≡ false
     unwritten_own x own = is_false _ (λ h.
         let c = atom_of_writes x (reach t i s earlier) (drop_false _ h) in
-        own c.0 c.2 (later_still (suc i) k (omega arith) c.0 ((reach_bound i s earlier known).bound c.0 (writes-has _ c.0 c.1))))
+        own c.0 c.2 (later_still (suc i) k (omega arith) c.0 ((reach_bound i s earlier known).bound c.0 c.1)))
 
     own_one : (b : Atom) → (T (is_earlier t k b) → ⊥) → written_by (reach t i s earlier ∷ []) (one b) ≡ false
     own_one b apart = unwritten_own (one b) (own_atom k b apart)

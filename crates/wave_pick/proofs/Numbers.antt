@@ -11,9 +11,9 @@ use Rattle.interleaving.specs.Rounds.{chosen, round}
 use Rattle.interleaving.specs.Rounds as machine
 use Rattle.interleaving.proofs.Onwards.{not_before, ran_before, still_open, chosen_open}
 use Rattle.interleaving.proofs.Rounding.{rounds_finish, rounds_keep_order_lem}
-use Rattle.trace_format.specs.declared.trace.Trace.{Trace}
-use Rattle.trace_format.specs.Steps.{places}
-use Rattle.trace_format.specs.Text.{IsSpelled}
+use Rattle.recording.specs.declared.recording.Recording.{Recording}
+use Rattle.recording.specs.Steps.{places}
+use Rattle.recording.specs.Accepted.{IsAccepted}
 use Rattle.foot_print.specs.Replayed.{replayed}
 use Rattle.wave_pick.specs.Lawful.{lawful}
 use Rattle.wave_pick.specs.Rounds.{state_after, wave_after, waves_from, waves, round_of, rounds, RoundsAreNumbered}
@@ -21,7 +21,7 @@ use Rattle.wave_pick.specs.Orders.{InOrder, LinksAndDrainsRise}
 use Rattle.wave_pick.proofs.Lists.{not_both}
 use Rattle.wave_pick.proofs.Orders.{always_collide}
 
-module _ (t : Trace) (window : ℕ) where
+module _ (t : Recording) (window : ℕ) where
   -- the number of a place is the rounds after which it is chosen
   pub number_is : (d r : ℕ) (x : State (replayed t)) (k : ℕ) → r < d → has (chosen (replayed t) (places t) window (machine.rounds (replayed t) (places t) window r x)) k ≡ true → round_of (waves_from t window d x) k ≡ r
   number_is zero r x k lt h = absurd (omega arith)
@@ -47,7 +47,7 @@ module _ (t : Trace) (window : ℕ) where
       slice_get-map (round_of (waves t window)) (range_with_len 0 (places t)) k
       ∙ ap (option_map (round_of (waves t window))) (slice_get-get_or (range_with_len 0 (places t)) k 0 within ∙ ap Some (get_or-range_with_len 0 (places t) k 0 lt ∙ e))
 
-  module _ (spelled : IsSpelled t) (wide : 1 ≤ window) where
+  module _ (spelled : IsAccepted t) (wide : 1 ≤ window) where
     pub chosen_at : (k : ℕ) → k < places t → has (wave_after t window (round_of (waves t window) k)) k ≡ true
     chosen_at k lt = chosen_by_then (places t) (opening (replayed t)) k refl (rounds_finish (replayed t) (lawful t spelled) (places t) window (places t) k wide lt lt)
 
@@ -76,9 +76,9 @@ module _ (t : Trace) (window : ℕ) where
         let at_k : slice_index (rounds t window) k ≡ b = get_or_from_slice_get (rounds t window) k b 0 (at_place k within) in
         omega arith
 
-pub rounds_numbered : (t : Trace) → IsSpelled t → RoundsAreNumbered t
+pub rounds_numbered : (t : Recording) → IsAccepted t → RoundsAreNumbered t
 rounds_numbered t spelled window wide =
     (length-map-range_with_len (round_of (waves t window)) 0 (places t), λ r k lt. (number_at t window spelled wide r k lt, at_number t window spelled wide r k lt))
 
-pub rounds_rise : (t : Trace) → IsSpelled t → LinksAndDrainsRise t
+pub rounds_rise : (t : Recording) → IsAccepted t → LinksAndDrainsRise t
 rounds_rise t spelled window i k wide lt within o = rises t window spelled wide i k lt within o

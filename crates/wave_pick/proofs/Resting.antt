@@ -4,9 +4,9 @@ use Rattle.std.proofs.lemmas.Bool.{cases_eq}
 use Rattle.interleaving.specs.Machine.{State, has, opening}
 use Rattle.interleaving.proofs.Members.{has-cases, has-here}
 use Rattle.interleaving.proofs.Onwards.{rounds-more, still_open}
-use Rattle.trace_format.specs.declared.trace.Trace.{Trace}
-use Rattle.trace_format.specs.Steps.{places}
-use Rattle.trace_format.specs.Text.{IsSpelled}
+use Rattle.recording.specs.declared.recording.Recording.{Recording}
+use Rattle.recording.specs.Steps.{places}
+use Rattle.recording.specs.Accepted.{IsAccepted}
 use Rattle.world_parts.specs.Items.{collide}
 use Rattle.foot_print.specs.Replayed.{replayed}
 use Rattle.wave_pick.specs.Lawful.{lawful}
@@ -18,26 +18,26 @@ use Rattle.wave_pick.proofs.Staying.{waited}
 use Rattle.wave_pick.proofs.Waiting.{row_stays, witness_holds}
 
 -- A waiting place that isn't in the next round waits behind it.
-pub waits_on : (t : Trace) (window r k : ℕ) → Waits t window r k → has (wave_after t window r) k ≡ false → Waits t window (suc r) k
+pub waits_on : (t : Recording) (window r k : ℕ) → Waits t window r k → has (wave_after t window r) k ≡ false → Waits t window (suc r) k
 waits_on t window r k waits out =
     ap (λ (x : State (replayed t)). has x.finished k) (rounds-more (replayed t) (places t) window r (opening (replayed t)))
     ∙ still_open (replayed t) (wave_after t window r) (state_after t window r) k out waits
 
 -- A place that stays as it is to a later round does so to the round before.
-pub stays_before : (t : Trace) → IsSpelled t → (window r q i : ℕ) → StaysAsIs t window r (suc q) i → StaysAsIs t window r q i
+pub stays_before : (t : Recording) → IsAccepted t → (window r q i : ℕ) → StaysAsIs t window r (suc q) i → StaysAsIs t window r q i
 stays_before t spelled window r q i h = record {
   waits = waited (replayed t) (lawful t spelled) (places t) window q i h.waits;
   same = λ p le less. h.same p le (omega arith);
 }
 
-pub same_reach : (t : Trace) (window r q i : ℕ) → r ≤ q → StaysAsIs t window r q i → reach_after t window q i ≡ reach_after t window r i
+pub same_reach : (t : Recording) (window r q i : ℕ) → r ≤ q → StaysAsIs t window r q i → reach_after t window q i ≡ reach_after t window r i
 same_reach t window r q i le h = h.same q le (omega arith)
 
-pub all_before : (t : Trace) → IsSpelled t → (window r q : ℕ) (is : List ℕ) → AllStay t window r (suc q) is → AllStay t window r q is
+pub all_before : (t : Recording) → IsAccepted t → (window r q : ℕ) (is : List ℕ) → AllStay t window r (suc q) is → AllStay t window r q is
 all_before t spelled window r q is h i e = stays_before t spelled window r q i (h i e)
 
 -- What tells that one of some places blocks another one, whose may-access set stays, and goes on from round to round while that one waits and the others stay as they are.
-module _ (t : Trace) (spelled : IsSpelled t) (window r : ℕ) (is : List ℕ) (k : ℕ) (P : ℕ → Type 0) where
+module _ (t : Recording) (spelled : IsAccepted t) (window r : ℕ) (is : List ℕ) (k : ℕ) (P : ℕ → Type 0) where
   pub record GoesOn : Type 0 where
     pub waits : Waits t window r k
     pub now : P r
@@ -68,7 +68,7 @@ module _ (t : Trace) (spelled : IsSpelled t) (window r : ℕ) (is : List ℕ) (k
 pub only : (i j : ℕ) → has (i ∷ []) j ≡ true → j ≡ i
 only i j e = elim (has-cases j i [] e) [ inl same ↦ same | inr none ↦ (cc) ]
 
-module _ (t : Trace) (window r i k : ℕ) where
+module _ (t : Recording) (window r i k : ℕ) where
   pub alone : RestsOnAll t window r (i ∷ []) k → RestsOn t window r i k
   alone all q le h =
       let found = all q le (λ j e. subst (λ n. StaysAsIs t window r q n) (sym (only i j e)) h) in
@@ -77,7 +77,7 @@ module _ (t : Trace) (window r i k : ℕ) where
   pub together : RestsOn t window r i k → RestsOnAll t window r (i ∷ []) k
   together one q le h = let found = one q le (h i (has-here i [])) in (found.0, (i, (has-here i [], found.1)))
 
-pub rests_unmet : (t : Trace) → IsSpelled t → RestsUnmet t
+pub rests_unmet : (t : Recording) → IsAccepted t → RestsUnmet t
 rests_unmet t spelled window r i k waits unmet holds =
     let now = row_stays t spelled window r r k (omega arith) waits unmet in
     alone t window r i k (rests_on_all t spelled window r (i ∷ []) k (λ p. Settled t window p k (footprint_after t window r k)) (record {
@@ -92,7 +92,7 @@ rests_unmet t spelled window r i k waits unmet holds =
       next = λ p le stays later h. row_stays t spelled window r (suc p) k (omega arith) later unmet;
     }))
 
-pub rests_on_all_stays : (t : Trace) → RestsOnAllStays t
+pub rests_on_all_stays : (t : Recording) → RestsOnAllStays t
 rests_on_all_stays t window r is k rests stays q le later =
     let next = rests (suc r) (omega arith) stays in
     let found = rests q (omega arith) (λ i e. record { waits = (later i e).waits; same = same i e }) in
@@ -104,6 +104,6 @@ rests_on_all_stays t window r is k rests stays q le later =
       | inr ne ↦ (later i e).same p (omega (arith, ne)) less ∙ (stays i e).same (suc r) (omega arith) (omega arith)
     ]
 
-pub rests_on_stays : (t : Trace) → RestsOnStays t
+pub rests_on_stays : (t : Recording) → RestsOnStays t
 rests_on_stays t window r i k rests stays = alone t window (suc r) i k (rests_on_all_stays t window r (i ∷ []) k (together t window r i k rests)
     (λ j e. subst (λ n. StaysAsIs t window r (suc r) n) (sym (only i j e)) stays))

@@ -2,8 +2,8 @@
 use Rattle.std.proofs.Common.{◌≡◌, ℕ, suc, ◌<◌, ◌≤◌, Bool, true, false, List, [], ◌∷◌, ◌++◌, inl, inr, refl, sym, ap, ◌∙◌, arith}
 use Rattle.interleaving.proofs.Members.{has-here}
 use Rattle.interleaving.specs.Machine.{has}
-use Rattle.trace_format.specs.declared.trace.Trace.{Trace}
-use Rattle.trace_format.specs.Text.{IsSpelled}
+use Rattle.recording.specs.declared.recording.Recording.{Recording}
+use Rattle.recording.specs.Accepted.{IsAccepted}
 use Rattle.world_parts.specs.Items.{Use, Footprint}
 use Rattle.world_parts.proofs.Collision.{true_of}
 use Rattle.world_parts.proofs.Sharing.{holds_true}
@@ -22,7 +22,7 @@ use Rattle.wave_pick.proofs.Waiting.{decided_stays}
 use Rattle.wave_pick.proofs.Witness.{deciding_in_row, met_before, row_witness_holds, row_witness_stays}
 
 -- A place that is decided, with the same look as in the first round.
-module _ (t : Trace) (spelled : IsSpelled t) (window r i k : ℕ) (waits : Waits t window r k) (decided : IsDecided t window r k) (is : List ℕ) (is_one : has is i ≡ true) (h : WriteForAll t window r is k) (w : WritesRow t window r i k) where
+module _ (t : Recording) (spelled : IsAccepted t) (window r i k : ℕ) (waits : Waits t window r k) (decided : IsDecided t window r k) (is : List ℕ) (is_one : has is i ≡ true) (h : WriteForAll t window r is k) (w : WritesRow t window r i k) where
   record StaysDecided (p : ℕ) : Type 0 where
     is_decided : IsDecided t window p k
     same_look : look_after t window p k ≡ look_after t window r k
@@ -63,7 +63,7 @@ module _ (t : Trace) (spelled : IsSpelled t) (window r i k : ℕ) (waits : Waits
   })
 
 -- A place that may run, of which the same item is the first that the may-access set of the earlier one writes.
-module _ (t : Trace) (spelled : IsSpelled t) (window r i k : ℕ) (known rest : Footprint) (first : Use) (lt : i < k) (now : Waits t window r i) (waits : Waits t window r k)
+module _ (t : Recording) (spelled : IsAccepted t) (window r i k : ℕ) (known rest : Footprint) (first : Use) (lt : i < k) (now : Waits t window r i) (waits : Waits t window r k)
     (run : is_taken_to_run t k (world_after t window r) (reaches_after t window r k) ≡ true) (is : List ℕ) (is_one : has is i ≡ true) (h : WriteForAll t window r is k)
     (deciding : (look_after t window r k).deciding ≡ known ++ first ∷ rest) (unmet : is_met known (reaches_after t window r k) ≡ false)
     (written : is_met (first ∷ []) (reach_after t window r i ∷ []) ≡ true) where
@@ -111,7 +111,7 @@ module _ (t : Trace) (spelled : IsSpelled t) (window r i k : ℕ) (known rest : 
     next = undecided_next;
   })
 
-pub rests_together : (t : Trace) → IsSpelled t → RestsTogether t
+pub rests_together : (t : Recording) → IsAccepted t → RestsTogether t
 rests_together t spelled window r i k is f is_one lt now waits wait h written = elim wait.by [
   | inl d ↦
       let both : is_met (d.known ++ d.first ∷ []) (reach_after t window r i ∷ []) ≡ true = ap (λ g. is_met g (reach_after t window r i ∷ [])) (sym d.here) ∙ written in
@@ -124,14 +124,14 @@ rests_together t spelled window r i k is f is_one lt now waits wait h written = 
 ]
 
 -- On one that does it all.
-pub rests_by_items : (t : Trace) → IsSpelled t → RestsByItems t
+pub rests_by_items : (t : Recording) → IsAccepted t → RestsByItems t
 rests_by_items t spelled window r i k f lt now waits wait h written =
     alone t window r i k (rests_together t spelled window r i k (i ∷ []) f (has-here i []) lt now waits wait (write_alone t window r i k lt now h) written)
 
-pub rests_decided : (t : Trace) → IsSpelled t → RestsDecided t
+pub rests_decided : (t : Recording) → IsAccepted t → RestsDecided t
 rests_decided t spelled window r i k waits decided h w =
     alone t window r i k (decided_rests t spelled window r i k waits decided (i ∷ []) (has-here i []) (write_alone t window r i k w.is_before w.waits h) w)
 
-pub rests_undecided : (t : Trace) → IsSpelled t → RestsUndecided t
+pub rests_undecided : (t : Recording) → IsAccepted t → RestsUndecided t
 rests_undecided t spelled window r i k known rest first lt now waits run h deciding unmet written =
     alone t window r i k (undecided_rests t spelled window r i k known rest first lt now waits run (i ∷ []) (has-here i []) (write_alone t window r i k lt now h) deciding unmet written)

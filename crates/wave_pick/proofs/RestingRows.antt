@@ -5,9 +5,9 @@ use Rattle.std.proofs.lemmas.Bool.{cases_Bool, cond-true, cond-false}
 use Rattle.interleaving.proofs.Members.{has-here}
 use Rattle.interleaving.specs.Machine.{has}
 use Rattle.op_meaning.specs.Site.{in_ring}
-use Rattle.trace_format.specs.declared.trace.Trace.{Trace}
-use Rattle.trace_format.specs.Steps.{places}
-use Rattle.trace_format.specs.Text.{IsSpelled}
+use Rattle.recording.specs.declared.recording.Recording.{Recording}
+use Rattle.recording.specs.Steps.{places}
+use Rattle.recording.specs.Accepted.{IsAccepted}
 use Rattle.chain_plan.specs.Chain.{role}
 use Rattle.entry_checks.specs.Operation.{Operation, openat}
 use Rattle.world_parts.specs.World.{World}
@@ -35,11 +35,11 @@ use Rattle.wave_pick.proofs.Wide.{extras_same, wide_stays, unresolved_in_world}
 use Rattle.wave_pick.proofs.Witness.{row_witness_holds, written_before}
 
 -- Where no may-access set before it writes its chain's flag, a place may run unless it is canceled.
-settled_runs : (t : Trace) (window r k : ℕ) → ChainIsSettled t window r k → is_taken_to_run t k (world_after t window r) (reaches_after t window r k) ≡ (if is_canceled (turn t k (world_after t window r)) then false else true)
+settled_runs : (t : Recording) (window r k : ℕ) → ChainIsSettled t window r k → is_taken_to_run t k (world_after t window r) (reaches_after t window r k) ≡ (if is_canceled (turn t k (world_after t window r)) then false else true)
 settled_runs t window r k e = cond-false _ _ _ e
 
 -- A place whose may-access set writes the flag of a later one's chain holds that one back, where it is of a chain of two or more.
-module _ (t : Trace) (window r i k : ℕ) where
+module _ (t : Recording) (window r i k : ℕ) where
   abbrev flag : Atom
   flag = chain_flag (role t k).chain
 
@@ -50,7 +50,7 @@ module _ (t : Trace) (window r i k : ℕ) where
       true_of _ (first_writes-collide (footprint_after t window r k) (reach_after t window r i) flag (in_left (λ (u : Use). u.written && member_of u.item flag) (order_of t k) _ (writes_chain t k two)) there)
 
 -- One of some places blocks one whose row another of them writes: that one, or the one that writes the flag of its chain.
-module _ (t : Trace) (window r i k : ℕ) (is : List ℕ) (is_one : has is i ≡ true) where
+module _ (t : Recording) (window r i k : ℕ) (is : List ℕ) (is_one : has is i ≡ true) where
   pub holds_by_row : is_taken_to_run t k (world_after t window r) (reaches_after t window r k) ≡ true → WriteForAll t window r is k → WritesRow t window r i k → OneHolds t window r is k
   holds_by_row run h w = elim (cases_Bool (is_canceled (turn t k (world_after t window r)))) [
     | inl off ↦ elim h.chain [
@@ -71,7 +71,7 @@ module _ (t : Trace) (window r i k : ℕ) (is : List ℕ) (is_one : has is i ≡
   ]
 
 -- What one place writes for all is written by one of a list of one.
-pub write_alone : (t : Trace) (window r i k : ℕ) → i < k → Waits t window r i → WritesForAll t window r i k → WriteForAll t window r (i ∷ []) k
+pub write_alone : (t : Recording) (window r i k : ℕ) → i < k → Waits t window r i → WritesForAll t window r i k → WriteForAll t window r (i ∷ []) k
 write_alone t window r i k lt now h = record {
   chain = elim h.chain [ inl settled ↦ inl settled | inr w ↦ inr (one_writes _ w) ];
   descriptors = elim h.descriptors [ inl e ↦ inl e | inr d ↦ inr (elim d [ inl e ↦ inl e | inr w ↦ inr (one_writes _ w) ]) ];
@@ -81,7 +81,7 @@ write_alone t window r i k lt now h = record {
     one_writes x w = record { place = i; is_one = has-here i []; is_before = lt; waits = now; writes = w }
 
 -- Where a turn doesn't take the lowest free descriptor, what it may make and its room are told by neither world nor may-access sets.
-same_extras : (t : Trace) (k : ℕ) (s u : World) (earlier later : List Footprint) (x : Option Turn) → turn_takes_lowest x ≡ false → extras_of t k u later x ≡ extras_of t k s earlier x
+same_extras : (t : Recording) (k : ℕ) (s u : World) (earlier later : List Footprint) (x : Option Turn) → turn_takes_lowest x ≡ false → extras_of t k u later x ≡ extras_of t k s earlier x
 same_extras t k s u earlier later x e = extras_same t k s u earlier later x (λ r y o is. room r o (ap turn_takes_lowest (sym is) ∙ e))
   where
     room : (r : ℕ) (o : Operation) → takes_lowest o ≡ false → room_taken (in_ring t r) u later o ≡ room_taken (in_ring t r) s earlier o
@@ -89,7 +89,7 @@ same_extras t k s u earlier later x e = extras_same t k s u earlier later x (λ 
     room r (openat p g (Some n)) h = refl
     room r _ h = refl
 
-module _ (t : Trace) (spelled : IsSpelled t) (window : ℕ) where
+module _ (t : Recording) (spelled : IsAccepted t) (window : ℕ) where
   -- Where no may-access set before a place writes a descriptor, none does while it waits.
   unwritten_stays : (r q k : ℕ) → r ≤ q → Waits t window q k → descriptors_wait t window r k ≡ false → descriptors_wait t window q k ≡ false
   unwritten_stays r q k le waits e =

@@ -4,7 +4,7 @@ use Rattle.std.proofs.lemmas.Bool.{true≢false, true_from_ne_false}
 use Rattle.std.proofs.Common.{inl, inr, sym, subst, ap}
 use Rattle.sqe_codec.specs.declared.errno.Errno.{Errno}
 use Rattle.sqe_codec.specs.Answers.{each, each_ok}
-use Rattle.trace_format.specs.declared.trace.Trace.{Trace}
+use Rattle.recording.specs.declared.recording.Recording.{Recording}
 use Rattle.entry_checks.specs.Operation.{Operation, OpenFlags}
 use Rattle.file_tree.specs.Tree.{Target}
 use Rattle.file_tree.specs.Walk.{Place}
@@ -15,7 +15,7 @@ use Rattle.op_meaning.specs.Site.{at_place, in_ring, sited}
 use Rattle.op_meaning.specs.Meaning.{Found, found, meaning, made_node, Handle, is_file, allocation, Allocation, extend, lowest_free, shape}
 use Rattle.foot_print.specs.Footprint.{tried, foreseen, shape_row, look_reads, uses, uses_in, content_of, moved_uses, opening_uses, opened_at, directory_made, as_reads, would_extend, position_use, span_use, allocation_uses, name_written, made_where, room_uses, description_made, open_uses, row_in, turn_uses, write_content}
 use Rattle.op_meaning.specs.Shape.{Shape, moving, allocating, opening, making, look}
-use Rattle.op_meaning.specs.Step.{Turn, filled, runs}
+use Rattle.op_meaning.specs.Step.{Turn, filled, registered, runs}
 use Rattle.foot_print.specs.Reach.{shape_asked, room_asked, room_at, written_by, is_met, taken, makes, room_taken, LookedUp, look_of, task, order_of, running_row}
 use Rattle.foot_print.proofs.Agreement.{in_left, in_right, has_atom-as_reads}
 use Rattle.foot_print.proofs.Holding.{split, drop_false}
@@ -46,7 +46,7 @@ has_self f = record { has = λ a h. h }
 has_nothing : (f : Footprint) → Has f []
 has_nothing f = record { has = λ a h. absurd h }
 
-module _ (t : Trace) (k r : ℕ) (s : World) where
+module _ (t : Recording) (k r : ℕ) (s : World) where
   has_content : (c d : ℕ → Handle → Footprint) → ((i : ℕ) (h : Handle) → Has (c i h) (d i h)) → (x : Option Handle) → Has (content_of c x) (content_of d x)
   has_content c d x None = has_nothing []
   has_content c d x (Some h) = elim (is_file h.opened) as (λ b. Has (cond b (c h.opened.target.node h) []) (cond b (d h.opened.target.node h) [])) [ true ↦ x h.opened.target.node h | false ↦ has_nothing [] ]
@@ -125,7 +125,7 @@ module _ (t : Trace) (k r : ℕ) (s : World) where
       both : Has (uses_in (sited t k r) s o (found (in_ring t r) s (look (shape o)))) (uses (sited t k r) s foreseen (shape o) (found (in_ring t r) s (look (shape o))) ++ each (room_at (in_ring t r) s (written_by [])) (shape_asked (shape o)))
       both = record { has = λ a m. (in_row (is_ok (meaning (sited t k r) s o)) _).has a ((uses_has (is_ok (meaning (sited t k r) s o)) (shape o) (found (in_ring t r) s (look (shape o)))).has a m) }
 
-module _ (t : Trace) (k : ℕ) (s u : World) where
+module _ (t : Recording) (k : ℕ) (s u : World) where
   any_room : (x : Option ℕ) (a : Atom) → T (has_atom (reads all_descriptors ∷ each (λ n. writes (one (descriptor_at n)) ∷ []) x) a) → T (member_of all_descriptors a)
   any_room None a h = drop_false _ h
   any_room (Some n) a h = elim (split (λ (v : Use). member_of v.item a) (reads all_descriptors ∷ []) (writes (one (descriptor_at n)) ∷ []) h) [
@@ -157,6 +157,7 @@ module _ (t : Trace) (k : ℕ) (s u : World) where
 
   turn_items : (x : Option Turn) → look_of t k u x ≡ look_of t k s x → Has (made_of t k x ++ each (turn_uses t k u) x) (each (turn_uses t k s) x)
   turn_items (Some (filled r b at new)) same = has_self _
+  turn_items (Some (registered r slots)) same = has_self _
   turn_items (Some (runs r e o)) same = operation_items r o (ap (λ (l : LookedUp). l.items) same)
   turn_items _ same = has_nothing _
 
@@ -184,5 +185,5 @@ same_by_false : (a b : Bool) → (a ≡ false → b ≡ false) → (b ≡ false 
 same_by_false true b f g = sym (true_from_ne_false b (λ e. true≢false (g e)))
 same_by_false false b f g = sym (f refl)
 
-pub rows_meet_the_same : (t : Trace) → RowItems t
+pub rows_meet_the_same : (t : Recording) → RowItems t
 rows_meet_the_same t k s u earlier same made = same_by_false _ _ (unmet_row t k s u earlier same made) (unmet_row t k u s earlier (sym same) made)

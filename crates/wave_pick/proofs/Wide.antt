@@ -4,10 +4,10 @@ use Rattle.std.proofs.lemmas.Bool.{cases_Bool}
 use Rattle.std.proofs.Common.{inl, inr, sym, ap, ◌∙◌}
 use Rattle.interleaving.specs.System.{AgreeOn, NoneWrites}
 use Rattle.op_meaning.specs.Site.{in_ring}
-use Rattle.trace_format.specs.declared.trace.Trace.{Trace}
+use Rattle.recording.specs.declared.recording.Recording.{Recording}
 use Rattle.trace_format.specs.declared.entry.Entry.{Entry}
-use Rattle.trace_format.specs.Steps.{places}
-use Rattle.trace_format.specs.Text.{IsSpelled}
+use Rattle.recording.specs.Steps.{places}
+use Rattle.recording.specs.Accepted.{IsAccepted}
 use Rattle.entry_checks.specs.Operation.{Operation, openat}
 use Rattle.world_parts.specs.World.{World}
 use Rattle.world_parts.specs.Items.{Atom, descriptor_at, value, all_descriptors, member_of, Use, writes, Footprint, has_atom}
@@ -29,7 +29,7 @@ use Rattle.wave_pick.proofs.Orders.{accepted_reach, wide_reach}
 use Rattle.wave_pick.proofs.Staying.{keeps_value}
 use Rattle.wave_pick.proofs.Waiting.{value_stays, row_in_reach, look_next}
 
-module _ (t : Trace) (k : ℕ) where
+module _ (t : Recording) (k : ℕ) where
   -- What a turn may make and its room are the same where the room is of what it runs.
   pub extras_same : (s u : World) (earlier later : List Footprint) (x : Option Turn)
       → ((r : ℕ) (e : Entry) (o : Operation) → x ≡ Some (runs r e o) → room_taken (in_ring t r) u later o ≡ room_taken (in_ring t r) s earlier o)
@@ -71,7 +71,7 @@ module _ (t : Trace) (k : ℕ) where
   extras_behind : (s : World) (earlier : List Footprint) (middle : Footprint) (a : Atom) → has_atom (extras_of t k s earlier (task t k)) a ≡ true → has_atom (order_of t k ++ (middle ++ extras_of t k s earlier (task t k))) a ≡ true
   extras_behind s earlier middle a h = true_of _ (in_right (λ (v : Use). member_of v.item a) (order_of t k) _ (in_right (λ (v : Use). member_of v.item a) middle _ (holds_true _ h)))
 
-module _ (t : Trace) (spelled : IsSpelled t) (window r k : ℕ) (waits : Waits t window (suc r) k) (may_run : is_taken_to_run t k (world_after t window r) (reaches_after t window r k) ≡ true) where
+module _ (t : Recording) (spelled : IsAccepted t) (window r k : ℕ) (waits : Waits t window (suc r) k) (may_run : is_taken_to_run t k (world_after t window r) (reaches_after t window r k) ≡ true) where
   abbrev s : World
   s = world_after t window r
 

@@ -6,9 +6,9 @@ use Rattle.std.proofs.lemmas.Bool.{true_from_ne_false}
 use Rattle.interleaving.proofs.Ahead.{known-now}
 use Rattle.interleaving.proofs.Skipping.{unwritten-of}
 use Rattle.interleaving.specs.Machine.{has}
-use Rattle.trace_format.specs.declared.trace.Trace.{Trace}
-use Rattle.trace_format.specs.Steps.{places}
-use Rattle.trace_format.specs.Text.{IsSpelled}
+use Rattle.recording.specs.declared.recording.Recording.{Recording}
+use Rattle.recording.specs.Steps.{places}
+use Rattle.recording.specs.Accepted.{IsAccepted}
 use Rattle.world_parts.specs.Items.{Item, Use, share, Footprint, collide}
 use Rattle.world_parts.proofs.Collision.{both, left, right, either_right, any_passes, true_of}
 use Rattle.world_parts.proofs.Sharing.{holds_true}
@@ -31,7 +31,7 @@ use Rattle.wave_pick.proofs.RowItems.{rows_meet_the_same}
 use Rattle.wave_pick.proofs.Staying.{between_rounds}
 
 -- What the may-access set of an earlier place that waits writes, the may-access sets before the later one write.
-module _ (t : Trace) (window r i k : ℕ) (lt : i < k) (waits : Waits t window r i) where
+module _ (t : Recording) (window r i k : ℕ) (lt : i < k) (waits : Waits t window r i) where
   pub written_before : (x : Item) → written_by (reach_after t window r i ∷ []) x ≡ true → written_by (reaches_after t window r k) x ≡ true
   written_before x h = true_from_ne_false _ (λ e.
       let c = atom_of_writes x (reach_after t window r i) (drop_false _ (holds_true _ h)) in
@@ -48,7 +48,7 @@ met_collides f g h = any_passes (λ (v : Use). written_by (g ∷ []) v.item) (λ
     (λ (v : Use) m. any_passes (λ (w : Use). w.written && share w.item v.item) (λ (w : Use). (v.written || w.written) && share v.item w.item)
     (λ (w : Use) n. both (v.written || w.written) _ (either_right v.written _ (left w.written _ n)) (subst T (share_same w.item v.item) (right w.written _ n))) g (drop_false _ m)) f h
 
-pub deciding_in_row : (t : Trace) → DecidingInRow t
+pub deciding_in_row : (t : Recording) → DecidingInRow t
 deciding_in_row t window r i k lt waits e = record {
   is_before = lt;
   waits = waits;
@@ -56,7 +56,7 @@ deciding_in_row t window r i k lt waits e = record {
       (λ a h. holds_true _ ((row_laws t all_covered).look_in_row k (world_after t window r) a (true_of _ h))) m));
 }
 
-pub row_witness_holds : (t : Trace) → RowWitnessHolds t
+pub row_witness_holds : (t : Recording) → RowWitnessHolds t
 row_witness_holds t window r i k h = (
   met_before t window r i k h.is_before h.waits (row_after t window r k) h.writes,
   λ runs. record {
@@ -68,7 +68,7 @@ row_witness_holds t window r i k h = (
   },
 )
 
-pub row_witness_stays : (t : Trace) → IsSpelled t → RowWitnessStays t
+pub row_witness_stays : (t : Recording) → IsAccepted t → RowWitnessStays t
 row_witness_stays t spelled window r q i k lt waits same writes =
     let u = state_after t window q in
     let known = known-now (replayed t) (lawful t spelled) (has u.finished) u.world (between_rounds (replayed t) (lawful t spelled) (places t) window q).on.sound i waits in

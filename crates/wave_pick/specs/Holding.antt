@@ -4,7 +4,7 @@ use Rattle.std.specs.Option.{option_map, option_or, option_and_then}
 use Rattle.interleaving.specs.System.{reaches}
 use Rattle.interleaving.specs.Machine.{State, has}
 use Rattle.interleaving.specs.Rounds.{pending}
-use Rattle.trace_format.specs.declared.trace.Trace.{Trace}
+use Rattle.recording.specs.declared.recording.Recording.{Recording}
 use Rattle.world_parts.specs.Items.{Item, one, file_bytes, buffer_bytes, all_names, all_bytes_and_sizes, all_positions, all_descriptions, share, Use, Footprint, collide}
 use Rattle.foot_print.specs.Footprint.{footprint}
 use Rattle.foot_print.specs.Reach.{reach}
@@ -44,13 +44,13 @@ pub record Holder : Type 0 where
   pub item : Item
 
 -- The may-access set of a place behind those of the pending places before it.
-abbrev pub reach_in : (t : Trace) → State (replayed t) → ℕ → Footprint
+abbrev pub reach_in : (t : Recording) → State (replayed t) → ℕ → Footprint
 reach_in t s i = reach t i s.world (reaches (replayed t) (has s.finished) s.world i)
 
 -- The latest of the pending places before a place whose may-access set collides with its access set.
-abbrev pub latest_in : (t : Trace) → State (replayed t) → ℕ → Option ℕ
+abbrev pub latest_in : (t : Recording) → State (replayed t) → ℕ → Option ℕ
 latest_in t s k = find (λ i. collide (footprint t k s.world) (reach_in t s i)) (reverse (pending (has s.finished) k))
 
 -- That place, with what its may-access set and the access set share.
-abbrev pub holder_in : (t : Trace) → State (replayed t) → ℕ → Option Holder
+abbrev pub holder_in : (t : Recording) → State (replayed t) → ℕ → Option Holder
 holder_in t s k = option_and_then (λ i. option_map (λ x. record { place = i; item = x }) (shared_of (footprint t k s.world) (reach_in t s i))) (latest_in t s k)

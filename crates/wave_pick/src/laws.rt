@@ -7,8 +7,8 @@ ghost use Rattle.foot_print.specs.Replayed.{replayed};
 ghost use Rattle.interleaving.specs.Machine.{EveryOrder, ReachesHold, ReachesShrink};
 ghost use Rattle.interleaving.specs.Rounds.{AnySetsOccur, RoundsAreGathered, RoundsAreLegal};
 ghost use Rattle.interleaving.specs.Rounds.{RoundsAreSequential, RoundsGoOn};
-ghost use Rattle.trace_format.specs.Text.{IsSpelled};
-ghost use Rattle.trace_format.specs.declared.trace.Trace.{Trace};
+ghost use Rattle.recording.specs.Accepted.{IsAccepted};
+ghost use Rattle.recording.specs.declared.recording.Recording.{Recording};
 ghost use Rattle.wave_pick.specs.Holders.{HoldersHoldBack, NoneIsHeldBack, SharedIsBoth};
 ghost use Rattle.wave_pick.specs.Holders.{SharedWhereColliding};
 ghost use Rattle.wave_pick.specs.Lawful.{covered, lawful};
@@ -28,11 +28,11 @@ use interleaving::{
     Footprinted, Foreseen, every_legal_order_is_sequential, reaches_foresee, rounds_are_sequential,
 };
 
-/// The replays of traces that some bytes spell, as systems of numbered steps.
+/// The replays of accepted recordings, as systems of numbered steps.
 struct Replays;
 
 impl Footprinted for Replays {
-    ghost Trace = { (t : Trace) × IsSpelled t };
+    ghost Trace = { (t : Recording) × IsAccepted t };
 
     ghost system = { λ x. replayed x.0 };
 
@@ -47,7 +47,7 @@ impl Foreseen for Replays {
 /// the model's sequential run: it goes through the same worlds, and each place has the reply that
 /// the model keeps for it.
 pub fn sequential_run_is_the_models()
-    ensures { (t : Trace) → RunsAsTheModel t }
+    ensures { (t : Recording) → RunsAsTheModel t }
 {}
 
 /// May-access sets foresee, in every state that legal starts and finishes lead to: the may-access
@@ -55,19 +55,19 @@ pub fn sequential_run_is_the_models()
 /// unfinished places, or none, leave when they run; and no legal start or finish makes a may-access
 /// set hold what it didn't hold before.
 pub fn reaches_hold_and_shrink()
-    ensures hold { (t : Trace) → IsSpelled t → ReachesHold (replayed t) }
-    ensures shrink { (t : Trace) → IsSpelled t → ReachesShrink (replayed t) }
+    ensures hold { (t : Recording) → IsAccepted t → ReachesHold (replayed t) }
+    ensures shrink { (t : Recording) → IsAccepted t → ReachesShrink (replayed t) }
 {
     reaches_foresee::<Replays>();
 }
 
 /// Every legal and complete list of starts and finishes of a trace's places gives the world and the
 /// replies of the sequential run, which are the model's; and the members of a chain, and a barrier
-/// and the other places of its ring, keep their order.
+/// and the other places of its queue, keep their order.
 pub fn legal_orders_are_sequential()
-    ensures sequential { (t : Trace) → IsSpelled t → EveryOrder (replayed t) }
-    ensures model { (t : Trace) → IsSpelled t → OrdersEndAsTheModel t }
-    ensures order { (t : Trace) → IsSpelled t → LinksAndDrainsHold t }
+    ensures sequential { (t : Recording) → IsAccepted t → EveryOrder (replayed t) }
+    ensures model { (t : Recording) → IsAccepted t → OrdersEndAsTheModel t }
+    ensures order { (t : Recording) → IsAccepted t → LinksAndDrainsHold t }
 {
     every_legal_order_is_sequential::<Replays>();
 }
@@ -76,26 +76,26 @@ pub fn legal_orders_are_sequential()
 /// order the places of each start and finish; each round has a place, and all rounds together give
 /// the world and the replies of the sequential run, which are the model's, gathered from places
 /// that run side by side and do not collide. Members of a chain, and a barrier and the other places
-/// of its ring, run in different rounds, in order.
+/// of its queue, run in different rounds, in order.
 pub fn rounds_are_legal()
-    ensures legal { (t : Trace) → IsSpelled t → RoundsAreLegal (replayed t) }
-    ensures sequential { (t : Trace) → IsSpelled t → RoundsAreSequential (replayed t) }
-    ensures model { (t : Trace) → IsSpelled t → RoundsEndAsTheModel t }
-    ensures gathered { (t : Trace) → IsSpelled t → RoundsAreGathered (replayed t) }
-    ensures apart { (t : Trace) → IsSpelled t → NoneCollide t }
-    ensures go_on { (t : Trace) → IsSpelled t → RoundsGoOn (replayed t) }
-    ensures order { (t : Trace) → IsSpelled t → LinksAndDrainsPart t }
-    ensures sets { (t : Trace) → IsSpelled t → AnySetsOccur (replayed t) }
+    ensures legal { (t : Recording) → IsAccepted t → RoundsAreLegal (replayed t) }
+    ensures sequential { (t : Recording) → IsAccepted t → RoundsAreSequential (replayed t) }
+    ensures model { (t : Recording) → IsAccepted t → RoundsEndAsTheModel t }
+    ensures gathered { (t : Recording) → IsAccepted t → RoundsAreGathered (replayed t) }
+    ensures apart { (t : Recording) → IsAccepted t → NoneCollide t }
+    ensures go_on { (t : Recording) → IsAccepted t → RoundsGoOn (replayed t) }
+    ensures order { (t : Recording) → IsAccepted t → LinksAndDrainsPart t }
+    ensures sets { (t : Recording) → IsAccepted t → AnySetsOccur (replayed t) }
 {
     rounds_are_sequential::<Replays>();
 }
 
 /// The list of rounds has the number of each place's round: the round in which the places are
 /// chosen that this one is among. Along a chain the numbers rise; a barrier's lies behind those of
-/// all earlier places of its ring, and before those of all later ones.
+/// all earlier places of its queue, and before those of all later ones.
 pub fn rounds_are_numbered()
-    ensures numbered { (t : Trace) → IsSpelled t → RoundsAreNumbered t }
-    ensures rise { (t : Trace) → IsSpelled t → LinksAndDrainsRise t }
+    ensures numbered { (t : Recording) → IsAccepted t → RoundsAreNumbered t }
+    ensures rise { (t : Recording) → IsAccepted t → LinksAndDrainsRise t }
 {}
 
 /// What is known of a place stays so while it waits, from round to round: where no may-access set
@@ -106,22 +106,22 @@ pub fn rounds_are_numbered()
 /// it stays the same whether a may-access set before it writes a descriptor, so do its wide row
 /// and, once it is decided, its row as accepted.
 pub fn waiting_places_stay_known()
-    ensures row { (t : Trace) → IsSpelled t → RowStays t }
-    ensures turn { (t : Trace) → IsSpelled t → TurnStays t }
-    ensures canceled { (t : Trace) → CanceledUsesOrder t }
-    ensures look { (t : Trace) → IsSpelled t → DecidedStays t }
-    ensures deciding { (t : Trace) → IsSpelled t → DecidingBegins t }
-    ensures wide { (t : Trace) → IsSpelled t → WideStays t }
+    ensures row { (t : Recording) → IsAccepted t → RowStays t }
+    ensures turn { (t : Recording) → IsAccepted t → TurnStays t }
+    ensures canceled { (t : Recording) → CanceledUsesOrder t }
+    ensures look { (t : Recording) → IsAccepted t → DecidedStays t }
+    ensures deciding { (t : Recording) → IsAccepted t → DecidingBegins t }
+    ensures wide { (t : Recording) → IsAccepted t → WideStays t }
 {}
 
 /// A waiting place whose may-access set collides with the access set of a later one keeps that one
 /// out of the next round: so does each earlier member of its chain, and a barrier and the other
-/// places of its ring. Of the first pending places, as many as the window has, those run in the
+/// places of its queue. Of the first pending places, as many as the window has, those run in the
 /// next round that no place keeps out so.
 pub fn witnesses_hold_back()
-    ensures hold { (t : Trace) → WitnessHolds t }
-    ensures order { (t : Trace) → OrderHolds t }
-    ensures others { (t : Trace) → OthersRun t }
+    ensures hold { (t : Recording) → WitnessHolds t }
+    ensures order { (t : Recording) → OrderHolds t }
+    ensures others { (t : Recording) → OthersRun t }
 {}
 
 /// What two items share has just the atoms of both, and two access sets share an item exactly where
@@ -130,8 +130,8 @@ pub fn witnesses_hold_back()
 pub fn holders_hold_back()
     ensures both { SharedIsBoth }
     ensures colliding { SharedWhereColliding }
-    ensures hold { (t : Trace) → HoldersHoldBack t }
-    ensures none { (t : Trace) → NoneIsHeldBack t }
+    ensures hold { (t : Recording) → HoldersHoldBack t }
+    ensures none { (t : Recording) → NoneIsHeldBack t }
 {}
 
 /// With the same look, the rows of a place in two worlds meet the same may-access sets, apart from
@@ -140,10 +140,10 @@ pub fn holders_hold_back()
 /// canceled; and while the later one looks up the same, a may-access set that writes an item of its
 /// row as it was writes its row.
 pub fn rows_meet_the_same()
-    ensures items { (t : Trace) → RowItems t }
-    ensures deciding { (t : Trace) → DecidingInRow t }
-    ensures hold { (t : Trace) → RowWitnessHolds t }
-    ensures stay { (t : Trace) → IsSpelled t → RowWitnessStays t }
+    ensures items { (t : Recording) → RowItems t }
+    ensures deciding { (t : Recording) → DecidingInRow t }
+    ensures hold { (t : Recording) → RowWitnessHolds t }
+    ensures stay { (t : Recording) → IsAccepted t → RowWitnessStays t }
 {}
 
 /// A waiting place may rest on one earlier place: while that one waits with the same may-access
@@ -158,11 +158,11 @@ pub fn rows_meet_the_same()
 /// of them wait with the same may-access sets, one of them holds it back, and its may-access set
 /// stays the same.
 pub fn waiting_places_rest()
-    ensures unmet { (t : Trace) → IsSpelled t → RestsUnmet t }
-    ensures decided { (t : Trace) → IsSpelled t → RestsDecided t }
-    ensures undecided { (t : Trace) → IsSpelled t → RestsUndecided t }
-    ensures items { (t : Trace) → IsSpelled t → RestsByItems t }
-    ensures stay { (t : Trace) → RestsOnStays t }
-    ensures together { (t : Trace) → IsSpelled t → RestsTogether t }
-    ensures stay_together { (t : Trace) → RestsOnAllStays t }
+    ensures unmet { (t : Recording) → IsAccepted t → RestsUnmet t }
+    ensures decided { (t : Recording) → IsAccepted t → RestsDecided t }
+    ensures undecided { (t : Recording) → IsAccepted t → RestsUndecided t }
+    ensures items { (t : Recording) → IsAccepted t → RestsByItems t }
+    ensures stay { (t : Recording) → RestsOnStays t }
+    ensures together { (t : Recording) → IsAccepted t → RestsTogether t }
+    ensures stay_together { (t : Recording) → RestsOnAllStays t }
 {}

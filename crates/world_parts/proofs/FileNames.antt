@@ -1,15 +1,16 @@
 -- Names are names of files: at the start, and after changes that set no others.
-use Rattle.std.specs.Prelude.{◌≡◌, ℕ, suc, ◌==◌, Bool, not, nat_le, ◌&&◌, ◌⊎◌, T, List, [], ◌∷◌, length, filter, Option, Some, None, Result, Ok, Err, refl}
+use Rattle.std.specs.Prelude.{◌≡◌, ℕ, suc, ◌==◌, Bool, not, nat_le, ◌&&◌, ◌⊎◌, T, List, [], ◌∷◌, ◌++◌, length, map, filter, Option, Some, None, Result, Ok, Err, refl}
 use Rattle.std.specs.List.{list_all, onto_first}
 use Rattle.std.specs.Option.{option_map}
 use mathlib.Core.Path.{sym}
 use native.Mathlib.Omega.{arith}
 use Rattle.extent_bytes.specs.Bytes.{overwritten, resized, zeroed}
 use Rattle.sqe_codec.specs.declared.errno.Errno.{Errno}
-use Rattle.trace_format.specs.declared.trace.Trace.{Trace}
-use Rattle.trace_format.specs.declared.trace.Item as initial_item
-use Rattle.trace_format.specs.declared.trace.Node as initial_node
-use Rattle.trace_format.specs.declared.trace.Node.TheVariants.{Directory, File, OtherName}
+use Rattle.recording.specs.declared.recording.Recording.{Recording}
+use Rattle.trace_records.specs.declared.start.Item as initial_item
+use Rattle.trace_records.specs.declared.start.Node as initial_node
+use Rattle.trace_records.specs.declared.start.Node.TheVariants.{Directory, File, OtherName}
+use Rattle.trace_records.specs.declared.start.Range.{Range}
 use Rattle.trace_format.specs.Paths.{components, runs, has_slash}
 use Rattle.entry_checks.specs.Operation.{Path}
 use Rattle.finite_maps.specs.Table.{empty, get, insert, get-assign, get-insert, adjust_number, number_keys, text_keys}
@@ -17,7 +18,7 @@ use Rattle.file_tree.specs.Tree.{Tree, Node, directory, target, Kind, a_director
 use Rattle.file_tree.specs.Found.{node_of}
 use Rattle.file_tree.specs.Walk.{Place, walk_from, walk}
 use Rattle.world_parts.specs.World.{World, Change, set_name, make_node, set_slot, set_descriptor, make_description, set_position, set_size, write_bytes, zero_bytes, write_buffer, break_chain, apply, apply_all}
-use Rattle.world_parts.specs.Start.{start, with_items, with_node, name_at, bare}
+use Rattle.world_parts.specs.Start.{start, with_items, with_node, name_at, range_written, bare}
 use Rattle.world_parts.specs.Paths.{is_file_name, HasFileNames}
 use Rattle.world_parts.proofs.Collision.{right}
 use Rattle.world_parts.proofs.Raw.{entry}
@@ -125,11 +126,16 @@ named_at s path i h = by (walk_from s.nodes 0 (components path)) refl
     by (Ok p) e = rw e (named_change s (set_name p.parent p.name (Some (target s.nodes i))) (named_way s.nodes path p e) h)
     by (Err x) e = rw e h
 
+-- writes of ranges set no names
+naming_ranges : (i : ℕ) (ranges : List Range) (cs : List Change) → AllNaming cs → AllNaming (map (range_written i) ranges ++ cs)
+naming_ranges i [] cs h = h
+naming_ranges i (r ∷ ranges) cs h = (tt, naming_ranges i ranges cs h)
+
 named_node : (s : World) (i : ℕ) (path : List ℕ) (x : initial_node.Node) → Named s.nodes → Named (with_node s i path x).nodes
 named_node s i path Directory h = named_at (apply (make_node i a_directory) s) path i (named_made s.nodes i (new_node a_directory) (made a_directory) h)
-named_node s i path (File size stored) h =
-    let cs = make_node i a_file ∷ write_bytes i 0 stored ∷ set_size i size ∷ [] in
-    named_at (apply_all cs s) path i (named_changes s cs (tt, (tt, (tt, tt))) h)
+named_node s i path (File size ranges) h =
+    let cs = make_node i a_file ∷ map (range_written i) ranges ++ set_size i size ∷ [] in
+    named_at (apply_all cs s) path i (named_changes s cs (tt, naming_ranges i ranges (set_size i size ∷ []) (tt, tt)) h)
 named_node s i path (OtherName j) h = named_at s path j h
 
 named_items : (s : World) (i : ℕ) (xs : List initial_item.Item) → Named s.nodes → Named (with_items s i xs).nodes
@@ -139,5 +145,5 @@ named_items s i (x ∷ xs) h = named_items (with_node s i x.path x.node) (suc i)
 named_bare : Named bare.nodes
 named_bare = named_made empty 0 (directory empty 0) (λ m. refl) (λ d n i h. absurd (some_apart (sym h)))
 
-pub named_start : (t : Trace) → Named (start t).nodes
+pub named_start : (t : Recording) → Named (start t).nodes
 named_start t = named_items bare 1 t.items named_bare

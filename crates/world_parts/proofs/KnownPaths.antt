@@ -1,6 +1,6 @@
 -- Names in directories that are known, and which changes leave these directories where they are.
 use Rattle.std.proofs.Common.{◌≡◌, ℕ, ◌≤◌, Bool, true, cond, List, [], ◌∷◌, ◌++◌, length, Option, Some, None, Ok, sym, ◌∙◌, ap, refl, subst, arith}
-use Rattle.std.specs.Prelude.{IfSome, not, filter, ◌==◌}
+use Rattle.std.specs.Prelude.{IfSome, not, map, filter, ◌==◌}
 use Rattle.std.specs.List.{onto_first}
 use Rattle.std.specs.Option.{option_map}
 use Rattle.std.specs.Ordering.{nat_cmp}
@@ -18,14 +18,15 @@ use Rattle.std.proofs.lemmas.Slice.Eq.{bytes_eq-Decides}
 use Rattle.sqe_codec.specs.declared.errno.Errno.TheVariants.{ENAMETOOLONG}
 use Rattle.sqe_codec.specs.Answers.{◌>>◌, require}
 use Rattle.trace_format.specs.Paths.{components, runs}
+use Rattle.trace_records.specs.declared.start.Range.{Range}
 use Rattle.extent_bytes.specs.Bytes.{overwritten, resized}
 use Rattle.finite_maps.specs.Table.{get, insert, adjust_number, get-insert, number_keys, text_keys}
 use Rattle.file_tree.specs.Tree.{Tree, Node, kind, kind_of_node, a_directory, name, target, renamed_node, rewritten_node}
 use Rattle.file_tree.specs.Found.{node_of}
 use Rattle.file_tree.specs.Walk.{fits_name, walk_from, directory_at}
 use Rattle.world_parts.specs.Known.{Known, known_at, directory_of, Enters, Knows, IsLastName, IsNewPlace}
-use Rattle.world_parts.specs.World.{World}
-use Rattle.world_parts.specs.Start.{name_at}
+use Rattle.world_parts.specs.World.{World, set_size, apply, apply_all}
+use Rattle.world_parts.specs.Start.{name_at, range_written}
 use Rattle.world_parts.proofs.Changes.{adjusted}
 use Rattle.world_parts.proofs.Raw.{entry}
 use Rattle.world_parts.proofs.Ways.{looked, same_number, directory_there}
@@ -176,9 +177,10 @@ module _ (s : World) (path : List ℕ) (parent : ℕ) (n : List ℕ) (i : ℕ) (
 pub made_known : (tree : Tree) (known : Known) (i : ℕ) (x : Node) → Knows tree known → kind tree i ≡ None → Knows (insert number_keys.total tree i x) known
 made_known tree known i x knows free = knows_kept tree (insert number_keys.total tree i x) known (made_keeps tree i x (grind arith)) knows
 
-pub file_known : (tree : Tree) (known : Known) (i size : ℕ) (stored : List ℕ) → Knows tree known
-    → Knows (adjust_number (rewritten_node (λ bs. resized bs size)) (adjust_number (rewritten_node (λ bs. overwritten bs 0 stored)) tree i) i) known
-file_known tree known i size stored knows =
-    let written = adjust_number (rewritten_node (λ bs. overwritten bs 0 stored)) tree i in
-    knows_kept written (adjust_number (rewritten_node (λ bs. resized bs size)) written i) known (rewritten_keeps (λ bs. resized bs size) written i)
-    (knows_kept tree written known (rewritten_keeps (λ bs. overwritten bs 0 stored) tree i) knows)
+-- a file whose ranges are written, and which is sized then
+pub file_known : (s : World) (known : Known) (i size : ℕ) (ranges : List Range) → Knows s.nodes known
+    → Knows (apply (set_size i size) (apply_all (map (range_written i) ranges) s)).nodes known
+file_known s known i size [] knows = knows_kept s.nodes (apply (set_size i size) s).nodes known (rewritten_keeps (λ bs. resized bs size) s.nodes i) knows
+file_known s known i size (r ∷ ranges) knows =
+    let w = apply (range_written i r) s in
+    file_known w known i size ranges (knows_kept s.nodes w.nodes known (rewritten_keeps (λ bs. overwritten bs r.offset r.bytes) s.nodes i) knows)

@@ -1,21 +1,22 @@
 -- The world that a trace starts with, a part at a time.
 use Rattle.std.proofs.Common.{◌≡◌, ℕ, zero, suc, ◌+◌, ◌-◌, ◌<◌, ◌≤◌, List, [], ◌∷◌, ◌++◌, length, take, get_or, Some, None, ◌∙◌, ap, refl, arith, eqb}
-use Rattle.std.specs.Prelude.{Option, Bool, cond, replicate, Result, Ok, Err}
+use Rattle.std.specs.Prelude.{Option, Bool, map, cond, replicate, Result, Ok, Err}
 use Rattle.std.proofs.lemmas.List.{take_more, length-take-le}
 use Rattle.std.proofs.lemmas.Bool.{eq-eqb, ne_eqb}
 use Rattle.std.specs.Ordering.{nat_cmp}
 use Rattle.sqe_codec.specs.declared.errno.Errno.{Errno}
 use Rattle.trace_format.specs.Paths.{components}
-use Rattle.trace_format.specs.declared.trace.Node as initial_node
-use Rattle.trace_format.specs.declared.trace.Node.TheVariants.{Directory, File, OtherName}
+use Rattle.trace_records.specs.declared.start.Node as initial_node
+use Rattle.trace_records.specs.declared.start.Node.TheVariants.{Directory, File, OtherName}
 use Rattle.file_tree.specs.Tree.{a_directory, a_file}
 use Rattle.file_tree.specs.Walk.{Place, walk_from}
-use Rattle.trace_format.specs.declared.trace.Item.{Item}
-use Rattle.trace_format.specs.declared.trace.Ring.{Ring}
+use Rattle.trace_records.specs.declared.start.Item.{Item}
+use Rattle.trace_records.specs.declared.start.Range.{Range}
+use Rattle.recording.specs.declared.recording.Ring.{Ring}
 use Rattle.trace_format.specs.declared.trace.Buffer.{Buffer}
 use Rattle.finite_maps.specs.Table.{Table, empty, insert, number_keys, pair_keys, pair_cmp}
-use Rattle.world_parts.specs.World.{World, Description, apply, apply_all, make_node, set_size, write_bytes}
-use Rattle.world_parts.specs.Start.{descriptions_from, descriptors_from, slots_from, buffers_from, ring_slots, ring_buffers, with_node, with_items, name_at, bare}
+use Rattle.world_parts.specs.World.{World, Description, apply, apply_all, make_node, set_size}
+use Rattle.world_parts.specs.Start.{descriptions_from, descriptors_from, slots_from, buffers_from, ring_slots, ring_buffers, with_node, with_items, name_at, range_written, bare}
 use Rattle.world_parts.proofs.Fills.{keep, filled, rows_filled, rows_next, filled_next}
 
 -- what a slot or a descriptor holds
@@ -117,12 +118,30 @@ closed_at s path i h = by (walk_from s.nodes 0 (components path)) refl
     by (Ok p) e = rw e (record { descriptions = h.descriptions; slots = h.slots; descriptors = h.descriptors; buffers = h.buffers })
     by (Err x) e = rw e h
 
+closed_file : (s : World) (i size : ℕ) (ranges : List Range) → IsClosed s → IsClosed (apply_all (map (range_written i) ranges ++ set_size i size ∷ []) s)
+closed_file s i size [] h = record { descriptions = h.descriptions; slots = h.slots; descriptors = h.descriptors; buffers = h.buffers }
+closed_file s i size (r ∷ ranges) h =
+    closed_file (apply (range_written i r) s) i size ranges (record { descriptions = h.descriptions; slots = h.slots; descriptors = h.descriptors; buffers = h.buffers })
+
+-- the ranges of a file are written one after another
+written-push : (s : World) (i : ℕ) (ranges : List Range) (r : Range)
+    → apply_all (map (range_written i) (ranges ++ r ∷ [])) s ≡ apply (range_written i r) (apply_all (map (range_written i) ranges) s)
+written-push s i [] r = refl
+written-push s i (x ∷ xs) r = written-push (apply (range_written i x) s) i xs r
+
+pub written-more : (s : World) (i : ℕ) (ranges : List Range) (k : ℕ) (r : Range) → k < length ranges
+    → apply_all (map (range_written i) (take (k + 1) ranges)) s ≡ apply (range_written i (get_or ranges k r)) (apply_all (map (range_written i) (take k ranges)) s)
+written-more s i ranges k r lt =
+    ap (λ (rs : List Range). apply_all (map (range_written i) rs) s) (take_more ranges k r lt) ∙ written-push s i (take k ranges) (get_or ranges k r)
+
 closed_node : (s : World) (i : ℕ) (path : List ℕ) (x : initial_node.Node) → IsClosed s → IsClosed (with_node s i path x)
 closed_node s i path Directory h =
     closed_at (apply (make_node i a_directory) s) path i (record { descriptions = h.descriptions; slots = h.slots; descriptors = h.descriptors; buffers = h.buffers })
-closed_node s i path (File size stored) h =
-    closed_at (apply_all (make_node i a_file ∷ write_bytes i 0 stored ∷ set_size i size ∷ []) s) path i
-    (record { descriptions = h.descriptions; slots = h.slots; descriptors = h.descriptors; buffers = h.buffers })
+closed_node s i path (File size ranges) h =
+    let made = apply (make_node i a_file) s in
+    let cs = map (range_written i) ranges ++ set_size i size ∷ [] in
+    closed_at (apply_all cs made) path i
+    (closed_file made i size ranges (record { descriptions = h.descriptions; slots = h.slots; descriptors = h.descriptors; buffers = h.buffers }))
 closed_node s i path (OtherName j) h = closed_at s path j h
 
 -- the items of a trace open and register nothing

@@ -9,7 +9,7 @@ use Rattle.trace_format.specs.Paths.{components, has_slash}
 use Rattle.file_tree.specs.Found.{node_of}
 use Rattle.file_tree.specs.Walk.{Place, fits_name, walk}
 use Rattle.world_parts.specs.World.{World, IsWorld, name}
-use Rattle.trace_format.specs.declared.trace.Trace.{Trace}
+use Rattle.recording.specs.declared.recording.Recording.{Recording}
 use Rattle.world_parts.specs.Image.{image_of, name_entry}
 use Rattle.world_parts.specs.Start.{start}
 use Rattle.world_parts.specs.declared.image.NameEntry.{NameEntry}
@@ -58,4 +58,4 @@ ListsEachPathOnce = (s : World) → T (is_sorted (slice_cmp nat_cmp) (map (λ (e
 
 -- The world that a trace starts with is such a world.
 abbrev pub StartsHaveFileNames : Type 0
-StartsHaveFileNames = (t : Trace) → HasFileNames (start t)
+StartsHaveFileNames = (t : Recording) → HasFileNames (start t)

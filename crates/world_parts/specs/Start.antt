@@ -1,17 +1,18 @@
 -- The model: the world that a trace starts with.
-use Rattle.std.specs.Prelude.{ℕ, zero, suc, ◌==◌, List, [], ◌∷◌, replicate, Some, Result, Ok, Err, if◌then◌else◌}
+use Rattle.std.specs.Prelude.{ℕ, zero, suc, ◌==◌, List, [], ◌∷◌, ◌++◌, map, replicate, Some, Result, Ok, Err, if◌then◌else◌}
 use Rattle.std.specs.Ordering.{nat_cmp}
 use Rattle.sqe_codec.specs.declared.errno.Errno.{Errno}
-use Rattle.trace_format.specs.declared.trace.Trace.{Trace}
-use Rattle.trace_format.specs.declared.trace.Ring.{Ring}
+use Rattle.recording.specs.declared.recording.Recording.{Recording}
+use Rattle.recording.specs.declared.recording.Ring.{Ring}
 use Rattle.trace_format.specs.declared.trace.Buffer.{Buffer}
-use Rattle.trace_format.specs.declared.trace.Item as initial_item
-use Rattle.trace_format.specs.declared.trace.Node as initial_node
-use Rattle.trace_format.specs.declared.trace.Node.TheVariants.{Directory, File, OtherName}
+use Rattle.trace_records.specs.declared.start.Range.{Range}
+use Rattle.trace_records.specs.declared.start.Item as initial_item
+use Rattle.trace_records.specs.declared.start.Node as initial_node
+use Rattle.trace_records.specs.declared.start.Node.TheVariants.{Directory, File, OtherName}
 use Rattle.finite_maps.specs.Table.{Table, empty, insert, number_keys, pair_keys, pair_cmp}
 use Rattle.trace_format.specs.Paths.{components}
 use Rattle.file_tree.specs.Tree.{Node, a_directory, a_file, target}
-use Rattle.world_parts.specs.World.{World, Description, apply, apply_all, make_node, set_name, set_size, write_bytes}
+use Rattle.world_parts.specs.World.{World, Description, Change, apply, apply_all, make_node, set_name, set_size, write_bytes}
 use Rattle.file_tree.specs.Walk.{Place, walk_from}
 
 -- The world with a name put at a path, where its parent is there.
@@ -22,10 +23,14 @@ name_at s path i = put (walk_from s.nodes 0 (components path))
     put (Ok p) = apply (set_name p.parent p.name (Some (target s.nodes i))) s
     put (Err e) = s
 
+-- The bytes of a range of a file are written.
+abbrev pub range_written : ℕ → Range → Change
+range_written i r = write_bytes i r.offset r.bytes
+
 -- The world with a name of a node. A directory or a file is made, with the number of its item.
 abbrev pub with_node : World → ℕ → List ℕ → initial_node.Node → World
 with_node s i path Directory = name_at (apply (make_node i a_directory) s) path i
-with_node s i path (File size stored) = name_at (apply_all (make_node i a_file ∷ write_bytes i 0 stored ∷ set_size i size ∷ []) s) path i
+with_node s i path (File size ranges) = name_at (apply_all (make_node i a_file ∷ map (range_written i) ranges ++ set_size i size ∷ []) s) path i
 with_node s i path (OtherName j) = name_at s path j
 
 abbrev pub with_items : World → ℕ → List initial_item.Item → World
@@ -67,11 +72,11 @@ abbrev pub bare : World
 bare = record { nodes = insert number_keys.total empty 0 (Node.directory empty 0); descriptions = empty; slots = empty; descriptors = empty; buffers = empty; broken = empty }
 
 -- A world with the open file descriptions of a trace, and the descriptors that hold some.
-abbrev pub opened : Trace → World → World
+abbrev pub opened : Recording → World → World
 opened t s = record s { descriptions = descriptions_from 0 t.descriptions; descriptors = descriptors_from 0 t.descriptors }
 
 -- The world that a trace starts with; all chains are running.
-abbrev pub start : Trace → World
+abbrev pub start : Recording → World
 start t = record (with_items bare 1 t.items) {
   descriptions = descriptions_from 0 t.descriptions;
   slots = ring_slots 0 t.rings;

@@ -54,7 +54,7 @@ impl State {
     /// Out of memory.
     pub fn set_slot(
         &mut self,
-        ring: u8,
+        ring: u32,
         number: u32,
         description: Option<u32>,
     ) -> Result<(), AllocError>
@@ -150,7 +150,7 @@ impl State {
     /// Out of memory.
     pub fn write_buffer(
         &mut self,
-        ring: u8,
+        ring: u32,
         index: u32,
         at: u64,
         bytes: &[u8],

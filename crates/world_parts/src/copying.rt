@@ -44,7 +44,7 @@ impl State {
     }
 
     /// Copies a registered file of a ring.
-    fn copy_slot(&mut self, from: &State, ring: u8, number: u32) -> Result<(), AllocError>
+    fn copy_slot(&mut self, from: &State, ring: u32, number: u32) -> Result<(), AllocError>
         requires { IsShadow from.now self.old }
         ensures { OnOk result (IsCopied from.now self.old self.new (one (slot_at ring number))) }
     {
@@ -172,7 +172,7 @@ impl State {
     }
 
     /// Copies the length of a registered buffer of a ring. One that wasn't there is zeros.
-    fn copy_buffer_len(&mut self, from: &State, ring: u8, index: u32) -> Result<(), AllocError>
+    fn copy_buffer_len(&mut self, from: &State, ring: u32, index: u32) -> Result<(), AllocError>
         requires { IsShadow from.now self.old }
         ensures nearer { OnOk result (IsNearer from.now self.old self.new) }
         ensures len { OnOk result (option_map length (world.buffer self.new ring index)
@@ -192,7 +192,7 @@ impl State {
     fn copy_buffer(
         &mut self,
         from: &State,
-        ring: u8,
+        ring: u32,
         index: u32,
         low: u64,
         high: u64,

@@ -14,7 +14,7 @@ use std::alloc::{AllocError, Global};
 impl State {
     /// Makes the bytes of a registered buffer of a ring from `low` up to `high` zeros, as far as it
     /// has them. Where there is no buffer nothing changes.
-    fn zero_buffer(&mut self, ring: u8, index: u32, low: u64, high: u64) -> Result<(), AllocError>
+    fn zero_buffer(&mut self, ring: u32, index: u32, low: u64, high: u64) -> Result<(), AllocError>
         ensures { OnOk result (self.new
             ≡ apply (change.write_buffer ring index low (replicate (high - low) 0)) self.old) }
     {

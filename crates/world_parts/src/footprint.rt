@@ -17,9 +17,9 @@ pub enum Item {
     /// The flag of a chain.
     Chain(u32),
     /// The order of a ring, which keeps barriers apart.
-    Ring(u8),
+    Ring(u32),
     /// A registered file of a ring.
-    Slot(u8, u32),
+    Slot(u32, u32),
     /// A descriptor of the process.
     Descriptor(u32),
     /// An open file description, apart from its position.
@@ -35,7 +35,7 @@ pub enum Item {
     /// How many names a directory has.
     Names(u32),
     /// The bytes of a registered buffer of a ring from one offset up to another.
-    Buffer(u8, u32, u64, u64),
+    Buffer(u32, u32, u64, u64),
     /// The names of all directories below a number.
     AllNames(u32),
     /// The bytes and sizes of all files below a number.

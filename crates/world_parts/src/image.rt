@@ -14,7 +14,7 @@ pub struct NameEntry {
 /// A full slot of a ring: the description in it, and that description's node and position.
 #[derive(Clone, Copy, Debug)]
 pub struct SlotEntry {
-    pub ring: u8,
+    pub ring: u32,
     pub slot: u32,
     pub description: u32,
     pub node: u32,
@@ -34,7 +34,7 @@ pub struct DescriptorEntry {
 /// A registered buffer that is no empty entry, with its length in bytes.
 #[derive(Clone, Copy, Debug)]
 pub struct BufferEntry {
-    pub ring: u8,
+    pub ring: u32,
     pub index: u32,
     pub len: u64,
 }

@@ -204,7 +204,7 @@ impl State {
     pub fn buffer_bytes(
         &self,
         alloc: Global,
-        ring: u8,
+        ring: u32,
         index: u32,
     ) -> Result<Series<u8>, AllocError>
         ensures { IfOk result (λ taken. taken ≡ unwrap_or (buffer self.now ring index) []) }

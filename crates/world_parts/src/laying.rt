@@ -99,7 +99,7 @@ impl State {
     }
 
     /// Makes a registered buffer of zeros. One that was there goes.
-    pub(crate) fn add_buffer(&mut self, ring: u8, index: u32, len: u64) -> Result<(), AllocError>
+    pub(crate) fn add_buffer(&mut self, ring: u32, index: u32, len: u64) -> Result<(), AllocError>
         requires { len ≤ MAX_LEN }
         ensures { OnOk result (self.new ≡ record self.old {
           buffers = insert pair_keys.total self.old.buffers (ring, index) (replicate len 0);
@@ -111,7 +111,7 @@ impl State {
     /// Puts bytes in place of those of a registered buffer from `at` on, within its length.
     pub(crate) fn put_buffer_bytes(
         &mut self,
-        ring: u8,
+        ring: u32,
         index: u32,
         at: u64,
         part: Extents,
@@ -129,7 +129,7 @@ impl State {
     pub(crate) fn copy_buffer_range(
         &mut self,
         from: &State,
-        ring: u8,
+        ring: u32,
         index: u32,
         low: u64,
         high: u64,

@@ -36,7 +36,7 @@ impl State {
         node: u32,
         low: u64,
         high: u64,
-        ring: u8,
+        ring: u32,
         index: u32,
         at: u64,
     ) -> Result<(), AllocError>
@@ -62,7 +62,7 @@ impl State {
     /// Out of memory.
     pub fn write_from_buffer(
         &mut self,
-        ring: u8,
+        ring: u32,
         index: u32,
         low: u64,
         high: u64,
@@ -132,7 +132,7 @@ impl State {
     /// Out of memory.
     pub fn fill_from_blob(
         &mut self,
-        ring: u8,
+        ring: u32,
         index: u32,
         at: u64,
         bytes: &Blob,

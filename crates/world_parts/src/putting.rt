@@ -86,7 +86,7 @@ fn put_bytes(
 fn put_buffer(
     buffers: &mut Buffers,
     part: &Buffers,
-    ring: u8,
+    ring: u32,
     index: u32,
     low: u64,
     high: u64,

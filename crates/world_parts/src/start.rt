@@ -1,11 +1,14 @@
 //! The world that a trace starts with.
-ghost use Rattle.std.specs.Prelude.{◌≡◌, ◌≤◌, ◌∷◌, [], All, IfOk, OnOk, length};
+ghost use Rattle.std.specs.Prelude.{◌≡◌, ◌≤◌, ◌∷◌, ◌++◌, [], map, All, IfOk, OnOk, length};
 ghost use Rattle.entry_checks.specs.Operation.{file_limit};
 ghost use Rattle.file_tree.specs.Tree.{a_file};
 ghost use Rattle.finite_maps.specs.Table.{empty};
-ghost use Rattle.trace_format.specs.Text.{IsSpelled};
-ghost use Rattle.trace_format.specs.declared.trace.Item.{Item};
-ghost use Rattle.trace_format.specs.declared.trace.Ring.{Ring};
+ghost use Rattle.recording.specs.Accepted.{IsAccepted};
+ghost use Rattle.recording.specs.Limits.{buffers_limit, items_limit, table_limit};
+ghost use Rattle.recording.specs.declared.recording.Ring.{Ring};
+ghost use Rattle.trace_records.specs.Start.{range_end};
+ghost use Rattle.trace_records.specs.declared.start.Item.{Item};
+ghost use Rattle.trace_records.specs.declared.start.Range as start;
 ghost use Rattle.world_parts.specs.Known.{Knows};
 ghost use Rattle.world_parts.specs.Sized.{IsSized};
 ghost use Rattle.world_parts.specs.Start as initial;
@@ -16,9 +19,9 @@ use crate::known::Known;
 use crate::state::State;
 use file_tree::{Kind, Tree};
 use indexmap::IndexMap;
+use recording::{Buffer, Description, Item, Node, Range, Recording, Ring};
 use ring_tables::{Buffers, Descriptions, Descriptors, Slots};
 use std::alloc::{AllocError, Global};
-use trace_format::{Blob, Buffer, Description, Item, Node, Ring, Trace};
 
 /// Adds the open file descriptions.
 fn add_descriptions(
@@ -26,7 +29,7 @@ fn add_descriptions(
     descriptions: &[Description],
 ) -> Result<(), AllocError>
     requires bare { table.old ≡ empty }
-    requires count { length descriptions.now ≤ 65535 }
+    requires count { length descriptions.now ≤ table_limit }
     ensures { OnOk result (table.new ≡ initial.descriptions_from 0 descriptions.now) }
 {
     for (number, description) in descriptions.iter().enumerate() {
@@ -38,7 +41,7 @@ fn add_descriptions(
 /// Adds the full descriptors.
 fn add_descriptors(table: &mut Descriptors, descriptors: &[u32]) -> Result<(), AllocError>
     requires bare { table.old ≡ empty }
-    requires count { length descriptors.now ≤ 1024 }
+    requires count { length descriptors.now ≤ table_limit }
     ensures { OnOk result (table.new ≡ initial.descriptors_from 0 descriptors.now) }
 {
     for (number, descriptor) in descriptors.iter().enumerate() {
@@ -50,8 +53,8 @@ fn add_descriptors(table: &mut Descriptors, descriptors: &[u32]) -> Result<(), A
 }
 
 /// Adds the full slots of a ring.
-fn add_slots(table: &mut Slots, ring: u8, slots: &[u32]) -> Result<(), AllocError>
-    requires { length slots.now ≤ 1024 }
+fn add_slots(table: &mut Slots, ring: u32, slots: &[u32]) -> Result<(), AllocError>
+    requires { length slots.now ≤ table_limit }
     ensures { OnOk result (table.new ≡ initial.slots_from ring 0 slots.now table.old) }
 {
     for (number, slot) in slots.iter().enumerate() {
@@ -65,19 +68,19 @@ fn add_slots(table: &mut Slots, ring: u8, slots: &[u32]) -> Result<(), AllocErro
 /// Adds the full slots of the rings.
 fn add_all_slots(table: &mut Slots, rings: &[Ring]) -> Result<(), AllocError>
     requires bare { table.old ≡ empty }
-    requires rings { length rings.now ≤ 64 }
-    requires slots { All (λ (r : Ring). length r.slots ≤ 1024) rings.now }
+    requires rings { length rings.now ≤ table_limit }
+    requires slots { All (λ (r : Ring). length r.slots ≤ table_limit) rings.now }
     ensures { OnOk result (table.new ≡ initial.ring_slots 0 rings.now) }
 {
     for (number, ring) in rings.iter().enumerate() {
-        add_slots(table, number as u8, ring.slots.as_slice())?;
+        add_slots(table, number as u32, ring.slots.as_slice())?;
     }
     Ok(())
 }
 
 /// Adds the buffers of a ring, but for empty entries.
-fn add_buffers(table: &mut Buffers, ring: u8, buffers: &[Buffer]) -> Result<(), AllocError>
-    requires { length buffers.now ≤ 1024 }
+fn add_buffers(table: &mut Buffers, ring: u32, buffers: &[Buffer]) -> Result<(), AllocError>
+    requires { length buffers.now ≤ buffers_limit }
     ensures { OnOk result (table.new ≡ initial.buffers_from ring 0 buffers.now table.old) }
 {
     for (index, buffer) in buffers.iter().enumerate() {
@@ -91,12 +94,12 @@ fn add_buffers(table: &mut Buffers, ring: u8, buffers: &[Buffer]) -> Result<(), 
 /// Adds the buffers of the rings.
 fn add_all_buffers(table: &mut Buffers, rings: &[Ring]) -> Result<(), AllocError>
     requires bare { table.old ≡ empty }
-    requires rings { length rings.now ≤ 64 }
-    requires buffers { All (λ (r : Ring). length r.buffers ≤ 1024) rings.now }
+    requires rings { length rings.now ≤ table_limit }
+    requires buffers { All (λ (r : Ring). length r.buffers ≤ buffers_limit) rings.now }
     ensures { OnOk result (table.new ≡ initial.ring_buffers 0 rings.now) }
 {
     for (number, ring) in rings.iter().enumerate() {
-        add_buffers(table, number as u8, ring.buffers.as_slice())?;
+        add_buffers(table, number as u32, ring.buffers.as_slice())?;
     }
     Ok(())
 }
@@ -107,8 +110,8 @@ impl State {
     /// # Errors
     ///
     /// Out of memory.
-    pub fn of(alloc: Global, trace: &Trace) -> Result<Self, AllocError>
-        requires { IsSpelled trace.now }
+    pub fn of(alloc: Global, trace: &Recording) -> Result<Self, AllocError>
+        requires { IsAccepted trace.now }
         ensures { IfOk result (λ state. state ≡ initial.start trace.now) }
     {
         let mut state = State::bare(alloc, Tree::new(alloc)?);
@@ -122,8 +125,8 @@ impl State {
     }
 
     /// Adds what a trace starts with.
-    fn fill(&mut self, alloc: Global, trace: &Trace) -> Result<(), AllocError>
-        requires trace { IsSpelled trace.now }
+    fn fill(&mut self, alloc: Global, trace: &Recording) -> Result<(), AllocError>
+        requires trace { IsAccepted trace.now }
         requires bare { self.old ≡ initial.bare }
         ensures { OnOk result (self.new ≡ initial.start trace.now) }
     {
@@ -133,8 +136,8 @@ impl State {
     }
 
     /// Adds the open file descriptions, and the descriptors that hold some.
-    fn open(&mut self, trace: &Trace) -> Result<(), AllocError>
-        requires trace { IsSpelled trace.now }
+    fn open(&mut self, trace: &Recording) -> Result<(), AllocError>
+        requires trace { IsAccepted trace.now }
         requires descriptions { self.old.descriptions ≡ empty }
         requires descriptors { self.old.descriptors ≡ empty }
         ensures { OnOk result (self.new ≡ initial.opened trace.now self.old) }
@@ -144,8 +147,8 @@ impl State {
     }
 
     /// Adds the registered files and buffers of the rings.
-    fn register(&mut self, trace: &Trace) -> Result<(), AllocError>
-        requires trace { IsSpelled trace.now }
+    fn register(&mut self, trace: &Recording) -> Result<(), AllocError>
+        requires trace { IsAccepted trace.now }
         requires slots { self.old.slots ≡ empty }
         requires buffers { self.old.buffers ≡ empty }
         ensures { OnOk result (self.new ≡ record self.old {
@@ -173,7 +176,7 @@ impl State {
 
     /// Adds the items of a trace. The first one makes node 1.
     fn add_items(&mut self, alloc: Global, items: &[Item]) -> Result<(), AllocError>
-        requires count { length items.now ≤ 65535 }
+        requires count { length items.now ≤ items_limit }
         requires sizes { All IsSized items.now }
         ensures { OnOk result (self.new ≡ initial.with_items self.old 1 items.now) }
     {
@@ -203,32 +206,50 @@ impl State {
                 self.make_node(alloc, known, number, Kind::Directory)?;
                 self.name_item(alloc, known, path, number)
             }
-            Node::File { size, stored } => {
-                self.add_file(alloc, known, number, *size, stored)?;
+            Node::File { size, ranges } => {
+                self.add_file(alloc, known, number, *size, ranges.as_slice())?;
                 self.name_item(alloc, known, path, number)
             }
             Node::OtherName { number } => self.name_item(alloc, known, path, *number),
         }
     }
 
-    /// Adds a file of a size, whose first bytes are stored.
+    /// Adds a file of a size with bytes in some ranges, and zeros elsewhere.
     fn add_file(
         &mut self,
         alloc: Global,
         known: &mut Known<'_>,
         number: u32,
         size: u64,
-        stored: &Blob,
+        ranges: &[Range],
     ) -> Result<(), AllocError>
         requires bound { size ≤ file_limit }
-        requires stored { length stored.now ≤ size }
+        requires ranges { All (λ (r : start.Range). range_end r ≤ size) ranges.now }
         requires known { Knows self.old.nodes known.old }
         ensures added { OnOk result (self.new ≡ apply_all (change.make_node number a_file
-            ∷ change.write_bytes number 0 stored.now ∷ change.set_size number size ∷ []) self.old) }
+            ∷ map (initial.range_written number) ranges.now ++ change.set_size number size ∷ [])
+            self.old) }
         ensures known { OnOk result (Knows self.new.nodes known.new) }
     {
         self.make_node(alloc, known, number, Kind::File)?;
-        self.write_from_blob(alloc, number, 0, stored)?;
+        self.write_ranges(alloc, number, ranges)?;
         self.set_size(number, size)
+    }
+
+    /// Writes the bytes of some ranges of a file.
+    fn write_ranges(
+        &mut self,
+        alloc: Global,
+        number: u32,
+        ranges: &[Range],
+    ) -> Result<(), AllocError>
+        requires { All (λ (r : start.Range). range_end r ≤ file_limit) ranges.now }
+        ensures { OnOk result
+            (self.new ≡ apply_all (map (initial.range_written number) ranges.now) self.old) }
+    {
+        for range in ranges {
+            self.write_from_blob(alloc, number, range.offset, &range.bytes)?;
+        }
+        Ok(())
     }
 }

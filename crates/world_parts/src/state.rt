@@ -61,7 +61,7 @@ impl Model for State {
 
 impl State {
     /// The open file description that a registered file of a ring holds.
-    pub fn slot(&self, ring: u8, number: u32) -> Option<u32>
+    pub fn slot(&self, ring: u32, number: u32) -> Option<u32>
         ensures { result ≡ world.slot self.now ring number }
     {
         self.slots.get(ring, number)
@@ -205,7 +205,7 @@ impl State {
     /// # Errors
     ///
     /// Out of memory.
-    pub fn buffer(&self, ring: u8, index: u32, low: u64, high: u64) -> Result<Vec<u8>, AllocError>
+    pub fn buffer(&self, ring: u32, index: u32, low: u64, high: u64) -> Result<Vec<u8>, AllocError>
         requires forward { low ≤ high }
         requires inside { high ≤ length (unwrap_or (world.buffer self.now ring index) []) }
         ensures { IfOk result (λ taken. taken.items
@@ -221,7 +221,7 @@ impl State {
     /// Out of memory.
     pub fn share_buffer(
         &self,
-        ring: u8,
+        ring: u32,
         index: u32,
         low: u64,
         high: u64,
@@ -235,7 +235,7 @@ impl State {
     }
 
     /// The length of a registered buffer in bytes.
-    pub fn buffer_len(&self, ring: u8, index: u32) -> Option<u64>
+    pub fn buffer_len(&self, ring: u32, index: u32) -> Option<u64>
         ensures { result ≡ option_map length (world.buffer self.now ring index) }
     {
         self.buffers.len(ring, index)

@@ -1,7 +1,7 @@
 //! A world as a whole.
 ghost use Rattle.std.specs.Prelude.{◌≡◌, ◌↔◌, [], unwrap_or, IfOk, IsTrue};
 ghost use Rattle.extent_bytes.specs.Bytes.{range_of};
-ghost use Rattle.trace_format.specs.Text.{IsSpelled};
+ghost use Rattle.recording.specs.Accepted.{IsAccepted};
 ghost use Rattle.world_parts.specs.Image.{image_of};
 ghost use Rattle.world_parts.specs.Part.{whole};
 ghost use Rattle.world_parts.specs.Start.{start};
@@ -10,10 +10,10 @@ ghost use Rattle.world_parts.specs.World.{buffer, bytes};
 use crate::image::Image;
 use crate::part::{Part, World};
 use crate::state::State;
+use recording::{Recording, Series};
 use std::alloc::{AllocError, Global};
 use std::collections::BTreeMap;
 use std::mem;
-use trace_format::{Series, Trace};
 
 impl World {
     /// A world of which no part is out.
@@ -36,8 +36,8 @@ impl World {
     /// # Errors
     ///
     /// Out of memory.
-    pub fn of(alloc: Global, trace: &Trace) -> Result<Self, AllocError>
-        requires { IsSpelled trace.now }
+    pub fn of(alloc: Global, trace: &Recording) -> Result<Self, AllocError>
+        requires { IsAccepted trace.now }
         ensures { IfOk result (λ world. world ≡ whole (start trace.now)) }
     {
         World::new(alloc, State::of(alloc, trace)?)
@@ -98,7 +98,7 @@ impl World {
     pub fn buffer_bytes(
         &self,
         alloc: Global,
-        ring: u8,
+        ring: u32,
         index: u32,
     ) -> Result<Series<u8>, AllocError>
         ensures { IfOk result (λ taken. taken ≡ unwrap_or (buffer self.now.world ring index) []) }

@@ -1,5 +1,5 @@
 use Rattle.std.proofs.Common.{◌≡◌, ◌+◌, ◌∷◌, [], ◌++◌, ◌∙◌, ap, subst, arith}
-use Rattle.trace_format.specs.Steps.{places}
+use Rattle.recording.specs.Steps.{places}
 use Rattle.depend_log.specs.Places.{IsPlaceWaits}
 use Rattle.depend_report.specs.Told.{Drawn}
 use Rattle.depend_report.specs.Whole.{AreFirst}
@@ -10,13 +10,13 @@ pub loop-place-init : goal.loop-place-init
 loop-place-init c = record { run = c.requires.run; next = c.requires.first; drawn = ([], (none_first c.args.trace.now, c.requires.head)) }
 
 pub next-requires-clause-place : goal.next-requires-clause-place
-next-requires-clause-place c = omega (arith, c.loop-place.invariant.next, c.loop-place-test.true, c.places-place-end.ensures.places)
+next-requires-clause-place c = omega (arith, c.loop-place.invariant.next, c.loop-place-test.true, c.places-place-end.ensures)
 
 pub push_place-requires : goal.push_place-requires
 push_place-requires c =
     let before = c.loop-place.invariant.drawn in
     let many = ap (λ (d : Drawn). d.places) before.1.1 ∙ before.1.0.many in
-    omega (arith, many, c.loop-place-test.true, c.places-place-end.ensures.limit)
+    omega (arith, many, c.loop-place-test.true, c.requires.trace.sizes.places)
 
 pub loop-place-preserved : goal.loop-place-preserved
 loop-place-preserved c =
@@ -34,5 +34,5 @@ pub returns : goal.returns
 returns c =
     let t = c.args.trace.now in
     let all = c.loop-place.invariant.drawn in
-    let end : c.loop-place._place ≡ places t = omega (arith, c.loop-place-test.false, c.places-place-end.ensures.places, c.loop-place.auto._place-end) in
+    let end : c.loop-place._place ≡ places t = omega (arith, c.loop-place-test.false, c.places-place-end.ensures, c.loop-place.auto._place-end) in
     (all.0, (subst (AreFirst t all.0) end all.1.0, all.1.1))

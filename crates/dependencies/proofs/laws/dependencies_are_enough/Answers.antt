@@ -1,5 +1,5 @@
 use Rattle.interleaving.specs.Machine.{opening, run}
-use Rattle.trace_format.specs.Steps.{places}
+use Rattle.recording.specs.Steps.{places}
 use Rattle.foot_print.specs.Replayed.{replayed}
 use Rattle.wave_pick.proofs.Ends.{ends_as_the_model}
 use Rattle.dependencies.proofs.laws.dependencies_are_enough.Goals as goal

@@ -2,7 +2,7 @@ use Rattle.std.proofs.Common.{ℕ, ◌≡◌, ◌++◌, ◌∙◌, ap, append_as
 use Rattle.std.proofs.Math.Seq.{take-append_seam}
 use Rattle.entry_checks.specs.Meant.{meant}
 use Rattle.entry_checks.specs.Operation.{Operation}
-use Rattle.trace_format.specs.declared.trace.Trace.{Trace}
+use Rattle.recording.specs.declared.recording.Recording.{Recording}
 use Rattle.foot_print.specs.Foreseen.{meets_written, shape_extras}
 use Rattle.foot_print.specs.Footprint.{foreseen, row_in, shape_row, uses, uses_in}
 use Rattle.foot_print.specs.Reach.{seen}
@@ -17,7 +17,7 @@ use Rattle.world_parts.specs.World.{World}
 use Rattle.foot_print.proofs.reaching.decided_outlook.Goals as goal
 
 -- its uses behind what is known of it are its row
-rows : (order known : Footprint) (t : Trace) (k r : ℕ) (s : World) (o : Operation) (z : Found) → known ≡ order ++ seen (in_ring t r) s o → z ≡ found (in_ring t r) s (look (shape o)) → known ++ uses_in (sited t k r) s o z ≡ order ++ row_in (sited t k r) s o
+rows : (order known : Footprint) (t : Recording) (k r : ℕ) (s : World) (o : Operation) (z : Found) → known ≡ order ++ seen (in_ring t r) s o → z ≡ found (in_ring t r) s (look (shape o)) → known ++ uses_in (sited t k r) s o z ≡ order ++ row_in (sited t k r) s o
 rows order known t k r s o z is finds = behind_looks order known (seen (in_ring t r) s o) (uses_in (sited t k r) s o) z (found (in_ring t r) s (look (shape o))) is finds
 
 pub returns-then-not-meets-clause-reach : goal.returns-then-not-meets-clause-reach

@@ -1,13 +1,15 @@
 use Rattle.std.proofs.Common.{ℕ, List, ⊎_elim, ◌++◌, ◌∙◌, ap, sym, false, Some}
 use Rattle.std.proofs.lemmas.Bool.{false≢true}
 use Rattle.entry_checks.specs.Meant.{meant}
+use Rattle.recording.specs.Rings.{queue_of}
+use Rattle.trace_records.specs.declared.record.FullSlot.{FullSlot}
 use Rattle.foot_print.proofs.Given.{uncanceled}
-use Rattle.foot_print.proofs.Outlooks.{filled_outlook, members_outlook, refused_outlook}
+use Rattle.foot_print.proofs.Outlooks.{filled_outlook, members_outlook, refused_outlook, registered_outlook}
 use Rattle.foot_print.specs.Reach.{is_canceled}
 use Rattle.foot_print.specs.declared.reaching.Awaited.TheVariants.{Reach}
 use Rattle.item_index.specs.Ahead.{written_before}
 use Rattle.foot_print.specs.Footprint.{order_uses, turn_uses}
-use Rattle.op_meaning.specs.Step.{filled}
+use Rattle.op_meaning.specs.Step.{filled, registered}
 use Rattle.op_meaning.specs.Turns.{kind_meant}
 use Rattle.op_meaning.specs.declared.turn.TurnKind.{TurnKind}
 use Rattle.world_parts.specs.Items.{Footprint}
@@ -22,17 +24,31 @@ returns-in_ok-fill_uses-in-Fills c =
     let f = c.in-Fills in
     let task = ap (λ kind. Some (kind_meant r kind)) (sym f.is) ∙ c.turn_under-ring.ensures.turn in
     let uses = λ (new : List ℕ). turn_uses t k s (filled r f.buffer f.offset new) in
-    let order = c.in_ok-reach-in-Fills.ensures ∙ (λ i. order_uses (c.turn_under-ring.ensures.ring i) (c.requires.role i)) in
+    let order = c.in_ok-reach-in-Fills.ensures ∙ (λ i. order_uses ((c.queue-queue.ensures ∙ ap (queue_of t) c.turn_under-ring.ensures.ring) i) (c.requires.role i)) in
     let reach = c.in_ok-fill_uses-in-Fills.ensures ∙ (λ i. order i ++ uses (c.as_slice.ensures i)) in
     filled_outlook t k s (written_before c.args.behind.now) c.ready.result r f.buffer f.offset f.bytes.now task
     (c.ready.ensures ∙ ap (λ (g : Footprint). record { reach = g; waits_by = Reach; takes_lowest = false }) reach)
+
+pub returns-in_ok-register_uses-in-Registers : goal.returns-in_ok-register_uses-in-Registers
+returns-in_ok-register_uses-in-Registers c =
+    let t = c.args.trace.now in
+    let k = c.args.place in
+    let s = c.args.state.now in
+    let r = c.turn_under-ring.result.ring in
+    let f = c.in-Registers in
+    let task = ap (λ kind. Some (kind_meant r kind)) (sym f.is) ∙ c.turn_under-ring.ensures.turn in
+    let uses = λ (slots : List FullSlot). turn_uses t k s (registered r slots) in
+    let order = c.in_ok-reach-in-Registers.ensures ∙ (λ i. order_uses ((c.queue-queue.ensures ∙ ap (queue_of t) c.turn_under-ring.ensures.ring) i) (c.requires.role i)) in
+    let reach = c.in_ok-register_uses-in-Registers.ensures ∙ (λ i. order i ++ uses (c.as_slice-in-Registers.ensures i)) in
+    registered_outlook t k s (written_before c.args.behind.now) c.ready-in-Registers.result r f.slots.now task
+    (c.ready-in-Registers.ensures ∙ ap (λ (g : Footprint). record { reach = g; waits_by = Reach; takes_lowest = false }) reach)
 
 pub returns-in_ok-order_of-in-Refused : goal.returns-in_ok-order_of-in-Refused
 returns-in_ok-order_of-in-Refused c =
     let t = c.args.trace.now in
     let k = c.args.place in
     let meant_here = λ (kind : TurnKind). Some (kind_meant c.turn_under-ring.result.ring kind) in
-    let order = c.in_ok-order_of-in-Refused.ensures ∙ (λ i. order_uses (c.turn_under-ring.ensures.ring i) (c.requires.role i)) in
+    let order = c.in_ok-order_of-in-Refused.ensures ∙ (λ i. order_uses ((c.queue-queue.ensures ∙ ap (queue_of t) c.turn_under-ring.ensures.ring) i) (c.requires.role i)) in
     ⊎_elim
     (λ x. refused_outlook t k c.args.state.now (written_before c.args.behind.now) c.ready-in-Refused.result x.0 x.1 (ap meant_here (sym x.2) ∙ c.turn_under-ring.ensures.turn)
     (c.ready-in-Refused.ensures ∙ ap (λ (g : Footprint). record { reach = g; waits_by = Reach; takes_lowest = false }) order))

@@ -1,10 +1,8 @@
 use Rattle.std.proofs.Common.{length, ap, arith}
-use Rattle.trace_format.proofs.Facts.{spelled_places}
-use Rattle.trace_format.proofs.Sizes.{sizes}
 use Rattle.op_meaning.proofs.made.made_description.Goals as goal
 
 pub overflow_cast-result : goal.overflow_cast-result
-overflow_cast-result c = omega (arith, (sizes c.args.trace.now c.requires.trace).descriptions, ap length c.as_slice.ensures)
+overflow_cast-result c = omega (arith, c.requires.trace.sizes.descriptions, ap length c.as_slice.ensures)
 
 pub overflow_add-result : goal.overflow_add-result
-overflow_add-result c = omega (arith, (sizes c.args.trace.now c.requires.trace).descriptions, spelled_places c.args.trace.now c.requires.trace, ap length c.as_slice.ensures)
+overflow_add-result c = omega (arith, c.requires.trace.sizes.descriptions, c.requires.trace.sizes.places, ap length c.as_slice.ensures)

@@ -1,14 +1,13 @@
 use Rattle.std.proofs.Common.{Some, ap, ◌∙◌}
 use Rattle.std.specs.Option.{option_map}
-use Rattle.trace_format.specs.Steps.{step_meant, action_meant}
-use Rattle.trace_format.proofs.Facts.{spelled_fits}
+use Rattle.recording.specs.Steps.{step_meant, action_meant}
 use Rattle.world_parts.specs.Uses.{broken_meant}
-use Rattle.op_meaning.proofs.Turns.{fills, submitted}
-use Rattle.op_meaning.proofs.turn.turn_under.Goals.{in-Submit, in-Fill}
+use Rattle.op_meaning.proofs.Turns.{fills, registers, submitted}
+use Rattle.op_meaning.proofs.turn.turn_under.Goals.{in-Submit, in-Fill, in-Register}
 use Rattle.op_meaning.proofs.turn.turn_under.Goals as goal
 
 pub submitted-kind-requires : goal.submitted-kind-requires
-submitted-kind-requires c = record { side = spelled_fits c.args.trace.now c.requires.trace c.args.place (step_meant c.step-step.result) c.in-Submit.entry c.step-step.ensures (ap action_meant c.in-Submit.is) }
+submitted-kind-requires c = record { side = c.requires.trace.fits c.args.place (step_meant c.step-step.result) c.in-Submit.entry c.step-step.ensures (ap action_meant c.in-Submit.is) }
 
 pub returns-clause-turn : goal.returns-clause-turn
 returns-clause-turn c =
@@ -18,4 +17,5 @@ returns-clause-turn c =
     elim c.match-step.branch [
       | in-Submit w ↦ rw w.kind-is (ap Some (w.submitted-kind.ensures.turn x.ring) ∙ submitted t c.args.place flag x w.in-Submit.entry c.args.role_there.now c.step-step.ensures w.in-Submit.is c.requires.role)
       | in-Fill w ↦ rw w.kind-is (fills t c.args.place flag x w.in-Fill.buffer w.in-Fill.offset w.in-Fill.bytes c.step-step.ensures w.in-Fill.is)
+      | in-Register w ↦ rw w.kind-is (registers t c.args.place flag x w.in-Register.slots c.step-step.ensures w.in-Register.is)
     ]

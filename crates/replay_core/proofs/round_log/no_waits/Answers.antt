@@ -16,4 +16,4 @@ returns-in_err-push c = IfOk-from_err _ _ c.from_residual.ensures.0
 
 pub returns : goal.returns
 returns c =
-    c.loop-place.invariant ∙ ap (λ n. replicate n None) (omega (arith, c.loop-place-test.false, c.loop-place.auto._place-end, c.places-place-end.ensures.places))
+    c.loop-place.invariant ∙ ap (λ n. replicate n None) (omega (arith, c.loop-place-test.false, c.loop-place.auto._place-end, c.places-place-end.ensures))

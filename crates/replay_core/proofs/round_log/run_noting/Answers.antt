@@ -21,7 +21,7 @@ pub returns-in_err-held-clause-alone : goal.returns-in_err-held-clause-alone
 returns-in_err-held-clause-alone g c = given_on _ _ _ c.from_residual-in_err-held.ensures.1 (c.in_err-held.ensures.alone (omega arith))
 
 pub run_telling-requires-clause-round : goal.run_telling-requires-clause-round
-run_telling-requires-clause-round g c κs lives = omega (arith, c.loop-round.invariant.round, c.loop-round-test.true, c.places-round-end.ensures.places)
+run_telling-requires-clause-round g c κs lives = omega (arith, c.loop-round.invariant.round, c.loop-round-test.true, c.places-round-end.ensures)
 
 pub run_telling-requires-clause-stands : goal.run_telling-requires-clause-stands
 run_telling-requires-clause-stands g c κs lives = c.loop-round.invariant.stands
@@ -63,7 +63,7 @@ returns-clause-noted g c =
     let before = c.loop-round.invariant in
     subst (λ w. AreAllNoted c.args.trace.now w c.loop-round.waits.items) before.window
     (all_noted c.args.trace.now c.requires.trace c.loop-round.progress before.stands
-    (inr (omega (arith, before.round, c.loop-round-test.false, c.loop-round.auto._round-end, c.places-round-end.ensures.places))) c.loop-round.waits.items before.noted)
+    (inr (omega (arith, before.round, c.loop-round-test.false, c.loop-round.auto._round-end, c.places-round-end.ensures))) c.loop-round.waits.items before.noted)
 
 pub returns-clause-alone : goal.returns-clause-alone
 returns-clause-alone g c = went_well _ _

@@ -12,7 +12,7 @@ has_place c =
     let k = c.loop-place.place in
     elim c.if-place-end.branch [
       | goal.then-place-end+in_ok-plan w ↦ rw w.plan-is (next_has t k c.loop-place.plan _ w.in_ok-plan.ensures.stretch w.in_ok-plan.ensures.behind w.in_ok-plan.ensures.least
-          (w.if-place-end.true ∙ c.end.ensures) (omega (arith, c.loop-place-test.true, c.places-place-end.ensures.places)))
+          (w.if-place-end.true ∙ c.end.ensures) (omega (arith, c.loop-place-test.true, c.places-place-end.ensures)))
       | goal.else-place-end w ↦ rw w.plan-is (record {
         stretch = c.loop-place.invariant.stretch;
         from = c.loop-place.invariant.from;

@@ -1,8 +1,9 @@
-use Rattle.std.proofs.Common.{add-one, ap, arith, length, sym, ◌∙◌}
+use Rattle.std.proofs.Common.{add-one, ap, arith, sym, ◌∙◌}
 use Rattle.chain_plan.proofs.Walk.{role_in}
-use Rattle.trace_format.specs.Steps.{step_meant}
+use Rattle.recording.specs.Steps.{step_meant}
 use Rattle.op_meaning.specs.Step.{sequential_reply, step_reply, step_world}
 use Rattle.replay_core.proofs.Places.{HasPlace, next_has}
+use Rattle.replay_report.specs.Report.{list_count}
 use Rattle.replay_report.proofs.RingTextsLemmas.{answer_walked}
 use Rattle.replay_program.proofs.in_turn.texts_in_turn.Goals.{After-role}
 use Rattle.replay_program.proofs.in_turn.texts_in_turn.Goals as goal
@@ -14,7 +15,7 @@ has_place c =
     let k = c.loop-place.place in
     elim c.if-place-end.branch [
       | goal.then-place-end+in_ok-plan w ↦ rw w.plan-is (next_has t k c.loop-place.plan _ w.in_ok-plan.ensures.stretch w.in_ok-plan.ensures.behind w.in_ok-plan.ensures.least
-          (w.if-place-end.true ∙ c.end.ensures) (omega (arith, c.loop-place-test.true, c.places-place-end.ensures.places)))
+          (w.if-place-end.true ∙ c.end.ensures) (omega (arith, c.loop-place-test.true, c.places-place-end.ensures)))
       | goal.else-place-end w ↦ rw w.plan-is (record {
         stretch = c.loop-place.invariant.stretch;
         from = c.loop-place.invariant.from;
@@ -36,7 +37,7 @@ loop-place-preserved c =
     record {
       state = rw add-one (c.in_ok-reply.ensures.state ∙ ap (step_world t k) c.loop-place.invariant.state);
       texts = c.in_ok-push.ensures
-          ∙ answer_walked t (sequential_reply t) c.args.names k (length t.rings) (step_meant c.step.result) c.of.result c.in_ok-reply.reply c.loop-place.texts
+          ∙ answer_walked t (sequential_reply t) c.args.lines k (list_count c.args.lines t) (step_meant c.step.result) c.of.result c.in_ok-reply.reply c.loop-place.texts
           c.step.ensures answers c.of.ensures c.loop-place.invariant.texts;
       stretch = has.stretch;
       from = omega (arith, has.from);

@@ -1,5 +1,5 @@
 use Rattle.std.proofs.Common.{ℕ, ◌<◌, All}
-use Rattle.trace_format.specs.Steps.{places}
+use Rattle.recording.specs.Steps.{places}
 use Rattle.replay_tests.proofs.picks.all_places.Given as goal
 
 abbrev pub invariant-loop-place : goal.invariant-loop-place

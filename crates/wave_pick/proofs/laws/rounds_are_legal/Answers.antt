@@ -1,4 +1,4 @@
-use Rattle.trace_format.specs.Steps.{places}
+use Rattle.recording.specs.Steps.{places}
 use Rattle.wave_pick.specs.Rounds.{state_after}
 use Rattle.wave_pick.proofs.Apart.{none_collide}
 use Rattle.wave_pick.proofs.Ends.{ends_as_the_model}

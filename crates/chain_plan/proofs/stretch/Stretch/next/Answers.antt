@@ -1,6 +1,5 @@
 use Rattle.std.proofs.Common.{◌≡◌, ◌+◌, length, arith, ap, ◌∙◌}
-use Rattle.trace_format.proofs.Facts.{spelled_fits}
-use Rattle.trace_format.specs.Steps.{step_meant}
+use Rattle.recording.specs.Steps.{step_meant}
 use Rattle.chain_plan.specs.Stretch.{chains_ahead}
 use Rattle.chain_plan.specs.Walk.{marks_of}
 use Rattle.chain_plan.proofs.Walk.{walks_on, chains_long, member_short, member_above, chain_short, walked_held, walked_stretch, walked_long, stops_apart, goes_on, end_apart, next_number, walks_alone, walked_to}
@@ -8,11 +7,11 @@ use Rattle.chain_plan.proofs.stretch.Stretch.next.Goals.{After-len, After-len-2}
 use Rattle.chain_plan.proofs.stretch.Stretch.next.Goals as goal
 
 pub marks_of-marks-requires : goal.marks_of-marks-requires
-marks_of-marks-requires c = λ e is. spelled_fits c.args.trace.now c.requires.spelled c.loop-place.place _ e c.step-step.ensures is
+marks_of-marks-requires c = λ e is. c.requires.spelled.fits c.loop-place.place _ e c.step-step.ensures is
 
 pub overflow_cast-next : goal.overflow_cast-next
 overflow_cast-next c =
-    omega (arith, c.len-in-loop-place.ensures, c.loop-place.chains.ok.0, chains_long c.loop-place.invariant.walked, c.places-place-end.ensures.limit)
+    omega (arith, c.len-in-loop-place.ensures, c.loop-place.chains.ok.0, chains_long c.loop-place.invariant.walked, c.loop-place.invariant.walked.within, c.requires.spelled.sizes.places)
 
 -- the chains so far are as many as there are ahead of the first place
 number : (c : After-len) → c.self.inside.chains_before + c.len.result ≡ chains_ahead c.args.trace.now c.end-first.result
@@ -20,7 +19,7 @@ number c = next_number c.args.trace.now c.args.self c.end-first.result _ c.requi
 
 pub push_lone-requires : goal.push_lone-requires
 push_lone-requires c =
-    omega (arith, number (goal.at.push_lone-requires c).After-len, chains_long c.lone.invariant.walked, c.lone.invariant.walked.within, c.places.ensures.places, c.places.ensures.limit)
+    omega (arith, number (goal.at.push_lone-requires c).After-len, chains_long c.lone.invariant.walked, c.lone.invariant.walked.within, c.places.ensures, c.requires.spelled.sizes.places)
 
 pub lone-preserved : goal.lone-preserved
 lone-preserved c = record {
@@ -36,11 +35,11 @@ alone_to c = omega (arith, walked_to c.lone.invariant.walked, c.len-2.ensures, c
 
 pub overflow_cast-place : goal.overflow_cast-place
 overflow_cast-place c =
-    omega (arith, alone_to (goal.at.overflow_cast-place c).After-len-2, c.lone.invariant.walked.within, c.places.ensures.places, c.places.ensures.limit)
+    omega (arith, alone_to (goal.at.overflow_cast-place c).After-len-2, c.lone.invariant.walked.within, c.places.ensures, c.requires.spelled.sizes.places)
 
 pub overflow_step-place-2 : goal.overflow_step-place-2
 overflow_step-place-2 c =
-    omega (arith, alone_to (goal.at.overflow_step-place-2 c).After-len-2, c.lone.invariant.walked.within, c.places.ensures.places, c.places.ensures.limit)
+    omega (arith, alone_to (goal.at.overflow_step-place-2 c).After-len-2, c.lone.invariant.walked.within, c.places.ensures, c.requires.spelled.sizes.places)
 
 pub loop-place-init : goal.loop-place-init
 loop-place-init c =
@@ -52,11 +51,11 @@ loop-place-init c =
 
 pub overflow_add-next : goal.overflow_add-next
 overflow_add-next c =
-    omega (arith, number (goal.at.overflow_add-next c).After-len, c.len-in-loop-place.ensures, c.loop-place.chains.ok.0, chains_long c.loop-place.invariant.walked, c.places-place-end.ensures.limit)
+    omega (arith, number (goal.at.overflow_add-next c).After-len, c.len-in-loop-place.ensures, c.loop-place.chains.ok.0, chains_long c.loop-place.invariant.walked, c.loop-place.invariant.walked.within, c.requires.spelled.sizes.places)
 
 pub member_after-member-requires : goal.member_after-member-requires
 member_after-member-requires c =
-    member_short c.loop-place.invariant.walked _ _ c.step-step.ensures (omega (arith, c.places-place-end.ensures.limit)) c.followed-ahead.ensures
+    member_short c.loop-place.invariant.walked _ _ c.step-step.ensures (omega (arith, c.loop-place.invariant.walked.within, c.requires.spelled.sizes.places)) c.followed-ahead.ensures
 
 pub overflow_sub-member : goal.overflow_sub-member
 overflow_sub-member c =
@@ -65,7 +64,7 @@ overflow_sub-member c =
 
 pub count_member-requires : goal.count_member-requires
 count_member-requires c =
-    chain_short c.loop-place.invariant.walked (omega (arith, c.places-place-end.ensures.limit)) _
+    chain_short c.loop-place.invariant.walked (omega (arith, c.loop-place.invariant.walked.within, c.requires.spelled.sizes.places)) _
 
 pub loop-place-preserved : goal.loop-place-preserved
 loop-place-preserved c =
@@ -83,12 +82,12 @@ loop-place-preserved c =
 
 pub invariant_of-result : goal.invariant_of-result
 invariant_of-result c =
-    rw (number (goal.at.invariant_of-result c).After-len) (walked_held c.loop-place.invariant.walked (omega (arith, c.places-place-end.ensures.limit)))
+    rw (number (goal.at.invariant_of-result c).After-len) (walked_held c.loop-place.invariant.walked (omega (arith, c.loop-place.invariant.walked.within, c.requires.spelled.sizes.places)))
 
 pub returns-clause-stretch : goal.returns-clause-stretch
 returns-clause-stretch c =
     rw (number (goal.at.returns-clause-stretch c).After-len) (walked_stretch c.loop-place.invariant.walked (elim c.loop-place-test.branch [
-      | goal.else-loop-place-test w ↦ end_apart c.args.trace.now c.loop-place.place (omega (arith, w.loop-place-test.false, c.places-place-end.ensures.places))
+      | goal.else-loop-place-test w ↦ end_apart c.args.trace.now c.loop-place.place (omega (arith, w.loop-place-test.false, c.places-place-end.ensures))
       | goal.then-loop-place-test+then-is_none+then-place-first w ↦
           stops_apart c.loop-place.invariant.walked _ _ w.step-step.ensures w.followed-ahead.ensures w.if-is_none.ensures
     ]))
@@ -96,9 +95,9 @@ returns-clause-stretch c =
 pub returns-clause-least : goal.returns-clause-least
 returns-clause-least c =
     rw (number (goal.at.returns-clause-least c).After-len) (elim c.loop-place-test.branch [
-      | goal.else-loop-place-test w ↦ omega (arith, walked_long c.loop-place.invariant.walked, w.loop-place-test.false, c.places-place-end.ensures.places)
+      | goal.else-loop-place-test w ↦ omega (arith, walked_long c.loop-place.invariant.walked, w.loop-place-test.false, c.places-place-end.ensures)
       | goal.then-loop-place-test+then-is_none+then-place-first w ↦
-          omega (arith, walked_long c.loop-place.invariant.walked, w.loop-place-test.true, w.if-place-first.true, c.places-place-end.ensures.places)
+          omega (arith, walked_long c.loop-place.invariant.walked, w.loop-place-test.true, w.if-place-first.true, c.places-place-end.ensures)
     ])
 
 pub returns-clause-most : goal.returns-clause-most

@@ -8,11 +8,14 @@ use Rattle.depend_log.specs.Running.{AreFeet}
 use Rattle.depend_log.proofs.Running.{feet_more}
 use Rattle.depend_log.proofs.run.Dependencies.next.Goals as goal
 
+pub waits_for-requires-clause-place : goal.waits_for-requires-clause-place
+waits_for-requires-clause-place c = omega (arith, c.requires.place, c.requires.trace.sizes.places)
+
 pub overflow_add-self : goal.overflow_add-self
 overflow_add-self c =
     let told = ap (λ (d : Dependencies). d.place) c.in_ok-waits.ensures.rest in
     let ran = ap (λ (d : Dependencies). d.place) c.in_ok-moved.ensures.rest in
-    omega (arith, told, ran, c.requires.place, c.places-many.ensures.places, c.places-many.ensures.limit)
+    omega (arith, told, ran, c.requires.place, c.requires.trace.sizes.places)
 
 pub returns-clause-run : goal.returns-clause-run
 returns-clause-run c =

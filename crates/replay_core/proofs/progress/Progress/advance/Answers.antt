@@ -30,7 +30,7 @@ pub returns-clause-stands : goal.returns-clause-stands
 returns-clause-stands c =
     let t = c.args.trace.now in
     let s = c.args.self.now in
-    let n = c.places.ensures.places in
+    let n = c.places.ensures in
     let left : c.drop_ran.new.front.items ≡ filter (λ k. not (slice_index_or s.done.items k false)) s.front.items =
     c.drop_ran.ensures ∙ (λ i. filter (λ k. not (slice_index_or (c.as_slice.ensures.value i) k false)) s.front.items) in
     record {

@@ -6,7 +6,7 @@ use Rattle.std.proofs.lemmas.Iterator.Adapters.{YieldsList-from_vec}
 use Rattle.std.proofs.lemmas.Iterator.Consumers.{YieldsList-turn, YieldsList-end}
 use Rattle.interleaving.specs.Machine.{has}
 use Rattle.chain_plan.proofs.Walk.{length-roles}
-use Rattle.trace_format.specs.Steps.{places}
+use Rattle.recording.specs.Steps.{places}
 use Rattle.world_parts.specs.Part.{Part}
 use Rattle.world_parts.specs.Cutting.{is_narrow, cut_from}
 use Rattle.foot_print.specs.Footprint.{footprint}

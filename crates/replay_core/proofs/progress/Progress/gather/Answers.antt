@@ -6,7 +6,7 @@ use Rattle.std.proofs.lemmas.Option.{slice_get_read}
 use Rattle.std.proofs.lemmas.Iterator.Adapters.{YieldsList-from_vec}
 use Rattle.std.proofs.lemmas.Iterator.Consumers.{YieldsList-turn, YieldsList-end}
 use Rattle.interleaving.proofs.Members.{has-here}
-use Rattle.trace_format.specs.Steps.{places}
+use Rattle.recording.specs.Steps.{places}
 use Rattle.foot_print.specs.Parts as parts
 use Rattle.world_parts.specs.Part.{Part, Divided}
 use Rattle.replay_core.specs.declared.run.Run.{Run}

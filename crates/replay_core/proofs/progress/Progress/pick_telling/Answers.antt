@@ -24,7 +24,7 @@ pub returns-clause-held : goal.returns-clause-held
 returns-clause-held c =
     let t = c.args.trace.now in
     let s = c.args.self.now in
-    let next : c.min-next.result ≡ s.round + 1 = omega (arith, c.min-next.ensures, c.places.ensures.places, c.requires.round) in
+    let next : c.min-next.result ≡ s.round + 1 = omega (arith, c.min-next.ensures, c.places.ensures, c.requires.round) in
     let front = c.as_slice.result.now in
     IfOk-weaker c.pick_telling.result
     (λ told. map held_meant told.1 ≡ held_among t (state_after t s.window s.scheduler.round) (filter (has_number c.args.rounds.now c.min-next.result) (take s.window front))) (λ told. HasTold t c.args.rounds.now s told.1)

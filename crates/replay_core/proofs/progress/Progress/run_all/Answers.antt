@@ -53,7 +53,7 @@ pub returns-clause-window : goal.returns-clause-window
 returns-clause-window g c = c.loop-round.invariant.window
 
 pub returns-clause-over : goal.returns-clause-over
-returns-clause-over g c = inr (omega (arith, c.loop-round.invariant.round, c.loop-round-test.false, c.loop-round.auto._round-end, c.places-round-end.ensures.places))
+returns-clause-over g c = inr (omega (arith, c.loop-round.invariant.round, c.loop-round-test.false, c.loop-round.auto._round-end, c.places-round-end.ensures))
 
 pub returns-clause-alone : goal.returns-clause-alone
 returns-clause-alone g c few = went_well _ _

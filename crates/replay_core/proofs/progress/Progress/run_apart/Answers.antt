@@ -1,7 +1,6 @@
 use Rattle.std.proofs.Common.{length, ap, sym, subst, arith}
 use Rattle.std.proofs.lemmas.List.{length-map}
 use Rattle.world_parts.specs.Part.{Part}
-use Rattle.trace_format.proofs.Facts.{spelled_places}
 use Rattle.replay_core.specs.declared.progress.Progress.{Progress}
 use Rattle.replay_core.specs.declared.run.Run.{Run}
 use Rattle.replay_core.specs.Progressing.{KeptAfter, parts_of}
@@ -16,7 +15,7 @@ run_round-requires-clause-few g c κs within =
     let a = length-map jobs (λ (run : Run). run.part) in
     let b = length-map (parts_of jobs) (λ (p : Part). p.place) in
     let w = ap length c.in_ok-jobs.ensures.dealt.wave in
-    omega (arith, a, b, w, wave-few t s.window s.round, spelled_places t c.requires.trace)
+    omega (arith, a, b, w, wave-few t s.window s.round, c.requires.trace.sizes.places)
 
 pub gather-requires-clause-keeps : goal.gather-requires-clause-keeps
 gather-requires-clause-keeps g c = subst (λ (p : Progress). KeptAfter c.args.trace.now p.round p) (sym c.in_ok-jobs.ensures.rest) c.requires.begins.keeps

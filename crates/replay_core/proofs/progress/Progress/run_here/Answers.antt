@@ -5,7 +5,7 @@ use Rattle.interleaving.specs.Machine.{State}
 use Rattle.interleaving.proofs.Members.{has-here}
 use Rattle.interleaving.proofs.Onwards.{ran}
 use Rattle.chain_plan.proofs.Walk.{length-roles}
-use Rattle.trace_format.specs.Steps.{places}
+use Rattle.recording.specs.Steps.{places}
 use Rattle.world_parts.specs.Part.{Part, Divided}
 use Rattle.foot_print.specs.Replayed.{replayed}
 use Rattle.op_meaning.specs.Step.{step_world, step_reply}

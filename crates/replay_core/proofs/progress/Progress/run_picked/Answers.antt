@@ -1,6 +1,6 @@
 use Rattle.std.proofs.Common.{map, ap, sym, subst, ◌∙◌, ◌+◌, ◌<◌, ◌≤◌}
 use Rattle.std.proofs.lemmas.Result.{IfOk-from_err}
-use Rattle.trace_format.specs.Steps.{places}
+use Rattle.recording.specs.Steps.{places}
 use Rattle.wave_pick.specs.declared.wave.Chosen.{Chosen}
 use Rattle.wave_pick.specs.Rounds.{state_after, wave_after}
 use Rattle.replay_core.proofs.Choosing.{chosen_places}

@@ -1,6 +1,6 @@
 use Rattle.std.proofs.Common.{ℕ, ◌<◌, ap, sym, ◌∙◌}
 use Rattle.interleaving.specs.Machine.{has}
-use Rattle.trace_format.specs.Steps.{places}
+use Rattle.recording.specs.Steps.{places}
 use Rattle.replay_core.proofs.Choosing.{chosen_within}
 use Rattle.replay_core.proofs.Fronts.{all_of}
 use Rattle.replay_core.proofs.progress.Progress.run_wave.Goals as goal

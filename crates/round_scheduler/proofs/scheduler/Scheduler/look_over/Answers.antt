@@ -2,7 +2,7 @@ use Rattle.std.proofs.Common.{◌≡◌, ◌<◌, ◌++◌, ◌∷◌, ◌∙◌
 use Rattle.std.proofs.lemmas.Bool.{cond_both}
 use Rattle.std.proofs.lemmas.List.{take_more}
 use Rattle.std.proofs.lemmas.Option.{slice_get-get_or}
-use Rattle.trace_format.specs.Steps.{places}
+use Rattle.recording.specs.Steps.{places}
 use Rattle.std.proofs.lemmas.List.Elements.{All-push}
 use Rattle.round_scheduler.specs.Scheduling.{HasRoom, IsAgain}
 use Rattle.round_scheduler.specs.declared.scheduler.Scheduler.{Scheduler}

@@ -1,5 +1,5 @@
 use Rattle.std.proofs.Common.{ℕ, ◌<◌, [], All, take}
-use Rattle.trace_format.specs.Steps.{places}
+use Rattle.recording.specs.Steps.{places}
 use Rattle.round_scheduler.specs.Scheduling.{AreFirst, HaveSeen, IsSameRound}
 use Rattle.round_scheduler.proofs.scheduler.Scheduler.look_over.Given as goal
 

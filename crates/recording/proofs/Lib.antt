@@ -1,0 +1,5 @@
+pub mod RecordsAccepted
+pub mod RecordsFacts
+pub mod Spots
+pub mod StartFacts
+pub mod WholeAccepted

@@ -1,0 +1,358 @@
+-- What the format asks of each record of version 3, and of the rings and steps of the records so far.
+use Rattle.std.proofs.Common.{◌≡◌, ℕ, ◌+◌, ◌<◌, ◌≤◌, true, List, [], ◌∷◌, ◌++◌, length, Option, Some, None, refl, sym, subst, arith, inl, inr, length-append}
+use Rattle.std.specs.Prelude.{◌^◌, ◌==◌, map}
+use Rattle.std.specs.List.{All}
+use Rattle.std.specs.Int.{w16, w32}
+use Rattle.std.proofs.lemmas.Bool.{leb-true}
+use Rattle.std.proofs.lemmas.Bool.Decides.{nat_tests}
+use Rattle.std.proofs.lemmas.List.{length-set, length-map}
+use Rattle.std.proofs.lemmas.List.Elements.{All-nil, All-append, All-push, All-map, All-set, All-weaker, All-get_or}
+use Rattle.std.proofs.lemmas.Option.{slice_get_cases, same_Some, none-some}
+use Rattle.sqe_codec.specs.declared.sqe.Sqe.{Sqe}
+use Rattle.sqe_codec.specs.Fields.{entry_of}
+use Rattle.trace_format.specs.Submitted.{Submitted}
+use Rattle.trace_format.specs.Sides.{is_side_of}
+use Rattle.trace_format.specs.Text.{buffer}
+use Rattle.trace_format.proofs.Apart.{AnyText, keeps_any, Own, apart, at_place, at_test, test_passed, at_known, at_done, at_choice, within_limit, each, length-several}
+use Rattle.trace_records.specs.Front.{Front, after, ring_at, sizes_of, places_of, no_records as no_front}
+use Rattle.trace_records.specs.Records.{ring_there, meant, stored, zeros, entry, enter, filled, fill, ring, ring_ends, ring_starts, body, has_room, next}
+use Rattle.trace_records.specs.Whole.{Behind, Ends}
+use Rattle.trace_records.specs.declared.front.Sizes.{Sizes}
+use Rattle.trace_records.specs.declared.record.Entry.{Entry}
+use Rattle.trace_records.specs.declared.record.Beside.{Beside}
+use Rattle.trace_records.specs.declared.record.Ring as new
+use Rattle.trace_records.specs.declared.record.Record.{Record}
+use Rattle.trace_records.specs.declared.record.Record.TheVariants.{Enter, Fill, RingStarts, RingEnds}
+use Rattle.trace_records.specs.declared.start.Descriptor.{Descriptor}
+use Rattle.trace_records.specs.declared.start.Start.{Start}
+use Rattle.trace_records.specs.declared.trace.Trace.{Trace}
+use Rattle.recording.specs.declared.recording.Ring.{Ring}
+use Rattle.recording.specs.Growing.{Grown, submitted, filling_bytes, new_ring, with_end, with_record, with_records, no_records, of_records}
+use Rattle.recording.specs.Limits.{places_limit, table_limit, buffers_limit}
+use Rattle.recording.specs.Spelled.{IsSpelled}
+use Rattle.recording.specs.Steps.{places}
+use Rattle.recording.specs.Actions.{Step, Action, submit, fill as fills, register}
+use Rattle.recording.proofs.StartFacts.{DescriptorFits, StartFits, start_fits}
+
+-- ---- entries
+
+-- The bytes that an entry speaks of fit it.
+abbrev pub EntryFits : Entry → Type 0
+EntryFits e = is_side_of e.sqe (meant e.beside) ≡ true
+
+stored_fits : (begin : ℕ) (e : Sqe) (y : Beside) → Own AnyText (stored begin e) y → is_side_of e (meant y) ≡ true
+unfolding stored
+stored_fits begin e y o =
+    let len = apart keeps_any (at_place o) in
+    let bytes = apart keeps_any (at_test (at_place len.after)) in
+    subst (λ (b : Beside). is_side_of e (meant b) ≡ true) (sym (at_done (at_test bytes.after)).1) (test_passed bytes.after)
+
+zeros_fit : (e : Sqe) (y : Beside) → Own AnyText (zeros e) y → is_side_of e (meant y) ≡ true
+unfolding zeros
+zeros_fit e y o =
+    let len = apart keeps_any (at_place o) in
+    let lengths = apart keeps_any len.after in
+    subst (λ (b : Beside). is_side_of e (meant b) ≡ true) (sym (at_done (at_test lengths.after)).1) (test_passed lengths.after)
+
+entry_fits : (begin : ℕ) (e : Entry) → Own AnyText (entry begin) e → EntryFits e
+unfolding entry
+entry_fits begin e o =
+    let bytes = apart keeps_any o in
+    let form = apart keeps_any (at_place bytes.after) in
+    let beside = apart keeps_any (at_test form.after) in
+    let sqe = entry_of bytes.x in
+    let fits : is_side_of sqe (meant beside.x) ≡ true = elim (at_choice beside.own) [
+      | inl a ↦ stored_fits begin sqe beside.x a.1
+      | inr b ↦ zeros_fit sqe beside.x b.1
+    ] in
+    subst EntryFits (sym (at_done beside.after).1) fits
+
+-- ---- records
+
+-- A ring with this number is there.
+there : (rings : List (Option Sizes)) (n : ℕ) (z : Sizes) → ring_at rings n ≡ Some z → n < length rings
+there rings n z e = elim (slice_get_cases rings n).1 [
+  | inl h ↦ h.1
+  | inr h ↦ absurd (none-some z (rw (h.1, ring_at) at e))
+]
+
+ring_is_there : (f : Front) (n : ℕ) → Own AnyText (ring_there f) n → n < length f.rings
+ring_is_there f n o =
+    let read = apart keeps_any (at_place o) in
+    let known = read.after in
+    subst (λ m. m < length f.rings) (sym (at_done (at_known known)).1) (there f.rings read.x known.is.2 known.is.4.1)
+
+-- How much a new ring has at most.
+pub record RingSizes (r : new.Ring) : Type 0 where
+  pub slots : r.slots ≤ table_limit
+  pub buffers : length r.buffers ≤ buffers_limit
+
+ring_sizes : (s : Start) (f : Front) (r : new.Ring) → Own AnyText (ring s f) r → RingSizes r
+unfolding ring
+ring_sizes s f r o =
+    let queue = apart keeps_any o in
+    let slots = apart keeps_any queue.after in
+    let count = apart keeps_any slots.after in
+    let full = apart keeps_any count.after in
+    let many = apart keeps_any full.after in
+    let buffers = apart keeps_any many.after in
+    let made : RingSizes (record { queue = queue.x; slots = slots.x; full = full.x; buffers = buffers.x }) = record {
+      slots = within_limit keeps_any w32 1048576 slots.x slots.own;
+      buffers = omega (arith, within_limit keeps_any w16 16384 many.x many.own, length-several buffer many.x buffers.x keeps_any buffers.own);
+    } in
+    subst RingSizes (sym (at_done buffers.after).1) made
+
+-- What the format asks of a record, by the rings and places before it.
+abbrev pub RecordFits : Front → Record → Type 0
+RecordFits f (Enter ring entries) = (ring < length f.rings) × All EntryFits entries × (f.places + length entries ≤ places_limit)
+RecordFits f (Fill ring buffer offset filling) = (ring < length f.rings) × (f.places < places_limit)
+RecordFits f (RingStarts ring) = RingSizes ring × (length f.rings < table_limit) × (f.places < places_limit)
+RecordFits f (RingEnds ring) = Unit {0}
+
+enter_fits : (f : Front) (begin : ℕ) (r : Record) → Own AnyText (enter f begin) r → RecordFits f r
+unfolding enter
+enter_fits f begin r o =
+    let ring = apart keeps_any o in
+    let count = apart keeps_any (at_place ring.after) in
+    let entries = apart keeps_any (at_test count.after) in
+    let room : f.places + count.x ≤ places_limit = leb-true _ _ (test_passed count.after) in
+    let many = length-several (λ _. entry begin) count.x entries.x keeps_any entries.own in
+    let within : f.places + length entries.x ≤ places_limit = omega (arith, many, room) in
+    let all = each EntryFits (λ _. entry begin) keeps_any (λ _. entry_fits begin) count.x entries.x entries.own in
+    subst (RecordFits f) (sym (at_done entries.after).1) (ring_is_there f ring.x ring.own, all, within)
+
+filled_fits : (f : Front) (n b len : ℕ) (r : Record) → n < length f.rings → f.places < places_limit → Own AnyText (filled n b len) r → RecordFits f r
+unfolding filled
+filled_fits f n b len r lt room o =
+    let form = apart keeps_any o in
+    let offset = apart keeps_any (at_place form.after) in
+    let many = apart keeps_any offset.after in
+    let bytes = apart keeps_any (at_test many.after) in
+    subst (RecordFits f) (sym (at_done bytes.after).1) (lt, room)
+
+fill_fits : (f : Front) (r : Record) → f.places < places_limit → Own AnyText (fill f) r → RecordFits f r
+unfolding fill
+fill_fits f r room o =
+    let ring = apart keeps_any o in
+    let buffer = apart keeps_any (at_place ring.after) in
+    filled_fits f ring.x buffer.x _ r (ring_is_there f ring.x ring.own) room (at_known buffer.after)
+
+ring_starts_fits : (s : Start) (f : Front) (r : Record) → length f.rings < table_limit → f.places < places_limit → Own AnyText (ring_starts s f) r → RecordFits f r
+ring_starts_fits s f r few room o =
+    let ring = apart keeps_any o in
+    subst (RecordFits f) (sym (at_done ring.after).1) (ring_sizes s f ring.x ring.own, few, room)
+
+ring_ends_fits : (f : Front) (r : Record) → Own AnyText (ring_ends f) r → RecordFits f r
+ring_ends_fits f r o =
+    let n = apart keeps_any o in
+    subst (RecordFits f) (sym (at_done n.after).1) tt
+
+-- a fill and a ring have room for a place, and a ring for a ring
+fill_room : (f : Front) (kind : ℕ) → (kind == 2) ≡ true → has_room f kind ≡ true → f.places < places_limit
+fill_room f kind is room = grind (arith, nat_tests)
+
+ring_room : (f : Front) (kind : ℕ) → (kind == 5) ≡ true → has_room f kind ≡ true → (f.places < places_limit) × (length f.rings < table_limit)
+ring_room f kind is room = (grind (arith, nat_tests), grind (arith, nat_tests))
+
+body_fits : (s : Start) (f : Front) (begin kind : ℕ) (r : Record) → has_room f kind ≡ true → Own AnyText (body s f begin kind) r → RecordFits f r
+body_fits s f begin kind r room o = elim (at_choice o) [
+  | inl a ↦ enter_fits f begin r a.1
+  | inr b ↦ elim (at_choice b.1) [
+    | inl c ↦ fill_fits f r (fill_room f kind c.0 room) c.1
+    | inr d ↦ elim (at_choice d.1) [
+      | inl e ↦ let rooms = ring_room f kind e.0 room in ring_starts_fits s f r rooms.1 rooms.0 e.1
+      | inr e ↦ ring_ends_fits f r e.1
+    ]
+  ]
+]
+
+pub record_fits : (s : Start) (f : Front) (r : Record) → Own AnyText (next s f) (Some r) → RecordFits f r
+unfolding next
+record_fits s f r o =
+    let kind = apart keeps_any (at_place o) in
+    let tested = at_test kind.after in
+    elim (at_choice (at_test tested)) [
+      | inl a ↦ absurd (none-some r (sym (at_done a.1).1))
+      | inr b ↦
+          let made = apart keeps_any b.1 in
+          let same : r ≡ made.x = same_Some r made.x (at_done made.after).1 in
+          subst (RecordFits f) (sym same) (body_fits s f _ kind.x made.x (test_passed tested) made.own)
+    ]
+
+-- ---- rings and steps
+
+-- A ring whose slots are empty, with no more of each than its limit.
+pub record RingFits (r : Ring) : Type 0 where
+  pub empty : r.slots ≡ []
+  pub spare : r.spare ≤ table_limit
+  pub buffers : length r.buffers ≤ buffers_limit
+
+-- The bytes beside an entry that is submitted fit it.
+abbrev pub ActionFits : Action → Type 0
+ActionFits (submit e) = is_side_of e.sqe e.side ≡ true
+ActionFits (fills buffer offset bytes) = Unit {0}
+ActionFits (register slots) = Unit {0}
+
+-- So does a step, and its ring is one of so many.
+pub record StepFits (rings : ℕ) (s : Step) : Type 0 where
+  pub in_rings : s.ring < rings
+  pub action : ActionFits s.action
+
+-- The rings and steps so far are those that the front counts, within their limits.
+pub record GrownFits (f : Front) (g : Grown) : Type 0 where
+  pub rings_are : length f.rings ≡ length g.rings
+  pub places_are : f.places ≡ length g.steps
+  pub few_rings : length g.rings ≤ table_limit
+  pub few_steps : length g.steps ≤ places_limit
+  pub rings : All RingFits g.rings
+  pub steps : All (StepFits (length g.rings)) g.steps
+
+pub none_fit : GrownFits no_front no_records
+none_fit = record { rings_are = refl; places_are = refl; few_rings = omega arith; few_steps = omega arith; rings = All-nil RingFits; steps = All-nil (StepFits 0) }
+
+-- steps on one of so many rings are on one of more
+more_rings : (n m : ℕ) (steps : List Step) → n ≤ m → All (StepFits n) steps → All (StepFits m) steps
+more_rings n m steps le all = All-weaker (StepFits n) (StepFits m) (λ s h. record { in_rings = omega (arith, h.in_rings, le); action = h.action }) steps all
+
+-- the step that submits an entry
+abbrev step_of : ℕ → ℕ → Submitted → Step
+step_of ring from e = record { ring = ring; from_record = from; action = submit e }
+
+-- each entry of a record is a step that fits
+entries_fit : (n ring from : ℕ) (entries : List Entry) → ring < n → All EntryFits entries → All (StepFits n) (map (step_of ring from) (map submitted entries))
+entries_fit n ring from entries lt all =
+    let one : (e : Entry) → EntryFits e → StepFits n (step_of ring from (submitted e)) = λ e h. record { in_rings = lt; action = h } in
+    All-map (StepFits n) (step_of ring from) (map submitted entries)
+    (All-map (λ e. StepFits n (step_of ring from e)) submitted entries (All-weaker EntryFits (λ e. StepFits n (step_of ring from (submitted e))) one entries all))
+
+-- a ring that ends still fits, and stays in its place
+end_fits : (rings : List Ring) (n : ℕ) → All RingFits rings → All RingFits (with_end rings n)
+end_fits rings n all = elim (slice_get_cases rings n).1 [
+  | inl h ↦
+      let one : RingFits h.0 = subst RingFits h.3 (All-get_or RingFits rings n h.0 h.1 all) in
+      rw (h.2, with_end) (All-set RingFits rings n (record h.0 { ended = true }) (record { empty = one.empty; spare = one.spare; buffers = one.buffers }) all)
+  | inr h ↦ rw (h.1, with_end) all
+]
+
+length-with_end : (rings : List Ring) (n : ℕ) → length (with_end rings n) ≡ length rings
+length-with_end rings n = elim (slice_get_cases rings n).1 [
+  | inl h ↦ rw (h.2, with_end) (length-set rings n (record h.0 { ended = true }))
+  | inr h ↦ rw (h.1, with_end) refl
+]
+
+-- one record more
+pub one_fits : (f : Front) (g : Grown) (r : Record) → RecordFits f r → GrownFits f g → GrownFits (after f r) (with_record g r)
+one_fits f g (Enter n entries) h fits =
+    let steps : List Step = map (step_of n (length g.steps)) (map submitted entries) in
+    let many : length (g.steps ++ steps) ≡ length g.steps + length entries = omega (arith, length-append g.steps steps, length-map (map submitted entries) (step_of n (length g.steps)), length-map entries submitted) in
+    record {
+      rings_are = fits.rings_are;
+      places_are = omega (arith, many, fits.places_are);
+      few_rings = fits.few_rings;
+      few_steps = omega (arith, many, fits.places_are, h.2);
+      rings = fits.rings;
+      steps = All-append (StepFits (length g.rings)) g.steps steps fits.steps (entries_fit (length g.rings) n (length g.steps) entries (omega (arith, h.0, fits.rings_are)) h.1);
+    }
+one_fits f g (Fill n b offset made) h fits =
+    let step : Step = record { ring = n; from_record = length g.steps; action = fills b offset (filling_bytes made) } in
+    let many : length (g.steps ++ step ∷ []) ≡ length g.steps + 1 = length-append g.steps (step ∷ []) in
+    record {
+      rings_are = fits.rings_are;
+      places_are = omega (arith, many, fits.places_are);
+      few_rings = fits.few_rings;
+      few_steps = omega (arith, many, fits.places_are, h.1);
+      rings = fits.rings;
+      steps = All-push (StepFits (length g.rings)) g.steps step fits.steps (record { in_rings = omega (arith, h.0, fits.rings_are); action = tt });
+    }
+one_fits f g (RingStarts made) h fits =
+    let one : Ring = new_ring g.rings made in
+    let step : Step = record { ring = length g.rings; from_record = length g.steps; action = register made.full } in
+    let rings : length (g.rings ++ one ∷ []) ≡ length g.rings + 1 = length-append g.rings (one ∷ []) in
+    let many : length (g.steps ++ step ∷ []) ≡ length g.steps + 1 = length-append g.steps (step ∷ []) in
+    let before = more_rings (length g.rings) (length (g.rings ++ one ∷ [])) g.steps (omega (arith, rings)) fits.steps in
+    record {
+      rings_are = omega (arith, rings, fits.rings_are, length-append f.rings (Some (sizes_of made) ∷ []));
+      places_are = omega (arith, many, fits.places_are);
+      few_rings = omega (arith, rings, fits.rings_are, h.1);
+      few_steps = omega (arith, many, fits.places_are, h.2);
+      rings = All-push RingFits g.rings one fits.rings (record { empty = refl; spare = h.0.slots; buffers = h.0.buffers });
+      steps = All-push (StepFits (length (g.rings ++ one ∷ []))) g.steps step before (record { in_rings = omega (arith, rings); action = tt });
+    }
+one_fits f g (RingEnds n) h fits =
+    let same = length-with_end g.rings n in
+    record {
+      rings_are = omega (arith, fits.rings_are, same, length-set f.rings n None);
+      places_are = omega (arith, fits.places_are);
+      few_rings = omega (arith, fits.few_rings, same);
+      few_steps = fits.few_steps;
+      rings = end_fits g.rings n fits.rings;
+      steps = more_rings (length g.rings) (length (with_end g.rings n)) g.steps (omega (arith, same)) fits.steps;
+    }
+
+-- ---- all records
+
+-- The records so far fit, and each of those that follow fits what is before it.
+abbrev pub AllFit : Front → Grown → List Record → Type 0
+AllFit f g [] = GrownFits f g
+AllFit f g (r ∷ rs) = GrownFits f g × RecordFits f r × AllFit (after f r) (with_record g r) rs
+
+all_fit : (s : Start) (f : Front) (g : Grown) (place : ℕ) (text : List ℕ) (rs : List Record) → Behind (Ends s) s f place text rs → GrownFits f g → AllFit f g rs
+all_fit s f g place text [] b fits = fits
+all_fit s f g place text (r ∷ rs) b fits =
+    let one = record_fits s f r (record { place = place; text = b.0; has = tt; is = b.3 }) in
+    (fits, one, all_fit s (after f r) (with_record g r) (place + length b.0) b.1 rs b.4 (one_fits f g r one fits))
+
+pub records_fit : (t : Trace) → IsSpelled t → AllFit no_front no_records t.records
+records_fit t h = all_fit t.start no_front no_records (length h.1.0) h.1.1 t.records h.1.4 none_fit
+
+-- What all records give fits.
+last_fits : (f : Front) (g : Grown) (rs : List Record) → AllFit f g rs → (end : Front) × GrownFits end (with_records g rs)
+last_fits f g [] fits = (f, fits)
+last_fits f g (r ∷ rs) fits = last_fits (after f r) (with_record g r) rs fits.2
+
+pub grown_fits : (t : Trace) → IsSpelled t → (end : Front) × GrownFits end (with_records no_records t.records)
+grown_fits t h = last_fits no_front no_records t.records (records_fit t h)
+
+-- The start of a spelled trace fits.
+pub spelled_start : (t : Trace) → IsSpelled t → StartFits t.start
+spelled_start t h = start_fits t.start (record { place = 0; text = h.1.0; has = tt; is = h.1.3 })
+
+pub places_within : (t : Trace) → IsSpelled t → places (of_records t) ≤ places_limit
+places_within t h = (grown_fits t h).1.few_steps
+
+pub rings_within : (t : Trace) → IsSpelled t → length (of_records t).rings ≤ table_limit
+rings_within t h = (grown_fits t h).1.few_rings
+
+pub descriptors_within : (t : Trace) → IsSpelled t → All (λ (d : Descriptor). d.description + 1 < 2 ^ 32) t.start.descriptors
+descriptors_within t h =
+    let start = spelled_start t h in
+    All-weaker (DescriptorFits t.start) (λ (d : Descriptor). d.description + 1 < 2 ^ 32) (λ d fits. omega (arith, fits.description, start.descriptions)) t.start.descriptors start.descriptors
+
+-- ---- what is before a record
+
+-- There is room for one ring more, and for the places of a record.
+pub record HasRoom (g : Grown) (r : Record) : Type 0 where
+  pub rings : length g.rings + 1 < 2 ^ 32
+  pub places : length g.steps + places_of r ≤ places_limit
+
+places_fit : (f : Front) (r : Record) → RecordFits f r → f.places ≤ places_limit → f.places + places_of r ≤ places_limit
+places_fit f (Enter ring entries) h le = h.2
+places_fit f (Fill ring buffer offset filling) h le = omega (arith, h.1)
+places_fit f (RingStarts ring) h le = omega (arith, h.2)
+places_fit f (RingEnds ring) h le = omega (arith, le)
+
+room_behind : (f : Front) (g : Grown) (earlier : List Record) (r : Record) (later : List Record) → AllFit f g (earlier ++ r ∷ later) → HasRoom (with_records g earlier) r
+room_behind f g [] r later fits = record {
+  rings = omega (arith, fits.0.few_rings);
+  places = omega (arith, fits.0.places_are, places_fit f r fits.1 (omega (arith, fits.0.places_are, fits.0.few_steps)));
+}
+room_behind f g (x ∷ earlier) r later fits = room_behind (after f x) (with_record g x) earlier r later fits.2
+
+-- Before each record of a spelled trace there is room for it.
+pub has_room_for : (t : Trace) → IsSpelled t → (earlier : List Record) (r : Record) (later : List Record) → t.records ≡ earlier ++ r ∷ later → HasRoom (with_records no_records earlier) r
+has_room_for t h earlier r later e = room_behind no_front no_records earlier r later (subst (AllFit no_front no_records) e (records_fit t h))
+
+-- all records but the last, and then that
+pub with_records-push : (g : Grown) (rs : List Record) (r : Record) → with_records g (rs ++ r ∷ []) ≡ with_record (with_records g rs) r
+with_records-push g [] r = refl
+with_records-push g (x ∷ rs) r = with_records-push (with_record g x) rs r

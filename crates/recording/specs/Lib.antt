@@ -1,0 +1,10 @@
+pub mod Accepted
+pub mod Actions
+pub mod Growing
+pub mod Kept
+pub mod Limits
+pub mod Records
+pub mod Rings
+pub mod Spelled
+pub mod Steps
+pub mod Whole

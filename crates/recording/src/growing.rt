@@ -1,0 +1,202 @@
+//! Recordings of traces of version 3.
+ghost use Rattle.std.specs.Prelude.{◌≡◌, ◌+◌, ◌<◌, ◌≤◌, ◌^◌, [], ◌∷◌, ◌++◌, length, map, All, IfOk, OnOk};
+ghost use Rattle.recording.specs.Growing as meant;
+ghost use Rattle.recording.specs.Spelled.{IsSpelled};
+ghost use Rattle.recording.specs.Limits.{places_limit};
+ghost use Rattle.recording.specs.declared.record.Record.TheVariants as kept;
+ghost use Rattle.trace_records.specs.Front.{places_of};
+ghost use Rattle.trace_records.specs.declared.start.Descriptor as three;
+
+use crate::kept::Grown;
+use crate::record::Record;
+use crate::recording::{Recording, Ring};
+use crate::steps::{Kept, Steps};
+use std::alloc::{AllocError, Global};
+use trace_format::{Blob, Entries, EntriesBuilder, Series, Version};
+use trace_records::{Beside, Descriptor, Entry, Filling, Trace};
+
+/// Bytes, and zeros behind them, so many in all.
+fn with_zeros(alloc: Global, front: &[u8], len: usize) -> Result<Vec<u8>, AllocError>
+    ensures { IfOk result (λ v. v.items ≡ meant.with_zeros front.now len) }
+{
+    let len = len.max(front.len());
+    let mut bytes = Vec::with_capacity(alloc, len)?;
+    bytes.extend_from_slice(front)?;
+    bytes.resize(len, 0)?;
+    Ok(bytes)
+}
+
+/// The bytes beside an entry: those that are stored, or its lengths and zeros.
+fn push_entry(alloc: Global, entries: &mut EntriesBuilder, entry: &Entry) -> Result<(), AllocError>
+    ensures { OnOk result (entries.new ≡ entries.old ++ meant.submitted entry.now ∷ []) }
+{
+    match &entry.beside {
+        Beside::Stored { bytes } => entries.push(&entry.sqe, bytes.as_slice()),
+        Beside::Zeros { lengths, len } => {
+            let bytes = with_zeros(alloc, lengths.as_slice(), *len as usize)?;
+            entries.push(&entry.sqe, bytes.as_slice())
+        }
+    }
+}
+
+/// The entries of a record.
+fn entries_of(alloc: Global, entries: &[Entry]) -> Result<Entries, AllocError>
+    ensures { IfOk result (λ e. e ≡ map meant.submitted entries.now) }
+{
+    let mut made = EntriesBuilder::new(alloc);
+    for entry in entries {
+        push_entry(alloc, &mut made, entry)?;
+    }
+    made.build(alloc)
+}
+
+/// The bytes that are put into a buffer.
+fn bytes_of(alloc: Global, filling: Filling) -> Result<Blob, AllocError>
+    ensures { IfOk result (λ b. b ≡ meant.filling_bytes filling) }
+{
+    match filling {
+        Filling::Stored { bytes } => Ok(bytes),
+        Filling::Zeros { len } => Blob::from_vec(alloc, with_zeros(alloc, &[], len as usize)?),
+    }
+}
+
+/// The table of ordinary descriptors.
+fn table_of(alloc: Global, size: u32, full: &[Descriptor]) -> Result<Vec<u32>, AllocError>
+    requires { All (λ (d : three.Descriptor). d.description + 1 < 2 ^ 32) full.now }
+    ensures { IfOk result (λ v. v.items ≡ meant.table_of size full.now) }
+{
+    let mut table = Vec::with_capacity(alloc, size as usize)?;
+    table.resize(size as usize, 0)?;
+    for descriptor in full {
+        if let Some(entry) = table.get_mut(descriptor.number as usize) {
+            *entry = descriptor.description + 1;
+        }
+    }
+    Ok(table)
+}
+
+/// The ring whose queue a new ring submits to, which continues that of an earlier one or is its
+/// own.
+fn queue_behind(rings: &[Ring], queue: Option<u32>) -> u32
+    requires { length rings.now < 2 ^ 32 }
+    ensures { result ≡ meant.queue_behind rings.now queue }
+{
+    let own = rings.len() as u32;
+    match queue {
+        None => own,
+        Some(earlier) => match rings.get(earlier as usize) {
+            None => own,
+            Some(there) => there.queue,
+        },
+    }
+}
+
+/// Adds a new ring, whose slots are empty until its step. That step is the result.
+fn with_ring(
+    alloc: Global,
+    rings: &mut Vec<Ring>,
+    ring: trace_records::Ring,
+) -> Result<Record, AllocError>
+    requires { length rings.old.items < 2 ^ 32 }
+    ensures ring { OnOk result
+        (rings.new.items ≡ rings.old.items ++ meant.new_ring rings.old.items ring ∷ []) }
+    ensures step { IfOk result (λ r. r ≡ kept.Register (length rings.old.items) ring.full) }
+{
+    let number = rings.len() as u32;
+    let queue = queue_behind(rings, ring.queue);
+    rings.push(Ring {
+        slots: Series::from_vec(Vec::new(alloc)),
+        spare: ring.slots,
+        buffers: ring.buffers,
+        queue,
+        ended: false,
+    })?;
+    Ok(Record::Register {
+        ring: number,
+        slots: ring.full,
+    })
+}
+
+/// The rings and the steps of the records so far.
+#[derive(Drop)]
+struct Growing {
+    rings: Vec<Ring>,
+    steps: Grown,
+}
+
+/// One record more.
+fn with_record(
+    alloc: Global,
+    growing: Growing,
+    next: trace_records::Record,
+) -> Result<Growing, AllocError>
+    requires rings { length growing.rings.items + 1 < 2 ^ 32 }
+    requires places { length growing.steps + places_of next ≤ places_limit }
+    ensures { IfOk result (λ g. meant.grown g ≡ meant.with_record (meant.grown growing) next) }
+{
+    let mut rings = growing.rings;
+    let steps = growing.steps;
+    let steps = match next {
+        trace_records::Record::Enter { ring, entries } => {
+            let entries = entries_of(alloc, entries.as_slice())?;
+            steps.with(Record::Enter { ring, entries })?
+        }
+        trace_records::Record::Fill {
+            ring,
+            buffer,
+            offset,
+            filling,
+        } => {
+            let bytes = bytes_of(alloc, filling)?;
+            steps.with(Record::Fill {
+                ring,
+                buffer,
+                offset,
+                bytes,
+            })?
+        }
+        trace_records::Record::RingStarts { ring } => {
+            steps.with(with_ring(alloc, &mut rings, ring)?)?
+        }
+        trace_records::Record::RingEnds { ring } => {
+            if let Some(there) = rings.get_mut(ring as usize) {
+                there.ended = true;
+            }
+            steps
+        }
+    };
+    Ok(Growing { rings, steps })
+}
+
+impl Recording {
+    /// The recording of a trace of version 3.
+    ///
+    /// # Errors
+    ///
+    /// Out of memory.
+    pub fn of_records(alloc: Global, trace: Trace) -> Result<Self, AllocError>
+        requires { IsSpelled trace }
+        ensures { IfOk result (λ r. r ≡ meant.of_records trace) }
+    {
+        let Trace { start, records } = trace;
+        let descriptors = table_of(alloc, start.table_size, start.descriptors.as_slice())?;
+        let mut growing = Growing {
+            rings: Vec::new(alloc),
+            steps: Grown::new(alloc),
+        };
+        for next in records.into_vec() {
+            growing = with_record(alloc, growing, next)?;
+        }
+        Ok(Recording {
+            version: Version::Two,
+            in_place_order: true,
+            items: start.items,
+            descriptions: start.descriptions,
+            descriptors: Series::from_vec(descriptors),
+            rings: Series::from_vec(growing.rings),
+            steps: Steps {
+                kept: Kept::Grown(growing.steps),
+            },
+        })
+    }
+}

@@ -1,0 +1,138 @@
+//! Records that came one after another, with the way from a place to its step.
+ghost use Rattle.std.specs.Prelude.{◌≡◌, ◌+◌, ◌<◌, ◌≤◌, [], ◌∷◌, ◌++◌, length, replicate, Some, IfOk, OnOk};
+ghost use Rattle.std.specs.List.{slice_get};
+ghost use Rattle.recording.specs.Limits.{places_limit};
+ghost use Rattle.recording.specs.Records.{step_count, record_steps};
+ghost use Rattle.recording.specs.Steps.{step_meant};
+
+use crate::record::{Record, step_count};
+use crate::steps::{Action, Step};
+use std::alloc::{AllocError, Global};
+use std::marker::Model;
+
+/// Records in order. A step is found by its place in constant time: by the index of its record,
+/// and by the place of that record's first step. Each record has a step.
+#[derive(Drop)]
+pub struct Grown {
+    records: Vec<Record>,
+    /// Of each place the index of its record.
+    indexes: Vec<u32>,
+    /// Of each record the place of its first step.
+    firsts: Vec<u32>,
+}
+
+impl Model for Grown {
+    ghost use Rattle.std.specs.Prelude.{◌≡◌, ◌≤◌, List, length};
+    ghost use Rattle.recording.specs.Actions.{Step};
+
+    ghost Value = { List Step };
+
+    ghost use Rattle.recording.specs.Limits.{places_limit};
+    ghost use Rattle.recording.specs.Records.{steps_from, indexes_from, firsts_from};
+
+    ghost view = { λ g. steps_from 0 g.records.items };
+
+    ghost invariant = { λ g. (g.indexes.items ≡ indexes_from 0 g.records.items)
+        × (g.firsts.items ≡ firsts_from 0 g.records.items)
+        × (length g.indexes.items ≤ places_limit)
+        × (length g.records.items ≤ length g.indexes.items) };
+}
+
+/// Adds a record of so many steps: the place of its first step, and its index for each of them.
+fn add_record(
+    indexes: &mut Vec<u32>,
+    firsts: &mut Vec<u32>,
+    index: u32,
+    count: usize,
+) -> Result<(), AllocError>
+    requires { length indexes.old.items + count ≤ places_limit }
+    ensures indexes { OnOk result
+        (indexes.new.items ≡ indexes.old.items ++ replicate count index) }
+    ensures firsts { OnOk result
+        (firsts.new.items ≡ firsts.old.items ++ length indexes.old.items ∷ []) }
+{
+    let first = indexes.len();
+    firsts.push(first as u32)?;
+    indexes.resize(first + count, index)
+}
+
+impl Grown {
+    /// No records. It takes no memory.
+    pub(crate) fn new(alloc: Global) -> Self
+        ensures { result ≡ [] }
+    {
+        Grown {
+            records: Vec::new(alloc),
+            indexes: Vec::new(alloc),
+            firsts: Vec::new(alloc),
+        }
+    }
+
+    /// The same with a record more, behind the others.
+    ///
+    /// # Errors
+    ///
+    /// Out of memory.
+    pub(crate) fn with(self, last: Record) -> Result<Self, AllocError>
+        requires { length self + step_count last ≤ places_limit }
+        ensures { IfOk result (λ g. g ≡ self ++ record_steps (length self) last) }
+    {
+        let count = step_count(&last);
+        if count == 0 {
+            return Ok(self);
+        }
+        let mut records = self.records;
+        let mut indexes = self.indexes;
+        let mut firsts = self.firsts;
+        add_record(&mut indexes, &mut firsts, records.len() as u32, count)?;
+        records.push(last)?;
+        Ok(Grown {
+            records,
+            indexes,
+            firsts,
+        })
+    }
+
+    /// How many steps there are.
+    pub(crate) fn places(&self) -> u32
+        ensures places { result ≡ length self.now }
+        ensures limit { result ≤ places_limit }
+    {
+        self.indexes.len() as u32
+    }
+
+    /// The step at a place, in constant time.
+    pub(crate) fn step(&self, place: u32) -> Step<'_>
+        requires { place < length self.now }
+        ensures { slice_get self.now place ≡ Some (step_meant result) }
+    {
+        let index = self.indexes[place as usize];
+        let first = self.firsts[index as usize];
+        match &self.records[index as usize] {
+            Record::Enter { ring, entries } => Step {
+                ring: *ring,
+                record_number: first,
+                action: Action::Submit(entries.at((place - first) as usize)),
+            },
+            Record::Fill {
+                ring,
+                buffer,
+                offset,
+                bytes,
+            } => Step {
+                ring: *ring,
+                record_number: first,
+                action: Action::Fill {
+                    buffer: *buffer,
+                    offset: *offset,
+                    bytes,
+                },
+            },
+            Record::Register { ring, slots } => Step {
+                ring: *ring,
+                record_number: first,
+                action: Action::Register(slots),
+            },
+        }
+    }
+}
