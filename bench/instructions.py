@@ -1,17 +1,16 @@
 """How many instructions programs take for an entry, by callgrind of valgrind(1): unlike times, they hardly change from run to run."""
 import os
-import re
-import shutil
-import subprocess
 import sys
 from typing import List, NamedTuple
 
+sys.path.append(os.path.join(os.path.dirname(os.path.dirname(os.path.abspath(__file__))), "tests"))
+
+import callgrind
 from answers import same
 from costs import KINDS, made_by, written
 
 # Each kind is run with so many entries, and with twice as many; `big` has a 250th part, `files` this many.
 ENTRIES, FILES = 20_000, 96
-COUNT = ["valgrind", "--tool=callgrind", "--callgrind-out-file=" + os.devnull]
 
 
 class Counted(NamedTuple):
@@ -23,20 +22,19 @@ class Counted(NamedTuple):
 
 def lacking() -> bool:
     """Says where valgrind lacks."""
-    if shutil.which(COUNT[0]):
-        return False
-    print("skipped: instructions are counted by valgrind(1), which is not there", file=sys.stderr)
-    return True
+    told = callgrind.lacking()
+    if told:
+        print("skipped: " + told, file=sys.stderr)
+    return bool(told)
 
 
 def instructions(words: List[str], trace: str) -> int:
     """Those of one run, in user space."""
     with open(trace, "rb") as given:
-        ran = subprocess.run([*COUNT, *words], stdin=given, stdout=subprocess.DEVNULL, stderr=subprocess.PIPE, check=False)
-    found = re.search(rb"Collected : (\d+)", ran.stderr)
-    if ran.returncode or not found:
-        sys.exit("{} ended with status {} under valgrind".format(" ".join(words), ran.returncode))
-    return int(found.group(1))
+        count = callgrind.instructions(words, given)
+    if count is None:
+        sys.exit("{} failed under valgrind".format(" ".join(words)))
+    return count
 
 
 def counted(commands: List[List[str]], kind: str, times: int, entries: int, folder: str) -> Counted:

@@ -1,12 +1,11 @@
 """Small inputs of large cost: what each may take, beside another run of the same program or beside its report."""
-import math
 import os
 import subprocess
 import sys
 from functools import partial
-from typing import List, Sequence
+from typing import List, Optional, Sequence
 
-from harness import TOP, Answer, Job, Outcome, Program, difference, shown
+from harness import TOP, Answer, Job, Outcome, Program, Timed, difference, shown
 from traces import AT_FDCWD, FIXED_FILE, READ, READ_FIXED, RENAMEAT, WRITE, WRITE_FIXED
 from traces import description, directory, enter, entry, file, fill, head, ring, two_paths
 
@@ -48,22 +47,20 @@ def doubled(pattern: bytes) -> bytes:
     return head(1, 1, 1, 2) + file(b"/f") + description(1) + ring([1], [(PAGE, BUFFER)]) + fill(0, 0, 0, pattern) + enter(0, entries)
 
 
-def time_of_sum(program: Program) -> float:
-    """The processor time of the sum of 64 MiB, beside which others are measured."""
+def outlasts_sum(program: Program, words: Sequence[str], trace: bytes, most: float) -> Optional[str]:
+    """How long a run takes beside the sum of 64 MiB, where that is too long. A machine that hashes by instructions of its own takes fewer."""
     alone = head(rings=1, records=1) + ring([], [(PAGE, HASHED)]) + fill(0, 0, 0, b"x")
-    return min(program.seconds(["serial", "--sums"], alone) for _ in range(3))
+    return program.outlasts(Timed(words, trace), Timed(["serial", "--sums"], alone), most, counts=False)
 
 
 def doubled_buffers(program: Program) -> List[Outcome]:
     """What a doubled buffer leaves is compared in a time that goes with its pages, whether its first page lies in the trace or apart."""
-    outcomes, hashed = [], time_of_sum(program)
+    outcomes = []
     for name, pattern in (("a page of the trace", bytes(range(256)) * 16), ("a few bytes", b"abc")):
         trace = doubled(pattern)
         label = "a buffer doubled from {}, {{}}, by {}".format(name, program.compiler)
         outcomes.append(Outcome(label.format("the answer"), difference(program.run(["compare"], trace), Answer(0, b"equal\n", b""))))
-        took = min(program.seconds(["compare"], trace) for _ in range(3))
-        slow = "{:.2f} seconds, and {:.2f} to hash 64 MiB".format(took, hashed)
-        outcomes.append(Outcome(label.format("the time"), None if took < MOST_DOUBLED * hashed < math.inf else slow))
+        outcomes.append(Outcome(label.format("the time"), outlasts_sum(program, ["compare"], trace, MOST_DOUBLED)))
     return outcomes
 
 
@@ -87,11 +84,9 @@ def deep_trees(program: Program) -> List[Outcome]:
     limit = int(MOST_MEMORY * len(ample.output)) >> 10
     large = difference(program.run(["serial"], visible, shell='ulimit -v {}; exec "$@"'.format(limit)), ample)
     outcomes = [Outcome("a tree made deep by renames, the memory, by {}".format(program.compiler), shown(ample) if ample.status else large)]
-    hashed = time_of_sum(program)
     for name, trace, most in (("printed", visible, MOST_VISIBLE), ("escaped", escaped, MOST_ESCAPED)):
-        took = min(program.seconds(["serial"], trace) for _ in range(3))
-        slow = "{:.2f} seconds, and {:.2f} to hash 64 MiB".format(took, hashed)
-        outcomes.append(Outcome("such a tree with names that are {}, by {}".format(name, program.compiler), None if took < most * hashed < math.inf else slow))
+        told = outlasts_sum(program, ["serial"], trace, most)
+        outcomes.append(Outcome("such a tree with names that are {}, by {}".format(name, program.compiler), told))
     return outcomes
 
 
@@ -101,19 +96,14 @@ def benched(words: str, count: int) -> bytes:
     return subprocess.run([sys.executable, os.path.join(TOP, "bench", script), *given], stdout=subprocess.PIPE, check=True).stdout
 
 
-def least(program: Program, words: Sequence[str], trace: bytes) -> float:
-    return min(program.seconds(words, trace) for _ in range(3))
-
-
 def few_pairs(program: Program, words: str, count: int) -> List[Outcome]:
     """The dependencies of many places that have few each take little more time than their replay, and a time that goes with the places."""
     trace = benched(words, count)
-    took, serial, tenth = least(program, ["depends"], trace), least(program, ["serial"], trace), least(program, ["depends"], benched(words, count // 10))
+    whole, serial, tenth = Timed(["depends"], trace), Timed(["serial"], trace), Timed(["depends"], benched(words, count // 10))
     label = "depends of {}, beside {{}}, by {}".format(words.format(count), program.compiler)
-    slow = "{:.2f} seconds, and {:.2f} for {}"
     return [
-        Outcome(label.format("serial"), None if took < MOST_BESIDE_SERIAL * serial < math.inf else slow.format(took, serial, "serial")),
-        Outcome(label.format("a tenth"), None if took < MOST_OF_TEN * tenth < math.inf else slow.format(took, tenth, "a tenth")),
+        Outcome(label.format("serial"), program.outlasts(whole, serial, MOST_BESIDE_SERIAL)),
+        Outcome(label.format("a tenth"), program.outlasts(whole, tenth, MOST_OF_TEN)),
     ]
 
 
@@ -132,11 +122,10 @@ def nested_reads(program: Program) -> List[Outcome]:
     nested = transfers(2 * NESTED, [entry(READ, FIXED_FILE, offset=it, length=2 * (NESTED - it)) for it in range(NESTED)])
     beside = transfers(2 * NESTED, [entry(READ, FIXED_FILE, offset=2 * it, length=2) for it in range(NESTED)])
     given = program.run(["depends"], nested, shell='ulimit -v {}; exec "$@"'.format(NESTED_MEMORY))
-    one, other = (least(program, ["depends"], it) for it in (nested, beside))
-    slow = "{:.2f} seconds, and {:.2f} for reads side by side".format(one, other)
+    slow = program.outlasts(Timed(["depends"], nested), Timed(["depends"], beside), MOST_NESTED)
     return [
         Outcome("depends of nested reads, the memory, by {}".format(program.compiler), None if without_pairs(NESTED) in given.output else shown(given)),
-        Outcome("depends of nested reads, the time, by {}".format(program.compiler), None if one < MOST_NESTED * other < math.inf else slow),
+        Outcome("depends of nested reads, the time, by {}".format(program.compiler), slow),
     ]
 
 
@@ -153,12 +142,11 @@ def many_pairs(program: Program) -> List[Outcome]:
     fact = b"\npairs %d\nspan 2 to place %d\nparallelism %d.00\n" % (CROSSED * CROSSED, CROSSED, CROSSED)
     limit = int(MOST_MEMORY * len(ample.output)) >> 10
     large = difference(program.run(["depends"], trace, shell='ulimit -v {}; exec "$@"'.format(limit)), ample)
-    one, other = (least(program, ["depends"], it) for it in (trace, crossed(CROSSED // 2)))
-    slow = "{:.2f} seconds, and {:.2f} for half as many".format(one, other)
+    slow = program.outlasts(Timed(["depends"], trace), Timed(["depends"], crossed(CROSSED // 2)), MOST_OF_FOUR)
     return [
         Outcome("depends of reads that each write waits for, by {}".format(program.compiler), None if fact in ample.output else shown(ample)),
         Outcome("the same, the memory, by {}".format(program.compiler), shown(ample) if ample.status else large),
-        Outcome("the same, the time, by {}".format(program.compiler), None if one < MOST_OF_FOUR * other < math.inf else slow),
+        Outcome("the same, the time, by {}".format(program.compiler), slow),
     ]
 
 

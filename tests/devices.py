@@ -8,8 +8,11 @@ from harness import Answer, Input, Job, Outcome, Program, Words, fault, first, i
 from shims import Shim
 
 TRACES = ("read_four_bytes", "open_write_close_chain_then_empty_slot", "fallocate_and_ftruncate_tests", "side_bytes_of_read")
-# Of version 3, for `check`.
+# Of version 3, for the commands that read it as it comes.
 RECORDS = "version_3/rings_of_one_queue"
+BY_RECORDS = (["check"], ["compare"])
+# The first bytes of a trace, which tell its version, are asked for alone.
+HEAD = 12
 MODES = (["serial"], ["serial", "--sums"], ["check"], ["run"], ["compare"], ["rounds"], ["depends"], ["diff"])
 WORDS_ALONE: List[Words] = [["--help"], ["run", "--help"], ["serial", "a", "extra"], ["run", "--workers", "65"], ["serial", b"\xff"]]
 FAILURES = ("fail", "interrupt", "block", "zero")
@@ -35,9 +38,9 @@ def changed(calls: int, is_whole: bool) -> List[int]:
     return sorted({*range(1, calls + 2, STEP), *range(1, min(calls, 3) + 1), *range(max(1, calls - 2), calls + 2)})
 
 
-def allowed(on: int, how: str, at: int, is_byte: bool, calls: int, is_help: bool, wanted: Answer, given: int, ended: Callable[[int], Answer]) -> List[Answer]:
-    """What a run may answer of which the call numbered `at`, of so many, is changed; `given` is the size of the input, and
-    `ended` gives the answer for so many of its bytes."""
+def allowed(on: int, how: str, at: int, is_byte: bool, calls: int, is_help: bool, wanted: Answer, read: List[int], ended: Callable[[int], Answer]) -> List[Answer]:
+    """What a run may answer of which the call numbered `at`, of so many, is changed; `read` tells how many bytes of the input
+    undisturbed calls have given, the last of them all, and `ended` gives the answer for so many of its bytes."""
     if at > calls or how == "short":
         return [wanted]
     moved = at - 1 if is_byte else PIECE * (at - 1) if is_help else 0
@@ -45,8 +48,8 @@ def allowed(on: int, how: str, at: int, is_byte: bool, calls: int, is_help: bool
         return [fault("read")]
     if on == INPUT:
         # the input ends there
-        taken = moved if is_byte else given * (at > 1)
-        return [wanted if taken == given else ended(taken)]
+        taken = moved if is_byte else read[min(at, len(read)) - 1]
+        return [wanted if taken == read[-1] else ended(taken)]
     if on == OUTPUT:
         moved = moved if is_byte or is_help else begins(wanted.output)[at - 1]
         lost = Answer(3, wanted.output[:moved], b"fault: write\n")
@@ -65,6 +68,7 @@ def swept(shim: Shim, program: Program, words: Words, trace: str, on: int, is_by
     """Calls on one descriptor changed in turn, in each way; with is_byte each call moves a byte."""
     file = input_of(words, trace) if trace else None
     given = len(file) if isinstance(file, bytes) else os.path.getsize(file) if file else 0
+    read = [0, given] if words[0] == "diff" else [0, min(HEAD, given), given]
     ended = partial(short, program, words, file)
     wanted = program.run(words, file)
     undisturbed, (calls,) = shim.run(program, words, file, on=str(on), byte=int(is_byte))
@@ -76,9 +80,9 @@ def swept(shim: Shim, program: Program, words: Words, trace: str, on: int, is_by
         for at in changed(calls, is_whole):
             got, _ = shim.run(program, words, file, on=str(on), how=how, at=at, byte=int(is_byte))
             runs += 1
-            answers = allowed(on, how, at, is_byte, calls, "--help" in words, wanted, given, ended)
-            # (a front of a trace that is refused may be refused for the same fault)
-            answers += [wanted] if how == "zero" and on == INPUT and wanted.status == 1 else []
+            answers = allowed(on, how, at, is_byte, calls, "--help" in words, wanted, read, ended)
+            # (a front of a trace that is refused may be refused for the same fault, and behind some bytes of a record more are asked for again)
+            answers += [wanted] if how == "zero" and on == INPUT and (wanted.status == 1 or trace == RECORDS) else []
             if got not in answers:
                 faults.append("{} at call {}: {}".format(how, at, shown(got)))
     what = ("standard input", "standard output", "standard error")[on]
@@ -93,7 +97,7 @@ def jobs(programs: List[Program]) -> List[Job]:
         return [partial(skipped, "failing devices", lacking)]
     whole, *others = programs
     cases = [(whole, words, trace, on) for words in MODES for trace in TRACES for on in (INPUT, OUTPUT, ERRORS)]
-    cases += [(whole, ["check"], RECORDS, on) for on in (INPUT, OUTPUT, ERRORS)]
+    cases += [(whole, words, RECORDS, on) for words in BY_RECORDS for on in (INPUT, OUTPUT, ERRORS)]
     cases += [(other, words, TRACES[0], on) for other in others for words in MODES for on in (INPUT, OUTPUT)]
     cases += [(program, words, "", on) for program in programs for words in WORDS_ALONE for on in (OUTPUT, ERRORS)]
     return [partial(swept, shim, *case, is_byte) for case in cases for is_byte in (False, True)]

@@ -14,7 +14,7 @@ from by_models import MODELS
 from harness import EXAMPLES, TOP, Job, Outcome, Program, first, read, skipped
 
 # These have transcripts (```console), which are run; the README is for a first look, and short.
-RUN = ("README.md", "docs/GUIDE.md", "docs/PLAYING.md", "docs/FINDING.md")
+RUN = ("README.md", "docs/GUIDE.md", "docs/RECORDING.md", "docs/PLAYING.md", "docs/FINDING.md")
 MOST_LINES = {"README.md": 150}
 # In these no sentence outside tables and code is longer.
 PLAIN = (
@@ -47,7 +47,7 @@ PLAIN = (
 MOST_WORDS = 35
 SECONDS = 120
 # What a transcript may need, by a word in its commands, and what the machine then has to have.
-TOOLS = (("-luring", "liburing"), ("parallel ", "parallel"), ("dot -", "dot"), ("jq ", "jq"))
+TOOLS = (("-luring", "liburing"), ("parallel ", "parallel"), ("zstd ", "zstd"), ("dot -", "dot"), ("jq ", "jq"))
 FENCED = re.compile(r"^```(\w*)\n(.*?)^```$", re.S | re.M)
 LINK = re.compile(r"\[[^\]]*\]\(([^)#\s]+)(?:#[^)]*)?\)")
 CODE = re.compile(r"`([^`\n]+)`")

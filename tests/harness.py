@@ -7,11 +7,16 @@ import threading
 from concurrent.futures import ThreadPoolExecutor
 from typing import Callable, Dict, List, NamedTuple, Optional, Sequence, Tuple, Union
 
+import callgrind
+
 TOP = os.path.dirname(os.path.dirname(os.path.abspath(__file__)))
 EXAMPLES = os.path.join(TOP, "examples")
 BUILT = os.path.join(TOP, "crates", "uring_replay", "out", "uring_replay")
 # A run that has not ended by then hangs.
 SECONDS = 120
+# Of how many runs the least processor time is compared with that of others; and of how many where it is not as it should be, and instructions
+# cannot be counted.
+FEW_RUNS, MOST_RUNS = 3, 15
 # The system counts a process's own time by ticks of some hundredths of a second or less, so a shorter run may seem to take none.
 SHORTEST = 0.02
 
@@ -62,6 +67,44 @@ class Program(NamedTuple):
         with opened(given) as source:
             status, seconds = ended(subprocess.Popen([self.file, *words], stdin=source, stdout=subprocess.DEVNULL))
             return max(seconds, SHORTEST) if status == 0 else math.inf
+
+
+    def least(self, words: Words, given: Input, most: float) -> float:
+        """The processor time of a run on an input: the least of a few runs, up to one that takes less than is allowed. What else a machine does makes
+        a run longer."""
+        took = math.inf
+        for _ in range(FEW_RUNS):
+            took = min(took, self.seconds(words, given))
+            if took < most:
+                break
+        return took
+
+    def instructions(self, words: Words, given: Input) -> float:
+        """Those of a run on an input; infinite where it failed."""
+        with opened(given) as source:
+            return callgrind.instructions([self.file, *words], source) or math.inf
+
+    def outlasts(self, slow: "Timed", plain: "Timed", most: float, counts: bool = True) -> Optional[str]:
+        """How long a run takes beside another, where that is so many times its processor time or more; or that one of them fails. What else a
+        machine does makes a run longer, and one that uses much memory more so. So where times say that it is too long, instructions decide; or,
+        where these do not go with the time, more runs."""
+        took = base = math.inf
+        for runs in range(1, MOST_RUNS + 1):
+            took, base = min(took, self.seconds(*slow)), min(base, self.seconds(*plain))
+            if runs >= FEW_RUNS and took < most * base < math.inf:
+                return None
+            if runs == FEW_RUNS and counts and not callgrind.lacking():
+                many, few = self.instructions(*slow), self.instructions(*plain)
+                is_well = many < most * few < math.inf
+                return None if is_well else "{:.3f} seconds and {} instructions, and {:.3f} and {}".format(took, many, base, few)
+        return "{:.3f} seconds, and {:.3f}".format(took, base)
+
+
+class Timed(NamedTuple):
+    """A run whose time counts."""
+
+    words: Words
+    given: Input
 
 
 RUNS = [0]

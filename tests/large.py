@@ -1,16 +1,17 @@
-"""Traces too large for examples/, which examples/make writes when asked: the most places, the longest record, the longest
-input, and writes that are worth threads."""
+"""Traces too large for examples/, most of which examples/make writes when asked: the most places, the longest record, the longest
+input, writes that are worth threads, and one of version 3 that is longer than other versions may be."""
 import hashlib
-import math
 import os
+import shlex
 import struct
 import subprocess
 import sys
 import tempfile
 from functools import partial
-from typing import Dict, List, Tuple
+from typing import List, Tuple
 
-from harness import TOP, Answer, Job, Outcome, Program, difference, first, read, refused, reports_refused, shown, spoken
+import record_traces
+from harness import TOP, Answer, Job, Outcome, Program, Timed, difference, first, read, refused, reports_refused, shown, spoken
 from traces import AT_FDCWD, CLOSE, FIXED_FILE, GREATEST_BUFFER, GREATEST_SIZE, NOP, OPENAT, READ, READ_FIXED, WRITE, WRITE_FIXED
 from traces import description, directory, enter, entry, file, fill, fixed, head, hole, opened_in_slot, removed, ring
 
@@ -58,6 +59,9 @@ MOST_AT_START = 5.0
 # How many pages lie a mebibyte apart and are made holes one by one, and how many times the processor time that large holes over them
 # may take of what they take where no page was taken away before, which is 1 to 2 times. With a look at each such page it was 170.
 APART, MOST_EMPTIED = 16_384, 5.0
+# How many bytes each entry of a long trace of version 3 stores, how many such entries are written at once, and how much memory, in kilobytes,
+# counting them may take.
+STORED, RECORDS_AT_ONCE, STREAM_MEMORY = 1 << 20, 64, 50_000
 MODES: Tuple[Tuple[List[str], str], ...] = ((["serial"], ".report"), (["serial", "--sums"], ".sums"), (["check"], ".check"))
 # How often each pair of workers and window is tried on writes that are worth threads.
 OFTEN = 4
@@ -106,27 +110,47 @@ def long_reports(program: Program) -> List[Outcome]:
     return outcomes
 
 
+def written_in_turn(folder: str, size: int) -> Tuple[str, int]:
+    """What a shell does to give a trace of version 3 of more than so many bytes through a pipe, in which one ring writes a file; and how many
+    entries it has."""
+    wrote = record_traces.stored(entry(WRITE, FIXED_FILE, length=STORED, side=os.urandom(STORED)))
+    records = record_traces.enter(0, [wrote]) * RECORDS_AT_ONCE
+    start = record_traces.head(1, 1) + record_traces.file(b"/a", 0) + description(1)
+    parts = {"start": start + record_traces.ring(1, [(0, (record_traces.DESCRIPTION, 0, 0))]), "records": records, "end": record_traces.END}
+    for name, part in parts.items():
+        with open(os.path.join(folder, name), "wb") as out:
+            out.write(part)
+    times = size // len(records) + 1
+    start, records, end = (shlex.quote(os.path.join(folder, name)) for name in parts)
+    return "{{ cat {}; for i in $(seq {}); do cat {}; done; cat {}; }}".format(start, times, records, end), times * RECORDS_AT_ONCE
+
+
 def long_records(program: Program) -> List[Outcome]:
-    """The longest input of version 3 is read, as long as it is read whole; one byte more is refused for its length before all else."""
+    """A trace of version 3 of more than 2^30 bytes is counted as it comes, in the memory of one record, and replayed; one that is at fault is refused
+    as soon as that was read."""
     outcomes = []
-    for size, line in ((1 << 30, "Limit at 32"), ((1 << 30) + 1, "Limit at 1073741824")):
-        shell = "{{ printf 'URINGTRC\\003'; head -c {} /dev/zero; }} | \"$@\"".format(size - 9)
-        got = program.run(["check"], None, shell=shell)
-        outcomes.append(Outcome("check of {} bytes of version 3 by {}".format(size, program.compiler), difference(got, refused(line))))
+    with tempfile.TemporaryDirectory() as folder:
+        given, count = written_in_turn(folder, 1 << 30)
+        counted = program.run(["check"], None, shell='{} | {{ ulimit -v {}; exec "$@"; }}'.format(given, STREAM_MEMORY))
+        wanted = Answer(0, "ok {} places 1 rings\n".format(count + 1).encode(), b"")
+        outcomes.append(Outcome("check of over 2^30 bytes of version 3 by {}".format(program.compiler), difference(counted, wanted)))
+        replayed = program.run(["serial"], None, shell='{} | "$@"'.format(given))
+        done = replayed.status == 0 and replayed.output.count(" res={} posted\n".format(STORED).encode()) == count
+        outcomes.append(Outcome("serial of over 2^30 bytes of version 3 by {}".format(program.compiler), None if done else shown(replayed)))
+    shell = "{{ printf 'URINGTRC\\003'; head -c {} /dev/zero; }} | {{ ulimit -v {}; exec \"$@\"; }}".format(1 << 31, STREAM_MEMORY)
+    got = program.run(["check"], None, shell=shell)
+    outcomes.append(Outcome("check of zeros of version 3 by {}".format(program.compiler), difference(got, refused("Limit at 32"))))
     return outcomes
 
 
 def many_rings(program: Program) -> List[Outcome]:
     """The same steps on as many rings as there may be take no longer than on one. A walk over all places for each ring
     would take four times that."""
-    least = []
-    for rings in (1, MOST_RINGS):
+    timed = []
+    for rings in (MOST_RINGS, 1):
         world = head(rings=rings, records=MOST_PLACES) + ring(buffers=[(4096, 16)]) * rings
-        trace = world + b"".join(fill(number, 0, 0, b"") for number in range(rings)) * (MOST_PLACES // rings)
-        least.append(min(program.seconds(["serial"], trace) for _ in range(5)))
-    one, many = least
-    told = None if many < MOST_RATIO * one < math.inf else "{:.3f} seconds on one, {:.3f} on {}".format(one, many, MOST_RINGS)
-    return [Outcome("a report of many rings by {}".format(program.compiler), told)]
+        timed.append(Timed(["serial"], world + b"".join(fill(number, 0, 0, b"") for number in range(rings)) * (MOST_PLACES // rings)))
+    return [Outcome("a report of many rings by {}".format(program.compiler), program.outlasts(*timed, MOST_RATIO))]
 
 
 def deep_tree(program: Program) -> List[Outcome]:
@@ -134,8 +158,7 @@ def deep_tree(program: Program) -> List[Outcome]:
     above = b"/a" * DEPTH
     paths = [above[:2 * depth] for depth in range(1, DEPTH + 1)] + [above + b"/%d" % at for at in range(BESIDE)]
     trace = head(items=len(paths)) + b"".join(directory(path) for path in paths)
-    read_alone, whole = (min(program.seconds(words, trace) for _ in range(3)) for words in (["check"], ["serial"]))
-    told = None if whole < MOST_DEEP * read_alone < math.inf else "{:.3f} seconds, {:.3f} of them to read it".format(whole, read_alone)
+    told = program.outlasts(Timed(["serial"], trace), Timed(["check"], trace), MOST_DEEP)
     return [Outcome("a tree of depth {} by {}".format(DEPTH, program.compiler), told)]
 
 
@@ -160,9 +183,8 @@ def deep_paths(program: Program) -> List[Outcome]:
         for what, trace, done in of_deep_paths(count):
             succeeded = program.run(["serial"], trace).output.count(b" res=0 posted\n")
             outcomes.append(Outcome("{} of {} {} at depth {} by {}".format(done, count, what, DEEPEST, program.compiler), None if succeeded == done else "{} succeed".format(succeeded)))
-            plain, *others = (min(program.seconds(words, trace) for _ in range(3)) for words in kinds)
-            for words, took in zip(kinds[1:], others):
-                told = None if took < most * plain < math.inf else "{:.3f} seconds, and {:.3f} by {}".format(took, plain, spoken(kinds[0]))
+            for words in kinds[1:]:
+                told = program.outlasts(Timed(words, trace), Timed(kinds[0], trace), most)
                 outcomes.append(Outcome("{} of {} {} at depth {} by {}".format(spoken(words), count, what, DEEPEST, program.compiler), told))
     return outcomes
 
@@ -175,11 +197,10 @@ def in_table(descriptors: int) -> bytes:
 
 
 def full_table(program: Program) -> List[Outcome]:
-    """The lowest free descriptor is found by a walk over the taken ones, and not by a look-up of each."""
+    """The lowest free descriptor is found by the fronts of blocks, and not by a walk over the taken ones."""
     outcomes = []
     for words in (["serial"], ["compare"]):
-        one, full = (min(program.seconds(words, in_table(it)) for _ in range(3)) for it in (1, TABLE))
-        told = None if full < MOST_IN_TABLE * one < math.inf else "{:.3f} seconds, and {:.3f} in a table of one".format(full, one)
+        told = program.outlasts(Timed(words, in_table(TABLE)), Timed(words, in_table(1)), MOST_IN_TABLE)
         outcomes.append(Outcome("{} of {} opens in a table of {} by {}".format(spoken(words), OPENED, TABLE, program.compiler), told))
     opened = program.run(["serial"], in_table(TABLE)).output.count(" res={} posted\n".format(TABLE - 1).encode())
     outcomes.append(Outcome("the descriptor of {} opens by {}".format(OPENED, program.compiler), None if opened == OPENED else "{} take it".format(opened)))
@@ -191,14 +212,15 @@ def waiting(program: Program) -> List[Outcome]:
     run them nor to tell for whom they wait."""
     bench = os.path.join(TOP, "bench", "serial_rounds.py")
     outcomes = []
-    disjoint: Dict[Tuple[str, int], float] = {}
-    for kind in ("disjoint", "appends", "range", "chain", "drains", "opens"):
-        trace = subprocess.run([sys.executable, bench, "--write", kind, "--entries", str(WAITING)], check=True, stdout=subprocess.PIPE).stdout
+    disjoint, *others = (
+        (kind, subprocess.run([sys.executable, bench, "--write", kind, "--entries", str(WAITING)], check=True, stdout=subprocess.PIPE).stdout)
+        for kind in ("disjoint", "appends", "range", "chain", "drains", "opens")
+    )
+    for kind, trace in others:
         for window, most in MOST_WAITING.items():
             for mode in ("compare", "rounds"):
-                took = min(program.seconds([mode, "--window", str(window)], trace) for _ in range(3))
-                apart = disjoint.setdefault((mode, window), took)
-                told = None if took < most * apart < math.inf else "{:.3f} seconds, and {:.3f} disjoint".format(took, apart)
+                words = [mode, "--window", str(window)]
+                told = program.outlasts(Timed(words, trace), Timed(words, disjoint[1]), most)
                 outcomes.append(Outcome("{} of entries that wait, {}, window {}, by {}".format(mode, kind, window, program.compiler), told))
     return outcomes
 
@@ -209,8 +231,7 @@ def carrying_little(program: Program) -> List[Outcome]:
     outcomes = []
     for kind in ("disjoint", "chain"):
         trace = subprocess.run([sys.executable, bench, "--write", kind, "--entries", str(LITTLE)], check=True, stdout=subprocess.PIPE).stdout
-        alone, took = (min(program.seconds(words, trace) for _ in range(5)) for words in (["serial"], ["run"]))
-        told = None if took < MOST_LITTLE * alone < math.inf else "{:.3f} seconds, and {:.3f} by serial".format(took, alone)
+        told = program.outlasts(Timed(["run"], trace), Timed(["serial"], trace), MOST_LITTLE)
         outcomes.append(Outcome("entries that carry little, {}, by {}".format(kind, program.compiler), told))
     return outcomes
 
@@ -300,8 +321,8 @@ def at_the_position(program: Program) -> List[Outcome]:
         traces = [world + enter(0, [entry(opcode, FIXED_FILE, offset=at or (it << 10), length=1 << 10, side=side) for it in range(1 << 14)])
                   for at in (0, POSITION)]
         for words in (["serial"], ["compare"], ["compare", "--window", "1"]):
-            apart, took = (min(program.seconds(words, trace) for _ in range(3)) for trace in traces)
-            told = None if took < MOST_AT_POSITION * apart < math.inf else "{:.3f} seconds, by offsets {:.3f}".format(took, apart)
+            apart, took = (Timed(words, trace) for trace in traces)
+            told = program.outlasts(took, apart, MOST_AT_POSITION)
             outcomes.append(Outcome("{} of {} at the position by {}".format(spoken(words), what, program.compiler), told))
     return outcomes
 
@@ -310,10 +331,11 @@ def holes(program: Program) -> List[Outcome]:
     """A page that is taken away and written again costs the same wherever in a file it lies, and however many lie behind it."""
     size = 1 << 24
     world = head(1, 1, 1, 1) + file(b"/a", size, os.urandom(size)) + description(1) + ring([1])
-    at_end, at_start = (min(program.seconds(["serial"], world + enter(0, [hole(at, 4096), entry(WRITE, FIXED_FILE, offset=at, length=1, side=b"x")] * (1 << 14)))
-                            for _ in range(3)) for at in (size - 4096, 0))
-    told = None if at_start < MOST_AT_START * at_end < math.inf else "{:.3f} seconds, at the end {:.3f}".format(at_start, at_end)
-    return [Outcome("holes at the start of a file by {}".format(program.compiler), told)]
+    at_start, at_end = (
+        Timed(["serial"], world + enter(0, [hole(at, 4096), entry(WRITE, FIXED_FILE, offset=at, length=1, side=b"x")] * (1 << 14)))
+        for at in (0, size - 4096)
+    )
+    return [Outcome("holes at the start of a file by {}".format(program.compiler), program.outlasts(at_start, at_end, MOST_AT_START))]
 
 
 def emptied(program: Program) -> List[Outcome]:
@@ -322,9 +344,8 @@ def emptied(program: Program) -> List[Outcome]:
     written = enter(0, [entry(WRITE, FIXED_FILE, offset=it << 20, length=1, side=b"x") for it in range(APART)])
     small = [enter(0, [hole((it << 20) + beside, 4096) for it in range(APART)]) for beside in (0, 8192)]
     large = enter(0, [hole(0, APART << 20)] * APART)
-    taken, left = (min(program.seconds(["serial"], world + written + it + large) for _ in range(3)) for it in small)
-    told = None if taken < MOST_EMPTIED * left < math.inf else "{:.3f} seconds, and {:.3f} where none was taken away".format(taken, left)
-    return [Outcome("holes over pages that were taken away by {}".format(program.compiler), told)]
+    taken, left = (Timed(["serial"], world + written + it + large) for it in small)
+    return [Outcome("holes over pages that were taken away by {}".format(program.compiler), program.outlasts(taken, left, MOST_EMPTIED))]
 
 
 def jobs(programs: List[Program]) -> List[Job]:

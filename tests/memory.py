@@ -18,7 +18,8 @@ TRACES = (
     "read_only_description",
     "side_bytes_of_read",
 )
-# Of version 3, for `check`.
+# Of version 3, for the commands that read it as it comes, and for `show`.
+BY_RECORDS = (["check"], ["serial"], ["show"])
 RECORDS = ("version_3/rings_of_one_queue", "version_3/zeros_over_bytes")
 ROUNDS = ["--workers", "2", "--window", "4"]
 MODES = (["serial"], ["serial", "--sums"], ["check"], ["run", *ROUNDS], ["compare", *ROUNDS], ["rounds"], ["depends"], ["diff"])
@@ -114,7 +115,7 @@ def jobs(programs: List[Program]) -> List[Job]:
     made: List[Job] = []
     for is_from in (False, True):
         made += [partial(swept, shim, whole, words, trace, is_from) for words in MODES for trace in TRACES]
-        made += [partial(swept, shim, whole, ["check"], trace, is_from) for trace in RECORDS]
+        made += [partial(swept, shim, whole, words, trace, is_from) for words in BY_RECORDS for trace in RECORDS]
         made += [partial(swept, shim, whole, words, "", is_from) for words in WORDS_ALONE]
         made.append(partial(swept, shim, whole, ["run", *ROUNDS], HEAVY_WRITES, is_from))
         made.append(partial(swept, shim, whole, ["run", *ROUNDS, "--sums"], STORED_FILES, is_from))

@@ -1,13 +1,17 @@
 """What a text means by docs/TEXT.md alone: the bytes of a trace, or the first place at which it is refused, and why."""
 import re
 import struct
-from typing import Dict, List, NamedTuple, Optional, Tuple
+from typing import Any, Callable, Dict, List, NamedTuple, Optional, Tuple
 
+import record_traces
+from drawing import LAST
 from model_text import ACCESSES, BITS, ENTRY_FLAGS, ESCAPES, KEYS, OPERATIONS, ORDER, Table, style_of
+from record_traces import DESCRIPTION, DESCRIPTOR, SLOT, Holder
 from traces import ENTRY, READV, WRITE, WRITEV, description, directory, file, fill, head, name, two_paths, with_side
 
-# How many there may be of each kind, and how many bytes all strings may mean.
+# How many there may be of each kind, in versions 1 and 2 and in version 3, and how many bytes all strings may mean.
 MOST = {"item": 65_535, "description": 65_535, "ring": 64, "slot": 1_024, "buffer": 1_024, "entry": 32_768, "place": 1_048_576}
+MOST_OF_3 = {"item": 1 << 24, "description": 1 << 20, "ring": 1 << 20, "slot": 1 << 20, "buffer": 16_384, "entry": 32_768, "place": 1 << 31}
 MOST_BYTES, LONGEST_PATH = 1 << 30, 65_535
 # Blanks between words: the end of a line behind a backslash is one. What stands between lines. A word.
 BLANKS, BETWEEN, WORD = re.compile(rb"(?:[ \t\r]|\\[ \t\r]*(?:\n|\Z))*"), re.compile(rb"(?:[ \t\r\n]|#[^\n]*)*"), re.compile(rb"[^ \t\r\n]*")
@@ -22,6 +26,9 @@ OF_TRACE = {
     "Overlap": "Overlap: a buffer above has some of these addresses",
     "Limit": "Limit: a number on this line is out of its range",
 }
+
+
+OF_VERSION = "expected `uring-trace 1` or `uring-trace 2`"
 
 
 class Refused(Exception):
@@ -129,6 +136,9 @@ def path_of(word: Word) -> bytes:
 class Reader:
     """A text, and the place up to which it has been read."""
 
+    most = MOST
+    versions: Tuple[bytes, ...] = (b"1", b"2")
+
     def __init__(self, text: bytes) -> None:
         self.text, self.at, self.room = text, 0, MOST_BYTES
         self.paths: Dict[bytes, int] = {b"/": 0}
@@ -172,7 +182,7 @@ class Reader:
     def begin(self, count: int, kind: str) -> Word:
         """Passes the first word of a line, before which there are so many of its kind."""
         word = self.first()
-        if count >= MOST[kind]:
+        if count >= self.most[kind]:
             raise Refused(word.at, "there is one more of these than a trace may have")
         self.pass_word(word)
         return word
@@ -279,11 +289,11 @@ class Reader:
     def version(self) -> int:
         word = self.first()
         if word.text != b"uring-trace":
-            raise Refused(word.at, "expected `uring-trace 1` or `uring-trace 2`")
+            raise Refused(word.at, OF_VERSION)
         self.pass_word(word)
         number = self.next()
-        if number.text not in (b"1", b"2"):
-            raise Refused(number.at, "expected `uring-trace 1` or `uring-trace 2`")
+        if number.text not in self.versions:
+            raise Refused(number.at, OF_VERSION)
         self.end()
         return int(number.text)
 
@@ -295,9 +305,7 @@ class Reader:
             if line.text == b"dir":
                 made = directory(path)
             elif line.text == b"file":
-                size = self.keyed("size", 64)
-                data = self.strings()
-                made = file(path, len(data) if size is None else size, data)
+                made = self.file(path, self.keyed("size", 64))
             else:
                 value = self.peek().value("of")
                 if value is None:
@@ -309,6 +317,10 @@ class Reader:
             self.paths.setdefault(path, count)
             self.add(line, made)
         return count
+
+    def file(self, path: bytes, size: Optional[int]) -> bytes:
+        data = self.strings()
+        return file(path, len(data) if size is None else size, data)
 
     def descriptions(self) -> int:
         count = 0
@@ -362,13 +374,7 @@ class Reader:
                 slots_line = self.pass_word(self.first())
                 slots = self.slots()
             self.add(line, struct.pack("<H", len(slots)))
-            buffers: List[Tuple[Word, bytes]] = []
-            while self.first().text == b"buffer":
-                buffer = self.begin(len(buffers), "buffer")
-                self.next_number(len(buffers))
-                address = number_of(self.next(), 64)
-                buffers.append((buffer, struct.pack("<QI", address, number_of(self.next(), 32))))
-                self.end()
+            buffers = self.buffers()
             packed = struct.pack("<{}I".format(len(slots)), *slots) + struct.pack("<H", len(buffers))
             if slots_line:
                 self.add(slots_line, packed)
@@ -378,6 +384,17 @@ class Reader:
             for buffer, made in buffers:
                 self.add(buffer, made)
         return count
+
+    def buffers(self) -> List[Tuple[Word, bytes]]:
+        """The bytes that each line of a buffer makes."""
+        buffers: List[Tuple[Word, bytes]] = []
+        while self.first().text == b"buffer":
+            buffer = self.begin(len(buffers), "buffer")
+            self.next_number(len(buffers))
+            address = number_of(self.next(), 64)
+            buffers.append((buffer, struct.pack("<QI", address, number_of(self.next(), 32))))
+            self.end()
+        return buffers
 
     def records(self) -> int:
         count = places = 0
@@ -394,28 +411,37 @@ class Reader:
         return count
 
     def fill(self, line: Word) -> None:
-        ring = number_of(self.next(), 8)
+        part = self.part(8)
+        data = self.strings()
+        self.end()
+        self.add(line, fill(*part, data))
+
+    def part(self, bits: int) -> Tuple[int, int, int]:
+        """Where a fill goes: a ring, whose number has so many bits, a buffer and an offset."""
+        ring = number_of(self.next(), bits)
         buffer = self.keyed("buffer", 16)
         if buffer is None:
             raise Refused(self.peek().at, "expected buffer=N")
-        offset = self.keyed("at", 32) or 0
-        data = self.strings()
-        self.end()
-        self.add(line, fill(ring, buffer, offset, data))
+        return ring, buffer, self.keyed("at", 32) or 0
 
     def enter(self, line: Word, places: int) -> int:
         ring = number_of(self.next(), 8)
-        self.end()
-        entries: List[Tuple[Word, bytes]] = []
-        while opcode_of(self.first().text) is not None:
-            first = self.begin(len(entries), "entry")
-            if places + len(entries) >= MOST["place"]:
-                raise Refused(first.at, "there is one more of these than a trace may have")
-            entries.append((first, Draft(opcode_of(first.text) or 0).read(self)))
+        entries = self.entries(places, lambda first: Draft(opcode_of(first.text) or 0).read(self))
         self.add(line, struct.pack("<BBH", 1, ring, len(entries)))
         for first, made in entries:
             self.add(first, made)
         return len(entries)
+
+    def entries(self, places: int, read: Callable[[Word], bytes]) -> List[Tuple[Word, bytes]]:
+        """The bytes that each line of an entry makes."""
+        self.end()
+        entries: List[Tuple[Word, bytes]] = []
+        while opcode_of(self.first().text) is not None:
+            first = self.begin(len(entries), "entry")
+            if places + len(entries) >= self.most["place"]:
+                raise Refused(first.at, "there is one more of these than a trace may have")
+            entries.append((first, read(first)))
+        return entries
 
     def trace(self) -> Made:
         version = self.version()
@@ -425,13 +451,135 @@ class Reader:
             table = self.slots()
             self.add(line, struct.pack("<{}I".format(len(table)), *table))
         rings, records = self.rings(), self.records()
+        self.finish()
+        return Made(head(items, descriptions, rings, records, len(table), version) + b"".join(self.parts), self.lines)
+
+    def finish(self) -> None:
+        """Nothing follows."""
         stray = self.first()
         if stray.text:
             known = b"dir file name open descriptors ring slots buffer".split()
             order, entry = "a line of this kind cannot stand behind those above", "expected `enter RING` above an entry"
             other = entry if opcode_of(stray.text) is not None else "expected a line of a trace, or an operation"
             raise Refused(stray.at, order if stray.text in known else other)
-        return Made(head(items, descriptions, rings, records, len(table), version) + b"".join(self.parts), self.lines)
+
+
+class RecordsReader(Reader):
+    """A text of version 3."""
+
+    most = MOST_OF_3
+    versions = (b"3",)
+
+    def trace(self) -> Made:
+        self.version()
+        items, descriptions, size, full = self.items(), self.descriptions(), 0, []
+        if self.first().text == b"descriptors":
+            line = self.pass_word(self.first())
+            size, full = self.table("a slot: a number, `-` or `-*COUNT`", lambda word: number_of(word, 32))
+            self.add(line, b"".join(record_traces.descriptor(*it) for it in full))
+        self.records()
+        self.finish()
+        return Made(b"".join([record_traces.head(items, descriptions, size, len(full)), *self.parts, record_traces.END]), self.lines)
+
+    def file(self, path: bytes, size: Optional[int]) -> bytes:
+        ranges: List[Tuple[int, bytes]] = []
+        while not self.is_at_end():
+            offset = self.keyed("at", 63)
+            parts = [self.string()]
+            while self.is_string():
+                parts.append(self.string())
+            ranges.append((offset or 0, b"".join(parts)))
+        end = ranges[-1][0] + len(ranges[-1][1]) if ranges else 0
+        return record_traces.file(path, end if size is None else size, ranges)
+
+    def table(self, kinds: str, held: Callable[[Word], Any]) -> Tuple[int, List[Tuple[int, Any]]]:
+        """How many slots follow, and those that are full."""
+        size, full = 0, []
+        if self.is_at_end():
+            raise Refused(self.peek().at, "expected " + kinds)
+        while not self.is_at_end():
+            word, more = self.peek(), 1
+            if word.text == b"-" or word.text.startswith(b"-*"):
+                more = 1 if word.text == b"-" else count_of(word.behind(2))
+            else:
+                full.append((size, held(word)))
+            size += more
+            if size > self.most["slot"]:
+                raise Refused(word.at, "there is one more of these than a trace may have")
+            self.next()
+        self.end()
+        return size, full
+
+    def holder(self, word: Word) -> Holder:
+        """What a slot gets: what a descriptor or a slot holds, or a description."""
+        if word.text.startswith(b"fd:"):
+            return DESCRIPTOR, 0, number_of(word.behind(3), 32)
+        ring, colon, _ = word.text.partition(b":")
+        if colon:
+            return SLOT, number_of(Word(ring, word.at), 32), number_of(word.behind(len(ring) + 1), 32)
+        return DESCRIPTION, 0, number_of(word, 32)
+
+    def records(self) -> int:
+        rings = count = 0
+        while self.first().text in (b"ring", b"enter", b"fill"):
+            line = self.pass_word(self.first())
+            if line.text == b"enter":
+                self.enter(line, 0)
+            elif line.text == b"fill":
+                self.fill(line)
+            elif self.is_end_of_ring():
+                self.ring_ends(line)
+            else:
+                self.ring(line, rings)
+                rings += 1
+            count += 1
+        return count
+
+    def is_end_of_ring(self) -> bool:
+        """Whether the second word from here is `ends`."""
+        here = self.at
+        self.next()
+        second, self.at = self.peek(), here
+        return second.text == b"ends"
+
+    def ring_ends(self, line: Word) -> None:
+        number = number_of(self.next(), 32)
+        self.next()
+        self.end()
+        self.add(line, record_traces.ring_ends(number))
+
+    def ring(self, line: Word, rings: int) -> None:
+        """A new ring, before which there were so many."""
+        if rings >= self.most["ring"]:
+            raise Refused(line.at, "there is one more of these than a trace may have")
+        self.next_number(rings)
+        queue = self.keyed("queue", 32)
+        self.end()
+        slots_line, slots, full = line, 0, []
+        if self.first().text == b"slots":
+            slots_line = self.pass_word(self.first())
+            slots, full = self.table("a slot: a number, `fd:N`, `RING:N`, `-` or `-*COUNT`", self.holder)
+        self.add(line, struct.pack("<B3I", 5, LAST if queue is None else queue, slots, len(full)))
+        buffers = self.buffers()
+        packed = b"".join(struct.pack("<IBII", number, *held) for number, held in full) + struct.pack("<H", len(buffers))
+        self.add(slots_line, packed)
+        for buffer, made in buffers:
+            self.add(buffer, made)
+
+    def fill(self, line: Word) -> None:
+        part = self.part(32)
+        zeros = self.keyed("zeros", 32)
+        made = record_traces.fill(*part, self.strings()) if zeros is None else record_traces.fill_of_zeros(*part, zeros)
+        self.end()
+        self.add(line, made)
+
+    def enter(self, line: Word, places: int) -> int:
+        ring = number_of(self.next(), 32)
+        entries = self.entries(places, lambda first: RecordsDraft(opcode_of(first.text) or 0, first.at).read(self))
+        self.add(line, struct.pack("<BIH", 1, ring, len(entries)))
+        for first, made in entries:
+            self.add(first, made)
+        return len(entries)
 
 
 def opcode_of(word: bytes) -> Optional[int]:
@@ -457,6 +605,7 @@ class Draft:
         strings = []
         while not reader.is_at_end():
             if reader.is_string():
+                self.begin_string(reader.peek())
                 strings.append(reader.string())
             else:
                 self.word(reader.peek())
@@ -464,6 +613,9 @@ class Draft:
         reader.end()
         self.data = b"".join(strings)
         return self.bytes()
+
+    def begin_string(self, word: Word) -> None:
+        """A string follows."""
 
     def word(self, word: Word) -> None:
         text = word.text.decode("latin1")
@@ -503,25 +655,67 @@ class Draft:
             at += len(part) + 1
 
     def bytes(self) -> bytes:
+        return with_side(self.packed(len(self.data)), self.front() + self.data)
+
+    def front(self) -> bytes:
+        """What stands beside the entry before the bytes that it writes."""
         lengths = self.lengths or []
         side = struct.pack("<{}Q".format(len(lengths)), *lengths) + self.paths.get("path", b"")
         if "old" in self.paths or "new" in self.paths:
             side += two_paths(self.paths.get("old", b""), self.paths.get("new", b""))
-        side += self.data
+        return side
+
+    def packed(self, written: int) -> bytes:
+        """The 64 bytes of an entry that writes so many."""
         opcode = self.fields["opcode"]
-        default = len(self.data) if opcode == WRITE else len(lengths) if opcode in (READV, WRITEV) else 0
+        default = written if opcode == WRITE else len(self.lengths or []) if opcode in (READV, WRITEV) else 0
         whole = {**dict.fromkeys(KEYS, 0), "len": default, **self.fields}
         whole["fd"] -= (whole["fd"] >> 31) << 32
-        return with_side(ENTRY.pack(*(whole[key] for key in KEYS)), side)
+        return ENTRY.pack(*(whole[key] for key in KEYS))
+
+
+class RecordsDraft(Draft):
+    """The same in version 3, where the entry may have zeros; and where its line begins."""
+
+    def __init__(self, opcode: int, at: int) -> None:
+        super().__init__(opcode)
+        self.at = at
+        self.zeros: Optional[int] = None
+        self.has_strings = False
+
+    def begin_string(self, word: Word) -> None:
+        if self.zeros is not None:
+            raise Refused(word.at, "this stands here for the second time")
+        self.has_strings = True
+
+    def word(self, word: Word) -> None:
+        zeros = word.value("zeros")
+        if zeros is None:
+            super().word(word)
+            return
+        if self.zeros is not None or self.has_strings:
+            raise Refused(word.at, "this stands here for the second time")
+        self.zeros = number_of(zeros, 32)
+
+    def bytes(self) -> bytes:
+        if self.zeros is None:
+            return record_traces.stored(super().bytes())
+        packed, front = self.packed(self.zeros), self.front()
+        length = struct.unpack_from("<I", packed, 24)[0]
+        # As many bytes stand there as are read.
+        if len(front) != min(self.zeros, 8 * length if packed[0] == WRITEV and length <= 1024 else 0):
+            raise Refused(self.at, OF_TRACE["Side"])
+        return packed + struct.pack("<BI", 1, self.zeros) + front
 
 
 def made_of(text: bytes) -> Made:
-    """What a text means, whether its bytes are a trace or not."""
+    """What a text of version 1 or 2 means, whether its bytes are a trace or not."""
     return Reader(text).trace()
 
 
 def make(text: bytes) -> bytes:
-    return made_of(text).trace
+    """The trace of a text of any version."""
+    return (RecordsReader if text.startswith(b"uring-trace 3\n") else Reader)(text).trace().trace
 
 
 def refusal_line(text: bytes, at: int, why: str) -> bytes:

@@ -1,7 +1,7 @@
 """The text of a trace by docs/TEXT.md alone: a second `show`. model_make.py is the way back."""
 import re
 import struct
-from typing import Dict, Iterator, List, NamedTuple, Optional, Sequence, Tuple
+from typing import Callable, Dict, Iterator, List, NamedTuple, Optional, Sequence, Tuple
 
 from traces import ENTRY, LINKAT, MKDIRAT, OPENAT, READV, RENAMEAT, UNLINKAT, WRITE, WRITEV
 
@@ -168,10 +168,20 @@ def side_of(fields: Dict[str, int], side: bytes) -> Tuple[str, bytes, int]:
     return "", side, len(side) if opcode == WRITE else 0
 
 
-def entry_text(packed: bytes, side: bytes, most: Optional[int]) -> str:
+def fields_of(packed: bytes) -> Dict[str, int]:
     fields = dict(zip(KEYS, ENTRY.unpack(packed)))
     fields["fd"] %= 1 << 32
+    return fields
+
+
+def entry_text(packed: bytes, side: bytes, most: Optional[int]) -> str:
+    fields = fields_of(packed)
     beside, data, length = side_of(fields, side)
+    return entry_line(fields, beside, length, data_text(data, "    ", most))
+
+
+def entry_line(fields: Dict[str, int], beside: str, length: int, data: str) -> str:
+    """The line of an entry, whose length is left out where it is this one."""
     words = [operation_of(fields["opcode"]), *(it for bit, it in enumerate(ENTRY_FLAGS) if fields["flags"] >> bit & 1)]
     text = "  " + " ".join(words)
     for key in ORDER:
@@ -179,30 +189,34 @@ def entry_text(packed: bytes, side: bytes, most: Optional[int]) -> str:
             style = style_of(fields["opcode"], key)
             text += " {}={}".format(style.name, number_text(fields[key], style))
         text += beside if key == "fd" else ""
-    return text + data_text(data, "    ", most) + "\n"
+    return text + data + "\n"
 
 
 def show(trace: bytes, has_places: bool = False, most: Optional[int] = None) -> bytes:
     """The text of a trace that is accepted."""
     source = Source(trace)
     source.bytes(8)
-    version, items, descriptions, rings, records, table = source.numbers("6I")
-    text, paths = ["uring-trace {}\n".format(version)], [b"/"]
-    text += [item_text(source, paths, most) for _ in range(items)]
-    for number in range(descriptions):
-        node, access, append, position = source.numbers("IBBQ")
-        words = [ACCESSES[access] + ("|O_APPEND" if append else ""), *(["pos={}".format(position)] if position else [])]
-        text.append("open {} {} {}\n".format(number, node_text(paths, node), " ".join(words)))
-    text += ["descriptors{}\n".format(slots_text(source.numbers("{}I".format(table))))] if table else []
-    text += [ring_text(source, number) for number in range(rings)]
+    (version,) = source.numbers("I")
+    lines = whole_text(source, has_places, most) if version < 3 else Records(source, has_places, most).text()
+    return "".join(["uring-trace {}\n".format(version), *lines]).encode("latin1")
+
+
+def whole_text(source: Source, has_places: bool, most: Optional[int]) -> Iterator[str]:
+    """The lines of a trace of version 1 or 2 behind the first."""
+    items, descriptions, rings, records, table = source.numbers("5I")
+    paths = [b"/"]
+    yield from (item_text(source, paths, most, file_text) for _ in range(items))
+    yield from (description_text(source, paths, number) for number in range(descriptions))
+    if table:
+        yield "descriptors{}\n".format(slots_text(source.numbers("{}I".format(table))))
+    yield from (ring_text(source, number) for number in range(rings))
     place = 0
     for _ in range(records):
         lines, place = record_text(source, place, has_places, most)
-        text.append(lines)
-    return "".join(text).encode("latin1")
+        yield lines
 
 
-def item_text(source: Source, paths: List[bytes], most: Optional[int]) -> str:
+def item_text(source: Source, paths: List[bytes], most: Optional[int], file: Callable[[Source, Optional[int]], str]) -> str:
     kind, length = source.numbers("BH")
     path = source.bytes(length)
     paths.append(path)
@@ -210,16 +224,28 @@ def item_text(source: Source, paths: List[bytes], most: Optional[int]) -> str:
         return "dir {}\n".format(path_text(path))
     if kind == 3:
         return "name {} of={}\n".format(path_text(path), node_text(paths, source.numbers("I")[0]))
+    return "file {}{}\n".format(path_text(path), file(source, most))
+
+
+def file_text(source: Source, most: Optional[int]) -> str:
     size, stored = source.numbers("QI")
-    return "file {}{}{}\n".format(path_text(path), " size={}".format(size) if size != stored else "", data_text(source.bytes(stored), "  ", most))
+    return (" size={}".format(size) if size != stored else "") + data_text(source.bytes(stored), "  ", most)
+
+
+def description_text(source: Source, paths: List[bytes], number: int) -> str:
+    node, access, append, position = source.numbers("IBBQ")
+    words = [ACCESSES[access] + ("|O_APPEND" if append else ""), *(["pos={}".format(position)] if position else [])]
+    return "open {} {} {}\n".format(number, node_text(paths, node), " ".join(words))
 
 
 def ring_text(source: Source, number: int) -> str:
     slots = source.numbers("{}I".format(*source.numbers("H")))
     lines = ["ring {}\n".format(number), *(["  slots{}\n".format(slots_text(slots))] if slots else [])]
-    for buffer in range(*source.numbers("H")):
-        lines.append("  buffer {} 0x{:x} {}\n".format(buffer, *source.numbers("QI")))
-    return "".join(lines)
+    return "".join([*lines, *buffer_lines(source)])
+
+
+def buffer_lines(source: Source) -> List[str]:
+    return ["  buffer {} 0x{:x} {}\n".format(buffer, *source.numbers("QI")) for buffer in range(*source.numbers("H"))]
 
 
 def record_text(source: Source, place: int, has_places: bool, most: Optional[int]) -> Tuple[str, int]:
@@ -235,5 +261,96 @@ def record_text(source: Source, place: int, has_places: bool, most: Optional[int
         return "".join(lines), place
     buffer, offset, length = source.numbers("HII")
     comment = "# {}\n".format(place) if has_places else ""
-    at = " at={}".format(offset) if offset else ""
-    return "{}fill {} buffer={}{}{}\n".format(comment, number, buffer, at, data_text(source.bytes(length), "  ", most)), place + 1
+    return comment + fill_text(number, buffer, offset, data_text(source.bytes(length), "  ", most)), place + 1
+
+
+def fill_text(number: int, buffer: int, offset: int, data: str) -> str:
+    return "fill {} buffer={}{}{}\n".format(number, buffer, " at={}".format(offset) if offset else "", data)
+
+
+# Version 3.
+
+
+def ranges_text(source: Source, most: Optional[int]) -> str:
+    """The size of a file, where it ends elsewhere than its last range, and its ranges."""
+    size, count = source.numbers("QI")
+    end, text = 0, ""
+    for number in range(count):
+        offset, length = source.numbers("QI")
+        text += (" at={}".format(offset) if number or offset else "") + data_text(source.bytes(length), "  ", most)
+        end = offset + length
+    return (" size={}".format(size) if size != end else "") + text
+
+
+def table_text(size: int, full: Sequence[Tuple[int, str]]) -> str:
+    """So many slots, of which these are full."""
+    words, low = [], 0
+    for number, word in [*full, (size, "")]:
+        words += [] if number == low else ["-"] if number == low + 1 else ["-*{}".format(number - low)]
+        words += [word] if word else []
+        low = number + 1
+    return "".join(" " + it for it in words)
+
+
+class Records:
+    """The lines of a trace of version 3 behind the first."""
+
+    def __init__(self, source: Source, has_places: bool, most: Optional[int]) -> None:
+        self.source, self.has_places, self.most = source, has_places, most
+        self.place = self.rings = 0
+
+    def text(self) -> Iterator[str]:
+        items, descriptions, table, full, _ = self.source.numbers("5I")
+        paths = [b"/"]
+        yield from (item_text(self.source, paths, self.most, ranges_text) for _ in range(items))
+        yield from (description_text(self.source, paths, number) for number in range(descriptions))
+        held = [self.source.numbers("II") for _ in range(full)]
+        if table:
+            yield "descriptors{}\n".format(table_text(table, [(number, str(it)) for number, it in held]))
+        while True:
+            (kind,) = self.source.numbers("B")
+            if kind == 7:
+                return
+            yield from {1: self.enter, 2: self.fill, 5: self.ring, 6: self.ring_ends}[kind]()
+
+    def comment(self, indent: str) -> str:
+        """What stands before the next place."""
+        self.place += 1
+        return "{}# {}\n".format(indent, self.place - 1) if self.has_places else ""
+
+    def enter(self) -> Iterator[str]:
+        ring, count = self.source.numbers("IH")
+        yield "enter {}\n".format(ring)
+        for _ in range(count):
+            yield self.comment("  ") + self.entry()
+
+    def entry(self) -> str:
+        packed = self.source.bytes(ENTRY.size)
+        form, count = self.source.numbers("BI")
+        if form == 0:
+            return entry_text(packed, self.source.bytes(count), self.most)
+        fields = fields_of(packed)
+        lengths = self.source.bytes(8 * fields["len"] if fields["opcode"] == WRITEV and fields["len"] <= 1024 else 0)
+        beside, _, length = side_of(fields, lengths)
+        return entry_line(fields, beside, count if fields["opcode"] == WRITE else length, " zeros={}".format(count))
+
+    def fill(self) -> Iterator[str]:
+        ring, buffer, form, offset, length = self.source.numbers("IHBII")
+        data = data_text(self.source.bytes(length), "  ", self.most) if form == 0 else " zeros={}".format(length)
+        yield self.comment("") + fill_text(ring, buffer, offset, data)
+
+    def ring(self) -> Iterator[str]:
+        queue, slots, full = self.source.numbers("3I")
+        yield "{}ring {}{}\n".format(self.comment(""), self.rings, " queue={}".format(queue) if queue != (1 << 32) - 1 else "")
+        held = [self.source.numbers("IBII") for _ in range(full)]
+        if slots:
+            yield "  slots{}\n".format(table_text(slots, [(it[0], holder_text(*it[1:])) for it in held]))
+        yield from buffer_lines(self.source)
+        self.rings += 1
+
+    def ring_ends(self) -> Iterator[str]:
+        yield "ring {} ends\n".format(*self.source.numbers("I"))
+
+
+def holder_text(what: int, ring: int, number: int) -> str:
+    return ("{}:{}".format(ring, number), "fd:{}".format(number), str(number))[what]

@@ -23,7 +23,7 @@ import play_rows
 import record_traces
 from by_models import MODELS
 from examples import VERSION_3
-from harness import BUILT, EXAMPLES, TOP, Answer, Job, Outcome, Program, difference, first, guarded, shown, skipped
+from harness import BUILT, EXAMPLES, TOP, Answer, Job, Outcome, Program, Timed, difference, first, guarded, shown, skipped
 from model import AT_POSITION
 from play_drawing import UNCOUNTED, Played, PlayedRecords
 from player import MODES, UNTRIED, Player, against
@@ -180,7 +180,7 @@ def long_chains(player: Player, program: Program) -> List[Outcome]:
     outcomes, plays = [], Program(player.program, "")
     world = head(1, 1, 1, 1) + file(b"/a", 10, b"0123456789") + description(1) + ring([1])
     for label, flags, words in (("", LINK, []), (" in threads", LINK, ["--async"]), (" that are silent", LINK | SKIP, [])):
-        seconds = []
+        timed = []
         for count in (1_000, 32_000):
             trace = world + enter(0, [entry(READ, FIXED_FILE | flags, length=4) for _ in range(count)])
             report = program.run(["serial", "--sums"], trace).output
@@ -189,9 +189,9 @@ def long_chains(player: Player, program: Program) -> List[Outcome]:
             expected = os.path.join(player.folder.name, "chain-{}{}".format(count, len(label)))
             with open(expected, "wb") as file_:
                 file_.write(report)
-            seconds.append(plays.seconds(["--quiet", "--directory", player.folder.name, "--expected", expected, *words], trace))
+            timed.append(Timed(["--quiet", "--directory", player.folder.name, "--expected", expected, *words], trace))
         # 32 times the members take 32 times as long; a pass over all of them for each would take 1,000 times.
-        fault = None if seconds[1] < 150 * seconds[0] or found.untried else "{:.2f} and {:.2f} seconds".format(*seconds)
+        fault = None if found.untried else plays.outlasts(timed[1], timed[0], 150, counts=False)
         outcomes.append(Outcome("the player: chains{} cost by their length".format(label), fault))
     return outcomes
 

@@ -1,4 +1,4 @@
-"""Recorded traces of examples/recorded/, and the recorder itself: what the programs give is what the kernel gave."""
+"""Recorded traces of examples/, and the recorder itself: what the programs give is what the kernel gave."""
 import hashlib
 import os
 import shutil
@@ -7,9 +7,11 @@ import tempfile
 from functools import partial
 from typing import Dict, List, NamedTuple, Optional, Sequence, Tuple
 
+import model_records
 from harness import EXAMPLES, TOP, Answer, Job, Outcome, Program, difference, first, shown, skipped, spoken
 
-FOLDER = os.path.join(EXAMPLES, "recorded")
+# Where recordings are kept, by what is given to --format.
+FOLDERS = {"2": os.path.join(EXAMPLES, "recorded"), "3": os.path.join(EXAMPLES, "version_3", "recorded")}
 SOURCES, SHARED = (os.path.join(TOP, "tools", it) for it in ("uring_record", "shared"))
 # Whether a program that has no `diff` fails here; if not, the comparison in this file stands alone.
 NEEDS_DIFF = True
@@ -123,13 +125,21 @@ def replayed(program: Program, trace: bytes, kernel: bytes, wanted: Optional[str
     return outcomes
 
 
-def recorded(program: Program, name: str) -> List[Outcome]:
-    path = os.path.join(FOLDER, name)
+def recorded(program: Program, path: str) -> List[Outcome]:
+    name = os.path.relpath(path, EXAMPLES)
     try:
         trace, kernel, wanted = (read_file(path + ending) for ending in (".trace", ".kernel", ".diff"))
     except FileNotFoundError as error:
-        return [Outcome("recorded/{} by {}".format(name, program.compiler), "{} is missing".format(error.filename))]
-    return replayed(program, trace, kernel, wanted.decode(), "recorded/" + name)
+        return [Outcome("{} by {}".format(name, program.compiler), "{} is missing".format(error.filename))]
+    return replayed(program, trace, kernel, wanted.decode(), name)
+
+
+def by_second_replayer(path: str) -> List[Outcome]:
+    """The second replayer agrees with the kernel as the program does."""
+    trace, kernel, wanted = (read_file(path + ending) for ending in (".trace", ".kernel", ".diff"))
+    found = compared(model_records.report(trace).decode(), kernel.decode())
+    fault = None if found.lines() == wanted.decode() else "it has {!r}, wanted {!r}".format(found.lines(), wanted.decode())
+    return [Outcome("{}: by the second replayer".format(os.path.relpath(path, EXAMPLES)), fault)]
 
 
 # --- The recorder -------------------------------------------------------------------------------------------------
@@ -269,22 +279,25 @@ def recorder(programs: List[Program]) -> List[Outcome]:
     lacking = lacking_in_system(tools)
     if lacking:
         return outcomes + skipped("the recorder", lacking)
-    for words in ([], ["--drain"], ["--wait"]):
+    for words in ([], ["--drain"], ["--wait"], ["--format", "2"]):
         outcomes += sixteen(tools, programs, words)
     return outcomes + statuses(tools)
 
 
-def strays() -> List[Outcome]:
+def traces_in(folder: str) -> List[str]:
+    """The paths of the recordings of a folder, without their ending."""
+    return [os.path.join(folder, it[:-6]) for it in sorted(os.listdir(folder)) if it.endswith(".trace")]
+
+
+def strays(folder: str) -> List[Outcome]:
     """Whether each file beside the recorded traces belongs to one."""
-    names = sorted(os.listdir(FOLDER)) if os.path.isdir(FOLDER) else []
-    traces = [it[:-6] for it in names if it.endswith(".trace")]
-    lost = [it for it in names if it.endswith((".kernel", ".diff")) and it.rsplit(".", 1)[0] not in traces]
-    outcomes = [Outcome("recorded/" + it, "it belongs to no trace") for it in lost]
-    return outcomes if traces else [*outcomes, Outcome("recorded", "there is no trace in examples/recorded/")]
+    traces = traces_in(folder)
+    beside = (os.path.join(folder, it) for it in sorted(os.listdir(folder)) if it.endswith((".kernel", ".diff")))
+    outcomes = [Outcome(os.path.relpath(it, EXAMPLES), "it belongs to no trace") for it in beside if it.rsplit(".", 1)[0] not in traces]
+    return outcomes if traces else [*outcomes, Outcome(os.path.relpath(folder, EXAMPLES), "there is no trace in it")]
 
 
 def jobs(programs: List[Program]) -> List[Job]:
-    names = sorted(os.listdir(FOLDER)) if os.path.isdir(FOLDER) else []
-    traces = [it[:-6] for it in names if it.endswith(".trace")]
-    each = [partial(recorded, program, name) for program in programs for name in traces]
-    return [strays, partial(recorder, programs), *each]
+    each = [partial(recorded, program, path) for program in programs for folder in FOLDERS.values() for path in traces_in(folder)]
+    second = [partial(by_second_replayer, it) for it in traces_in(FOLDERS["3"])]
+    return [*(partial(strays, it) for it in FOLDERS.values()), partial(recorder, programs), *second, *each]

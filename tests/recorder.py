@@ -1,4 +1,5 @@
 """The recorder harms no program, and tells its limits: programs alone and recorded, and what is written of them."""
+import math
 import os
 import re
 import shutil
@@ -10,9 +11,11 @@ from functools import partial
 from threading import Lock, Timer
 from typing import Callable, Dict, List, NamedTuple, Optional, Sequence, Tuple
 
-from harness import Answer, Job, Outcome, Program, first, shown, skipped, spoken
+from harness import MOST_RUNS, Answer, Job, Outcome, Program, first, shown, skipped, spoken
 from recorded import SHARED, SOURCES, UNTRIED, Tools, lacking_in_system, read_file
 
+# Versions 1 and 2 of the trace have other limits than version 3, and are written in another way: at the end.
+VERSION_2 = ["--format", "2"]
 # Nothing here takes longer by itself: what does, hangs.
 SECONDS = 60
 SIGNALLED = 128
@@ -154,11 +157,11 @@ def same(program: Program, mode: Sequence[str], words: Sequence[str], recorder: 
 # --- Parts ----------------------------------------------------------------------------------------------------------
 
 def rings(program: Program) -> List[Outcome]:
-    """Rings one after another and side by side, as many as the format has and more."""
+    """Rings one after another and side by side, as many as version 2 has and more."""
     harm = tools().file("harm")
     cases = [["64"], ["65"], ["1000"], ["64", "open"], ["65", "open"], ["400", "open"]]
-    outcomes = [same(program, [harm, "rings", *it], words) for it in cases for words in ([], ["--wait"])]
-    told = program.run(["check"], tools().file("harm-rings-1000-uring_record") + ".trace").output
+    outcomes = [same(program, [harm, "rings", *it], [*VERSION_2, *words]) for it in cases for words in ([], ["--wait"])]
+    told = program.run(["check"], tools().file("harm-rings-1000---format-2-uring_record") + ".trace").output
     # (a ring that is closed gives its number to a later one: two entries of each are recorded)
     return [*outcomes, Outcome("the recorder: 1,000 rings one after another are told", None if told.startswith(b"ok 2000 ") else repr(told))]
 
@@ -184,15 +187,17 @@ def interrupted(program: Program) -> List[Outcome]:
     stays = 'trap "" INT TERM; "$0" blocks 2; while :; do sleep 0.05; done'
     one, two = [(1.0, signal.SIGINT)], [(1.0, signal.SIGTERM), (0.3, signal.SIGINT)]
     cases = (
-        ("the first INT", ends, one, 5),
-        ("the first TERM", ends, [(1.0, signal.SIGTERM)], 5),
-        ("the second signal", stays, two, SIGNALLED + signal.SIGINT),
-        ("the second signal, TERM", stays, [(1.0, signal.SIGINT), (0.3, signal.SIGTERM)], SIGNALLED + signal.SIGTERM),
+        ("the first INT", ends, one, 5, []),
+        ("the first TERM", ends, [(1.0, signal.SIGTERM)], 5, []),
+        ("the first TERM, version 2", ends, [(1.0, signal.SIGTERM)], 5, VERSION_2),
+        ("the second signal", stays, two, SIGNALLED + signal.SIGINT, []),
+        ("the second signal, TERM", stays, [(1.0, signal.SIGINT), (0.3, signal.SIGTERM)], SIGNALLED + signal.SIGTERM, []),
+        ("the second signal, version 2", stays, two, SIGNALLED + signal.SIGINT, VERSION_2),
     )
     outcomes = []
-    for at, (label, script, given, wanted) in enumerate(cases):
+    for at, (label, script, given, wanted, words) in enumerate(cases):
         path = built.directory("signal{}".format(at))
-        command = [built.file("uring_record"), "-o", path + ".trace", "-k", path + ".kernel", "--", "sh", "-c", script, built.file("harm")]
+        command = [built.file("uring_record"), *words, "-o", path + ".trace", "-k", path + ".kernel", "--", "sh", "-c", script, built.file("harm")]
         ran = ran_in(path, command, given)
         fault = None if ran.status == wanted else "{}, wanted status {}".format(fault_of(ran), wanted)
         fault = fault or accepted(program, path + ".trace") or replayed(program, path)
@@ -253,7 +258,7 @@ def touched(program: Program) -> List[Outcome]:
     for name in (*used, "left", "left_too"):
         with open(os.path.join(path, name), "wb") as file:
             file.write("the bytes of {}\n".format(name).encode())
-    words = [built.file("uring_record"), "--touched", "-o", path + ".trace", "-k", path + ".kernel", "--", built.file("harm"), "touches"]
+    words = [built.file("uring_record"), *VERSION_2, "--touched", "-o", path + ".trace", "-k", path + ".kernel", "--", built.file("harm"), "touches"]
     ran = ran_in(path, words)
     trace = read_file(path + ".trace") if ran.status == 0 else b""
     faults = [] if ran.status == 0 else [fault_of(ran)]
@@ -289,13 +294,14 @@ def limits(program: Program) -> List[Outcome]:
     built = tools()
     outcomes = [
         ended(program, "bytes", ["--limit", "1000000"], ["blocks", "40"], "bytes"),
-        ended(program, "places", [], ["places", str(MOST_PLACES + 4096)], "1,048,576 places"),
-        ended(program, "names", [], ["rings", "3"], "65,535 names", many_names),
+        ended(program, "bytes of version 2", [*VERSION_2, "--limit", "1000000"], ["blocks", "40"], "bytes"),
+        ended(program, "places", VERSION_2, ["places", str(MOST_PLACES + 4096)], "1,048,576 places"),
+        ended(program, "names", VERSION_2, ["rings", "3"], "65,535 names", many_names),
     ]
     size = os.path.getsize(built.file("limit-bytes") + ".trace")
     fault = None if 900000 < size <= 1000000 else "{} bytes".format(size)
     outcomes.append(Outcome("the recorder: --limit is used up and kept", fault))
-    for words in (["--limit", "12"], ["--limit", "1073741825"], ["--limit", "many"]):
+    for words in (["--limit", "12"], [*VERSION_2, "--limit", "1073741825"], ["--limit", "many"]):
         ran = ran_in(built.folder.name, [built.file("uring_record"), *words, "true"])
         outcomes.append(Outcome("the recorder: {}".format(spoken(words)), None if ran.status == 125 else fault_of(ran)))
     return outcomes
@@ -305,13 +311,16 @@ def at_once(program: Program) -> List[Outcome]:
     """Many entries in one call: with one user_data for all they cost at most twice as much as with one for each."""
     outcomes = []
     for label, words in (("32,768 NOP", ["32768", "0"]), ("10,000 WRITE", ["10000", "23"]), ("10,000 READ", ["10000", "22"])):
-        costs = []
-        for more in ([], ["alike"]):
-            made = [record(program, "once{}{}{}".format(words[1], len(more), at), [], [tools().file("harm"), "at-once", *words, *more]) for at in range(2)]
-            costs.append(min(it.ran.seconds for it in made))
-        fault = next((it.fault or (fault_of(it.ran) if it.ran.status else None) for it in made), None)
-        if not fault and costs[1] > TIMES * costs[0] + NOISE:
-            fault = "{:.2f} seconds, and {:.2f} with one user_data".format(*costs)
+        few = many = math.inf
+        for at in range(MOST_RUNS):
+            names = ("once{}-{}-{}".format(words[1], number, at) for number in range(2))
+            plain, alike = (record(program, next(names), [], [tools().file("harm"), "at-once", *words, *more]) for more in ([], ["alike"]))
+            fault = plain.fault or alike.fault or next((fault_of(it.ran) for it in (plain, alike) if it.ran.status), None)
+            few, many = min(few, plain.ran.seconds), min(many, alike.ran.seconds)
+            if fault or at and many <= TIMES * few + NOISE:
+                break
+        else:
+            fault = "{:.2f} seconds, and {:.2f} with one user_data".format(few, many)
         outcomes.append(Outcome("the recorder: {} at once".format(label), fault))
     return outcomes
 

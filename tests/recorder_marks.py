@@ -11,6 +11,7 @@ import time
 from functools import partial
 from typing import Dict, List, NamedTuple, Optional, Sequence
 
+import recorder
 from harness import TOP, Answer, Job, Outcome, Program, first, say, shown, skipped, spoken
 from recorded import SHARED, SOURCES, UNTRIED, Tools, lacking_in_system, ran_in, read_file
 
@@ -25,7 +26,7 @@ MODES = (
     Mode("through_a_link", ["path"], 40),
     Mode("links", ["opcode", "link"]),
     Mode("elsewhere", ["path", "descriptor"], 5),
-    Mode("chosen_slots", ["slot", "descriptor"], 3),
+    Mode("chosen_slots", ["slot", "descriptor"], 2),
     Mode("open_by_how", ["opcode", "descriptor"], 4),
     Mode("passed_on", ["opcode", "descriptor"], 2),
     Mode("beyond", ["descriptor"], 10),
@@ -41,10 +42,11 @@ MODES = (
     Mode("changed_meanwhile", [], 90),
     Mode("written_late", ["late"]),
 )
-OPTIONS: Sequence[Sequence[str]] = ([], ["--nop"], ["--drain"], ["--wait"], ["--version-1"])
-# What recording may cost: so many times the program alone, by at most so many runs each; and so many reads of memory an
-# entry, beside those of the start.
-AT_DEPTH_32, READS_AT_DEPTH_1, TRIES, START = 2.5, 3.0, 12, 50
+OPTIONS: Sequence[Sequence[str]] = ([], ["--nop"], ["--drain"], ["--wait"], ["--format", "2"], ["--version-1"])
+# What recording may cost: so many times the program alone; and so many reads of memory an entry, beside those of the start.
+AT_DEPTH_32, READS_AT_DEPTH_1, START = 2.5, 3.0, 50
+# By how many runs each; and by how many more, with a pause before each, where that is not so, as other programs may be busy for a while.
+TRIES, MORE_TRIES, PAUSE = 12, 30, 1.0
 
 
 class Recording(NamedTuple):
@@ -146,6 +148,8 @@ def plot(tools: Tools) -> Outcome:
 # --- Sums of large files --------------------------------------------------------------------------------------------
 
 PIECE = 1 << 24
+# What sums of holes may take in processor time: 64 GiB that are read and hashed take several times that.
+MOST_SECONDS = 30
 
 
 def tree_sum(path: str) -> str:
@@ -168,13 +172,14 @@ def all_sums(tools: Tools) -> Outcome:
             for at in (0, size - 1) if name != "holes" else (3 * PIECE + 5, size - 1):
                 file.seek(at)
                 file.write(b"x")
-    started = time.time()
+    seconds = 0.0
     with open(os.path.join(root, "sparse"), "wb") as file:
         file.truncate(1 << 36)
     faults = []
     for words in ([], ["--all-sums"]):
         given = [tools.file("uring_record"), *words, "-o", root + ".trace", "-k", root + ".kernel", "--", "true"]
-        got = ran_in(root, given)
+        got = recorder.ran_in(root, given)
+        seconds += got.seconds
         lines = [] if got.status else read_file(root + ".kernel").decode().split("\n")
         for name, size in sizes.items():
             told = "sum=large" if size > PIECE else "sum="
@@ -185,8 +190,8 @@ def all_sums(tools: Tools) -> Outcome:
     zeros = hashlib.sha256(hashlib.sha256(bytes(PIECE)).digest() * (1 << 12)).hexdigest()
     if "file /sparse size={} sum=large tree-sum={}".format(1 << 36, zeros) not in lines:
         faults.append("a file of holes has another sum")
-    if time.time() - started > 30:
-        faults.append("holes are read: it took {:.0f} seconds".format(time.time() - started))
+    if seconds > MOST_SECONDS:
+        faults.append("holes are read: it took {:.0f} seconds".format(seconds))
     return Outcome("marks: --all-sums", first(faults))
 
 
@@ -208,7 +213,9 @@ def times(tools: Tools, words: Sequence[str], before: Sequence[str], beside: Seq
     """How many times as long the submitter takes under one command as under another: the least of each, from as many runs as
     it takes to be what is wanted, since other programs of this machine only make a run longer."""
     one, other = math.inf, math.inf
-    for _ in range(TRIES):
+    for tried in range(TRIES + (MORE_TRIES if wanted else 0)):
+        if tried >= TRIES:
+            time.sleep(PAUSE)
         one = min(one, submitted(tools, words, before)["entry"])
         other = min(other, submitted(tools, words, beside)["entry"])
         if one <= wanted * other:

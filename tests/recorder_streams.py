@@ -1,4 +1,5 @@
 """Recordings of version 3: written as the command runs, read by the second replayer, and compared with what the kernel gave."""
+import hashlib
 import os
 import re
 import shutil
@@ -12,10 +13,9 @@ from typing import Callable, List, NamedTuple, Optional, Sequence, Tuple
 import model_records
 from harness import Answer, Job, Outcome, Program, first, shown, skipped, spoken
 from model import Refused
-from recorded import SOURCES, Compared, compared, read_file
-from recorder import SECONDS, Built, Ran, accepted, fault_of, ran_in, tools
+from recorded import SOURCES, Compared, agree, compared, read_file, read_report
+from recorder import SECONDS, VERSION_2, Built, Ran, accepted, fault_of, ran_in, replayed, tools
 
-FORMAT = ["--format", "3"]
 # Programs that end as they do alone, and of which all results are told alike: their traces are replayed by the second replayer.
 PROGRAMS: Sequence[Tuple[str, Sequence[str]]] = (
     *(("streams", it) for it in (["many", "300"], ["pending", "300"], ["blocked", "1000"], ["alike", "300"], ["zeros"], ["anew", "12"])),
@@ -60,10 +60,10 @@ def rising(kernel: str) -> Optional[str]:
 
 
 def record(program: Program, name: str, words: Sequence[str], command: Sequence[str], replays: bool = True, recorder: str = "uring_record") -> Told:
-    """Records a command with --format 3 in a folder of its own."""
+    """Records a command in a folder of its own."""
     built = streams()
-    path = built.directory("format-3-" + name)
-    ran = ran_in(path, [built.file(recorder), *FORMAT, "-o", path + ".trace", "-k", path + ".kernel", *words, "--", *command])
+    path = built.directory("version-3-" + name)
+    ran = ran_in(path, [built.file(recorder), "-o", path + ".trace", "-k", path + ".kernel", *words, "--", *command])
     has_fault = ran.status is None or "ERROR: AddressSanitizer" in ran.said() or "runtime error" in ran.said()
     fault = fault_of(ran) if has_fault else accepted(program, path + ".trace")
     if fault:
@@ -96,8 +96,8 @@ def sixteen(program: Program) -> List[Outcome]:
     for words in ([], ["--drain"], ["--wait"]):
         name = "sixteen" + "".join(words)
         made = record(program, name, words, [built.file("sixteen")])
-        second = built.directory("format-2-" + name)
-        ran = ran_in(second, [built.file("uring_record"), "-o", second + ".trace", "-k", second + ".kernel", *words, "--", built.file("sixteen")])
+        second = built.directory("version-2-" + name)
+        ran = ran_in(second, [built.file("uring_record"), *VERSION_2, "-o", second + ".trace", "-k", second + ".kernel", *words, "--", built.file("sixteen")])
         fault = made.fault or (fault_of(ran) if ran.status else None)
         if not fault and made.compared:
             wanted = compared(model_records.report(read_file(second + ".trace")).decode(), read_file(second + ".kernel").decode()).lines()
@@ -133,7 +133,7 @@ def sparse(program: Program) -> List[Outcome]:
         for place, letter in ((1 << 30, b"a"), ((3 << 30) + 7 * 4096, b"b")):
             file.seek(place)
             file.write(letter * 4096)
-    ran = ran_in(path, [built.file("uring_record"), *FORMAT, "-o", path + ".trace", "--", built.file("streams"), "zeros"])
+    ran = ran_in(path, [built.file("uring_record"), "-o", path + ".trace", "--", built.file("streams"), "zeros"])
     trace = read_file(path + ".trace") if ran.status == 0 else b""
     fault = None if ran.status == 0 else fault_of(ran)
     fault = fault or accepted(program, path + ".trace")
@@ -171,17 +171,31 @@ def cut(program: Program) -> List[Outcome]:
     return [Outcome("version 3: a call of 12 MiB", made.fault or (None if is_well else "records of {} places".format(counts)))]
 
 
-def killed(program: Program) -> List[Outcome]:
-    """A recorder that is killed leaves whole records, with their results."""
+def cut_off() -> Tuple[bytes, bytes]:
+    """The trace and the results of a recorder that is killed while the command writes."""
     built = streams()
     path = built.directory("killed")
-    started = subprocess.Popen([built.file("uring_record"), *FORMAT, "-o", path + ".trace", "-k", path + ".kernel", "--", built.file("streams"), "many", "100000000"], cwd=path)
+    started = subprocess.Popen([built.file("uring_record"), "-o", path + ".trace", "-k", path + ".kernel", "--", built.file("streams"), "many", "100000000"], cwd=path)
     end = time.monotonic() + SECONDS
     while time.monotonic() < end and (not os.path.exists(path + ".trace") or os.path.getsize(path + ".trace") < 8 * MIB):
         time.sleep(0.01)
     started.send_signal(signal.SIGKILL)
     started.wait()
-    trace, kernel = read_file(path + ".trace"), read_file(path + ".kernel")
+    return read_file(path + ".trace"), read_file(path + ".kernel")
+
+
+def unlike(report: bytes, kernel: bytes, places: int) -> Optional[str]:
+    """How whole lines of results differ from a report of as many places, and what is lacking of them."""
+    ours, _ = read_report(report.decode())
+    theirs, _ = read_report(kernel[: kernel.rfind(b"\n") + 1].decode())
+    both = [it for it in theirs if it in ours and theirs[it].part == "entries"]
+    faults = ["{!r}, replayed {!r}".format(theirs[it].text, ours[it].text) for it in both if not agree(ours[it], theirs[it])]
+    return first(faults) or (None if 2 * len(both) >= places else "{} places, and {} results of these".format(places, len(both)))
+
+
+def killed(program: Program) -> List[Outcome]:
+    """A recorder that is killed leaves whole records, with their results."""
+    trace, kernel = cut_off()
     fronts: List[Tuple[int, int]] = [(0, 0)]
     try:
         Fronts(trace, fronts)
@@ -189,13 +203,11 @@ def killed(program: Program) -> List[Outcome]:
     except Refused as refused:
         fault = None if str(refused) == "Short at {}".format(len(trace)) else str(refused)
     whole, places = fronts[-1]
-    got = program.run(["check"], trace[:whole] + b"\7")
+    front = trace[:whole] + b"\7"
+    got = program.run(["check"], front)
     if not fault and (got != Answer(0, "ok {} places 1 rings\n".format(places).encode(), b"") or len(trace) - whole > MIB or places < 1000):
         fault = "{} bytes, of which {} are whole: {}".format(len(trace), whole, shown(got))
-    last = kernel[: kernel.rfind(b"\n") + 1].split(b"\n")[-2].split(b" ")[0]
-    if not fault and int(last) < places // 2:
-        fault = "{} places, and results up to that of place {}".format(places, last)
-    return [Outcome("version 3: a recorder that is killed", fault)]
+    return [Outcome("version 3: a recorder that is killed", fault or unlike(program.run(["serial"], front).output, kernel, places))]
 
 
 def piped(program: Program) -> List[Outcome]:
@@ -209,15 +221,30 @@ def piped(program: Program) -> List[Outcome]:
         fault = None if ran.status == 3 and b"all written\n" in ran.errors and got.status == 0 else "{}, {}".format(fault_of(ran), shown(got))
         outcomes.append(Outcome("the recorder: version {} on standard output".format(version), fault))
     path = built.directory("gone")
-    ran = ran_in(path, ["bash", "-c", '"$@" | head -c 10 > /dev/null; exit "${PIPESTATUS[0]}"', "sh", built.file("uring_record"), *FORMAT, "-o", "-", "--", built.file("streams"), "many", "100000"])
+    ran = ran_in(path, ["bash", "-c", '"$@" | head -c 10 > /dev/null; exit "${PIPESTATUS[0]}"', "sh", built.file("uring_record"), "-o", "-", "--", built.file("streams"), "many", "100000"])
     outcomes.append(Outcome("version 3: a reader that goes away", None if ran.status == 125 and b"Broken pipe" in ran.errors else fault_of(ran)))
     if not shutil.which("zstd"):
         return [*outcomes, Outcome("version 3: through zstd", skipped="there is no zstd")]
     path = built.directory("zstd")
-    line = '"$0" --format 3 -o - -- "$1" many 1000 2>/dev/null | zstd -3 -q > "$2.zst" && zstd -dcq "$2.zst"'
+    line = '"$0" -o - -- "$1" many 1000 2>/dev/null | zstd -3 -q > "$2.zst" && zstd -dcq "$2.zst"'
     ran = ran_in(path, ["sh", "-c", line, built.file("uring_record"), built.file("streams"), path])
     got = program.run(["check"], ran.output)
     return [*outcomes, Outcome("version 3: through zstd", None if got.output == b"ok 1001 places 1 rings\n" else shown(got))]
+
+
+def interrupted_pipe(program: Program) -> List[Outcome]:
+    """INT to all of a pipeline, as a terminal sends it: where the reader ignores it, it gets a trace that ends well."""
+    built = streams()
+    path = built.directory("interrupted-pipe")
+    line = '"$0" -o - -k "$2.kernel" -- "$1" many 100000000 2> /dev/null | (trap "" INT; cat > "$2.trace")'
+    started = subprocess.Popen(["bash", "-c", line, built.file("uring_record"), built.file("streams"), path], cwd=path, start_new_session=True)
+    end = time.monotonic() + SECONDS
+    while time.monotonic() < end and (not os.path.exists(path + ".trace") or os.path.getsize(path + ".trace") < MIB):
+        time.sleep(0.01)
+    os.killpg(started.pid, signal.SIGINT)
+    started.wait(SECONDS)
+    fault = accepted(program, path + ".trace") or replayed(program, path)
+    return [Outcome("the recorder: INT to a pipeline", fault or (None if b"\ntree\n" in read_file(path + ".kernel") else "the results do not end"))]
 
 
 def peak(path: str, command: Sequence[str]) -> Tuple[int, int]:
@@ -236,7 +263,7 @@ def memory(_: Program) -> List[Outcome]:
         peaks = []
         for count in ("1000", "100000"):
             path = built.directory("memory-{}-{}".format(mode, count))
-            words = [built.file("uring_record"), *FORMAT, "-o", "/dev/null", "-k", path + ".kernel", "--", built.file("streams"), mode, count]
+            words = [built.file("uring_record"), "-o", "/dev/null", "-k", path + ".kernel", "--", built.file("streams"), mode, count]
             status, most = peak(path, words)
             peaks.append(most)
             fault = "it ended with {}".format(status) if status else None
@@ -247,10 +274,70 @@ def memory(_: Program) -> List[Outcome]:
     return outcomes
 
 
+# --- Recordings without data ----------------------------------------------------------------------------------------
+
+# What `streams secret` writes, in all ways, and what is in the files from before: one that it reads, and one that it does not use.
+SECRETS = (b"secret of a write", b"secret of vectors", b"secret of a buffer", b"secret of a call", b"secret of blocks")
+OF_START = {"known": b"secret of a file that is there now", "left": b"secret of a file that is not used"}
+# So many bytes of a secret are one too.
+PART = 6
+
+
+def spelled(bytes_: bytes) -> List[bytes]:
+    return [bytes_, bytes_.hex().encode()]
+
+
+def told_of(contents: Sequence[bytes], files: bytes) -> List[bytes]:
+    """What files tell of bytes, as these are or in hexadecimal: parts of secrets, and sums of contents."""
+    secrets = [*SECRETS, *OF_START.values()]
+    parts = {it[at : at + PART] for it in secrets for at in range(len(it) - PART + 1)} | set(secrets)
+    sums = {hashlib.sha256(it).digest() for it in [*secrets, *contents]}
+    return [it for each in sorted(parts | sums) for it in spelled(each) if it in files]
+
+
+def secret(program: Program, words: Sequence[str], with_data: bool) -> Tuple[Optional[str], List[bytes]]:
+    """Records the program of the secrets: what is wrong with the recording, and what it tells of them."""
+    built = streams()
+    path = built.directory("private" + "".join(words))
+    for name, text in OF_START.items():
+        with open(os.path.join(path, name), "wb") as file:
+            file.write(text)
+    given = [*words, *([] if with_data else ["--no-data"])]
+    ran = ran_in(path, [built.file("strict_record"), *given, "-o", path + ".trace", "-k", path + ".kernel", "--", built.file("streams"), "secret"])
+    fault = fault_of(ran) if ran.status else accepted(program, path + ".trace") or replayed(program, path)
+    if fault:
+        return fault, []
+    trace, kernel = read_file(path + ".trace"), read_file(path + ".kernel")
+    found = compared(program.run(["serial", "--sums"], trace).output.decode(), kernel.decode())
+    # (nine entries and a call, for which version 1 has two; three files that are read or written, and one that is left)
+    equal = found.counts["entries"][0]
+    if equal < 10 or found.counts != {**found.counts, "entries": [equal, 0, 0], "tree": [4, 0, 0]}:
+        fault = found.lines()
+    elif len(re.findall(rb" res=\d+ .*op=", kernel)) != equal or b"file /known size=34" not in kernel:
+        fault = "results or sizes are not told"
+    contents = [read_file(os.path.join(path, it)) for it in sorted(os.listdir(path))]
+    return fault, told_of(contents, trace + kernel)
+
+
+def no_data(program: Program) -> List[Outcome]:
+    """With --no-data nothing is told of bytes, in any version, and the results agree; without it, all of them are."""
+    outcomes = []
+    for version in ("1", "2", "3"):
+        fault, told_parts = secret(program, ["--format", version], False)
+        outcomes.append(Outcome("--no-data, version {}".format(version), fault or (repr(told_parts[:3]) if told_parts else None)))
+    fault, told_parts = secret(program, ["--wait"], True)
+    unseen = [it for it in [*SECRETS, *OF_START.values()] if it not in told_parts]
+    made = record(program, "little", ["--no-data", "--limit", "65536"], [streams().file("streams"), "many", "500"])
+    got = program.run(["check"], made.path + ".trace").output
+    outcomes.append(Outcome("--no-data: 500 blocks of 4 KiB in a trace of 64 KiB", made.fault or (None if got == b"ok 501 places 1 rings\n" else repr(got))))
+    return [*outcomes, Outcome("without --no-data the same bytes are told", fault or (repr(unseen) if unseen else None))]
+
+
 def options(program: Program) -> List[Outcome]:
     """What goes together, and the limit."""
     built, outcomes = streams(), []
-    for words in (["--format", "4"], ["--format", "11"], [*FORMAT, "--touched"], ["--format", "2", "--limit", "1073741825"], [*FORMAT, "--limit", "12"]):
+    cases = (["--format", "4"], ["--format", "11"], ["--touched"], [*VERSION_2, "--limit", "1073741825"], ["--limit", "12"], ["--no-data", "--all-sums"], [*VERSION_2, "--no-data", "--touched"])
+    for words in cases:
         ran = ran_in(built.folder.name, [built.file("uring_record"), *words, "true"])
         outcomes.append(Outcome("the recorder: {}".format(spoken(words)), None if ran.status == 125 and b"uring_record: --" in ran.errors else fault_of(ran)))
     made = record(program, "limit", ["--limit", "1000000"], [built.file("streams"), "many", "2000"])
@@ -268,4 +355,4 @@ def part(run: Callable[[Program], List[Outcome]], programs: List[Program]) -> Li
 
 
 def jobs(programs: List[Program]) -> List[Job]:
-    return [partial(part, it, programs) for it in (told, sixteen, rings, sparse, cut, killed, piped, memory, options)]
+    return [partial(part, it, programs) for it in (told, sixteen, rings, sparse, cut, killed, piped, interrupted_pipe, memory, no_data, options)]

@@ -1,5 +1,5 @@
 """Traces of version 3: those of examples/version_3/, drawn ones, and such with bytes changed. The program gives what a second replayer gives
-(model_records.py), and tells of rounds and dependencies what model_rounds.py and model_depends.py tell. `show` refuses such a trace at its version.
+(model_records.py), and tells of rounds and dependencies what model_rounds.py and model_depends.py tell. Their texts are in text.py.
 The second replayer gives what stands beside the examples, and of traces of version 2 that are carried over what it gives of these."""
 import os
 import random
@@ -20,10 +20,12 @@ from harness import EXAMPLES, TOP, Answer, Job, Outcome, Program, difference, fi
 from model import Refused
 from traces import DRAIN, NOP, entry
 
-# How many of each kind are drawn, in how many lots; each of how many traces is also replayed in rounds, and each of how many is given to `show`.
-DRAWN, LOTS, IN_ROUNDS, BY_SHOW = 3_000, 6, 5, 50
+# How many of each kind are drawn, in how many lots; each of how many traces is also replayed in rounds, and each of how many is checked as JSON.
+DRAWN, LOTS, IN_ROUNDS, AS_JSON = 3_000, 6, 5, 50
 # How many traces of version 2 are carried over, in how many lots.
 CARRIED, CARRIED_LOTS = 500, 2
+# How many traces end early.
+CUT = 300
 # How many by the command of bench/.
 BY_BENCH = 20
 # How many drawn traces run in other orders.
@@ -54,11 +56,6 @@ def as_json(line: bytes) -> bytes:
     """The object of an answer."""
     _, places, _, rings, _ = line.decode().split()
     return '{{"kind":"ok","places":"{}","rings":{}}}\n'.format(places, rings).encode()
-
-
-def by_show(program: Program, trace: bytes) -> Optional[str]:
-    """How `show` serves a trace of version 3, if it does."""
-    return difference(program.run(["show"], trace), refused("Version at 8"))
 
 
 def of_rounds(program: Program, trace: bytes, window: int, has_graph: bool) -> Optional[str]:
@@ -92,9 +89,8 @@ def of_drawn(program: Program, seed: int) -> Optional[str]:
     told = told or (of_depends(program, trace, has_graph) if seed % 2 else of_rounds(program, trace, window, has_graph))
     if not told and seed % IN_ROUNDS == 0:
         told = in_rounds(program, trace, 1 + seed % 4, 1 + seed % 7, ["--eager"] if seed % 2 else [])
-    if not told and seed % BY_SHOW == 0:
+    if not told and seed % AS_JSON == 0:
         told = difference(program.run(["check", "--json"], trace), wanted._replace(output=as_json(wanted.output)))
-        told = told or by_show(program, trace)
     return told
 
 
@@ -102,6 +98,16 @@ def of_changed(program: Program, seed: int) -> Optional[str]:
     """The same of a changed trace, which may be of any version then. It is without sums: its buffers may be of any length."""
     trace = record_traces.changed(seed)
     return difference(program.run(["check"], trace), by_model(trace)) or difference(program.run(["serial"], trace), replayed_by_model(trace, False))
+
+
+def of_cut(program: Program, seed: int) -> Optional[str]:
+    """The same of a trace that ends early: it is Short where it ends, by each command."""
+    trace = record_traces.Records(seed).trace()
+    front = trace[: random.Random("cut {}".format(seed)).randrange(len(trace))]
+    wanted = by_model(front)
+    told = None if wanted == refused("Short at {}".format(len(front))) else "by the second reader {!r}".format(wanted.errors)
+    told = told or difference(program.run(["check"], front), wanted)
+    return told or first([it for it in (difference(program.run(words, front), wanted) for words in REPLAYING) if it])
 
 
 def carried(seeds: range) -> List[Outcome]:
@@ -197,7 +203,8 @@ def of_example(programs: List[Program], name: str) -> List[Outcome]:
         outcomes.append(Outcome(label.format("check"), difference(program.run(["check"], trace), wanted)))
         told = as_refused(program, trace, wanted) if is_refused else replayed(program, trace, report)
         outcomes.append(Outcome(label.format("by commands that replay"), told))
-        outcomes.append(Outcome(label.format("show"), by_show(program, trace)))
+        shown = wanted if is_refused else Answer(0, read(VERSION_3, name + ".text"), b"")
+        outcomes.append(Outcome(label.format("show"), difference(program.run(["show"], trace), shown)))
     return outcomes
 
 
@@ -220,5 +227,6 @@ def jobs(programs: List[Program]) -> List[Job]:
     shown: List[Job] = [*(partial(of_example, programs, it) for it in names()), *(partial(fronts, it) for it in programs)]
     part = CARRIED // CARRIED_LOTS
     of_version_2 = [partial(carried, range(at + back, at + back + part)) for back in (0, days.first_seed()) for at in range(0, CARRIED, part)]
+    shown += [partial(lot, programs[0], "traces of version 3 that end early", of_cut, range(at, at + CUT)) for at in (0, days.first_seed())]
     shown += [by_bench, partial(queues, programs), partial(in_other_orders, range(ORDERED)), *of_version_2]
     return shown + [partial(lot, program, what, unlike, seeds) for program, seeds in lots for what, unlike in kinds]

@@ -118,8 +118,8 @@ def quick(program: Program, name: str, given: bytes, wanted: Answer) -> List[Out
     """A pair of reports that takes no time to speak of."""
     label = "diff of {} by {}".format(name, program.compiler)
     got = program.run(["diff"], given)
-    seconds = program.seconds(["diff"], given)
-    late = None if seconds <= MOST_SECONDS else "it took {:.1f} seconds".format(seconds)
+    seconds = program.least(["diff"], given, MOST_SECONDS)
+    late = None if seconds < MOST_SECONDS else "it took {:.1f} seconds".format(seconds)
     return [Outcome(label, difference(got, wanted)), Outcome(label + ", in time", late if got.status == wanted.status else shown(got))]
 
 

@@ -11,7 +11,7 @@ import model
 import traces
 from drawing import Draw
 from examples import names as examples
-from harness import EXAMPLES, TOP, Answer, Job, Outcome, Program, difference, first, read, shown, spoken
+from harness import EXAMPLES, TOP, Answer, Job, Outcome, Program, Timed, difference, first, read, shown, spoken
 from hostile_traces import base
 
 MODES = (["serial"], ["run", "--workers", "3"])
@@ -214,9 +214,8 @@ def tree_sums(program: Program) -> List[Outcome]:
 def in_time(program: Program, holes: Stored) -> Outcome:
     """A piece of zeros costs next to nothing: 4,096 of them take no longer than a few that have bytes."""
     few = Stored(8 * PIECE, [(at * PIECE + 5, b"x") for at in range(8)])
-    one, other = (min(program.seconds(["serial", "--all-sums"], trace_of([it])) for _ in range(2)) for it in (holes, few))
-    late = "4,096 pieces of zeros took {:.2f} seconds, and 8 with a byte {:.2f}".format(one, other)
-    return Outcome("tree sums of zeros, in time, by {}".format(program.compiler), None if one <= 2 * other else late)
+    one, other = (Timed(["serial", "--all-sums"], trace_of([it])) for it in (holes, few))
+    return Outcome("tree sums of zeros, in time, by {}".format(program.compiler), program.outlasts(one, other, 2, counts=False))
 
 
 def differences(program: Program) -> List[Outcome]:

@@ -1,15 +1,16 @@
 """Traces as text: `show` gives the text that model_text.py gives, and by model_make.py the text means the trace, byte for byte. The traces are
-the examples, recorded ones, and drawn ones, half of them with any values in the fields of entries."""
+the examples, recorded ones, and drawn ones of each form; half of them with any values in the fields of entries, and half of version 3."""
 import random
 from functools import partial
-from typing import List, Optional
+from typing import List, Optional, Tuple
 
 import days
 import examples
 import model_make
 import model_text
+import record_traces
 import traces
-from drawing import Draw
+from drawing import LAST, Draw
 from harness import Answer, Job, Outcome, Program, difference, first, read
 
 # How many traces are drawn, in how many lots.
@@ -75,8 +76,55 @@ def of_trace(program: Program, trace: bytes, most: int) -> Optional[str]:
     return None
 
 
+class FieldsOfRecords(Fields):
+    """The same of version 3: rings that continue queues and get slots of each kind, and entries of both forms."""
+
+    def written(self) -> bytes:
+        """An entry, with zeros where it may have some."""
+        made = self.entry()
+        return record_traces.zeros(made) if made[0] in (traces.WRITE, traces.WRITEV) and self.source.randrange(2) else record_traces.stored(made)
+
+    def ranges(self) -> List[Tuple[int, bytes]]:
+        found, end = [], 0
+        for _ in range(self.source.randrange(4)):
+            offset, data = end + self.source.choice((0, 0, 5, 1 << 30)), self.data() or b"x"
+            found.append((offset, data))
+            end = offset + len(data)
+        return found
+
+    def holder(self, table: int, rings: int) -> record_traces.Holder:
+        what = self.source.randrange(3)
+        if what == record_traces.SLOT and rings:
+            return what, self.source.randrange(rings), self.source.randrange(30)
+        return (record_traces.DESCRIPTOR, 0, self.source.randrange(table)) if what and table else (record_traces.DESCRIPTION, 0, self.source.randrange(2))
+
+    def trace(self) -> bytes:
+        ranges, table = self.ranges(), self.source.randrange(30)
+        size = ranges[-1][0] + len(ranges[-1][1]) if ranges else 0
+        items = [traces.directory(b"/d"), record_traces.file(b"/" + b"n" * 70, size + self.source.randrange(2), ranges), traces.name(b"/\xff", 2)]
+        described = [traces.description(2, self.source.randrange(3), self.source.randrange(2), self.number(63)), traces.description(0, 0)]
+        full = [record_traces.descriptor(it, self.source.randrange(2)) for it in range(table) if self.source.randrange(3)]
+        records: List[bytes] = []
+        for number in range(self.source.randrange(1, 4)):
+            slots = [(it, self.holder(table, number)) for it in range(30) if self.source.randrange(3)]
+            queue = self.source.randrange(number) if number and self.source.randrange(2) else LAST
+            records.append(record_traces.ring(30 + self.source.randrange(2), slots, [(1 << 40, 1_000), (0, 0)], queue))
+        ring = self.source.randrange(len(records))
+        for _ in range(self.source.randrange(4)):
+            data = self.data()[:1_000]
+            records.append(record_traces.enter(ring, [self.written() for _ in range(self.source.randrange(6))]))
+            records += [record_traces.fill(ring, 0, 0, data), record_traces.fill_of_zeros(ring, 0, self.source.randrange(9), len(data) // 2)]
+        front = record_traces.head(len(items), len(described), table, len(full))
+        return b"".join([front, *items, *described, *full, *records, record_traces.ring_ends(ring), record_traces.END])
+
+
+# What a drawn trace is, by its seed.
+DRAWS = (lambda seed: Draw(seed).trace(), lambda seed: Fields(seed).trace(), lambda seed: record_traces.Records(seed).trace(),
+         lambda seed: FieldsOfRecords(seed).trace())
+
+
 def of_drawn(program: Program, seed: int) -> Optional[str]:
-    trace = Fields(seed).trace() if seed % 2 else Draw(seed).trace()
+    trace = DRAWS[seed % len(DRAWS)](seed)
     checked = program.run(["check"], trace)
     return of_trace(program, trace, 1 + seed % 40) if checked.status == 0 else difference(program.run(["show"], trace), checked)
 
@@ -90,7 +138,7 @@ def lot(program: Program, seeds: range) -> List[Outcome]:
 def of_examples(program: Program) -> List[Outcome]:
     """The examples and recorded traces: those that are accepted are shown, the others refused in the same words."""
     outcomes = []
-    for at, names in examples.walked():
+    for at, names in examples.walked(()):
         for name in sorted(it for it in names if it.endswith(".trace")):
             trace = read(at, name)
             told = name[: -len("trace")] + "refused"

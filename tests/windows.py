@@ -1,12 +1,11 @@
 """Rounds of large windows: drawn mixes of operations and chains, and traces whose steps wait in ways of their own, cost by what they have
 and not by its square or cube. `./tests/windows.py PROGRAM COUNT` tries so many mixes, and tells the longest."""
-import math
 import random
 import sys
 from functools import partial
 from typing import Callable, Dict, List, NamedTuple, Optional
 
-from harness import Answer, Job, Outcome, Program, difference, first
+from harness import Answer, Job, Outcome, Program, Timed, difference, first
 from traces import AT_FDCWD, CLOSE, DRAIN, FIXED_FILE, FTRUNCATE, LINK, LINKAT, MKDIRAT, NOP, OPENAT, READ, READ_FIXED, RENAMEAT, UNLINKAT
 from traces import WRITE, WRITE_FIXED, description, directory, enter, entry, file, head, ring, two_paths
 
@@ -163,10 +162,8 @@ class Taken(NamedTuple):
 
 
 def taken(program: Program, mode: str, trace: bytes, most: float) -> Taken:
-    """The processor time of a command, where it took too long once the least of two runs."""
-    seconds = program.seconds([mode, *WINDOW], trace)
-    if seconds >= most:
-        seconds = min(seconds, program.seconds([mode, *WINDOW], trace))
+    """The processor time of a command."""
+    seconds = program.least([mode, *WINDOW], trace, most)
     return Taken(seconds, None if seconds < most else "{} takes {:.2f} seconds, and not less than {}".format(mode, seconds, most))
 
 
@@ -193,10 +190,9 @@ def of_waits(program: Program) -> List[Outcome]:
 
 
 def ratio(program: Program, name: str, mode: str, trace: bytes, plain: bytes, most: float) -> Outcome:
-    """That one trace takes less than so many times the processor time of another, least of three runs each."""
-    took, base = (min(program.seconds([mode, *WINDOW], it) for _ in range(3)) for it in (trace, plain))
-    told = None if took < most * base < math.inf else "{:.3f} seconds, and {:.3f}".format(took, base)
-    return Outcome("{} of {} by {}".format(mode, name, program.compiler), told)
+    """That one trace takes less than so many times the processor time of another."""
+    slow, quick = (Timed([mode, *WINDOW], it) for it in (trace, plain))
+    return Outcome("{} of {} by {}".format(mode, name, program.compiler), program.outlasts(slow, quick, most))
 
 
 def of_twice(program: Program) -> List[Outcome]:

@@ -5,7 +5,7 @@
 #include <stdlib.h>
 #include <string.h>
 
-struct options options = { .trace = "uring.trace", .root = ".", .format = 2 };
+struct options options = { .trace = "uring.trace", .root = ".", .format = 3 };
 
 void die(const char *format, ...)
 {

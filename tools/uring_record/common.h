@@ -25,6 +25,7 @@ struct options {
 	bool touched;	     /* bytes of files that the command does not use are not stored */
 	u64 limit;	     /* the most bytes that the trace may have, 0 for its format's */
 	bool all_sums;	     /* the results have tree sums of large files */
+	bool no_data;	     /* neither the trace nor the results have a byte of data */
 	bool verbose;	     /* notes are said as they come up */
 };
 extern struct options options;

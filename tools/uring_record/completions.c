@@ -16,6 +16,8 @@ static void read_came(struct flight *flight, pid_t thread, i32 result, bool is_f
 	struct entry *entry = flight->entry;
 	u64 shown = min64((u64)result, DATA_SHOWN);
 
+	if (options.no_data)
+		return;
 	if (!is_fresh || is_filled_by_others(flight) || !others_slept(flight->process, thread)) {
 		note(is_fresh ? "a read while another thread ran, or another read filled its "
 				"memory: its bytes are not told"

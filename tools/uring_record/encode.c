@@ -138,14 +138,31 @@ void put_description(const struct description *description)
 	put_number(description->position, 8);
 }
 
-/* Of a write whose bytes are many zeros, how many side bytes are before them; else all. */
-static u32 before_zeros(u8 opcode, u32 vectors, const u8 *side, u32 length)
+/* How many side bytes stand before those that are written: all where none are. */
+static u32 before_written(u8 opcode, u32 vectors, u32 length)
 {
-	u32 lengths = opcode == OP_WRITEV && vectors <= MOST_LENGTHS ? 8 * vectors : 0;
-	bool writes = opcode == OP_WRITE || (opcode == OP_WRITEV && vectors <= MOST_LENGTHS);
-	bool is_long = writes && length >= lengths && length - lengths >= LEAST_ZEROS;
+	if (opcode == OP_WRITE)
+		return 0;
+	return opcode == OP_WRITEV && vectors <= MOST_LENGTHS ? (u32)min64(8 * vectors, length)
+							      : length;
+}
 
-	return is_long && is_zero(side + lengths, length - lengths) ? lengths : length;
+/* Whether bytes that the program wrote have the short form of version 3. With --no-data all have.
+ */
+static bool is_short(const u8 *bytes, u64 length)
+{
+	if (options.format != 3)
+		return false;
+	return options.no_data ? length > 0 : length >= LEAST_ZEROS && is_zero(bytes, length);
+}
+
+/* Bytes that the program wrote. All of them are put here: with --no-data as zeros. */
+static void put_written(const u8 *bytes, u64 length)
+{
+	if (options.no_data)
+		put_zeros(length);
+	else
+		put(bytes, length);
 }
 
 /* An entry with its side bytes. */
@@ -158,12 +175,15 @@ static void put_entry(const struct entry *entry)
 	if (entry->is_aside)
 		aside_form(entry, &sqe, &changed, &length);
 	const u8 *side = changed ? changed : entry->side;
-	u32 stored = options.format == 3 ? before_zeros(sqe.opcode, sqe.len, side, length) : length;
+	u32 before = before_written(sqe.opcode, sqe.len, length);
+	bool has_zeros = is_short(side + before, length - before);
 	put(&sqe, sizeof sqe);
 	if (options.format == 3)
-		put_number(stored < length ? FORM_ZEROS : FORM_STORED, 1);
+		put_number(has_zeros ? FORM_ZEROS : FORM_STORED, 1);
 	put_number(length, 4);
-	put(side, stored);
+	put(side, before);
+	if (!has_zeros)
+		put_written(side + before, length - before);
 	free(changed);
 }
 
@@ -211,17 +231,17 @@ static void put_entries(const struct record *record)
 /* Bytes that come into a buffer. */
 static void put_fill(const struct record *record)
 {
-	bool is_short = record->length >= LEAST_ZEROS && is_zero(record->bytes, record->length);
+	bool has_zeros = is_short(record->bytes, record->length);
 
 	put_number(RECORD_FILL, 1);
 	put_number(record->ring, options.format == 3 ? 4 : 1);
 	put_number(record->buffer, 2);
 	if (options.format == 3)
-		put_number(is_short ? FORM_ZEROS : FORM_STORED, 1);
+		put_number(has_zeros ? FORM_ZEROS : FORM_STORED, 1);
 	put_number(record->offset, 4);
 	put_number(record->length, 4);
-	if (options.format != 3 || !is_short)
-		put(record->bytes, record->length);
+	if (!has_zeros)
+		put_written(record->bytes, record->length);
 }
 
 void put_record(const struct record *record)

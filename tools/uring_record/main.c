@@ -27,9 +27,11 @@ static const char help[] =
 	"                       standard error then\n"
 	"  -k, --results FILE   the kernel's results, to compare the replay's report with\n"
 	"  -r, --root FOLDER    the root of the trace's tree (the working directory)\n"
-	"      --format N       the version of the format: 2 (if left out), 1 or 3. In 1 ordinary\n"
-	"                       descriptors become slots 512 and up; 3 is written as the command "
-	"runs\n"
+	"      --format N       the version of the format: 3 (if left out), written as the command "
+	"runs;\n"
+	"                       2, written when it has ended; or 1, where ordinary descriptors "
+	"become\n"
+	"                       slots 512 and up\n"
 	"  -1, --version-1      the same as --format 1\n"
 	"  -n, --nop            an entry outside the profile is recorded as NOP, so that chains "
 	"hold\n"
@@ -40,9 +42,12 @@ static const char help[] =
 	"  -t, --touched        bytes of files that the command never opens, renames or links are "
 	"not "
 	"stored\n"
-	"  -l, --limit BYTES    the most bytes that the trace may have (1073741824, without end in "
-	"version\n"
-	"                       3): there the recording ends, and the command runs on\n"
+	"                       (with --format 2 or 1)\n"
+	"      --no-data        no byte of data and no sum is told: all bytes are zeros in the "
+	"trace\n"
+	"  -l, --limit BYTES    the most bytes that the trace may have (without end; 1073741824 in "
+	"versions\n"
+	"                       1 and 2): there the recording ends, and the command runs on\n"
 	"      --all-sums       the results have tree sums of files over 16 MiB\n"
 	"  -v, --verbose        what is not told faithfully is said as it comes up\n"
 	"  -h, --help           this text\n"
@@ -56,21 +61,14 @@ static const char help[] =
 static const char version[] = "uring_record 1, for traces of versions 1, 2 and 3\n";
 
 static const struct option long_options[] = {
-	{ "output", required_argument, NULL, 'o' },
-	{ "results", required_argument, NULL, 'k' },
-	{ "root", required_argument, NULL, 'r' },
-	{ "version-1", no_argument, NULL, '1' },
-	{ "nop", no_argument, NULL, 'n' },
-	{ "drain", no_argument, NULL, 'd' },
-	{ "wait", no_argument, NULL, 'w' },
-	{ "touched", no_argument, NULL, 't' },
-	{ "limit", required_argument, NULL, 'l' },
-	{ "verbose", no_argument, NULL, 'v' },
-	{ "help", no_argument, NULL, 'h' },
-	{ "version", no_argument, NULL, 'V' },
-	{ "all-sums", no_argument, NULL, 's' },
-	{ "format", required_argument, NULL, 'f' },
-	{ NULL, 0, NULL, 0 },
+	{ "output", required_argument, NULL, 'o' }, { "results", required_argument, NULL, 'k' },
+	{ "root", required_argument, NULL, 'r' },   { "version-1", no_argument, NULL, '1' },
+	{ "nop", no_argument, NULL, 'n' },	    { "drain", no_argument, NULL, 'd' },
+	{ "wait", no_argument, NULL, 'w' },	    { "touched", no_argument, NULL, 't' },
+	{ "limit", required_argument, NULL, 'l' },  { "verbose", no_argument, NULL, 'v' },
+	{ "help", no_argument, NULL, 'h' },	    { "version", no_argument, NULL, 'V' },
+	{ "all-sums", no_argument, NULL, 's' },	    { "no-data", no_argument, NULL, 'N' },
+	{ "format", required_argument, NULL, 'f' }, { NULL, 0, NULL, 0 },
 };
 
 /* A trace may not be limited to less: its descriptions, table and rings are always there. */
@@ -101,7 +99,11 @@ static unsigned read_format(const char *text)
 static void settle_options(void)
 {
 	if (options.format == 3 && options.touched)
-		die("--touched is not for --format 3, which stores files before they are used");
+		die("--touched needs --format 2: version 3 stores files before it is known which "
+		    "are used");
+	if (options.no_data && (options.touched || options.all_sums))
+		die("--no-data stores no bytes and tells no sums: leave out --touched and "
+		    "--all-sums");
 	if (options.format != 3 && options.limit > MOST_BYTES)
 		die("--limit is at most 1073741824 for versions 1 and 2");
 	if (!options.limit)
@@ -128,6 +130,8 @@ static bool *switch_of(int letter)
 		return &options.touched;
 	case 's':
 		return &options.all_sums;
+	case 'N':
+		return &options.no_data;
 	case 'v':
 		return &options.verbose;
 	default:

@@ -89,7 +89,7 @@ static void look_at(struct final_tree *tree, char *path)
 		name->outside = doubted_by(path, (u32)strlen(path));
 	if (!name->is_directory && name->size > MOST_SIZE)
 		name->outside = OUTSIDE_LARGE;
-	if (name->outside == OUTSIDE_UNTOUCHED)
+	if (options.no_data || name->outside == OUTSIDE_UNTOUCHED)
 		*name->sum = 0;
 	else if (!name->is_directory && name->size <= MOST_SUMMED)
 		sum_file(full, name);

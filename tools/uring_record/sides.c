@@ -48,7 +48,7 @@ static bool may_read(pid_t thread, const struct iovec *vector)
 
 	return length <= MUCH ||
 	       (length <= MOST_MOVED && fetch(thread, address_of(vector) + length - 1, &last, 1) &&
-		has_room(length));
+		has_room(stored_of(length)));
 }
 
 /* An entry whose bytes cannot be had asks for none: its replay changes nothing. */
@@ -306,6 +306,22 @@ static void fill_differing(struct flight *flight, struct buffer *buffer, const u
 	}
 }
 
+/* Fills what a fixed write takes and the replay's buffer has otherwise, but for what reads in
+ * flight will put there. */
+static void fill_unlike(struct flight *flight, struct buffer *buffer, const u8 *bytes)
+{
+	u64 from = flight->entry->sqe.addr, length = flight->entry->sqe.len;
+	u8 *awaited = allocate(length);
+	struct awaited those = { flight->ring, awaited };
+	struct search search = { .from = from, .to = from + length };
+
+	search.look = mark_awaited;
+	search.context = &those;
+	search_fillings(flight->process, &search);
+	fill_differing(flight, buffer, bytes, awaited);
+	free(awaited);
+}
+
 void fill_buffer(struct flight *flight, pid_t thread)
 {
 	u64 from = flight->entry->sqe.addr, length = flight->entry->sqe.len;
@@ -322,18 +338,14 @@ void fill_buffer(struct flight *flight, pid_t thread)
 	}
 	u8 *bytes = allocate(length);
 	u64 offset = from - buffer->address;
-	if (!fetch(thread, from, bytes, length)) {
+	bool is_read = options.no_data || fetch(thread, from, bytes, length);
+	/* (a fill of what changed alone would tell where bytes did) */
+	if (options.no_data)
+		memset(buffer->unknown + offset, 1, length);
+	if (!is_read)
 		unread(flight->entry, "a registered buffer that cannot be read");
-	} else if (memchr(buffer->unknown + offset, 1, length) ||
-		   memcmp(buffer->values + offset, bytes, length)) {
-		u8 *awaited = allocate(length);
-		struct awaited those = { flight->ring, awaited };
-		struct search search = { .from = from, .to = from + length };
-		search.look = mark_awaited;
-		search.context = &those;
-		search_fillings(flight->process, &search);
-		fill_differing(flight, buffer, bytes, awaited);
-		free(awaited);
-	}
+	else if (memchr(buffer->unknown + offset, 1, length) ||
+		 memcmp(buffer->values + offset, bytes, length))
+		fill_unlike(flight, buffer, bytes);
 	free(bytes);
 }

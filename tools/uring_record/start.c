@@ -171,6 +171,8 @@ static bool add_file(int descriptor, char *path, const struct stat *status)
 		return false;
 	item->size = (u64)status->st_size;
 	set_node(status, (u32)trace.item_count);
+	if (options.no_data)
+		return true;
 	if (options.touched && item->size)
 		set_doubt(status->st_dev, status->st_ino, OUTSIDE_UNTOUCHED);
 	else if (options.format == 3)

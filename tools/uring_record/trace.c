@@ -95,6 +95,11 @@ bool would_fit(u64 bytes)
 	return !trace.is_ended && trace.bytes + bytes + fixed_bytes() <= options.limit;
 }
 
+u64 stored_of(u64 written)
+{
+	return options.no_data && options.format == 3 ? 0 : written;
+}
+
 bool has_room(u64 bytes)
 {
 	if (trace.is_ended || would_fit(bytes))
@@ -184,10 +189,11 @@ struct record *new_record(struct ring *ring, u32 count)
 	return record;
 }
 
-/* The bytes of an entry in the trace. */
+/* The bytes of an entry in the trace. (With --no-data those of a path are counted when it is put.)
+ */
 static u64 bytes_of(const struct entry *entry)
 {
-	return sizeof entry->sqe + more_of(4, MORE_OF_ENTRY) + entry->side_length;
+	return sizeof entry->sqe + more_of(4, MORE_OF_ENTRY) + stored_of(entry->side_length);
 }
 
 u32 places_of(const struct record *record)
@@ -241,7 +247,7 @@ void append_record(struct record *record)
 {
 	u64 bytes = record->kind == RECORD_ENTRIES
 			    ? more_of(ENTRIES_BYTES, MORE_OF_ENTRIES)
-			    : more_of(FILL_BYTES, MORE_OF_FILL) + record->length;
+			    : more_of(FILL_BYTES, MORE_OF_FILL) + stored_of(record->length);
 	u32 places = places_of(record);
 
 	for (u32 at = 0; at < record->count; at++)

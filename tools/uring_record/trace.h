@@ -164,6 +164,9 @@ void end_recording(const char *why);
 bool has_room(u64 bytes);
 /* The same, and the recording goes on. */
 bool would_fit(u64 bytes);
+/* How many of the bytes of a write or a fill take room: with --no-data version 3 has their number
+ * alone. */
+u64 stored_of(u64 written);
 
 /* The node (number of an item, 0 for the root) of a file, or NO_ITEM; and its being told. */
 u32 node_of(const struct stat *status);

@@ -235,9 +235,17 @@ impl Stretch {
         ensures start { end_of result ≡ 0 }
         ensures stretch { (t : Recording) → IsStretch t result }
     {
+        Stretch::ahead_of(alloc, 0, 0)
+    }
+
+    /// The stretch of no places, ahead of a place that so many chains end before. It takes no
+    /// memory.
+    pub fn ahead_of(alloc: Global, place: u32, chains: u32) -> Self
+        ensures { result ≡ record { first = place; chains = chains; roles = [] } }
+    {
         Stretch {
-            first: 0,
-            chains_before: 0,
+            first: place,
+            chains_before: chains,
             members: Vec::new(alloc),
             chains: Vec::new(alloc),
         }

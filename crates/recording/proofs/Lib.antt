@@ -1,3 +1,5 @@
+pub mod Blanks
+pub mod Fronts
 pub mod RecordsAccepted
 pub mod RecordsFacts
 pub mod Spots

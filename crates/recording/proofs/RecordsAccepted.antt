@@ -1,60 +1,91 @@
--- Each spelled trace of version 3 gives a recording that a replay accepts.
-use Rattle.std.proofs.Common.{◌≡◌, ℕ, ◌≤◌, length, Some, sym, ap, subst, arith}
+-- A recording of version 3 is one that a replay accepts, from its start and record by record.
+use Rattle.std.proofs.Common.{◌≡◌, ◌≤◌, true, length, subst, refl, arith}
 use Rattle.std.specs.List.{All}
-use Rattle.std.proofs.lemmas.List.Elements.{All-nil, All-weaker, All-get_or}
-use Rattle.std.proofs.lemmas.Option.{slice_get_within, get_or_from_slice_get}
-use Rattle.trace_records.specs.declared.trace.Trace.{Trace}
+use Rattle.std.proofs.lemmas.List.Elements.{All-nil, All-weaker}
+use Rattle.trace_records.specs.Front.{Front}
+use Rattle.trace_records.specs.Whole.{Ends}
+use Rattle.trace_records.specs.declared.start.Start.{Start}
+use Rattle.trace_format.specs.declared.entry.Entry.{Entry}
+use Rattle.trace_format.specs.Sides.{is_side_of}
+use Rattle.recording.specs.declared.recording.Recording.{Recording}
 use Rattle.recording.specs.declared.recording.Ring.{Ring}
-use Rattle.recording.specs.Accepted.{HasSizes, RecordsAccepted}
-use Rattle.recording.specs.Actions.{Step}
-use Rattle.recording.specs.Growing.{of_records}
+use Rattle.recording.specs.Accepted.{IsAccepted, RecordsAccepted}
+use Rattle.recording.specs.Actions.{Action, submit, fill, register}
+use Rattle.recording.specs.Growing.{Grown, grown_in, of_start, with_grown, with_records, no_records}
 use Rattle.recording.specs.Limits.{table_limit, buffers_limit}
 use Rattle.recording.specs.Rings.{slots_of}
-use Rattle.recording.specs.Spelled.{IsSpelled}
-use Rattle.recording.specs.Steps.{step_at}
-use Rattle.recording.proofs.RecordsFacts.{RingFits, StepFits, ActionFits, grown_fits, spelled_start}
-use Rattle.recording.proofs.StartFacts.{length-table, table_fits}
+use Rattle.recording.proofs.RecordsFacts.{RingFits, StepFits, ActionFits, GrownFits, all_at, all_from, grown_fits, spelled_start}
+use Rattle.recording.proofs.StartFacts.{StartFits, length-table, table_fits}
 
--- a ring with no slots but empty ones has no more than those
-few_slots : (r : Ring) → RingFits r → slots_of r ≤ table_limit
-few_slots r fits = omega (arith, fits.spare, ap length fits.empty)
-
-sizes : (t : Trace) → IsSpelled t → HasSizes (of_records t)
-sizes t h =
-    let start = spelled_start t h in
-    let grown = (grown_fits t h).1 in
-    let rings = (of_records t).rings in
+-- with rings and steps that fit instead
+pub grown_accepted : (v : Recording) (f : Front) (g : Grown) → IsAccepted v → GrownFits (length v.descriptions) f g → IsAccepted (with_grown v g)
+grown_accepted v f g h fits =
+    let d = length v.descriptions in
+    let steps = StepFits (length g.rings) in
     record {
-      items = start.items;
-      descriptions = start.descriptions;
-      descriptors = omega (arith, start.table_size, length-table t.start.table_size t.start.descriptors);
-      rings = grown.few_rings;
-      slots = All-weaker RingFits (λ r. slots_of r ≤ table_limit) few_slots rings grown.rings;
-      buffers = All-weaker RingFits (λ (r : Ring). length r.buffers ≤ buffers_limit) (λ r fits. fits.buffers) rings grown.rings;
-      places = grown.few_steps;
+      sizes = record {
+        items = h.sizes.items;
+        descriptions = h.sizes.descriptions;
+        descriptors = h.sizes.descriptors;
+        rings = fits.few_rings;
+        slots = All-weaker (RingFits d) (λ r. slots_of r ≤ table_limit) (λ r ring. ring.slots) g.rings fits.rings;
+        buffers = All-weaker (RingFits d) (λ (r : Ring). length r.buffers ≤ buffers_limit) (λ r ring. ring.buffers) g.rings fits.rings;
+        places = fits.few_steps;
+      };
+      nodes = h.nodes;
+      descriptions = h.descriptions;
+      slots = All-weaker (RingFits d) (λ (r : Ring). All (λ n. n ≤ d) r.slots) (λ r ring. ring.held) g.rings fits.rings;
+      descriptors = h.descriptors;
+      fits = λ k s e here action. subst ActionFits action (all_at steps g.steps k s here fits.steps).action;
+      rings = λ k s here. (all_at steps g.steps k s here fits.steps).in_rings;
     }
 
--- Each step fits.
-one_step : (t : Trace) → IsSpelled t → (k : ℕ) (s : Step) → step_at (of_records t) k ≡ Some s → StepFits (length (of_records t).rings) s
-one_step t h k s here =
-    let steps = (of_records t).steps in
-    let fits = StepFits (length (of_records t).rings) in
-    subst fits (get_or_from_slice_get steps k s s here) (All-get_or fits steps k s (slice_get_within steps k s here) (grown_fits t h).1.steps)
+-- the bytes beside an entry fit it
+action_fits : (a : Action) → ((e : Entry) → a ≡ submit e → is_side_of e.sqe e.side ≡ true) → ActionFits a
+action_fits (submit e) h = h e refl
+action_fits (fill buffer offset bytes) h = tt
+action_fits (register slots) h = tt
 
--- no slot holds anything
-no_slots : (n : ℕ) (r : Ring) → RingFits r → All (λ m. m ≤ n) r.slots
-no_slots n r fits = subst (All (λ m. m ≤ n)) (sym fits.empty) (All-nil (λ m. m ≤ n))
+-- the rings and steps of a recording that a replay accepts fit
+pub accepted_fits : (v : Recording) (f : Front) → IsAccepted v → length f.rings ≡ length v.rings → f.places ≡ length v.steps → GrownFits (length v.descriptions) f (grown_in v)
+accepted_fits v f h rings places =
+    let d = length v.descriptions in
+    record {
+      rings_are = rings;
+      places_are = places;
+      few_rings = h.sizes.rings;
+      few_steps = h.sizes.places;
+      rings = all_from (RingFits d) v.rings (λ i r here. record {
+        slots = all_at (λ r. slots_of r ≤ table_limit) v.rings i r here h.sizes.slots;
+        buffers = all_at (λ (r : Ring). length r.buffers ≤ buffers_limit) v.rings i r here h.sizes.buffers;
+        held = all_at (λ (r : Ring). All (λ n. n ≤ d) r.slots) v.rings i r here h.slots;
+      });
+      steps = all_from (StepFits (length v.rings)) v.steps (λ i s here. record { in_rings = h.rings i s here; action = action_fits s.action (λ e action. h.fits i s e here action) });
+    }
+
+-- before the first record
+pub start_accepted : (s : Start) → StartFits s → IsAccepted (of_start s)
+start_accepted s start =
+    let d = length s.descriptions in
+    record {
+      sizes = record {
+        items = start.items;
+        descriptions = start.descriptions;
+        descriptors = omega (arith, start.table_size, length-table s.table_size s.descriptors);
+        rings = omega arith;
+        slots = All-nil (λ r. slots_of r ≤ table_limit);
+        buffers = All-nil (λ (r : Ring). length r.buffers ≤ buffers_limit);
+        places = omega arith;
+      };
+      nodes = start.nodes;
+      descriptions = start.lead;
+      slots = All-nil (λ (r : Ring). All (λ n. n ≤ d) r.slots);
+      descriptors = table_fits s.table_size d s.descriptors start.descriptors;
+      fits = λ k s e here action. absurd (cc);
+      rings = λ k s here. absurd (cc);
+    }
 
 pub records_accepted : RecordsAccepted
 records_accepted t h =
-    let start = spelled_start t h in
-    let descriptions = length t.start.descriptions in
-    record {
-      sizes = sizes t h;
-      nodes = start.nodes;
-      descriptions = start.lead;
-      slots = All-weaker RingFits (λ (r : Ring). All (λ m. m ≤ descriptions) r.slots) (no_slots descriptions) (of_records t).rings (grown_fits t h).1.rings;
-      descriptors = table_fits t.start.table_size descriptions t.start.descriptors start.descriptors;
-      fits = λ k s e here action. subst ActionFits action (one_step t h k s here).action;
-      rings = λ k s here. (one_step t h k s here).in_rings;
-    }
+    let grown = grown_fits t h (length t.start.descriptions) in
+    grown_accepted (of_start t.start) grown.0 (with_records no_records t.records) (start_accepted t.start (spelled_start (Ends t.start) h.0 t.start t.records h.1)) grown.1

@@ -1,13 +1,13 @@
 -- What the format asks of each record of version 3, and of the rings and steps of the records so far.
-use Rattle.std.proofs.Common.{◌≡◌, ℕ, ◌+◌, ◌<◌, ◌≤◌, true, List, [], ◌∷◌, ◌++◌, length, Option, Some, None, refl, sym, subst, arith, inl, inr, length-append}
+use Rattle.std.proofs.Common.{◌≡◌, ℕ, suc, ◌+◌, ◌<◌, ◌≤◌, true, List, [], ◌∷◌, ◌++◌, length, Option, Some, None, refl, sym, subst, arith, inl, inr, length-append}
 use Rattle.std.specs.Prelude.{◌^◌, ◌==◌, map}
-use Rattle.std.specs.List.{All}
+use Rattle.std.specs.List.{All, slice_get}
 use Rattle.std.specs.Int.{w16, w32}
 use Rattle.std.proofs.lemmas.Bool.{leb-true}
 use Rattle.std.proofs.lemmas.Bool.Decides.{nat_tests}
-use Rattle.std.proofs.lemmas.List.{length-set, length-map}
-use Rattle.std.proofs.lemmas.List.Elements.{All-nil, All-append, All-push, All-map, All-set, All-weaker, All-get_or}
-use Rattle.std.proofs.lemmas.Option.{slice_get_cases, same_Some, none-some}
+use Rattle.std.proofs.lemmas.List.{append-nil, length-set, length-map}
+use Rattle.std.proofs.lemmas.List.Elements.{All-nil, All-cons, All-append, All-push, All-map, All-set, All-weaker, All-get_or}
+use Rattle.std.proofs.lemmas.Option.{slice_get_cases, slice_get_within, get_or_from_slice_get, same_Some, none-some}
 use Rattle.sqe_codec.specs.declared.sqe.Sqe.{Sqe}
 use Rattle.sqe_codec.specs.Fields.{entry_of}
 use Rattle.trace_format.specs.Submitted.{Submitted}
@@ -16,7 +16,7 @@ use Rattle.trace_format.specs.Text.{buffer}
 use Rattle.trace_format.proofs.Apart.{AnyText, keeps_any, Own, apart, at_place, at_test, test_passed, at_known, at_done, at_choice, within_limit, each, length-several}
 use Rattle.trace_records.specs.Front.{Front, after, ring_at, sizes_of, places_of, no_records as no_front}
 use Rattle.trace_records.specs.Records.{ring_there, meant, stored, zeros, entry, enter, filled, fill, ring, ring_ends, ring_starts, body, has_room, next}
-use Rattle.trace_records.specs.Whole.{Behind, Ends}
+use Rattle.trace_records.specs.Whole.{Behind, Begins, Ends}
 use Rattle.trace_records.specs.declared.front.Sizes.{Sizes}
 use Rattle.trace_records.specs.declared.record.Entry.{Entry}
 use Rattle.trace_records.specs.declared.record.Beside.{Beside}
@@ -27,12 +27,24 @@ use Rattle.trace_records.specs.declared.start.Descriptor.{Descriptor}
 use Rattle.trace_records.specs.declared.start.Start.{Start}
 use Rattle.trace_records.specs.declared.trace.Trace.{Trace}
 use Rattle.recording.specs.declared.recording.Ring.{Ring}
-use Rattle.recording.specs.Growing.{Grown, submitted, filling_bytes, new_ring, with_end, with_record, with_records, no_records, of_records}
+use Rattle.recording.specs.Fronts.{IsSpelledFront}
+use Rattle.recording.specs.Growing.{Grown, HasRoom, submitted, filling_bytes, new_ring, with_end, with_record, with_records, no_records}
 use Rattle.recording.specs.Limits.{places_limit, table_limit, buffers_limit}
+use Rattle.recording.specs.Rings.{slots_of}
 use Rattle.recording.specs.Spelled.{IsSpelled}
-use Rattle.recording.specs.Steps.{places}
 use Rattle.recording.specs.Actions.{Step, Action, submit, fill as fills, register}
 use Rattle.recording.proofs.StartFacts.{DescriptorFits, StartFits, start_fits}
+
+-- ---- lists
+
+-- what holds of all holds of one
+pub all_at : {X : Type 0} (P : X → Type 0) (xs : List X) (i : ℕ) (x : X) → slice_get xs i ≡ Some x → All P xs → P x
+all_at P xs i x here all = subst P (get_or_from_slice_get xs i x x here) (All-get_or P xs i x (slice_get_within xs i x here) all)
+
+-- what holds of each holds of all
+pub all_from : {X : Type 0} (P : X → Type 0) (xs : List X) → ((i : ℕ) (x : X) → slice_get xs i ≡ Some x → P x) → All P xs
+all_from P [] each = All-nil P
+all_from P (x ∷ xs) each = All-cons P x xs (each 0 x refl) (all_from P xs (λ i y here. each (suc i) y here))
 
 -- ---- entries
 
@@ -181,11 +193,11 @@ record_fits s f r o =
 
 -- ---- rings and steps
 
--- A ring whose slots are empty, with no more of each than its limit.
-pub record RingFits (r : Ring) : Type 0 where
-  pub empty : r.slots ≡ []
-  pub spare : r.spare ≤ table_limit
+-- A ring with no more of each than its limit, whose slots hold one of so many descriptions, or nothing.
+pub record RingFits (descriptions : ℕ) (r : Ring) : Type 0 where
+  pub slots : slots_of r ≤ table_limit
   pub buffers : length r.buffers ≤ buffers_limit
+  pub held : All (λ n. n ≤ descriptions) r.slots
 
 -- The bytes beside an entry that is submitted fit it.
 abbrev pub ActionFits : Action → Type 0
@@ -199,16 +211,16 @@ pub record StepFits (rings : ℕ) (s : Step) : Type 0 where
   pub action : ActionFits s.action
 
 -- The rings and steps so far are those that the front counts, within their limits.
-pub record GrownFits (f : Front) (g : Grown) : Type 0 where
+pub record GrownFits (descriptions : ℕ) (f : Front) (g : Grown) : Type 0 where
   pub rings_are : length f.rings ≡ length g.rings
   pub places_are : f.places ≡ length g.steps
   pub few_rings : length g.rings ≤ table_limit
   pub few_steps : length g.steps ≤ places_limit
-  pub rings : All RingFits g.rings
+  pub rings : All (RingFits descriptions) g.rings
   pub steps : All (StepFits (length g.rings)) g.steps
 
-pub none_fit : GrownFits no_front no_records
-none_fit = record { rings_are = refl; places_are = refl; few_rings = omega arith; few_steps = omega arith; rings = All-nil RingFits; steps = All-nil (StepFits 0) }
+pub none_fit : (d : ℕ) → GrownFits d no_front no_records
+none_fit d = record { rings_are = refl; places_are = refl; few_rings = omega arith; few_steps = omega arith; rings = All-nil (RingFits d); steps = All-nil (StepFits 0) }
 
 -- steps on one of so many rings are on one of more
 more_rings : (n m : ℕ) (steps : List Step) → n ≤ m → All (StepFits n) steps → All (StepFits m) steps
@@ -226,11 +238,11 @@ entries_fit n ring from entries lt all =
     (All-map (λ e. StepFits n (step_of ring from e)) submitted entries (All-weaker EntryFits (λ e. StepFits n (step_of ring from (submitted e))) one entries all))
 
 -- a ring that ends still fits, and stays in its place
-end_fits : (rings : List Ring) (n : ℕ) → All RingFits rings → All RingFits (with_end rings n)
-end_fits rings n all = elim (slice_get_cases rings n).1 [
+end_fits : (d : ℕ) (rings : List Ring) (n : ℕ) → All (RingFits d) rings → All (RingFits d) (with_end rings n)
+end_fits d rings n all = elim (slice_get_cases rings n).1 [
   | inl h ↦
-      let one : RingFits h.0 = subst RingFits h.3 (All-get_or RingFits rings n h.0 h.1 all) in
-      rw (h.2, with_end) (All-set RingFits rings n (record h.0 { ended = true }) (record { empty = one.empty; spare = one.spare; buffers = one.buffers }) all)
+      let one : RingFits d h.0 = all_at (RingFits d) rings n h.0 h.2 all in
+      rw (h.2, with_end) (All-set (RingFits d) rings n (record h.0 { ended = true }) (record { slots = one.slots; buffers = one.buffers; held = one.held }) all)
   | inr h ↦ rw (h.1, with_end) all
 ]
 
@@ -241,8 +253,8 @@ length-with_end rings n = elim (slice_get_cases rings n).1 [
 ]
 
 -- one record more
-pub one_fits : (f : Front) (g : Grown) (r : Record) → RecordFits f r → GrownFits f g → GrownFits (after f r) (with_record g r)
-one_fits f g (Enter n entries) h fits =
+pub one_fits : (d : ℕ) (f : Front) (g : Grown) (r : Record) → RecordFits f r → GrownFits d f g → GrownFits d (after f r) (with_record g r)
+one_fits d f g (Enter n entries) h fits =
     let steps : List Step = map (step_of n (length g.steps)) (map submitted entries) in
     let many : length (g.steps ++ steps) ≡ length g.steps + length entries = omega (arith, length-append g.steps steps, length-map (map submitted entries) (step_of n (length g.steps)), length-map entries submitted) in
     record {
@@ -253,7 +265,7 @@ one_fits f g (Enter n entries) h fits =
       rings = fits.rings;
       steps = All-append (StepFits (length g.rings)) g.steps steps fits.steps (entries_fit (length g.rings) n (length g.steps) entries (omega (arith, h.0, fits.rings_are)) h.1);
     }
-one_fits f g (Fill n b offset made) h fits =
+one_fits d f g (Fill n b offset made) h fits =
     let step : Step = record { ring = n; from_record = length g.steps; action = fills b offset (filling_bytes made) } in
     let many : length (g.steps ++ step ∷ []) ≡ length g.steps + 1 = length-append g.steps (step ∷ []) in
     record {
@@ -264,7 +276,7 @@ one_fits f g (Fill n b offset made) h fits =
       rings = fits.rings;
       steps = All-push (StepFits (length g.rings)) g.steps step fits.steps (record { in_rings = omega (arith, h.0, fits.rings_are); action = tt });
     }
-one_fits f g (RingStarts made) h fits =
+one_fits d f g (RingStarts made) h fits =
     let one : Ring = new_ring g.rings made in
     let step : Step = record { ring = length g.rings; from_record = length g.steps; action = register made.full } in
     let rings : length (g.rings ++ one ∷ []) ≡ length g.rings + 1 = length-append g.rings (one ∷ []) in
@@ -275,65 +287,59 @@ one_fits f g (RingStarts made) h fits =
       places_are = omega (arith, many, fits.places_are);
       few_rings = omega (arith, rings, fits.rings_are, h.1);
       few_steps = omega (arith, many, fits.places_are, h.2);
-      rings = All-push RingFits g.rings one fits.rings (record { empty = refl; spare = h.0.slots; buffers = h.0.buffers });
+      rings = All-push (RingFits d) g.rings one fits.rings (record { slots = omega (arith, h.0.slots); buffers = h.0.buffers; held = All-nil (λ n. n ≤ d) });
       steps = All-push (StepFits (length (g.rings ++ one ∷ []))) g.steps step before (record { in_rings = omega (arith, rings); action = tt });
     }
-one_fits f g (RingEnds n) h fits =
+one_fits d f g (RingEnds n) h fits =
     let same = length-with_end g.rings n in
     record {
       rings_are = omega (arith, fits.rings_are, same, length-set f.rings n None);
       places_are = omega (arith, fits.places_are);
       few_rings = omega (arith, fits.few_rings, same);
       few_steps = fits.few_steps;
-      rings = end_fits g.rings n fits.rings;
+      rings = end_fits d g.rings n fits.rings;
       steps = more_rings (length g.rings) (length (with_end g.rings n)) g.steps (omega (arith, same)) fits.steps;
     }
 
 -- ---- all records
 
 -- The records so far fit, and each of those that follow fits what is before it.
-abbrev pub AllFit : Front → Grown → List Record → Type 0
-AllFit f g [] = GrownFits f g
-AllFit f g (r ∷ rs) = GrownFits f g × RecordFits f r × AllFit (after f r) (with_record g r) rs
+abbrev pub AllFit : ℕ → Front → Grown → List Record → Type 0
+AllFit d f g [] = GrownFits d f g
+AllFit d f g (r ∷ rs) = GrownFits d f g × RecordFits f r × AllFit d (after f r) (with_record g r) rs
 
-all_fit : (s : Start) (f : Front) (g : Grown) (place : ℕ) (text : List ℕ) (rs : List Record) → Behind (Ends s) s f place text rs → GrownFits f g → AllFit f g rs
-all_fit s f g place text [] b fits = fits
-all_fit s f g place text (r ∷ rs) b fits =
+all_fit : (Follows : Front → ℕ → List ℕ → Type 0) (s : Start) (d : ℕ) (f : Front) (g : Grown) (place : ℕ) (text : List ℕ) (rs : List Record) → Behind Follows s f place text rs → GrownFits d f g → AllFit d f g rs
+all_fit Follows s d f g place text [] b fits = fits
+all_fit Follows s d f g place text (r ∷ rs) b fits =
     let one = record_fits s f r (record { place = place; text = b.0; has = tt; is = b.3 }) in
-    (fits, one, all_fit s (after f r) (with_record g r) (place + length b.0) b.1 rs b.4 (one_fits f g r one fits))
+    (fits, one, all_fit Follows s d (after f r) (with_record g r) (place + length b.0) b.1 rs b.4 (one_fits d f g r one fits))
 
-pub records_fit : (t : Trace) → IsSpelled t → AllFit no_front no_records t.records
-records_fit t h = all_fit t.start no_front no_records (length h.1.0) h.1.1 t.records h.1.4 none_fit
+-- So do those of a trace, whatever follows.
+pub records_fit : (Follows : Front → ℕ → List ℕ → Type 0) (bytes : List ℕ) (s : Start) (rs : List Record) → Begins Follows bytes s rs → (d : ℕ) → AllFit d no_front no_records rs
+records_fit Follows bytes s rs h d = all_fit Follows s d no_front no_records (length h.0) h.1 rs h.4 (none_fit d)
 
 -- What all records give fits.
-last_fits : (f : Front) (g : Grown) (rs : List Record) → AllFit f g rs → (end : Front) × GrownFits end (with_records g rs)
-last_fits f g [] fits = (f, fits)
-last_fits f g (r ∷ rs) fits = last_fits (after f r) (with_record g r) rs fits.2
+last_fits : (d : ℕ) (f : Front) (g : Grown) (rs : List Record) → AllFit d f g rs → (end : Front) × GrownFits d end (with_records g rs)
+last_fits d f g [] fits = (f, fits)
+last_fits d f g (r ∷ rs) fits = last_fits d (after f r) (with_record g r) rs fits.2
 
-pub grown_fits : (t : Trace) → IsSpelled t → (end : Front) × GrownFits end (with_records no_records t.records)
-grown_fits t h = last_fits no_front no_records t.records (records_fit t h)
+pub grown_fits : (t : Trace) → IsSpelled t → (d : ℕ) → (end : Front) × GrownFits d end (with_records no_records t.records)
+grown_fits t h d = last_fits d no_front no_records t.records (records_fit (Ends t.start) h.0 t.start t.records h.1 d)
 
--- The start of a spelled trace fits.
-pub spelled_start : (t : Trace) → IsSpelled t → StartFits t.start
-spelled_start t h = start_fits t.start (record { place = 0; text = h.1.0; has = tt; is = h.1.3 })
+-- The start of a text fits.
+pub spelled_start : (Follows : Front → ℕ → List ℕ → Type 0) (bytes : List ℕ) (s : Start) (rs : List Record) → Begins Follows bytes s rs → StartFits s
+spelled_start Follows bytes s rs h = start_fits s (record { place = 0; text = h.0; has = tt; is = h.3 })
 
-pub places_within : (t : Trace) → IsSpelled t → places (of_records t) ≤ places_limit
-places_within t h = (grown_fits t h).1.few_steps
+-- Bytes spell it, and no record.
+pub start_alone : (Follows : Front → ℕ → List ℕ → Type 0) (bytes : List ℕ) (s : Start) (rs : List Record) → Begins Follows bytes s rs → IsSpelledFront s []
+start_alone Follows bytes s rs h = (h.0, (h.0, [], sym (append-nil h.0), h.3, refl))
 
-pub rings_within : (t : Trace) → IsSpelled t → length (of_records t).rings ≤ table_limit
-rings_within t h = (grown_fits t h).1.few_rings
-
-pub descriptors_within : (t : Trace) → IsSpelled t → All (λ (d : Descriptor). d.description + 1 < 2 ^ 32) t.start.descriptors
-descriptors_within t h =
-    let start = spelled_start t h in
-    All-weaker (DescriptorFits t.start) (λ (d : Descriptor). d.description + 1 < 2 ^ 32) (λ d fits. omega (arith, fits.description, start.descriptions)) t.start.descriptors start.descriptors
+pub descriptors_within : (s : Start) → IsSpelledFront s [] → All (λ (d : Descriptor). d.description + 1 < 2 ^ 32) s.descriptors
+descriptors_within s h =
+    let start = spelled_start (λ front place text. text ≡ []) h.0 s [] h.1 in
+    All-weaker (DescriptorFits s) (λ (d : Descriptor). d.description + 1 < 2 ^ 32) (λ d fits. omega (arith, fits.description, start.descriptions)) s.descriptors start.descriptors
 
 -- ---- what is before a record
-
--- There is room for one ring more, and for the places of a record.
-pub record HasRoom (g : Grown) (r : Record) : Type 0 where
-  pub rings : length g.rings + 1 < 2 ^ 32
-  pub places : length g.steps + places_of r ≤ places_limit
 
 places_fit : (f : Front) (r : Record) → RecordFits f r → f.places ≤ places_limit → f.places + places_of r ≤ places_limit
 places_fit f (Enter ring entries) h le = h.2
@@ -341,16 +347,24 @@ places_fit f (Fill ring buffer offset filling) h le = omega (arith, h.1)
 places_fit f (RingStarts ring) h le = omega (arith, h.2)
 places_fit f (RingEnds ring) h le = omega (arith, le)
 
-room_behind : (f : Front) (g : Grown) (earlier : List Record) (r : Record) (later : List Record) → AllFit f g (earlier ++ r ∷ later) → HasRoom (with_records g earlier) r
-room_behind f g [] r later fits = record {
-  rings = omega (arith, fits.0.few_rings);
-  places = omega (arith, fits.0.places_are, places_fit f r fits.1 (omega (arith, fits.0.places_are, fits.0.few_steps)));
+-- Where the records so far fit, and the next one too, there is room for it.
+pub room_for : (d : ℕ) (f : Front) (g : Grown) (r : Record) → GrownFits d f g → RecordFits f r → HasRoom g r
+room_for d f g r grown one = record {
+  rings = omega (arith, grown.few_rings);
+  places = omega (arith, grown.places_are, places_fit f r one (omega (arith, grown.places_are, grown.few_steps)));
 }
-room_behind f g (x ∷ earlier) r later fits = room_behind (after f x) (with_record g x) earlier r later fits.2
+
+-- The records before one fit, and so does it behind them.
+pub fit_behind : (d : ℕ) (f : Front) (g : Grown) (earlier : List Record) (r : Record) (later : List Record) → AllFit d f g (earlier ++ r ∷ later)
+    → (here : Front) × GrownFits d here (with_records g earlier) × RecordFits here r
+fit_behind d f g [] r later fits = (f, fits.0, fits.1)
+fit_behind d f g (x ∷ earlier) r later fits = fit_behind d (after f x) (with_record g x) earlier r later fits.2
 
 -- Before each record of a spelled trace there is room for it.
 pub has_room_for : (t : Trace) → IsSpelled t → (earlier : List Record) (r : Record) (later : List Record) → t.records ≡ earlier ++ r ∷ later → HasRoom (with_records no_records earlier) r
-has_room_for t h earlier r later e = room_behind no_front no_records earlier r later (subst (AllFit no_front no_records) e (records_fit t h))
+has_room_for t h earlier r later e =
+    let fits = fit_behind 0 no_front no_records earlier r later (subst (AllFit 0 no_front no_records) e (records_fit (Ends t.start) h.0 t.start t.records h.1 0)) in
+    room_for 0 fits.0 (with_records no_records earlier) r fits.1 fits.2
 
 -- all records but the last, and then that
 pub with_records-push : (g : Grown) (rs : List Record) (r : Record) → with_records g (rs ++ r ∷ []) ≡ with_record (with_records g rs) r

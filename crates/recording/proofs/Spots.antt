@@ -11,7 +11,7 @@ use Rattle.trace_records.specs.declared.record.FullSlot.{FullSlot}
 use Rattle.recording.specs.declared.record.Record.{Record}
 use Rattle.recording.specs.declared.record.Record.TheVariants.{Enter, Fill, Register}
 use Rattle.recording.specs.Actions.{Step, submit, fill, register}
-use Rattle.recording.specs.Records.{step_count, record_steps, steps_from, indexes_from, firsts_from}
+use Rattle.recording.specs.Records.{Later, step_count, record_steps, steps_from, indexes_from, firsts_from}
 
 -- how many steps records have
 abbrev pub places_in : List Record → ℕ
@@ -108,19 +108,33 @@ found n p k (r ∷ rs) lt = elim (cases_lt k (step_count r)) [
       }
 ]
 
+-- so many places are before them, and so many are theirs
+pub counted : (p : ℕ) (indexes : List ℕ) (rs : List Record) (l : Later) → indexes ≡ indexes_from 0 rs → record { first = p; steps = steps_from p rs } ≡ l
+    → (p ≡ l.first) × (length indexes ≡ length l.steps)
+counted p indexes rs l e is =
+    (ap (λ (x : Later). x.first) is, omega (arith, ap length e, ap (λ (x : Later). length x.steps) is, length-steps_from p rs, length-indexes_from 0 rs))
+
+-- the place of a step behind them
+pub place_back : (p place : ℕ) (steps : List Step) (l : Later) → record { first = p; steps = steps } ≡ l → l.first ≤ place → place ≡ p + (place - p)
+place_back p place steps l is behind = omega (arith, ap (λ (x : Later). x.first) is)
+
+pub same_place : (p place : ℕ) (steps : List Step) (l : Later) → record { first = p; steps = steps } ≡ l → slice_get l.steps (place - l.first) ≡ slice_get l.steps (place - p)
+same_place p place steps l is = ap (λ (x : Later). slice_get l.steps (place - x.first)) (sym is)
+
 -- the same of what is kept beside records
-pub found_here : (indexes firsts : List ℕ) (rs : List Record) (all : List Step) (k : ℕ) → indexes ≡ indexes_from 0 rs → firsts ≡ firsts_from 0 rs → steps_from 0 rs ≡ all
-    → k < length all → Found 0 0 k rs indexes firsts all
-found_here indexes firsts rs all k e f same lt =
-    rw (e, f, ← same) (found 0 0 k rs (omega (arith, ap length same, length-steps_from 0 rs)))
+pub found_here : (p place : ℕ) (indexes firsts : List ℕ) (rs : List Record) (l : Later) → indexes ≡ indexes_from 0 rs → firsts ≡ firsts_from p rs → record { first = p; steps = steps_from p rs } ≡ l
+    → l.first ≤ place → place < l.first + length l.steps → Found 0 p (place - p) rs indexes firsts l.steps
+found_here p place indexes firsts rs l e f is behind within =
+    let count = counted p indexes rs l e is in
+    rw (e, f, ← ap (λ (x : Later). x.steps) is) (found 0 p (place - p) rs (omega (arith, count, ap length e, length-indexes_from 0 rs)))
 
 -- what an index reads is what stands there
 read_there : {X : Type 0} (xs : List X) (i : ℕ) (x y : X) → slice_get xs i ≡ Some y → x ≡ get_or xs i x → x ≡ y
 read_there xs i x y there here = here ∙ get_or_from_slice_get xs i y x there
 
 -- the index that is read at the place
-module _ {k : ℕ} {rs : List Record} {indexes firsts : List ℕ} {all : List Step}
-    (f : Found 0 0 k rs indexes firsts all) (index : ℕ) (here : index ≡ get_or indexes k index) where
+module _ {p k : ℕ} {rs : List Record} {indexes firsts : List ℕ} {all : List Step}
+    (f : Found 0 p k rs indexes firsts all) (index : ℕ) (here : index ≡ get_or indexes k index) where
   pub index_read : index ≡ f.index
   index_read = omega (arith, f.numbered, read_there indexes k index f.number f.number_there here)
 
@@ -128,11 +142,11 @@ module _ {k : ℕ} {rs : List Record} {indexes firsts : List ℕ} {all : List St
   first_read first first_here = read_there firsts f.index first f.first f.first_there (rw index_read at first_here)
 
   -- and by the first place, the entry in the record that is read
-  pub step_read : (first : ℕ) (item : Record) → first ≡ get_or firsts index first → item ≡ get_or rs index item
-      → (k - first < step_count item) × (slice_get all k ≡ slice_get (record_steps first item) (k - first))
-  step_read first item first_here item_here =
+  pub step_read : (place first : ℕ) (item : Record) → place ≡ p + k → first ≡ get_or firsts index first → item ≡ get_or rs index item
+      → (place - first < step_count item) × (slice_get all k ≡ slice_get (record_steps first item) (place - first))
+  step_read place first item place_is first_here item_here =
       let is : first ≡ f.first = first_read first first_here in
-      let entry : k - first ≡ f.entry = omega (arith, is, f.begins) in
+      let entry : place - first ≡ f.entry = omega (arith, is, f.begins, place_is) in
       let same : item ≡ f.item = read_there rs f.index item f.item f.item_there (rw index_read at item_here) in
       rw (entry, same, is) (f.within, f.step)
 
@@ -153,25 +167,27 @@ register_step p ring k slots lt =
     let e : k ≡ 0 = omega arith in
     rw e refl
 
--- what is kept beside records, with one more that has a step
-pub kept_more : (indexes firsts indexes_next firsts_next : List ℕ) (rs rs_next : List Record) (index count limit : ℕ) (r : Record)
-    → (indexes ≡ indexes_from 0 rs) × (firsts ≡ firsts_from 0 rs) × (length indexes ≤ limit) × (length rs ≤ length indexes)
-    → rs_next ≡ rs ++ r ∷ [] → index ≡ length rs → count ≡ step_count r → (count ≡ 0 → ⊥) → length indexes + count ≤ limit
-    → (indexes_next ≡ indexes ++ replicate count index) × (firsts_next ≡ firsts ++ length indexes ∷ [])
-    → (indexes_next ≡ indexes_from 0 rs_next) × (firsts_next ≡ firsts_from 0 rs_next) × (length indexes_next ≤ limit) × (length rs_next ≤ length indexes_next)
-kept_more indexes firsts indexes_next firsts_next rs rs_next index count limit r kept more is counts some room next =
-    let place : length indexes ≡ 0 + places_in rs = omega (arith, ap length kept.0, length-indexes_from 0 rs) in
+-- what is kept beside records, behind p places, with one more that has a step
+pub kept_more : (p place : ℕ) (indexes firsts indexes_next firsts_next : List ℕ) (rs rs_next : List Record) (index count limit : ℕ) (r : Record)
+    → (indexes ≡ indexes_from 0 rs) × (firsts ≡ firsts_from p rs) × (p + length indexes ≤ limit) × (length rs ≤ length indexes)
+    → rs_next ≡ rs ++ r ∷ [] → place ≡ p + length indexes → index ≡ length rs → count ≡ step_count r → (count ≡ 0 → ⊥) → p + length indexes + count ≤ limit
+    → (indexes_next ≡ indexes ++ replicate count index) × (firsts_next ≡ firsts ++ place ∷ [])
+    → (indexes_next ≡ indexes_from 0 rs_next) × (firsts_next ≡ firsts_from p rs_next) × (p + length indexes_next ≤ limit) × (length rs_next ≤ length indexes_next)
+kept_more p place indexes firsts indexes_next firsts_next rs rs_next index count limit r kept more at is counts some room next =
+    let here : place ≡ p + places_in rs = omega (arith, at, ap length kept.0, length-indexes_from 0 rs) in
     let number : index ≡ 0 + length rs = omega arith in
     let long : length indexes_next ≡ length indexes + count = ap length next.0 ∙ length-append indexes (replicate count index) ∙ ap (λ n. length indexes + n) (length-replicate count index) in (
       next.0 ∙ rw (more, indexes_from-push 0 rs r, kept.0, counts, number) refl,
-      next.1 ∙ rw (more, firsts_from-push 0 rs r, place, kept.1) refl,
+      next.1 ∙ rw (more, firsts_from-push p rs r, here, kept.1) refl,
       omega arith,
       omega (arith, ap length more, length-append rs (r ∷ [])),
     )
 
 -- and the steps then
-pub steps_more : (rs rs_next : List Record) (all : List Step) (r : Record)
-    → steps_from 0 rs ≡ all → rs_next ≡ rs ++ r ∷ [] → steps_from 0 rs_next ≡ all ++ record_steps (length all) r
-steps_more rs rs_next all r is more =
-    let place : 0 + places_in rs ≡ length all = omega (arith, ap length is, length-steps_from 0 rs) in
-    rw (more, steps_from-push 0 rs r, is, place) refl
+pub steps_more : (p : ℕ) (rs rs_next : List Record) (l : Later) (r : Record)
+    → record { first = p; steps = steps_from p rs } ≡ l → rs_next ≡ rs ++ r ∷ []
+    → record { first = p; steps = steps_from p rs_next } ≡ record l { steps = l.steps ++ record_steps (l.first + length l.steps) r }
+steps_more p rs rs_next l r is more =
+    let same = sym is in
+    let place : p + places_in rs ≡ p + length (steps_from p rs) = omega (arith, length-steps_from p rs) in
+    rw (same, more, steps_from-push p rs r, place) refl

@@ -1,8 +1,9 @@
 -- The model: the recording of a trace of version 3, a record after another.
-use Rattle.std.specs.Prelude.{ℕ, suc, ◌-◌, List, [], ◌∷◌, ◌++◌, map, length, replicate, slice_set, Option, Some, None, true, false}
+use Rattle.std.specs.Prelude.{ℕ, suc, ◌+◌, ◌-◌, ◌<◌, ◌≤◌, ◌^◌, List, [], ◌∷◌, ◌++◌, map, length, replicate, slice_set, Option, Some, None, true, false}
 use Rattle.std.specs.List.{slice_get}
 use Rattle.trace_format.specs.Submitted.{Submitted}
 use Rattle.trace_format.specs.declared.version.Version.TheVariants.{Two}
+use Rattle.trace_records.specs.Front.{places_of}
 use Rattle.trace_records.specs.Records.{meant}
 use Rattle.trace_records.specs.declared.start.Descriptor.{Descriptor}
 use Rattle.trace_records.specs.declared.start.Start.{Start}
@@ -19,6 +20,8 @@ use Rattle.recording.specs.declared.recording.Ring.{Ring}
 use Rattle.recording.specs.Records.{record_steps}
 use Rattle.recording.specs.declared.record.Record.TheVariants as kept
 use Rattle.recording.specs.Actions.{Step}
+use Rattle.recording.specs.Forgotten.{blanks}
+use Rattle.recording.specs.Limits.{places_limit}
 
 -- bytes, and zeros behind them, so many in all
 abbrev pub with_zeros : List ℕ → ℕ → List ℕ
@@ -78,5 +81,30 @@ no_records = record { rings = []; steps = [] }
 abbrev pub recorded : Start → Grown → Recording
 recorded s g = record { version = Two; in_place_order = true; items = s.items; descriptions = s.descriptions; descriptors = table_of s.table_size s.descriptors; rings = g.rings; steps = g.steps }
 
+-- the recording of a start, before the first record
+abbrev pub of_start : Start → Recording
+of_start s = recorded s no_records
+
 abbrev pub of_records : Trace → Recording
 of_records t = recorded t.start (with_records no_records t.records)
+
+-- the rings and the steps of a recording
+abbrev pub grown_in : Recording → Grown
+grown_in t = record { rings = t.rings; steps = t.steps }
+
+-- a recording with these instead
+abbrev pub with_grown : Recording → Grown → Recording
+with_grown t g = record t { rings = g.rings; steps = g.steps }
+
+-- a recording with one record more
+abbrev pub with_next : Recording → Record → Recording
+with_next t r = with_grown t (with_record (grown_in t) r)
+
+-- There is room for one ring more, and for the places of a record.
+pub record HasRoom (g : Grown) (r : Record) : Type 0 where
+  pub rings : length g.rings + 1 < 2 ^ 32
+  pub places : length g.steps + places_of r ≤ places_limit
+
+-- a recording with as many steps, each of which does nothing
+abbrev pub let_go : Recording → Recording
+let_go t = record t { steps = blanks (length t.steps) }

@@ -1,5 +1,7 @@
 pub mod Accepted
 pub mod Actions
+pub mod Forgotten
+pub mod Fronts
 pub mod Growing
 pub mod Kept
 pub mod Limits

@@ -4,6 +4,11 @@ use Rattle.recording.specs.declared.record.Record.{Record}
 use Rattle.recording.specs.declared.record.Record.TheVariants.{Enter, Fill, Register}
 use Rattle.recording.specs.Actions.{Step, submit, fill, register}
 
+-- Steps that came one after another, behind so many places.
+pub record Later : Type 0 where
+  pub first : ℕ
+  pub steps : List Step
+
 -- how many steps a record has
 abbrev pub step_count : Record → ℕ
 step_count (Enter ring entries) = length entries

@@ -1,19 +1,18 @@
 //! Recordings of traces of version 3.
-ghost use Rattle.std.specs.Prelude.{◌≡◌, ◌+◌, ◌<◌, ◌≤◌, ◌^◌, [], ◌∷◌, ◌++◌, length, map, All, IfOk, OnOk};
+ghost use Rattle.std.specs.Prelude.{◌≡◌, ◌+◌, ◌<◌, ◌^◌, [], ◌∷◌, ◌++◌, length, map, All, IfOk, OnOk};
+ghost use Rattle.recording.specs.Fronts.{IsSpelledFront};
 ghost use Rattle.recording.specs.Growing as meant;
+ghost use Rattle.recording.specs.Growing.{HasRoom};
 ghost use Rattle.recording.specs.Spelled.{IsSpelled};
-ghost use Rattle.recording.specs.Limits.{places_limit};
 ghost use Rattle.recording.specs.declared.record.Record.TheVariants as kept;
-ghost use Rattle.trace_records.specs.Front.{places_of};
 ghost use Rattle.trace_records.specs.declared.start.Descriptor as three;
 
-use crate::kept::Grown;
 use crate::record::Record;
 use crate::recording::{Recording, Ring};
-use crate::steps::{Kept, Steps};
+use crate::steps::Steps;
 use std::alloc::{AllocError, Global};
 use trace_format::{Blob, Entries, EntriesBuilder, Series, Version};
-use trace_records::{Beside, Descriptor, Entry, Filling, Trace};
+use trace_records::{Beside, Descriptor, Entry, Filling, Start, Trace};
 
 /// Bytes, and zeros behind them, so many in all.
 fn with_zeros(alloc: Global, front: &[u8], len: usize) -> Result<Vec<u8>, AllocError>
@@ -121,17 +120,16 @@ fn with_ring(
 #[derive(Drop)]
 struct Growing {
     rings: Vec<Ring>,
-    steps: Grown,
+    steps: Steps,
 }
 
 /// One record more.
-fn with_record(
+fn grown_by(
     alloc: Global,
     growing: Growing,
     next: trace_records::Record,
 ) -> Result<Growing, AllocError>
-    requires rings { length growing.rings.items + 1 < 2 ^ 32 }
-    requires places { length growing.steps + places_of next ≤ places_limit }
+    requires { HasRoom (meant.grown growing) next }
     ensures { IfOk result (λ g. meant.grown g ≡ meant.with_record (meant.grown growing) next) }
 {
     let mut rings = growing.rings;
@@ -169,6 +167,60 @@ fn with_record(
 }
 
 impl Recording {
+    /// The recording of a start of version 3, before the first record.
+    ///
+    /// # Errors
+    ///
+    /// Out of memory.
+    pub fn of_start(alloc: Global, start: Start) -> Result<Self, AllocError>
+        requires { IsSpelledFront start [] }
+        ensures { IfOk result (λ t. t ≡ meant.of_start start) }
+    {
+        let descriptors = table_of(alloc, start.table_size, start.descriptors.as_slice())?;
+        Ok(Recording {
+            version: Version::Two,
+            in_place_order: true,
+            items: start.items,
+            descriptions: start.descriptions,
+            descriptors: Series::from_vec(descriptors),
+            rings: Series::from_vec(Vec::new(alloc)),
+            steps: Steps::new(alloc),
+        })
+    }
+
+    /// The same with one record more.
+    ///
+    /// # Errors
+    ///
+    /// Out of memory.
+    pub fn with_record(self, alloc: Global, next: trace_records::Record) -> Result<Self, AllocError>
+        requires { HasRoom (meant.grown_in self) next }
+        ensures { IfOk result (λ t. t ≡ meant.with_next self next) }
+    {
+        let growing = Growing {
+            rings: self.rings.into_vec(),
+            steps: self.steps,
+        };
+        let Growing { rings, steps } = grown_by(alloc, growing, next)?;
+        Ok(Recording {
+            version: self.version,
+            in_place_order: self.in_place_order,
+            items: self.items,
+            descriptions: self.descriptions,
+            descriptors: self.descriptors,
+            rings: Series::from_vec(rings),
+            steps,
+        })
+    }
+
+    /// Lets go of all steps so far: there are as many, and each does nothing. The memory that is
+    /// kept of them does not depend on how many there are.
+    pub fn let_go(&mut self, alloc: Global)
+        ensures { self.new ≡ meant.let_go self.old }
+    {
+        self.steps.let_go(alloc);
+    }
+
     /// The recording of a trace of version 3.
     ///
     /// # Errors
@@ -179,24 +231,10 @@ impl Recording {
         ensures { IfOk result (λ r. r ≡ meant.of_records trace) }
     {
         let Trace { start, records } = trace;
-        let descriptors = table_of(alloc, start.table_size, start.descriptors.as_slice())?;
-        let mut growing = Growing {
-            rings: Vec::new(alloc),
-            steps: Grown::new(alloc),
-        };
+        let mut made = Recording::of_start(alloc, start)?;
         for next in records.into_vec() {
-            growing = with_record(alloc, growing, next)?;
+            made = made.with_record(alloc, next)?;
         }
-        Ok(Recording {
-            version: Version::Two,
-            in_place_order: true,
-            items: start.items,
-            descriptions: start.descriptions,
-            descriptors: Series::from_vec(descriptors),
-            rings: Series::from_vec(growing.rings),
-            steps: Steps {
-                kept: Kept::Grown(growing.steps),
-            },
-        })
+        Ok(made)
     }
 }

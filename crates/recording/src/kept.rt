@@ -1,5 +1,5 @@
 //! Records that came one after another, with the way from a place to its step.
-ghost use Rattle.std.specs.Prelude.{◌≡◌, ◌+◌, ◌<◌, ◌≤◌, [], ◌∷◌, ◌++◌, length, replicate, Some, IfOk, OnOk};
+ghost use Rattle.std.specs.Prelude.{◌≡◌, ◌+◌, ◌-◌, ◌<◌, ◌≤◌, [], ◌∷◌, ◌++◌, length, replicate, Some, IfOk, OnOk};
 ghost use Rattle.std.specs.List.{slice_get};
 ghost use Rattle.recording.specs.Limits.{places_limit};
 ghost use Rattle.recording.specs.Records.{step_count, record_steps};
@@ -10,31 +10,33 @@ use crate::steps::{Action, Step};
 use std::alloc::{AllocError, Global};
 use std::marker::Model;
 
-/// Records in order. A step is found by its place in constant time: by the index of its record,
-/// and by the place of that record's first step. Each record has a step.
+/// Records in order, behind some places. A step is found by its place in constant time: by the
+/// index of its record, and by the place of that record's first step. Each record has a step.
 #[derive(Drop)]
 pub struct Grown {
+    /// How many places are before theirs.
+    first: u32,
     records: Vec<Record>,
-    /// Of each place the index of its record.
+    /// Of each place of theirs the index of its record.
     indexes: Vec<u32>,
     /// Of each record the place of its first step.
     firsts: Vec<u32>,
 }
 
 impl Model for Grown {
-    ghost use Rattle.std.specs.Prelude.{◌≡◌, ◌≤◌, List, length};
-    ghost use Rattle.recording.specs.Actions.{Step};
+    ghost use Rattle.std.specs.Prelude.{◌≡◌, ◌+◌, ◌≤◌, length};
+    ghost use Rattle.recording.specs.Records.{Later};
 
-    ghost Value = { List Step };
+    ghost Value = { Later };
 
     ghost use Rattle.recording.specs.Limits.{places_limit};
     ghost use Rattle.recording.specs.Records.{steps_from, indexes_from, firsts_from};
 
-    ghost view = { λ g. steps_from 0 g.records.items };
+    ghost view = { λ g. record { first = g.first; steps = steps_from g.first g.records.items } };
 
     ghost invariant = { λ g. (g.indexes.items ≡ indexes_from 0 g.records.items)
-        × (g.firsts.items ≡ firsts_from 0 g.records.items)
-        × (length g.indexes.items ≤ places_limit)
+        × (g.firsts.items ≡ firsts_from g.first g.records.items)
+        × (g.first + length g.indexes.items ≤ places_limit)
         × (length g.records.items ≤ length g.indexes.items) };
 }
 
@@ -42,26 +44,27 @@ impl Model for Grown {
 fn add_record(
     indexes: &mut Vec<u32>,
     firsts: &mut Vec<u32>,
+    first: u32,
     index: u32,
     count: usize,
 ) -> Result<(), AllocError>
     requires { length indexes.old.items + count ≤ places_limit }
     ensures indexes { OnOk result
         (indexes.new.items ≡ indexes.old.items ++ replicate count index) }
-    ensures firsts { OnOk result
-        (firsts.new.items ≡ firsts.old.items ++ length indexes.old.items ∷ []) }
+    ensures firsts { OnOk result (firsts.new.items ≡ firsts.old.items ++ first ∷ []) }
 {
-    let first = indexes.len();
-    firsts.push(first as u32)?;
-    indexes.resize(first + count, index)
+    firsts.push(first)?;
+    indexes.resize(indexes.len() + count, index)
 }
 
 impl Grown {
-    /// No records. It takes no memory.
-    pub(crate) fn new(alloc: Global) -> Self
-        ensures { result ≡ [] }
+    /// No records, behind so many places. It takes no memory.
+    pub(crate) fn new(alloc: Global, first: u32) -> Self
+        requires { first ≤ places_limit }
+        ensures { result ≡ record { first = first; steps = [] } }
     {
         Grown {
+            first,
             records: Vec::new(alloc),
             indexes: Vec::new(alloc),
             firsts: Vec::new(alloc),
@@ -74,39 +77,70 @@ impl Grown {
     ///
     /// Out of memory.
     pub(crate) fn with(self, last: Record) -> Result<Self, AllocError>
-        requires { length self + step_count last ≤ places_limit }
-        ensures { IfOk result (λ g. g ≡ self ++ record_steps (length self) last) }
+        requires { self.first + length self.steps + step_count last ≤ places_limit }
+        ensures { IfOk result (λ g. g ≡ record self {
+          steps = self.steps ++ record_steps (self.first + length self.steps) last;
+        }) }
     {
         let count = step_count(&last);
         if count == 0 {
             return Ok(self);
         }
+        let first = self.first;
         let mut records = self.records;
         let mut indexes = self.indexes;
         let mut firsts = self.firsts;
-        add_record(&mut indexes, &mut firsts, records.len() as u32, count)?;
+        let place = first + indexes.len() as u32;
+        add_record(
+            &mut indexes,
+            &mut firsts,
+            place,
+            records.len() as u32,
+            count,
+        )?;
         records.push(last)?;
         Ok(Grown {
+            first,
             records,
             indexes,
             firsts,
         })
     }
 
-    /// How many steps there are.
+    /// Lets go of the records, whose places are before those of the next ones.
+    pub(crate) fn let_go(&mut self)
+        ensures { self.new
+            ≡ record { first = self.old.first + length self.old.steps; steps = [] } }
+    {
+        self.first += self.indexes.len() as u32;
+        self.records.clear();
+        self.indexes.clear();
+        self.firsts.clear();
+    }
+
+    /// How many places are before those of the records.
+    #[inline(always)]
+    pub(crate) fn first(&self) -> u32
+        ensures { result ≡ self.now.first }
+    {
+        self.first
+    }
+
+    /// How many places there are, with those before the records.
     pub(crate) fn places(&self) -> u32
-        ensures places { result ≡ length self.now }
+        ensures places { result ≡ self.now.first + length self.now.steps }
         ensures limit { result ≤ places_limit }
     {
-        self.indexes.len() as u32
+        self.first + self.indexes.len() as u32
     }
 
     /// The step at a place, in constant time.
     pub(crate) fn step(&self, place: u32) -> Step<'_>
-        requires { place < length self.now }
-        ensures { slice_get self.now place ≡ Some (step_meant result) }
+        requires behind { self.now.first ≤ place }
+        requires within { place < self.now.first + length self.now.steps }
+        ensures { slice_get self.now.steps (place - self.now.first) ≡ Some (step_meant result) }
     {
-        let index = self.indexes[place as usize];
+        let index = self.indexes[(place - self.first) as usize];
         let first = self.firsts[index as usize];
         match &self.records[index as usize] {
             Record::Enter { ring, entries } => Step {

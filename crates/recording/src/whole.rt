@@ -4,7 +4,7 @@ ghost use Rattle.recording.specs.Whole as meant;
 ghost use Rattle.trace_format.specs.Text.{IsSpelled};
 
 use crate::recording::{Recording, Ring};
-use crate::steps::{Kept, Steps};
+use crate::steps::Steps;
 use std::alloc::{AllocError, Global};
 use trace_format::{Series, Trace};
 use trace_records::{Item, Node, Range};
@@ -83,9 +83,7 @@ impl Recording {
             descriptions: trace.descriptions,
             descriptors: trace.descriptors,
             rings: Series::from_vec(rings),
-            steps: Steps {
-                kept: Kept::Whole(trace.records),
-            },
+            steps: Steps::of_whole(alloc, trace.records),
         })
     }
 }

@@ -1,4 +1,6 @@
 mod CommandLemmas
+mod FewPlaces
+mod AnyTraces
 mod Faults
 mod Answering
 mod TransferLemmas
@@ -12,6 +14,7 @@ mod JsonPieces
 mod JsonWords
 mod InTurn
 mod Outputs
+mod Taking
 mod TextWrites
 mod RoundWords
 mod Verdicts

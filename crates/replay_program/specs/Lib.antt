@@ -1,3 +1,4 @@
+pub mod AnyTraces
 pub mod Checks
 pub mod Diffs
 pub mod Forms
@@ -8,5 +9,6 @@ pub mod Runs
 pub mod ShownDiffs
 pub mod Shows
 pub mod Status
+pub mod Taking
 pub mod Wholes
 pub mod Words

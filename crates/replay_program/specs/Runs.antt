@@ -22,7 +22,7 @@ use Rattle.replay_report.specs.declared.showing.Shown.{Shown}
 use Rattle.round_report.specs.Rounds.{graph_text, log_of, rounds_text}
 use Rattle.depend_report.specs.Whole.{IsTextOf}
 use Rattle.replay_program.specs.Forms.{form_in, written_as}
-use Rattle.replay_program.specs.Recordings.{has_version_3, SpellsRecording, IsFaultOf}
+use Rattle.replay_program.specs.Recordings.{has_version_3, SpellsRecording, IsEnough, IsFaultOf}
 use Rattle.byte_transfer.specs.Transfer.{AppendsPart}
 use Rattle.replay_program.specs.declared.words.Form.{Form}
 
@@ -63,11 +63,11 @@ pub record ReadsTrace (before after : Option (List ℕ)) (t : Recording) : Type 
   pub ended : IsAtEnd after
   pub spelled : SpellsRecording (has_version_3 text) text t
 
--- The reader was read to its end, or further than a trace is long, and what was taken has the fault and spells no trace.
+-- So much of the reader was read as decides the fault, and what was taken has it and spells no trace.
 pub record ReadsNoTrace (before after : Option (List ℕ)) (f : TraceFault) : Type 0 where
   pub text : List ℕ
   pub taken : Consumes before after text
-  pub ended : length text ≤ longest → IsAtEnd after
+  pub enough : IsEnough (has_version_3 text) text f after
   pub refused : IsFaultOf (has_version_3 text) text f
 
 -- The reader was read to its end, and the writer took the whole output for its trace, and nothing else.
@@ -86,9 +86,13 @@ pub record WritesPart (options : Options) (form : Form) (left left' written writ
   pub is : IsOutputOf options form t output
   pub wrote : AppendsPart written written' output
 
--- The most bytes that are taken from a reader: one more than a trace may have.
+-- The most bytes that are taken of a text that is read whole: one more than a trace of version 1 or 2 may have.
 abbrev pub most_taken : ℕ
 most_taken = longest + 1
+
+-- The known bytes lost their first bytes: at most so many, unless these begin a trace of version 3.
+abbrev pub TakesTrace : Option (List ℕ) → Option (List ℕ) → Type 0
+TakesTrace left left' = (bytes : List ℕ) × Consumes left left' bytes × (has_version_3 bytes ≡ false → length bytes ≤ most_taken)
 
 -- A run with a replay that was refused memory or a thread.
 abbrev pub ReplayWantsMemoryOrThread : RunFault → Type 0

@@ -1,5 +1,5 @@
 //! A check of a trace of any version, from a reader to a writer.
-ghost use Rattle.std.specs.Prelude.{◌≡◌, ◌≢◌, ◌⊎◌, ◌≤◌, ◌+◌, ◌-◌, ◌^◌, ◌<◌, IfErr, IfOk, OnOk};
+ghost use Rattle.std.specs.Prelude.{◌≡◌, ◌≢◌, ◌≤◌, ◌+◌, ◌-◌, ◌^◌, ◌<◌, IfErr, IfOk, OnOk};
 ghost use Rattle.std.specs.Prelude.{false, length, true};
 ghost use Rattle.std.specs.Io.KnownBytes.{Keeps};
 ghost use Rattle.trace_format.specs.Grammar.{fault};
@@ -7,20 +7,21 @@ ghost use Rattle.trace_format.specs.Text.{longest};
 ghost use Rattle.trace_format.specs.declared.fault.Kind.TheVariants.{Memory};
 ghost use Rattle.replay_program.specs.Checks.{IsAnswer, ReadsAnswer, TellsOfCheck};
 ghost use Rattle.replay_program.specs.Checks.{WritesAnswer, WritesAnswerPart, ok_line};
-ghost use Rattle.replay_program.specs.Recordings.{IsFaultOf, has_version_3};
+ghost use Rattle.trace_stream.specs.Streams.{ReadsAll};
 ghost use Rattle.replay_program.specs.Forms.{written_as};
-ghost use Rattle.replay_program.specs.Runs.{most_taken, read_failures, write_failures};
-ghost use Rattle.byte_transfer.specs.Transfer.{ConsumesUpTo};
+ghost use Rattle.replay_program.specs.Runs.{TakesTrace, read_failures, write_failures};
+ghost use Rattle.replay_program.specs.Taking.{TellsOfStream, TellsOfText};
+ghost use Rattle.byte_transfer.specs.Transfer.{Takes};
 
 use crate::fault::RunFault;
 use crate::forms::text_as;
-use crate::recordings::{check_length, has_version_3};
+use crate::recordings::{Taken, taken_text, told_of};
 use crate::session::{no_memory, trace_in, written};
 use crate::words::Form;
-use byte_transfer::{Sink, Source, TextFault, read_text};
+use byte_transfer::{Sink, Source};
 use std::alloc::{AllocError, Global};
-use trace_format::TraceFault;
-use trace_records::{Tally, count_trace};
+use trace_records::Tally;
+use trace_stream::count_stream;
 
 /// Reads a trace of any version and writes how many places and rings it has. Nothing is written
 /// before the whole answer is there, and the run ends at the first failure of either side.
@@ -45,7 +46,7 @@ pub fn run_check<R: Source, W: Sink>(
     ensures nothing { IfErr result (λ fault. fault ≢ RunFault.Write
         → Keeps (W.written writer.old) (W.written writer.new)) }
 
-    ensures taken { ConsumesUpTo most_taken (R.left reader.old) (R.left reader.new) }
+    ensures taken { TakesTrace (R.left reader.old) (R.left reader.new) }
     ensures reading { IfErr result (TellsOfCheck (R.left reader.old) (R.left reader.new)) }
     ensures read { R.failures reader.new ≡ R.failures reader.old + read_failures result }
     ensures write { W.failures writer.new ≡ W.failures writer.old + write_failures result }
@@ -71,61 +72,58 @@ fn taken_answer<R: Source>(alloc: Global, reader: &mut R) -> Result<Vec<u8>, Run
     requires { R.failures reader.old < 2 ^ 64 - 1 }
     ensures ok { IfOk result
         (λ answer. ReadsAnswer (R.left reader.old) (R.left reader.new) answer.items) }
-    ensures taken { ConsumesUpTo most_taken (R.left reader.old) (R.left reader.new) }
+    ensures taken { TakesTrace (R.left reader.old) (R.left reader.new) }
     ensures err { IfErr result (TellsOfCheck (R.left reader.old) (R.left reader.new)) }
     ensures read { R.failures reader.new ≡ R.failures reader.old + read_failures result }
     ensures write { write_failures result ≡ 0 }
 {
-    match read_text(alloc, reader) {
-        Ok(text) => answer_of(alloc, text).map_err(RunFault::Trace),
-        Err(TextFault::Read) => Err(RunFault::Read),
-        Err(TextFault::Memory) => Err(RunFault::Trace(no_memory())),
-    }
-}
-
-/// The answer to a text, by its version.
-fn answer_of(alloc: Global, text: Vec<u8>) -> Result<Vec<u8>, TraceFault>
-    ensures ok { IfOk result
-        (λ answer. IsAnswer (has_version_3 text.items) text.items answer.items) }
-    ensures within { OnOk result (length text.items ≤ longest) }
-    ensures err { IfErr result (λ f. (f ≡ fault Memory 0)
-        ⊎ IsFaultOf (has_version_3 text.items) text.items f) }
-{
-    if has_version_3(text.as_slice()) {
-        answer_of_records(alloc, text.as_slice())
-    } else {
-        answer_of_trace(alloc, text)
+    match taken_text(alloc, reader)? {
+        Taken::Head(head) => answer_on(alloc, head, reader),
+        Taken::Whole(text) => answer_of_whole(alloc, text),
     }
 }
 
 /// The answer to a text of version 1 or 2.
-fn answer_of_trace(alloc: Global, text: Vec<u8>) -> Result<Vec<u8>, TraceFault>
-    ensures ok { IfOk result (λ answer. IsAnswer false text.items answer.items) }
-    ensures within { OnOk result (length text.items ≤ longest) }
-    ensures err { IfErr result (λ f. (f ≡ fault Memory 0) ⊎ IsFaultOf false text.items f) }
+fn answer_of_whole(alloc: Global, text: Vec<u8>) -> Result<Vec<u8>, RunFault>
+    ensures ok { IfOk result (λ answer. (length text.items ≤ longest)
+        × IsAnswer false text.items answer.items) }
+    ensures err { IfErr result (TellsOfText text.items) }
+    ensures read { read_failures result ≡ 0 }
+    ensures write { write_failures result ≡ 0 }
 {
-    let trace = trace_in(alloc, text)?;
+    let trace = match trace_in(alloc, text) {
+        Ok(trace) => trace,
+        Err(fault) => return Err(RunFault::Trace(fault)),
+    };
     let tally = Tally {
         places: trace.places(),
         rings: trace.rings.as_slice().len(),
     };
     match ok_text(alloc, tally) {
         Ok(answer) => Ok(answer),
-        Err(AllocError) => Err(no_memory()),
+        Err(AllocError) => Err(RunFault::Trace(no_memory())),
     }
 }
 
-/// The answer to a text of version 3.
-fn answer_of_records(alloc: Global, text: &[u8]) -> Result<Vec<u8>, TraceFault>
-    ensures ok { IfOk result (λ answer. IsAnswer true text.now answer.items) }
-    ensures within { OnOk result (length text.now ≤ longest) }
-    ensures err { IfErr result (λ f. (f ≡ fault Memory 0) ⊎ IsFaultOf true text.now f) }
+/// The answer to a text of version 3, whose first bytes were taken.
+#[tactic(auto, using(crate::proofs::Taking::answers_tally, crate::proofs::Taking::no_memory_tells))]
+fn answer_on<R: Source>(alloc: Global, head: Vec<u8>, reader: &mut R) -> Result<Vec<u8>, RunFault>
+    requires { R.failures reader.old < 2 ^ 64 - 1 }
+    ensures ok { IfOk result (λ answer. ReadsAll head.items (R.left reader.old) (R.left reader.new)
+        (λ text. IsAnswer true text answer.items)) }
+    ensures taken { Takes (R.left reader.old) (R.left reader.new) }
+    ensures err { IfErr result
+        (TellsOfStream head.items (R.left reader.old) (R.left reader.new)) }
+    ensures read { R.failures reader.new ≡ R.failures reader.old + read_failures result }
+    ensures write { write_failures result ≡ 0 }
 {
-    check_length(text)?;
-    let tally = count_trace(alloc, text)?;
+    let tally = match count_stream(alloc, head, reader) {
+        Ok(tally) => tally,
+        Err(fault) => return Err(told_of(fault)),
+    };
     match ok_text(alloc, tally) {
         Ok(answer) => Ok(answer),
-        Err(AllocError) => Err(no_memory()),
+        Err(AllocError) => Err(RunFault::Trace(no_memory())),
     }
 }
 

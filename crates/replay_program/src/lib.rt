@@ -2,6 +2,7 @@
 //! what that gave, or what stood in the way.
 #![tactic(auto)]
 
+mod any_trace;
 mod checking;
 mod differing;
 mod ending;
@@ -15,6 +16,7 @@ mod session;
 mod showing;
 mod words;
 
+pub use any_trace::AnyTrace;
 pub use byte_transfer::{
     Failed, FromStd, MOST_BYTES, Sink, Source, TextFault, read_text, write_text,
 };

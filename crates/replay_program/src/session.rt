@@ -8,7 +8,7 @@ ghost use Rattle.recording.specs.Accepted.{IsAccepted};
 ghost use Rattle.trace_format.specs.Text.{IsRefusal, SpellsTrace};
 ghost use Rattle.trace_format.specs.declared.fault.Kind.TheVariants.{Memory};
 ghost use Rattle.world_parts.specs.Part.{whole};
-ghost use Rattle.replay_program.specs.Runs.{IsAlone, IsModeOutput, IsNoComparison, ReadsTrace};
+ghost use Rattle.replay_program.specs.Runs.{IsAlone, IsModeOutput, IsNoComparison, TakesTrace};
 ghost use Rattle.replay_program.specs.Runs.{ReplayWantsMemoryOrThread, TellsOfReading};
 ghost use Rattle.replay_core.specs.Comparing.{WantsMemoryOrThread};
 ghost use Rattle.depend_report.specs.Whole.{IsTextOf};
@@ -23,7 +23,7 @@ ghost use Rattle.replay_program.specs.Limits.{IsServed, IsWindow};
 use crate::fault::RunFault;
 use crate::forms::pieces_as;
 use crate::in_turn::serial_report;
-use crate::recordings::recording_in;
+use crate::recordings::taken_recording;
 use crate::words::{Form, Mode, Options};
 use byte_transfer::{Sink, Source, TextFault, read_text, write_text};
 use depend_report::{depends_graph, depends_text};
@@ -60,7 +60,7 @@ pub fn run_alone<R: Source, W: Sink>(
     ensures nothing { IfErr result (λ fault. fault ≢ RunFault.Write
         → Keeps (W.written writer.old) (W.written writer.new)) }
 
-    ensures taken { ConsumesUpTo most_taken (R.left reader.old) (R.left reader.new) }
+    ensures taken { TakesTrace (R.left reader.old) (R.left reader.new) }
     ensures reading { IfErr result (TellsOfReading (R.left reader.old) (R.left reader.new)) }
     ensures read { R.failures reader.new ≡ R.failures reader.old + read_failures result }
     ensures write { W.failures writer.new ≡ W.failures writer.old + write_failures result }
@@ -91,7 +91,7 @@ pub fn run<T: Threads + Wait + Sync, R: Source, W: Sink>(
     ensures nothing { IfErr result (λ fault. fault ≢ RunFault.Write → fault ≢ RunFault.Different
         → Keeps (W.written writer.old) (W.written writer.new)) }
 
-    ensures taken { ConsumesUpTo most_taken (R.left reader.old) (R.left reader.new) }
+    ensures taken { TakesTrace (R.left reader.old) (R.left reader.new) }
     ensures reading { IfErr result (TellsOfReading (R.left reader.old) (R.left reader.new)) }
     ensures read { R.failures reader.new ≡ R.failures reader.old + read_failures result }
     ensures write { W.failures writer.new ≡ W.failures writer.old + write_failures result }
@@ -294,23 +294,6 @@ fn told_line(alloc: Global, verdict: Verdict) -> Result<String, AllocError>
         Verdict::Equal => String::from_str(alloc, "equal\n"),
         Verdict::Reply(place) => format!(in alloc; "different reply {place}\n"),
         Verdict::World => String::from_str(alloc, "different world\n"),
-    }
-}
-
-/// What the trace that the reader has left recorded.
-fn taken_recording<R: Source>(alloc: Global, reader: &mut R) -> Result<Box<Recording>, RunFault>
-    requires { R.failures reader.old < 2 ^ 64 - 1 }
-    ensures ok { IfOk result (λ trace. ReadsTrace (R.left reader.old) (R.left reader.new) trace.value) }
-    ensures accepted { IfOk result (λ trace. IsAccepted trace.value) }
-    ensures taken { ConsumesUpTo most_taken (R.left reader.old) (R.left reader.new) }
-    ensures err { IfErr result (TellsOfReading (R.left reader.old) (R.left reader.new)) }
-    ensures read { R.failures reader.new ≡ R.failures reader.old + read_failures result }
-    ensures write { write_failures result ≡ 0 }
-{
-    match read_text(alloc, reader) {
-        Ok(text) => recording_in(alloc, text).map_err(RunFault::Trace),
-        Err(TextFault::Read) => Err(RunFault::Read),
-        Err(TextFault::Memory) => Err(RunFault::Trace(no_memory())),
     }
 }
 

@@ -1,21 +1,19 @@
 //! A trace as text, from a reader to a writer.
 ghost use Rattle.std.specs.Prelude.{◌≡◌, ◌≢◌, ◌+◌, ◌-◌, ◌^◌, ◌<◌, IfErr, IfOk, OnOk};
 ghost use Rattle.std.specs.Io.KnownBytes.{Keeps};
-ghost use Rattle.trace_text.specs.Shown.{text_of};
-ghost use Rattle.replay_program.specs.Runs.{most_taken, read_failures, write_failures};
-ghost use Rattle.replay_program.specs.Wholes.{TellsOfWhole};
-ghost use Rattle.replay_program.specs.Shows.{WritesShown, WritesShownPart};
-ghost use Rattle.byte_transfer.specs.Transfer.{ConsumesUpTo};
+ghost use Rattle.replay_program.specs.Runs.{TakesTrace, read_failures, write_failures};
+ghost use Rattle.replay_program.specs.AnyTraces.{HasFewPlaces, TellsOfAny};
+ghost use Rattle.replay_program.specs.Shows.{WritesShown, WritesShownPart, text_of};
 
+use crate::any_trace::{AnyTrace, taken_any};
 use crate::fault::RunFault;
-use crate::session::{taken_whole, written};
+use crate::session::written;
 use byte_transfer::{Sink, Source};
 use replay_core::ReplayFault;
 use std::alloc::{AllocError, Global};
-use trace_format::Trace;
-use trace_text::{Look, show_text};
+use trace_text::Look;
 
-/// Reads a trace and writes it as text. Nothing is written before the whole text is there, and the
+/// Reads a trace of any version and writes it as text. Nothing is written before the whole text is there, and the
 /// run ends at the first failure of either side.
 ///
 /// # Errors
@@ -38,22 +36,34 @@ pub fn run_show<R: Source, W: Sink>(
     ensures nothing { IfErr result (λ fault. fault ≢ RunFault.Write
         → Keeps (W.written writer.old) (W.written writer.new)) }
 
-    ensures taken { ConsumesUpTo most_taken (R.left reader.old) (R.left reader.new) }
-    ensures reading { IfErr result (TellsOfWhole (R.left reader.old) (R.left reader.new)) }
+    ensures taken { TakesTrace (R.left reader.old) (R.left reader.new) }
+    ensures reading { IfErr result (TellsOfAny (R.left reader.old) (R.left reader.new)) }
     ensures read { R.failures reader.new ≡ R.failures reader.old + read_failures result }
     ensures write { W.failures writer.new ≡ W.failures writer.old + write_failures result }
 {
-    let trace = taken_whole(alloc, reader)?;
+    let trace = taken_any(alloc, reader)?;
     let text = shown_text(alloc, &trace, look)?;
     written(writer, text.as_slice())
 }
 
-fn shown_text(alloc: Global, trace: &Trace, look: Look) -> Result<Vec<u8>, RunFault>
+fn shown_text(alloc: Global, trace: &AnyTrace, look: Look) -> Result<Vec<u8>, RunFault>
+    requires { HasFewPlaces trace.now }
     ensures ok { IfOk result (λ text. text.items ≡ text_of look trace.now) }
     ensures err { IfErr result (λ fault. fault ≡ RunFault.Replay ReplayFault.Memory) }
 {
-    match show_text(alloc, trace, look) {
+    match text_of(alloc, trace, look) {
         Ok(text) => Ok(text),
         Err(AllocError) => Err(RunFault::Replay(ReplayFault::Memory)),
+    }
+}
+
+/// The text of a trace, by its version.
+fn text_of(alloc: Global, trace: &AnyTrace, look: Look) -> Result<Vec<u8>, AllocError>
+    requires { HasFewPlaces trace.now }
+    ensures { IfOk result (λ text. text.items ≡ text_of look trace.now) }
+{
+    match trace {
+        AnyTrace::Whole(trace) => trace_text::show_text(alloc, trace, look),
+        AnyTrace::Records(trace) => records_text::show_text(alloc, trace, look),
     }
 }

@@ -1,5 +1,6 @@
 pub mod Ascii
 pub mod RingTextsLemmas
+pub mod InOrder
 pub mod ReportLemmas
 mod SumLemmas
 mod TreeSumLemmas

@@ -86,7 +86,7 @@ texts_walked t reply lines n rings step r texts stands answers so_far = elim (ca
 ]
 
 -- What is shown of a reply makes the line of the reply.
-line_shown : (lines : Lines) (place ring : ℕ) (action : Action) (answer reply : Reply) → IsShown answer reply → action_line lines place ring action answer ≡ action_line lines place ring action reply
+pub line_shown : (lines : Lines) (place ring : ℕ) (action : Action) (answer reply : Reply) → IsShown answer reply → action_line lines place ring action answer ≡ action_line lines place ring action reply
 line_shown lines place ring (submit entry) answer reply shown =
     rw (shown.res) (ap (λ text. line (entry_head lines.in_order place ring entry.sqe.user_data reply.res ++ text ++ names_text lines.names entry.sqe.opcode reply.res))
     (ap (λ posted. entry_outcome posted answer.bytes) shown.posted ∙ entry_outcome_shown reply.posted answer.bytes reply.bytes shown.bytes))

@@ -3,4 +3,5 @@ pub mod Names
 pub mod TreeSum
 pub mod RingTexts
 pub mod Report
+pub mod InOrder
 pub mod Sums

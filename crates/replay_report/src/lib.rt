@@ -8,6 +8,7 @@ mod dealing;
 mod entries;
 mod entry_line;
 mod escaping;
+mod in_order;
 mod made;
 mod names;
 mod pieces;
@@ -21,6 +22,7 @@ mod zeros;
 
 pub use answer::Answer;
 pub use escaping::{escaped, push_escaped};
+pub use in_order::{last_lines, push_line, reports_in_order};
 pub use pieces::{Piece, Pieces};
 pub use report::{check_text, report_of_texts, report_on, report_text};
 pub use ring_texts::RingTexts;

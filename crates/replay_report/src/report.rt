@@ -115,7 +115,7 @@ fn world_on<R: Threads + Sync>(
 }
 
 /// What a report shows of the world, whose sums are made one after another.
-fn world_alone(
+pub(crate) fn world_alone(
     alloc: Global,
     rings: &[Ring],
     state: &State,

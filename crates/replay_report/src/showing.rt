@@ -54,7 +54,7 @@ impl Lines {
     }
 
     /// The first line of a report of such.
-    pub(crate) fn title(self) -> &'static str
+    pub fn title(self) -> &'static str
         ensures { result.now ≡ title self }
     {
         if self.in_order {

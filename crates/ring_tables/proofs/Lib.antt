@@ -1,5 +1,6 @@
 pub mod BufferBytes
 mod Looked
 mod Sameness
-mod Gap
+mod Fronts
+mod Cells
 pub mod Crossing

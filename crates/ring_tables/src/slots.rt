@@ -1,6 +1,8 @@
 //! The registered files of rings.
-ghost use Rattle.std.specs.Prelude.{◌≡◌, ◌↔◌, IsOk, IsTrue, None, OnErr, OnOk};
-ghost use Rattle.finite_maps.specs.Table.{assign, empty, get, pair_keys};
+ghost use Rattle.std.specs.Prelude.{◌≡◌, ◌≢◌, ◌↔◌, ℕ, IfSome, IsOk, IsTrue, None, OnErr, OnOk, Some};
+ghost use Rattle.std.specs.Prelude.{get_or};
+ghost use Rattle.finite_maps.specs.Table.{Table, assign, empty, get, pair_cmp, pair_keys};
+ghost use Rattle.ring_tables.specs.Cells.{AreHeld, cell};
 
 use std::alloc::{AllocError, Global};
 use std::collections::BTreeMap;
@@ -8,12 +10,15 @@ use std::collections::btree_map::Iter;
 use std::marker::Model;
 
 /// The open file descriptions that the registered files of rings hold, by ring and slot, as
-/// io_uring_register(2) numbers them. An empty slot takes no memory.
+/// io_uring_register(2) numbers them. An empty slot takes no memory but its cell, of
+/// which there are 2^15 at most.
 ///
 /// A call that answers [`AllocError`] leaves the slots as they were.
 #[derive(Drop)]
 pub struct Slots {
     entries: BTreeMap<(u32, u32), u32>,
+    /// What some slots hold, each in its cell: an empty cell, or none, says nothing.
+    cells: Vec<Option<u32>>,
 }
 
 impl Model for Slots {
@@ -21,12 +26,67 @@ impl Model for Slots {
     ghost use Rattle.std.specs.Coded.{coded_ℕ, coded×};
     ghost use Rattle.finite_maps.specs.Table.{Table, code, pair_cmp, pair_keys};
     ghost use Rattle.finite_maps.specs.Maps.{table_of};
+    ghost use Rattle.ring_tables.specs.Cells.{AreHeld};
 
     ghost Value = { Table pair_cmp ℕ };
 
     ghost coded = { code (coded× coded_ℕ coded_ℕ) coded_ℕ };
 
     ghost view = { λ s. table_of pair_keys.total s.entries.entries };
+
+    ghost invariant = { λ s. AreHeld (table_of pair_keys.total s.entries.entries) s.cells.items };
+}
+
+/// How many slots of a ring have cells, from the first on.
+const ROW: u32 = 64;
+
+/// How many rings have cells, from the first on.
+const ROWS: u32 = 512;
+
+/// The number of a slot's cell, if it has one.
+fn cell(ring: u32, slot: u32) -> Option<usize>
+    ensures { result ≡ cell ring slot }
+{
+    if ring < ROWS && slot < ROW {
+        Some((ring * ROW + slot) as usize)
+    } else {
+        None
+    }
+}
+
+/// What the cell of a slot says.
+fn known(cells: &[Option<u32>], ring: u32, slot: u32) -> Option<u32>
+    ensures { (t : Table pair_cmp ℕ) → AreHeld t cells.now
+        → IfSome result (λ number. get t (ring, slot) ≡ Some number) }
+{
+    *cells.get(cell(ring, slot)?)?
+}
+
+/// Makes the cell of a slot where it is among the next ones, a row of them at most. So a few slots of
+/// late rings take no cells.
+fn grow(cells: &mut Vec<Option<u32>>, ring: u32, slot: u32) -> Result<(), AllocError>
+    ensures { (c : ℕ) → get_or cells.new.items c None ≡ get_or cells.old.items c None }
+{
+    match cell(ring, slot) {
+        Some(at) if cells.len() <= at && at <= cells.len() + ROW as usize => {
+            cells.resize(at + 1, None)
+        }
+        _ => Ok(()),
+    }
+}
+
+/// Writes what a slot holds into its cell, where there is one.
+fn note(cells: &mut Vec<Option<u32>>, ring: u32, slot: u32, description: Option<u32>)
+    ensures other { (c : ℕ) → cell ring slot ≢ Some c
+        → get_or cells.new.items c None ≡ get_or cells.old.items c None }
+    ensures own { (c : ℕ) → cell ring slot ≡ Some c
+        → IfSome (get_or cells.new.items c None) (λ number. description ≡ Some number) }
+{
+    if let Some(at) = cell(ring, slot)
+        && at < cells.len()
+    {
+        cells[at] = description;
+    }
 }
 
 impl Slots {
@@ -36,6 +96,7 @@ impl Slots {
     {
         Slots {
             entries: BTreeMap::new(alloc),
+            cells: Vec::new(alloc),
         }
     }
 
@@ -44,7 +105,10 @@ impl Slots {
     pub fn get(&self, ring: u32, slot: u32) -> Option<u32>
         ensures { result ≡ get self.now (ring, slot) }
     {
-        self.entries.get(&(ring, slot)).copied()
+        match known(&self.cells, ring, slot) {
+            Some(number) => Some(number),
+            None => self.entries.get(&(ring, slot)).copied(),
+        }
     }
 
     /// Fills a slot of a ring, or empties it, which takes no memory.
@@ -56,9 +120,12 @@ impl Slots {
     {
         let Some(number) = description else {
             self.entries.remove(&(ring, slot));
+            note(&mut self.cells, ring, slot, None);
             return Ok(());
         };
+        grow(&mut self.cells, ring, slot)?;
         self.entries.insert((ring, slot), number)?;
+        note(&mut self.cells, ring, slot, Some(number));
         Ok(())
     }
 

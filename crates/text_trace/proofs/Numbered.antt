@@ -56,7 +56,7 @@ added_one old new key path number is updates fresh p =
     (other_names old new path number p at)
     (λ same. subst (λ (q : List ℕ). is_some (named old q) ≡ false) ((bytes_eq-Decides path p).0 same) fresh)
 
-first_at : (t : Item → Bool) (i n : ℕ) (x : Item) → i ≡ n → cond (t x) (Some i) None ≡ cond (t x) (Some n) None
+first_at : {X : Type 0} (t : X → Bool) (i n : ℕ) (x : X) → i ≡ n → cond (t x) (Some i) None ≡ cond (t x) (Some n) None
 first_at t i n x e = ap (λ (k : ℕ). cond (t x) (Some k) None) e
 
 later : (b : Bool) (i : ℕ) (all rest last : Option ℕ) → all ≡ option_or rest last → cond b (Some i) all ≡ option_or (cond b (Some i) rest) last
@@ -64,7 +64,7 @@ later true i all rest last e = refl
 later false i all rest last e = e
 
 -- the first of some items with one more
-more_is : (t : Item → Bool) (i : ℕ) (items : List Item) (x : Item) (n : ℕ) → i + length items ≡ n
+pub more_is : {X : Type 0} (t : X → Bool) (i : ℕ) (items : List X) (x : X) (n : ℕ) → i + length items ≡ n
     → position_from t i (items ++ x ∷ []) ≡ option_or (position_from t i items) (cond (t x) (Some n) None)
 more_is t i [] x n e = first_at t i n x (omega (arith, e))
 more_is t i (y ∷ items) x n e = later (t y) i _ _ _ (more_is t (i + 1) items x n (omega (arith, e)))

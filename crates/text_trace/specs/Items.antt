@@ -6,7 +6,7 @@ use Rattle.trace_format.specs.declared.trace.Item.{Item}
 use Rattle.text_words.specs.declared.fault.Fault.{Fault}
 use Rattle.text_words.specs.Read.{Rest, ◌>>=◌, repeated}
 use Rattle.text_words.specs.Words.{behind_first, first_word}
-use Rattle.text_trace.specs.declared.lines.Kind.{Kind}
+use Rattle.text_trace.specs.declared.lines.ItemKind.{ItemKind}
 use Rattle.text_trace.specs.Lines.{kind_of, next_path, node_of}
 use Rattle.text_trace.specs.Parts.{room_for, with_line}
 
@@ -15,7 +15,7 @@ abbrev pub number_of : List Item → List ℕ → Option ℕ
 number_of items path = position_from (λ i. bytes_eq i.path path) 1 items
 
 -- one item more
-unfoldable pub one_item : List Item × List ℕ × Rest → Kind → Result (List Item × List ℕ × Rest) Fault
+unfoldable pub one_item : List Item × List ℕ × Rest → ItemKind → Result (List Item × List ℕ × Rest) Fault
 one_item s kind = do
   _ ← room_for 65535 (length s.0) s.2
   path ← next_path (behind_first s.2)

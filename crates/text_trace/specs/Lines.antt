@@ -19,8 +19,8 @@ use Rattle.text_words.specs.Numbers.{count_at, number, number_in}
 use Rattle.text_words.specs.declared.numbers.Style.TheVariants.{Plain}
 use Rattle.text_words.specs.Paths.{path_at}
 use Rattle.text_words.specs.Read.{Rest, Word, ◌>>=◌, fault, known, refuse_if, repeated}
-use Rattle.text_trace.specs.declared.lines.Kind.{Kind}
-use Rattle.text_trace.specs.declared.lines.Kind.TheVariants as kind
+use Rattle.text_trace.specs.declared.lines.ItemKind.{ItemKind}
+use Rattle.text_trace.specs.declared.lines.ItemKind.TheVariants as kind
 use Rattle.text_words.specs.Strings.{strings_of}
 use Rattle.text_words.specs.Words.{behind_first, behind_next, first_word, is_at_end, line_end, next_word, value_at, word_behind}
 use Rattle.text_trace.specs.Fields.{opcode_of}
@@ -80,13 +80,13 @@ directory_of r = do
   Ok (Directory, rest)
 
 -- what the line of an item has behind its path, by its first word
-abbrev pub node_of : (List ℕ → Option ℕ) → Kind → Rest → Result (Node × Rest) Fault
+abbrev pub node_of : (List ℕ → Option ℕ) → ItemKind → Rest → Result (Node × Rest) Fault
 node_of names kind.Directory r = directory_of r
 node_of names kind.File r = file_of r
 node_of names kind.Name r = other_of names r
 
 -- the kind of an item, by the first word of its line
-abbrev pub kind_of : List ℕ → Option Kind
+abbrev pub kind_of : List ℕ → Option ItemKind
 kind_of word =
     if bytes_eq word (codes "dir") then Some kind.Directory else if bytes_eq word (codes "file") then Some kind.File
     else if bytes_eq word (codes "name") then Some kind.Name else None

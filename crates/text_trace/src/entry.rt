@@ -23,7 +23,7 @@ const LONGEST_COUNTED: usize = 65_535;
 
 /// What the words of an entry have said so far.
 #[derive(Drop)]
-pub(crate) struct Draft {
+pub struct Draft {
     pub sqe: Sqe,
     /// The fields that were told, a bit each.
     pub given: u16,
@@ -36,7 +36,7 @@ pub(crate) struct Draft {
 }
 
 /// An entry of which nothing but the operation has been told.
-fn empty(alloc: Global, opcode: u8) -> Draft
+pub fn empty(alloc: Global, opcode: u8) -> Draft
     ensures { draft_of result ≡ empty opcode }
 {
     Draft {
@@ -66,7 +66,7 @@ fn empty(alloc: Global, opcode: u8) -> Draft
 }
 
 /// The bit of a field among those that were told.
-fn mark_of(field: Field) -> u16
+pub fn mark_of(field: Field) -> u16
     ensures { result ≡ mark_of field }
 {
     match field {
@@ -315,7 +315,7 @@ fn add_word(alloc: Global, draft: &mut Draft, word: Word<'_>) -> Result<(), Read
 
 /// Reads the next word.
 #[tactic(auto, unfolding(crate::specs::Entry::add_next))]
-fn add_next<'a>(
+pub fn add_next<'a>(
     alloc: Global,
     draft: &mut Draft,
     source: Source<'a>,
@@ -401,7 +401,7 @@ fn push_paths(side: &mut Vec<u8>, draft: &Draft) -> Result<(), AllocError>
 
 /// The bytes beside an entry: lengths, paths, and what it writes.
 #[tactic(auto, unfolding(crate::specs::Entry::side_of))]
-fn side_of(alloc: Global, draft: &Draft) -> Result<Vec<u8>, AllocError>
+pub fn side_of(alloc: Global, draft: &Draft) -> Result<Vec<u8>, AllocError>
     ensures { IfOk result (λ side. side.items ≡ side_of (draft_of draft.now)) }
 {
     let mut side = Vec::new(alloc);
@@ -428,7 +428,7 @@ fn default_len(draft: &Draft) -> u32
 
 /// The fields of an entry.
 #[tactic(auto, unfolding(crate::specs::Entry::fields_of))]
-fn fields_of(draft: &Draft) -> Sqe
+pub fn fields_of(draft: &Draft) -> Sqe
     ensures { result ≡ fields_of (draft_of draft.now) }
 {
     if draft.given & mark_of(Field::Len) == 0 {

@@ -70,7 +70,7 @@ fn numbered_opcode(word: &[u8]) -> Option<u8>
 
 /// The operation that a word names.
 #[tactic(auto, unfolding(crate::specs::Fields::opcode_of))]
-pub(crate) fn opcode_of(word: &[u8]) -> Option<u8>
+pub fn opcode_of(word: &[u8]) -> Option<u8>
     ensures { result ≡ opcode_of word.now }
 {
     match named_opcode(word) {

@@ -51,7 +51,7 @@ const MOST_ENTRIES: usize = 32_768;
 const MOST_PLACES: usize = 1_048_576;
 
 /// The numbers of items by their paths.
-pub(crate) type Names = BTreeMap<Vec<u8>, u32>;
+pub type Names = BTreeMap<Vec<u8>, u32>;
 
 /// Of each line that makes bytes, how many bytes of the text are left from it on.
 pub(crate) type Lines = Vec<usize>;
@@ -87,7 +87,7 @@ pub(crate) fn version_of(source: Source<'_>) -> Result<(Version, Source<'_>), Re
 }
 
 /// Whether the next line begins with a word.
-fn begins(word: &[u8], source: Source<'_>) -> bool
+pub fn begins(word: &[u8], source: Source<'_>) -> bool
     ensures { result ≡ begins word.now (rest_of source.entry) }
 {
     first_word(source).bytes == word
@@ -103,7 +103,7 @@ fn add_line(lines: &mut Lines, word: Word<'_>) -> Result<(), AllocError>
 
 /// The next word, which is a path.
 #[tactic(auto, unfolding(crate::specs::Lines::next_path))]
-fn next_path(alloc: Global, source: Source<'_>) -> Result<(Vec<u8>, Source<'_>), ReadError>
+pub fn next_path(alloc: Global, source: Source<'_>) -> Result<(Vec<u8>, Source<'_>), ReadError>
     ensures { Gives (λ x. (x.0.items, rest_of x.1)) result (next_path (rest_of source.entry)) }
 {
     if is_at_end(source) {
@@ -122,7 +122,7 @@ fn named_node(names: &Names, path: &[u8]) -> Option<u32>
 
 /// The number of an item, 0 for the root.
 #[tactic(auto, unfolding(crate::specs::Lines::node_at))]
-fn node_at(alloc: Global, names: &Names, word: Word<'_>) -> Result<u32, ReadError>
+pub fn node_at(alloc: Global, names: &Names, word: Word<'_>) -> Result<u32, ReadError>
     ensures { Gives (λ n. n) result (node_at (named names.now) (word_of word.entry)) }
 {
     if word.bytes.starts_with(b"@") {
@@ -140,7 +140,10 @@ fn node_at(alloc: Global, names: &Names, word: Word<'_>) -> Result<u32, ReadErro
 
 /// A number of 64 bits behind a key, if the next word has it.
 #[tactic(auto, unfolding(crate::specs::Lines::keyed))]
-fn keyed_long<'a>(key: &[u8], source: Source<'a>) -> Result<(Option<u64>, Source<'a>), ReadError>
+pub fn keyed_long<'a>(
+    key: &[u8],
+    source: Source<'a>,
+) -> Result<(Option<u64>, Source<'a>), ReadError>
     ensures { Gives (λ x. (x.0, rest_of x.1)) result (keyed 64 key.now (rest_of source.entry)) }
 {
     match value_at(next_word(source), key) {
@@ -151,7 +154,10 @@ fn keyed_long<'a>(key: &[u8], source: Source<'a>) -> Result<(Option<u64>, Source
 
 /// The same of 32 bits.
 #[tactic(auto, unfolding(crate::specs::Lines::keyed))]
-fn keyed_word<'a>(key: &[u8], source: Source<'a>) -> Result<(Option<u32>, Source<'a>), ReadError>
+pub fn keyed_word<'a>(
+    key: &[u8],
+    source: Source<'a>,
+) -> Result<(Option<u32>, Source<'a>), ReadError>
     ensures { Gives (λ x. (x.0, rest_of x.1)) result (keyed 32 key.now (rest_of source.entry)) }
 {
     match value_at(next_word(source), key) {
@@ -203,21 +209,22 @@ fn directory_of(source: Source<'_>) -> Result<(Node, Source<'_>), ReadError>
 
 /// What the first word of the line of an item is.
 #[derive(Clone, Copy)]
-enum Kind {
+pub enum ItemKind {
     Directory,
     File,
     Name,
 }
 
-fn kind_of(word: &[u8]) -> Option<Kind>
+/// The same of a word, none where it begins no line of an item.
+pub fn kind_of(word: &[u8]) -> Option<ItemKind>
     ensures { result ≡ kind_of word.now }
 {
     if word == b"dir".as_slice() {
-        Some(Kind::Directory)
+        Some(ItemKind::Directory)
     } else if word == b"file".as_slice() {
-        Some(Kind::File)
+        Some(ItemKind::File)
     } else if word == b"name".as_slice() {
-        Some(Kind::Name)
+        Some(ItemKind::Name)
     } else {
         None
     }
@@ -227,21 +234,21 @@ fn kind_of(word: &[u8]) -> Option<Kind>
 fn node_of<'a>(
     alloc: Global,
     names: &Names,
-    kind: Kind,
+    kind: ItemKind,
     source: Source<'a>,
 ) -> Result<(Node, Source<'a>), ReadError>
     ensures { Gives (λ x. (x.0, rest_of x.1)) result
         (node_of (named names.now) kind (rest_of source.entry)) }
 {
     match kind {
-        Kind::Directory => directory_of(source),
-        Kind::File => file_of(alloc, source),
-        Kind::Name => other_of(alloc, names, source),
+        ItemKind::Directory => directory_of(source),
+        ItemKind::File => file_of(alloc, source),
+        ItemKind::Name => other_of(alloc, names, source),
     }
 }
 
 /// Notes the number of an item by its path, unless an earlier one has the path.
-fn note_name(names: &mut Names, path: &Vec<u8>, number: u32) -> Result<(), AllocError>
+pub fn note_name(names: &mut Names, path: &Vec<u8>, number: u32) -> Result<(), AllocError>
     ensures { OnOk result (KnowsOneMore names.old names.new path.now.items number) }
 {
     if names.contains_key(path) {
@@ -258,7 +265,7 @@ fn add_item<'a>(
     names: &mut Names,
     items: &mut Vec<Item>,
     lines: &mut Lines,
-    kind: Kind,
+    kind: ItemKind,
     source: Source<'a>,
 ) -> Result<Source<'a>, ReadError>
     requires { named names.old ≡ number_of items.old.items }
@@ -314,7 +321,7 @@ fn is_number(number: usize, word: &[u8]) -> bool
 
 /// The next number of a line, which counts up.
 #[tactic(auto, unfolding(crate::specs::Lines::next_number))]
-fn next_number(number: usize, source: Source<'_>) -> Result<Source<'_>, ReadError>
+pub fn next_number(number: usize, source: Source<'_>) -> Result<Source<'_>, ReadError>
     ensures { Gives rest_of result (next_number number (rest_of source.entry)) }
 {
     let word = next_word(source);
@@ -376,7 +383,7 @@ fn next_access(source: Source<'_>) -> Result<(Access, bool, Source<'_>), ReadErr
 
 /// A description, behind so many.
 #[tactic(auto, unfolding(crate::specs::Lines::description_of))]
-fn description_of<'a>(
+pub fn description_of<'a>(
     alloc: Global,
     names: &Names,
     number: usize,
@@ -450,7 +457,7 @@ pub(crate) fn descriptions_of<'a>(
 
 /// How many empty slots a word is, if it is some.
 #[tactic(auto, unfolding(crate::specs::Lines::empty_slots))]
-fn empty_slots(word: Word<'_>) -> Result<Option<u64>, ReadError>
+pub fn empty_slots(word: Word<'_>) -> Result<Option<u64>, ReadError>
     ensures { Gives (λ n. n) result (empty_slots (word_of word.entry)) }
 {
     if word.bytes == b"-".as_slice() {
@@ -555,7 +562,7 @@ pub(crate) fn slots_behind<'a>(
 
 /// A registered buffer, behind so many.
 #[tactic(auto, unfolding(crate::specs::Lines::buffer_of))]
-fn buffer_of(number: usize, source: Source<'_>) -> Result<(Buffer, Source<'_>), ReadError>
+pub fn buffer_of(number: usize, source: Source<'_>) -> Result<(Buffer, Source<'_>), ReadError>
     ensures { Gives (λ x. (x.0, rest_of x.1)) result (buffer_of number (rest_of source.entry)) }
 {
     let source = next_number(number, behind_first(source))?;
@@ -949,7 +956,7 @@ fn stray(word: &[u8]) -> Reason
 
 /// The end of the text, where nothing but the lines of a trace stands before it.
 #[tactic(auto, unfolding(crate::specs::Lines::text_end))]
-pub(crate) fn text_end(source: Source<'_>) -> Result<(), ReadError>
+pub fn text_end(source: Source<'_>) -> Result<(), ReadError>
     ensures { Gives (λ _. false) result (text_end (rest_of source.entry)) }
 {
     let word = first_word(source);

@@ -19,7 +19,7 @@ use text_words::{Fault, ReadError, Reason, Source, refused};
 use trace_format::{Kind, Series, Trace, Version, read_trace, write_trace};
 
 /// How many bytes the strings of a text may mean.
-const MOST_BYTES: u64 = 1_073_741_824;
+pub const MOST_BYTES: u64 = 1_073_741_824;
 
 /// The trace that a text means, and of each line that makes bytes, how many bytes of the text are
 /// left from it on.
@@ -69,7 +69,7 @@ fn descriptors_of<'a>(
 }
 
 /// Where so many bytes of a text are left.
-fn place_of(text: &[u8], fault: Fault) -> TextFault
+pub fn place_of(text: &[u8], fault: Fault) -> TextFault
     ensures { result ≡ fault_told text.now fault }
 {
     let before = &text[..text.len() - fault.left.min(text.len())];

@@ -63,6 +63,8 @@ pub enum Reason {
     Of,
     /// The number of a buffer is missing.
     Buffer,
+    /// The bytes of the entry are told by strings and by their number.
+    Both,
     /// There is one more of its kind than a trace may have.
     TooMany,
     /// Nothing more is expected on this line.
@@ -136,6 +138,7 @@ fn words_of(reason: Reason) -> &'static str {
         Reason::Lengths => "expected lengths, as [4,8]",
         Reason::Of => "expected of=PATH",
         Reason::Buffer => "expected buffer=N",
+        Reason::Both => "expected strings or zeros=N, not both",
         Reason::TooMany => "there is one more of these than a trace may have",
         Reason::End => "expected the end of the line",
         Reason::Bits(_) | Reason::Next(_) => "expected another number",

@@ -95,9 +95,9 @@ goes_on a b s s' h r is read =
 consumes_on : (a b c : Option (List ℕ)) (more : List ℕ) → Consumes a b more → Consumes b c [] → Consumes a c more
 consumes_on a b c more x y = subst (Consumes a c) (append-nil more) (Consumes-trans a b c more [] x y)
 
-pub ends : (a b c : Option (List ℕ)) (s s' : Stream) (h : Held) → s'.front ≡ s.front
+pub ends : (a b c : Option (List ℕ)) (s s' : Stream) (h : Held) → s'.start ≡ s.start → s'.front ≡ s.front
     → Reads (next s.start s.front) s.held h a b None → held.HasMore false h b c → Gives a c s s' None
-ends a b c s s' h same read last = (
+ends a b c s s' h start same read last = (
   read.0,
   consumes_on a b c read.0 read.1 last.1,
   λ taken rs st.
@@ -106,7 +106,7 @@ ends a b c s s' h same read last = (
       let whole : s.held.rest ++ read.0 ≡ here = uses.1 ∙ ap (λ (x : List ℕ). here ++ x) last.0 ∙ append-nil here in
       let spells : Ends s.start (behind no_records rs) (length st.text) here = at_front (λ f n. Ends s.start f n here) s taken rs st uses.2 in
       let bytes : taken ++ read.0 ≡ st.text ++ here = text_more s taken read.0 rs st ∙ ap (λ (x : List ℕ). st.text ++ x) whole in
-      (subst (λ (x : List ℕ). SpellsTrace x (trace_of s.start rs)) (sym bytes) (begins_last (Ends s.start) s.start st.text here rs st.spelled spells), last.2, same ∙ st.front_is),
+      (start, subst (λ (x : List ℕ). SpellsTrace x (trace_of s.start rs)) (sym bytes) (begins_last (Ends s.start) s.start st.text here rs st.spelled spells), last.2, same ∙ st.front_is),
 )
 
 -- ---- faults

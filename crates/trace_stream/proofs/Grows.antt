@@ -3,12 +3,17 @@ use Rattle.std.proofs.Common.{◌≡◌, ◌∙◌, ◌+◌, ◌<◌, ◌++◌, 
 use Rattle.std.specs.Io.KnownBytes.{Consumes}
 use Rattle.std.proofs.KnownBytes.{Consumes-nil, Consumes-trans}
 use Rattle.std.proofs.lemmas.List.{append-nil}
+use Rattle.byte_transfer.specs.Transfer.{Takes}
 use Rattle.trace_format.specs.Grammar.{Grammar, Breaks, fault}
 use Rattle.trace_format.specs.declared.fault.TraceFault.{TraceFault}
 use Rattle.trace_format.specs.declared.fault.Kind.TheVariants.{Memory}
 use Rattle.trace_stream.specs.declared.fault.StreamFault.{StreamFault}
 use Rattle.trace_stream.specs.declared.fault.StreamFault.TheVariants.{Trace, Read}
 use Rattle.trace_stream.specs.Held.{Held, grown, Gains, Uses, Reads, Tries, Fails, Stops, IsOutside, failed, failed_of}
+
+-- what was taken, and then more
+pub takes_on : (a b c : Option (List ℕ)) → Takes a b → Takes b c → Takes a c
+takes_on a b c before more = (before.0 ++ more.0, Consumes-trans a b c before.0 more.0 before.1 more.1)
 
 -- what the reader lost came behind
 pub record Grows (h h' : Held) (left left' : Option (List ℕ)) : Type 0 where

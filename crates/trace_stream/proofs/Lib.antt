@@ -1,3 +1,4 @@
 pub mod Grows
 pub mod Goes
+pub mod Going
 pub mod Tallied

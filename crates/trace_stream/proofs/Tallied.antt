@@ -1,7 +1,5 @@
 -- Records that are counted as they come.
-use Rattle.std.proofs.Common.{◌≡◌, ◌∙◌, ◌+◌, ◌++◌, ◌∷◌, [], ℕ, true, false, List, length, cond, Option, None, Some, sym, ap, subst, inl, inr, add-zero, append_assoc, length-append, arith, is_some, IfSome}
-use Rattle.std.specs.Io.KnownBytes.{Consumes}
-use Rattle.std.proofs.KnownBytes.{Consumes-trans}
+use Rattle.std.proofs.Common.{◌≡◌, ◌∙◌, ◌+◌, ◌++◌, ◌∷◌, [], ℕ, true, false, List, length, cond, Option, None, Some, sym, ap, add-zero, length-append, arith, is_some, IfSome}
 use Rattle.std.proofs.lemmas.List.{length-set}
 use Rattle.std.proofs.lemmas.List.Sums.{sum_by-cons}
 use Rattle.trace_records.specs.declared.counting.Tally.{Tally}
@@ -10,11 +8,8 @@ use Rattle.trace_records.specs.declared.record.Record.{Record}
 use Rattle.trace_records.specs.declared.record.Record.TheVariants.{Enter, Fill, RingStarts, RingEnds}
 use Rattle.trace_records.specs.Front.{Front, no_records, after, places_of, rings_after, sizes_of}
 use Rattle.trace_records.specs.Tallies.{places, rings, is_ring}
-use Rattle.trace_records.specs.Whole.{HasFault}
-use Rattle.trace_stream.proofs.Goes.{faulty}
-use Rattle.trace_stream.specs.Streams.{behind, trace_of, Stands, Steps, Gives, GivesFault, Opens, Counts, Tells}
-use Rattle.trace_stream.specs.declared.fault.StreamFault.{StreamFault}
-use Rattle.trace_stream.specs.declared.fault.StreamFault.TheVariants as faults
+use Rattle.trace_stream.proofs.Going.{Going, ended}
+use Rattle.trace_stream.specs.Streams.{behind, trace_of, Steps, Gives, HasTally, ReadsAll}
 use Rattle.trace_stream.specs.declared.stream.Stream.{Stream}
 
 -- the places and rings behind records
@@ -49,46 +44,22 @@ pub on_some : (x : Option Record) (P : Type 0) → IfSome x (λ _. P) → is_som
 on_some (Some r) P p e = p
 on_some None P p e = absurd (cc)
 
--- the records so far, by what was taken
-pub record Going (ahead : List ℕ) (a b : Option (List ℕ)) (s : Stream) : Type 0 where
-  pub more : List ℕ
-  pub taken : Consumes a b more
-  pub rs : List Record
-  pub stands : Stands s (ahead ++ more) rs
-
-pub begun : (ahead : List ℕ) (a b : Option (List ℕ)) (s : Stream) → Opens ahead a b s → Going ahead a b s
-begun ahead a b s o = record { more = o.0; taken = o.1; rs = []; stands = o.2 }
-
-pub one_more : (ahead : List ℕ) (a b c : Option (List ℕ)) (s s' : Stream) → Going ahead a b s → Steps b c s s' true → Going ahead a c s'
-one_more ahead a b c s s' g step =
-    let gives = step.1 in
-    let on = gives.2 (ahead ++ g.more) g.rs g.stands in
+pub counted : (ahead : List ℕ) (a b c : Option (List ℕ)) (s s' : Stream) (rs : List Record) (tally : Tally) → Going ahead a b s rs → Steps b c s s' false
+    → tally.places ≡ s'.front.places → tally.rings ≡ length s'.front.rings → ReadsAll ahead a c (HasTally tally)
+counted ahead a b c s s' rs tally g step ps ns =
+    let on = step.2 (ahead ++ g.more) rs g.stands in
+    let front : s'.front ≡ behind no_records rs = on.3 in
+    let whole = ended ahead a b c s s' rs g step in
     record {
-      more = g.more ++ gives.0;
-      taken = Consumes-trans a b c g.more gives.0 g.taken gives.1;
-      rs = g.rs ++ step.0 ∷ [];
-      stands = subst (λ (x : List ℕ). Stands s' x (g.rs ++ step.0 ∷ [])) (append_assoc ahead g.more gives.0) on.1;
+      more = whole.more;
+      taken = whole.taken;
+      ended = whole.ended;
+      is = (
+        trace_of s'.start rs,
+        whole.is,
+        record {
+          places_are = ps ∙ ap (λ (f : Front). f.places) front ∙ behind_places no_records rs ∙ zero-add (places rs);
+          rings_are = ns ∙ ap (λ (f : Front). length f.rings) front ∙ behind_rings no_records rs ∙ zero-add (rings rs);
+        },
+      );
     }
-
-pub counted : (ahead : List ℕ) (a b c : Option (List ℕ)) (s s' : Stream) (tally : Tally) → Going ahead a b s → Steps b c s s' false
-    → tally.places ≡ s'.front.places → tally.rings ≡ length s'.front.rings → Counts ahead a c tally
-counted ahead a b c s s' tally g step ps rs =
-    let on = step.2 (ahead ++ g.more) g.rs g.stands in
-    record {
-      more = g.more ++ step.0;
-      taken = Consumes-trans a b c g.more step.0 g.taken step.1;
-      ended = on.1;
-      trace = trace_of s.start g.rs;
-      spelled = rw (sym (append_assoc ahead g.more step.0)) on.0;
-      counted = record {
-        places_are = ps ∙ ap (λ (f : Front). f.places) on.2 ∙ behind_places no_records g.rs ∙ zero-add (places g.rs);
-        rings_are = rs ∙ ap (λ (f : Front). length f.rings) on.2 ∙ behind_rings no_records g.rs ∙ zero-add (rings g.rs);
-      };
-    }
-
-pub faulty_step : (ahead : List ℕ) (a b c : Option (List ℕ)) (s : Stream) (e : StreamFault) → Going ahead a b s → GivesFault b c s e → Tells ahead a c e
-faulty_step ahead a b c s faults.Read g f = tt
-faulty_step ahead a b c s (faults.Trace f) g (inl memory) = inl memory
-faulty_step ahead a b c s (faults.Trace f) g (inr t) =
-    let found : HasFault ((ahead ++ g.more) ++ t.0) f = t.2 (ahead ++ g.more) g.rs g.stands in
-    inr (faulty ahead (g.more ++ t.0) a c f (Consumes-trans a b c g.more t.0 g.taken t.1) (subst (λ (x : List ℕ). HasFault x f) (append_assoc ahead g.more t.0) found) t.3)

@@ -36,7 +36,7 @@ pub record Stands (s : Stream) (taken : List ℕ) (rs : List Record) : Type 0 wh
 -- The stream goes on by a record, or the bytes that were taken spell the trace, and the reader is at its end.
 abbrev pub GoesTo : Option (List ℕ) → Stream → Stream → List ℕ → List Record → Option Record → Type 0
 GoesTo left s s' taken rs (Some r) = (s'.start ≡ s.start) × Stands s' taken (rs ++ r ∷ [])
-GoesTo left s s' taken rs None = SpellsTrace taken (trace_of s.start rs) × IsAtEnd left × (s'.front ≡ behind no_records rs)
+GoesTo left s s' taken rs None = (s'.start ≡ s.start) × SpellsTrace taken (trace_of s.start rs) × IsAtEnd left × (s'.front ≡ behind no_records rs)
 
 -- What was taken before and what the reader lost gives the next record, or the end.
 abbrev pub Gives : Option (List ℕ) → Option (List ℕ) → Stream → Stream → Option Record → Type 0
@@ -66,16 +66,23 @@ abbrev pub Tells : List ℕ → Option (List ℕ) → Option (List ℕ) → Stre
 Tells ahead left left' faults.Read = ⊤
 Tells ahead left left' (faults.Trace f) = (f ≡ fault Memory 0) ⊎ IsFaultOf ahead left left' f
 
--- The reader was read to its end, and what was read ahead and what it had left spells a trace with this tally.
-pub record Counts (ahead : List ℕ) (left left' : Option (List ℕ)) (tally : Tally) : Type 0 where
+-- The reader was read to its end, and this is so of what was read ahead and what it had left.
+pub record ReadsAll (ahead : List ℕ) (left left' : Option (List ℕ)) (IsSo : List ℕ → Type 0) : Type 0 where
   pub more : List ℕ
   pub taken : Consumes left left' more
   pub ended : IsAtEnd left'
-  pub trace : Trace
-  pub spelled : SpellsTrace (ahead ++ more) trace
-  pub counted : IsTallyOf tally trace.records
+  pub is : IsSo (ahead ++ more)
+
+-- The text spells a trace with this tally.
+abbrev pub HasTally : Tally → List ℕ → Type 0
+HasTally tally text = (t : Trace) × SpellsTrace text t × IsTallyOf tally t.records
 
 -- The stream goes on by some record, or not.
 abbrev pub Steps : Option (List ℕ) → Option (List ℕ) → Stream → Stream → Bool → Type 0
 Steps left left' s s' true = (r : Record) × Gives left left' s s' (Some r)
 Steps left left' s s' false = Gives left left' s s' None
+
+-- The stream goes on by a record, which comes behind the others, or not.
+abbrev pub Adds : Option (List ℕ) → Option (List ℕ) → Stream → Stream → List Record → List Record → Bool → Type 0
+Adds left left' s s' rs rs' true = (r : Record) × (rs' ≡ rs ++ r ∷ []) × Gives left left' s s' (Some r)
+Adds left left' s s' rs rs' false = (rs' ≡ rs) × Gives left left' s s' None

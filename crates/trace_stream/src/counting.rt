@@ -1,7 +1,8 @@
 //! How many places and rings a trace has that comes from a reader.
 ghost use Rattle.std.specs.Prelude.{◌≡◌, ◌+◌, ◌-◌, ◌<◌, ◌^◌, true, IfOk, IfErr};
+ghost use Rattle.byte_transfer.specs.Transfer.{Takes};
 ghost use Rattle.trace_stream.specs.Held.{failed};
-ghost use Rattle.trace_stream.specs.Streams.{Counts, GivesFault, Tells, Steps};
+ghost use Rattle.trace_stream.specs.Streams.{GivesFault, HasTally, ReadsAll, Steps, Tells};
 
 use crate::fault::StreamFault;
 use crate::stream::Stream;
@@ -19,6 +20,7 @@ fn step<R: Source>(alloc: Global, stream: &mut Stream, reader: &mut R) -> Result
     ensures on { IfOk result (λ going. going ≡ true
         → (stream.old.held.place < stream.new.held.place)
         × (stream.new.held.place < 2 ^ 63)) }
+    ensures taken { Takes (R.left reader.old) (R.left reader.new) }
     ensures failures { R.failures reader.new ≡ R.failures reader.old + failed result }
 {
     let record = stream.next(alloc, reader)?;
@@ -37,8 +39,10 @@ pub fn count_stream<R: Source>(
     reader: &mut R,
 ) -> Result<Tally, StreamFault>
     requires { R.failures reader.old < 2 ^ 64 - 1 }
-    ensures ok { IfOk result (Counts ahead.items (R.left reader.old) (R.left reader.new)) }
+    ensures ok { IfOk result (λ tally. ReadsAll ahead.items (R.left reader.old) (R.left reader.new)
+        (HasTally tally)) }
     ensures err { IfErr result (Tells ahead.items (R.left reader.old) (R.left reader.new)) }
+    ensures taken { Takes (R.left reader.old) (R.left reader.new) }
     ensures failures { R.failures reader.new ≡ R.failures reader.old + failed result }
 {
     let mut stream = Stream::open(alloc, ahead, reader)?;

@@ -1,5 +1,6 @@
 //! Bytes that were taken from a reader and not used yet.
 ghost use Rattle.std.specs.Prelude.{◌≡◌, ◌+◌, ◌-◌, ◌<◌, ◌≤◌, ◌^◌, drop, length, IfOk, IfErr, OnOk};
+ghost use Rattle.byte_transfer.specs.Transfer.{Takes};
 ghost use Rattle.trace_stream.specs.Held.{Gains, IsOutside, failed};
 
 use crate::fault::{StreamFault, no_memory};
@@ -87,6 +88,7 @@ impl Held {
         ensures ok { IfOk result
             (λ some. Gains some self.old self.new (R.left reader.old) (R.left reader.new)) }
         ensures err { IfErr result IsOutside }
+        ensures taken { Takes (R.left reader.old) (R.left reader.new) }
         ensures failures { R.failures reader.new ≡ R.failures reader.old + failed result }
         ensures bound { self.new.place + length self.new.rest < 2 ^ 63 }
     {
@@ -115,6 +117,7 @@ impl Held {
         ensures ok { IfOk result
             (λ some. Gains some self.old self.new (R.left reader.old) (R.left reader.new)) }
         ensures err { IfErr result IsOutside }
+        ensures taken { Takes (R.left reader.old) (R.left reader.new) }
         ensures failures { R.failures reader.new ≡ R.failures reader.old + failed result }
         ensures bound { self.new.place + length self.new.rest < 2 ^ 63 }
     {

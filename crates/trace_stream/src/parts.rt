@@ -1,5 +1,6 @@
 //! Parts of a text, from the bytes that are held and those that the reader has left.
 ghost use Rattle.std.specs.Prelude.{◌≡◌, ◌+◌, ◌-◌, ◌<◌, ◌≤◌, ◌^◌, true, length, IfOk, IfErr, IfSome, OnOk};
+ghost use Rattle.byte_transfer.specs.Transfer.{Takes};
 ghost use Rattle.trace_records.specs.Front.{places_of, places_limit};
 ghost use Rattle.trace_records.specs.Records.{next};
 ghost use Rattle.trace_records.specs.Start.{start};
@@ -24,6 +25,7 @@ fn more_for<R: Source>(
     ensures ok { OnOk result
         (Gains true held.old held.new (R.left reader.old) (R.left reader.new)) }
     ensures err { IfErr result (Stops fault (R.left reader.old) (R.left reader.new)) }
+    ensures taken { Takes (R.left reader.old) (R.left reader.new) }
     ensures failures { R.failures reader.new ≡ R.failures reader.old + failed result }
     ensures bound { OnOk result (held.new.place + length held.new.rest < 2 ^ 63) }
 {
@@ -48,6 +50,7 @@ fn try_start<R: Source>(
     ensures ok { IfOk result
         (Tries start held.old held.new (R.left reader.old) (R.left reader.new)) }
     ensures err { IfErr result (Fails start held.old (R.left reader.old) (R.left reader.new)) }
+    ensures taken { Takes (R.left reader.old) (R.left reader.new) }
     ensures failures { R.failures reader.new ≡ R.failures reader.old + failed result }
     ensures bound { IfOk result (λ _. held.new.place + length held.new.rest < 2 ^ 63) }
 {
@@ -74,6 +77,7 @@ pub(crate) fn start_on<R: Source>(
     ensures ok { IfOk result
         (Reads start held.old held.new (R.left reader.old) (R.left reader.new)) }
     ensures err { IfErr result (Fails start held.old (R.left reader.old) (R.left reader.new)) }
+    ensures taken { Takes (R.left reader.old) (R.left reader.new) }
     ensures failures { R.failures reader.new ≡ R.failures reader.old + failed result }
 {
     loop {
@@ -99,6 +103,7 @@ fn try_record<R: Source>(
     ensures within { IfOk result (λ x. IfSome x
         (λ y. IfSome y (λ r. front.now.places + places_of r ≤ places_limit))) }
     ensures on { IfOk result (λ x. IfSome x (λ _. held.old.place < held.new.place)) }
+    ensures taken { Takes (R.left reader.old) (R.left reader.new) }
     ensures failures { R.failures reader.new ≡ R.failures reader.old + failed result }
     ensures bound { IfOk result (λ _. held.new.place + length held.new.rest < 2 ^ 63) }
 {
@@ -130,6 +135,7 @@ pub(crate) fn record_on<R: Source>(
     ensures within { IfOk result
         (λ x. IfSome x (λ r. front.now.places + places_of r ≤ places_limit)) }
     ensures on { IfOk result (λ _. held.old.place < held.new.place) }
+    ensures taken { Takes (R.left reader.old) (R.left reader.new) }
     ensures failures { R.failures reader.new ≡ R.failures reader.old + failed result }
     ensures bound { IfOk result (λ _. held.new.place < 2 ^ 63) }
 {

@@ -1,5 +1,6 @@
 //! A trace that is taken from a reader record by record.
 ghost use Rattle.std.specs.Prelude.{◌≡◌, ◌+◌, ◌-◌, ◌<◌, ◌^◌, false, length, IfOk, IfErr, IfSome, OnOk};
+ghost use Rattle.byte_transfer.specs.Transfer.{Takes};
 ghost use Rattle.trace_stream.specs.Held.{HasMore, IsOutside, Trails, failed};
 ghost use Rattle.trace_stream.specs.Streams.{Gives, GivesFault, Opens, Tells};
 
@@ -26,6 +27,7 @@ fn has_more<R: Source>(alloc: Global, held: &mut Held, reader: &mut R) -> Result
     ensures ok { IfOk result
         (λ more. HasMore more held.old (R.left reader.old) (R.left reader.new)) }
     ensures err { IfErr result IsOutside }
+    ensures taken { Takes (R.left reader.old) (R.left reader.new) }
     ensures failures { R.failures reader.new ≡ R.failures reader.old + failed result }
     ensures bound { held.new.place + length held.new.rest < 2 ^ 63 }
 {
@@ -41,6 +43,7 @@ fn at_end<R: Source>(alloc: Global, held: &mut Held, reader: &mut R) -> Result<(
     requires { R.failures reader.old < 2 ^ 64 - 1 }
     ensures ok { OnOk result (HasMore false held.old (R.left reader.old) (R.left reader.new)) }
     ensures err { IfErr result (Trails held.old (R.left reader.old) (R.left reader.new)) }
+    ensures taken { Takes (R.left reader.old) (R.left reader.new) }
     ensures failures { R.failures reader.new ≡ R.failures reader.old + failed result }
     ensures bound { held.new.place + length held.new.rest < 2 ^ 63 }
 {
@@ -68,6 +71,7 @@ impl Stream {
         requires { R.failures reader.old < 2 ^ 64 - 1 }
         ensures ok { IfOk result (Opens ahead.items (R.left reader.old) (R.left reader.new)) }
         ensures err { IfErr result (Tells ahead.items (R.left reader.old) (R.left reader.new)) }
+        ensures taken { Takes (R.left reader.old) (R.left reader.new) }
         ensures failures { R.failures reader.new ≡ R.failures reader.old + failed result }
     {
         let mut held = Held::new(ahead);
@@ -97,6 +101,7 @@ impl Stream {
             (GivesFault (R.left reader.old) (R.left reader.new) self.old) }
         ensures on { IfOk result (λ x. IfSome x (λ _. (self.old.held.place < self.new.held.place)
             × (self.new.held.place < 2 ^ 63))) }
+        ensures taken { Takes (R.left reader.old) (R.left reader.new) }
         ensures failures { R.failures reader.new ≡ R.failures reader.old + failed result }
     {
         match record_on(alloc, &self.start, &self.front, &mut self.held, reader)? {
@@ -109,6 +114,13 @@ impl Stream {
                 Ok(None)
             }
         }
+    }
+
+    /// What the trace starts with.
+    pub(crate) fn into_start(self) -> Start
+        ensures { result ≡ self.start }
+    {
+        self.start
     }
 
     /// How many places and rings the records so far have.

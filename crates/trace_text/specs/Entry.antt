@@ -68,11 +68,14 @@ default_len e side = if e.opcode == 23 then length side else vector_count e side
 abbrev pub place_comment : Look → List ℕ → ℕ → List ℕ
 place_comment look indent place = if look.places then indent ++ codes "# " ++ decimal place ++ codes "\n" else []
 
+-- The words of an entry before the bytes that it writes. Its length is left out where it is the one that is told.
+abbrev pub front_words : Sqe → List ℕ → ℕ → List ℕ
+front_words e side default =
+    codes "  " ++ opcode_text e.opcode ++ entry_flags e.flags ++ fd_word e.opcode (cast_unsigned w32 e.fd) ++ side_words e side ++ later_words e default
+
 -- The words of an entry.
 unfoldable pub entry_words : Look → Submitted → List ℕ
-entry_words look e =
-    codes "  " ++ opcode_text e.sqe.opcode ++ entry_flags e.sqe.flags ++ fd_word e.sqe.opcode (cast_unsigned w32 e.sqe.fd) ++ side_words e.sqe e.side
-    ++ later_words e.sqe (default_len e.sqe e.side) ++ data_text look (codes " \\\n    ") (data_of e.sqe e.side) ++ codes "\n"
+entry_words look e = front_words e.sqe e.side (default_len e.sqe e.side) ++ data_text look (codes " \\\n    ") (data_of e.sqe e.side) ++ codes "\n"
 
 -- The line of the entry at a place.
 unfoldable pub entry_line : Look → ℕ → Submitted → List ℕ

@@ -30,9 +30,12 @@ numbered f n (x ∷ xs) = f n x ++ numbered f (n + 1) xs
 abbrev pub path_or_number : ℕ → List ℕ → List ℕ
 path_or_number n path = if nat_le (length path) 64 then path_text path else codes "@" ++ decimal n
 
+abbrev pub node_by : {X : Type 0} → (X → List ℕ) → List X → ℕ → List ℕ
+node_by path items n =
+    if n == 0 then codes "/" else (elim (slice_get items (n - 1)) [ None ↦ codes "@" ++ decimal n | Some i ↦ path_or_number n (path i) ])
+
 abbrev pub node_text : List Item → ℕ → List ℕ
-node_text items n =
-    if n == 0 then codes "/" else (elim (slice_get items (n - 1)) [ None ↦ codes "@" ++ decimal n | Some i ↦ path_or_number n i.path ])
+node_text items n = node_by (λ i. i.path) items n
 
 -- What an initial name leads to: the word of its line, and what follows its path.
 abbrev pub item_kind : Node → List ℕ
@@ -58,10 +61,12 @@ access_text access.Read append = codes " O_RDONLY" ++ (if append then codes "|O_
 access_text access.Write append = codes " O_WRONLY" ++ (if append then codes "|O_APPEND" else [])
 access_text access.Both append = codes " O_RDWR" ++ (if append then codes "|O_APPEND" else [])
 
--- An open file description, by its number.
+-- An open file description, by its number; and the text of its node.
+abbrev pub opened : ℕ → List ℕ → Description → List ℕ
+opened n node d = codes "open " ++ decimal n ++ codes " " ++ node ++ access_text d.access d.append ++ decimal_word (codes "pos") d.position ++ codes "\n"
+
 abbrev pub description_line : List Item → ℕ → Description → List ℕ
-description_line items n d =
-    codes "open " ++ decimal n ++ codes " " ++ node_text items d.node ++ access_text d.access d.append ++ decimal_word (codes "pos") d.position ++ codes "\n"
+description_line items n d = opened n (node_text items d.node) d
 
 -- So many empty slots.
 abbrev pub empty_slots : ℕ → List ℕ

@@ -3,7 +3,7 @@ ghost use Rattle.std.specs.Prelude.{◌≡◌, ◌≤◌, ◌+◌, ◌*◌, ◌^
 ghost use Rattle.std.specs.Int.{cast_unsigned, from_le_bytes, w16, w32, w64};
 ghost use Rattle.std.specs.Prelude.{take};
 ghost use Rattle.trace_text.specs.Entry.{data_of, data_text, default_len, entry_line, entry_words};
-ghost use Rattle.trace_text.specs.Entry.{has_path, has_paths, lengths_from, lengths_text};
+ghost use Rattle.trace_text.specs.Entry.{front_words, has_path, has_paths, lengths_from, lengths_text};
 ghost use Rattle.trace_text.specs.Entry.{paths_text, place_comment, shown_part, side_words};
 ghost use Rattle.trace_text.specs.Entry.{vector_count};
 
@@ -28,7 +28,11 @@ fn shown_part<'a>(first: Option<u32>, bytes: &'a [u8]) -> &'a [u8]
 
 /// Bytes as strings, and dots where some are not shown. `line` is what stands before each where
 /// they have lines of their own.
-pub(crate) fn push_data(
+///
+/// # Errors
+///
+/// Out of memory.
+pub fn push_data(
     text: &mut Vec<u8>,
     look: Look,
     line: &[u8],
@@ -166,7 +170,7 @@ fn data_of<'a>(sqe: &Sqe, side: &'a [u8]) -> &'a [u8]
 }
 
 /// The length that an entry has where none is written.
-fn default_len(sqe: &Sqe, side: &[u8]) -> usize
+pub fn default_len(sqe: &Sqe, side: &[u8]) -> usize
     ensures { result ≡ default_len sqe.now side.now }
 {
     if sqe.opcode == 23 {
@@ -177,7 +181,11 @@ fn default_len(sqe: &Sqe, side: &[u8]) -> usize
 }
 
 /// The place of a step behind an indent, where places are shown.
-pub(crate) fn push_place(
+///
+/// # Errors
+///
+/// Out of memory.
+pub fn push_place(
     text: &mut Vec<u8>,
     look: Look,
     indent: &[u8],
@@ -201,23 +209,40 @@ fn fd_bits(sqe: &Sqe) -> u32
     sqe.fd.cast_unsigned()
 }
 
-/// The words of an entry.
-#[tactic(auto, unfolding(crate::specs::Entry::entry_words))]
-pub(crate) fn push_words(
+/// The words of an entry before the bytes that it writes. Its length is left out where it is
+/// `default`.
+///
+/// # Errors
+///
+/// Out of memory.
+pub fn push_front(
     text: &mut Vec<u8>,
-    look: Look,
     sqe: &Sqe,
     side: &[u8],
+    default: usize,
 ) -> Result<(), AllocError>
     ensures { OnOk result (text.new.items
-        ≡ text.old.items ++ entry_words look (record { sqe = sqe.now; side = side.now })) }
+        ≡ text.old.items ++ front_words sqe.now side.now default) }
 {
     push_bytes(text, b"  ")?;
     push_opcode(text, sqe.opcode)?;
     push_entry_flags(text, sqe.flags)?;
     push_fd(text, sqe.opcode, fd_bits(sqe))?;
     push_side(text, sqe, side)?;
-    push_later(text, sqe, default_len(sqe, side))?;
+    push_later(text, sqe, default)
+}
+
+/// The words of an entry.
+///
+/// # Errors
+///
+/// Out of memory.
+#[tactic(auto, unfolding(crate::specs::Entry::entry_words))]
+pub fn push_words(text: &mut Vec<u8>, look: Look, sqe: &Sqe, side: &[u8]) -> Result<(), AllocError>
+    ensures { OnOk result (text.new.items
+        ≡ text.old.items ++ entry_words look (record { sqe = sqe.now; side = side.now })) }
+{
+    push_front(text, sqe, side, default_len(sqe, side))?;
     push_data(text, look, b" \\\n    ", data_of(sqe, side))?;
     push_bytes(text, b"\n")
 }

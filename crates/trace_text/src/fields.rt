@@ -12,7 +12,11 @@ use std::alloc::AllocError;
 use text_forms::{push_bytes, push_decimal, push_hexadecimal, push_octal, push_signed};
 
 /// A key behind a space, and the sign before its value.
-pub(crate) fn push_key(text: &mut Vec<u8>, key: &[u8]) -> Result<(), AllocError>
+///
+/// # Errors
+///
+/// Out of memory.
+pub fn push_key(text: &mut Vec<u8>, key: &[u8]) -> Result<(), AllocError>
     ensures { OnOk result (text.new.items ≡ text.old.items ++ field key.now []) }
 {
     push_bytes(text, b" ")?;
@@ -171,8 +175,12 @@ fn push_op_flags(text: &mut Vec<u8>, opcode: u8, number: u32) -> Result<(), Allo
     push_op_flags_field(text, opcode, number)
 }
 
-/// A field in decimal digits.
-pub(crate) fn push_number(text: &mut Vec<u8>, key: &[u8], number: u64) -> Result<(), AllocError>
+/// A field in decimal digits. It is left out where it is 0.
+///
+/// # Errors
+///
+/// Out of memory.
+pub fn push_number(text: &mut Vec<u8>, key: &[u8], number: u64) -> Result<(), AllocError>
     ensures { OnOk result (text.new.items ≡ text.old.items ++ decimal_word key.now number) }
 {
     if number == 0 {

@@ -2,7 +2,8 @@
 //!
 //! `specs/Shown.antt` has the text line by line, `specs/Entry.antt` the line of an entry,
 //! `specs/Fields.antt` its fields, and `specs/Names.antt` operations and flags.
-//! `specs/Below.antt` has entries below the lines of a comparison.
+//! `specs/Below.antt` has entries below the lines of a comparison. Lines and words that other
+//! versions have too are public: the functions `push_..` add them to a text.
 #![tactic(auto)]
 
 mod below;
@@ -17,7 +18,12 @@ mod quoted;
 mod show;
 
 pub use below::with_entries;
-pub use fields::{fd_key, len_key, off_key};
+pub use entry::{default_len, push_data, push_front, push_place, push_words};
+pub use fields::{fd_key, len_key, off_key, push_key, push_number};
+pub use lines::{
+    push_buffers, push_empty, push_enter, push_fill, push_item_number, push_opening,
+    push_path_or_number,
+};
 pub use look::Look;
 pub use names::{FlagSet, entry_flag_name, flag_name};
 pub use show::show_text;

@@ -3,6 +3,7 @@ ghost use Rattle.std.specs.Prelude.{◌≡◌, ◌≤◌, ◌+◌, ◌-◌, ◌+
 ghost use Rattle.std.specs.List.{flat_map};
 ghost use Rattle.std.specs.Fmt.{decimal};
 ghost use Rattle.trace_format.specs.Counts.{places_in, places_limit, step_count};
+ghost use Rattle.trace_text.specs.Fields.{decimal_word};
 ghost use Rattle.trace_text.specs.Entry.{entry_line};
 ghost use Rattle.trace_text.specs.Shown.{access_text, buffer_line, description_line, empty_slots};
 ghost use Rattle.trace_text.specs.Shown.{enter_line, file_words, fill_words};
@@ -20,7 +21,12 @@ use trace_format::{Access, Buffer, Description, Entries, Item, Node, Record, Rin
 /// The longest path that stands for its item: others stand by their numbers.
 const LONGEST: usize = 64;
 
-fn push_path_or_number(text: &mut Vec<u8>, number: u32, path: &[u8]) -> Result<(), AllocError>
+/// An item: its path where that is not long, else its number.
+///
+/// # Errors
+///
+/// Out of memory.
+pub fn push_path_or_number(text: &mut Vec<u8>, number: u32, path: &[u8]) -> Result<(), AllocError>
     ensures { OnOk result (text.new.items ≡ text.old.items ++ path_or_number number path.now) }
 {
     if path.len() <= LONGEST {
@@ -30,7 +36,12 @@ fn push_path_or_number(text: &mut Vec<u8>, number: u32, path: &[u8]) -> Result<(
     }
 }
 
-fn push_item_number(text: &mut Vec<u8>, number: u32) -> Result<(), AllocError>
+/// The number of an item.
+///
+/// # Errors
+///
+/// Out of memory.
+pub fn push_item_number(text: &mut Vec<u8>, number: u32) -> Result<(), AllocError>
     ensures { OnOk result (text.new.items ≡ text.old.items ++ (codes "@" ++ decimal number)) }
 {
     push_bytes(text, b"@")?;
@@ -141,6 +152,19 @@ fn push_description(
     push_decimal(text, number as u64)?;
     push_bytes(text, b" ")?;
     push_node(text, items, description.node)?;
+    push_opening(text, description)
+}
+
+/// How the line of a description ends behind its node.
+///
+/// # Errors
+///
+/// Out of memory.
+pub fn push_opening(text: &mut Vec<u8>, description: &Description) -> Result<(), AllocError>
+    ensures { OnOk result (text.new.items ≡ text.old.items
+        ++ (access_text description.now.access description.now.append
+        ++ decimal_word (codes "pos") description.now.position ++ codes "\n")) }
+{
     push_bytes(text, access_text(description.access, description.append))?;
     push_number(text, b"pos", description.position)?;
     push_bytes(text, b"\n")
@@ -161,7 +185,11 @@ pub(crate) fn push_descriptions(
 }
 
 /// So many empty slots.
-fn push_empty(text: &mut Vec<u8>, count: usize) -> Result<(), AllocError>
+///
+/// # Errors
+///
+/// Out of memory.
+pub fn push_empty(text: &mut Vec<u8>, count: usize) -> Result<(), AllocError>
     ensures { OnOk result (text.new.items ≡ text.old.items ++ empty_slots count) }
 {
     match count {
@@ -225,7 +253,12 @@ fn push_buffer(text: &mut Vec<u8>, number: usize, buffer: &Buffer) -> Result<(),
     push_bytes(text, b"\n")
 }
 
-fn push_buffers(text: &mut Vec<u8>, buffers: &[Buffer]) -> Result<(), AllocError>
+/// The registered buffers of a ring, numbered from 0.
+///
+/// # Errors
+///
+/// Out of memory.
+pub fn push_buffers(text: &mut Vec<u8>, buffers: &[Buffer]) -> Result<(), AllocError>
     ensures { OnOk result (text.new.items ≡ text.old.items ++ numbered buffer_line 0 buffers.now) }
 {
     for number in 0..buffers.len() {
@@ -272,7 +305,11 @@ fn push_entries(
 }
 
 /// The line that begins what a ring was handed.
-fn push_enter(text: &mut Vec<u8>, ring: u8) -> Result<(), AllocError>
+///
+/// # Errors
+///
+/// Out of memory.
+pub fn push_enter(text: &mut Vec<u8>, ring: u32) -> Result<(), AllocError>
     ensures { OnOk result
         (text.new.items ≡ text.old.items ++ enter_line ring) }
 {
@@ -282,7 +319,11 @@ fn push_enter(text: &mut Vec<u8>, ring: u8) -> Result<(), AllocError>
 }
 
 /// How the line of a fill begins.
-fn push_fill(text: &mut Vec<u8>, ring: u8, buffer: u16, offset: u32) -> Result<(), AllocError>
+///
+/// # Errors
+///
+/// Out of memory.
+pub fn push_fill(text: &mut Vec<u8>, ring: u32, buffer: u16, offset: u32) -> Result<(), AllocError>
     ensures { OnOk result (text.new.items ≡ text.old.items ++ fill_words ring buffer offset) }
 {
     push_bytes(text, b"fill ")?;
@@ -304,7 +345,7 @@ fn push_record(
 {
     match made {
         Record::Enter { ring, entries } => {
-            push_enter(text, *ring)?;
+            push_enter(text, u32::from(*ring))?;
             push_entries(text, look, place, entries)
         }
         Record::Fill {
@@ -314,7 +355,7 @@ fn push_record(
             bytes,
         } => {
             push_place(text, look, b"", place as u64)?;
-            push_fill(text, *ring, *buffer, *offset)?;
+            push_fill(text, u32::from(*ring), *buffer, *offset)?;
             push_data(text, look, b" \\\n  ", bytes.as_slice())?;
             push_bytes(text, b"\n")
         }

@@ -160,6 +160,20 @@ impl State {
         add_all_buffers(&mut self.buffers, trace.rings.as_slice())
     }
 
+    /// Adds the buffers of a new ring, but for empty entries, all of zeros.
+    ///
+    /// # Errors
+    ///
+    /// Out of memory. Some of the buffers may be there then.
+    pub fn add_ring(&mut self, ring: u32, buffers: &[Buffer]) -> Result<(), AllocError>
+        requires { length buffers.now ≤ buffers_limit }
+        ensures added { OnOk result
+            (self.new.buffers ≡ initial.buffers_from ring 0 buffers.now self.old.buffers) }
+        ensures rest { self.new ≡ record self.old { buffers = self.new.buffers } }
+    {
+        add_buffers(&mut self.buffers, ring, buffers)
+    }
+
     /// A state with a tree alone.
     fn bare(alloc: Global, nodes: Tree) -> Self
         ensures { result ≡ record initial.bare { nodes = nodes } }

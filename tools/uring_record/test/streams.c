@@ -3,7 +3,8 @@
  * many, pending, blocked, alike: so many writes of a block; from the start on a read of a pipe is
  * in flight, or a thread waits in the call that submitted one; or all have one user_data, and one
  * is always in flight. zeros: writes of zeros. large: blocks of a MiB in one call, in chains of
- * three. anew: files and buffers are registered, used, and registered anew. */
+ * three. anew: files and buffers are registered, used, and registered anew. secret: bytes of all
+ * kinds that are not to be told. */
 #include "raw.h"
 
 #include <pthread.h>
@@ -183,12 +184,57 @@ static void anew(unsigned count)
 	}
 }
 
+/* Writes and reads a registered buffer: bytes that the program put there, and those of a file. */
+static void pass_through_buffer(struct ring *ring, int from, int to, const char *text)
+{
+	static char buffer[BLOCK];
+	const struct iovec all = { buffer, BLOCK };
+
+	do_register(ring, IORING_REGISTER_BUFFERS, &all, 1);
+	strcpy(buffer + 50, text);
+	add(ring, OP_WRITE_FIXED, to, buffer, 200, 1000);
+	expect("a write of a buffer", run_one(ring), 200);
+	strcpy(buffer, text);
+	add(ring, OP_WRITE_FIXED, to, buffer, 20, 1100);
+	expect("a write over bytes that were written", run_one(ring), 20);
+	add(ring, OP_READ_FIXED, from, buffer + 1000, 20, 0);
+	expect("a read into a buffer", run_one(ring), 20);
+	add(ring, OP_WRITE_FIXED, to, buffer + 990, 40, 2000);
+	expect("a write of what was read", run_one(ring), 40);
+}
+
+static void secret(unsigned count)
+{
+	static char one[] = "secret of a write", two[] = "secret of vectors", read[BLOCK];
+	int known = make_file("known"), file = make_file("written"), last = make_file("last");
+	struct iovec vectors[2] = { { two, 9 }, { two + 9, 8 } };
+	struct ring ring;
+
+	(void)count;
+	open_ring(&ring, DEPTH, 0);
+	add(&ring, OP_WRITE, file, one, 17, 0);
+	expect("a write", run_one(&ring), 17);
+	add(&ring, OP_WRITEV, file, vectors, 2, 100);
+	expect("a write of vectors", run_one(&ring), 17);
+	pass_through_buffer(&ring, known, file, "secret of a buffer");
+	if (pwrite(file, "secret of a call", 16, 3000) != 16)
+		fail("pwrite");
+	for (unsigned at = 0; at < BLOCK; at += 16)
+		memcpy(block + at, "secret of blocks", 16);
+	add(&ring, OP_WRITE, last, block, BLOCK, 0);
+	expect("a write of a block", run_one(&ring), BLOCK);
+	add(&ring, OP_READ, known, read, BLOCK, 0);
+	expect("a read of a file of the start", run_one(&ring), 34);
+	add(&ring, OP_READ, file, read, 20, 0);
+	expect("a read of what was written", run_one(&ring), 20);
+}
+
 static const struct {
 	const char *name;
 	void (*run)(unsigned count);
 } modes[] = {
 	{ "many", many },   { "pending", pending }, { "blocked", blocked }, { "alike", alike },
-	{ "zeros", zeros }, { "large", large },	    { "anew", anew },
+	{ "zeros", zeros }, { "large", large },	    { "anew", anew },	    { "secret", secret },
 };
 
 int main(int count, char **words)

@@ -3,7 +3,7 @@ use Rattle.std.proofs.KnownBytes.{Keeps-refl}
 use Rattle.replay_program.proofs.Faults.{gives_nothing, not_by, by, reads, writes, adds_none}
 use Rattle.replay_program.proofs.Outputs.{is_no_write, wants_no_write, wants_reads, wants_writes, reads_well, writes_alone}
 use Rattle.replay_program.proofs.TextWrites.{whole, part, tells_read, wants_tells}
-use Rattle.trace_text.specs.Shown.{text_of}
+use Rattle.replay_program.specs.Shows.{text_of}
 use Rattle.replay_program.proofs.showing.run_show.Goals as goal
 
 pub returns-in_err-trace : goal.returns-in_err-trace

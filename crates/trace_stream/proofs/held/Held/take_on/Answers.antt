@@ -1,5 +1,5 @@
 use Rattle.std.proofs.Common.{length, ap, refl, arith}
-use Rattle.trace_stream.proofs.Grows.{none_came, came_on}
+use Rattle.trace_stream.proofs.Grows.{none_came, came_on, takes_on}
 use Rattle.trace_stream.proofs.held.Held.take_on.Goals as goal
 
 pub loop-alloc-init : goal.loop-alloc-init
@@ -12,3 +12,7 @@ loop-alloc-preserved g c = record {
   wanted = c.loop-alloc.invariant.wanted;
   failures = omega (arith, c.in_ok-take_piece.ensures.failures, c.loop-alloc.invariant.failures);
 }
+
+pub returns-in_err-take_piece-clause-taken : goal.returns-in_err-take_piece-clause-taken
+returns-in_err-take_piece-clause-taken g c =
+    let grows = c.loop-alloc.invariant.grew.grows in takes_on _ _ _ (grows.more, grows.taken) c.in_err-take_piece.ensures.taken

@@ -1,6 +1,6 @@
 use Rattle.std.proofs.Common.{refl, ap}
 use Rattle.trace_stream.proofs.Goes.{goes_on, ends, next_breaks, trails, with_front}
-use Rattle.trace_stream.proofs.Grows.{out_of}
+use Rattle.trace_stream.proofs.Grows.{out_of, takes_on}
 use Rattle.trace_stream.proofs.stream.Stream.next.Goals as goal
 
 pub returns-in_err-record-clause-err : goal.returns-in_err-record-clause-err
@@ -17,4 +17,7 @@ returns-in_ok-add-in-Some-clause-ok g c =
 
 pub returns-in_ok-at_end-in-None-clause-ok : goal.returns-in_ok-at_end-in-None-clause-ok
 returns-in_ok-at_end-in-None-clause-ok g c =
-    ends _ _ _ c.args.self.now (with_front c.record_on.new.held c.args.self.now.start c.args.self.now.front) c.record_on.new.held refl (rw c.in-None.is at c.in_ok-record.ensures.ok) c.in_ok-at_end-in-None.ensures.ok
+    ends _ _ _ c.args.self.now (with_front c.record_on.new.held c.args.self.now.start c.args.self.now.front) c.record_on.new.held refl refl (rw c.in-None.is at c.in_ok-record.ensures.ok) c.in_ok-at_end-in-None.ensures.ok
+
+pub returns-in_err-at_end-in-None-clause-taken : goal.returns-in_err-at_end-in-None-clause-taken
+returns-in_err-at_end-in-None-clause-taken g c = takes_on _ _ _ c.in_ok-record.ensures.taken c.in_err-at_end-in-None.ensures.taken

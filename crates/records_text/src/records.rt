@@ -1,0 +1,188 @@
+//! The lines of records.
+ghost use Rattle.std.specs.Prelude.{◌≡◌, ◌+◌, ◌≤◌, ◌++◌, OnOk, [], ◌∷◌, length};
+ghost use Rattle.trace_records.specs.Front.{places_limit, places_of};
+ghost use Rattle.trace_records.specs.Tallies.{places, rings};
+ghost use Rattle.trace_text.specs.Shown.{numbered};
+ghost use Rattle.records_text.specs.Shown.{end_line, filling_words, record_lines, records_from};
+ghost use Rattle.records_text.specs.Shown.{submitted_line, submitted_words, zeros_len, zeros_word};
+ghost use Rattle.records_text.specs.Shown.{zeros_words};
+
+use crate::rings::push_ring;
+use sqe_codec::Sqe;
+use std::alloc::AllocError;
+use text_forms::{push_bytes, push_decimal};
+use trace_records::{Beside, Entry, Filling, Record};
+use trace_text::{
+    Look, default_len, push_data, push_enter, push_fill, push_front, push_key, push_place,
+    push_words,
+};
+
+/// How many zeros stand for bytes.
+fn push_zeros(text: &mut Vec<u8>, len: u32) -> Result<(), AllocError>
+    ensures { OnOk result (text.new.items ≡ text.old.items ++ zeros_word len) }
+{
+    push_key(text, b"zeros")?;
+    push_decimal(text, u64::from(len))
+}
+
+/// The length that an entry has where none is written, and where it writes zeros.
+fn zeros_len(sqe: &Sqe, lengths: &[u8], len: u32) -> usize
+    ensures { result ≡ zeros_len sqe.now lengths.now len }
+{
+    if sqe.opcode == 23 {
+        len as usize
+    } else {
+        default_len(sqe, lengths)
+    }
+}
+
+/// The words of an entry that writes zeros.
+fn push_zeros_words(
+    text: &mut Vec<u8>,
+    sqe: &Sqe,
+    lengths: &[u8],
+    len: u32,
+) -> Result<(), AllocError>
+    ensures { OnOk result (text.new.items ≡ text.old.items
+        ++ zeros_words sqe.now lengths.now len) }
+{
+    push_front(text, sqe, lengths, zeros_len(sqe, lengths, len))?;
+    push_zeros(text, len)?;
+    push_bytes(text, b"\n")
+}
+
+/// The words of an entry.
+#[tactic(auto, unfolding(crate::specs::Shown::submitted_words))]
+pub(crate) fn push_submitted(
+    text: &mut Vec<u8>,
+    look: Look,
+    entry: &Entry,
+) -> Result<(), AllocError>
+    ensures { OnOk result (text.new.items ≡ text.old.items ++ submitted_words look entry.now) }
+{
+    match &entry.beside {
+        Beside::Stored { bytes } => push_words(text, look, &entry.sqe, bytes.as_slice()),
+        Beside::Zeros { lengths, len } => {
+            push_zeros_words(text, &entry.sqe, lengths.as_slice(), *len)
+        }
+    }
+}
+
+/// The line of the entry at a place.
+fn push_entry(text: &mut Vec<u8>, look: Look, place: usize, entry: &Entry) -> Result<(), AllocError>
+    ensures { OnOk result (text.new.items
+        ≡ text.old.items ++ submitted_line look place entry.now) }
+{
+    push_place(text, look, b"  ", place as u64)?;
+    push_submitted(text, look, entry)
+}
+
+/// Entries, from a place on.
+fn push_entries(
+    text: &mut Vec<u8>,
+    look: Look,
+    place: usize,
+    entries: &[Entry],
+) -> Result<(), AllocError>
+    requires { place + length entries.now ≤ places_limit }
+    ensures { OnOk result (text.new.items
+        ≡ text.old.items ++ numbered (submitted_line look) place entries.now) }
+{
+    for number in 0..entries.len() {
+        push_entry(text, look, place + number, &entries[number])?;
+    }
+    Ok(())
+}
+
+/// What is put into a buffer.
+fn push_filling(text: &mut Vec<u8>, look: Look, filling: &Filling) -> Result<(), AllocError>
+    ensures { OnOk result (text.new.items ≡ text.old.items ++ filling_words look filling.now) }
+{
+    match filling {
+        Filling::Stored { bytes } => push_data(text, look, b" \\\n  ", bytes.as_slice()),
+        Filling::Zeros { len } => push_zeros(text, *len),
+    }
+}
+
+/// The end of a ring.
+fn push_end(text: &mut Vec<u8>, ring: u32) -> Result<(), AllocError>
+    ensures { OnOk result (text.new.items ≡ text.old.items ++ end_line ring) }
+{
+    push_bytes(text, b"ring ")?;
+    push_decimal(text, u64::from(ring))?;
+    push_bytes(text, b" ends\n")
+}
+
+/// A record, from a place on, behind so many rings.
+fn push_record(
+    text: &mut Vec<u8>,
+    look: Look,
+    place: usize,
+    rings: usize,
+    made: &Record,
+) -> Result<(), AllocError>
+    requires { place + places_of made.now ≤ places_limit }
+    ensures { OnOk result (text.new.items
+        ≡ text.old.items ++ record_lines look place rings made.now) }
+{
+    match made {
+        Record::Enter { ring, entries } => {
+            push_enter(text, *ring)?;
+            push_entries(text, look, place, entries.as_slice())
+        }
+        Record::Fill {
+            ring,
+            buffer,
+            offset,
+            filling,
+        } => {
+            push_place(text, look, b"", place as u64)?;
+            push_fill(text, *ring, *buffer, *offset)?;
+            push_filling(text, look, filling)?;
+            push_bytes(text, b"\n")
+        }
+        Record::RingStarts { ring } => {
+            push_place(text, look, b"", place as u64)?;
+            push_ring(text, rings, ring)
+        }
+        Record::RingEnds { ring } => push_end(text, *ring),
+    }
+}
+
+/// How many places a record has.
+fn places_of(made: &Record) -> usize
+    ensures { result ≡ places_of made.now }
+{
+    match made {
+        Record::Enter { ring: _, entries } => entries.as_slice().len(),
+        Record::Fill { .. } | Record::RingStarts { .. } => 1,
+        Record::RingEnds { ring: _ } => 0,
+    }
+}
+
+/// How many rings it starts.
+fn rings_of(made: &Record) -> usize
+    ensures count { result ≡ rings (made.now ∷ []) }
+    ensures one { result ≤ 1 }
+{
+    matches!(made, Record::RingStarts { .. }) as usize
+}
+
+/// All records.
+pub(crate) fn push_records(
+    text: &mut Vec<u8>,
+    look: Look,
+    records: &[Record],
+) -> Result<(), AllocError>
+    requires { places records.now ≤ places_limit }
+    ensures { OnOk result (text.new.items ≡ text.old.items ++ records_from look 0 0 records.now) }
+{
+    let mut place = 0;
+    let mut rings = 0;
+    for made in records {
+        push_record(text, look, place, rings, made)?;
+        place += places_of(made);
+        rings += rings_of(made);
+    }
+    Ok(())
+}

@@ -1,0 +1,120 @@
+//! A replay that takes a record at a time.
+ghost use Rattle.std.specs.Prelude.{◌≡◌, ◌+◌, ◌-◌, ◌≤◌, [], ◌∷◌, ◌++◌, List, IfOk, OnOk};
+ghost use Rattle.chain_plan.specs.Stretch.{IsApart, chains_ahead};
+ghost use Rattle.recording.specs.Accepted.{IsAccepted};
+ghost use Rattle.recording.specs.Fronts.{IsSpelledFront};
+ghost use Rattle.recording.specs.Steps.{places};
+ghost use Rattle.replay_stream.specs.Replayed.{HasRun, HasRunNext, MayRun};
+ghost use Rattle.stream_laws.specs.Streamed.{replies_from, with_ring_of, world_from};
+ghost use Rattle.trace_records.specs.declared.record.Record as three;
+ghost use Rattle.trace_records.specs.declared.start.Start as three_start;
+
+use chain_plan::Stretch;
+use op_meaning::{Replies, run_on_state};
+use recording::Recording;
+use std::alloc::{AllocError, Global};
+use trace_records::{Record, Start};
+use world_parts::State;
+
+/// The roles of so many places are found at once.
+const AHEAD: u32 = 64;
+
+/// What a replay has after each record: the world, and the last record with its replies. The memory
+/// that it takes does not depend on how many records were run.
+#[derive(Drop)]
+pub struct Replaying {
+    /// The recording so far. The steps before those of the last record do nothing.
+    pub recording: Recording,
+    /// The place of the first step of the last record.
+    pub first: u32,
+    /// The replies of its steps, in order.
+    pub replies: Replies,
+    /// The world behind it.
+    pub state: State,
+}
+
+/// Adds the buffers of the ring of a number, if there is one.
+fn add_new_ring(recording: &Recording, ring: usize, state: &mut State) -> Result<(), AllocError>
+    requires { IsAccepted recording.now }
+    ensures { OnOk result (state.new ≡ with_ring_of recording.now ring state.old) }
+{
+    if let Some(there) = recording.rings.as_slice().get(ring) {
+        state.add_ring(ring as u32, there.buffers.as_slice())?;
+    }
+    Ok(())
+}
+
+/// Runs the places from the first one on in recorded order, and gives their replies.
+fn replies_from(
+    alloc: Global,
+    recording: &Recording,
+    first: u32,
+    state: &mut State,
+) -> Result<Replies, AllocError>
+    requires accepted { IsAccepted recording.now }
+    requires within { first ≤ places recording.now }
+    requires apart { IsApart recording.now first }
+    requires chains { chains_ahead recording.now first ≡ first }
+    ensures world { OnOk result (state.new
+        ≡ world_from recording.now first (places recording.now - first) state.old) }
+    ensures replies { IfOk result (λ replies. replies
+        ≡ replies_from recording.now first (places recording.now - first) state.old) }
+{
+    let mut plan = Stretch::ahead_of(alloc, first, first);
+    let mut replies = Replies::new(alloc);
+    for place in first..recording.places() {
+        if place == plan.end() {
+            plan = plan.next(recording, AHEAD)?;
+        }
+        replies.push(run_on_state(alloc, place, recording, &plan.role(place), state)?)?;
+    }
+    Ok(replies)
+}
+
+impl Replaying {
+    /// The replay of a start, before its first record.
+    ///
+    /// # Errors
+    ///
+    /// Out of memory.
+    pub fn of_start(alloc: Global, start: Start) -> Result<Self, AllocError>
+        requires { IsSpelledFront start [] }
+        ensures { IfOk result (HasRun start []) }
+    {
+        let recording = Recording::of_start(alloc, start)?;
+        let state = State::of(alloc, &recording)?;
+        Ok(Replaying {
+            recording,
+            first: 0,
+            replies: Replies::new(alloc),
+            state,
+        })
+    }
+
+    /// Lets go of the last record, and runs the places of the next one in recorded order.
+    ///
+    /// # Errors
+    ///
+    /// Out of memory.
+    pub fn next(self, alloc: Global, next: Record) -> Result<Self, AllocError>
+        requires { MayRun self next }
+        ensures { (b : three_start.Start) (front : List three.Record)
+            → HasRun b front self → IsSpelledFront b (front ++ next ∷ [])
+            → IfOk result (HasRunNext b front next) }
+    {
+        let mut recording = self.recording;
+        let mut state = self.state;
+        recording.let_go(alloc);
+        let first = recording.places();
+        let rings = recording.rings.as_slice().len();
+        let recording = recording.with_record(alloc, next)?;
+        add_new_ring(&recording, rings, &mut state)?;
+        let replies = replies_from(alloc, &recording, first, &mut state)?;
+        Ok(Replaying {
+            recording,
+            first,
+            replies,
+            state,
+        })
+    }
+}

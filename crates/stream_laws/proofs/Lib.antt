@@ -1,0 +1,9 @@
+pub mod Chains
+pub mod Roles
+pub mod Sites
+pub mod Writes
+pub mod Following
+pub mod Places
+pub mod Growing
+pub mod Starting
+pub mod Streams

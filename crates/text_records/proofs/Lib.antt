@@ -1,0 +1,3 @@
+pub mod Numbered
+pub mod Lens
+pub mod Told

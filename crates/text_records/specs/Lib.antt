@@ -1,0 +1,6 @@
+pub mod Pieces
+pub mod Slots
+pub mod Start
+pub mod Entry
+pub mod Records
+pub mod Whole
