@@ -387,15 +387,16 @@ def versions(program: Program) -> List[Outcome]:
 
 
 def kit() -> List[Outcome]:
-    """README names the kit that is here."""
-    label = "README names the kit"
+    """README names a kit with the logic of the one that is here. Kits of one logic check the same proofs."""
+    label = "README names the logic of the kit"
     if not shutil.which("rt"):
         return skipped(label, "there is no command rt")
     ran = subprocess.run(["rt", "version"], stdin=subprocess.DEVNULL, stdout=subprocess.PIPE, stderr=subprocess.STDOUT)
     version = ran.stdout.decode("utf-8", "replace").strip()
     with open(os.path.join(TOP, "README.md"), encoding="utf-8") as file:
-        named = re.findall(r"`(rattle-kit-\S+ logic [0-9a-f]+)`", file.read())
-    return [Outcome(label, None if named == [version] else "README has {}, and rt version says {!r}".format(named, version))]
+        named = re.findall(r"`rattle-kit-\S+ (logic [0-9a-f]+)`", file.read())
+    is_named = len(named) == 1 and version.endswith(" " + named[0])
+    return [Outcome(label, None if is_named else "README has {}, and rt version says {!r}".format(named, version))]
 
 
 def examples_of_help(program: Program) -> List[Outcome]:

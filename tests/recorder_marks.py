@@ -43,8 +43,9 @@ MODES = (
     Mode("written_late", ["late"]),
 )
 OPTIONS: Sequence[Sequence[str]] = ([], ["--nop"], ["--drain"], ["--wait"], ["--format", "2"], ["--version-1"])
-# What recording may cost: so many times the program alone; and so many reads of memory an entry, beside those of the start.
-AT_DEPTH_32, READS_AT_DEPTH_1, START = 2.5, 3.0, 50
+# What recording may cost: so many reads of memory an entry by depth, beside those of the start, which are the same on every machine;
+# and so many times the program alone. Machines differ in what a stop costs, from 2 to 3 times at depth 32, so that is a bound of the order.
+READS_AT_DEPTH, START, AT_DEPTH_32 = {1: 3.0, 32: 0.1}, 50, 5.0
 # By how many runs each; and by how many more, with a pause before each, where that is not so, as other programs may be busy for a while.
 TRIES, MORE_TRIES, PAUSE = 12, 30, 1.0
 
@@ -224,17 +225,18 @@ def times(tools: Tools, words: Sequence[str], before: Sequence[str], beside: Seq
 
 
 def cost(tools: Tools) -> List[Outcome]:
-    """What recording costs: reads of memory an entry at depth 1, and time at depth 32 beside the program alone."""
+    """What recording costs: reads of memory an entry, and time at depth 32 beside the program alone."""
     path = tools.file("cost")
     recording = [tools.file("uring_record"), "--verbose", "-o", path + ".trace", "-k", path + ".kernel", "--"]
     outcomes = []
     for kind in ("read", "write"):
-        count = 4000
-        reads = (submitted(tools, [kind, "1", str(count)], recording)["reads"] - START) / count
-        fault = None if reads <= READS_AT_DEPTH_1 else "{:.2f} an entry".format(reads)
-        outcomes.append(Outcome("cost: {} at depth 1, reads of memory an entry".format(kind), fault))
-        words = [kind, "32", "8000"]
-        found = times(tools, words, recording, [], AT_DEPTH_32)
+        for depth, most in READS_AT_DEPTH.items():
+            count = 4000 if depth == 1 else 8000
+            reads = (submitted(tools, [kind, str(depth), str(count)], recording)["reads"] - START) / count
+            fault = None if reads <= most else "{:.2f} an entry".format(reads)
+            outcomes.append(Outcome("cost: {} at depth {}, reads of memory an entry".format(kind, depth), fault))
+        found = times(tools, [kind, "32", "8000"], recording, [], AT_DEPTH_32)
+        say("cost: {} at depth 32 takes {:.1f} times as long as alone".format(kind, found))
         fault = None if found <= AT_DEPTH_32 else "{:.2f} times the program alone".format(found)
         outcomes.append(Outcome("cost: {} at depth 32".format(kind), fault))
     beside = times(tools, ["read", "1", "4000"], recording, [tools.file("stops")], 0.0)
