@@ -4,7 +4,7 @@ import re
 from functools import partial
 from typing import Callable, List
 
-from harness import Answer, Input, Job, Outcome, Program, Words, fault, first, input_of, refused, shown, skipped, spoken
+from harness import Answer, Input, Job, Outcome, Program, Words, fault, first, input_of, refused, shown, skipped, spoken, with_entries
 from shims import Shim
 
 TRACES = ("read_four_bytes", "open_write_close_chain_then_empty_slot", "fallocate_and_ftruncate_tests", "side_bytes_of_read")
@@ -68,7 +68,7 @@ def swept(shim: Shim, program: Program, words: Words, trace: str, on: int, is_by
     """Calls on one descriptor changed in turn, in each way; with is_byte each call moves a byte."""
     file = input_of(words, trace) if trace else None
     given = len(file) if isinstance(file, bytes) else os.path.getsize(file) if file else 0
-    read = [0, given] if words[0] == "diff" else [0, min(HEAD, given), given]
+    read = [0, given] if words[0] in ("diff", "make") else [0, min(HEAD, given), given]
     ended = partial(short, program, words, file)
     wanted = program.run(words, file)
     undisturbed, (calls,) = shim.run(program, words, file, on=str(on), byte=int(is_byte))
@@ -98,6 +98,7 @@ def jobs(programs: List[Program]) -> List[Job]:
     whole, *others = programs
     cases = [(whole, words, trace, on) for words in MODES for trace in TRACES for on in (INPUT, OUTPUT, ERRORS)]
     cases += [(whole, words, RECORDS, on) for words in BY_RECORDS for on in (INPUT, OUTPUT, ERRORS)]
+    cases += [(whole, words, trace, on) for trace in (TRACES[0], RECORDS) for words in (["make"], with_entries(trace)) for on in (INPUT, OUTPUT, ERRORS)]
     cases += [(other, words, TRACES[0], on) for other in others for words in MODES for on in (INPUT, OUTPUT)]
     cases += [(program, words, "", on) for program in programs for words in WORDS_ALONE for on in (OUTPUT, ERRORS)]
     return [partial(swept, shim, *case, is_byte) for case in cases for is_byte in (False, True)]

@@ -1,6 +1,7 @@
 """Drawn traces, such traces with bytes changed, and drawn pairs of reports: the program gives what a second replayer (model.py) and a
 second comparison (model_diff.py) give, with the entries of model_text.py too, and tells of its rounds what model_rounds.py tells. These give what the examples say (model_depends.py
 too), and what kernels gave. Half of the seeds are the same in every run, the others those of the day (`./test --day` draws them again)."""
+import random
 import re
 import tempfile
 from functools import partial
@@ -14,7 +15,8 @@ import model_diff
 import model_records
 import model_rounds
 import model_text
-from drawing import Draw, Near, changed, two_reports
+import record_traces
+from drawing import Draw, Near, changed, report_changed, risen, two_reports
 from harness import Answer, Job, Outcome, Program, difference, first, read, refused, reports_refused
 
 # How many of each kind are drawn, in how many lots; and each of how many traces is also replayed in rounds.
@@ -84,7 +86,19 @@ def with_entries(trace: bytes, told: bytes) -> bytes:
 
 def of_entries(program: Program, seed: int) -> Optional[str]:
     """How the program differs from the model on two reports with the entries of the trace of one, or of another trace, if it does."""
-    text, trace = two_reports(seed), Draw(seed if seed % 4 else seed + 1).trace()
+    return as_shown(program, two_reports(seed), Draw(seed if seed % 4 else seed + 1).trace())
+
+
+def of_records(program: Program, seed: int) -> Optional[str]:
+    """The same of a trace of version 3, and of such a trace with bytes changed."""
+    source, trace = random.Random("reports of records {}".format(seed)), record_traces.Records(seed).trace()
+    report = model_records.report(trace, source.randrange(2) > 0)
+    shown = record_traces.changed(seed) if source.randrange(8) == 0 else record_traces.Records(seed if source.randrange(4) else seed + 1).trace()
+    return as_shown(program, b"".join(risen(report_changed(source, report)) for _ in range(2)), shown)
+
+
+def as_shown(program: Program, text: bytes, trace: bytes) -> Optional[str]:
+    """How the program differs from the model on two reports in one text with the entries of a trace, if it does."""
     checked, plain = program.run(["check"], trace), program.run(["diff"], text)
     wanted = plain._replace(output=with_entries(trace, plain.output)) if checked.status == 0 else checked
     with tempfile.NamedTemporaryFile() as file:
@@ -150,7 +164,8 @@ def of_example(at: str, trace: str, told: str) -> Optional[str]:
 def jobs(programs: List[Program]) -> List[Job]:
     """The first program on all of them, the others on one lot of each kind."""
     each = DRAWN // LOTS
-    kinds = (("drawn traces", of_drawn), ("changed traces", of_changed), ("reports", of_reports), ("reports with entries", of_entries))
+    kinds = (("drawn traces", of_drawn), ("changed traces", of_changed), ("reports", of_reports), ("reports with entries", of_entries),
+             ("reports with entries of version 3", of_records))
     starts = [at + back for back in (0, days.first_seed()) for at in range(0, DRAWN, each)]
     lots = [(program, range(at, at + each)) for program in programs for at in (starts if program is programs[0] else starts[:: LOTS])]
     return [model_of_examples, *(partial(lot, program, what, unlike, seeds) for program, seeds in lots for what, unlike in kinds)]

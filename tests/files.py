@@ -180,6 +180,9 @@ def shown_entries(program: Program) -> List[Outcome]:
     at.holds("the file has what differs", "out", differ.output, ["less", "more", "one", "other", "outside"])
     trace = at.put("trace", read(EXAMPLE + ".trace"))
     at.ask("over the trace", ["diff", "--show", trace, one, other, "-o", trace], IS_AN_INPUT)
+    records = os.path.join(EXAMPLES, "version_3", EXAMPLE + ".trace")
+    one, other = (at.put(name, text.replace(b"\n0 ", b"\n1 ")) for name, text in (("third", report), ("fourth", changed)))
+    at.ask("a trace of version 3, of which the first place is a ring", ["diff", "--show", records, one, other], differ._replace(output=differ.output.replace(b" 0 user", b" 1 user")))
     return at.outcomes
 
 

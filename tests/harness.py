@@ -184,14 +184,22 @@ def read(*names: str) -> bytes:
 
 
 def two_reports(name: str) -> bytes:
-    """What `diff` reads, of an example: its report, and its report with sums."""
-    return read(name + ".report") + read(name + ".sums")
+    """What `diff` reads, of an example: its report, and its report with sums; of one of version 3 that with other results."""
+    report = read(name + ".report")
+    return report + (read(name + ".sums") if os.path.exists(os.path.join(EXAMPLES, name + ".sums")) else report.replace(b" res=", b" res=1"))
 
 
 def input_of(words: Words, name: str) -> Input:
-    """What the program reads of an example; of one without a report `diff` reads the trace, and refuses it."""
+    """What the program reads of an example: `make` its text; of one without a report `diff` reads the trace, and refuses it."""
+    if words[0] == "make":
+        return read(name + ".text")
     is_told = words[0] == "diff" and os.path.exists(os.path.join(EXAMPLES, name + ".report"))
     return two_reports(name) if is_told else os.path.join(EXAMPLES, name + ".trace")
+
+
+def with_entries(name: str) -> List[str]:
+    """The words of `diff` with the entries of an example."""
+    return ["diff", "--show", os.path.join(EXAMPLES, name + ".trace")]
 
 
 def processors() -> int:

@@ -1,5 +1,6 @@
-"""Traces from text: `make` gives the bytes that model_make.py says a text means, or refuses it at the same line and column for the same reason.
-The texts are those of examples, of recorded traces and of drawn ones; such with some letters changed; and mistakes that people make."""
+"""Traces of any version from text: `make` gives the bytes that model_make.py says a text means, or refuses it at the same line and column for the
+same reason. The texts are those of examples, of recorded traces and of drawn ones, half of them of version 3; such with some letters changed; and
+mistakes that people make."""
 import random
 from functools import partial
 from typing import Iterator, List, Optional, Tuple
@@ -8,9 +9,8 @@ import days
 import examples
 import model_make
 import model_text
-from drawing import Draw
 from harness import Answer, Job, Outcome, Program, difference, first, read, shown
-from text import Fields
+from text import DRAWS
 
 # How many traces are drawn, and how many changed texts, in how many lots.
 DRAWN, LOTS = 3_000, 6
@@ -19,13 +19,16 @@ HOSTILE_MEMORY = 100 << 10
 LETTERS = b' \t\n\r"\\#=|@-*.x[],0123456789abcdef~\x00\xff/ODNLo'
 WORDS = (b"fd=1", b"len=4", b"-", b"-*3", b'"a"*16', b"x\"00\"", b"@1", b"of=/a", b"size=9", b"IO_LINK", b"0x80", b"pos=1", b"[1,2]", b"path=/a", b"...", b"\\\n", b"# c", b"O_RDWR",
          b"ring", b"enter 0", b"\nNOP", b"\ndir /q", b"rw_flags=RWF_SYNC|1", b"off=-1", b"1", b"00", b"18446744073709551616")
+# Those that version 3 has besides.
+WORDS_OF_RECORDS = (b"at=4", b"at=18446744073709551615", b"zeros=3", b"queue=0", b"fd:1", b"0:1", b":", b"ends", b"\nring 0 ends", b"\nring 1", b"\nfill 0 buffer=0 zeros=2", b"-*1048576")
 FRONT = "uring-trace 2\nfile /a \"abc\"\nopen 0 /a O_RDWR\ndescriptors 0 -\nring 0\n  slots 0 -*3\n  buffer 0 0x1000 16\n"
+FRONT_OF_RECORDS = FRONT.replace("trace 2", "trace 3")
 
 # Mistakes: a text, and what is told of it.
 MISTAKES: Tuple[Tuple[str, str], ...] = (
-    ("", "1:1: expected `uring-trace 1` or `uring-trace 2`"),
-    ("uring-trace\n", "1:12: expected `uring-trace 1` or `uring-trace 2`"),
-    ("uring-trace 3\n", "1:13: expected `uring-trace 1` or `uring-trace 2`"),
+    ("", "1:1: expected `uring-trace 1`, `uring-trace 2` or `uring-trace 3`"),
+    ("uring-trace\n", "1:12: expected `uring-trace 1`, `uring-trace 2` or `uring-trace 3`"),
+    ("uring-trace 4\n", "1:13: expected `uring-trace 1`, `uring-trace 2` or `uring-trace 3`"),
     ("uring-trace 1 2\n", "1:15: expected the end of the line"),
     ("uring-trace 1\nfiel /a\n", "2:1: expected a line of a trace, or an operation"),
     ("uring-trace 1\nfile\n", "2:5: expected a path"),
@@ -75,6 +78,31 @@ MISTAKES: Tuple[Tuple[str, str], ...] = (
     (FRONT + "enter 0\n  NOP\n  read fd=0\n", "10:3: expected a line of a trace, or an operation"),
     (FRONT + "fill 0 at=1 \"a\"\n", "8:8: expected buffer=N"),
     (FRONT + "fill 0 buffer=0 at=16 \"a\"\n", "8:1: Reference: a number on this line names nothing above"),
+    (FRONT + "ring 0 ends\n", "8:6: expected the number 1, which is next"),
+    (FRONT + "enter 0\n  WRITE zeros=3\n", "9:9: expected a flag, a field of this operation or a string"),
+    ("# a trace\n uring-trace 3 2\n", "2:16: expected the end of the line"),
+    ("uring-trace 3\nfile /a at=4 \"abc\" at=5 \"d\"\n", "2:1: Limit: a number on this line is out of its range"),
+    ("uring-trace 3\nfile /a size=2 \"abc\"\n", "2:1: Limit: a number on this line is out of its range"),
+    ("uring-trace 3\nfile /a at=0\n", "2:13: expected a string"),
+    ("uring-trace 3\nfile /a \"abc\" size=4\n", "2:15: expected a string"),
+    ("uring-trace 3\nring 0\n  slots fd:0\n", "3:3: Reference: a number on this line names nothing above"),
+    ("uring-trace 3\nring 0\n  slots - fd:\n", "3:14: expected a number"),
+    ("uring-trace 3\nring 0\n  slots -*1048577\n", "3:9: there is one more of these than a trace may have"),
+    ("uring-trace 3\nring 0\nfile /a\n", "3:1: a line of this kind cannot stand behind those above"),
+    ("uring-trace 3\nenter 0\n", "2:1: Reference: a number on this line names nothing above"),
+    (FRONT_OF_RECORDS + "ring 2\n", "8:6: expected the number 1, which is next"),
+    (FRONT_OF_RECORDS + "ring 1 queue=1\n", "8:1: Reference: a number on this line names nothing above"),
+    (FRONT_OF_RECORDS + "ring 1\n  slots 1:0\n", "9:3: Reference: a number on this line names nothing above"),
+    (FRONT_OF_RECORDS + "ring 0 ends 1\n", "8:13: expected the end of the line"),
+    (FRONT_OF_RECORDS + "ring 0 ends\nenter 0\n  NOP\n", "9:1: Reference: a number on this line names nothing above"),
+    (FRONT_OF_RECORDS + "enter 0\n  WRITE zeros=3 \"abc\"\n", "9:17: expected strings or zeros=N, not both"),
+    (FRONT_OF_RECORDS + "enter 0\n  WRITE \"abc\" zeros=3\n", "9:15: expected strings or zeros=N, not both"),
+    (FRONT_OF_RECORDS + "enter 0\n  WRITE zeros=3 zeros=3\n", "9:17: this stands here for the second time"),
+    (FRONT_OF_RECORDS + "enter 0\n  WRITE len=2 zeros=3\n", "9:3: Side: the bytes of this entry do not fit it"),
+    (FRONT_OF_RECORDS + "enter 0\n  WRITEV [1,2] zeros=3\n", "9:3: Side: the bytes of this entry do not fit it"),
+    (FRONT_OF_RECORDS + "enter 0\n  READ zeros=3\n", "9:3: Limit: a number on this line is out of its range"),
+    (FRONT_OF_RECORDS + "fill 0 buffer=0 zeros=17\n", "8:1: Reference: a number on this line names nothing above"),
+    (FRONT_OF_RECORDS + "fill 0 buffer=0 zeros=1 \"a\"\n", "8:25: expected the end of the line"),
 )
 
 
@@ -103,12 +131,13 @@ def changed(source: random.Random, text: bytes) -> bytes:
             text = text[:at] + bytes([source.choice(LETTERS)]) + text[at + 1 :]
         elif kind == 3:
             gap = text.find(b" ", at)
-            text = text[:gap] + b" " + source.choice(WORDS) + text[gap:] if gap >= 0 else text
+            words = WORDS + WORDS_OF_RECORDS if text.startswith(b"uring-trace 3") else WORDS
+            text = text[:gap] + b" " + source.choice(words) + text[gap:] if gap >= 0 else text
         elif kind == 4:
-            words = text.split(b" ")
-            first_, second = source.randrange(len(words)), source.randrange(len(words))
-            words[first_], words[second] = words[second], words[first_]
-            text = b" ".join(words)
+            parts = text.split(b" ")
+            first_, second = source.randrange(len(parts)), source.randrange(len(parts))
+            parts[first_], parts[second] = parts[second], parts[first_]
+            text = b" ".join(parts)
         else:
             lines = text.split(b"\n")
             line = lines.pop(source.randrange(len(lines)))
@@ -117,13 +146,9 @@ def changed(source: random.Random, text: bytes) -> bytes:
     return text
 
 
-def trace_of(seed: int) -> bytes:
-    return Fields(seed).trace() if seed % 2 else Draw(seed).trace()
-
-
 def of_drawn(program: Program, seed: int) -> Optional[str]:
     """How the way there and back of a drawn trace fails, if it does, or that of its text with some letters changed."""
-    trace = trace_of(seed)
+    trace = DRAWS[seed % len(DRAWS)](seed)
     if program.run(["check"], trace).status != 0:
         return None
     text = program.run(["show", *(["--places"] if seed % 3 == 0 else [])], trace).output
@@ -156,6 +181,11 @@ def by_hand() -> Iterator[Tuple[str, str]]:
     yield front + "enter 0\n  READ fd=-1 len=3 rw_flags=RWF_HIPRI|RWF_SYNC\n", front + "enter 0\n  READ op_flags=5 fd=0xffffffff len=3\n"
     yield front + "enter 0\n  OPENAT path=/" + "n" * 70_000 + "\n", front + "enter 0\n  OPENAT dfd=0 path=/" + "\\x6e" * 70_000 + "\n"
     yield front + "enter 0\n  READV FIXED_FILE [4,8]\n", front + "enter 0\n  READV [4,8] len=2 FIXED_FILE\n"
+    three = front.replace("trace 1", "trace 3")
+    yield three + "ring 0 ends\nring 1 queue=0\n", "\n# of version 3\n  uring-trace\t3 \\\n\n" + three[len("uring-trace 3\n") :] + "ring 0x0 ends # 0\nring 0x1 queue=00"
+    yield three + "enter 0\n  WRITE FIXED_FILE zeros=512\n  WRITEV FIXED_FILE [4,8] zeros=28\n", three + "enter 0\nWRITE zeros=0x200 len=512 FIXED_FILE\nOP_2 zeros=034 [4,010] FIXED_FILE len=2\n"
+    yield "uring-trace 3\nfile /a \"abc\" at=8 \"d\"*8\n", "uring-trace 3\nfile /a size=16 at=0 \"a\" \"bc\" at=8 x\"6464\"*4\n"
+    yield "uring-trace 3\ndescriptors - -*2\nring 0\n  slots fd:2 -*3\n", "uring-trace 3\ndescriptors -*3\nring 0\nslots fd:0x2 - - -\n"
 
 
 def of_hand(program: Program) -> List[Outcome]:
@@ -190,6 +220,13 @@ def hostile() -> Iterator[Tuple[str, bytes]]:
     yield "a string that does not end", filled(b'fill 0 buffer=0 "', b"a", b"")
     yield "a word that is none", filled(b"", b"x", b"")
     yield "slots", filled(b"ring 1\nslots ", b"- ")
+    three = FRONT_OF_RECORDS.encode()
+    for label, start, piece, end in (("slots that get what is held", b"ring 1\nslots ", b"0:0 ", b"\n"), ("tables of empty slots", b"ring 1\nslots ", b"-*1048576 ", b"\n"),
+                                     ("zeros", b"enter 0\n", b"WRITE zeros=4294967295\n", b""), ("fills of zeros", b"", b"fill 0 buffer=0 zeros=16\n", b""),
+                                     ("rings that end", b"", b"ring 0 ends\n", b""), ("entries of version 3", b"enter 0\n", b"NOP\n", b"")):
+        yield label, three + start + piece * (most // len(piece)) + end
+    yield "rings", b"uring-trace 3\n" + b"".join(b"ring %d\n" % number for number in range(most // 12))
+    yield "ranges", b"uring-trace 3\nfile /a" + b"".join(b" at=%d \"a\"" % (2 * number) for number in range(most // 14)) + b"\n"
 
 
 def of_hostile(program: Program) -> List[Outcome]:
@@ -203,12 +240,14 @@ def of_hostile(program: Program) -> List[Outcome]:
 
 
 def of_examples(program: Program) -> List[Outcome]:
-    """The text of each example and recorded trace means that trace."""
+    """The text of each example and recorded trace means that trace, and so does the one that stands beside it."""
     outcomes = []
-    for at, names in examples.walked():
+    for at, names in examples.walked(()):
         for name in sorted(it for it in names if it.endswith(".trace") and it[: -len("trace")] + "refused" not in names):
             trace = read(at, name)
-            wrong = difference(program.run(["make"], model_text.show(trace)), Answer(0, trace, b""))
+            told = name[: -len("trace")] + "text"
+            texts = [model_text.show(trace), *([read(at, told)] if told in names else [])]
+            wrong = first([it for text in texts for it in [difference(program.run(["make"], text), Answer(0, trace, b""))] if it])
             outcomes.append(Outcome("what the text of {} means by {}".format(name, program.compiler), wrong))
     return outcomes
 

@@ -2,7 +2,7 @@
 from functools import partial
 from typing import List
 
-from harness import Job, Outcome, Program, Words, fault, first, input_of, shown, skipped, spoken
+from harness import Job, Outcome, Program, Words, fault, first, input_of, shown, skipped, spoken, with_entries
 from hostile_traces import heavy_writes, long_reads, stored_files
 from shims import Shim
 
@@ -21,6 +21,8 @@ TRACES = (
 # Of version 3, for the commands that read it as it comes, and for `show`.
 BY_RECORDS = (["check"], ["serial"], ["show"])
 RECORDS = ("version_3/rings_of_one_queue", "version_3/zeros_over_bytes")
+# What `make`, and `diff` with entries, are tried with: of version 1, and of version 3.
+OF_TEXTS = (TRACES[0], *RECORDS)
 ROUNDS = ["--workers", "2", "--window", "4"]
 MODES = (["serial"], ["serial", "--sums"], ["check"], ["run", *ROUNDS], ["compare", *ROUNDS], ["rounds"], ["depends"], ["diff"])
 WORDS_ALONE: List[Words] = [["serial", "a", "extra"], ["run", "--workers", "65"], ["--help"], ["serial", "--help"], ["serial", b"\xff"]]
@@ -42,7 +44,7 @@ TRIED_AGAIN = 4
 # itself, and one that is refused one of the two growths of a turn leaves its tree a little higher. Of eight leaves, as each of two
 # heavy writes has, four turns are made. And a thread that is refused memory isn't started, and its sums are made where it was
 # asked for. The list of the lengths of a ring's buffers, of which each of these traces has one, is made as large as it will be ahead
-# of time too.
+# of time too; and so is that of the full descriptors, where the first of them is made of its text.
 DONE_WITHOUT = {HEAVY_WRITES: 2 * (1 + 4 * 2), STORED_FILES: 4, **dict.fromkeys(RECORDS, 1)}
 
 
@@ -71,7 +73,7 @@ def swept(shim: Shim, program: Program, words: Words, trace: str, is_from: bool)
             continue
         if is_early and got == wanted and tried_again < TRIED_AGAIN:
             tried_again += 1
-        elif refused and not is_from and got == wanted and done_without < DONE_WITHOUT.get(trace, 0):
+        elif refused and not is_from and got == wanted and done_without < DONE_WITHOUT.get(trace, 0) + (words[0] == "make" and trace == RECORDS[0]):
             done_without += 1
         elif got not in (lacking if refused else [wanted]):
             faults.append("growth {}: {}".format(at, shown(got)))
@@ -116,6 +118,7 @@ def jobs(programs: List[Program]) -> List[Job]:
     for is_from in (False, True):
         made += [partial(swept, shim, whole, words, trace, is_from) for words in MODES for trace in TRACES]
         made += [partial(swept, shim, whole, words, trace, is_from) for words in BY_RECORDS for trace in RECORDS]
+        made += [partial(swept, shim, whole, words, trace, is_from) for trace in OF_TEXTS for words in (["make"], with_entries(trace))]
         made += [partial(swept, shim, whole, words, "", is_from) for words in WORDS_ALONE]
         made.append(partial(swept, shim, whole, ["run", *ROUNDS], HEAVY_WRITES, is_from))
         made.append(partial(swept, shim, whole, ["run", *ROUNDS, "--sums"], STORED_FILES, is_from))

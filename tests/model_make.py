@@ -28,7 +28,8 @@ OF_TRACE = {
 }
 
 
-OF_VERSION = "expected `uring-trace 1` or `uring-trace 2`"
+NO_SLOT, BOTH = "expected a slot: a number, `-` or `-*COUNT`", "expected strings or zeros=N, not both"
+OF_VERSION = "expected `uring-trace 1`, `uring-trace 2` or `uring-trace 3`"
 
 
 class Refused(Exception):
@@ -344,7 +345,7 @@ class Reader:
     def slots(self) -> List[int]:
         slots: List[int] = []
         if self.is_at_end():
-            raise Refused(self.peek().at, "expected a slot: a number, `-` or `-*COUNT`")
+            raise Refused(self.peek().at, NO_SLOT)
         while not self.is_at_end():
             word = self.peek()
             if word.text == b"-" or word.text.startswith(b"-*"):
@@ -475,7 +476,7 @@ class RecordsReader(Reader):
         items, descriptions, size, full = self.items(), self.descriptions(), 0, []
         if self.first().text == b"descriptors":
             line = self.pass_word(self.first())
-            size, full = self.table("a slot: a number, `-` or `-*COUNT`", lambda word: number_of(word, 32))
+            size, full = self.table(lambda word: number_of(word, 32))
             self.add(line, b"".join(record_traces.descriptor(*it) for it in full))
         self.records()
         self.finish()
@@ -484,19 +485,19 @@ class RecordsReader(Reader):
     def file(self, path: bytes, size: Optional[int]) -> bytes:
         ranges: List[Tuple[int, bytes]] = []
         while not self.is_at_end():
-            offset = self.keyed("at", 63)
+            offset = self.keyed("at", 64)
             parts = [self.string()]
             while self.is_string():
                 parts.append(self.string())
             ranges.append((offset or 0, b"".join(parts)))
         end = ranges[-1][0] + len(ranges[-1][1]) if ranges else 0
-        return record_traces.file(path, end if size is None else size, ranges)
+        return record_traces.file(path, min(end, (1 << 64) - 1) if size is None else size, ranges)
 
-    def table(self, kinds: str, held: Callable[[Word], Any]) -> Tuple[int, List[Tuple[int, Any]]]:
+    def table(self, held: Callable[[Word], Any]) -> Tuple[int, List[Tuple[int, Any]]]:
         """How many slots follow, and those that are full."""
         size, full = 0, []
         if self.is_at_end():
-            raise Refused(self.peek().at, "expected " + kinds)
+            raise Refused(self.peek().at, NO_SLOT)
         while not self.is_at_end():
             word, more = self.peek(), 1
             if word.text == b"-" or word.text.startswith(b"-*"):
@@ -558,11 +559,11 @@ class RecordsReader(Reader):
         slots_line, slots, full = line, 0, []
         if self.first().text == b"slots":
             slots_line = self.pass_word(self.first())
-            slots, full = self.table("a slot: a number, `fd:N`, `RING:N`, `-` or `-*COUNT`", self.holder)
+            slots, full = self.table(self.holder)
         self.add(line, struct.pack("<B3I", 5, LAST if queue is None else queue, slots, len(full)))
         buffers = self.buffers()
-        packed = b"".join(struct.pack("<IBII", number, *held) for number, held in full) + struct.pack("<H", len(buffers))
-        self.add(slots_line, packed)
+        self.add(slots_line, b"".join(struct.pack("<IBII", number, *held) for number, held in full))
+        self.add(line, struct.pack("<H", len(buffers)))
         for buffer, made in buffers:
             self.add(buffer, made)
 
@@ -685,7 +686,7 @@ class RecordsDraft(Draft):
 
     def begin_string(self, word: Word) -> None:
         if self.zeros is not None:
-            raise Refused(word.at, "this stands here for the second time")
+            raise Refused(word.at, BOTH)
         self.has_strings = True
 
     def word(self, word: Word) -> None:
@@ -694,7 +695,7 @@ class RecordsDraft(Draft):
             super().word(word)
             return
         if self.zeros is not None or self.has_strings:
-            raise Refused(word.at, "this stands here for the second time")
+            raise Refused(word.at, BOTH if self.zeros is None else "this stands here for the second time")
         self.zeros = number_of(zeros, 32)
 
     def bytes(self) -> bytes:
@@ -708,14 +709,19 @@ class RecordsDraft(Draft):
         return packed + struct.pack("<BI", 1, self.zeros) + front
 
 
+def has_version_3(text: bytes) -> bool:
+    reader = Reader(text)
+    return reader.pass_word(reader.first()).text == b"uring-trace" and reader.peek().text in RecordsReader.versions
+
+
 def made_of(text: bytes) -> Made:
-    """What a text of version 1 or 2 means, whether its bytes are a trace or not."""
-    return Reader(text).trace()
+    """What a text of any version means, whether its bytes are a trace or not."""
+    return (RecordsReader if has_version_3(text) else Reader)(text).trace()
 
 
 def make(text: bytes) -> bytes:
     """The trace of a text of any version."""
-    return (RecordsReader if text.startswith(b"uring-trace 3\n") else Reader)(text).trace().trace
+    return made_of(text).trace
 
 
 def refusal_line(text: bytes, at: int, why: str) -> bytes:

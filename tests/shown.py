@@ -5,9 +5,11 @@ import hashlib
 import os
 import re
 from functools import partial
-from typing import Dict, Iterator, List, NamedTuple, Sequence, Tuple
+from typing import Callable, Dict, Iterator, List, NamedTuple, Sequence, Tuple
 
 import model
+import model_records
+import record_traces
 import traces
 from drawing import Draw
 from examples import names as examples
@@ -82,12 +84,12 @@ def tables() -> List[Outcome]:
 
 def named(trace: bytes, plain: bytes) -> bytes:
     """A report with the names of its entries' operations and errors."""
-    chains = model.World(trace).chains
+    chains = model_records.world_of(trace).chains
     codes = {chain.first + at: step.opcode for chain in chains for at, step in enumerate(chain.steps) if isinstance(step, model.Entry)}
     operations, failures = opcodes(), errors() or dict(enumerate(defined("errno_names")))
 
     def with_names(line: str) -> str:
-        entry = re.match(r"(\d+) user=\d+ res=(-?)(\d+) ", line)
+        entry = re.match(r"(\d+) (?:ring=\d+ )?user=\d+ res=(-?)(\d+) ", line)
         if not entry:
             return line
         operation = operations.get(codes[int(entry[1])], "")
@@ -108,7 +110,7 @@ def of_names(program: Program, label: str, trace: bytes) -> List[Outcome]:
             outcomes.append(Outcome("names of {}: {} by {}".format(label, spoken([*mode, *words]), program.compiler), difference(got, wanted)))
         if plain.status == 0:
             told = program.run(["diff"], program.run([*mode, "--names"], trace).output + plain.output)
-            count = len(re.findall(rb"^\d+ user=", plain.output, re.M))
+            count = len(re.findall(rb"^\d+ (?:ring=\d+ )?user=", plain.output, re.M))
             is_alike = told.status == 0 and told.output.startswith(b"entries %d equal, 0 different, 0 outside\n" % count)
             outcomes.append(Outcome("diff of names and none: {} by {}".format(label, program.compiler), None if is_alike else shown(told)))
     return outcomes
@@ -129,9 +131,9 @@ def names(program: Program) -> List[Outcome]:
     return found
 
 
-def drawn_names(program: Program) -> List[Outcome]:
-    faults = [it.fault for seed in range(200) for it in of_names(program, "seed {}".format(seed), Draw(seed).trace()) if it.fault]
-    return [Outcome("names of 200 drawn traces by {}".format(program.compiler), first(faults))]
+def drawn_names(program: Program, what: str, draw: Callable[[int], Draw]) -> List[Outcome]:
+    faults = [it.fault for seed in range(200) for it in of_names(program, "seed {}".format(seed), draw(seed).trace()) if it.fault]
+    return [Outcome("names of 200 drawn traces {}by {}".format(what, program.compiler), first(faults))]
 
 
 # --- Sums of large files --------------------------------------------------------------------------------------------
@@ -260,5 +262,6 @@ def words(program: Program) -> List[Outcome]:
 
 
 def jobs(programs: List[Program]) -> List[Job]:
-    tests = (names, drawn_names, tree_sums, differences, words)
-    return [tables, *(partial(test, program) for program in programs for test in tests)]
+    tests = (names, tree_sums, differences, words)
+    drawn = [partial(drawn_names, it, *kind) for it in programs for kind in (("", Draw), ("of version 3 ", record_traces.Records))]
+    return [tables, *(partial(test, program) for program in programs for test in tests), *drawn]

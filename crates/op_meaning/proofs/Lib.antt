@@ -7,3 +7,4 @@ pub mod Turns
 mod SpanWrites
 pub mod LinesStay
 pub mod Crossing
+pub mod Kept

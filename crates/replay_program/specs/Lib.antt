@@ -10,5 +10,4 @@ pub mod ShownDiffs
 pub mod Shows
 pub mod Status
 pub mod Taking
-pub mod Wholes
 pub mod Words

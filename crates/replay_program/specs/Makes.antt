@@ -1,30 +1,23 @@
--- The model: what making a trace from text does to its reader and its writer, and how the program ends after it.
-use Rattle.std.specs.Prelude.{◌≡◌, ⊤, List, Option, ℕ, Result, Ok, Err}
+-- The model: what making a trace of any version from text does to its reader and its writer, and how the program ends after it.
+use Rattle.std.specs.Prelude.{⊤, List, Option, ℕ, Result, Err}
 use Rattle.std.specs.Io.KnownBytes.{Appends}
-use Rattle.trace_format.specs.Text.{SpellsTrace}
-use Rattle.trace_format.specs.declared.trace.Trace as trace
-use Rattle.text_trace.specs.Places.{IsTold}
-use Rattle.text_trace.specs.Whole.{meaning}
+use Rattle.text_records.specs.Whole.{IsTold, MeansBytes, has_version_3}
 use Rattle.text_trace.specs.declared.fault.MakeFault.TheVariants as fault
 use Rattle.replay_program.specs.declared.making.MakingFault.{MakingFault}
 use Rattle.replay_program.specs.declared.making.MakingFault.TheVariants.{Text, TooLong, Memory, Read, Write}
 use Rattle.replay_program.specs.Diffs.{ReadsAll, ReadsTooMuch}
 use Rattle.byte_transfer.specs.Transfer.{AppendsPart}
 
--- The text means bytes, which spell a trace, and the writer took them, and nothing else.
+-- The text means bytes, which are those of a trace, and the writer took them, and nothing else.
 pub record WritesMeant (text : List ℕ) (written written' : Option (List ℕ)) : Type 0 where
   pub bytes : List ℕ
-  pub meant : meaning text ≡ Ok bytes
-  pub t : trace.Trace
-  pub spelled : SpellsTrace bytes t
+  pub meant : MeansBytes (has_version_3 text) text bytes
   pub wrote : Appends written written' bytes
 
 -- The same, but the writer took the first of them alone.
 pub record WritesMeantPart (text : List ℕ) (written written' : Option (List ℕ)) : Type 0 where
   pub bytes : List ℕ
-  pub meant : meaning text ≡ Ok bytes
-  pub t : trace.Trace
-  pub spelled : SpellsTrace bytes t
+  pub meant : MeansBytes (has_version_3 text) text bytes
   pub wrote : AppendsPart written written' bytes
 
 -- The reader was read to its end, and the writer took what its text means.
@@ -40,7 +33,7 @@ pub record WritesTracePart (left left' written written' : Option (List ℕ)) : T
 
 -- A fault of a text is its first one, told by line and column.
 abbrev pub TellsOfText : List ℕ → MakingFault → Type 0
-TellsOfText text (Text f) = IsTold text (fault.Text f)
+TellsOfText text (Text f) = IsTold (has_version_3 text) text (fault.Text f)
 TellsOfText text TooLong = ⊥
 TellsOfText text Memory = ⊤
 TellsOfText text Read = ⊥
@@ -48,7 +41,7 @@ TellsOfText text Write = ⊤
 
 -- What a fault tells of the reader: where it is no matter of reading, all of it was read, and a fault of the text is that of what was read.
 abbrev pub TellsOfMaking : (left left' : Option (List ℕ)) → MakingFault → Type 0
-TellsOfMaking left left' (Text f) = (text : List ℕ) × ReadsAll left left' text × IsTold text (fault.Text f)
+TellsOfMaking left left' (Text f) = (text : List ℕ) × ReadsAll left left' text × IsTold (has_version_3 text) text (fault.Text f)
 TellsOfMaking left left' TooLong = ReadsTooMuch left left'
 TellsOfMaking left left' Memory = ⊤
 TellsOfMaking left left' Read = ⊤

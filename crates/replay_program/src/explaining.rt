@@ -1,27 +1,26 @@
 //! A comparison of two reports, with the entries of a trace, from readers to a writer.
 ghost use Rattle.std.specs.Prelude.{◌≡◌, ◌≢◌, ◌+◌, ◌-◌, ◌^◌, ◌<◌, IfErr, IfOk, OnOk, false, true};
 ghost use Rattle.std.specs.Io.KnownBytes.{Keeps};
-ghost use Rattle.trace_text.specs.Below.{with_entries};
-ghost use Rattle.replay_program.specs.Runs.{most_taken, write_failures};
+ghost use Rattle.replay_program.specs.Runs.{TakesTrace, most_taken, write_failures};
 ghost use Rattle.replay_program.specs.ShownDiffs.{ComparesShown, ComparesShownTwo, TellsOfShown};
 ghost use Rattle.replay_program.specs.ShownDiffs.{TellsOfShownTwo, WritesShownDifferences};
 ghost use Rattle.replay_program.specs.ShownDiffs.{WritesShownDifferencesOfTwo};
 ghost use Rattle.replay_program.specs.ShownDiffs.{WritesShownDifferencesPart, WritesShownPartOfTwo};
+ghost use Rattle.replay_program.specs.ShownDiffs.{with_entries};
 ghost use Rattle.byte_transfer.specs.Transfer.{ConsumesUpTo};
 
+use crate::any_trace::{AnyTrace, taken_any};
 use crate::differing::{comparison_of_two, taken_comparison};
 use crate::fault::{ReportsFault, RunFault};
-use crate::session::{taken_whole, written};
+use crate::session::written;
 use crate::words::Form;
 use byte_transfer::{Sink, Source};
 use report_diff::Comparison;
 use std::alloc::{AllocError, Global};
-use trace_format::Trace;
-use trace_text::with_entries;
 
-/// Reads a trace, then two reports, one after another, and writes where these differ, with the
-/// entry below each line that differs and is of one. Nothing is written before the whole text is
-/// there, and the run ends at the first failure of a side.
+/// Reads a trace of any version, then two reports, one after another, and writes where these
+/// differ, with the entry below each line that differs and is of one. Nothing is written before the
+/// whole text is there, and the run ends at the first failure of a side.
 ///
 /// # Errors
 ///
@@ -48,7 +47,7 @@ pub fn run_diff_shown<T: Source, R: Source, W: Sink>(
     ensures nothing { IfErr result (λ fault. fault ≢ RunFault.Write → fault ≢ RunFault.Different
         → Keeps (W.written writer.old) (W.written writer.new)) }
 
-    ensures taken { ConsumesUpTo most_taken (T.left trace.old) (T.left trace.new)
+    ensures taken { TakesTrace (T.left trace.old) (T.left trace.new)
         × ConsumesUpTo most_taken (R.left reader.old) (R.left reader.new) }
     ensures reading { IfErr result (TellsOfShown (T.left trace.old) (T.left trace.new)
         (R.left reader.old) (R.left reader.new)) }
@@ -74,7 +73,7 @@ fn shown_comparison<T: Source, R: Source>(
     requires reader { R.failures reader.old < 2 ^ 64 - 1 }
     ensures ok { IfOk result (ComparesShown (T.left trace.old) (T.left trace.new)
         (R.left reader.old) (R.left reader.new)) }
-    ensures taken { ConsumesUpTo most_taken (T.left trace.old) (T.left trace.new)
+    ensures taken { TakesTrace (T.left trace.old) (T.left trace.new)
         × ConsumesUpTo most_taken (R.left reader.old) (R.left reader.new) }
     ensures err { IfErr result (TellsOfShown (T.left trace.old) (T.left trace.new)
         (R.left reader.old) (R.left reader.new)) }
@@ -82,15 +81,25 @@ fn shown_comparison<T: Source, R: Source>(
     ensures neither { IfErr result
         (λ fault. (fault ≢ RunFault.Write) × (fault ≢ RunFault.Different)) }
 {
-    let trace = taken_whole(alloc, trace)?;
+    let trace = taken_any(alloc, trace)?;
     let comparison = taken_comparison(alloc, reader, Form::Text)?;
     comparison_shown(alloc, &trace, comparison)
+}
+
+/// A text of differences with the entries of a trace, by its version.
+fn with_entries(alloc: Global, trace: &AnyTrace, text: &[u8]) -> Result<Vec<u8>, AllocError>
+    ensures { IfOk result (λ shown. shown.items ≡ with_entries trace.now text.now) }
+{
+    match trace {
+        AnyTrace::Whole(trace) => trace_text::with_entries(alloc, trace, text),
+        AnyTrace::Records(trace) => records_text::with_entries(alloc, trace, text),
+    }
 }
 
 /// A comparison, with the entries of a trace in its text.
 fn comparison_shown(
     alloc: Global,
-    trace: &Trace,
+    trace: &AnyTrace,
     comparison: Comparison,
 ) -> Result<Comparison, RunFault>
     ensures text { IfOk result
@@ -137,7 +146,7 @@ pub fn run_diff_of_two_shown<T: Source, R: Source, S: Source, W: Sink>(
     ensures nothing { IfErr result (λ fault. fault ≢ RunFault.Write → fault ≢ RunFault.Different
         → Keeps (W.written writer.old) (W.written writer.new)) }
 
-    ensures taken { ConsumesUpTo most_taken (T.left trace.old) (T.left trace.new)
+    ensures taken { TakesTrace (T.left trace.old) (T.left trace.new)
         × (ConsumesUpTo most_taken (R.left first.old) (R.left first.new)
         × ConsumesUpTo most_taken (S.left second.old) (S.left second.new)) }
     ensures reading { IfErr result (TellsOfShownTwo (T.left trace.old) (T.left trace.new)
@@ -165,7 +174,7 @@ fn shown_comparison_of_two<T: Source, R: Source, S: Source>(
     requires second { S.failures second.old < 2 ^ 64 - 1 }
     ensures ok { IfOk result (ComparesShownTwo (T.left trace.old) (T.left trace.new)
         (R.left first.old) (R.left first.new) (S.left second.old) (S.left second.new)) }
-    ensures taken { ConsumesUpTo most_taken (T.left trace.old) (T.left trace.new)
+    ensures taken { TakesTrace (T.left trace.old) (T.left trace.new)
         × (ConsumesUpTo most_taken (R.left first.old) (R.left first.new)
         × ConsumesUpTo most_taken (S.left second.old) (S.left second.new)) }
     ensures err { IfErr result (TellsOfShownTwo (T.left trace.old) (T.left trace.new)
@@ -174,7 +183,7 @@ fn shown_comparison_of_two<T: Source, R: Source, S: Source>(
     ensures neither { IfErr result
         (λ fault. (fault ≢ RunFault.Write) × (fault ≢ RunFault.Different)) }
 {
-    let trace = taken_whole(alloc, trace)?;
+    let trace = taken_any(alloc, trace)?;
     let comparison = comparison_of_two(alloc, first, second, Form::Text)?;
     comparison_shown(alloc, &trace, comparison)
 }

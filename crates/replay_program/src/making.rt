@@ -1,4 +1,4 @@
-//! A trace from text, from a reader to a writer.
+//! A trace of any version from text, from a reader to a writer.
 ghost use Rattle.std.specs.Prelude.{◌≡◌, ◌≢◌, ◌+◌, ◌-◌, ◌^◌, ◌<◌, IfErr, OnOk};
 ghost use Rattle.std.specs.Io.KnownBytes.{IsAtEnd, Keeps};
 ghost use Rattle.replay_program.specs.Makes.{TellsOfMaking, TellsOfText, WritesMeant, WritesMeantPart};
@@ -11,7 +11,8 @@ use byte_transfer::{Failed, MOST_BYTES, Sink, Source, TextFault, read_text, writ
 use std::alloc::Global;
 use std::error::Error;
 use std::fmt;
-use text_trace::{MakeFault, make_bytes};
+use text_records::make_bytes;
+use text_trace::MakeFault;
 
 /// Why no trace is made of a text, or is not written whole. Its text is the line for standard error,
 /// without the line feed.

@@ -13,11 +13,10 @@ ghost use Rattle.replay_program.specs.Runs.{ReplayWantsMemoryOrThread, TellsOfRe
 ghost use Rattle.replay_core.specs.Comparing.{WantsMemoryOrThread};
 ghost use Rattle.depend_report.specs.Whole.{IsTextOf};
 ghost use Rattle.replay_report.specs.Report.{check_line};
-ghost use Rattle.replay_program.specs.Runs.{IsOutputOf, WritesOutput, WritesPart, most_taken};
+ghost use Rattle.replay_program.specs.Runs.{IsOutputOf, WritesOutput, WritesPart};
 ghost use Rattle.replay_program.specs.Runs.{read_failures, rounds_output, sequential_report};
 ghost use Rattle.replay_program.specs.Runs.{verdict_line, write_failures};
-ghost use Rattle.replay_program.specs.Wholes.{ReadsWhole, TellsOfWhole};
-ghost use Rattle.byte_transfer.specs.Transfer.{AppendsPart, ConsumesUpTo};
+ghost use Rattle.byte_transfer.specs.Transfer.{AppendsPart};
 ghost use Rattle.replay_program.specs.Limits.{IsServed, IsWindow};
 
 use crate::fault::RunFault;
@@ -25,7 +24,7 @@ use crate::forms::pieces_as;
 use crate::in_turn::serial_report;
 use crate::recordings::taken_recording;
 use crate::words::{Form, Mode, Options};
-use byte_transfer::{Sink, Source, TextFault, read_text, write_text};
+use byte_transfer::{Sink, Source, write_text};
 use depend_report::{depends_graph, depends_text};
 use recording::Recording;
 use replay_core::parallel::replay;
@@ -294,22 +293,6 @@ fn told_line(alloc: Global, verdict: Verdict) -> Result<String, AllocError>
         Verdict::Equal => String::from_str(alloc, "equal\n"),
         Verdict::Reply(place) => format!(in alloc; "different reply {place}\n"),
         Verdict::World => String::from_str(alloc, "different world\n"),
-    }
-}
-
-/// The trace that the reader has left, of version 1 or 2.
-pub(crate) fn taken_whole<R: Source>(alloc: Global, reader: &mut R) -> Result<Box<Trace>, RunFault>
-    requires { R.failures reader.old < 2 ^ 64 - 1 }
-    ensures ok { IfOk result (λ trace. ReadsWhole (R.left reader.old) (R.left reader.new) trace.value) }
-    ensures taken { ConsumesUpTo most_taken (R.left reader.old) (R.left reader.new) }
-    ensures err { IfErr result (TellsOfWhole (R.left reader.old) (R.left reader.new)) }
-    ensures read { R.failures reader.new ≡ R.failures reader.old + read_failures result }
-    ensures write { write_failures result ≡ 0 }
-{
-    match read_text(alloc, reader) {
-        Ok(text) => trace_in(alloc, text).map_err(RunFault::Trace),
-        Err(TextFault::Read) => Err(RunFault::Read),
-        Err(TextFault::Memory) => Err(RunFault::Trace(no_memory())),
     }
 }
 

@@ -1,5 +1,5 @@
 -- A replay that takes a record at a time goes on by the next record.
-use Rattle.std.proofs.Common.{◌≡◌, ℕ, ◌-◌, ◌≤◌, [], ◌∷◌, ◌++◌, List, length, sym, ap, subst, ◌∙◌, refl}
+use Rattle.std.proofs.Common.{◌≡◌, ℕ, ◌-◌, ◌≤◌, [], ◌∷◌, ◌++◌, List, length, sym, ap, subst, ◌∙◌}
 use Rattle.trace_records.specs.declared.record.Record.{Record}
 use Rattle.trace_records.specs.declared.start.Start.{Start}
 use Rattle.recording.specs.declared.recording.Recording.{Recording}

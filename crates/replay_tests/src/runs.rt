@@ -5,7 +5,7 @@ use crate::examples::{NEIGHBOURING_WRITES_DO_NOT_COLLIDE, READ_FOUR_BYTES};
 use replay_core::{ReplayFault, Verdict};
 use replay_program::{
     Files, Form, FromStd, Mode, Options, ReportsFault, RunFault, Task, read_words, run, run_alone,
-    run_diff, run_diff_of_two, run_diff_shown, told,
+    run_diff, run_diff_of_two, run_diff_shown, run_make, told,
 };
 use replay_report::{Shown, SumsShown};
 use report_diff::{Flaw, Refusal, Side};
@@ -353,6 +353,32 @@ fn shows_the_entry_of_a_line_that_differs(rt: HostRuntime) {
         slots 0 equal, 0 different, 0 outside\n\
         buffers 0 equal, 0 different, 0 outside\n";
     assert_eq!(rt; writer.stream.as_slice(), text.as_bytes());
+}
+
+#[test]
+fn makes_a_trace_of_version_3_and_shows_its_entry(rt: HostRuntime) {
+    let alloc = rt.alloc();
+    let mut text =
+        FromStd::new("uring-trace 3\nring 0\nenter 0\n  NOP user_data=7\n".as_bytes());
+    let mut made = FromStd::new(Vec::new(alloc));
+    assert_eq!(rt; run_make(alloc, &mut text, &mut made), Ok(()));
+    let mut trace = FromStd::new(made.stream.as_slice());
+    let reports =
+        "uring-report 2\n1 user=7 res=0\nend\nuring-report 2\n0 user=8 res=0\n1 user=7 res=4\nend\n";
+    let mut reader = FromStd::new(reports.as_bytes());
+    let mut writer = FromStd::new(Vec::new(alloc));
+    let done = run_diff_shown(alloc, &mut trace, &mut reader, &mut writer);
+    assert_eq!(rt; done, Err(RunFault::Different));
+    let shown = "- 1 user=7 res=0\n\
+        \x20 NOP user_data=7\n\
+        + 1 user=7 res=4\n\
+        \x20 NOP user_data=7\n\
+        + 0 user=8 res=0\n\
+        entries 0 equal, 2 different, 0 outside\n\
+        tree 0 equal, 0 different, 0 outside\n\
+        slots 0 equal, 0 different, 0 outside\n\
+        buffers 0 equal, 0 different, 0 outside\n";
+    assert_eq!(rt; writer.stream.as_slice(), shown.as_bytes());
 }
 
 #[test]

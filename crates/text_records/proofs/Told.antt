@@ -1,5 +1,5 @@
 -- The faults of a text of version 3.
-use Rattle.std.proofs.Common.{◌≡◌, ◌⊎◌, ℕ, List, Ok, Err, inl, inr, subst, sym}
+use Rattle.std.proofs.Common.{◌≡◌, ◌⊎◌, ℕ, List, Ok, inl, inr, subst}
 use Rattle.trace_format.specs.Grammar as format
 use Rattle.trace_format.specs.declared.fault.Kind.TheVariants.{Memory}
 use Rattle.trace_format.specs.declared.fault.TraceFault.{TraceFault}

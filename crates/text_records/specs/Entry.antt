@@ -1,5 +1,5 @@
 -- The model: the line of an entry, with strings or zeros.
-use Rattle.std.specs.Prelude.{ℕ, ◌==◌, ◌&&◌, ◌||◌, not, Bool, false, List, length, Option, None, Some, Result, Ok, bit_and, codes, is_some, if◌then◌else◌}
+use Rattle.std.specs.Prelude.{ℕ, ◌==◌, ◌&&◌, ◌||◌, not, Bool, false, length, Option, None, Some, Result, Ok, bit_and, codes, is_some, if◌then◌else◌}
 use Rattle.sqe_codec.specs.declared.sqe.Sqe.{Sqe}
 use Rattle.trace_format.specs.declared.fault.Kind.TheVariants.{Side}
 use Rattle.trace_records.specs.declared.record.Beside.{Beside}

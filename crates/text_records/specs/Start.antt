@@ -1,5 +1,5 @@
 -- The model: the lines before the records: items, descriptions and the table of descriptors.
-use Rattle.std.specs.Prelude.{ℕ, ◌+◌, ◌-◌, ◌^◌, min, Bool, List, [], ◌∷◌, ◌++◌, length, map, Option, None, Some, Result, Ok, codes, unwrap_or, option_map, if◌then◌else◌}
+use Rattle.std.specs.Prelude.{ℕ, ◌-◌, ◌^◌, min, List, [], ◌∷◌, ◌++◌, length, map, Option, None, Some, Result, Ok, codes, unwrap_or, option_map, if◌then◌else◌}
 use Rattle.std.specs.List.{flat_map, position_from, slice_get}
 use Rattle.std.specs.Str.{bytes_eq}
 use Rattle.trace_format.specs.declared.trace.Description.{Description}

@@ -113,7 +113,7 @@ impl<T: Drop> From<AllocFailed<T>> for ReadError {
 /// What is wrong, where it needs no number.
 fn words_of(reason: Reason) -> &'static str {
     match reason {
-        Reason::FirstLine => "expected `uring-trace 1` or `uring-trace 2`",
+        Reason::FirstLine => "expected `uring-trace 1`, `uring-trace 2` or `uring-trace 3`",
         Reason::Line => "expected a line of a trace, or an operation",
         Reason::Order => "a line of this kind cannot stand behind those above",
         Reason::Entry => "expected `enter RING` above an entry",

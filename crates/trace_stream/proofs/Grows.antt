@@ -58,11 +58,9 @@ came_last false h h1 h2 a b c g m =
     let none : g.grows.more ++ m.0 ≡ [] = ap (λ (x : List ℕ). x ++ m.0) (g.none refl) ∙ m.3.0 in
     (all.more, all.taken, all.is, (none, m.3.1))
 
-pub longer : (h h1 : Held) (more : List ℕ) → h1 ≡ grown h more → length h1.rest ≡ length h.rest + length more
-longer h h1 more is = ap (λ (k : Held). length k.rest) is ∙ length-append h.rest more
-
-pub came_enough : (some : Bool) (h h1 : Held) (a b : Option (List ℕ)) → Grew h h1 a b some → length h.rest < length h1.rest → Gains true h h1 a b
-came_enough some h h1 a b g lt = (g.grows.more, g.grows.taken, g.grows.is, omega (arith, longer h h1 g.grows.more g.grows.is, lt))
+-- some bytes came
+pub came_some : (some : Bool) (h h1 : Held) (a b : Option (List ℕ)) → Grew h h1 a b some → some ≡ true → Gains true h h1 a b
+came_some some h h1 a b g is = (g.grows.more, g.grows.taken, g.grows.is, g.came is)
 
 -- ---- parts that are read there
 

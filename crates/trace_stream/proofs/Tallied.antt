@@ -5,6 +5,7 @@ use Rattle.std.proofs.lemmas.List.Sums.{sum_by-cons}
 use Rattle.trace_records.specs.declared.counting.Tally.{Tally}
 use Rattle.trace_records.specs.declared.front.Sizes.{Sizes}
 use Rattle.trace_records.specs.declared.record.Record.{Record}
+use Rattle.trace_records.specs.declared.start.Start.{Start}
 use Rattle.trace_records.specs.declared.record.Record.TheVariants.{Enter, Fill, RingStarts, RingEnds}
 use Rattle.trace_records.specs.Front.{Front, no_records, after, places_of, rings_after, sizes_of}
 use Rattle.trace_records.specs.Tallies.{places, rings, is_ring}
@@ -44,18 +45,17 @@ pub on_some : (x : Option Record) (P : Type 0) → IfSome x (λ _. P) → is_som
 on_some (Some r) P p e = p
 on_some None P p e = absurd (cc)
 
-pub counted : (ahead : List ℕ) (a b c : Option (List ℕ)) (s s' : Stream) (rs : List Record) (tally : Tally) → Going ahead a b s rs → Steps b c s s' false
-    → tally.places ≡ s'.front.places → tally.rings ≡ length s'.front.rings → ReadsAll ahead a c (HasTally tally)
-counted ahead a b c s s' rs tally g step ps ns =
-    let on = step.2 (ahead ++ g.more) rs g.stands in
-    let front : s'.front ≡ behind no_records rs = on.3 in
-    let whole = ended ahead a b c s s' rs g step in
+pub counted : (ahead : List ℕ) (a b d : Option (List ℕ)) (c : Start) (s s' : Stream) (rs : List Record) (tally : Tally) → Going ahead a b c s rs → Steps b d s s' false
+    → tally.places ≡ s'.front.places → tally.rings ≡ length s'.front.rings → ReadsAll ahead a d (HasTally tally)
+counted ahead a b d c s s' rs tally g step ps ns =
+    let front : s'.front ≡ behind no_records rs = (step.2 c (ahead ++ g.more) rs g.stands).2 in
+    let whole = ended ahead a b d c s s' rs g step in
     record {
       more = whole.more;
       taken = whole.taken;
       ended = whole.ended;
       is = (
-        trace_of s'.start rs,
+        trace_of c rs,
         whole.is,
         record {
           places_are = ps ∙ ap (λ (f : Front). f.places) front ∙ behind_places no_records rs ∙ zero-add (places rs);

@@ -28,7 +28,7 @@ fn step<R: Source>(alloc: Global, stream: &mut Stream, reader: &mut R) -> Result
 }
 
 /// How many places and rings the trace has whose first bytes were read ahead, and whose others the
-/// reader has left. It takes the memory of the start and of one record.
+/// reader has left. It takes the memory of one record, and of the start while that is read.
 ///
 /// # Errors
 ///
@@ -45,7 +45,7 @@ pub fn count_stream<R: Source>(
     ensures taken { Takes (R.left reader.old) (R.left reader.new) }
     ensures failures { R.failures reader.new ≡ R.failures reader.old + failed result }
 {
-    let mut stream = Stream::open(alloc, ahead, reader)?;
+    let (_, mut stream) = Stream::open(alloc, ahead, reader)?;
     loop {
         if !step(alloc, &mut stream, reader)? {
             return Ok(stream.tally());

@@ -14,12 +14,17 @@ const PIECE: usize = 65_536;
 /// Nothing is read behind so many bytes of a text: numbers of places have 64 bits.
 const MOST: u64 = 4_611_686_018_427_387_904;
 
+/// How many bytes may be read again for each that is taken.
+const AGAIN: u64 = 2;
+
 /// The bytes of a text that were taken and not used yet, and where in the text they stand.
 #[derive(Drop)]
 pub(crate) struct Held {
     bytes: Vec<u8>,
     used: usize,
     place: u64,
+    // How many bytes may be read again.
+    credit: u64,
 }
 
 impl Model for Held {
@@ -43,6 +48,7 @@ impl Held {
             bytes,
             used: 0,
             place: 0,
+            credit: 0,
         }
     }
 
@@ -99,15 +105,33 @@ impl Held {
         match reader.read_some(&mut piece) {
             Ok(0) => Ok(false),
             Ok(count) => match self.bytes.extend_from_slice(&piece[..count]) {
-                Ok(()) => Ok(true),
+                Ok(()) => {
+                    self.credit = self.credit.saturating_add(AGAIN * count as u64);
+                    Ok(true)
+                }
                 Err(AllocError) => Err(no_memory()),
             },
             Err(Failed) => Err(StreamFault::Read),
         }
     }
 
-    /// Takes more bytes than are held, or those that the reader has left, and tells whether it had
-    /// any. So what is read again and again takes linear time.
+    /// Whether the bytes that are held may be read again: those that are read so are at most twice
+    /// those that were taken.
+    fn may_try(&mut self) -> bool
+        ensures same { self.new ≡ self.old }
+        ensures bound { self.new.place + length self.new.rest < 2 ^ 63 }
+    {
+        let cost = (self.bytes.len() - self.used) as u64;
+        if self.credit < cost {
+            return false;
+        }
+        self.credit -= cost;
+        true
+    }
+
+    /// Takes more bytes, as soon as what is held may be read again, or those that the reader has
+    /// left, and tells whether it had any. So what is read again and again takes linear time, and a
+    /// part is mostly read as soon as it is whole.
     pub(crate) fn take_on<R: Source>(
         &mut self,
         alloc: Global,
@@ -124,14 +148,15 @@ impl Held {
         if self.let_go(alloc).is_err() {
             return Err(no_memory());
         }
-        let wanted = self.rest().len();
         let mut some = false;
-        while self.rest().len() - wanted <= wanted {
+        loop {
             if !self.take_piece(alloc, reader)? {
                 return Ok(some);
             }
             some = true;
+            if self.may_try() {
+                return Ok(some);
+            }
         }
-        Ok(true)
     }
 }

@@ -57,12 +57,12 @@ pub fn read_stream<R: Source>(
     ensures taken { Takes (R.left reader.old) (R.left reader.new) }
     ensures failures { R.failures reader.new ≡ R.failures reader.old + failed result }
 {
-    let mut stream = Stream::open(alloc, ahead, reader)?;
+    let (start, mut stream) = Stream::open(alloc, ahead, reader)?;
     let mut records = Vec::new(alloc);
     loop {
         if !add_next(alloc, &mut stream, reader, &mut records)? {
             return Ok(Trace {
-                start: stream.into_start(),
+                start,
                 records: Series::from_vec(records),
             });
         }

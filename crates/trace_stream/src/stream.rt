@@ -2,23 +2,37 @@
 ghost use Rattle.std.specs.Prelude.{◌≡◌, ◌+◌, ◌-◌, ◌<◌, ◌^◌, false, length, IfOk, IfErr, IfSome, OnOk};
 ghost use Rattle.byte_transfer.specs.Transfer.{Takes};
 ghost use Rattle.trace_stream.specs.Held.{HasMore, IsOutside, Trails, failed};
-ghost use Rattle.trace_stream.specs.Streams.{Gives, GivesFault, Opens, Tells};
+ghost use Rattle.trace_stream.specs.Streams.{Gives, GivesFault, IsCoreOf, Opens, TellsOfStart};
 
 use crate::fault::StreamFault;
 use crate::held::Held;
 use crate::parts::{record_on, start_on};
 use byte_transfer::Source;
-use std::alloc::Global;
-use trace_format::{Kind, TraceFault};
+use std::alloc::{AllocError, Global};
+use trace_format::{Kind, Series, TraceFault};
 use trace_records::{Front, Record, Start, Tally};
 
-/// A trace of version 3 that is taken from a reader, which stands beside it. It keeps the start,
-/// and the bytes of one record.
+/// The records of a trace of version 3 that is taken from a reader, which stands beside it. It
+/// keeps the bytes of one record, and of the start what decides its records.
 #[derive(Drop)]
 pub struct Stream {
     held: Held,
-    start: Start,
+    core: Start,
     front: Front,
+}
+
+/// What of a start decides its records: it has no names and no files.
+fn core_of(alloc: Global, start: &Start) -> Result<Start, AllocError>
+    ensures { IfOk result (λ core. IsCoreOf core start.now) }
+{
+    let mut descriptions = Vec::new(alloc);
+    descriptions.extend_from_slice(start.descriptions.as_slice())?;
+    Ok(Start {
+        items: Series::from_vec(Vec::new(alloc)),
+        descriptions: Series::from_vec(descriptions),
+        table_size: start.table_size,
+        descriptors: Series::from_vec(Vec::new(alloc)),
+    })
 }
 
 /// Whether a byte is held, or the reader has one.
@@ -58,29 +72,32 @@ fn at_end<R: Source>(alloc: Global, held: &mut Held, reader: &mut R) -> Result<(
 }
 
 impl Stream {
-    /// The start of a trace, whose first bytes were read ahead.
+    /// The start of a trace, whose first bytes were read ahead, and the stream of its records.
     ///
     /// # Errors
     ///
-    /// Read where the reader failed, else the first fault of the trace.
+    /// Read where the reader failed, else the fault of the start.
     pub fn open<R: Source>(
         alloc: Global,
         ahead: Vec<u8>,
         reader: &mut R,
-    ) -> Result<Self, StreamFault>
+    ) -> Result<(Start, Self), StreamFault>
         requires { R.failures reader.old < 2 ^ 64 - 1 }
         ensures ok { IfOk result (Opens ahead.items (R.left reader.old) (R.left reader.new)) }
-        ensures err { IfErr result (Tells ahead.items (R.left reader.old) (R.left reader.new)) }
+        ensures err { IfErr result
+            (TellsOfStart ahead.items (R.left reader.old) (R.left reader.new)) }
         ensures taken { Takes (R.left reader.old) (R.left reader.new) }
         ensures failures { R.failures reader.new ≡ R.failures reader.old + failed result }
     {
         let mut held = Held::new(ahead);
         let start = start_on(alloc, &mut held, reader)?;
-        Ok(Stream {
+        let core = core_of(alloc, &start)?;
+        let stream = Stream {
             held,
-            start,
+            core,
             front: Front::new(alloc),
-        })
+        };
+        Ok((start, stream))
     }
 
     /// The next record, none where the trace ends and the reader too. After a fault the stream
@@ -88,7 +105,7 @@ impl Stream {
     ///
     /// # Errors
     ///
-    /// Read where the reader failed, else the first fault of the trace.
+    /// Read where the reader failed, else the fault behind the records so far.
     pub fn next<R: Source>(
         &mut self,
         alloc: Global,
@@ -104,7 +121,7 @@ impl Stream {
         ensures taken { Takes (R.left reader.old) (R.left reader.new) }
         ensures failures { R.failures reader.new ≡ R.failures reader.old + failed result }
     {
-        match record_on(alloc, &self.start, &self.front, &mut self.held, reader)? {
+        match record_on(alloc, &self.core, &self.front, &mut self.held, reader)? {
             Some(record) => {
                 self.front.add(alloc, &record)?;
                 Ok(Some(record))
@@ -114,13 +131,6 @@ impl Stream {
                 Ok(None)
             }
         }
-    }
-
-    /// What the trace starts with.
-    pub(crate) fn into_start(self) -> Start
-        ensures { result ≡ self.start }
-    {
-        self.start
     }
 
     /// How many places and rings the records so far have.

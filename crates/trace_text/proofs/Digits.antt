@@ -9,7 +9,6 @@ use Rattle.std.proofs.lemmas.Fmt.{decimal-digits_value, decimal_digit, decimal_i
 use Rattle.std.proofs.lemmas.Int.Digits.{digits_value_more}
 use Rattle.std.proofs.lemmas.Str.{digit_value_digit}
 use Rattle.std.proofs.lemmas.Str.Parse.{digit_from_value, digits_value-take-le, numerals_by_value, tells_digits}
-use Rattle.trace_format.specs.Counts.{places_limit}
 
 all_at : (ds : List ℕ) (i : ℕ) → i < length ds → AllDigits 10 ds → IsInRange 48 57 (get_or ds i 0)
 all_at [] i lt all = absurd (omega arith)
@@ -48,23 +47,23 @@ read_all ds i n past small some lead read =
     sym (ap decimal value ∙ decimal-digits_value (numerals_by_value _ tells_digits) ds digits some lead (subst (λ (m : ℕ). m < 2 ^ 64) value small))
 
 -- the digits of a number: it has some, and the first is 0 only where it is alone
-pub begins_well : (ds : List ℕ) (k : ℕ) → k < places_limit → ds ≡ decimal k → (0 < length ds) × (get_or ds 0 0 ≡ 48 → length ds ≡ 1)
+pub begins_well : (ds : List ℕ) (k : ℕ) → k < 2 ^ 64 → ds ≡ decimal k → (0 < length ds) × (get_or ds 0 0 ≡ 48 → length ds ≡ 1)
 begins_well ds zero lt is = let e = is ∙ decimal_digit 0 (omega arith) in (subst (λ (l : List ℕ). 0 < length l) (sym e) (omega arith), λ z. ap length e)
 begins_well ds (suc k) lt is =
     let read = decimal_is_IsNumeral (suc k) (omega arith) in
     let first = first_decimal (suc k) (omega arith) (omega arith) in
     (subst (λ (l : List ℕ). 0 < length l) (sym is) read.0.0, λ z. absurd (omega (arith, first, ap (λ (l : List ℕ). get_or l 0 0) is)))
 
-pub digit_of : (ds : List ℕ) (k i : ℕ) → k < places_limit → ds ≡ decimal k → i < length ds → (48 ≤ get_or ds i 0) × (get_or ds i 0 ≤ 57)
+pub digit_of : (ds : List ℕ) (k i : ℕ) → k < 2 ^ 64 → ds ≡ decimal k → i < length ds → (48 ≤ get_or ds i 0) × (get_or ds i 0 ≤ 57)
 digit_of ds k i lt is here = all_at ds i here (subst (AllDigits 10) (sym is) (decimal_is_IsNumeral k (omega arith)).0.1)
 
 -- no more than the number is read
-pub read_within : (ds : List ℕ) (k i n : ℕ) → k < places_limit → ds ≡ decimal k → AreRead ds i n → n ≤ k
+pub read_within : (ds : List ℕ) (k i n : ℕ) → k < 2 ^ 64 → ds ≡ decimal k → AreRead ds i n → n ≤ k
 read_within ds k i n lt is read =
     let whole : digits_value 10 ds ≡ k = ap (digits_value 10) is ∙ (decimal_is_IsNumeral k (omega arith)).1 in
     omega (arith, read.value, whole, digits_value-take-le 10 ds i (omega arith))
 
-pub read_is : (ds : List ℕ) (k i n : ℕ) → k < places_limit → ds ≡ decimal k → length ds ≤ i → AreRead ds i n → n ≡ k
+pub read_is : (ds : List ℕ) (k i n : ℕ) → k < 2 ^ 64 → ds ≡ decimal k → length ds ≤ i → AreRead ds i n → n ≡ k
 read_is ds k i n lt is past read =
     read.value ∙ ap (digits_value 10) (take_all i ds past ∙ is) ∙ (decimal_is_IsNumeral k (omega arith)).1
 

@@ -2,8 +2,9 @@
 //!
 //! `specs/Shown.antt` has the text line by line, `specs/Entry.antt` the line of an entry,
 //! `specs/Fields.antt` its fields, and `specs/Names.antt` operations and flags.
-//! `specs/Below.antt` has entries below the lines of a comparison. Lines and words that other
-//! versions have too are public: the functions `push_..` add them to a text.
+//! `specs/Below.antt` has entries below the lines of a comparison. What other versions have too is
+//! public: the functions `push_..` add lines and words to a text, and [`with_lines`] puts the lines
+//! of any trace below those of a comparison.
 #![tactic(auto)]
 
 mod below;
@@ -17,7 +18,7 @@ mod plain;
 mod quoted;
 mod show;
 
-pub use below::with_entries;
+pub use below::{BRIEF, Placed, with_entries, with_lines};
 pub use entry::{default_len, push_data, push_front, push_place, push_words};
 pub use fields::{fd_key, len_key, off_key, push_key, push_number};
 pub use lines::{

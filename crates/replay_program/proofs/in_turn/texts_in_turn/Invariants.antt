@@ -1,4 +1,4 @@
-use Rattle.std.proofs.Common.{◌≡◌, ◌≤◌, map, length}
+use Rattle.std.proofs.Common.{◌≡◌, ◌≤◌, map}
 use Rattle.std.specs.List.{range_with_len}
 use Rattle.chain_plan.specs.Stretch.{IsStretch, end_of}
 use Rattle.op_meaning.specs.Step.{run_world, sequential_reply}

@@ -1,4 +1,4 @@
-use Rattle.std.proofs.Common.{◌≡◌, arith, None, Some, refl, sym, ◌∙◌}
+use Rattle.std.proofs.Common.{◌≡◌, arith, None, refl, sym, ◌∙◌}
 use Rattle.text_words.specs.Read.{rest_of}
 use Rattle.text_words.proofs.Exits.{goes_out}
 use Rattle.text_words.proofs.Loops.{fails, goes_on, is_done, stops}

@@ -1,4 +1,4 @@
-use Rattle.std.proofs.Common.{◌≡◌, ◌≤◌, [], length}
+use Rattle.std.proofs.Common.{◌≡◌, ◌≤◌, []}
 use Rattle.trace_records.specs.Tallies.{rings}
 use Rattle.text_words.specs.Read.{rest_of}
 use Rattle.text_words.proofs.Loops.{Left}

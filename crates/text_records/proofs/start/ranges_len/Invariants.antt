@@ -1,4 +1,4 @@
-use Rattle.std.proofs.Common.{◌≡◌, ◌≤◌, ◌+◌, ◌*◌, ◌^◌, length, drop}
+use Rattle.std.proofs.Common.{◌≡◌, ◌≤◌, ◌+◌, ◌*◌, length, drop}
 use Rattle.std.specs.List.{flat_map}
 use Rattle.trace_records.specs.Spelling.{range_bytes}
 use Rattle.text_records.proofs.start.ranges_len.Given as goal

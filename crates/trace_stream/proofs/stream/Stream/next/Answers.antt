@@ -13,11 +13,11 @@ returns-in_err-at_end-in-None-clause-err g c =
 
 pub returns-in_ok-add-in-Some-clause-ok : goal.returns-in_ok-add-in-Some-clause-ok
 returns-in_ok-add-in-Some-clause-ok g c =
-    goes_on _ _ c.args.self.now _ c.record_on.new.held c.in-Some.record (ap (with_front c.record_on.new.held c.args.self.now.start) c.in_ok-add-in-Some.ensures.added) (rw c.in-Some.is at c.in_ok-record.ensures.ok)
+    goes_on _ _ c.args.self.now _ c.record_on.new.held c.in-Some.record (ap (with_front c.record_on.new.held c.args.self.now.core) c.in_ok-add-in-Some.ensures.added) (rw c.in-Some.is at c.in_ok-record.ensures.ok)
 
 pub returns-in_ok-at_end-in-None-clause-ok : goal.returns-in_ok-at_end-in-None-clause-ok
 returns-in_ok-at_end-in-None-clause-ok g c =
-    ends _ _ _ c.args.self.now (with_front c.record_on.new.held c.args.self.now.start c.args.self.now.front) c.record_on.new.held refl refl (rw c.in-None.is at c.in_ok-record.ensures.ok) c.in_ok-at_end-in-None.ensures.ok
+    ends _ _ _ c.args.self.now (with_front c.record_on.new.held c.args.self.now.core c.args.self.now.front) c.record_on.new.held refl (rw c.in-None.is at c.in_ok-record.ensures.ok) c.in_ok-at_end-in-None.ensures.ok
 
 pub returns-in_err-at_end-in-None-clause-taken : goal.returns-in_err-at_end-in-None-clause-taken
 returns-in_err-at_end-in-None-clause-taken g c = takes_on _ _ _ c.in_ok-record.ensures.taken c.in_err-at_end-in-None.ensures.taken
