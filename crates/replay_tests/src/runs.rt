@@ -358,8 +358,7 @@ fn shows_the_entry_of_a_line_that_differs(rt: HostRuntime) {
 #[test]
 fn makes_a_trace_of_version_3_and_shows_its_entry(rt: HostRuntime) {
     let alloc = rt.alloc();
-    let mut text =
-        FromStd::new("uring-trace 3\nring 0\nenter 0\n  NOP user_data=7\n".as_bytes());
+    let mut text = FromStd::new("uring-trace 3\nring 0\nenter 0\n  NOP user_data=7\n".as_bytes());
     let mut made = FromStd::new(Vec::new(alloc));
     assert_eq!(rt; run_make(alloc, &mut text, &mut made), Ok(()));
     let mut trace = FromStd::new(made.stream.as_slice());
