@@ -347,7 +347,7 @@ def at_terminals(program: Program) -> List[Outcome]:
     cases = [
         ("a report", read(EXAMPLE + ".report"), "trace refused: Magic at 0", "hint: the input is not a trace."),
         ("an empty input", b"", "trace refused: Short at 0", "hint: the input is empty."),
-        ("another version", trace[:8] + b"\x09" + trace[9:], "trace refused: Version at 8", "hint: the trace has a version that this command does not read"),
+        ("another version", trace[:8] + b"\x09" + trace[9:], "trace refused: Version at 8", "hint: the trace has a version that this program does not read"),
         ("a short trace", trace[:100], "trace refused: Short at 100", ""),
     ]
     for label, given, line, hint in cases:

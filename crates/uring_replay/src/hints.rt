@@ -15,7 +15,7 @@ pub(crate) fn hint(fault: RunFault) -> Option<&'static str> {
             "hint: the input is empty. Name a trace: uring_replay check a.trace",
         ),
         Kind::Version => Some(
-            "hint: the trace has a version that this command does not read; `show` reads 1 and 2 alone: see uring_replay --version",
+            "hint: the trace has a version that this program does not read: see uring_replay --version",
         ),
         _ => None,
     }
