@@ -1,8 +1,8 @@
 //! The roles of a stretch of a trace's places, found in one walk over it.
-ghost use Rattle.std.specs.Prelude.{◌≡◌, ◌<◌, ◌≤◌, ◌+◌, ◌-◌, ◌^◌, ◌&&◌, leb, true, length, min};
+ghost use Rattle.std.specs.Prelude.{◌≡◌, ◌<◌, ◌≤◌, ◌+◌, ◌-◌, ◌^◌, ◌&&◌, leb, length, min};
 ghost use Rattle.std.specs.Prelude.{◌∷◌, [], ◌++◌, IfOk, IfSome, None, OnOk, Some, false};
 ghost use Rattle.std.specs.List.{slice_get};
-ghost use Rattle.trace_format.specs.Sides.{is_side_of};
+ghost use Rattle.trace_format.specs.Sides.{SideFits};
 ghost use Rattle.recording.specs.Steps.{places, step_meant, submit};
 ghost use Rattle.recording.specs.Accepted.{IsAccepted};
 ghost use Rattle.trace_format.specs.declared.entry.Entry.{Entry};
@@ -84,7 +84,7 @@ impl Model for Stretch {
 /// What is asked of a step that follows another one of its chain, or follows none.
 fn marks_of(step: &Step<'_>, version: Version, follows: bool) -> Marks
     requires { (e : Entry) → (step_meant step.now).action ≡ submit e
-        → is_side_of e.sqe e.side ≡ true }
+        → SideFits e }
     ensures { result ≡ marks_of version follows (step_meant step.now) }
 {
     match &step.action {

@@ -5,10 +5,9 @@ use Rattle.sqe_codec.specs.Answers.{◌>>◌, require}
 use Rattle.sqe_codec.specs.declared.errno.Errno.{Errno}
 use Rattle.sqe_codec.specs.declared.errno.Errno.TheVariants.{EINVAL, EOPNOTSUPP}
 use Rattle.sqe_codec.specs.declared.sqe.Sqe.{Sqe}
-use Rattle.trace_format.specs.declared.entry.Entry.{Entry}
 use Rattle.trace_format.specs.declared.version.Version.{Version}
 use Rattle.entry_checks.specs.Operation.{Operation}
-use Rattle.entry_checks.specs.Check.{has, buffer_select, Row, row_of, check}
+use Rattle.entry_checks.specs.Check.{has, buffer_select, Row, row_of, check_fields}
 use Rattle.entry_checks.specs.Answer.{checked}
 
 -- three tests and then the rest
@@ -16,7 +15,7 @@ one_by_one : {X : Type 0} (a b c : Bool) (e f g : Errno) (rest : Result X Errno)
 one_by_one a b c e f g rest = grind arith
 
 -- what a row answers is what the table does
-pub from_row : {given : Result Operation Errno} (v : Version) (entry : Entry) (sqe : Sqe) (side : List ℕ) (row : Row) → sqe ≡ entry.sqe → side ≡ entry.side → row_of sqe.opcode ≡ Some row → given ≡ checked row v sqe side → given ≡ check v entry
-from_row v entry sqe side row is_sqe is_side found answers =
-    let here : row_of entry.sqe.opcode ≡ Some row = sym (ap (λ (s : Sqe). row_of s.opcode) is_sqe) ∙ found in
+pub from_row : {said : Result Operation Errno} (v : Version) (e sqe : Sqe) (s side : List ℕ) (row : Row) → sqe ≡ e → side ≡ s → row_of v sqe.opcode ≡ Some row → said ≡ checked row v sqe side → said ≡ check_fields v e s
+from_row v e sqe s side row is_sqe is_side found answers =
+    let here : row_of v e.opcode ≡ Some row = sym (ap (λ (x : Sqe). row_of v x.opcode) is_sqe) ∙ found in
     rw (here, ← is_sqe, ← is_side) (answers ∙ one_by_one (ltb sqe.flags 128) (sqe.personality == 0) (not (has sqe.flags buffer_select)) EINVAL EINVAL EOPNOTSUPP (row v sqe side))

@@ -1,11 +1,13 @@
 -- The model: what an entry asks for, or the error that its submission gives, each test in the order in which it is made.
-use Rattle.std.specs.Prelude.{ℕ, ℤ, pos, negsuc, zero, suc, bytes_eq, unwrap_or, Bool, false, not, ◌&&◌, ◌||◌, ◌==◌, ltb, leb, ◌-◌, ◌*◌, ◌%◌, ◌^◌, List, [], ◌∷◌, length, take, drop, Option, None, Some, Result, Ok, ok_or, bit_or, if◌then◌else◌}
+use Rattle.std.specs.Prelude.{ℕ, ℤ, pos, negsuc, zero, suc, bytes_eq, unwrap_or, Bool, false, not, ◌&&◌, ◌||◌, ◌==◌, ltb, leb, ◌-◌, ◌*◌, ◌%◌, ◌^◌, List, [], ◌∷◌, ◌++◌, length, take, drop, Option, None, Some, Result, Ok, Err, ok_or, bit_or, if◌then◌else◌}
 use Rattle.std.specs.List.{list_any, last_or, find}
 use Rattle.std.specs.Option.{option_map}
 use Rattle.sqe_codec.specs.declared.errno.Errno.{Errno}
-use Rattle.sqe_codec.specs.declared.errno.Errno.TheVariants.{ENOENT, EBADF, EINVAL, ENAMETOOLONG, EOPNOTSUPP}
+use Rattle.sqe_codec.specs.declared.errno.Errno.TheVariants.{ENOENT, EBADF, EINVAL, ENAMETOOLONG, EOPNOTSUPP, Other}
 use Rattle.sqe_codec.specs.declared.sqe.Sqe.{Sqe}
 use Rattle.trace_format.specs.declared.entry.Entry.{Entry}
+use Rattle.trace_format.specs.declared.given.Given.{Given}
+use Rattle.trace_format.specs.declared.given.Given.TheVariants.{Passed, Refused}
 use Rattle.trace_format.specs.declared.version.Version.{Version}
 use Rattle.trace_format.specs.Versions.{rules}
 use Rattle.std.specs.Int.{w16, w32, from_le_bytes, cast_signed, cast_unsigned}
@@ -13,7 +15,7 @@ use Rattle.trace_format.specs.Paths.{components}
 pub use Rattle.trace_format.specs.Sides.{lengths_in, total, vector_is_short}
 use Rattle.sqe_codec.specs.Answers.{◌>>=◌, ◌>>◌, require}
 pub use Rattle.sqe_codec.specs.Flags.{has, fixed_file, io_drain, io_link, io_hardlink, buffer_select, skip_success}
-use Rattle.entry_checks.specs.Operation.{Operation, nop, readv, writev, fsync, read_fixed, write_fixed, fallocate, openat, close, read, write, renameat, unlinkat, mkdirat, linkat, ftruncate, File, in_slot, at_descriptor, Span, Path, OpenFlags}
+use Rattle.entry_checks.specs.Operation.{Operation, nop, readv, writev, fsync, read_fixed, write_fixed, fallocate, openat, close, read, write, renameat, unlinkat, mkdirat, linkat, ftruncate, sync_file_range, fadvise, given, File, in_slot, at_descriptor, Span, Path, OpenFlags}
 
 -- The old one of two paths, behind its length of two bytes, and the new one behind it.
 abbrev pub old_path : List ℕ → List ℕ
@@ -34,9 +36,9 @@ check_path path = do
   require (not (unwrap_or (last_or None path) 0 == 47)) EINVAL
   require (not (list_any is_dots (components path))) EINVAL
 
--- A transfer has no flags of its own; an operation on paths or slots has no registered file.
-abbrev pub check_transfer_flags : Sqe → Result (Unit {0}) Errno
-check_transfer_flags e = require (e.op_flags == 0) EOPNOTSUPP
+-- A transfer has no flags of its own but those of the version; an operation on paths or slots has no registered file.
+abbrev pub check_transfer_flags : Version → Sqe → Result (Unit {0}) Errno
+check_transfer_flags v e = require (bit_or e.op_flags (rules v).transfer_flags == (rules v).transfer_flags) EOPNOTSUPP
 
 abbrev pub check_no_registered_file : Sqe → Result (Unit {0}) Errno
 check_no_registered_file e = require (not (has e.flags fixed_file)) EBADF
@@ -86,13 +88,13 @@ nop_row v e side = Ok nop
 
 abbrev pub readv_row : Row
 readv_row v e side = do
-  check_transfer_flags e
+  check_transfer_flags v e
   require (vector_is_short e side) EINVAL
   Ok (readv (file_of e) e.off (total (lengths_in e.len side)))
 
 abbrev pub writev_row : Row
 writev_row v e side = do
-  check_transfer_flags e
+  check_transfer_flags v e
   require (vector_is_short e side) EINVAL
   Ok (writev (file_of e) e.off (drop (8 * e.len) side))
 
@@ -103,12 +105,12 @@ fsync_row v e side = do
 
 abbrev pub read_fixed_row : Row
 read_fixed_row v e side = do
-  check_transfer_flags e
+  check_transfer_flags v e
   Ok (read_fixed (file_of e) e.off (span_of e))
 
 abbrev pub write_fixed_row : Row
 write_fixed_row v e side = do
-  check_transfer_flags e
+  check_transfer_flags v e
   Ok (write_fixed (file_of e) e.off (span_of e))
 
 abbrev pub fallocate_row : Row
@@ -130,12 +132,12 @@ close_row v e side = do
 
 abbrev pub read_row : Row
 read_row v e side = do
-  check_transfer_flags e
+  check_transfer_flags v e
   Ok (read (file_of e) e.off e.len)
 
 abbrev pub write_row : Row
 write_row v e side = do
-  check_transfer_flags e
+  check_transfer_flags v e
   Ok (write (file_of e) e.off side)
 
 abbrev pub renameat_row : Row
@@ -170,22 +172,52 @@ linkat_row v e side = do
 abbrev pub ftruncate_row : Row
 ftruncate_row v e side = Ok (ftruncate (file_of e) e.off)
 
--- The opcodes that are served, by their numbers in io_uring.h.
+abbrev pub sync_file_range_row : Row
+sync_file_range_row v e side = Ok (sync_file_range (file_of e) e.off e.len e.op_flags)
+
+-- How many bytes advice is for: those of the address, or where that is 0 of the length.
+abbrev pub advised_length : Sqe → ℕ
+advised_length e = if e.addr == 0 then e.len else e.addr
+
+abbrev pub fadvise_row : Row
+fadvise_row v e side = Ok (fadvise (file_of e) (advised_length e) e.op_flags)
+
+-- The opcodes that every version serves, by their numbers in io_uring.h.
 abbrev pub rows : List (ℕ × Row)
 rows = (0, nop_row) ∷ (1, readv_row) ∷ (2, writev_row) ∷ (3, fsync_row) ∷
     (4, read_fixed_row) ∷ (5, write_fixed_row) ∷ (17, fallocate_row) ∷ (18, openat_row) ∷
     (19, close_row) ∷ (22, read_row) ∷ (23, write_row) ∷ (35, renameat_row) ∷
     (36, unlinkat_row) ∷ (37, mkdirat_row) ∷ (39, linkat_row) ∷ (55, ftruncate_row) ∷ []
 
--- The row of a number, if it is served.
-abbrev pub row_of : ℕ → Option Row
-row_of n = option_map (λ p. p.1) (find (λ p. p.0 == n) rows)
+-- Those that a version serves beside them.
+abbrev pub advice_rows : List (ℕ × Row)
+advice_rows = (8, sync_file_range_row) ∷ (24, fadvise_row) ∷ []
 
--- The operation that an entry asks for, or the error of its submission.
+abbrev pub rows_beside : Version → List (ℕ × Row)
+rows_beside v = if (rules v).has_advice then advice_rows else []
+
+-- The row of a number, if the version serves it.
+abbrev pub row_of : Version → ℕ → Option Row
+row_of v n = option_map (λ p. p.1) (find (λ p. p.0 == n) (rows ++ rows_beside v))
+
+-- The operation that the fields of an entry and the bytes beside it ask for, or the error of its submission.
+abbrev pub check_fields : Version → Sqe → List ℕ → Result Operation Errno
+check_fields v e side = do
+  row ← ok_or (row_of v e.opcode) EINVAL
+  require (ltb e.flags 128) EINVAL
+  require (e.personality == 0) EINVAL
+  require (not (has e.flags buffer_select)) EOPNOTSUPP
+  row v e side
+
+-- The operation of an entry whose answer the trace gives, or the error that it gives.
+abbrev pub check_given : Given → Result Operation Errno
+check_given (Passed r fails) = Ok (given r fails)
+check_given (Refused error) = Err (Other error)
+
+-- The operation that an entry asks for, or the error of its submission: what the trace gives, whatever the fields say.
 abbrev pub check : Version → Entry → Result Operation Errno
-check v entry = do
-  row ← ok_or (row_of entry.sqe.opcode) EINVAL
-  require (ltb entry.sqe.flags 128) EINVAL
-  require (entry.sqe.personality == 0) EINVAL
-  require (not (has entry.sqe.flags buffer_select)) EOPNOTSUPP
-  row v entry.sqe entry.side
+check v entry = by entry.given
+  where
+    by : Option Given → Result Operation Errno
+    by None = check_fields v entry.sqe entry.side
+    by (Some answer) = check_given answer

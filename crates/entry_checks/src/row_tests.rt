@@ -6,14 +6,14 @@ ghost use Rattle.sqe_codec.specs.declared.errno.Errno.TheVariants.{EINVAL};
 ghost use Rattle.trace_format.specs.Blobs.{sliced};
 ghost use Rattle.trace_format.specs.Sides.{vector_len};
 ghost use Rattle.entry_checks.specs.Check.{check_transfer_flags, check_no_registered_file};
-ghost use Rattle.entry_checks.specs.Check.{are_open_flags, open_flags_of, is_zero};
+ghost use Rattle.entry_checks.specs.Check.{advised_length, are_open_flags, open_flags_of, is_zero};
 ghost use Rattle.entry_checks.specs.Check.{file_closed, file_number, file_of, slot_of, span_of};
 ghost use Rattle.entry_checks.specs.Meant.{flags_meant, file_meant, span_meant};
 ghost use Rattle.entry_checks.specs.Answer.{check_submission, check_vector};
 
 use crate::operation::{BufferSpan, FileNumber, OpenAtFlags};
 use sqe_codec::{BUFFER_SELECT, Errno, FIXED_FILE, Sqe, has_flag};
-use trace_format::{TextSlice, vector_total};
+use trace_format::{TextSlice, Version, vector_total};
 
 // The flags of open(2), as asm-generic/fcntl.h has them.
 const ACCESS: u32 = 0o3;
@@ -51,11 +51,12 @@ pub(crate) fn submission(sqe: &Sqe) -> Result<(), Errno>
     require(!sqe.has(BUFFER_SELECT), Errno::EOPNOTSUPP)
 }
 
-/// A transfer takes no flags of its own.
-pub(crate) fn transfer(sqe: &Sqe) -> Result<(), Errno>
-    ensures { result ≡ check_transfer_flags sqe.now }
+/// A transfer takes no flags of its own but those of the version.
+pub(crate) fn transfer(sqe: &Sqe, version: Version) -> Result<(), Errno>
+    ensures { result ≡ check_transfer_flags version sqe.now }
 {
-    require(sqe.op_flags == 0, Errno::EOPNOTSUPP)
+    let flags = version.rules().transfer_flags;
+    require(sqe.op_flags | flags == flags, Errno::EOPNOTSUPP)
 }
 
 /// The sum of the lengths of a vectored transfer.
@@ -183,6 +184,17 @@ pub(crate) fn open_flags_of(flags: u32) -> OpenAtFlags
         truncate: has_flag(flags, TRUNCATE),
         append: has_flag(flags, APPEND),
         directory: has_flag(flags, DIRECTORY),
+    }
+}
+
+/// How many bytes advice is for: those of `addr`, or where that is 0 of `len`.
+pub(crate) fn advised_length(sqe: &Sqe) -> u64
+    ensures { result ≡ advised_length sqe.now }
+{
+    if sqe.addr == 0 {
+        u64::from(sqe.len)
+    } else {
+        sqe.addr
     }
 }
 

@@ -10,9 +10,9 @@ ghost use Rattle.entry_checks.specs.Answer.{answer, checked};
 use crate::operation::{Op, PathAt};
 use crate::paths::{check_path, new_path, old_path};
 use crate::row_tests::{
-    file_closed, file_of, flag_or_none, flags_up_to, new_directory, no_registered_file,
-    numbered_slot, open_flags, open_flags_of, slot_of, slot_or_descriptor, span_of, submission,
-    transfer, vector, written,
+    advised_length, file_closed, file_of, flag_or_none, flags_up_to, new_directory,
+    no_registered_file, numbered_slot, open_flags, open_flags_of, slot_of, slot_or_descriptor,
+    span_of, submission, transfer, vector, written,
 };
 use sqe_codec::{Errno, Sqe};
 use trace_format::{TextSlice, Version};
@@ -29,12 +29,12 @@ pub(crate) fn nop<'a>(sqe: &Sqe, side: &'a [u8]) -> Result<Op<'a>, Errno>
     Ok(Op::Nop)
 }
 
-pub(crate) fn readv<'a>(sqe: &Sqe, side: &'a [u8]) -> Result<Op<'a>, Errno>
+pub(crate) fn readv<'a>(sqe: &Sqe, side: &'a [u8], version: Version) -> Result<Op<'a>, Errno>
     requires { vector_len sqe.now ≤ length side.now }
-    ensures { answer result ≡ checked table.readv_row version.One sqe.now side.now }
+    ensures { answer result ≡ checked table.readv_row version sqe.now side.now }
 {
     submission(sqe)?;
-    transfer(sqe)?;
+    transfer(sqe, version)?;
     let total = vector(sqe, side)?;
     Ok(Op::Readv {
         file: file_of(sqe),
@@ -43,12 +43,12 @@ pub(crate) fn readv<'a>(sqe: &Sqe, side: &'a [u8]) -> Result<Op<'a>, Errno>
     })
 }
 
-pub(crate) fn writev<'a>(sqe: &Sqe, side: TextSlice<'a>) -> Result<Op<'a>, Errno>
+pub(crate) fn writev<'a>(sqe: &Sqe, side: TextSlice<'a>, version: Version) -> Result<Op<'a>, Errno>
     requires { vector_len sqe.now ≤ length (sliced side) }
-    ensures { answer result ≡ checked table.writev_row version.One sqe.now (sliced side.entry) }
+    ensures { answer result ≡ checked table.writev_row version sqe.now (sliced side.entry) }
 {
     submission(sqe)?;
-    transfer(sqe)?;
+    transfer(sqe, version)?;
     vector(sqe, side.as_slice())?;
     Ok(Op::Writev {
         file: file_of(sqe),
@@ -65,11 +65,11 @@ pub(crate) fn fsync<'a>(sqe: &Sqe, side: &'a [u8]) -> Result<Op<'a>, Errno>
     Ok(Op::Fsync { file: file_of(sqe) })
 }
 
-pub(crate) fn read_fixed<'a>(sqe: &Sqe, side: &'a [u8]) -> Result<Op<'a>, Errno>
-    ensures { answer result ≡ checked table.read_fixed_row version.One sqe.now side.now }
+pub(crate) fn read_fixed<'a>(sqe: &Sqe, side: &'a [u8], version: Version) -> Result<Op<'a>, Errno>
+    ensures { answer result ≡ checked table.read_fixed_row version sqe.now side.now }
 {
     submission(sqe)?;
-    transfer(sqe)?;
+    transfer(sqe, version)?;
     Ok(Op::ReadFixed {
         file: file_of(sqe),
         offset: sqe.off,
@@ -77,11 +77,11 @@ pub(crate) fn read_fixed<'a>(sqe: &Sqe, side: &'a [u8]) -> Result<Op<'a>, Errno>
     })
 }
 
-pub(crate) fn write_fixed<'a>(sqe: &Sqe, side: &'a [u8]) -> Result<Op<'a>, Errno>
-    ensures { answer result ≡ checked table.write_fixed_row version.One sqe.now side.now }
+pub(crate) fn write_fixed<'a>(sqe: &Sqe, side: &'a [u8], version: Version) -> Result<Op<'a>, Errno>
+    ensures { answer result ≡ checked table.write_fixed_row version sqe.now side.now }
 {
     submission(sqe)?;
-    transfer(sqe)?;
+    transfer(sqe, version)?;
     Ok(Op::WriteFixed {
         file: file_of(sqe),
         offset: sqe.off,
@@ -130,11 +130,11 @@ pub(crate) fn close<'a>(sqe: &Sqe, side: &'a [u8]) -> Result<Op<'a>, Errno>
     })
 }
 
-pub(crate) fn read<'a>(sqe: &Sqe, side: &'a [u8]) -> Result<Op<'a>, Errno>
-    ensures { answer result ≡ checked table.read_row version.One sqe.now side.now }
+pub(crate) fn read<'a>(sqe: &Sqe, side: &'a [u8], version: Version) -> Result<Op<'a>, Errno>
+    ensures { answer result ≡ checked table.read_row version sqe.now side.now }
 {
     submission(sqe)?;
-    transfer(sqe)?;
+    transfer(sqe, version)?;
     Ok(Op::Read {
         file: file_of(sqe),
         offset: sqe.off,
@@ -142,11 +142,11 @@ pub(crate) fn read<'a>(sqe: &Sqe, side: &'a [u8]) -> Result<Op<'a>, Errno>
     })
 }
 
-pub(crate) fn write<'a>(sqe: &Sqe, side: TextSlice<'a>) -> Result<Op<'a>, Errno>
-    ensures { answer result ≡ checked table.write_row version.One sqe.now (sliced side.entry) }
+pub(crate) fn write<'a>(sqe: &Sqe, side: TextSlice<'a>, version: Version) -> Result<Op<'a>, Errno>
+    ensures { answer result ≡ checked table.write_row version sqe.now (sliced side.entry) }
 {
     submission(sqe)?;
-    transfer(sqe)?;
+    transfer(sqe, version)?;
     Ok(Op::Write {
         file: file_of(sqe),
         offset: sqe.off,
@@ -239,5 +239,28 @@ pub(crate) fn ftruncate<'a>(sqe: &Sqe, side: &'a [u8]) -> Result<Op<'a>, Errno>
     Ok(Op::Ftruncate {
         file: file_of(sqe),
         size: sqe.off,
+    })
+}
+
+pub(crate) fn sync_file_range<'a>(sqe: &Sqe, side: &'a [u8]) -> Result<Op<'a>, Errno>
+    ensures { answer result ≡ checked table.sync_file_range_row version.One sqe.now side.now }
+{
+    submission(sqe)?;
+    Ok(Op::SyncFileRange {
+        file: file_of(sqe),
+        offset: sqe.off,
+        size: sqe.len,
+        flags: sqe.op_flags,
+    })
+}
+
+pub(crate) fn fadvise<'a>(sqe: &Sqe, side: &'a [u8]) -> Result<Op<'a>, Errno>
+    ensures { answer result ≡ checked table.fadvise_row version.One sqe.now side.now }
+{
+    submission(sqe)?;
+    Ok(Op::Fadvise {
+        file: file_of(sqe),
+        size: advised_length(sqe),
+        advice: sqe.op_flags,
     })
 }

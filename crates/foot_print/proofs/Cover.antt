@@ -3,14 +3,14 @@ use native.Mathlib.Omega.{arith}
 use Rattle.std.specs.Prelude.{◌≡◌, ℕ, min, Ok}
 use Rattle.recording.specs.declared.recording.Recording.{Recording}
 use Rattle.trace_format.specs.Sides.{most_moved}
-use Rattle.entry_checks.specs.Operation.{Operation, nop, readv, writev, fsync, read_fixed, write_fixed, fallocate, openat, close, read, write, renameat, unlinkat, mkdirat, linkat, ftruncate}
+use Rattle.entry_checks.specs.Operation.{Operation, nop, readv, writev, fsync, read_fixed, write_fixed, fallocate, openat, close, read, write, renameat, unlinkat, mkdirat, linkat, ftruncate, sync_file_range, fadvise, given}
 use Rattle.world_parts.specs.World.{World, IsWorld}
 use Rattle.op_meaning.specs.Site.{in_ring, sited}
 use Rattle.op_meaning.specs.Meaning.{Effect, meaning, reply, span_destination, span_bytes}
 use Rattle.foot_print.specs.Laws.{Awaits, FootprintsCover}
 use Rattle.foot_print.proofs.CoverOperation.{Owes, owed_covers}
 use Rattle.foot_print.proofs.CoverTurn.{footprints_cover}
-use Rattle.foot_print.proofs.CoverHandles.{nop_owes, fsync_owes, close_owes}
+use Rattle.foot_print.proofs.CoverHandles.{nop_owes, fsync_owes, close_owes, sync_file_range_owes, fadvise_owes, given_owes}
 use Rattle.foot_print.proofs.CoverSizes.{fallocate_owes, ftruncate_owes}
 use Rattle.foot_print.proofs.CoverReads.{read_owes, readv_owes, read_fixed_owes}
 use Rattle.foot_print.proofs.CoverWrites.{write_owes, writev_owes, write_fixed_owes}
@@ -47,6 +47,9 @@ laws t k r (renameat old new flags) s w = record { owes = renameat_owes t k r s 
 laws t k r (unlinkat p removes) s w = record { owes = unlinkat_owes t k r s p removes w; keeps = unlinkat_keeps t k r s p removes w.is_world }
 laws t k r (mkdirat p) s w = record { owes = mkdirat_owes t k r s p w; keeps = mkdirat_keeps t k r s p w }
 laws t k r (linkat old new) s w = record { owes = linkat_owes t k r s old new w; keeps = linkat_keeps t k r s old new w.is_world }
+laws t k r (sync_file_range f o n flags) s w = of_contents t k r s (sync_file_range f o n flags) (sync_file_range_owes t k r s f o n flags w) w.is_world (λ x e. grind arith)
+laws t k r (fadvise f n advice) s w = of_contents t k r s (fadvise f n advice) (fadvise_owes t k r s f n advice w) w.is_world (λ x e. grind arith)
+laws t k r (given q fails) s w = of_contents t k r s (given q fails) (given_owes t k r s q fails w) w.is_world (λ x e. grind arith)
 laws t k r (ftruncate f n) s w = of_contents t k r s (ftruncate f n) (ftruncate_owes t k r s f n w) w.is_world (ftruncate_contents t s r f n)
 
 -- Every access set covers its place.

@@ -1,16 +1,16 @@
--- Operations that use no more than the slot or descriptor of a file number: nop, fsync and close.
+-- Operations that use no more than the slot or descriptor of a file number.
 use native.Mathlib.Omega.{arith}
-use Rattle.std.specs.Prelude.{◌≡◌, ℕ, Bool, cond, ltb, T, List, [], ◌∷◌, map, length, Option, None, Ok, refl}
+use Rattle.std.specs.Prelude.{◌≡◌, ℕ, ℤ, ◌+◌, ◌^◌, Bool, cond, leb, ltb, T, List, [], ◌∷◌, map, length, Option, None, Ok, refl}
 use Rattle.std.specs.Option.{is_some}
 use mathlib.Core.Path.{sym, subst, ap}
 use lib.Dec.{eqb_refl}
 use Rattle.sqe_codec.specs.declared.errno.Errno.TheVariants.{EBADF, EINVAL}
 use Rattle.recording.specs.declared.recording.Recording.{Recording}
 use Rattle.sqe_codec.specs.Answers.{◌>>◌, require}
-use Rattle.entry_checks.specs.Operation.{nop, fsync, close, File, in_slot, at_descriptor}
+use Rattle.entry_checks.specs.Operation.{nop, fsync, close, sync_file_range, fadvise, given, File, in_slot, at_descriptor}
 use Rattle.world_parts.specs.World.{World, slot, set_slot, set_descriptor}
 use Rattle.op_meaning.specs.Site.{in_ring}
-use Rattle.op_meaning.specs.Meaning.{done, slot_count, held}
+use Rattle.op_meaning.specs.Meaning.{done, slot_count, held, sync_file_range_meaning, fadvise_meaning}
 use Rattle.world_parts.specs.Items.{Atom, slot_at, descriptor_at, Item, one, reads, writes, has_atom, writes_atom, Agree}
 use Rattle.foot_print.specs.Footprint.{held_item, file_reads}
 use Rattle.foot_print.specs.Laws.{Awaits}
@@ -32,6 +32,38 @@ fsync_owes t k r s f w = record {
     same_uses = λ c. refl;
   };
   supports = λ u v a d e q. let m = ok_require (is_some (held (in_ring t r) u f)) EBADF (Ok (done [])) e q in supports_effect (file_reads (in_ring t r) f) u (done []) e m.0 tt;
+}
+
+pub sync_file_range_owes : (t : Recording) (k r : ℕ) (s : World) (f : File) (o n flags : ℕ) → Awaits t k s → Owes t k r (sync_file_range f o n flags) s
+sync_file_range_owes t k r s f o n flags w = record {
+  tells = λ u b a d. record {
+    same_meaning = ap (sync_file_range_meaning o n flags) (held_same t s u r f d);
+    same_uses = λ c. refl;
+  };
+  supports = λ u v a d e q.
+      let m = ok_require (is_some (held (in_ring t r) u f)) EBADF _ e q in
+      let g = ok_require (leb flags 7) EINVAL _ e m.0 in
+      let l = ok_require (ltb (o + n) (2 ^ 63)) EINVAL (Ok (done [])) e g.0 in
+      supports_effect (file_reads (in_ring t r) f) u (done []) e l.0 tt;
+}
+
+pub fadvise_owes : (t : Recording) (k r : ℕ) (s : World) (f : File) (n advice : ℕ) → Awaits t k s → Owes t k r (fadvise f n advice) s
+fadvise_owes t k r s f n advice w = record {
+  tells = λ u b a d. record {
+    same_meaning = ap (fadvise_meaning n advice) (held_same t s u r f d);
+    same_uses = λ c. refl;
+  };
+  supports = λ u v a d e q.
+      let m = ok_require (is_some (held (in_ring t r) u f)) EBADF _ e q in
+      let l = ok_require (ltb n (2 ^ 63)) EINVAL _ e m.0 in
+      let g = ok_require (leb advice 5) EINVAL (Ok (done [])) e l.0 in
+      supports_effect (file_reads (in_ring t r) f) u (done []) e g.0 tt;
+}
+
+pub given_owes : (t : Recording) (k r : ℕ) (s : World) (q : ℤ) (fails : Bool) → Awaits t k s → Owes t k r (given q fails) s
+given_owes t k r s q fails w = record {
+  tells = λ u b a d. record { same_meaning = refl; same_uses = λ c. refl };
+  supports = λ u v a d e q. supports_effect [] u (done []) e q tt;
 }
 
 -- What an access set writes of some items, worlds that agree on it agree on.

@@ -63,6 +63,7 @@ pub(crate) fn shape_of(op: Op<'_>) -> Shape<'_>
 {
     match op {
         Op::Nop => Shape::Idle,
+        Op::Given { .. } => Shape::Idle,
         Op::Readv {
             file,
             offset,
@@ -122,6 +123,8 @@ pub(crate) fn shape_of(op: Op<'_>) -> Shape<'_>
             span: Some(span),
         },
         Op::Fsync { file } => Shape::Looking { file },
+        Op::SyncFileRange { file, .. } => Shape::Looking { file },
+        Op::Fadvise { file, .. } => Shape::Looking { file },
         Op::Fallocate {
             file,
             offset,

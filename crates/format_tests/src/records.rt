@@ -96,7 +96,7 @@ fn a_trace_without_its_end(rt: HostRuntime) {
 }
 
 /// A place, the byte that is put there, and the fault that the trace has then.
-const CASES: [(usize, u8, Kind, u64); 14] = [
+const CASES: [(usize, u8, Kind, u64); 16] = [
     (8, 2, Kind::Version, 8),
     (28, 1, Kind::Limit, 28),
     (32, 4, Kind::Limit, 32),
@@ -110,7 +110,9 @@ const CASES: [(usize, u8, Kind, u64); 14] = [
     (98, 4, Kind::Limit, 98),
     (126, 1, Kind::Reference, 126),
     (196, 1, Kind::Limit, 196),
-    (196, 2, Kind::Limit, 196),
+    (196, 2, Kind::Limit, 201),
+    (196, 3, Kind::Limit, 197),
+    (196, 4, Kind::Limit, 196),
 ];
 
 fn just_these_faults(alloc: Global) -> bool {

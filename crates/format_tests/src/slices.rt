@@ -2,7 +2,7 @@
 
 use sqe_codec::unpack;
 use std::alloc::{AllocError, Global};
-use trace_format::{Blob, EntriesBuilder, TextSlice};
+use trace_format::{Blob, EntriesBuilder, Given, TextSlice};
 
 /// Whether they are the six bytes `abcdef` at this place of their text, and so are their parts.
 fn is_the_word(bytes: TextSlice<'_>, from: usize) -> bool {
@@ -35,10 +35,34 @@ fn is_beside_an_entry(alloc: Global) -> Result<bool, AllocError> {
     Ok(entries.len() == 2 && is_the_word(entries.at(1).side_slice(), 138))
 }
 
+/// Whether entries that are given have that, and nothing beside them, and the one before them is
+/// not given.
+fn is_given(alloc: Global) -> Result<bool, AllocError> {
+    let sqe = unpack(&[0; 64]);
+    let failed = Given::Passed {
+        result: 4,
+        fails: true,
+    };
+    let mut builder = EntriesBuilder::new(alloc);
+    builder.push(&sqe, b"xy")?;
+    builder.push_given(&sqe, failed)?;
+    builder.push_given(&sqe, Given::Refused { error: 22 })?;
+    let entries = builder.build(alloc)?;
+    Ok(
+        entries.len() == 3
+            && entries.at(0).given().is_none()
+            && entries.at(1).given() == Some(failed)
+            && entries.at(1).side().is_empty()
+            && entries.at(2).given() == Some(Given::Refused { error: 22 }),
+    )
+}
+
 #[test]
 fn slices_of_a_text(rt: HostRuntime) {
     let alloc = rt.alloc();
     assert!(rt;
-        matches!(is_in_a_blob(alloc), Ok(true)) && matches!(is_beside_an_entry(alloc), Ok(true))
+        matches!(is_in_a_blob(alloc), Ok(true))
+            && matches!(is_beside_an_entry(alloc), Ok(true))
+            && matches!(is_given(alloc), Ok(true))
     );
 }

@@ -1,6 +1,6 @@
 -- An entry that passes its tests asks for no more than one call moves.
-use Rattle.std.proofs.Common.{◌≡◌, ℕ, ◌+◌, ◌*◌, ◌≤◌, true, List, [], ◌∷◌, length, drop, min, Option, Some, None, refl, ◌∙◌, arith, inl, inr, subst}
-use Rattle.std.specs.Prelude.{◌==◌, not, ltb, nat_le, Ok, IfOk, IfSome, ok_or}
+use Rattle.std.proofs.Common.{◌≡◌, ℕ, ◌+◌, ◌*◌, ◌≤◌, Bool, true, false, List, [], ◌∷◌, ◌++◌, length, drop, min, Option, Some, None, refl, ◌∙◌, arith, inl, inr, subst}
+use Rattle.std.specs.Prelude.{◌==◌, not, ltb, nat_le, Ok, IfOk, IfSome, ok_or, if◌then◌else◌}
 use Rattle.std.specs.List.{find}
 use Rattle.std.specs.Option.{option_map}
 use Rattle.std.proofs.lemmas.List.{length-drop}
@@ -12,9 +12,12 @@ use Rattle.std.proofs.lemmas.Result.{IfOk-at_ok}
 use Rattle.sqe_codec.specs.Answers.{require}
 use Rattle.trace_format.specs.declared.entry.Entry.{Entry}
 use Rattle.trace_format.specs.declared.version.Version.{Version}
-use Rattle.trace_format.specs.Sides.{is_side_of, lengths_in, most_moved, total, vector_is_short, vector_len, written_len}
+use Rattle.trace_format.specs.declared.given.Given.{Given}
+use Rattle.trace_format.specs.declared.given.Given.TheVariants.{Passed, Refused}
+use Rattle.trace_format.specs.Versions.{rules}
+use Rattle.trace_format.specs.Sides.{is_side_of, SideFits, lengths_in, most_moved, total, vector_is_short, vector_len, written_len}
 use Rattle.entry_checks.specs.Operation.{Operation, asked}
-use Rattle.entry_checks.specs.Check.{Row, rows, row_of, has, buffer_select, check}
+use Rattle.entry_checks.specs.Check.{Row, rows, advice_rows, rows_beside, row_of, has, buffer_select, check_fields, check_given, check}
 use Rattle.op_meaning.proofs.Fallible.{and_so, after, after_so}
 
 -- It asks for no more than one call moves.
@@ -49,6 +52,18 @@ ShortRows (p ∷ ps) = ShortRow p × ShortRows ps
 short_rows : ShortRows rows
 short_rows = search (after, after_so, short_write, short_vector, arith)
 
+-- So it does in the rows that a version has beside them.
+short_beside : (v : Version) → ShortRows (rows_beside v)
+short_beside v = by (rules v).has_advice
+  where
+    by : (b : Bool) → ShortRows (if b then advice_rows else [])
+    by true = (λ v e side fits is. tt, (λ v e side fits is. tt, tt))
+    by false = tt
+
+append_rows : (ps qs : List (ℕ × Row)) → ShortRows ps → ShortRows qs → ShortRows (ps ++ qs)
+append_rows [] qs all more = more
+append_rows (p ∷ ps) qs all more = (all.0, append_rows ps qs all.1 more)
+
 row_in : (n : ℕ) (ps : List (ℕ × Row)) → ShortRows ps → (row : Row) → option_map (λ p. p.1) (find (λ p. p.0 == n) ps) ≡ Some row → ShortRow (n, row)
 row_in n [] all row h = absurd (none-some row h)
 row_in n (p ∷ ps) all row h = λ v e side fits is. elim (cases_eq p.0 n) [
@@ -58,14 +73,25 @@ row_in n (p ∷ ps) all row h = λ v e side fits is. elim (cases_eq p.0 n) [
   | inr ne ↦ row_in n ps all.1 row (rw (ne_eqb p.0 n ne) at h) v e side fits is
 ]
 
-short_known : (v : Version) (e : Entry) (o : Option Row) → is_side_of e.sqe e.side ≡ true → row_of e.sqe.opcode ≡ o → IfOk (ok_or o EINVAL) (λ row. IfOk (row v e.sqe e.side) IsShort)
-short_known v e None fits is = tt
-short_known v e (Some row) fits is = row_in e.sqe.opcode rows short_rows row is v e.sqe e.side fits refl
+short_known : (v : Version) (e : Sqe) (side : List ℕ) (o : Option Row) → is_side_of e side ≡ true → row_of v e.opcode ≡ o → IfOk (ok_or o EINVAL) (λ row. IfOk (row v e side) IsShort)
+short_known v e side None fits is = tt
+short_known v e side (Some row) fits is = row_in e.opcode (rows ++ rows_beside v) (append_rows rows (rows_beside v) short_rows (short_beside v)) row is v e side fits refl
 
-short_check : (v : Version) (e : Entry) → is_side_of e.sqe e.side ≡ true → IfOk (check v e) IsShort
-short_check v e fits =
-    and_so (λ row. IfOk (row v e.sqe e.side) IsShort) IsShort (ok_or (row_of e.sqe.opcode) EINVAL) _ (short_known v e (row_of e.sqe.opcode) fits refl) (λ row is.
-    after IsShort (require (ltb e.sqe.flags 128) EINVAL) _ (after IsShort (require (e.sqe.personality == 0) EINVAL) _ (after IsShort (require (not (has e.sqe.flags buffer_select)) EOPNOTSUPP) _ is)))
+short_fields : (v : Version) (e : Sqe) (side : List ℕ) → is_side_of e side ≡ true → IfOk (check_fields v e side) IsShort
+short_fields v e side fits =
+    and_so (λ row. IfOk (row v e side) IsShort) IsShort (ok_or (row_of v e.opcode) EINVAL) _ (short_known v e side (row_of v e.opcode) fits refl) (λ row is.
+    after IsShort (require (ltb e.flags 128) EINVAL) _ (after IsShort (require (e.personality == 0) EINVAL) _ (after IsShort (require (not (has e.flags buffer_select)) EOPNOTSUPP) _ is)))
 
-pub short : (v : Version) (e : Entry) (o : Operation) → is_side_of e.sqe e.side ≡ true → check v e ≡ Ok o → IsShort o
+short_given : (x : Given) → IfOk (check_given x) IsShort
+short_given (Passed r fails) = tt
+short_given (Refused error) = tt
+
+short_check : (v : Version) (e : Entry) → SideFits e → IfOk (check v e) IsShort
+short_check v e fits = by e.given refl
+  where
+    by : (g : Option Given) → e.given ≡ g → IfOk (check v e) IsShort
+    by None is = rw is (short_fields v e.sqe e.side (fits is))
+    by (Some x) is = rw is (short_given x)
+
+pub short : (v : Version) (e : Entry) (o : Operation) → SideFits e → check v e ≡ Ok o → IsShort o
 short v e o fits h = IfOk-at_ok IsShort h (short_check v e fits)

@@ -14,7 +14,7 @@ use Rattle.trace_format.specs.Sides.{most_moved}
 use Rattle.recording.specs.Accepted.{IsAccepted}
 use Rattle.recording.specs.Limits.{table_limit}
 use Rattle.trace_records.specs.declared.record.FullSlot.{FullSlot}
-use Rattle.entry_checks.specs.Operation.{Operation, nop, readv, writev, fsync, read_fixed, write_fixed, fallocate, openat, close, read, write, renameat, unlinkat, mkdirat, linkat, ftruncate, File, Span, Path, OpenFlags, asked, file_limit, at_position, in_slot, at_descriptor}
+use Rattle.entry_checks.specs.Operation.{Operation, nop, readv, writev, fsync, read_fixed, write_fixed, fallocate, openat, close, read, write, renameat, unlinkat, mkdirat, linkat, ftruncate, sync_file_range, fadvise, given, File, Span, Path, OpenFlags, asked, file_limit, at_position, in_slot, at_descriptor}
 use Rattle.entry_checks.specs.Check.{has, io_hardlink, skip_success}
 use Rattle.chain_plan.specs.declared.role.Role.{Role}
 use Rattle.chain_plan.specs.Chain.{role}
@@ -235,6 +235,9 @@ owes t k r s (unlinkat p removes) = removing _ s p removes
 owes t k r s (mkdirat p) = making _ t k s p
 owes t k r s (linkat old new) = linking _ s old new
 owes t k r s (ftruncate f n) = resizing _ (handle (in_ring t r) s f) n
+owes t k r s (sync_file_range f o n flags) = after _ (require (is_some (held (in_ring t r) s f)) EBADF) _ (after _ (require (leb flags 7) EINVAL) _ (after _ (require (ltb (o + n) (2 ^ 63)) EINVAL) _ (still _ [] tt)))
+owes t k r s (fadvise f n advice) = after _ (require (is_some (held (in_ring t r) s f)) EBADF) _ (after _ (require (ltb n (2 ^ 63)) EINVAL) _ (after _ (require (leb advice 5) EINVAL) _ (still _ [] tt)))
+owes t k r s (given q fails) = still _ [] tt
 
 -- An answer whose count one call can move.
 abbrev pub Small : Effect → Type 0

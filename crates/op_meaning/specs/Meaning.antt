@@ -11,7 +11,7 @@ use Rattle.recording.specs.declared.recording.Ring.{Ring}
 use Rattle.recording.specs.Rings.{slots_of}
 use Rattle.trace_format.specs.declared.trace.Buffer.{Buffer}
 use Rattle.sqe_codec.specs.Answers.{◌>>=◌, ◌>>◌, require}
-use Rattle.entry_checks.specs.Operation.{Operation, nop, readv, writev, fsync, read_fixed, write_fixed, fallocate, openat, close, read, write, renameat, unlinkat, mkdirat, linkat, ftruncate, File, in_slot, at_descriptor, Span, Path, OpenFlags, file_limit, at_position}
+use Rattle.entry_checks.specs.Operation.{Operation, nop, readv, writev, fsync, read_fixed, write_fixed, fallocate, openat, close, read, write, renameat, unlinkat, mkdirat, linkat, ftruncate, sync_file_range, fadvise, given, File, in_slot, at_descriptor, Span, Path, OpenFlags, file_limit, at_position}
 use Rattle.trace_format.specs.Sides.{most_moved}
 use Rattle.op_meaning.specs.Shape.{Shape, idle, looking, moving, allocating, resizing, closing, opening, making, freeing, linking, renaming, Look, at_nothing, at_file, at_path, at_paths, look}
 use Rattle.file_tree.specs.Tree.{a_directory, a_file, Target}
@@ -206,6 +206,22 @@ ftruncate_meaning n there = do
   require (leb n file_limit) EFBIG
   Ok (done (set_size h.opened.target.node n ∷ []))
 
+-- What is open at a file number, if it is, and the tests of a range to be written out.
+abbrev pub sync_file_range_meaning : (offset size flags : ℕ) → (there : Option ℕ) → Result Effect Errno
+sync_file_range_meaning o n flags there = do
+  require (is_some there) EBADF
+  require (leb flags 7) EINVAL
+  require (ltb (o + n) (2 ^ 63)) EINVAL
+  Ok (done [])
+
+-- The same of advice.
+abbrev pub fadvise_meaning : (size advice : ℕ) → (there : Option ℕ) → Result Effect Errno
+fadvise_meaning n advice there = do
+  require (is_some there) EBADF
+  require (ltb n (2 ^ 63)) EINVAL
+  require (leb advice 5) EINVAL
+  Ok (done [])
+
 abbrev pub lowest_free : (trace : Recording) → World → Option ℕ
 lowest_free t s = find (λ n. is_none (descriptor s n)) (range_with_len 0 (length t.descriptors))
 
@@ -369,6 +385,9 @@ behavior (unlinkat p removes) = record { shape = freeing p removes; meaning = λ
 behavior (mkdirat p) = record { shape = making p; meaning = λ site s z. mkdirat_meaning site z.place }
 behavior (linkat old new) = record { shape = linking old new; meaning = λ site s z. linkat_meaning z.place z.new_place }
 behavior (ftruncate f n) = record { shape = resizing f n; meaning = λ site s z. ftruncate_meaning n z.file }
+behavior (sync_file_range f o n flags) = record { shape = looking f; meaning = λ site s z. sync_file_range_meaning o n flags (held site s f) }
+behavior (fadvise f n advice) = record { shape = looking f; meaning = λ site s z. fadvise_meaning n advice (held site s f) }
+behavior (given r fails) = record { shape = idle; meaning = λ site s z. Ok (done []) }
 
 abbrev pub shape : Operation → Shape
 shape o = (behavior o).shape

@@ -1,5 +1,5 @@
 -- A view of code: what operations answer.
-use Rattle.std.specs.Prelude.{◌≡◌, ℕ, Bool, true, false, not, ◌==◌, List, Option, Some, None, Result, Ok, Err, pos}
+use Rattle.std.specs.Prelude.{◌≡◌, ℕ, ℤ, Bool, true, false, not, ◌==◌, List, Option, Some, None, Result, Ok, Err, pos}
 use Rattle.sqe_codec.specs.declared.errno.Errno.{Errno}
 use Rattle.op_meaning.specs.declared.outcome.Done.{Done}
 use Rattle.op_meaning.specs.declared.reply.Reply.{Reply}
@@ -29,13 +29,15 @@ Gives x d = Answers (Ok x) (Ok d)
 abbrev pub world_after : World → Result Effect Errno → World
 world_after s x = apply_all (changes_of x) s
 
--- whether an operation failed that asked for so many bytes, or for none
-abbrev pub fails_as : Option ℕ → Result (ℕ × List ℕ) Errno → Bool
-fails_as a (Err e) = true
-fails_as None (Ok x) = false
-fails_as (Some n) (Ok x) = not (n == x.0)
+-- whether an operation failed of which this is given, if anything is, and that asked for so many bytes, or for none
+abbrev pub fails_as : Option (ℤ × Bool) → Option ℕ → Result (ℕ × List ℕ) Errno → Bool
+fails_as g a (Err e) = true
+fails_as (Some g) a (Ok x) = g.1
+fails_as None None (Ok x) = false
+fails_as None (Some n) (Ok x) = not (n == x.0)
 
--- the reply that has what an operation answers
-abbrev pub reply_with : Bool → Result (ℕ × List ℕ) Errno → Reply
-reply_with posted (Ok x) = record { res = pos x.0; bytes = x.1; posted = posted }
-reply_with posted (Err e) = error_reply e posted
+-- the reply that has what an operation answers, or where it is done what is given of it
+abbrev pub reply_with : Option (ℤ × Bool) → Bool → Result (ℕ × List ℕ) Errno → Reply
+reply_with None posted (Ok x) = record { res = pos x.0; bytes = x.1; posted = posted }
+reply_with (Some g) posted (Ok x) = record { res = g.0; bytes = x.1; posted = posted }
+reply_with g posted (Err e) = error_reply e posted

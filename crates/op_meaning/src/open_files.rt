@@ -1,7 +1,8 @@
 //! The other operations on open files.
 ghost use Rattle.std.specs.Prelude.{◌≡◌, ◌≤◌, [], ◌∷◌, IfOk, OnOk};
 ghost use Rattle.entry_checks.specs.Meant.{file_meant};
-ghost use Rattle.entry_checks.specs.Operation.{at_descriptor, file_limit, fsync, in_slot};
+ghost use Rattle.entry_checks.specs.Operation.{at_descriptor, fadvise, file_limit, fsync, in_slot};
+ghost use Rattle.entry_checks.specs.Operation.{sync_file_range};
 ghost use Rattle.op_meaning.specs.Site.{site_meant};
 ghost use Rattle.op_meaning.specs.Deciding.{Decides};
 ghost use Rattle.op_meaning.specs.Decision.{allocated, effect_of, emptied, IsWithinLimits};
@@ -20,6 +21,11 @@ use entry_checks::FileNumber;
 use sqe_codec::Errno;
 use std::alloc::AllocError;
 use world_parts::State;
+
+/// All flags of sync_file_range(2), and the last advice of posix_fadvise(2).
+const ALL_SYNC_FLAGS: u32 = 7;
+
+const LAST_ADVICE: u32 = 5;
 
 /// What FSYNC does where it is accepted: nothing is lost here, so that it has nothing to do.
 ///
@@ -41,6 +47,61 @@ pub(crate) fn syncing<'a>(
         Some(_) => Ok(Decision::Nothing),
         None => Err(Errno::EBADF),
     }
+}
+
+/// What SYNC_FILE_RANGE does where it is accepted: nothing, as FSYNC.
+///
+/// # Errors
+///
+/// That of the first test that fails: EBADF, EINVAL.
+pub(crate) fn syncing_range<'a>(
+    site: Site<'_>,
+    file: FileNumber,
+    offset: u64,
+    size: u32,
+    flags: u32,
+    state: &State,
+) -> Result<Decision<'a>, Errno>
+    ensures meaning { Decides
+        (meaning (site_meant site.entry) state.now
+        (sync_file_range (file_meant file) offset size flags))
+        (effect_of (site_meant site.entry) state.now) result }
+    ensures limits { IfOk result (IsWithinLimits state.now site.entry.ring) }
+{
+    if held(site.trace, site.ring, file, state).is_none() {
+        return Err(Errno::EBADF);
+    }
+    if flags > ALL_SYNC_FLAGS || offset >= REFUSED || offset + u64::from(size) >= REFUSED {
+        return Err(Errno::EINVAL);
+    }
+    Ok(Decision::Nothing)
+}
+
+/// What FADVISE does where it is accepted: nothing, since advice changes no answer.
+///
+/// # Errors
+///
+/// That of the first test that fails: EBADF, EINVAL.
+pub(crate) fn advising<'a>(
+    site: Site<'_>,
+    file: FileNumber,
+    size: u64,
+    advice: u32,
+    state: &State,
+) -> Result<Decision<'a>, Errno>
+    ensures meaning { Decides
+        (meaning (site_meant site.entry) state.now
+        (fadvise (file_meant file) size advice))
+        (effect_of (site_meant site.entry) state.now) result }
+    ensures limits { IfOk result (IsWithinLimits state.now site.entry.ring) }
+{
+    if held(site.trace, site.ring, file, state).is_none() {
+        return Err(Errno::EBADF);
+    }
+    if size >= REFUSED || advice > LAST_ADVICE {
+        return Err(Errno::EINVAL);
+    }
+    Ok(Decision::Nothing)
 }
 
 /// What FALLOCATE allocates.

@@ -20,7 +20,7 @@ use crate::decision::{Decision, carry_out};
 use crate::lookup::Lookup;
 use crate::names::NameChanges;
 use crate::naming::{linking, making, renaming, unlinking};
-use crate::open_files::{allocating, closing, resizing, syncing};
+use crate::open_files::{advising, allocating, closing, resizing, syncing, syncing_range};
 use crate::opening::find_opening;
 use crate::outcome::Outcome;
 use crate::site::Site;
@@ -78,7 +78,14 @@ fn decide_on_rest<'a>(
         Op::Mkdirat { path } => making(site, path, lookup, state),
         Op::Linkat { old, new } => changing(linking(old, new, lookup, state)),
         Op::Ftruncate { file, size } => resizing(site, file, lookup, size, state),
-        // A NOP, since transfers don't come here.
+        Op::SyncFileRange {
+            file,
+            offset,
+            size,
+            flags,
+        } => syncing_range(site, file, offset, size, flags, state),
+        Op::Fadvise { file, size, advice } => advising(site, file, size, advice, state),
+        // A NOP or one whose result is given, since transfers don't come here.
         _ => Ok(Decision::Nothing),
     }
 }

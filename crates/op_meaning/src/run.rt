@@ -3,7 +3,7 @@ ghost use Rattle.std.specs.Prelude.{◌≡◌, ◌<◌, ◌≤◌, ◌^◌, [], 
 ghost use Rattle.std.specs.Prelude.{OnOk, Some, false, pos, true};
 ghost use Rattle.chain_plan.specs.Chain.{role};
 ghost use Rattle.entry_checks.specs.Meant.{meant};
-ghost use Rattle.entry_checks.specs.Operation.{asked};
+ghost use Rattle.entry_checks.specs.Operation.{asked, told};
 ghost use Rattle.op_meaning.specs.Outcomes.{answered, fails_as, reply_with};
 ghost use Rattle.op_meaning.specs.Runs.{run_on};
 ghost use Rattle.op_meaning.specs.Site.{IsSite};
@@ -157,12 +157,24 @@ fn run(
         ≡ turn_world site.entry.trace.now site.entry.place state.old
         (step.runs site.entry.ring entry.now (meant op.entry))) }
 {
+    let told = told(&op);
     let asked = asked(&op);
     let outcome = run_operation(alloc, site, op, state)?;
-    let fails = failed(asked, &outcome);
+    let fails = failed(told, asked, &outcome);
     break_chain(role_there, entry, fails, state)?;
     let posted = !entry.sqe().has(CQE_SKIP_SUCCESS) || fails;
-    Ok(reply_to(alloc, outcome, posted))
+    Ok(reply_to(alloc, told, outcome, posted))
+}
+
+/// The result that the trace gives, and whether the operation fails; of other operations it gives
+/// none.
+fn told(op: &Op<'_>) -> Option<(i32, bool)>
+    ensures { result ≡ told (meant op.now) }
+{
+    match op {
+        Op::Given { result, fails } => Some((*result, *fails)),
+        _ => None,
+    }
 }
 
 /// How many bytes a transfer asks for; other operations ask for none.
@@ -181,15 +193,16 @@ fn asked(op: &Op<'_>) -> Option<u64>
     }
 }
 
-/// Whether an operation failed: a transfer where it moved other than was asked for, any other where
-/// it was refused.
-fn failed(asked: Option<u64>, outcome: &Outcome) -> bool
-    ensures { result ≡ fails_as asked (answered outcome.now) }
+/// Whether an operation failed: where its result is given as that says, a transfer where it moved
+/// other than was asked for, any other where it was refused.
+fn failed(told: Option<(i32, bool)>, asked: Option<u64>, outcome: &Outcome) -> bool
+    ensures { result ≡ fails_as told asked (answered outcome.now) }
 {
-    match (asked, outcome) {
-        (_, Err(_)) => true,
-        (Some(asked), Ok(done)) => asked != u64::from(done.count),
-        (None, Ok(_)) => false,
+    match (told, asked, outcome) {
+        (_, _, Err(_)) => true,
+        (Some((_, fails)), _, Ok(_)) => fails,
+        (None, Some(asked), Ok(done)) => asked != u64::from(done.count),
+        (None, None, Ok(_)) => false,
     }
 }
 
@@ -216,13 +229,16 @@ fn break_chain(
 }
 
 /// The reply to an operation that ran. It takes no memory.
-fn reply_to(alloc: Global, outcome: Outcome, posted: bool) -> Reply
+fn reply_to(alloc: Global, told: Option<(i32, bool)>, outcome: Outcome, posted: bool) -> Reply
     requires { IfOk outcome (λ d. d.count < 2 ^ 31) }
-    ensures { result ≡ reply_with posted (answered outcome) }
+    ensures { result ≡ reply_with told posted (answered outcome) }
 {
     match outcome {
         Ok(done) => Reply {
-            res: done.count as i32,
+            res: match told {
+                Some((given, _)) => given,
+                None => done.count as i32,
+            },
             bytes: done.bytes,
             posted,
         },

@@ -8,7 +8,7 @@ ghost use Rattle.entry_checks.specs.Operation.{asked};
 ghost use Rattle.op_meaning.specs.Step as step;
 ghost use Rattle.op_meaning.specs.Turns.{IsShort, kind_meant, turn_meant};
 ghost use Rattle.op_meaning.specs.Step.{ring_at};
-ghost use Rattle.trace_format.specs.Sides.{is_side_of, most_moved};
+ghost use Rattle.trace_format.specs.Sides.{most_moved, SideFits};
 ghost use Rattle.recording.specs.Steps.{places};
 ghost use Rattle.recording.specs.Accepted.{IsAccepted};
 ghost use Rattle.world_parts.specs.Uses.{broken_meant};
@@ -101,7 +101,7 @@ fn submitted<'a>(
     role_there: &Role,
     flag: Option<Broken>,
 ) -> TurnKind<'a>
-    requires side { is_side_of entry.now.sqe entry.now.side ≡ true }
+    requires side { SideFits entry.now }
     ensures turn { (ring : ℕ) → kind_meant ring result ≡ step.entry_turn ring entry.now
         role_there.now (option_map broken_meant flag) (check trace.now.version entry.now) }
     ensures short { IsShort result }

@@ -1,12 +1,12 @@
 -- A recording of version 3 is one that a replay accepts, from its start and record by record.
-use Rattle.std.proofs.Common.{◌≡◌, ◌≤◌, true, length, subst, refl, arith}
+use Rattle.std.proofs.Common.{◌≡◌, ◌≤◌, length, subst, refl, arith}
 use Rattle.std.specs.List.{All}
 use Rattle.std.proofs.lemmas.List.Elements.{All-nil, All-weaker}
 use Rattle.trace_records.specs.Front.{Front}
 use Rattle.trace_records.specs.Whole.{Ends}
 use Rattle.trace_records.specs.declared.start.Start.{Start}
 use Rattle.trace_format.specs.declared.entry.Entry.{Entry}
-use Rattle.trace_format.specs.Sides.{is_side_of}
+use Rattle.trace_format.specs.Sides.{SideFits}
 use Rattle.recording.specs.declared.recording.Recording.{Recording}
 use Rattle.recording.specs.declared.recording.Ring.{Ring}
 use Rattle.recording.specs.Accepted.{IsAccepted, RecordsAccepted}
@@ -40,8 +40,8 @@ grown_accepted v f g h fits =
       rings = λ k s here. (all_at steps g.steps k s here fits.steps).in_rings;
     }
 
--- the bytes beside an entry fit it
-action_fits : (a : Action) → ((e : Entry) → a ≡ submit e → is_side_of e.sqe e.side ≡ true) → ActionFits a
+-- the bytes beside an entry fit it, unless it is given
+action_fits : (a : Action) → ((e : Entry) → a ≡ submit e → SideFits e) → ActionFits a
 action_fits (submit e) h = h e refl
 action_fits (fill buffer offset bytes) h = tt
 action_fits (register slots) h = tt

@@ -1,5 +1,5 @@
 -- What the format asks of each record of version 3, and of the rings and steps of the records so far.
-use Rattle.std.proofs.Common.{◌≡◌, ℕ, suc, ◌+◌, ◌<◌, ◌≤◌, true, List, [], ◌∷◌, ◌++◌, length, Option, Some, None, refl, sym, subst, arith, inl, inr, length-append}
+use Rattle.std.proofs.Common.{◌≡◌, ℕ, suc, ◌+◌, ◌<◌, ◌≤◌, true, List, [], ◌∷◌, ◌++◌, length, Option, Some, None, refl, sym, ap, subst, ◌∙◌, arith, inl, inr, length-append}
 use Rattle.std.specs.Prelude.{◌^◌, ◌==◌, map}
 use Rattle.std.specs.List.{All, slice_get}
 use Rattle.std.specs.Int.{w16, w32}
@@ -11,11 +11,11 @@ use Rattle.std.proofs.lemmas.Option.{slice_get_cases, slice_get_within, get_or_f
 use Rattle.sqe_codec.specs.declared.sqe.Sqe.{Sqe}
 use Rattle.sqe_codec.specs.Fields.{entry_of}
 use Rattle.trace_format.specs.Submitted.{Submitted}
-use Rattle.trace_format.specs.Sides.{is_side_of}
+use Rattle.trace_format.specs.Sides.{SideFits, is_side_of}
 use Rattle.trace_format.specs.Text.{buffer}
 use Rattle.trace_format.proofs.Apart.{AnyText, keeps_any, Own, apart, at_place, at_test, test_passed, at_known, at_done, at_choice, within_limit, each, length-several}
 use Rattle.trace_records.specs.Front.{Front, after, ring_at, sizes_of, places_of, no_records as no_front}
-use Rattle.trace_records.specs.Records.{ring_there, meant, stored, zeros, entry, enter, filled, fill, ring, ring_ends, ring_starts, body, has_room, next}
+use Rattle.trace_records.specs.Records.{ring_there, meant, stored, zeros, passed, refused, entry, enter, filled, fill, ring, ring_ends, ring_starts, body, has_room, next}
 use Rattle.trace_records.specs.Whole.{Behind, Begins, Ends}
 use Rattle.trace_records.specs.declared.front.Sizes.{Sizes}
 use Rattle.trace_records.specs.declared.record.Entry.{Entry}
@@ -28,7 +28,7 @@ use Rattle.trace_records.specs.declared.start.Start.{Start}
 use Rattle.trace_records.specs.declared.trace.Trace.{Trace}
 use Rattle.recording.specs.declared.recording.Ring.{Ring}
 use Rattle.recording.specs.Fronts.{IsSpelledFront}
-use Rattle.recording.specs.Growing.{Grown, HasRoom, submitted, filling_bytes, new_ring, with_end, with_record, with_records, no_records}
+use Rattle.recording.specs.Growing.{Grown, HasRoom, given_in, submitted, filling_bytes, new_ring, with_end, with_record, with_records, no_records}
 use Rattle.recording.specs.Limits.{places_limit, table_limit, buffers_limit}
 use Rattle.recording.specs.Rings.{slots_of}
 use Rattle.recording.specs.Spelled.{IsSpelled}
@@ -48,9 +48,9 @@ all_from P (x ∷ xs) each = All-cons P x xs (each 0 x refl) (all_from P xs (λ 
 
 -- ---- entries
 
--- The bytes that an entry speaks of fit it.
+-- The bytes that an entry speaks of fit it, unless it is given.
 abbrev pub EntryFits : Entry → Type 0
-EntryFits e = is_side_of e.sqe (meant e.beside) ≡ true
+EntryFits e = SideFits (submitted e)
 
 stored_fits : (begin : ℕ) (e : Sqe) (y : Beside) → Own AnyText (stored begin e) y → is_side_of e (meant y) ≡ true
 unfolding stored
@@ -66,6 +66,20 @@ zeros_fit e y o =
     let lengths = apart keeps_any len.after in
     subst (λ (b : Beside). is_side_of e (meant b) ≡ true) (sym (at_done (at_test lengths.after)).1) (test_passed lengths.after)
 
+-- what passes or is refused is given
+passed_given : (y : Beside) → Own AnyText passed y → given_in y ≡ None → ⊥
+unfolding passed
+passed_given y o none =
+    let result = apart keeps_any o in
+    let fails = apart keeps_any result.after in
+    none-some _ (sym none ∙ ap given_in (at_done fails.after).1)
+
+refused_given : (y : Beside) → Own AnyText refused y → given_in y ≡ None → ⊥
+unfolding refused
+refused_given y o none =
+    let result = apart keeps_any (at_place o) in
+    none-some _ (sym none ∙ ap given_in (at_done (at_test result.after)).1)
+
 entry_fits : (begin : ℕ) (e : Entry) → Own AnyText (entry begin) e → EntryFits e
 unfolding entry
 entry_fits begin e o =
@@ -73,9 +87,15 @@ entry_fits begin e o =
     let form = apart keeps_any (at_place bytes.after) in
     let beside = apart keeps_any (at_test form.after) in
     let sqe = entry_of bytes.x in
-    let fits : is_side_of sqe (meant beside.x) ≡ true = elim (at_choice beside.own) [
+    let fits : EntryFits (record { sqe = sqe; beside = beside.x }) = λ none. elim (at_choice beside.own) [
       | inl a ↦ stored_fits begin sqe beside.x a.1
-      | inr b ↦ zeros_fit sqe beside.x b.1
+      | inr b ↦ elim (at_choice b.1) [
+        | inl c ↦ zeros_fit sqe beside.x c.1
+        | inr c ↦ elim (at_choice c.1) [
+          | inl d ↦ absurd (passed_given beside.x d.1 none)
+          | inr d ↦ absurd (refused_given beside.x d.1 none)
+        ]
+      ]
     ] in
     subst EntryFits (sym (at_done beside.after).1) fits
 
@@ -199,9 +219,9 @@ pub record RingFits (descriptions : ℕ) (r : Ring) : Type 0 where
   pub buffers : length r.buffers ≤ buffers_limit
   pub held : All (λ n. n ≤ descriptions) r.slots
 
--- The bytes beside an entry that is submitted fit it.
+-- The bytes beside an entry that is submitted fit it, unless it is given.
 abbrev pub ActionFits : Action → Type 0
-ActionFits (submit e) = is_side_of e.sqe e.side ≡ true
+ActionFits (submit e) = SideFits e
 ActionFits (fills buffer offset bytes) = Unit {0}
 ActionFits (register slots) = Unit {0}
 

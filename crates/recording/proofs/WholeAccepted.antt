@@ -164,7 +164,7 @@ whole_accepted t h =
       descriptions = All-weaker (two.DescriptionFits t.items) (DescriptionFits (map item_of t.items)) (description_fits t.items) t.descriptions sound.descriptions;
       slots = rings_all (λ (r : Ring). All (λ n. n ≤ descriptions) r.slots) (λ (r : new_ring.Ring). All (λ n. n ≤ descriptions) r.slots) (λ n r all. all) 0 t.rings sound.slots;
       descriptors = sound.descriptors;
-      fits = λ k s e here action.
+      fits = λ k s e here action none.
           let f = step_from t k s here in
           spelled_fits t h k f.step e f.there (submitted_of f.step.action e (ap (λ (x : Step). x.action) f.is ∙ action));
       rings = λ k s here.

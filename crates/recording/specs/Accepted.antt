@@ -4,7 +4,7 @@ use Rattle.trace_format.specs.declared.entry.Entry.{Entry}
 use Rattle.trace_format.specs.declared.trace.Access.TheVariants as access
 use Rattle.trace_format.specs.declared.trace.Description.{Description}
 use Rattle.trace_format.specs.Limits.{file_limit}
-use Rattle.trace_format.specs.Sides.{is_side_of}
+use Rattle.trace_format.specs.Sides.{SideFits}
 use Rattle.trace_format.specs.Text as whole
 use Rattle.trace_format.specs.declared.trace.Trace as two
 use Rattle.trace_records.specs.declared.trace.Trace as three
@@ -53,8 +53,8 @@ pub record IsAccepted (t : Recording) : Type 0 where
   -- each slot of the start, and each descriptor, is 0 or the number of a description and 1
   pub slots : All (λ (r : Ring). All (λ n. n ≤ length t.descriptions) r.slots) t.rings
   pub descriptors : All (λ n. n ≤ length t.descriptions) t.descriptors
-  -- the bytes beside each entry fit it
-  pub fits : (k : ℕ) (s : Step) (e : Entry) → step_at t k ≡ Some s → s.action ≡ submit e → is_side_of e.sqe e.side ≡ true
+  -- the bytes beside each entry fit it, unless it is given
+  pub fits : (k : ℕ) (s : Step) (e : Entry) → step_at t k ≡ Some s → s.action ≡ submit e → SideFits e
   -- the ring of each step is there
   pub rings : (k : ℕ) (s : Step) → step_at t k ≡ Some s → s.ring < length t.rings
 

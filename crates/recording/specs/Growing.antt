@@ -2,11 +2,14 @@
 use Rattle.std.specs.Prelude.{ℕ, suc, ◌+◌, ◌-◌, ◌<◌, ◌≤◌, ◌^◌, List, [], ◌∷◌, ◌++◌, map, length, replicate, slice_set, Option, Some, None, true, false}
 use Rattle.std.specs.List.{slice_get}
 use Rattle.trace_format.specs.Submitted.{Submitted}
-use Rattle.trace_format.specs.declared.version.Version.TheVariants.{Two}
+use Rattle.trace_format.specs.declared.given.Given as outcome
+use Rattle.trace_format.specs.declared.version.Version.TheVariants.{Three}
 use Rattle.trace_records.specs.Front.{places_of}
 use Rattle.trace_records.specs.Records.{meant}
 use Rattle.trace_records.specs.declared.start.Descriptor.{Descriptor}
 use Rattle.trace_records.specs.declared.start.Start.{Start}
+use Rattle.trace_records.specs.declared.record.Beside.{Beside}
+use Rattle.trace_records.specs.declared.record.Beside.TheVariants.{Given}
 use Rattle.trace_records.specs.declared.record.Entry.{Entry}
 use Rattle.trace_records.specs.declared.record.Filling.{Filling}
 use Rattle.trace_records.specs.declared.record.Filling.TheVariants.{Stored, Zeros}
@@ -27,9 +30,14 @@ use Rattle.recording.specs.Limits.{places_limit}
 abbrev pub with_zeros : List ℕ → ℕ → List ℕ
 with_zeros front len = front ++ replicate (len - length front) 0
 
--- an entry with the bytes that it speaks of
+-- what is given of an entry
+abbrev pub given_in : Beside → Option outcome.Given
+given_in (Given given) = Some given
+given_in _ = None
+
+-- an entry with the bytes that it speaks of, and what is given of it
 abbrev pub submitted : Entry → Submitted
-submitted e = record { sqe = e.sqe; side = meant e.beside }
+submitted e = record { sqe = e.sqe; side = meant e.beside; given = given_in e.beside }
 
 abbrev pub filling_bytes : Filling → List ℕ
 filling_bytes (Stored bytes) = bytes
@@ -79,7 +87,7 @@ abbrev pub no_records : Grown
 no_records = record { rings = []; steps = [] }
 
 abbrev pub recorded : Start → Grown → Recording
-recorded s g = record { version = Two; in_place_order = true; items = s.items; descriptions = s.descriptions; descriptors = table_of s.table_size s.descriptors; rings = g.rings; steps = g.steps }
+recorded s g = record { version = Three; in_place_order = true; items = s.items; descriptions = s.descriptions; descriptors = table_of s.table_size s.descriptors; rings = g.rings; steps = g.steps }
 
 -- the recording of a start, before the first record
 abbrev pub of_start : Start → Recording

@@ -25,7 +25,8 @@ fn with_zeros(alloc: Global, front: &[u8], len: usize) -> Result<Vec<u8>, AllocE
     Ok(bytes)
 }
 
-/// The bytes beside an entry: those that are stored, or its lengths and zeros.
+/// Adds an entry with the bytes beside it, which are stored, or its lengths and zeros; or with what
+/// is given of it.
 fn push_entry(alloc: Global, entries: &mut EntriesBuilder, entry: &Entry) -> Result<(), AllocError>
     ensures { OnOk result (entries.new ≡ entries.old ++ meant.submitted entry.now ∷ []) }
 {
@@ -35,6 +36,7 @@ fn push_entry(alloc: Global, entries: &mut EntriesBuilder, entry: &Entry) -> Res
             let bytes = with_zeros(alloc, lengths.as_slice(), *len as usize)?;
             entries.push(&entry.sqe, bytes.as_slice())
         }
+        Beside::Given { given } => entries.push_given(&entry.sqe, *given),
     }
 }
 
@@ -178,7 +180,7 @@ impl Recording {
     {
         let descriptors = table_of(alloc, start.table_size, start.descriptors.as_slice())?;
         Ok(Recording {
-            version: Version::Two,
+            version: Version::Three,
             in_place_order: true,
             items: start.items,
             descriptions: start.descriptions,

@@ -1,8 +1,10 @@
 -- The model: the text of a trace of version 3, line by line. What it shares with other versions is in trace_text.
-use Rattle.std.specs.Prelude.{ℕ, ◌+◌, ◌-◌, ◌==◌, List, [], ◌∷◌, ◌++◌, codes, if◌then◌else◌, Option, None, Some}
+use Rattle.std.specs.Prelude.{ℕ, ◌+◌, ◌-◌, ◌==◌, true, false, List, [], ◌∷◌, ◌++◌, codes, if◌then◌else◌, Option, None, Some}
 use Rattle.std.specs.List.{flat_map}
-use Rattle.std.specs.Fmt.{decimal}
+use Rattle.std.specs.Fmt.{decimal, signed_decimal}
 use Rattle.sqe_codec.specs.declared.sqe.Sqe.{Sqe}
+use Rattle.trace_format.specs.declared.given.Given.{Given}
+use Rattle.trace_format.specs.declared.given.Given.TheVariants as given
 use Rattle.trace_format.specs.declared.trace.Description.{Description}
 use Rattle.trace_records.specs.declared.start.Range.{Range}
 use Rattle.trace_records.specs.declared.start.Node.{Node}
@@ -27,8 +29,8 @@ use Rattle.trace_records.specs.Front.{places_of}
 use Rattle.trace_records.specs.Start.{range_end}
 use Rattle.trace_records.specs.Tallies.{rings}
 use Rattle.text_forms.specs.Strings.{path_text}
-use Rattle.trace_text.specs.Fields.{unless, field, decimal_word}
-use Rattle.trace_text.specs.Entry.{data_text, default_len, entry_words, front_words, place_comment}
+use Rattle.trace_text.specs.Fields.{unless, field, decimal_word, later_words}
+use Rattle.trace_text.specs.Entry.{data_text, default_len, front_words, head_words, place_comment, words_of}
 use Rattle.trace_text.specs.Shown.{buffer_line, empty_slots, enter_line, fill_words, node_by, numbered, opened}
 use Rattle.trace_text.specs.declared.look.Look.{Look}
 
@@ -118,10 +120,21 @@ zeros_len e lengths len = if e.opcode == 23 then len else default_len e lengths
 abbrev pub zeros_words : Sqe → List ℕ → ℕ → List ℕ
 zeros_words e lengths len = front_words e lengths (zeros_len e lengths len) ++ zeros_word len ++ codes "\n"
 
+-- What is given of an entry.
+abbrev pub given_word : Given → List ℕ
+given_word (given.Passed result false) = field (codes "given") (signed_decimal result)
+given_word (given.Passed result true) = field (codes "failed") (signed_decimal result)
+given_word (given.Refused error) = field (codes "refused") (codes "-" ++ decimal error)
+
+-- The words of an entry that is given, which has nothing beside it.
+abbrev pub given_words : Sqe → Given → List ℕ
+given_words e g = head_words e ++ later_words e 0 ++ given_word g ++ codes "\n"
+
 -- The words of an entry.
 abbrev pub words_by : Look → Sqe → Beside → List ℕ
-words_by look e (beside.Stored bytes) = entry_words look (record { sqe = e; side = bytes })
+words_by look e (beside.Stored bytes) = words_of look e bytes
 words_by look e (beside.Zeros lengths len) = zeros_words e lengths len
+words_by look e (beside.Given g) = given_words e g
 
 unfoldable pub submitted_words : Look → Entry → List ℕ
 submitted_words look e = words_by look e.sqe e.beside

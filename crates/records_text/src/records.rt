@@ -4,17 +4,18 @@ ghost use Rattle.trace_records.specs.Front.{places_limit, places_of};
 ghost use Rattle.trace_records.specs.Tallies.{places, rings};
 ghost use Rattle.trace_text.specs.Shown.{numbered};
 ghost use Rattle.records_text.specs.Shown.{end_line, filling_words, record_lines, records_from};
-ghost use Rattle.records_text.specs.Shown.{submitted_line, submitted_words, zeros_len, zeros_word};
-ghost use Rattle.records_text.specs.Shown.{zeros_words};
+ghost use Rattle.records_text.specs.Shown.{given_word, given_words, submitted_line, submitted_words};
+ghost use Rattle.records_text.specs.Shown.{zeros_len, zeros_word, zeros_words};
 
 use crate::rings::push_ring;
 use sqe_codec::Sqe;
 use std::alloc::AllocError;
-use text_forms::{push_bytes, push_decimal};
+use text_forms::{push_bytes, push_decimal, push_signed};
+use trace_format::Given;
 use trace_records::{Beside, Entry, Filling, Record};
 use trace_text::{
-    Look, default_len, push_data, push_enter, push_fill, push_front, push_key, push_place,
-    push_words,
+    Look, default_len, push_data, push_enter, push_fill, push_front, push_head, push_key,
+    push_later, push_place, push_words,
 };
 
 /// How many zeros stand for bytes.
@@ -51,6 +52,33 @@ fn push_zeros_words(
     push_bytes(text, b"\n")
 }
 
+/// What is given of an entry.
+fn push_given(text: &mut Vec<u8>, given: Given) -> Result<(), AllocError>
+    ensures { OnOk result (text.new.items ≡ text.old.items ++ given_word given) }
+{
+    match given {
+        Given::Passed { result, fails } => {
+            push_key(text, if fails { b"failed" } else { b"given" })?;
+            push_signed(text, result)
+        }
+        Given::Refused { error } => {
+            push_key(text, b"refused")?;
+            push_bytes(text, b"-")?;
+            push_decimal(text, u64::from(error))
+        }
+    }
+}
+
+/// The words of an entry that is given.
+fn push_given_words(text: &mut Vec<u8>, sqe: &Sqe, given: Given) -> Result<(), AllocError>
+    ensures { OnOk result (text.new.items ≡ text.old.items ++ given_words sqe.now given) }
+{
+    push_head(text, sqe)?;
+    push_later(text, sqe, 0)?;
+    push_given(text, given)?;
+    push_bytes(text, b"\n")
+}
+
 /// The words of an entry.
 #[tactic(auto, unfolding(crate::specs::Shown::submitted_words))]
 pub(crate) fn push_submitted(
@@ -65,6 +93,7 @@ pub(crate) fn push_submitted(
         Beside::Zeros { lengths, len } => {
             push_zeros_words(text, &entry.sqe, lengths.as_slice(), *len)
         }
+        Beside::Given { given } => push_given_words(text, &entry.sqe, *given),
     }
 }
 

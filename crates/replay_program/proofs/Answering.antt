@@ -7,7 +7,7 @@ use Rattle.trace_format.specs.Grammar.{fault}
 use Rattle.trace_format.specs.declared.fault.Kind.TheVariants.{Memory}
 use Rattle.replay_program.specs.declared.fault.RunFault.{RunFault}
 use Rattle.replay_program.specs.declared.fault.RunFault.TheVariants.{Trace, Write}
-use Rattle.replay_program.specs.declared.words.Form.{Form}
+use Rattle.program_words.specs.declared.words.Form.{Form}
 use Rattle.replay_program.specs.Checks.{ReadsAnswer, TellsOfCheck, WritesAnswer, WritesAnswerPart}
 use Rattle.replay_program.specs.Forms.{written_as}
 use Rattle.replay_program.specs.Runs.{reads_failed, writes_failed}

@@ -3,10 +3,10 @@ use Rattle.std.proofs.Common.{◌≡◌, ℕ, ◌+◌, ◌<◌, ◌++◌, List, 
 use Rattle.std.specs.List.{concat}
 use Rattle.recording.specs.declared.recording.Recording.{Recording}
 use Rattle.json_lines.specs.Lines.{json_lines}
-use Rattle.replay_program.specs.declared.words.Form.{Form}
-use Rattle.replay_program.specs.declared.words.Mode.{Mode}
-use Rattle.replay_program.specs.declared.words.Mode.TheVariants.{Serial, Run, Compare, Rounds, Depends, Check}
-use Rattle.replay_program.specs.declared.words.Options.{Options}
+use Rattle.program_words.specs.declared.words.Form.{Form}
+use Rattle.program_words.specs.declared.words.Mode.{Mode}
+use Rattle.program_words.specs.declared.words.Mode.TheVariants.{Serial, Run, Compare, Rounds, Depends, Check}
+use Rattle.program_words.specs.declared.words.Options.{Options}
 use Rattle.replay_program.specs.Forms.{form_in, written_as}
 use Rattle.replay_program.specs.Runs.{IsAlone, IsModeOutput, IsNoComparison, IsOutputOf}
 use Rattle.replay_program.proofs.TransferLemmas.{concat_more}

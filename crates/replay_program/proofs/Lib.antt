@@ -1,4 +1,3 @@
-mod CommandLemmas
 mod FewPlaces
 mod AnyTraces
 mod Faults
@@ -8,14 +7,10 @@ mod SessionLemmas
 mod Comparison
 mod Differences
 mod ShownDifferences
-mod NumberWords
-mod OptionWalk
 mod JsonPieces
-mod JsonWords
 mod InTurn
 mod Outputs
 mod Taking
 mod TextWrites
-mod RoundWords
 mod Verdicts
-mod WordsLemmas
+mod StreamedReports

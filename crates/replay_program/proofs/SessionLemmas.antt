@@ -14,9 +14,9 @@ use Rattle.replay_core.specs.declared.difference.Verdict.{Verdict}
 use Rattle.replay_core.specs.declared.difference.Verdict.TheVariants as verdict
 use Rattle.replay_program.specs.Runs.{ReadsTrace, WritesPart, sequential_report, verdict_line}
 use Rattle.byte_transfer.specs.Transfer.{AppendsPart}
-use Rattle.replay_program.specs.declared.words.Form.{Form}
-use Rattle.replay_program.specs.declared.words.Options.{Options}
-use Rattle.replay_program.specs.declared.words.Mode.TheVariants.{Compare}
+use Rattle.program_words.specs.declared.words.Form.{Form}
+use Rattle.program_words.specs.declared.words.Options.{Options}
+use Rattle.program_words.specs.declared.words.Mode.TheVariants.{Compare}
 
 -- a place has one reply
 one_reply : (t : Recording) (k : ℕ) (s : World) (x : Step) → step_at t k ≡ Some x → length (each (λ (reply : Reply). reply ∷ []) (step_reply t k s)) ≡ 1

@@ -17,7 +17,7 @@ use Rattle.replay_program.specs.Runs.{ReadsNoTrace}
 use Rattle.byte_transfer.specs.Transfer.{AppendsPart}
 use Rattle.replay_program.specs.declared.fault.RunFault.{RunFault}
 use Rattle.replay_program.specs.declared.fault.RunFault.TheVariants.{Trace, Replay, Reports, Read, Write, Different}
-use Rattle.replay_program.specs.declared.words.Form.{Form}
+use Rattle.program_words.specs.declared.words.Form.{Form}
 
 -- The answer: how many places and rings a trace has.
 abbrev pub ok_line : ℕ → ℕ → List ℕ

@@ -1,10 +1,10 @@
 -- The model: an output in the form that is asked for.
 use Rattle.std.specs.Prelude.{ℕ, List}
 use Rattle.json_lines.specs.Lines.{json_lines}
-use Rattle.replay_program.specs.declared.words.Form.{Form}
-use Rattle.replay_program.specs.declared.words.Form.TheVariants.{Text, Json}
-use Rattle.replay_program.specs.declared.words.Mode.{Mode}
-use Rattle.replay_program.specs.declared.words.Mode.TheVariants.{Compare}
+use Rattle.program_words.specs.declared.words.Form.{Form}
+use Rattle.program_words.specs.declared.words.Form.TheVariants.{Text, Json}
+use Rattle.program_words.specs.declared.words.Mode.{Mode}
+use Rattle.program_words.specs.declared.words.Mode.TheVariants.{Compare}
 
 -- A text: as it is, or each of its lines as an object.
 abbrev pub written_as : Form → List ℕ → List ℕ

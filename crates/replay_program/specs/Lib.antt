@@ -2,12 +2,11 @@ pub mod AnyTraces
 pub mod Checks
 pub mod Diffs
 pub mod Forms
-pub mod Limits
 pub mod Makes
 pub mod Recordings
 pub mod Runs
 pub mod ShownDiffs
 pub mod Shows
 pub mod Status
+pub mod Streaming
 pub mod Taking
-pub mod Words

@@ -14,9 +14,9 @@ use Rattle.replay_core.specs.declared.difference.Verdict.{Verdict}
 use Rattle.replay_core.specs.declared.difference.Verdict.TheVariants as verdict
 use Rattle.replay_program.specs.declared.fault.RunFault.{RunFault}
 use Rattle.replay_program.specs.declared.fault.RunFault.TheVariants.{Trace, Replay, Reports, Read, Write, Different}
-use Rattle.replay_program.specs.declared.words.Options.{Options}
-use Rattle.replay_program.specs.declared.words.Mode.{Mode}
-use Rattle.replay_program.specs.declared.words.Mode.TheVariants.{Serial, Run, Compare, Rounds, Depends, Check}
+use Rattle.program_words.specs.declared.words.Options.{Options}
+use Rattle.program_words.specs.declared.words.Mode.{Mode}
+use Rattle.program_words.specs.declared.words.Mode.TheVariants.{Serial, Run, Compare, Rounds, Depends, Check}
 use Rattle.replay_report.specs.Report.{check_line, line, report_of}
 use Rattle.replay_report.specs.declared.showing.Shown.{Shown}
 use Rattle.round_report.specs.Rounds.{graph_text, log_of, rounds_text}
@@ -24,7 +24,7 @@ use Rattle.depend_report.specs.Whole.{IsTextOf}
 use Rattle.replay_program.specs.Forms.{form_in, written_as}
 use Rattle.replay_program.specs.Recordings.{has_version_3, SpellsRecording, IsEnough, IsFaultOf}
 use Rattle.byte_transfer.specs.Transfer.{AppendsPart}
-use Rattle.replay_program.specs.declared.words.Form.{Form}
+use Rattle.program_words.specs.declared.words.Form.{Form}
 
 -- The report of the sequential run of a trace.
 abbrev pub sequential_report : Recording → Shown → List ℕ

@@ -10,9 +10,9 @@ use Rattle.replay_program.specs.declared.fault.ReportsFault.TheVariants as repor
 use Rattle.replay_program.specs.declared.ending.Ending.{Ending}
 use Rattle.replay_program.specs.declared.ending.Stream.{Stream}
 use Rattle.replay_program.specs.declared.ending.Stream.TheVariants.{Output, Errors}
-use Rattle.replay_program.specs.declared.words.Usage.{Usage}
-use Rattle.replay_program.specs.declared.words.UsageKind.{UsageKind}
-use Rattle.replay_program.specs.declared.words.UsageKind.TheVariants as usage
+use Rattle.program_words.specs.declared.words.Usage.{Usage}
+use Rattle.program_words.specs.declared.words.UsageKind.{UsageKind}
+use Rattle.program_words.specs.declared.words.UsageKind.TheVariants as usage
 use Rattle.replay_core.specs.declared.serial.ReplayFault.{ReplayFault}
 use Rattle.replay_core.specs.declared.serial.ReplayFault.TheVariants as replay_fault
 use Rattle.report_diff.specs.Refusals.{refusal_text}

@@ -8,7 +8,10 @@ use Rattle.trace_format.specs.declared.fault.Kind.TheVariants.{Memory}
 use Rattle.trace_stream.specs.Streams.{Tells}
 use Rattle.trace_stream.specs.declared.fault.StreamFault.{StreamFault}
 use Rattle.trace_stream.specs.declared.fault.StreamFault.TheVariants as stream_fault
-use Rattle.replay_program.specs.Recordings.{has_version_3}
+use Rattle.recording.specs.declared.recording.Recording.{Recording}
+use Rattle.replay_report.specs.declared.showing.Shown.{Shown}
+use Rattle.replay_program.specs.Recordings.{SpellsRecording, has_version_3}
+use Rattle.replay_program.specs.Runs.{ReplayWantsMemoryOrThread, sequential_report}
 use Rattle.replay_program.specs.declared.fault.RunFault.{RunFault}
 use Rattle.replay_program.specs.declared.fault.RunFault.TheVariants.{Trace, Read}
 use Rattle.replay_program.specs.declared.recordings.Taken.{Taken}
@@ -31,3 +34,12 @@ told_of stream_fault.Read = Read
 -- The program tells a fault of a stream, whose first bytes were read ahead.
 abbrev pub TellsOfStream : List ℕ → Option (List ℕ) → Option (List ℕ) → RunFault → Type 0
 TellsOfStream ahead left left' f = (e : StreamFault) × Tells ahead left left' e × (f ≡ told_of e)
+
+-- The report of a text of version 1 or 2.
+abbrev pub IsReportOf : List ℕ → Shown → List ℕ → Type 0
+IsReportOf text shown report = (t : Recording) × (length text ≤ longest) × SpellsRecording false text t × (report ≡ sequential_report t shown)
+
+-- The program tells a fault of the text, or that memory ran out or a thread was refused behind it.
+abbrev pub TellsOfReport : List ℕ → RunFault → Type 0
+TellsOfReport text f =
+    TellsOfText text f ⊎ (ReplayWantsMemoryOrThread f × ((t : Recording) × (length text ≤ longest) × SpellsRecording false text t))

@@ -12,8 +12,8 @@ ghost use Rattle.byte_transfer.specs.Transfer.{ConsumesUpTo};
 use crate::fault::{ReportsFault, RunFault};
 use crate::forms::text_as;
 use crate::session::written;
-use crate::words::Form;
 use byte_transfer::{MOST_BYTES, Sink, Source, TextFault, read_text};
+use program_words::Form;
 use report_diff::{Comparison, DiffFault, compare, compare_two};
 use std::alloc::{AllocError, Global};
 

@@ -3,7 +3,7 @@ ghost use Rattle.std.specs.Prelude.{◌≡◌};
 ghost use Rattle.replay_program.specs.Status.{fault_ending, usage_ending, usage_text};
 
 use crate::fault::RunFault;
-use crate::words::{Usage, UsageKind};
+use program_words::{Usage, UsageKind};
 
 /// A stream of the program's.
 #[derive(Clone, Copy, Debug, PartialEq, Eq)]

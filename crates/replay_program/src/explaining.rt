@@ -13,8 +13,8 @@ use crate::any_trace::{AnyTrace, taken_any};
 use crate::differing::{comparison_of_two, taken_comparison};
 use crate::fault::{ReportsFault, RunFault};
 use crate::session::written;
-use crate::words::Form;
 use byte_transfer::{Sink, Source};
+use program_words::Form;
 use report_diff::Comparison;
 use std::alloc::{AllocError, Global};
 

@@ -4,8 +4,8 @@ ghost use Rattle.json_lines.specs.Lines.{json_lines};
 ghost use Rattle.replay_program.specs.Forms.{written_as};
 
 use crate::fault::RunFault;
-use crate::words::Form;
 use json_lines::{JsonLines, json_of};
+use program_words::Form;
 use replay_core::ReplayFault;
 use replay_report::Pieces;
 use std::alloc::{AllocError, Global};

@@ -14,7 +14,7 @@ mod making;
 mod recordings;
 mod session;
 mod showing;
-mod words;
+mod streaming;
 
 pub use any_trace::AnyTrace;
 pub use byte_transfer::{
@@ -26,8 +26,9 @@ pub use ending::{Ending, Stream, fault_ending, usage_ending, usage_text};
 pub use explaining::{run_diff_of_two_shown, run_diff_shown};
 pub use fault::{ReportsFault, RunFault};
 pub use making::{MakingFault, run_make};
-pub use session::{run, run_alone, told};
-pub use showing::run_show;
-pub use words::{
+pub use program_words::{
     Files, Form, Mode, Options, Request, Task, Usage, UsageKind, no_memory, not_text, read_words,
 };
+pub use session::{run, run_alone, told};
+pub use showing::run_show;
+pub use streaming::run_report;

@@ -105,7 +105,7 @@ pub(crate) fn taken_recording<R: Source>(
 
 /// The recording of a text of version 1 or 2.
 #[tactic(auto, using(recording::proofs::WholeAccepted::whole_accepted))]
-fn recording_of_whole(alloc: Global, text: Vec<u8>) -> Result<Box<Recording>, RunFault>
+pub(crate) fn recording_of_whole(alloc: Global, text: Vec<u8>) -> Result<Box<Recording>, RunFault>
     ensures ok { IfOk result (λ t. (length text.items ≤ longest)
         × SpellsRecording false text.items t.value) }
     ensures accepted { IfOk result (λ t. IsAccepted t.value) }

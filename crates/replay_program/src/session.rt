@@ -17,15 +17,15 @@ ghost use Rattle.replay_program.specs.Runs.{IsOutputOf, WritesOutput, WritesPart
 ghost use Rattle.replay_program.specs.Runs.{read_failures, rounds_output, sequential_report};
 ghost use Rattle.replay_program.specs.Runs.{verdict_line, write_failures};
 ghost use Rattle.byte_transfer.specs.Transfer.{AppendsPart};
-ghost use Rattle.replay_program.specs.Limits.{IsServed, IsWindow};
+ghost use Rattle.program_words.specs.Limits.{IsServed, IsWindow};
 
 use crate::fault::RunFault;
 use crate::forms::pieces_as;
 use crate::in_turn::serial_report;
 use crate::recordings::taken_recording;
-use crate::words::{Form, Mode, Options};
 use byte_transfer::{Sink, Source, write_text};
 use depend_report::{depends_graph, depends_text};
+use program_words::{Form, Mode, Options};
 use recording::Recording;
 use replay_core::parallel::replay;
 use replay_core::quick::replay_quick;
@@ -129,7 +129,7 @@ fn output_in_rounds<T: Threads + Wait + Sync>(
 }
 
 /// The text of any mode but a comparison.
-fn text_in_rounds<T: Threads + Wait + Sync>(
+pub(crate) fn text_in_rounds<T: Threads + Wait + Sync>(
     rt: &T,
     alloc: Global,
     trace: &Recording,
@@ -388,7 +388,7 @@ fn in_one_piece(alloc: Global, text: Vec<u8>) -> Result<Pieces, ReplayFault>
 }
 
 /// Writes the whole output, piece by piece.
-fn written_pieces<W: Sink>(writer: &mut W, output: &Pieces) -> Result<(), RunFault>
+pub(crate) fn written_pieces<W: Sink>(writer: &mut W, output: &Pieces) -> Result<(), RunFault>
     requires { W.failures writer.old < 2 ^ 64 - 1 }
     ensures ok { OnOk result (Appends (W.written writer.old) (W.written writer.new) output.now) }
     ensures part { OnErr result (AppendsPart (W.written writer.old) (W.written writer.new) output.now) }

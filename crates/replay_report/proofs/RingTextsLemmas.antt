@@ -16,7 +16,7 @@ use Rattle.op_meaning.specs.declared.reply.Reply.{Reply}
 use Rattle.world_parts.specs.World.{World}
 use Rattle.replay_report.specs.declared.showing.Lines.{Lines}
 use Rattle.replay_report.specs.declared.showing.Shown.{Shown}
-use Rattle.replay_report.specs.Report.{action_line, entry_head, entry_outcome, heading, line, lines_of, list_count, list_lines, list_of, names_text, report_of, step_line, title, world_lines}
+use Rattle.replay_report.specs.Report.{action_line, entry_head, entry_outcome, given_fact, heading, line, lines_of, list_count, list_lines, list_of, names_text, report_of, step_line, title, world_lines}
 use Rattle.replay_report.specs.RingTexts.{line_in, text_below, texts_below, submits, with_line, IsShown}
 use Rattle.replay_report.proofs.ReportLemmas.{entry_outcome_shown, range_grown}
 
@@ -88,7 +88,7 @@ texts_walked t reply lines n rings step r texts stands answers so_far = elim (ca
 -- What is shown of a reply makes the line of the reply.
 pub line_shown : (lines : Lines) (place ring : ℕ) (action : Action) (answer reply : Reply) → IsShown answer reply → action_line lines place ring action answer ≡ action_line lines place ring action reply
 line_shown lines place ring (submit entry) answer reply shown =
-    rw (shown.res) (ap (λ text. line (entry_head lines.in_order place ring entry.sqe.user_data reply.res ++ text ++ names_text lines.names entry.sqe.opcode reply.res))
+    rw (shown.res) (ap (λ text. line (entry_head lines.in_order place ring entry.sqe.user_data reply.res ++ text ++ names_text lines.names entry.sqe.opcode reply.res ++ given_fact entry.given))
     (ap (λ posted. entry_outcome posted answer.bytes) shown.posted ∙ entry_outcome_shown reply.posted answer.bytes reply.bytes shown.bytes))
 line_shown lines place ring (fill buffer offset bytes) answer reply shown = refl
 line_shown lines place ring (register slots) answer reply shown = refl

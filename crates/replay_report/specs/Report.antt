@@ -6,6 +6,8 @@ use Rattle.std.specs.Fmt.{decimal, signed_decimal}
 use Rattle.hex.specs.Hex.{encode_lower}
 use Rattle.sha2.specs.Sha256.{sha256}
 use Rattle.sqe_codec.specs.Answers.{each}
+use Rattle.trace_format.specs.Submitted.{Submitted}
+use Rattle.trace_format.specs.declared.given.Given.{Given}
 use Rattle.recording.specs.declared.recording.Recording.{Recording}
 use Rattle.recording.specs.declared.recording.Ring.{Ring}
 use Rattle.recording.specs.Steps.{Step, Action, submit, fill, register, places, step_at}
@@ -68,14 +70,19 @@ abbrev pub names_text : Bool → ℕ → ℤ → List ℕ
 names_text false opcode res = []
 names_text true opcode res = named_fact (codes " name=") (opcode_name opcode) ++ error_text res
 
+-- That the trace gives the result of an entry.
+abbrev pub given_fact : Option Given → List ℕ
+given_fact None = []
+given_fact (Some given) = codes " given=1"
+
 -- The line of an entry.
-abbrev pub entry_line : Lines → ℕ → ℕ → ℕ → ℕ → Reply → List ℕ
-entry_line lines place ring user_data opcode reply =
-    line (entry_head lines.in_order place ring user_data reply.res ++ entry_outcome reply.posted reply.bytes ++ names_text lines.names opcode reply.res)
+abbrev pub entry_line : Lines → ℕ → ℕ → Submitted → Reply → List ℕ
+entry_line lines place ring entry reply =
+    line (entry_head lines.in_order place ring entry.sqe.user_data reply.res ++ entry_outcome reply.posted reply.bytes ++ names_text lines.names entry.sqe.opcode reply.res ++ given_fact entry.given)
 
 -- The line of what a step of a ring does: a fill of a buffer and a new ring have none.
 abbrev pub action_line : Lines → ℕ → ℕ → Action → Reply → List ℕ
-action_line lines place ring (submit entry) reply = entry_line lines place ring entry.sqe.user_data entry.sqe.opcode reply
+action_line lines place ring (submit entry) reply = entry_line lines place ring entry reply
 action_line lines place ring (fill buffer offset bytes) reply = []
 action_line lines place ring (register slots) reply = []
 

@@ -1,6 +1,7 @@
 //! The line of an entry.
 ghost use Rattle.std.specs.Prelude.{◌≡◌, ◌++◌, OnOk};
-ghost use Rattle.replay_report.specs.Report.{entry_line, error_text, named_fact, names_text};
+ghost use Rattle.replay_report.specs.Report.{entry_line, error_text, given_fact};
+ghost use Rattle.replay_report.specs.Report.{named_fact, names_text};
 
 use crate::answer::Answer;
 use crate::entry_line::{Head, push_facts};
@@ -8,7 +9,7 @@ use crate::names::errno_name;
 use crate::showing::Lines;
 use std::alloc::AllocError;
 use text_forms::opcode_name;
-use trace_format::Entry;
+use trace_format::{Entry, Given};
 
 /// Puts the line of an entry behind a text.
 #[inline(always)]
@@ -21,7 +22,7 @@ pub(crate) fn push_entry(
     lines: Lines,
 ) -> Result<(), AllocError>
     ensures { OnOk result (text.new.items ≡ text.old.items
-        ++ entry_line lines place ring entry.now.sqe.user_data entry.now.sqe.opcode answer.now) }
+        ++ entry_line lines place ring entry.now answer.now) }
 {
     let sqe = entry.sqe();
     let head = Head {
@@ -32,8 +33,19 @@ pub(crate) fn push_entry(
     };
     push_facts(text, head, answer.posted, answer.front)?;
     push_names(text, sqe.opcode, answer.res, lines.names)?;
+    push_given(text, entry.given())?;
     text.push(b'\n')?;
     Ok(())
+}
+
+/// That the trace gives the result of an entry, where it does.
+fn push_given(text: &mut Vec<u8>, given: Option<Given>) -> Result<(), AllocError>
+    ensures { OnOk result (text.new.items ≡ text.old.items ++ given_fact given) }
+{
+    match given {
+        None => Ok(()),
+        Some(_) => text.extend_from_slice(b" given=1"),
+    }
 }
 
 /// The names of the operation of an entry and of its error, where names are asked for.

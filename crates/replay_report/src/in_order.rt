@@ -5,10 +5,11 @@ ghost use Rattle.replay_report.specs.InOrder.{LinesAreShown, ReportsInOrder, las
 
 use crate::answer::Answer;
 use crate::entries::push_entry;
-use crate::report::world_alone;
+use crate::report::{world_alone, world_on};
 use crate::showing::{Lines, Shown};
 use recording::{Action, Recording, Step};
 use std::alloc::{AllocError, Global};
+use std::thread::Threads;
 use world_parts::State;
 
 /// Puts the line of a place that has run behind a text, if it submitted an entry.
@@ -38,20 +39,28 @@ pub fn push_line(
     }
 }
 
-/// What a report shows behind the lines of entries: the world at the end, and the last line.
+/// What a report shows behind the lines of entries: the world at the end, and the last line. Sums
+/// are made on up to so many threads. A thread that is refused only makes it take longer.
 ///
 /// # Errors
 ///
 /// Out of memory.
-pub fn last_lines(
+pub fn last_lines<R: Threads + Sync>(
+    rt: &R,
     alloc: Global,
     trace: &Recording,
     state: &State,
     shown: Shown,
+    workers: u32,
 ) -> Result<Vec<u8>, AllocError>
     ensures { IfOk result (λ text. text.items ≡ last_lines trace.now state.now shown) }
 {
-    world_alone(alloc, trace.rings.as_slice(), state, shown.sums)
+    let rings = trace.rings.as_slice();
+    if workers > 1 {
+        world_on(rt, alloc, rings, state, shown.sums, workers)
+    } else {
+        world_alone(alloc, rings, state, shown.sums)
+    }
 }
 
 /// A report in place order is its first line, the lines of all places, and the last ones. What is

@@ -93,7 +93,7 @@ pub fn report_of_texts(
 }
 
 /// What a report shows of the world, whose sums are made on up to so many threads.
-fn world_on<R: Threads + Sync>(
+pub(crate) fn world_on<R: Threads + Sync>(
     rt: &R,
     alloc: Global,
     rings: &[Ring],

@@ -1,5 +1,5 @@
 //! What the program does with its words, and with what it reads.
-ghost use Rattle.replay_program.specs.Limits.{IsServed};
+ghost use Rattle.program_words.specs.Limits.{IsServed};
 
 use crate::examples::{NEIGHBOURING_WRITES_DO_NOT_COLLIDE, READ_FOUR_BYTES};
 use replay_core::{ReplayFault, Verdict};

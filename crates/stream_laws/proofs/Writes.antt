@@ -7,7 +7,7 @@ use Rattle.sqe_codec.specs.declared.errno.Errno.TheVariants.{EPERM, ENOENT, EBAD
 use Rattle.sqe_codec.specs.Answers.{◌>>◌, require}
 use Rattle.trace_format.specs.Sides.{most_moved}
 use Rattle.recording.specs.declared.recording.Recording.{Recording}
-use Rattle.entry_checks.specs.Operation.{Operation, nop, readv, writev, fsync, read_fixed, write_fixed, fallocate, openat, close, read, write, renameat, unlinkat, mkdirat, linkat, ftruncate, File, in_slot, at_descriptor, Span, Path, OpenFlags, file_limit, at_position}
+use Rattle.entry_checks.specs.Operation.{Operation, nop, readv, writev, fsync, read_fixed, write_fixed, fallocate, openat, close, read, write, renameat, unlinkat, mkdirat, linkat, ftruncate, sync_file_range, fadvise, given, File, in_slot, at_descriptor, Span, Path, OpenFlags, file_limit, at_position}
 use Rattle.file_tree.specs.Tree.{Target}
 use Rattle.file_tree.specs.Walk.{Place, walk, is_directory}
 use Rattle.world_parts.specs.World.{World, Change, set_name, make_node, set_slot, set_descriptor, make_description, set_position, set_size, write_bytes, zero_bytes, write_buffer, break_chain, slot}
@@ -174,6 +174,9 @@ module _ (r : ℕ) where
   stays t k s (mkdirat p) = making t k s p
   stays t k s (linkat old new) = linking s old new
   stays t k s (ftruncate f n) = resizing (handle (sited t k r) s f) n
+  stays t k s (sync_file_range f o n flags) = after Stays (require (is_some (held (sited t k r) s f)) EBADF) _ (after Stays (require (leb flags 7) EINVAL) _ (after Stays (require (ltb (o + n) (2 ^ 63)) EINVAL) _ tt))
+  stays t k s (fadvise f n advice) = after Stays (require (is_some (held (sited t k r) s f)) EBADF) _ (after Stays (require (ltb n (2 ^ 63)) EINVAL) _ (after Stays (require (leb advice 5) EINVAL) _ tt))
+  stays t k s (given q fails) = tt
 
   pub changes_in_ring : (t : Recording) (k : ℕ) (s : World) (o : Operation) → AllIn r (changes_of (meaning (sited t k r) s o))
   changes_in_ring t k s o = by (meaning (sited t k r) s o) (stays t k s o)

@@ -14,7 +14,7 @@ use Rattle.trace_format.specs.Submitted.{Submitted}
 use Rattle.trace_text.specs.declared.look.Look.{Look}
 use Rattle.trace_text.specs.Names.{entry_flags, opcode_text}
 use Rattle.trace_text.specs.Fields.{addr_word, address_word, decimal_word, descriptor_text, fd_key, fd_word, later_words, len_key, len_text, len_word, off_key, off_text, off_word, op_flags_word, plain_words, user_word}
-use Rattle.trace_text.specs.Entry.{data_of, data_text, entry_line, entry_words, has_path, has_paths, side_words, vector_count, default_len as shown_len}
+use Rattle.trace_text.specs.Entry.{data_of, data_text, entry_line, entry_words, words_of, has_path, has_paths, side_words, vector_count, default_len as shown_len}
 use Rattle.text_words.specs.declared.numbers.Style.TheVariants.{Plain}
 use Rattle.text_words.specs.Read.{Rest}
 use Rattle.text_words.specs.Words.{behind_blanks, behind_lines, behind_word, line_end, word_at}
@@ -417,7 +417,7 @@ unfolding behind_lines
 two_blanks text = refl
 
 pub entry_comes_back : EntryComesBack
-unfolding entry_words
+unfolding words_of
 entry_comes_back look e behind room h is all le lt =
     let s = e.sqe in
     let side = e.side in
@@ -438,7 +438,7 @@ entry_comes_back look e behind room h is all le lt =
     }
 
 pub entry_line_comes_back : EntryLineComesBack
-unfolding entry_line entry_words
+unfolding entry_line words_of
 entry_line_comes_back look place e behind room h small is all le lt =
     let read = entry_comes_back look e behind room h is all le lt in
     let words = entry_words look e ++ behind in

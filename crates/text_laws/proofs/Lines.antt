@@ -5,7 +5,7 @@ use Rattle.std.specs.Fmt.{decimal}
 use Rattle.std.proofs.lemmas.Fmt.{decimal_digit}
 use Rattle.text_forms.specs.Numbers.{hexadecimal}
 use Rattle.trace_format.specs.declared.version.Version.{Version}
-use Rattle.trace_format.specs.declared.version.Version.TheVariants.{One, Two}
+use Rattle.trace_format.specs.declared.version.Version.TheVariants.{One, Two, Three}
 use Rattle.trace_format.specs.declared.trace.Buffer.{Buffer}
 use Rattle.trace_format.specs.Versions.{rules}
 use Rattle.trace_text.specs.Shown.{buffer_line}
@@ -26,10 +26,11 @@ version_read version digits more room w named =
       end_is more room,
     ) refl
 
-pub version_comes : (version : Version) (more : List ℕ) (room : ℕ)
+pub version_comes : (version : Version) → (version ≡ Three → ⊥) → (more : List ℕ) (room : ℕ)
     → version_of (rest (codes "uring-trace " ++ decimal (rules version).number ++ 10 ∷ more) room) ≡ Ok (version, rest more room)
-version_comes One more room = rw (decimal_digit 1 (omega arith)) (version_read One (49 ∷ []) more room refl refl)
-version_comes Two more room = rw (decimal_digit 2 (omega arith)) (version_read Two (50 ∷ []) more room refl refl)
+version_comes One other more room = rw (decimal_digit 1 (omega arith)) (version_read One (49 ∷ []) more room refl refl)
+version_comes Two other more room = rw (decimal_digit 2 (omega arith)) (version_read Two (50 ∷ []) more room refl refl)
+version_comes Three other more room = absurd (other refl)
 
 abbrev pub buffer_flat : ℕ → Buffer → List ℕ → List ℕ
 buffer_flat n b more = codes "  buffer" ++ (32 ∷ decimal n ++ (32 ∷ hexadecimal b.address ++ (32 ∷ decimal b.len ++ (10 ∷ more))))

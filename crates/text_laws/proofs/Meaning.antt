@@ -7,7 +7,7 @@ use Rattle.std.specs.Fmt.{decimal}
 use Rattle.sqe_codec.specs.Fields.{IsBytes}
 use Rattle.trace_format.specs.declared.trace.Trace.{Trace}
 use Rattle.trace_format.specs.declared.version.Version.{Version}
-use Rattle.trace_format.specs.declared.version.Version.TheVariants.{One, Two}
+use Rattle.trace_format.specs.declared.version.Version.TheVariants.{One, Two, Three}
 use Rattle.trace_format.specs.Read.{reading_trace}
 use Rattle.trace_format.specs.Spelling.{trace_bytes}
 use Rattle.trace_format.specs.Text.{SpellsTrace}
@@ -36,6 +36,7 @@ pub record TraceShown (t : Trace) : Type 0 where
   pub items : Each (ItemShown t.items) [] t.items
   pub descriptions : Each (DescriptionShown (number_of t.items) t.items) [] t.descriptions
   pub descriptors : SlotsFit t.descriptors
+  pub version : t.version ≡ Three → ⊥
   pub no_table : t.version ≡ One → t.descriptors ≡ []
   pub rings : Each RingFits [] t.rings
   pub records : Each RecordShown [] t.records
@@ -100,6 +101,7 @@ table_comes : (v : Version) (slots marks more : List ℕ) (room : ℕ) → Slots
 unfolding descriptors_of
 table_comes One slots marks more room fits none ends = rw (none refl) (record { marks = marks; is = refl })
 table_comes Two slots marks more room fits none ends = slots_of_table slots marks more room fits ends
+table_comes Three slots marks more room fits none ends = slots_of_table slots marks more room fits ends
 
 record TraceCame (read : Result (Trace × List ℕ) Fault) (t : Trace) : Type 0 where
   marks : List ℕ
@@ -133,7 +135,7 @@ trace_came look t all shown =
     (at_end (λ w. step_of w ≡ None) refl) in
     record {
       marks = x.marks;
-      is = rw (text_is look t, version_comes t.version (items_text look t) (2 ^ 30), items, d.is, s.is, r.is, x.is, end_of_text behind) refl;
+      is = rw (text_is look t, version_comes t.version shown.version (items_text look t) (2 ^ 30), items, d.is, s.is, r.is, x.is, end_of_text behind) refl;
     }
 
 pub meant : (look : Look) (bytes : List ℕ) (t : Trace) → look.first ≡ None → TraceShown t → IsBytes bytes → SpellsTrace bytes t

@@ -1,5 +1,5 @@
 -- What is asked of a trace holds of each that bytes spell.
-use Rattle.std.proofs.Common.{◌≡◌, ℕ, zero, suc, ◌+◌, ◌*◌, ◌<◌, ◌≤◌, ◌^◌, true, false, ltb, List, [], ◌∷◌, ◌++◌, length, inl, inr, refl, sym, ap, subst, ◌∙◌, append_assoc, append-nil, arith}
+use Rattle.std.proofs.Common.{◌≡◌, ℕ, zero, suc, ◌+◌, ◌*◌, ◌<◌, ◌≤◌, ◌^◌, true, false, ltb, List, [], ◌∷◌, ◌++◌, length, Some, inl, inr, refl, sym, ap, subst, ◌∙◌, append_assoc, append-nil, arith}
 use Rattle.std.proofs.lemmas.Bool.{cases_Bool, and_from, leb-true, ltb-true, lt-ltb, not-true}
 use Rattle.std.proofs.lemmas.List.{length-append, length-drop, nil_from_length}
 use Rattle.std.proofs.lemmas.List.Elements.{All-head, All-tail}
@@ -19,13 +19,13 @@ use Rattle.trace_format.specs.declared.trace.Record.TheVariants.{Enter, Fill}
 use Rattle.trace_format.specs.declared.trace.Trace.{Trace}
 use Rattle.trace_format.specs.declared.trace.Node.TheVariants.{Directory, File, OtherName}
 use Rattle.trace_format.specs.declared.version.Version.{Version}
-use Rattle.trace_format.specs.declared.version.Version.TheVariants.{One, Two}
+use Rattle.trace_format.specs.declared.version.Version.TheVariants.{One, Two, Three}
 use Rattle.trace_format.specs.Counts.{places_in, places_limit}
 use Rattle.trace_format.specs.Grammar.{Grammar, Bytes, number, number_to, several}
 use Rattle.trace_format.specs.Paths.{is_path, has_name}
 use Rattle.trace_format.specs.Spelling.{description_bytes, entry_text, header_bytes, item_bytes, kind_of, node_bytes, record_bytes, ring_bytes, slot_bytes, trace_bytes}
 use Rattle.trace_format.specs.Text.{Counts, longest, SpellsTrace, buffer, description, enter, entry, file, fill, header, item, new_path, node, one_record, other_name, ring, slot}
-use Rattle.trace_format.specs.Versions.{rules}
+use Rattle.trace_format.specs.Versions.{rules, version_of}
 use Rattle.trace_format.proofs.Apart.{keeps_bytes, Own, apart, at_place, at_test, test_passed, at_done, at_choice, within_limit, each, length-several}
 use Rattle.trace_format.proofs.Facts.{trace_parts}
 use Rattle.trace_format.proofs.OneSpelling.{one_spelling}
@@ -247,7 +247,7 @@ entry_read e o =
     let sqe = apart keeps_bytes o in
     let len = apart keeps_bytes (at_place sqe.after) in
     let side = apart keeps_bytes len.after in
-    subst EntryFits (sym (at_done (at_test side.after)).1) (fields_fit sqe.x (own_bytes sqe.own), own_bytes side.own)
+    subst EntryFits (sym (at_done (at_test side.after)).1) (fields_fit sqe.x (own_bytes sqe.own), own_bytes side.own, refl)
 
 enter_read : (rings used : ℕ) (r : Record) → Own IsBytes (enter rings used) r → RecordFits used r
 unfolding enter
@@ -293,11 +293,18 @@ record_read rings earlier r few o =
 -- ---- counts
 
 record CountsRead (c : Counts) : Type 0 where
+  version : c.version ≡ Three → ⊥
   items : c.items ≤ 65535
   descriptions : c.descriptions ≤ 65535
   rings : c.rings ≤ 64
   records : c.records ≤ 1048576
   descriptors : c.descriptors ≤ (rules c.version).most_descriptors
+
+-- no number names version 3
+not_three : (n : ℕ) (v : Version) → version_of n ≡ Some v → v ≡ Three → ⊥
+not_three n One named three = absurd (cc)
+not_three n Two named three = absurd (cc)
+not_three n Three named three = absurd (grind (arith, named))
 
 counts_read : (c : Counts) → Own IsBytes header c → CountsRead c
 unfolding header
@@ -318,6 +325,7 @@ counts_read c o =
       records = records.x;
       descriptors = descriptors.x;
     }) = record {
+      version = not_three n.x version.x version.own.is.1;
       items = within_limit keeps_bytes w32 _ items.x items.own;
       descriptions = within_limit keeps_bytes w32 _ descriptions.x descriptions.own;
       rings = within_limit keeps_bytes w32 _ rings.x rings.own;
@@ -326,9 +334,10 @@ counts_read c o =
     } in
     subst CountsRead (sym (at_done descriptors.after).1) made
 
-most : (v : Version) → (rules v).most_descriptors ≤ 1024
-most One = omega arith
-most Two = omega arith
+most : (v : Version) → (v ≡ Three → ⊥) → (rules v).most_descriptors ≤ 1024
+most One other = omega arith
+most Two other = omega arith
+most Three other = absurd (other refl)
 
 -- ---- room
 
@@ -411,7 +420,8 @@ trace_shown bytes t fits spells =
       descriptions = each_is (DescriptionShown (number_of t.items) t.items) (λ _. description t.items) 65535
           (description_read t.items items) parts.counts.descriptions t.descriptions c.descriptions parts.descriptions;
       descriptors = slots_read parts.counts.descriptions parts.counts.descriptors t.descriptors small
-          (omega (arith, c.descriptors, most parts.counts.version)) parts.descriptors;
+          (omega (arith, c.descriptors, most parts.counts.version c.version)) parts.descriptors;
+      version = λ three. c.version (sym parts.version ∙ three);
       no_table = λ one.
           let none : (rules parts.counts.version).most_descriptors ≡ 0 = ap (λ v. (rules v).most_descriptors) (sym parts.version ∙ one) in
           nil_from_length t.descriptors (omega (arith, many, c.descriptors, none));

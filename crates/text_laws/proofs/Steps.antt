@@ -15,7 +15,7 @@ use Rattle.text_words.specs.declared.fault.Fault.{Fault}
 use Rattle.text_words.specs.Read.{Rest}
 use Rattle.text_words.specs.Words.{is_gap, behind_lines, word_at}
 use Rattle.trace_text.specs.declared.look.Look.{Look}
-use Rattle.trace_text.specs.Entry.{data_of, data_text, entry_line, entry_words, place_comment}
+use Rattle.trace_text.specs.Entry.{data_of, data_text, entry_line, entry_words, place_comment, words_of}
 use Rattle.trace_text.specs.Fields.{decimal_word, field}
 use Rattle.trace_text.specs.Shown.{fill_words, numbered, record_lines, records_from}
 use Rattle.text_forms.specs.Names.{opcode_names}
@@ -39,9 +39,9 @@ use Rattle.text_laws.proofs.Tables.{line_word, numbered_is, one_longer, word_gap
 abbrev pub entry_room : Entry → ℕ
 entry_room e = length (data_of e.sqe e.side)
 
--- an entry whose fields and bytes have their ranges
+-- an entry whose fields and bytes have their ranges, and of which nothing is given
 abbrev pub EntryFits : Entry → Type 0
-EntryFits e = IsEntry e.sqe × IsBytes e.side
+EntryFits e = IsEntry e.sqe × IsBytes e.side × (e.given ≡ None)
 
 record EntryShown (most place : ℕ) (earlier : List Entry) (e : Entry) : Type 0 where
   few : length earlier < most
@@ -49,7 +49,7 @@ record EntryShown (most place : ℕ) (earlier : List Entry) (e : Entry) : Type 0
   fits : EntryFits e
 
 words_long : (look : Look) (e : Entry) → 0 < length (entry_words look e)
-unfolding entry_words
+unfolding words_of
 words_long look e = omega arith
 
 entry_long : (look : Look) (place : ℕ) (e : Entry) → 0 < length (entry_line look place e)
@@ -63,9 +63,10 @@ entry_steps look whole most place = record {
   goes = λ earlier e marks more room fits follows small.
       let r = entry_line_comes_back look (place + length earlier) e more (entry_room e + room) whole fits.small fits.fits.0 fits.fits.1 (omega arith) small in
       let left : entry_room e + room - entry_room e ≡ room = omega arith in
+      let same : record { sqe = e.sqe; side = e.side; given = None } ≡ e = ap (λ g. record e { given = g }) (sym fits.fits.2) in
       record {
         marks = with_line marks (rest (entry_line look (place + length earlier) e ++ more) (entry_room e + room));
-        is = rw (r.opcode) (rw (lt-leb most (length earlier) fits.few, r.entry, left) refl);
+        is = rw (r.opcode) (rw (lt-leb most (length earlier) fits.few, r.entry, left, same) refl);
       };
   heads = λ earlier e more fits. tt;
   shows = λ earlier e. entry_long look (place + length earlier) e;

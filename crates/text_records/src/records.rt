@@ -21,7 +21,7 @@ use text_words::{
     ReadError, Reason, Source, behind_first, behind_next, first_word, line_end, next_word, refused,
     strings_of, u16_at, u32_at, value_at,
 };
-use trace_format::{Blob, Buffer, Series};
+use trace_format::{Blob, Buffer, Given, Series};
 use trace_records::{Beside, Entry, Filling, FullSlot, Record, Ring};
 
 /// How many entries are handed over at once at most.
@@ -41,6 +41,12 @@ fn entry_len(entry: &Entry) -> u128
     match &entry.beside {
         Beside::Stored { bytes } => bytes.as_slice().len() as u128 + 69,
         Beside::Zeros { lengths, len: _ } => lengths.as_slice().len() as u128 + 69,
+        Beside::Given {
+            given: Given::Passed { .. },
+        } => 70,
+        Beside::Given {
+            given: Given::Refused { .. },
+        } => 69,
     }
 }
 

@@ -20,7 +20,7 @@ unfoldable pub one_entry : ℕ → List Entry × List ℕ × Rest → ℕ → Re
 one_entry most s opcode = do
   _ ← room_for most (length s.0) s.2
   x ← entry_of opcode (behind_first s.2)
-  Ok (s.0 ++ record { sqe = x.0; side = x.1 } ∷ [], with_line s.1 s.2, x.2)
+  Ok (s.0 ++ record { sqe = x.0; side = x.1; given = None } ∷ [], with_line s.1 s.2, x.2)
 
 abbrev pub more_entries : ℕ → List Entry × List ℕ × Rest → Option (Result (List Entry × List ℕ × Rest) Fault)
 more_entries most s = option_map (one_entry most s) (opcode_of (first_word s.2).bytes)

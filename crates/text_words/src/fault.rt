@@ -65,6 +65,8 @@ pub enum Reason {
     Buffer,
     /// The bytes of the entry are told by strings and by their number.
     Both,
+    /// It is no error that an entry is refused with.
+    Error,
     /// There is one more of its kind than a trace may have.
     TooMany,
     /// Nothing more is expected on this line.
@@ -139,6 +141,7 @@ fn words_of(reason: Reason) -> &'static str {
         Reason::Of => "expected of=PATH",
         Reason::Buffer => "expected buffer=N",
         Reason::Both => "expected strings or zeros=N, not both",
+        Reason::Error => "expected an error from -4095 to -1",
         Reason::TooMany => "there is one more of these than a trace may have",
         Reason::End => "expected the end of the line",
         Reason::Bits(_) | Reason::Next(_) => "expected another number",

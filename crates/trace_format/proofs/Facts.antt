@@ -1,5 +1,5 @@
 -- What the format asks of the records of a spelled trace, and of their steps.
-use Rattle.std.proofs.Common.{◌≡◌, ℕ, suc, ◌+◌, ◌<◌, ◌≤◌, true, List, [], ◌∷◌, length, Some, refl, sym, subst, arith, inl, inr, ◌⊎◌}
+use Rattle.std.proofs.Common.{◌≡◌, ℕ, suc, ◌+◌, ◌<◌, ◌≤◌, true, List, [], ◌∷◌, length, Some, None, refl, sym, subst, arith, inl, inr, ◌⊎◌}
 use Rattle.std.specs.List.{All, slice_get}
 use Rattle.std.proofs.lemmas.Bool.{ltb-true, leb-true}
 use Rattle.std.proofs.lemmas.List.Elements.{All-nil, All-cons, All-head, All-tail, All-append, All-push, All-map, All-weaker, All-get_or}
@@ -38,7 +38,7 @@ entry_facts {B = B} keeps y o =
     let len = apart keeps (at_place sqe.after) in
     let side = apart keeps len.after in
     let e = at_done (at_test side.after) in
-    let made : EntryFacts B (record { sqe = entry_of sqe.x; side = side.x }) = record {
+    let made : EntryFacts B (record { sqe = entry_of sqe.x; side = side.x; given = None }) = record {
       bytes = sqe.x;
       has = subst B (sym sqe.own.is.1) sqe.own.has;
       fields = refl;

@@ -1,5 +1,5 @@
 -- Each part of a trace is spelled in one way.
-use Rattle.std.proofs.Common.{◌≡◌, ℕ, min, ◌-◌, eqb, ◌≤◌, ◌^◌, List, [], ◌∷◌, ◌++◌, length, Some, append_assoc, refl, sym, ap, subst, ◌∙◌, arith, inl, inr}
+use Rattle.std.proofs.Common.{◌≡◌, ℕ, min, ◌-◌, eqb, ◌≤◌, ◌^◌, List, [], ◌∷◌, ◌++◌, length, Some, None, append_assoc, refl, sym, ap, subst, ◌∙◌, arith, inl, inr}
 use Rattle.std.specs.Prelude.{codes}
 use Rattle.std.specs.List.{flat_map}
 use Rattle.std.specs.Int.{w8, w16, w32, w64, to_le_bytes}
@@ -51,7 +51,7 @@ once_ring descriptions y o =
     ends ring_bytes o counted)))))
 
 entry_counted : (bytes side : List ℕ) (len : ℕ) → Own IsBytes (Bytes 64) bytes → Own IsBytes (Bytes len) side
-    → bytes ++ to_le_bytes w32 len ++ side ≡ entry_text (record { sqe = entry_of bytes; side = side })
+    → bytes ++ to_le_bytes w32 len ++ side ≡ entry_text (record { sqe = entry_of bytes; side = side; given = None })
 unfolding entry_text
 entry_counted bytes side len own side_own =
     let fits : IsBytes bytes = subst IsBytes (sym own.is.1) own.has in

@@ -1,12 +1,12 @@
 -- A trace that is spelled has no more of each than the format allows.
-use Rattle.std.proofs.Common.{ℕ, ◌≤◌, length, ap, arith}
+use Rattle.std.proofs.Common.{◌≡◌, ℕ, ◌≤◌, length, Some, ap, arith}
 use Rattle.std.specs.Int.{w16, w32}
 use Rattle.std.proofs.lemmas.List.Elements.{All-weaker}
 use Rattle.trace_format.specs.declared.trace.Ring.{Ring}
 use Rattle.trace_format.specs.declared.trace.Trace.{Trace}
 use Rattle.trace_format.specs.declared.version.Version.{Version as TraceVersion}
-use Rattle.trace_format.specs.declared.version.Version.TheVariants.{One, Two}
-use Rattle.trace_format.specs.Versions.{rules}
+use Rattle.trace_format.specs.declared.version.Version.TheVariants.{One, Two, Three}
+use Rattle.trace_format.specs.Versions.{rules, version_of}
 use Rattle.trace_format.specs.Text.{Counts, header, item, description, slot, ring, IsSpelled}
 use Rattle.trace_format.specs.Sizes.{HasSizes}
 use Rattle.trace_format.proofs.Apart.{AnyText, keeps_any, Own, onward, at_place, at_test, at_known, at_done, within_limit, each, length-several}
@@ -37,15 +37,16 @@ record CountSizes (c : Counts) : Type 0 where
   rings : c.rings ≤ 64
   descriptors : c.descriptors ≤ 1024
 
-table_size : (v : TraceVersion) → (rules v).most_descriptors ≤ 1024
-table_size One = omega arith
-table_size Two = omega arith
+table_size : (n : ℕ) (v : TraceVersion) → version_of n ≡ Some v → (rules v).most_descriptors ≤ 1024
+table_size n One named = omega arith
+table_size n Two named = omega arith
+table_size n Three named = absurd (grind (arith, named))
 
 count_sizes : (c : Counts) → Own AnyText header c → CountSizes c
 unfolding header
 count_sizes c o =
     onward keeps_any o (λ _ _ tested.
-    onward keeps_any (at_place (at_test tested)) (λ _ _ known.
+    onward keeps_any (at_place (at_test tested)) (λ n _ known.
     let version = known.is.2 in
     onward keeps_any (at_known known) (λ items items_own o.
     onward keeps_any o (λ descriptions descriptions_own o.
@@ -61,7 +62,7 @@ count_sizes c o =
       items = omega (arith, item_limit, ap (λ (x : Counts). x.items) e);
       descriptions = omega (arith, description_limit, ap (λ (x : Counts). x.descriptions) e);
       rings = omega (arith, ring_limit, ap (λ (x : Counts). x.rings) e);
-      descriptors = omega (arith, table_limit, table_size version, ap (λ (x : Counts). x.descriptors) e);
+      descriptors = omega (arith, table_limit, table_size n version known.is.4.1, ap (λ (x : Counts). x.descriptors) e);
     })))))))
 
 pub sizes : (t : Trace) → IsSpelled t → HasSizes t

@@ -6,7 +6,9 @@ use Rattle.std.proofs.lemmas.List.{take_at, take-append-drop, drop_at, length-ap
 use Rattle.std.proofs.lemmas.List.Elements.{All-push}
 use Rattle.sqe_codec.specs.Fields.{entry_of}
 use Rattle.trace_format.specs.declared.entries.Spot.{Spot}
-use Rattle.trace_format.specs.Entries.{IsInside, entry_spelled, entry_at}
+use Rattle.trace_format.specs.declared.given.Form.{Form}
+use Rattle.trace_format.specs.declared.given.Form.TheVariants.{Stored}
+use Rattle.trace_format.specs.Entries.{IsInside, entry_spelled, entry_at, given_in, side_len}
 use Rattle.trace_format.specs.Grammar.{Bytes, number}
 use Rattle.trace_format.specs.Read.{reading}
 use Rattle.trace_format.proofs.Readings.{takes}
@@ -25,9 +27,9 @@ word_read place text n after rest e =
     (t.0, t.1, omega (arith, ap length s.3, length-append s.0 s.1, s.4.0, ap length s.5.0))
 
 -- 64 bytes, four of a length and the bytes beside them spell an entry
-pub spelled : (bytes word side : List ℕ) → length bytes ≡ 64 → length word ≡ 4
-    → entry_spelled ((bytes ++ word) ++ side) ≡ record { sqe = entry_of bytes; side = side }
-spelled bytes word side fields four =
+pub spelled : (form : Form) (bytes word side : List ℕ) → length bytes ≡ 64 → length word ≡ 4
+    → entry_spelled form ((bytes ++ word) ++ side) ≡ record { sqe = entry_of bytes; side = side; given = given_in form }
+spelled form bytes word side fields four =
     let long : length (bytes ++ word) ≡ 68 = omega (arith, length-append bytes word) in
     let front : take 64 ((bytes ++ word) ++ side) ≡ bytes = ap (take 64) (append_assoc bytes word side) ∙ take_at bytes (word ++ side) 64 fields in
     rw (front, drop_at (bytes ++ word) side 68 long) refl
@@ -35,17 +37,17 @@ spelled bytes word side fields four =
 -- the entry that lies at a spot of a text has these bytes, and this beside them
 pub record Lies (text : List ℕ) (spot : Spot) (bytes side : List ℕ) : Type 0 where
   pub inside : IsInside text spot
-  pub same : entry_at text spot ≡ record { sqe = entry_of bytes; side = side }
+  pub same : entry_at text spot ≡ record { sqe = entry_of bytes; side = side; given = given_in spot.form }
 
 -- where the text goes on with them there
 pub lies_there : (text : List ℕ) (spot : Spot) (bytes word side rest : List ℕ) → drop spot.at text ≡ ((bytes ++ word) ++ side) ++ rest
-    → length bytes ≡ 64 → length word ≡ 4 → length side ≡ spot.side_len → Lies text spot bytes side
+    → length bytes ≡ 64 → length word ≡ 4 → length side ≡ side_len spot.form → Lies text spot bytes side
 lies_there text spot bytes word side rest there fields four beside =
     let all = (bytes ++ word) ++ side in
-    let long : length all ≡ 68 + spot.side_len = omega (arith, length-append (bytes ++ word) side, length-append bytes word) in
+    let long : length all ≡ 68 + side_len spot.form = omega (arith, length-append (bytes ++ word) side, length-append bytes word) in
     record {
       inside = omega (arith, ap length there, length-drop spot.at text, length-append all rest);
-      same = ap (λ x. entry_spelled (take (68 + spot.side_len) x)) there ∙ ap entry_spelled (take_at all rest (68 + spot.side_len) long) ∙ spelled bytes word side fields four;
+      same = ap (λ x. entry_spelled spot.form (take (68 + side_len spot.form) x)) there ∙ ap (entry_spelled spot.form) (take_at all rest (68 + side_len spot.form) long) ∙ spelled spot.form bytes word side fields four;
     }
 
 -- an entry that was read
@@ -53,7 +55,7 @@ pub lies : (text : List ℕ) (place : ℕ) (left bytes : List ℕ) (first : ℕ)
     → reading (Bytes 64) place left ≡ Ok (bytes, first, behind)
     → reading (number w32) first behind ≡ Ok (len, second, last)
     → reading (Bytes len) second last ≡ Ok (side, third, rest)
-    → Lies text (record { at = place; side_len = len }) bytes side
+    → Lies text (record { at = place; form = Stored len }) bytes side
 lies text place left bytes first behind len second last side third rest here bytes_ok len_ok side_ok =
     let fields = bytes_read 64 place left bytes first behind bytes_ok in
     let word = word_read first behind len second last len_ok in
@@ -74,8 +76,8 @@ still_there text more (s ∷ spots) inside =
     let here : IsInside text s = inside 0 s (omega arith) in
     let behind : All (IsInside text) spots = λ k d lt. inside (suc k) d (omega (arith, lt)) in
     let from : drop s.at (text ++ more) ≡ drop s.at text ++ more = drop-append-le s.at text more (omega (arith, here)) in
-    let to : take (68 + s.side_len) (drop s.at text ++ more) ≡ take (68 + s.side_len) (drop s.at text) =
-    take-append-le (68 + s.side_len) (drop s.at text) more (omega (arith, here, length-drop s.at text)) in
+    let to : take (68 + side_len s.form) (drop s.at text ++ more) ≡ take (68 + side_len s.form) (drop s.at text) =
+    take-append-le (68 + side_len s.form) (drop s.at text) more (omega (arith, here, length-drop s.at text)) in
     rw (from, to, still_there text more spots behind) refl
 
 -- a list of spots that holds in a text still holds when that has grown
@@ -100,7 +102,7 @@ begins_still (Ok x) text front now side last e added =
 begins_still (Err x) text front now side last e added = ap (take (length text)) (added ∙ e) ∙ take_at text front (length text) refl
 
 -- an entry that was added at the end
-lies_last : (text : List ℕ) (spot : Spot) (bytes word side : List ℕ) → spot.at ≡ length text → length bytes ≡ 64 → length word ≡ 4 → length side ≡ spot.side_len
+lies_last : (text : List ℕ) (spot : Spot) (bytes word side : List ℕ) → spot.at ≡ length text → length bytes ≡ 64 → length word ≡ 4 → length side ≡ side_len spot.form
     → Lies (((text ++ bytes) ++ word) ++ side) spot bytes side
 lies_last text spot bytes word side end fields four beside =
     let parts : ((text ++ bytes) ++ word) ++ side ≡ text ++ (((bytes ++ word) ++ side) ++ []) = simp (append_assoc, append-nil) in
@@ -109,9 +111,9 @@ lies_last text spot bytes word side end fields four beside =
 -- a list of spots, and an entry more at the end of the text
 pub record Added (text : List ℕ) (spots : List Spot) (spot : Spot) (bytes word side : List ℕ) : Type 0 where
   pub inside : All (IsInside (((text ++ bytes) ++ word) ++ side)) (spots ++ spot ∷ [])
-  pub same : map (entry_at (((text ++ bytes) ++ word) ++ side)) (spots ++ spot ∷ []) ≡ map (entry_at text) spots ++ (record { sqe = entry_of bytes; side = side }) ∷ []
+  pub same : map (entry_at (((text ++ bytes) ++ word) ++ side)) (spots ++ spot ∷ []) ≡ map (entry_at text) spots ++ (record { sqe = entry_of bytes; side = side; given = given_in spot.form }) ∷ []
 
-pub added : (text : List ℕ) (spots : List Spot) (spot : Spot) (bytes word side : List ℕ) → All (IsInside text) spots → spot.at ≡ length text → length bytes ≡ 64 → length word ≡ 4 → length side ≡ spot.side_len
+pub added : (text : List ℕ) (spots : List Spot) (spot : Spot) (bytes word side : List ℕ) → All (IsInside text) spots → spot.at ≡ length text → length bytes ≡ 64 → length word ≡ 4 → length side ≡ side_len spot.form
     → Added text spots spot bytes word side
 added text spots spot bytes word side within end fields four beside =
     let grown = ((text ++ bytes) ++ word) ++ side in

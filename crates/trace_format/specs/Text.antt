@@ -160,7 +160,7 @@ entry = do
   len ← number w32
   side ← Bytes len
   _ ← Test (is_side_of (entry_of bytes) side) (fault Side place)
-  Done (record { sqe = entry_of bytes; side = side })
+  Done (record { sqe = entry_of bytes; side = side; given = None })
 
 -- entries of one ring, where so many places come before them
 unfoldable pub enter : ℕ → ℕ → Grammar Record

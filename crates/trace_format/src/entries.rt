@@ -1,23 +1,24 @@
 //! Lists of entries that share a text.
-ghost use Rattle.std.specs.Prelude.{◌≡◌, ◌<◌, [], ◌∷◌, ◌++◌, All, length, map, take, Some, IfOk};
+ghost use Rattle.std.specs.Prelude.{◌≡◌, ◌<◌, [], ◌∷◌, ◌++◌, All, length, map, take, Some, None, IfOk};
 ghost use Rattle.std.specs.Int.{w32, to_le_bytes};
 ghost use Rattle.std.specs.List.{slice_get};
 ghost use Rattle.std.specs.Prelude.{OnOk, OnErr};
-ghost use Rattle.trace_format.specs.Entries.{IsInside, entry_at};
+ghost use Rattle.trace_format.specs.Entries.{IsInside, entry_at, given_in, side_len};
 
 use crate::blob::Text;
 use crate::entry::Entry;
+use crate::given::{Form, Given};
 use sqe_codec::{Sqe, pack};
 use std::alloc::{AllocError, Global};
 use std::marker::Model;
 use std::mem;
 use std::sync::Arc;
 
-/// Where a text has an entry, and how many bytes are beside it.
+/// Where a text has an entry, and what is behind its fields.
 #[derive(Clone, Copy)]
 pub(crate) struct Spot {
     pub at: u32,
-    pub side_len: u32,
+    pub form: Form,
 }
 
 /// Entries of one io_uring_enter(2), in the order of their submission. They are ranges of a text
@@ -125,18 +126,45 @@ impl EntriesBuilder {
     /// the bytes beside it, or of the text of all entries before it. There is no new entry then.
     pub fn push(&mut self, sqe: &Sqe, side: &[u8]) -> Result<(), AllocError>
         ensures added { OnOk result
-            (self.new ≡ self.old ++ record { sqe = sqe.now; side = side.now } ∷ []) }
+            (self.new ≡ self.old ++ record { sqe = sqe.now; side = side.now; given = None } ∷ []) }
+        ensures kept { OnErr result (self.new ≡ self.old) }
+    {
+        if side.len() > u32::MAX as usize {
+            return Err(AllocError);
+        }
+        let len = side.len() as u32;
+        self.add(sqe, side, Form::Stored { len })
+    }
+
+    /// Adds an entry of these fields, of which this is given.
+    ///
+    /// # Errors
+    ///
+    /// `AllocError` where an allocation was refused, or where the text of all entries before it is
+    /// longer than a `u32` tells. There is no new entry then.
+    pub fn push_given(&mut self, sqe: &Sqe, given: Given) -> Result<(), AllocError>
+        ensures added { OnOk result
+            (self.new ≡ self.old ++ record { sqe = sqe.now; side = []; given = Some given } ∷ []) }
+        ensures kept { OnErr result (self.new ≡ self.old) }
+    {
+        self.add(sqe, &[], Form::of(given))
+    }
+
+    /// Adds an entry of these fields and this form.
+    fn add(&mut self, sqe: &Sqe, side: &[u8], form: Form) -> Result<(), AllocError>
+        requires { side_len form ≡ length side.now }
+        ensures added { OnOk result (self.new
+            ≡ self.old ++ record { sqe = sqe.now; side = side.now; given = given_in form } ∷ []) }
         ensures kept { OnErr result (self.new ≡ self.old) }
     {
         let at = self.text.len();
-        if at > u32::MAX as usize || side.len() > u32::MAX as usize {
+        if at > u32::MAX as usize {
             return Err(AllocError);
         }
-        let side_len = side.len() as u32;
-        add_text(&mut self.text, &pack(sqe), side_len, side)?;
+        add_text(&mut self.text, &pack(sqe), form.side_len(), side)?;
         self.spots.push(Spot {
             at: at as u32,
-            side_len,
+            form,
         })?;
         Ok(())
     }

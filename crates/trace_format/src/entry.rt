@@ -5,11 +5,12 @@ ghost use Rattle.trace_format.specs.Entries.{IsInside, entry_at};
 
 use crate::blob::{Text, TextSlice};
 use crate::entries::Spot;
+use crate::given::Given;
 use sqe_codec::{Sqe, unpack};
 use std::marker::Model;
 
-/// How many bytes a text has of an entry before those beside it: its fields, and the length of
-/// what is beside it.
+/// How many bytes a text has of an entry before those beside it: its fields, and four more, which
+/// have the length of what is beside it where that was read.
 pub(crate) const HEAD: usize = 68;
 
 /// A submitted entry, and the bytes in memory that it speaks of, as they lie in a text: neither
@@ -73,6 +74,14 @@ impl<'a> Entry<'a> {
         ensures { sliced result ≡ self.now.side }
     {
         let from = self.spot.at as usize + HEAD;
-        TextSlice::of(self.text, from, self.spot.side_len as usize)
+        TextSlice::of(self.text, from, self.spot.form.side_len() as usize)
+    }
+
+    /// What the trace gives of it in place of having it decided. Traces of versions 1 and 2 give
+    /// nothing.
+    pub fn given(&self) -> Option<Given>
+        ensures { result ≡ self.now.given }
+    {
+        self.spot.form.given()
     }
 }

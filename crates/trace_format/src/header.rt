@@ -17,7 +17,7 @@ pub(crate) struct Counts {
     pub descriptions: u32,
     pub rings: u32,
     pub records: u32,
-    pub descriptors: u16,
+    pub descriptors: u32,
 }
 
 /// The counts behind the version.
@@ -38,7 +38,7 @@ fn sizes_of(version: Version, source: Source<'_>) -> Result<(Counts, Source<'_>)
             descriptions,
             rings,
             records,
-            descriptors: descriptors as u16,
+            descriptors,
         },
         source,
     ))

@@ -9,6 +9,7 @@ ghost use Rattle.trace_format.specs.Text.{entry, enter, fill, one_record, buffer
 
 use crate::entries::{Entries, Spot};
 use crate::fault::{Kind, ReadError, refused};
+use crate::given::Form;
 use crate::sides::fits;
 use crate::source::{Source, blob_of, bytes_of, u8_of, u16_of, u16_to, u32_of};
 use crate::steps::{Records, step_count};
@@ -36,13 +37,14 @@ fn spot_of(source: Source<'_>) -> Result<(Spot, Source<'_>), ReadError>
     array.copy_from_slice(bytes);
     let sqe = unpack(&array);
     let place = source.place;
-    let (side_len, source) = u32_of(source)?;
-    let (side, source) = bytes_of(source, side_len as usize)?;
+    let (len, source) = u32_of(source)?;
+    let (side, source) = bytes_of(source, len as usize)?;
     if !fits(&sqe, side) {
         return Err(refused(Kind::Side, place));
     }
     let at = start.place as u32;
-    Ok((Spot { at, side_len }, source))
+    let form = Form::Stored { len };
+    Ok((Spot { at, form }, source))
 }
 
 fn entries_of(

@@ -9,6 +9,9 @@ pub enum Version {
     One,
     /// With a table of ordinary descriptors, and the exchange of two names.
     Two,
+    /// With flags of transfers that ask for stored data, and with advice. Its traces have a form
+    /// of their own, which [`crate::read_trace`] does not read.
+    Three,
 }
 
 /// What a version has of its own.
@@ -20,10 +23,14 @@ pub struct Rules {
     pub most_descriptors: u32,
     /// The greatest flags that RENAMEAT takes, as renameat2(2) has them.
     pub most_rename_flags: u32,
+    /// The flags that a transfer takes, of those of preadv2(2) and pwritev2(2).
+    pub transfer_flags: u32,
+    /// Whether it has SYNC_FILE_RANGE and FADVISE.
+    pub has_advice: bool,
 }
 
 impl Version {
-    /// The version that a number names.
+    /// The version that a number names, of those that this crate reads.
     pub(crate) fn of(number: u32) -> Option<Version>
         ensures { result ≡ version_of number }
     {
@@ -43,11 +50,22 @@ impl Version {
                 number: 1,
                 most_descriptors: 0,
                 most_rename_flags: 1,
+                transfer_flags: 0,
+                has_advice: false,
             },
             Version::Two => Rules {
                 number: 2,
                 most_descriptors: 1_024,
                 most_rename_flags: 2,
+                transfer_flags: 0,
+                has_advice: false,
+            },
+            Version::Three => Rules {
+                number: 3,
+                most_descriptors: 1_048_576,
+                most_rename_flags: 2,
+                transfer_flags: 6,
+                has_advice: true,
             },
         }
     }

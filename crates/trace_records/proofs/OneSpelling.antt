@@ -1,10 +1,11 @@
 -- Each part of a trace is spelled in one way.
-use Rattle.std.proofs.Common.{◌≡◌, ℕ, zero, suc, ◌+◌, ◌-◌, ◌≤◌, ◌^◌, Bool, true, cond, eqb, List, [], ◌∷◌, ◌++◌, length, Option, Some, None, append_assoc, refl, sym, ap, subst, ◌∙◌, arith, inl, inr}
-use Rattle.std.specs.Prelude.{codes, ◌||◌, ◌&&◌, ◌==◌}
+use Rattle.std.proofs.Common.{◌≡◌, ℕ, zero, suc, ◌+◌, ◌-◌, ◌<◌, ◌≤◌, ◌^◌, true, cond, eqb, List, [], ◌∷◌, ◌++◌, length, Option, Some, None, append_assoc, refl, sym, ap, subst, ◌∙◌, arith, inl, inr}
+use Rattle.std.specs.Prelude.{codes, ◌==◌}
 use Rattle.std.specs.List.{flat_map}
-use Rattle.std.specs.Int.{Width, w8, w16, w32, w64, to_le_bytes}
+use Rattle.std.specs.Int.{Width, w8, w16, w32, w64, to_le_bytes, cast_signed}
 use Rattle.std.proofs.lemmas.Bool.{eqb-true, eqb-false, leb-true, and_parts}
 use Rattle.std.proofs.lemmas.Bool.Decides.{nat_tests}
+use Rattle.std.proofs.lemmas.Int.{of_z-to_z}
 use Rattle.std.proofs.lemmas.List.{append-nil, nil_from_length}
 use Rattle.std.proofs.lemmas.List.Concat.{flat_map-cons}
 use Rattle.std.proofs.lemmas.Slice.Eq.{bytes_eq-Decides}
@@ -12,16 +13,17 @@ use Rattle.sqe_codec.specs.declared.sqe.Sqe.{Sqe}
 use Rattle.sqe_codec.specs.Fields.{IsBytes, entry_bytes, entry_of}
 use Rattle.sqe_codec.proofs.Parts.{bytes_back}
 use Rattle.trace_format.specs.Limits.{file_limit}
-use Rattle.trace_format.specs.Grammar.{Bytes, Choice}
+use Rattle.trace_format.specs.Grammar.{Bytes, number}
 use Rattle.trace_format.specs.Text.{buffer, access_of}
 use Rattle.trace_format.specs.Spelling.{access_number, flag, description_bytes, buffer_bytes}
+use Rattle.trace_format.specs.declared.given.Given.TheVariants.{Passed}
 use Rattle.trace_format.specs.declared.trace.Buffer.{Buffer}
 use Rattle.trace_format.proofs.Apart.{Own, apart, keeps_bytes, onward, at_place, at_test, test_passed, at_known, at_done, at_choice, within_limit, length-several}
 use Rattle.trace_format.proofs.Spelled.{Once, IsWritten, front, last, behind, then, ends, once_bytes, length_bytes, u8, u16, u32, u64, once_number, once_number_to, once_several}
 use Rattle.trace_records.specs.Fields.{number_in, number_of}
 use Rattle.trace_records.specs.Front.{Front, no_records, after}
 use Rattle.trace_records.specs.Start.{Counts, header, range, file, other_name, node, new_path, item, description, descriptor, start}
-use Rattle.trace_records.specs.Records.{ring_there, may_be_zeros, lengths_len, stored, zeros, entry, enter, filled, fill, slot_holder, other_holder, other, holder, full_slot, queue, own_queue, ring, is_kind, body, next}
+use Rattle.trace_records.specs.Records.{ring_there, is_form, lengths_len, stored, zeros, passed, refused, beside, entry, enter, filled, fill, slot_holder, other_holder, other, holder, full_slot, queue, own_queue, ring, is_kind, body, next}
 use Rattle.trace_records.specs.Spelling.{range_bytes, kind_of, node_bytes, item_bytes, descriptor_bytes, start_bytes, beside_bytes, entry_text, holder_bytes, full_slot_bytes, queue_number, ring_bytes, record_bytes, end_bytes, trace_bytes}
 use Rattle.trace_records.specs.Whole.{Behind, Ends, SpellsTrace}
 use Rattle.trace_records.specs.declared.start.Range.{Range}
@@ -31,7 +33,7 @@ use Rattle.trace_records.specs.declared.start.Item.{Item}
 use Rattle.trace_records.specs.declared.start.Descriptor.{Descriptor}
 use Rattle.trace_records.specs.declared.start.Start.{Start}
 use Rattle.trace_records.specs.declared.record.Beside.{Beside}
-use Rattle.trace_records.specs.declared.record.Beside.TheVariants.{Stored}
+use Rattle.trace_records.specs.declared.record.Beside.TheVariants.{Stored, Given}
 use Rattle.trace_records.specs.declared.record.Filling.TheVariants as filling
 use Rattle.trace_records.specs.declared.record.Holder.{Holder}
 use Rattle.trace_records.specs.declared.record.FullSlot.{FullSlot}
@@ -312,15 +314,48 @@ once_zeros e y o =
     then (once_bytes (lengths_len e len)) o (λ lengths own o.
     ends beside_bytes (at_test o) refl)))
 
-form_one : (form : ℕ) (b : Bool) → (form == 0 || (form == 1 && b)) ≡ true → (form ≡ 0 → ⊥) → form ≡ 1
-form_one form b h some = grind (arith, nat_tests)
+word_below : (n : ℕ) → Own IsBytes (number w32) n → n < 2 ^ 32
+word_below n o =
+    let p = apart keeps_bytes o in
+    let fits : IsBytes p.x = subst IsBytes (sym p.own.is.1) p.own.has in
+    omega (arith, (at_done p.after).1, fits 0, fits 1, fits 2, fits 3)
 
-beside_spelled : (form begin : ℕ) (e : Sqe) (y : Beside) → (form == 0 || (form == 1 && may_be_zeros e)) ≡ true
-    → (o : Own IsBytes (Choice (form == 0) (stored begin e) (zeros e)) y) → form ∷ o.text ≡ beside_bytes y
+passed_counted : (result fails : ℕ) → result < 2 ^ 32 → fails ≤ 1
+    → 2 ∷ to_le_bytes w32 result ++ fails ∷ [] ≡ beside_bytes (Given (Passed (cast_signed w32 result) (eqb fails 1)))
+passed_counted result fails word one = rw (of_z-to_z w32 result word, flag_back fails one) refl
+
+once_passed : (y : Beside) (o : Own IsBytes passed y) → 2 ∷ o.text ≡ beside_bytes y
+unfolding passed
+once_passed y o =
+    behind (2 ∷ []) (
+    then (once_number u32) o (λ result own o.
+    then (once_number_to u8 1) o (λ fails fails_own o.
+    ends beside_bytes o (passed_counted result fails (word_below result own) (within_limit keeps_bytes w8 1 fails fails_own)))))
+
+once_refused : (y : Beside) (o : Own IsBytes refused y) → 3 ∷ o.text ≡ beside_bytes y
+unfolding refused
+once_refused y o =
+    behind (3 ∷ []) (
+    then (once_number u32) (at_place o) (λ result own o.
+    let back : 2 ^ 32 - (2 ^ 32 - result) ≡ result = omega (arith, word_below result own) in
+    ends beside_bytes (at_test o) (ap (λ (n : ℕ). 3 ∷ to_le_bytes w32 n) (sym back))))
+
+last_form : (e : Sqe) (form : ℕ) → is_form e form ≡ true → (form ≡ 0 → ⊥) → (form ≡ 1 → ⊥) → (form ≡ 2 → ⊥) → form ≡ 3
+last_form e form h no_zero no_one no_two = grind (arith, nat_tests)
+
+beside_spelled : (form begin : ℕ) (e : Sqe) (y : Beside) → is_form e form ≡ true
+    → (o : Own IsBytes (beside begin e form) y) → form ∷ o.text ≡ beside_bytes y
 beside_spelled form begin e y h o =
     elim (at_choice o) [
       | inl a ↦ rw (eqb-true _ _ a.0, ← a.2) (once_stored begin e y a.1)
-      | inr b ↦ rw (form_one form (may_be_zeros e) h (eqb-false _ _ b.0), ← b.2) (once_zeros e y b.1)
+      | inr b ↦ elim (at_choice b.1) [
+        | inl a ↦ rw (eqb-true _ _ a.0, ← b.2, ← a.2) (once_zeros e y a.1)
+        | inr c ↦ elim (at_choice c.1) [
+          | inl a ↦ rw (eqb-true _ _ a.0, ← b.2, ← c.2, ← a.2) (once_passed y a.1)
+          | inr d ↦
+              rw (last_form e form h (eqb-false _ _ b.0) (eqb-false _ _ c.0) (eqb-false _ _ d.0), ← b.2, ← c.2, ← d.2) (once_refused y d.1)
+        ]
+      ]
     ]
 
 entry_counted : (bytes : List ℕ) (y : Beside) → Own IsBytes (Bytes 64) bytes → bytes ++ beside_bytes y ≡ entry_text (record { sqe = entry_of bytes; beside = y })

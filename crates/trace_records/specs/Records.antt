@@ -1,18 +1,19 @@
 -- The model: the text of a record, by the start of the trace and the records before it.
 use Rattle.std.specs.Prelude.{ℕ, suc, ◌+◌, ◌-◌, ◌==◌, ◌^◌, Bool, ◌&&◌, ◌||◌, not, List, [], ◌++◌, length, replicate, Option, None, Some, nat_le, nat_lt, min, if◌then◌else◌}
-use Rattle.std.specs.Int.{w8, w16, w32}
+use Rattle.std.specs.Int.{w8, w16, w32, cast_signed}
 use Rattle.sqe_codec.specs.declared.sqe.Sqe.{Sqe}
 use Rattle.sqe_codec.specs.Fields.{entry_of}
 use Rattle.trace_format.specs.Grammar.{Grammar, Done, Bytes, Place, Test, Known, Choice, ◌>>=◌, fault, number, number_to, several}
 use Rattle.trace_format.specs.Sides.{vector_len, is_side_of}
 use Rattle.trace_format.specs.Text.{buffer}
 use Rattle.trace_format.specs.declared.fault.Kind.TheVariants.{Limit, Reference, Side}
+use Rattle.trace_format.specs.declared.given.Given.TheVariants.{Passed, Refused}
 use Rattle.trace_records.specs.Fields.{number_in, number_of, end_of}
 use Rattle.trace_records.specs.Front.{Front, ring_at, slots_in, buffer_len, places_limit}
 use Rattle.trace_records.specs.declared.start.Start.{Start}
 use Rattle.trace_records.specs.declared.record.Entry.{Entry}
 use Rattle.trace_records.specs.declared.record.Beside.{Beside}
-use Rattle.trace_records.specs.declared.record.Beside.TheVariants.{Stored, Zeros}
+use Rattle.trace_records.specs.declared.record.Beside.TheVariants.{Stored, Zeros, Given}
 use Rattle.trace_records.specs.declared.record.Filling.TheVariants as filling
 use Rattle.trace_records.specs.declared.record.Holder.{Holder}
 use Rattle.trace_records.specs.declared.record.Holder.TheVariants.{Slot, Descriptor, Description}
@@ -29,10 +30,11 @@ ring_there front = do
   _ ← Known (ring_at front.rings ring) (fault Reference place)
   Done ring
 
--- the bytes in memory that an entry speaks of: those stored, or its lengths and zeros
+-- the bytes in memory that an entry speaks of: those stored, its lengths and zeros, or none where it is given
 abbrev pub meant : Beside → List ℕ
 meant (Stored bytes) = bytes
 meant (Zeros lengths len) = lengths ++ replicate (len - length lengths) 0
+meant (Given given) = []
 
 -- WRITE and WRITEV may have zeros
 abbrev pub may_be_zeros : Sqe → Bool
@@ -62,15 +64,38 @@ zeros e = do
   _ ← Test (is_side_of e (meant (Zeros lengths len))) (fault Side place)
   Done (Zeros lengths len)
 
--- a submitted entry, and the bytes beside it; given entries, forms 2 and 3, are not served
+-- a given result, and whether it is a failure
+unfoldable pub passed : Grammar Beside
+passed = do
+  result ← number w32
+  fails ← number_to w8 1
+  Done (Given (Passed (cast_signed w32 result) (fails == 1)))
+
+-- a given error: a result from -4,095 to -1
+unfoldable pub refused : Grammar Beside
+refused = do
+  place ← Place
+  result ← number w32
+  _ ← Test (nat_le (2 ^ 32 - 4095) result) (fault Limit place)
+  Done (Given (Refused (2 ^ 32 - result)))
+
+-- an entry may have this form: stored, zeros, or given in one of two ways
+abbrev pub is_form : Sqe → ℕ → Bool
+is_form e form = form == 0 || (form == 1 && may_be_zeros e) || form == 2 || form == 3
+
+-- what an entry of this form has behind it
+abbrev pub beside : ℕ → Sqe → ℕ → Grammar Beside
+beside begin e form = Choice (form == 0) (stored begin e) (Choice (form == 1) (zeros e) (Choice (form == 2) passed refused))
+
+-- a submitted entry, its form, and what the form has
 unfoldable pub entry : ℕ → Grammar Entry
 entry begin = do
   bytes ← Bytes 64
   place ← Place
   form ← number w8
-  _ ← Test (form == 0 || (form == 1 && may_be_zeros (entry_of bytes))) (fault Limit place)
-  beside ← Choice (form == 0) (stored begin (entry_of bytes)) (zeros (entry_of bytes))
-  Done (record { sqe = entry_of bytes; beside = beside })
+  _ ← Test (is_form (entry_of bytes) form) (fault Limit place)
+  b ← beside begin (entry_of bytes) form
+  Done (record { sqe = entry_of bytes; beside = b })
 
 -- entries of one ring, in a record that began there
 unfoldable pub enter : Front → ℕ → Grammar Record

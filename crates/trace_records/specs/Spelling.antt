@@ -1,9 +1,10 @@
 -- The model: the bytes of a trace, part by part; the law that a trace has one spelling at the end.
-use Rattle.std.specs.Prelude.{◌≡◌, ℕ, List, [], ◌∷◌, ◌++◌, length, codes, Option, None, Some}
+use Rattle.std.specs.Prelude.{◌≡◌, ℕ, ◌-◌, ◌^◌, List, [], ◌∷◌, ◌++◌, length, codes, Option, None, Some}
 use Rattle.std.specs.List.{flat_map}
-use Rattle.std.specs.Int.{w16, w32, w64, to_le_bytes}
+use Rattle.std.specs.Int.{w16, w32, w64, to_le_bytes, cast_unsigned}
 use Rattle.sqe_codec.specs.Fields.{entry_bytes, IsBytes}
-use Rattle.trace_format.specs.Spelling.{description_bytes, buffer_bytes}
+use Rattle.trace_format.specs.Spelling.{flag, description_bytes, buffer_bytes}
+use Rattle.trace_format.specs.declared.given.Given.TheVariants.{Passed, Refused}
 use Rattle.trace_records.specs.declared.start.Range.{Range}
 use Rattle.trace_records.specs.declared.start.Node.{Node}
 use Rattle.trace_records.specs.declared.start.Node.TheVariants.{Directory, File, OtherName}
@@ -12,7 +13,7 @@ use Rattle.trace_records.specs.declared.start.Descriptor.{Descriptor}
 use Rattle.trace_records.specs.declared.start.Start.{Start}
 use Rattle.trace_records.specs.declared.record.Entry.{Entry}
 use Rattle.trace_records.specs.declared.record.Beside.{Beside}
-use Rattle.trace_records.specs.declared.record.Beside.TheVariants.{Stored, Zeros}
+use Rattle.trace_records.specs.declared.record.Beside.TheVariants.{Stored, Zeros, Given}
 use Rattle.trace_records.specs.declared.record.Filling.{Filling}
 use Rattle.trace_records.specs.declared.record.Filling.TheVariants as filling
 use Rattle.trace_records.specs.declared.record.Holder.{Holder}
@@ -57,10 +58,12 @@ header_bytes s = codes "URINGTRC" ++ to_le_bytes w32 3 ++ to_le_bytes w32 (lengt
 abbrev pub start_bytes : Start → List ℕ
 start_bytes s = header_bytes s ++ flat_map item_bytes s.items ++ flat_map description_bytes s.descriptions ++ flat_map descriptor_bytes s.descriptors
 
--- form and length, and what is stored
+-- form and length, and what is stored; or form and result, and whether that is a failure
 abbrev pub beside_bytes : Beside → List ℕ
 beside_bytes (Stored bytes) = 0 ∷ to_le_bytes w32 (length bytes) ++ bytes
 beside_bytes (Zeros lengths len) = 1 ∷ to_le_bytes w32 len ++ lengths
+beside_bytes (Given (Passed result fails)) = 2 ∷ to_le_bytes w32 (cast_unsigned w32 result) ++ flag fails ∷ []
+beside_bytes (Given (Refused error)) = 3 ∷ to_le_bytes w32 (2 ^ 32 - error)
 
 -- the 64 bytes of an entry, and those beside it
 unfoldable pub entry_text : Entry → List ℕ

@@ -1,25 +1,25 @@
 //! Submitted entries.
-ghost use Rattle.std.specs.Prelude.{◌≡◌, ◌+◌, ◌≤◌, ◌<◌, ◌^◌, ◌==◌};
-ghost use Rattle.std.specs.Prelude.{◌||◌, ◌&&◌, true, [], IfOk, length};
-ghost use Rattle.trace_format.specs.Grammar.{Choice, several};
+ghost use Rattle.std.specs.Prelude.{◌≡◌, ◌+◌, ◌≤◌, ◌<◌, ◌^◌, true, [], IfOk, length};
+ghost use Rattle.trace_format.specs.Grammar.{several};
 ghost use Rattle.trace_format.specs.Sides.{is_side_of, vector_len, written_len};
 ghost use Rattle.trace_records.specs.Front.{places_of, places_limit};
 ghost use Rattle.trace_records.specs.Read.{Gives};
 ghost use Rattle.trace_records.specs.Sources.{reading_from, with_rest};
-ghost use Rattle.trace_records.specs.Records.{meant, may_be_zeros, lengths_len};
-ghost use Rattle.trace_records.specs.Records.{stored, zeros, entry, enter};
+ghost use Rattle.trace_records.specs.Records.{meant, may_be_zeros, lengths_len, is_form};
+ghost use Rattle.trace_records.specs.Records.{stored, zeros, passed, refused as given_error};
+ghost use Rattle.trace_records.specs.Records.{beside, entry, enter};
 ghost use Rattle.trace_records.specs.declared.record.Beside.TheVariants.{Zeros};
 
 use crate::fault::{ReadError, refused};
 use crate::front::{Front, PLACES};
 use crate::record::{Beside, Entry, Record};
 use crate::rings::ring_there_of;
-use crate::source::{Source, blob, bytes_of, u8_of, u16_to, u32_of};
+use crate::source::{Source, blob, bytes_of, u8_of, u8_to, u16_to, u32_of};
 use sqe_codec::{Sqe, unpack};
 use std::alloc::Global;
-use trace_format::{Kind, Series, fits, vector_total};
+use trace_format::{Given, Kind, Series, fits, vector_total};
 
-/// How many bytes an entry has at least: its 64, its form, and a length.
+/// How many bytes an entry has at least: its 64, its form, and a length or a result.
 const SMALLEST_ENTRY: usize = 69;
 
 /// How many bytes a record of entries has at most.
@@ -27,6 +27,9 @@ const LONGEST: u64 = 0xffff_ffff;
 
 /// The most bytes that one call moves, `MAX_RW_COUNT` in Linux.
 const MOST_MOVED: u64 = 0x7fff_f000;
+
+/// The least error as a word: -4,095, below which Linux has no error.
+const LEAST_ERROR: u32 = 0xffff_f001;
 
 /// WRITE and WRITEV.
 fn may_be_zeros(sqe: &Sqe) -> bool
@@ -122,6 +125,36 @@ fn zeros_of<'a>(
     Ok((Beside::Zeros { lengths, len }, source))
 }
 
+/// A given result, and whether it is a failure.
+#[tactic(auto, unfolding(crate::specs::Records::passed))]
+fn passed_of(source: Source<'_>) -> Result<(Beside, Source<'_>), ReadError>
+    ensures { Gives with_rest result (reading_from source.entry passed) }
+{
+    let (word, source) = u32_of(source)?;
+    let (fails, source) = u8_to(source, 1)?;
+    let given = Given::Passed {
+        result: word.cast_signed(),
+        fails: fails == 1,
+    };
+    Ok((Beside::Given { given }, source))
+}
+
+/// A given error.
+#[tactic(auto, unfolding(crate::specs::Records::refused))]
+fn error_of(source: Source<'_>) -> Result<(Beside, Source<'_>), ReadError>
+    ensures { Gives with_rest result (reading_from source.entry given_error) }
+{
+    let place = source.place;
+    let (word, source) = u32_of(source)?;
+    if word < LEAST_ERROR {
+        return Err(refused(Kind::Limit, place));
+    }
+    let error = (u32::MAX - word + 1) as u16;
+    let given = Given::Refused { error };
+    Ok((Beside::Given { given }, source))
+}
+
+/// What an entry of this form has behind it.
 fn beside_of<'a>(
     alloc: Global,
     begin: u64,
@@ -130,22 +163,22 @@ fn beside_of<'a>(
     source: Source<'a>,
 ) -> Result<(Beside, Source<'a>), ReadError>
     requires begun { begin < 2 ^ 63 }
-    requires kind { (form == 0 || may_be_zeros sqe.now) ≡ true }
-    ensures { Gives with_rest result
-        (reading_from source.entry (Choice (form == 0) (stored begin sqe.now) (zeros sqe.now))) }
+    requires form { is_form sqe.now form ≡ true }
+    ensures { Gives with_rest result (reading_from source.entry (beside begin sqe.now form)) }
 {
-    if form == 0 {
-        stored_of(alloc, begin, sqe, source)
-    } else {
-        zeros_of(alloc, sqe, source)
+    match form {
+        0 => stored_of(alloc, begin, sqe, source),
+        1 => zeros_of(alloc, sqe, source),
+        2 => passed_of(source),
+        _ => error_of(source),
     }
 }
 
 /// Whether an entry may have this form.
-fn is_form(form: u8, sqe: &Sqe) -> bool
-    ensures { result ≡ (form == 0 || (form == 1 && may_be_zeros sqe.now)) }
+fn is_form(sqe: &Sqe, form: u8) -> bool
+    ensures { result ≡ is_form sqe.now form }
 {
-    form == 0 || form == 1 && may_be_zeros(sqe)
+    form == 0 || form == 1 && may_be_zeros(sqe) || form == 2 || form == 3
 }
 
 #[tactic(auto, unfolding(crate::specs::Records::entry))]
@@ -163,7 +196,7 @@ fn entry_from(
     let sqe = unpack(&array);
     let place = source.place;
     let (form, source) = u8_of(source)?;
-    if !is_form(form, &sqe) {
+    if !is_form(&sqe, form) {
         return Err(refused(Kind::Limit, place));
     }
     let (beside, source) = beside_of(alloc, begin, form, &sqe, source)?;

@@ -1,15 +1,18 @@
 //! What was recorded after the start.
 use sqe_codec::Sqe;
-use trace_format::{Blob, Buffer, Series};
+use trace_format::{Blob, Buffer, Given, Series};
 
-/// The bytes in memory that an entry speaks of: the lengths of its vector, the bytes that it
-/// writes, or its paths, as [`trace_format::fits`] has them.
+/// What stands beside an entry: the bytes in memory that it speaks of, which are the lengths of its
+/// vector, the bytes that it writes, or its paths, as [`trace_format::fits`] has them; or what is
+/// given of it.
 #[derive(Drop)]
 pub enum Beside {
     /// Form 0: these.
     Stored { bytes: Blob },
     /// Form 1, of WRITE and WRITEV: the lengths of its vector, and zeros, `len` bytes in all.
     Zeros { lengths: Blob, len: u32 },
+    /// Forms 2 and 3: no bytes, and its result.
+    Given { given: Given },
 }
 
 /// A submitted entry.
@@ -17,7 +20,7 @@ pub enum Beside {
 pub struct Entry {
     /// Its 64 bytes.
     pub sqe: Sqe,
-    /// The bytes in memory that it speaks of.
+    /// The bytes in memory that it speaks of, or what is given of it.
     pub beside: Beside,
 }
 

@@ -14,7 +14,7 @@ use crate::start::{Descriptor, Item, Node, Range, Start};
 use crate::trace::Trace;
 use sqe_codec::pack;
 use std::alloc::{AllocError, Global};
-use trace_format::{Access, Buffer, Description};
+use trace_format::{Access, Buffer, Description, Given};
 
 /// The lower two bytes of a count.
 fn put_u16(out: &mut Vec<u8>, n: usize) -> Result<(), AllocError>
@@ -185,6 +185,23 @@ fn put_buffers(out: &mut Vec<u8>, buffers: &[Buffer]) -> Result<(), AllocError>
     Ok(())
 }
 
+/// Form and result, and whether that is a failure.
+fn put_given(out: &mut Vec<u8>, given: Given) -> Result<(), AllocError>
+    ensures { OnOk result (out.new.items ≡ out.old.items ++ beside_bytes (Beside.Given given)) }
+{
+    match given {
+        Given::Passed { result, fails } => {
+            out.push(2)?;
+            out.extend_from_slice(&result.to_le_bytes())?;
+            out.extend_from_slice(&[flag(fails)])
+        }
+        Given::Refused { error } => {
+            out.push(3)?;
+            put_u32(out, 0x1_0000_0000 - usize::from(error))
+        }
+    }
+}
+
 fn put_beside(out: &mut Vec<u8>, beside: &Beside) -> Result<(), AllocError>
     ensures { OnOk result (out.new.items ≡ out.old.items ++ beside_bytes beside.now) }
 {
@@ -199,6 +216,7 @@ fn put_beside(out: &mut Vec<u8>, beside: &Beside) -> Result<(), AllocError>
             out.extend_from_slice(&len.to_le_bytes())?;
             out.extend_from_slice(lengths.as_slice())
         }
+        Beside::Given { given } => put_given(out, *given),
     }
 }
 

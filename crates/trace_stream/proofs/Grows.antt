@@ -1,10 +1,10 @@
 -- Bytes that came behind those that are held.
-use Rattle.std.proofs.Common.{◌≡◌, ◌∙◌, ◌+◌, ◌<◌, ◌++◌, ◌⊎◌, [], ℕ, Bool, true, false, List, length, Option, Some, Result, Ok, Err, IsErrAnd, IfErr, refl, sym, ap, subst, inl, inr, append_assoc, length-append, arith}
+use Rattle.std.proofs.Common.{◌≡◌, ◌∙◌, ◌+◌, ◌<◌, ◌≤◌, ◌++◌, ◌⊎◌, [], ℕ, Bool, true, false, List, length, drop, take, Option, Some, Result, Ok, Err, IsErrAnd, IfErr, refl, sym, ap, subst, inl, inr, append_assoc, length-append, arith}
 use Rattle.std.specs.Io.KnownBytes.{Consumes}
 use Rattle.std.proofs.KnownBytes.{Consumes-nil, Consumes-trans}
-use Rattle.std.proofs.lemmas.List.{append-nil}
+use Rattle.std.proofs.lemmas.List.{append-nil, length-take-le, take-append-drop}
 use Rattle.byte_transfer.specs.Transfer.{Takes}
-use Rattle.trace_format.specs.Grammar.{Grammar, Breaks, fault}
+use Rattle.trace_format.specs.Grammar.{Grammar, Breaks, Spells, fault}
 use Rattle.trace_format.specs.declared.fault.TraceFault.{TraceFault}
 use Rattle.trace_format.specs.declared.fault.Kind.TheVariants.{Memory}
 use Rattle.trace_stream.specs.declared.fault.StreamFault.{StreamFault}
@@ -77,6 +77,19 @@ fails_out g h h1 a b c (Trace f) so_far (inl memory) = inl memory
 fails_out g h h1 a b c (Trace f) so_far (inr t) =
     let at : Breaks g h.place ((h.rest ++ so_far.more) ++ t.0) f = subst (λ (k : Held). Breaks g k.place (k.rest ++ t.0) f) so_far.is t.2 in
     inr (so_far.more ++ t.0, Consumes-trans a b c so_far.more t.0 so_far.taken t.1, subst (λ (x : List ℕ). Breaks g h.place x f) (append_assoc h.rest so_far.more t.0) at, t.3)
+
+-- the value is read from the first bytes that are held
+pub uses_taken : {A : Type 0} (g : Grammar A) (h h' : Held) (bytes : List ℕ) (place n : ℕ) (x y : A) → bytes ≡ h.rest → place ≡ h.place → n ≤ length bytes → Spells g place (take n bytes) y → y ≡ x
+    → h'.rest ≡ drop n h.rest → h'.place ≡ h.place + n → Uses g h h' x
+uses_taken g h h' bytes place n x y same at le spells is rest on = (
+  take n bytes,
+  sym (take-append-drop n h.rest) ∙ ap (λ (b : List ℕ). take n b ++ drop n h.rest) (sym same) ∙ ap (λ (r : List ℕ). take n bytes ++ r) (sym rest),
+  subst (λ (p : ℕ). Spells g p (take n bytes) x) at (subst (λ z. Spells g place (take n bytes) z) is spells),
+  on ∙ ap (λ (k : ℕ). h.place + k) (sym (length-take-le n bytes le)),
+)
+
+pub reads_held : {A : Type 0} (g : Grammar A) (h h' : Held) (left : Option (List ℕ)) (x : A) → Uses g h h' x → Reads g h h' left left x
+reads_held g h h' left x uses = reads_out g h h h' left left left x (none_yet h left) (uses, Consumes-nil left)
 
 -- a fault of the bytes that are held is told where it stops
 pub stops_there : {A : Type 0} (g : Grammar A) (h : Held) (a b : Option (List ℕ)) (f : TraceFault) (e : StreamFault)

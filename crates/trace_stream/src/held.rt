@@ -4,6 +4,7 @@ ghost use Rattle.byte_transfer.specs.Transfer.{Takes};
 ghost use Rattle.trace_stream.specs.Held.{Gains, IsOutside, failed};
 
 use crate::fault::{StreamFault, no_memory};
+use crate::lengths::{StartWalk, record_len};
 use byte_transfer::{Failed, Source};
 use std::alloc::{AllocError, Global};
 use std::marker::Model;
@@ -14,8 +15,17 @@ const PIECE: usize = 65_536;
 /// Nothing is read behind so many bytes of a text: numbers of places have 64 bits.
 const MOST: u64 = 4_611_686_018_427_387_904;
 
-/// How many bytes may be read again for each that is taken.
-const AGAIN: u64 = 2;
+/// How many bytes may be read again for each that is taken, where a part may not be whole.
+const AGAIN: u64 = 1;
+
+/// What begins the bytes that are held.
+#[derive(Clone, Copy)]
+enum Part {
+    /// The start of a trace, walked so far.
+    Start(StartWalk),
+    /// A record.
+    Record,
+}
 
 /// The bytes of a text that were taken and not used yet, and where in the text they stand.
 #[derive(Drop)]
@@ -23,8 +33,13 @@ pub(crate) struct Held {
     bytes: Vec<u8>,
     used: usize,
     place: u64,
-    // How many bytes may be read again.
+    part: Part,
+    // How many bytes the part has at least.
+    least: usize,
+    // How many bytes may be read again of one that may not be whole.
     credit: u64,
+    // What one call reads into: so many bytes as it may read, or none yet.
+    piece: Vec<u8>,
 }
 
 impl Model for Held {
@@ -36,19 +51,23 @@ impl Model for Held {
     ghost view = { λ h. record { rest = drop h.used h.bytes.items; place = h.place } };
 
     ghost invariant = { λ h. (h.used ≤ vec_len h.bytes)
-        × (h.place + vec_len h.bytes < h.used + 2 ^ 63) };
+        × (h.place + vec_len h.bytes < h.used + 2 ^ 63)
+        × (vec_len h.piece ≤ 65536) };
 }
 
 impl Held {
     /// The first bytes of a text.
-    pub(crate) fn new(bytes: Vec<u8>) -> Self
+    pub(crate) fn new(alloc: Global, bytes: Vec<u8>) -> Self
         ensures { result ≡ record { rest = bytes.items; place = 0 } }
     {
         Held {
             bytes,
             used: 0,
             place: 0,
-            credit: 0,
+            part: Part::Start(StartWalk::new()),
+            least: 0,
+            credit: PIECE as u64,
+            piece: Vec::new(alloc),
         }
     }
 
@@ -74,6 +93,8 @@ impl Held {
     {
         self.used += count;
         self.place += count as u64;
+        self.part = Part::Record;
+        self.least = 0;
     }
 
     /// Lets go of the bytes that were used.
@@ -101,10 +122,12 @@ impl Held {
         if self.place > MOST || (self.bytes.len() - self.used) as u64 > MOST - self.place {
             return Err(no_memory());
         }
-        let mut piece = [0; PIECE];
-        match reader.read_some(&mut piece) {
+        if self.piece.is_empty() && self.piece.resize(PIECE, 0).is_err() {
+            return Err(no_memory());
+        }
+        match reader.read_some(&mut self.piece) {
             Ok(0) => Ok(false),
-            Ok(count) => match self.bytes.extend_from_slice(&piece[..count]) {
+            Ok(count) => match self.bytes.extend_from_slice(&self.piece[..count]) {
                 Ok(()) => {
                     self.credit = self.credit.saturating_add(AGAIN * count as u64);
                     Ok(true)
@@ -115,12 +138,31 @@ impl Held {
         }
     }
 
-    /// Whether the bytes that are held may be read again: those that are read so are at most twice
-    /// those that were taken.
+    /// Whether the part may be whole, by the lengths in it that are there.
+    pub(crate) fn may_be_whole(&mut self) -> bool
+        ensures same { self.new ≡ self.old }
+        ensures bound { self.new.place + length self.new.rest < 2 ^ 63 }
+    {
+        let rest = &self.bytes[self.used..];
+        if rest.len() < self.least {
+            return false;
+        }
+        self.least = match &mut self.part {
+            Part::Start(walk) => walk.len(rest),
+            Part::Record => record_len(rest),
+        };
+        rest.len() >= self.least
+    }
+
+    /// Whether the bytes that are held may be read again: where they may be the whole part, and else
+    /// at most once for each byte that was taken, and a piece more.
     fn may_try(&mut self) -> bool
         ensures same { self.new ≡ self.old }
         ensures bound { self.new.place + length self.new.rest < 2 ^ 63 }
     {
+        if self.may_be_whole() {
+            return true;
+        }
         let cost = (self.bytes.len() - self.used) as u64;
         if self.credit < cost {
             return false;
@@ -129,9 +171,9 @@ impl Held {
         true
     }
 
-    /// Takes more bytes, as soon as what is held may be read again, or those that the reader has
-    /// left, and tells whether it had any. So what is read again and again takes linear time, and a
-    /// part is mostly read as soon as it is whole.
+    /// Takes more bytes, until what is held may be read again, or those that the reader has left, and
+    /// tells whether it had any. So what is read again and again takes linear time, and a part is
+    /// read as soon as it is whole.
     pub(crate) fn take_on<R: Source>(
         &mut self,
         alloc: Global,

@@ -5,6 +5,7 @@
 mod counting;
 mod fault;
 mod held;
+mod lengths;
 mod parts;
 mod reading;
 mod stream;

@@ -1,7 +1,8 @@
 //! A trace that is taken from a reader record by record.
-ghost use Rattle.std.specs.Prelude.{◌≡◌, ◌+◌, ◌-◌, ◌<◌, ◌^◌, false, length, IfOk, IfErr, IfSome, OnOk};
+ghost use Rattle.std.specs.Prelude.{◌≡◌, ◌+◌, ◌-◌, ◌<◌, ◌^◌, false, length, IfOk, IfErr, IfSome};
+ghost use Rattle.std.specs.Prelude.{None, OnOk, Option, Some, List, ℕ};
 ghost use Rattle.byte_transfer.specs.Transfer.{Takes};
-ghost use Rattle.trace_stream.specs.Held.{HasMore, IsOutside, Trails, failed};
+ghost use Rattle.trace_stream.specs.Held.{HasMore, IsOutside, Stops, Trails, failed};
 ghost use Rattle.trace_stream.specs.Streams.{Gives, GivesFault, IsCoreOf, Opens, TellsOfStart};
 
 use crate::fault::StreamFault;
@@ -10,7 +11,7 @@ use crate::parts::{record_on, start_on};
 use byte_transfer::Source;
 use std::alloc::{AllocError, Global};
 use trace_format::{Kind, Series, TraceFault};
-use trace_records::{Front, Record, Start, Tally};
+use trace_records::{Front, Record, Start, Tally, read_record};
 
 /// The records of a trace of version 3 that is taken from a reader, which stands beside it. It
 /// keeps the bytes of one record, and of the start what decides its records.
@@ -71,6 +72,17 @@ fn at_end<R: Source>(alloc: Global, held: &mut Held, reader: &mut R) -> Result<(
     Ok(())
 }
 
+/// Stops at a fault that no byte more changes.
+fn stop_at(fault: TraceFault) -> Result<(), StreamFault>
+    ensures err { IfErr result (λ e. (left : Option (List ℕ)) → Stops fault left left e) }
+    ensures failures { failed result ≡ 0 }
+{
+    if fault.kind != Kind::Short {
+        return Err(StreamFault::Trace(fault));
+    }
+    Ok(())
+}
+
 impl Stream {
     /// The start of a trace, whose first bytes were read ahead, and the stream of its records.
     ///
@@ -89,7 +101,7 @@ impl Stream {
         ensures taken { Takes (R.left reader.old) (R.left reader.new) }
         ensures failures { R.failures reader.new ≡ R.failures reader.old + failed result }
     {
-        let mut held = Held::new(ahead);
+        let mut held = Held::new(alloc, ahead);
         let start = start_on(alloc, &mut held, reader)?;
         let core = core_of(alloc, &start)?;
         let stream = Stream {
@@ -128,6 +140,57 @@ impl Stream {
             }
             None => {
                 at_end(alloc, &mut self.held, reader)?;
+                Ok(None)
+            }
+        }
+    }
+
+    /// The next record, where it is held whole. It reads nothing. After a fault the stream stands for
+    /// nothing.
+    ///
+    /// # Errors
+    ///
+    /// The fault behind the records so far, where the bytes that are held have it.
+    pub fn next_held(&mut self, alloc: Global) -> Result<Option<Record>, StreamFault>
+        ensures some { IfOk result (λ x. IfSome x (λ r. (left : Option (List ℕ))
+            → Gives left left self.old self.new (Some r))) }
+        ensures none { result ≡ Ok None → self.new ≡ self.old }
+        ensures err { IfErr result (λ e. (left : Option (List ℕ))
+            → GivesFault left left self.old e) }
+        ensures on { IfOk result (λ x. IfSome x (λ _. (self.old.held.place < self.new.held.place)
+            × (self.new.held.place < 2 ^ 63))) }
+        ensures failures { failed result ≡ 0 }
+    {
+        if self.held.may_be_whole() {
+            self.read_held(alloc)
+        } else {
+            Ok(None)
+        }
+    }
+
+    /// The same, by a try to read it.
+    fn read_held(&mut self, alloc: Global) -> Result<Option<Record>, StreamFault>
+        ensures some { IfOk result (λ x. IfSome x (λ r. (left : Option (List ℕ))
+            → Gives left left self.old self.new (Some r))) }
+        ensures none { result ≡ Ok None → self.new ≡ self.old }
+        ensures err { IfErr result (λ e. (left : Option (List ℕ))
+            → GivesFault left left self.old e) }
+        ensures on { IfOk result (λ x. IfSome x (λ _. (self.old.held.place < self.new.held.place)
+            × (self.new.held.place < 2 ^ 63))) }
+        ensures failures { failed result ≡ 0 }
+    {
+        let place = self.held.place();
+        match read_record(alloc, &self.core, &self.front, self.held.rest(), place) {
+            Ok((next, count)) => match next {
+                Some(record) => {
+                    self.held.skip(count);
+                    self.front.add(alloc, &record)?;
+                    Ok(Some(record))
+                }
+                None => Ok(None),
+            },
+            Err(fault) => {
+                stop_at(fault)?;
                 Ok(None)
             }
         }

@@ -68,14 +68,21 @@ default_len e side = if e.opcode == 23 then length side else vector_count e side
 abbrev pub place_comment : Look → List ℕ → ℕ → List ℕ
 place_comment look indent place = if look.places then indent ++ codes "# " ++ decimal place ++ codes "\n" else []
 
+-- The first words of an entry: its operation, its flags and its descriptor.
+abbrev pub head_words : Sqe → List ℕ
+head_words e = codes "  " ++ opcode_text e.opcode ++ entry_flags e.flags ++ fd_word e.opcode (cast_unsigned w32 e.fd)
+
 -- The words of an entry before the bytes that it writes. Its length is left out where it is the one that is told.
 abbrev pub front_words : Sqe → List ℕ → ℕ → List ℕ
-front_words e side default =
-    codes "  " ++ opcode_text e.opcode ++ entry_flags e.flags ++ fd_word e.opcode (cast_unsigned w32 e.fd) ++ side_words e side ++ later_words e default
+front_words e side default = head_words e ++ side_words e side ++ later_words e default
+
+-- The words of an entry of these fields, with these bytes beside it.
+unfoldable pub words_of : Look → Sqe → List ℕ → List ℕ
+words_of look e side = front_words e side (default_len e side) ++ data_text look (codes " \\\n    ") (data_of e side) ++ codes "\n"
 
 -- The words of an entry.
-unfoldable pub entry_words : Look → Submitted → List ℕ
-entry_words look e = front_words e.sqe e.side (default_len e.sqe e.side) ++ data_text look (codes " \\\n    ") (data_of e.sqe e.side) ++ codes "\n"
+abbrev pub entry_words : Look → Submitted → List ℕ
+entry_words look e = words_of look e.sqe e.side
 
 -- The line of the entry at a place.
 unfoldable pub entry_line : Look → ℕ → Submitted → List ℕ

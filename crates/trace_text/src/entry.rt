@@ -2,8 +2,9 @@
 ghost use Rattle.std.specs.Prelude.{◌≡◌, ◌≤◌, ◌+◌, ◌*◌, ◌^◌, ◌<◌, ◌++◌, drop, length, OnOk};
 ghost use Rattle.std.specs.Int.{cast_unsigned, from_le_bytes, w16, w32, w64};
 ghost use Rattle.std.specs.Prelude.{take};
-ghost use Rattle.trace_text.specs.Entry.{data_of, data_text, default_len, entry_line, entry_words};
-ghost use Rattle.trace_text.specs.Entry.{front_words, has_path, has_paths, lengths_from, lengths_text};
+ghost use Rattle.trace_text.specs.Entry.{data_of, data_text, default_len, entry_line, words_of};
+ghost use Rattle.trace_text.specs.Entry.{front_words, has_path, has_paths, head_words};
+ghost use Rattle.trace_text.specs.Entry.{lengths_from, lengths_text};
 ghost use Rattle.trace_text.specs.Entry.{paths_text, place_comment, shown_part, side_words};
 ghost use Rattle.trace_text.specs.Entry.{vector_count};
 
@@ -209,6 +210,20 @@ fn fd_bits(sqe: &Sqe) -> u32
     sqe.fd.cast_unsigned()
 }
 
+/// The first words of an entry: its operation, its flags and its descriptor.
+///
+/// # Errors
+///
+/// Out of memory.
+pub fn push_head(text: &mut Vec<u8>, sqe: &Sqe) -> Result<(), AllocError>
+    ensures { OnOk result (text.new.items ≡ text.old.items ++ head_words sqe.now) }
+{
+    push_bytes(text, b"  ")?;
+    push_opcode(text, sqe.opcode)?;
+    push_entry_flags(text, sqe.flags)?;
+    push_fd(text, sqe.opcode, fd_bits(sqe))
+}
+
 /// The words of an entry before the bytes that it writes. Its length is left out where it is
 /// `default`.
 ///
@@ -224,10 +239,7 @@ pub fn push_front(
     ensures { OnOk result (text.new.items
         ≡ text.old.items ++ front_words sqe.now side.now default) }
 {
-    push_bytes(text, b"  ")?;
-    push_opcode(text, sqe.opcode)?;
-    push_entry_flags(text, sqe.flags)?;
-    push_fd(text, sqe.opcode, fd_bits(sqe))?;
+    push_head(text, sqe)?;
     push_side(text, sqe, side)?;
     push_later(text, sqe, default)
 }
@@ -237,10 +249,10 @@ pub fn push_front(
 /// # Errors
 ///
 /// Out of memory.
-#[tactic(auto, unfolding(crate::specs::Entry::entry_words))]
+#[tactic(auto, unfolding(crate::specs::Entry::words_of))]
 pub fn push_words(text: &mut Vec<u8>, look: Look, sqe: &Sqe, side: &[u8]) -> Result<(), AllocError>
     ensures { OnOk result (text.new.items
-        ≡ text.old.items ++ entry_words look (record { sqe = sqe.now; side = side.now })) }
+        ≡ text.old.items ++ words_of look sqe.now side.now) }
 {
     push_front(text, sqe, side, default_len(sqe, side))?;
     push_data(text, look, b" \\\n    ", data_of(sqe, side))?;

@@ -212,7 +212,11 @@ fn push_user(text: &mut Vec<u8>, number: u64) -> Result<(), AllocError>
 }
 
 /// The fields behind what stands beside the entry.
-pub(crate) fn push_later(text: &mut Vec<u8>, sqe: &Sqe, default: usize) -> Result<(), AllocError>
+///
+/// # Errors
+///
+/// Out of memory.
+pub fn push_later(text: &mut Vec<u8>, sqe: &Sqe, default: usize) -> Result<(), AllocError>
     ensures { OnOk result (text.new.items ≡ text.old.items ++ later_words sqe.now default) }
 {
     push_off(text, sqe.opcode, sqe.off)?;

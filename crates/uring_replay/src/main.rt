@@ -1,8 +1,8 @@
 //! Executes recorded io_uring submissions, and reports every result.
 #![tactic(auto)]
 
-ghost use Rattle.replay_program.specs.Limits.{IsServed};
-ghost use Rattle.replay_program.specs.Words.{IsServedTask};
+ghost use Rattle.program_words.specs.Limits.{IsServed};
+ghost use Rattle.program_words.specs.Words.{IsServedTask};
 
 mod hints;
 mod inputs;
@@ -15,7 +15,7 @@ use crate::trouble::{Trouble, shown};
 use replay_program::{
     Files, Form, FromStd, Mode, Options, Request, Task, Usage, no_memory, not_text, read_words,
     run, run_check, run_diff, run_diff_of_two, run_diff_of_two_shown, run_diff_shown, run_make,
-    run_show,
+    run_report, run_show,
 };
 use std::alloc::AllocError;
 use std::env;
@@ -113,6 +113,9 @@ fn replayed<'a, T: Threads + Wait + Sync>(
     let mut reader = FromStd::new(input);
     let done = match options.mode {
         Mode::Check => run_check(rt.alloc(), &mut reader, &mut writer, form),
+        Mode::Serial | Mode::Run { eager: false, .. } if form == Form::Text => {
+            run_report(threads, rt.alloc(), &mut reader, &mut writer, options)
+        }
         _ => run(threads, rt.alloc(), &mut reader, &mut writer, options, form),
     };
     ended(writer.stream, done)

@@ -19,6 +19,18 @@ returns-in-Fsync-clause-meaning c = rw c.in-Fsync.is c.syncing.ensures.meaning
 pub returns-in-Fsync-clause-limits : goal.returns-in-Fsync-clause-limits
 returns-in-Fsync-clause-limits c = c.syncing.ensures.limits
 
+pub returns-in-SyncFileRange-clause-meaning : goal.returns-in-SyncFileRange-clause-meaning
+returns-in-SyncFileRange-clause-meaning c = rw c.in-SyncFileRange.is c.syncing_range.ensures.meaning
+
+pub returns-in-SyncFileRange-clause-limits : goal.returns-in-SyncFileRange-clause-limits
+returns-in-SyncFileRange-clause-limits c = c.syncing_range.ensures.limits
+
+pub returns-in-Fadvise-clause-meaning : goal.returns-in-Fadvise-clause-meaning
+returns-in-Fadvise-clause-meaning c = rw c.in-Fadvise.is c.advising.ensures.meaning
+
+pub returns-in-Fadvise-clause-limits : goal.returns-in-Fadvise-clause-limits
+returns-in-Fadvise-clause-limits c = c.advising.ensures.limits
+
 pub returns-in-Close-clause-meaning : goal.returns-in-Close-clause-meaning
 returns-in-Close-clause-meaning c = rw c.in-Close.is c.closing.ensures.meaning
 

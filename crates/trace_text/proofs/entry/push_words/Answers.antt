@@ -1,11 +1,11 @@
 use Rattle.std.proofs.Common.{◌≡◌, ℕ, List, OnOk, ◌++◌}
 use Rattle.std.specs.Prelude.{codes}
-use Rattle.trace_text.specs.Entry.{front_words, default_len, data_text, data_of, entry_words}
+use Rattle.trace_text.specs.Entry.{front_words, default_len, data_text, data_of, words_of}
 use Rattle.trace_text.proofs.Adds.{add, add_last}
 use Rattle.trace_text.proofs.entry.push_words.Goals as goal
 
 pub returns : goal.returns
-unfolding entry_words
+unfolding words_of
 returns c =
     let p0 : List ℕ = front_words c.args.sqe.now c.args.side.now (default_len c.args.sqe.now c.args.side.now) in
     let e0 : c.push_front.new.text.items ≡ c.args.text.now.items ++ p0 = (rw (c.default_len.ensures) at c.in_ok-push_front.ensures) in

@@ -1,4 +1,5 @@
 use Rattle.std.proofs.Common.{◌≡◌, ◌+◌, ◌-◌, take, drop, arith, ap, ◌∙◌}
+use Rattle.trace_format.specs.Entries.{side_len}
 use Rattle.trace_format.proofs.Slices.{part_behind}
 use Rattle.trace_format.proofs.entry.Entry.side_slice.Goals as goal
 
@@ -6,5 +7,5 @@ pub returns : goal.returns
 returns c =
     let text = c.self.inside.text.now.value.items in
     let spot = c.self.inside.spot in
-    let count : spot.side_len ≡ 68 + spot.side_len - 68 = omega arith in
-    c.of.ensures ∙ ap (λ n. take n (drop (spot.at + 68) text)) count ∙ part_behind text spot.at 68 (68 + spot.side_len) (omega arith) ∙ ap (λ e. e.side) c.self.view_is
+    let count : side_len spot.form ≡ 68 + side_len spot.form - 68 = omega arith in
+    c.of.ensures ∙ ap (λ n. take n (drop (spot.at + 68) text)) (c.side_len.ensures ∙ count) ∙ part_behind text spot.at 68 (68 + side_len spot.form) (omega arith) ∙ ap (λ e. e.side) c.self.view_is

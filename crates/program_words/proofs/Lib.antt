@@ -1,0 +1,6 @@
+mod CommandLemmas
+mod NumberWords
+mod OptionWalk
+mod JsonWords
+mod RoundWords
+mod WordsLemmas

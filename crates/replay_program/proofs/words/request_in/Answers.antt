@@ -1,4 +1,0 @@
-use Rattle.replay_program.proofs.words.request_in.Goals as goal
-
-pub returns-clause-task : goal.returns-clause-task
-returns-clause-task c = λ form task asked. (c.task_in.ensures.task task asked.0, c.files_in.ensures asked.1.0, c.form_in.ensures form asked.1.1)

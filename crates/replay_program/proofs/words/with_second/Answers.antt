@@ -1,9 +1,0 @@
-use Rattle.std.proofs.lemmas.Result.{IfOk-weaker}
-use Rattle.replay_program.proofs.CommandLemmas.{argued}
-use Rattle.replay_program.proofs.words.with_second.Goals as goal
-
-pub returns : goal.returns
-returns c =
-    λ app given.
-    let has = rw c.in_ok-command.was at given in
-    IfOk-weaker c.arg.result _ _ (λ command h. argued _ _ _ _ _ has c.second_argument.ensures h) c.arg.ensures

@@ -1,0 +1,114 @@
+//! A report that is written while its trace is read, where that is of version 3.
+ghost use Rattle.std.specs.Prelude.{◌≡◌, ◌+◌, ◌-◌, ◌^◌, ◌<◌, IfErr, IfOk, OnOk};
+ghost use Rattle.report_stream.specs.Steps.{reads_of, writes_of};
+ghost use Rattle.program_words.specs.Limits.{IsServed};
+ghost use Rattle.replay_program.specs.Runs.{TakesTrace, read_failures, reads_failed};
+ghost use Rattle.replay_program.specs.Runs.{write_failures, writes_failed};
+ghost use Rattle.replay_program.specs.Taking.{IsReportOf, TellsOfReport};
+ghost use Rattle.replay_program.specs.Streaming.{IsStreamed, ReportUpTo, WritesReportOf, report_told};
+
+use crate::fault::RunFault;
+use crate::recordings::{Taken, recording_of_whole, taken_text};
+use crate::session::{no_memory, text_in_rounds, written_pieces};
+use byte_transfer::{Sink, Source};
+use program_words::{Mode, Options};
+use replay_report::Pieces;
+use report_stream::{Asked, ReportFault, write_report};
+use std::alloc::Global;
+use std::sync::Wait;
+use std::thread::Threads;
+
+/// Reads the trace and writes its report. Of version 3 each record is run as it comes, and its lines
+/// are written before more is read, in the memory of the world and one record. One of version 1 or 2
+/// is run as the options say, and nothing is written before the whole report is there.
+///
+/// # Errors
+///
+/// Trace where the input is none: of version 3 behind the lines of the records before the fault.
+/// Replay when out of memory or threads, Read and Write at a call that failed.
+pub fn run_report<T: Threads + Wait + Sync, R: Source, W: Sink>(
+    rt: &T,
+    alloc: Global,
+    reader: &mut R,
+    writer: &mut W,
+    options: &Options,
+) -> Result<(), RunFault>
+    requires mode { IsServed options.now.mode }
+    requires streamed { IsStreamed options.now.mode }
+    requires reader { R.failures reader.old < 2 ^ 64 - 1 }
+    requires writer { W.failures writer.old < 2 ^ 64 - 1 }
+
+    // The report is the one of the trace that the reader's bytes spell.
+    ensures done { OnOk result (WritesReportOf options.now.shown (R.left reader.old)
+        (R.left reader.new) (W.written writer.old) (W.written writer.new)) }
+    ensures fault { IfErr result (ReportUpTo options.now.shown (R.left reader.old)
+        (R.left reader.new) (W.written writer.old) (W.written writer.new)) }
+
+    ensures taken { TakesTrace (R.left reader.old) (R.left reader.new) }
+    ensures read { R.failures reader.new ≡ R.failures reader.old + read_failures result }
+    ensures write { W.failures writer.new ≡ W.failures writer.old + write_failures result }
+{
+    match taken_text(alloc, reader)? {
+        Taken::Head(head) => match write_report(
+            rt,
+            alloc,
+            head,
+            reader,
+            writer,
+            asked_of(options),
+        ) {
+            Ok(()) => Ok(()),
+            Err(fault) => Err(report_told(fault)),
+        },
+        Taken::Whole(text) => {
+            let report = report_of_whole(rt, alloc, text, options)?;
+            written_pieces(writer, &report)
+        }
+    }
+}
+
+/// What the options ask of a report. One that is made in recorded order has one thread.
+fn asked_of(options: &Options) -> Asked
+    ensures { result.shown ≡ options.now.shown }
+{
+    let workers = match options.mode {
+        Mode::Run { workers, .. } => workers,
+        _ => 1,
+    };
+    Asked {
+        shown: options.shown,
+        workers,
+    }
+}
+
+/// The report of a text of version 1 or 2.
+fn report_of_whole<T: Threads + Wait + Sync>(
+    rt: &T,
+    alloc: Global,
+    text: Vec<u8>,
+    options: &Options,
+) -> Result<Pieces, RunFault>
+    requires mode { IsServed options.now.mode }
+    requires streamed { IsStreamed options.now.mode }
+    ensures ok { IfOk result (IsReportOf text.items options.now.shown) }
+    ensures err { IfErr result (TellsOfReport text.items) }
+    ensures read { read_failures result ≡ 0 }
+    ensures write { write_failures result ≡ 0 }
+{
+    let trace = recording_of_whole(alloc, text)?;
+    text_in_rounds(rt, alloc, &trace, options)
+}
+
+/// How the program tells of a report that was not written whole.
+fn report_told(fault: ReportFault) -> RunFault
+    ensures told { result ≡ report_told fault }
+    ensures reads { reads_failed result ≡ reads_of fault }
+    ensures writes { writes_failed result ≡ writes_of fault }
+{
+    match fault {
+        ReportFault::Trace(fault) => RunFault::Trace(fault),
+        ReportFault::Memory => RunFault::Trace(no_memory()),
+        ReportFault::Read => RunFault::Read,
+        ReportFault::Write => RunFault::Write,
+    }
+}

@@ -1,0 +1,3 @@
+pub mod LastLines
+pub mod WholeReport
+pub mod Turns

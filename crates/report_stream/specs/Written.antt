@@ -1,0 +1,91 @@
+-- The model: what is written of a trace of version 3 that is replayed record by record: its report, or so much of it as the records so far tell.
+use Rattle.std.specs.Prelude.{◌≡◌, ◌≤◌, ◌⊎◌, ◌++◌, ℕ, true, [], List, length, take, Option}
+use Rattle.std.specs.Io.KnownBytes.{Appends, Consumes, IsAtEnd, Keeps}
+use Rattle.trace_format.specs.Grammar.{Breaks}
+use Rattle.trace_format.specs.declared.fault.Kind.TheVariants.{Short}
+use Rattle.trace_format.specs.declared.fault.TraceFault.{TraceFault}
+use Rattle.trace_records.specs.declared.record.Record.{Record}
+use Rattle.trace_records.specs.declared.start.Start as three
+use Rattle.trace_records.specs.declared.trace.Trace as whole
+use Rattle.trace_records.specs.Start.{start}
+use Rattle.trace_records.specs.Whole.{IsFront, SpellsTrace}
+use Rattle.trace_stream.specs.Streams.{HasFaultBehind, ReadsAll, trace_of}
+use Rattle.recording.specs.Growing.{of_records}
+use Rattle.op_meaning.specs.Step.{sequential_replies, sequential_reply, sequential_world}
+use Rattle.stream_laws.specs.Streamed.{place_behind, recording_of}
+use Rattle.replay_report.specs.declared.showing.Lines.{Lines}
+use Rattle.replay_report.specs.declared.showing.Shown.{Shown}
+use Rattle.replay_report.specs.InOrder.{entry_lines}
+use Rattle.replay_report.specs.Report.{report_of, title}
+use Rattle.report_stream.specs.declared.fault.ReportFault.{ReportFault}
+use Rattle.report_stream.specs.declared.fault.ReportFault.TheVariants.{Trace, Memory, Read, Write}
+
+-- The report of the sequential run of a trace.
+abbrev pub report : whole.Trace → Shown → List ℕ
+report t shown = let u = of_records t in report_of u (sequential_world u) (sequential_replies u) shown
+
+-- How its lines are written.
+abbrev pub lines_in : Shown → Lines
+lines_in shown = record { names = shown.names; in_order = true }
+
+-- The text is the first line and the lines of the entries below a place: so the report of every trace begins that begins with these records.
+pub record IsTextTo (b : three.Start) (rs : List Record) (shown : Shown) (place : ℕ) (text : List ℕ) : Type 0 where
+  pub is : (back : List Record) → let u = recording_of b (rs ++ back) in text ≡ title (lines_in shown) ++ entry_lines u (sequential_reply u) (lines_in shown) place
+
+-- So it is of all entries of these records.
+abbrev pub IsFrontText : three.Start → List Record → Shown → List ℕ → Type 0
+IsFrontText b rs shown text = IsTextTo b rs shown (place_behind b rs) text
+
+-- The bytes begin with a start and these records.
+pub record HasFront (bytes : List ℕ) (b : three.Start) (rs : List Record) : Type 0 where
+  pub here : List ℕ
+  pub rest : List ℕ
+  pub split : bytes ≡ here ++ rest
+  pub spelled : IsFront here (trace_of b rs)
+
+-- What the bytes so far give: nothing, the lines of the records that they begin with, or the whole report.
+abbrev pub Tells : List ℕ → Shown → List ℕ → Type 0
+Tells bytes shown text =
+    (text ≡ [])
+    ⊎ ((b : three.Start) × (rs : List Record) × HasFront bytes b rs × IsFrontText b rs shown text)
+    ⊎ ((t : whole.Trace) × SpellsTrace bytes t × (text ≡ report t shown))
+
+-- The known bytes grew by the first bytes of a text, perhaps by none, perhaps by all.
+abbrev pub AppendsFirst : Option (List ℕ) → Option (List ℕ) → List ℕ → Type 0
+AppendsFirst old new text = (n : ℕ) × (n ≤ length text) × Appends old new (take n text)
+
+-- The reader was read to its end, what was read ahead and what it had left spells a trace, and the writer took the report of that, and nothing else.
+abbrev pub WritesReport : List ℕ → Shown → (left left' written written' : Option (List ℕ)) → Type 0
+WritesReport ahead shown left left' written written' =
+    ReadsAll ahead left left' (λ text. (t : whole.Trace) × SpellsTrace text t × Appends written written' (report t shown))
+
+-- The bytes have the fault in the start, and nothing was written.
+abbrev pub FailsAtStart : List ℕ → TraceFault → (written written' : Option (List ℕ)) → Type 0
+FailsAtStart bytes f written written' = Breaks start 0 bytes f × Keeps written written'
+
+-- They have it behind some records, and the writer took the first line and the lines of these records, and nothing else.
+abbrev pub FailsBehind : List ℕ → Shown → TraceFault → (written written' : Option (List ℕ)) → Type 0
+FailsBehind bytes shown f written written' =
+    (b : three.Start) × (rs : List Record) × (text : List ℕ) × HasFaultBehind bytes b rs f × IsFrontText b rs shown text × Appends written written' text
+
+-- What was read ahead and what the reader lost has the fault. It is told where the reader is at its end, or where no byte more changes it.
+pub record WritesBefore (ahead : List ℕ) (shown : Shown) (f : TraceFault) (left left' written written' : Option (List ℕ)) : Type 0 where
+  pub more : List ℕ
+  pub taken : Consumes left left' more
+  pub ended : f.kind ≡ Short → IsAtEnd left'
+  pub wrote : FailsAtStart (ahead ++ more) f written written' ⊎ FailsBehind (ahead ++ more) shown f written written'
+
+-- The writer took a beginning of what the bytes so far give, and nothing else.
+pub record WritesSome (ahead : List ℕ) (shown : Shown) (left left' written written' : Option (List ℕ)) : Type 0 where
+  pub more : List ℕ
+  pub taken : Consumes left left' more
+  pub text : List ℕ
+  pub told : Tells (ahead ++ more) shown text
+  pub wrote : AppendsFirst written written' text
+
+-- What was written before a fault.
+abbrev pub WritesUpTo : List ℕ → Shown → (left left' written written' : Option (List ℕ)) → ReportFault → Type 0
+WritesUpTo ahead shown left left' written written' (Trace f) = WritesBefore ahead shown f left left' written written'
+WritesUpTo ahead shown left left' written written' Memory = WritesSome ahead shown left left' written written'
+WritesUpTo ahead shown left left' written written' Read = WritesSome ahead shown left left' written written'
+WritesUpTo ahead shown left left' written written' Write = WritesSome ahead shown left left' written written'
