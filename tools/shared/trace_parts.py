@@ -8,7 +8,8 @@ from record_traces import DESCRIPTION
 from traces import WRITE, WRITEV
 
 DIRECTORY, FILE, NAME = 1, 2, 3
-# What begins a record of version 3.
+# The forms of an entry of version 3; what begins a record.
+STORED, ZEROS, GIVEN, REFUSED = range(4)
 ENTER, FILL, RING, RING_ENDS, END = 1, 2, 5, 6, 7
 # The queue of a ring that continues no other, and the most bytes that a write moves.
 OWN, MOST_MOVED = (1 << 32) - 1, 0x7FFFF000
@@ -41,7 +42,8 @@ class Description(NamedTuple):
 
 
 class Entry(NamedTuple):
-    """The fields of struct io_uring_sqe in order, and the side bytes; of a write of zeros the lengths of its vectors alone."""
+    """The fields of struct io_uring_sqe in order, and the side bytes; of a write of zeros the lengths of its vectors alone; of an entry whose result is
+    given none, and its form and what stands behind it."""
 
     opcode: int
     flags: int
@@ -59,6 +61,7 @@ class Entry(NamedTuple):
     last: int
     side: bytes
     is_zeros: bool = False
+    given: bytes = b""
 
     def zeros(self) -> int:
         """How many zeros a write of zeros writes."""
@@ -69,6 +72,8 @@ class Entry(NamedTuple):
 
     def text(self, version: int) -> bytes:
         fields = traces.ENTRY.pack(*self[:14])
+        if self.given:
+            return fields + self.given
         if self.is_zeros:
             return fields + struct.pack("<BI", 1, len(self.side) + self.zeros()) + self.side
         whole = traces.with_side(fields, self.side)
@@ -229,11 +234,13 @@ def record_of(source: Source) -> Record:
 
 def entry_of(source: Source) -> Entry:
     fields = traces.ENTRY.unpack(source.take(traces.ENTRY.size))
-    is_zeros, count = source.fields("BI")
-    opcode, length = fields[0], fields[6]
-    if is_zeros:
+    form = source.number("B")
+    if form in (GIVEN, REFUSED):
+        return Entry(*fields, b"", given=bytes([form]) + source.take(5 if form == GIVEN else 4))
+    count, opcode, length = source.number("I"), fields[0], fields[6]
+    if form == ZEROS:
         count = 8 * length if opcode == WRITEV and length <= 1024 else 0
-    return Entry(*fields, source.take(count), bool(is_zeros))
+    return Entry(*fields, source.take(count), form == ZEROS)
 
 
 def new_ring_of(source: Source) -> NewRing:

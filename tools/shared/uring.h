@@ -19,7 +19,8 @@ enum {
 	REGISTER_RESIZE_RINGS = 33,
 };
 
-/* The opcodes that the profile serves. FTRUNCATE is younger than many a header. */
+/* The opcodes that the profile serves, two of them in version 3 alone. FTRUNCATE is younger than
+ * many a header. */
 enum opcode {
 	OP_NOP = 0,
 	OP_READV = 1,
@@ -27,11 +28,13 @@ enum opcode {
 	OP_FSYNC = 3,
 	OP_READ_FIXED = 4,
 	OP_WRITE_FIXED = 5,
+	OP_SYNC_FILE_RANGE = 8,
 	OP_FALLOCATE = 17,
 	OP_OPENAT = 18,
 	OP_CLOSE = 19,
 	OP_READ = 22,
 	OP_WRITE = 23,
+	OP_FADVISE = 24,
 	OP_RENAMEAT = 35,
 	OP_UNLINKAT = 36,
 	OP_MKDIRAT = 37,
@@ -46,6 +49,9 @@ enum opcode {
 #define FLAG_ASYNC ((unsigned char)IOSQE_ASYNC)
 #define FLAG_SELECT ((unsigned char)IOSQE_BUFFER_SELECT)
 #define FLAG_SKIP ((unsigned char)(1U << 6))
+
+/* The own flags of a read or write that version 3 serves: RWF_DSYNC and RWF_SYNC. */
+#define SERVED_RW_FLAGS 6U
 
 /* The most bytes that one read or write moves. */
 #define MOST_MOVED 0x7ffff000ULL

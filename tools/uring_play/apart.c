@@ -27,6 +27,7 @@ const char *const apart_words[APARTS] = {
 	[APART_RANGE] = "range",   [APART_LINKS] = "links",	    [APART_DOOM] = "doom",
 	[APART_TESTS] = "tests",   [APART_OPENS] = "opens",	    [APART_EITHER] = "either",
 	[APART_SPACE] = "space",   [APART_LACKS] = "lacks",	    [APART_STUCK] = "stuck",
+	[APART_GIVEN] = "given",
 };
 
 /* --- Entries that are not played ----------------------------------------------------------------
@@ -118,7 +119,7 @@ static bool is_beyond_addresses(const struct entry *entry, const struct fields *
 
 static enum apart why_transfer(const struct entry *entry, const struct fields *it)
 {
-	if (it->own_flags)
+	if (it->own_flags & ~(trace.version == 3 ? SERVED_RW_FLAGS : 0))
 		return APART_FLAGS;
 	if (is_beyond_addresses(entry, it))
 		return APART_MEMORY;
@@ -155,6 +156,8 @@ enum apart why_apart(const struct entry *entry)
 {
 	struct fields it = fields_of(entry);
 
+	if (entry->is_given)
+		return APART_GIVEN;
 	if (!is_served(it.opcode))
 		return it.opcode < 128 ? APART_OPCODE : NOT_APART;
 	if (lacks_opcode(it.opcode))
@@ -175,6 +178,8 @@ enum apart why_never(const struct entry *entry)
 {
 	struct fields it = fields_of(entry);
 
+	if (entry->is_given)
+		return APART_GIVEN;
 	if (!is_served(it.opcode))
 		return it.opcode < 128 ? APART_OPCODE : NOT_APART;
 	if (it.opcode == OP_RENAMEAT && it.own_flags & RENAME_LEAVES_A_DEVICE)
@@ -191,7 +196,7 @@ bool is_found_late(const struct entry *entry)
 {
 	struct fields it = fields_of(entry);
 
-	if (it.flags & (128 | FLAG_FIXED) || it.personality)
+	if (entry->is_given || it.flags & (128 | FLAG_FIXED) || it.personality)
 		return false;
 	if (it.opcode == OP_CLOSE)
 		return it.file_index == UINT32_MAX;
@@ -211,7 +216,9 @@ bool surely_breaks(const struct entry *entry)
 
 	if (is_transfer(opcode))
 		return asked_of(entry) || entry->expected != -EISDIR;
-	if (opcode == OP_FSYNC || opcode == OP_FTRUNCATE)
+	if (opcode == OP_FADVISE)
+		return true;
+	if (opcode == OP_FSYNC || opcode == OP_SYNC_FILE_RANGE || opcode == OP_FTRUNCATE)
 		return entry->expected == -EBADF;
 	return !is_served(opcode) || opcode == OP_OPENAT || opcode == OP_CLOSE || opcode == OP_NOP;
 }

@@ -39,8 +39,15 @@ static bool shows_doom(const struct entry *entry)
 {
 	bool is_failed = is_failure(entry, entry->expected) && entry->expected != -ECANCELED;
 
-	return is_found_late(entry) ||
+	return is_found_late(entry) || entry->is_refused ||
 	       (entry->is_expected && is_failed && !entry->is_posted_expected);
+}
+
+/* Whether the answers say that a member does not run. One that is given may have this result by
+ * itself: then its word says whether it breaks the chain. */
+static bool is_canceled(const struct entry *entry)
+{
+	return entry->expected == -ECANCELED && !(entry->is_given && entry->given == -ECANCELED);
 }
 
 bool is_doomed(const struct entry *first, u32 count)
@@ -50,12 +57,12 @@ bool is_doomed(const struct entry *first, u32 count)
 			return true;
 	}
 	for (u32 at = 0; at + 1 < count; at++) {
-		if (first[at].expected == -ECANCELED)
+		if (is_canceled(&first[at]))
 			return true;
 		if (is_failure(&first[at], first[at].expected) && !(first[at].sqe[1] & FLAG_HARD))
 			return false;
 	}
-	return count > 1 && first[count - 1].expected == -ECANCELED;
+	return count > 1 && is_canceled(&first[count - 1]);
 }
 
 /* A doomed chain is played where the kernel finds it so as it takes it; members whose fault it

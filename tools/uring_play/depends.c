@@ -134,7 +134,7 @@ static u64 bytes_moved(void)
 
 	for (u32 place = 0; place < trace.places; place++) {
 		const struct entry *it = trace.by_place[place];
-		if (it && is_transfer(it->sqe[0]) && it->expected > 0)
+		if (it && is_transfer(it->sqe[0]) && !it->is_given && it->expected > 0)
 			sum += (u64)it->expected;
 	}
 	return sum;

@@ -51,11 +51,16 @@ struct span new_path_of(const struct entry *entry)
 	return (struct span){ entry->side + 2 + length, entry->side_length - 2 - length };
 }
 
+bool is_advice(u8 opcode)
+{
+	return trace.version == 3 && (opcode == OP_SYNC_FILE_RANGE || opcode == OP_FADVISE);
+}
+
 bool is_served(u8 opcode)
 {
-	return opcode == OP_NOP || opcode == OP_FSYNC || opcode == OP_FALLOCATE ||
-	       opcode == OP_FTRUNCATE || opcode == OP_CLOSE || is_transfer(opcode) ||
-	       is_on_names(opcode);
+	return is_advice(opcode) || opcode == OP_NOP || opcode == OP_FSYNC ||
+	       opcode == OP_FALLOCATE || opcode == OP_FTRUNCATE || opcode == OP_CLOSE ||
+	       is_transfer(opcode) || is_on_names(opcode);
 }
 
 bool is_read(u8 opcode)
@@ -84,6 +89,8 @@ u64 asked_of(const struct entry *entry)
 
 bool is_failure(const struct entry *entry, i32 result)
 {
+	if (entry->is_given)
+		return entry->is_refused || entry->fails;
 	if (!is_transfer(entry->sqe[0]))
 		return result < 0;
 	return result < 0 || (u64)result != asked_of(entry);

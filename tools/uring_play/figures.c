@@ -135,6 +135,8 @@ static void say_all(const u64 *times)
 	say("%" PRIu64 " entries in %.3f s (%.0f a second); %" PRIu64 " not played, %" PRIu64
 	    " made up for",
 	    counts.played, counts.seconds, a_second(counts.played), counts.unplayed, counts.mended);
+	if (counts.given)
+		say("%" PRIu64 " of these have given results, and are not tried", counts.given);
 	if (options.depends) {
 		say("%" PRIu64 " bytes moved (%.1f MB a second)", all_bytes(),
 		    a_second(all_bytes()) / 1e6);
@@ -187,9 +189,10 @@ static void write_json(const u64 *times)
 	fprintf(messages,
 		"{\"entries\":%" PRIu64 ",\"seconds\":%.9f,\"entries_per_second\":%.1f,"
 		"\"bytes\":%" PRIu64 ",\"bytes_per_second\":%.1f,\"not_played\":%" PRIu64
-		",\"made_up_for\":%" PRIu64 ",\"taken_as_ended\":%" PRIu64 ",",
+		",\"given\":%" PRIu64 ",\"made_up_for\":%" PRIu64 ",\"taken_as_ended\":%" PRIu64
+		",",
 		counts.played, counts.seconds, a_second(counts.played), all_bytes(),
-		a_second(all_bytes()), counts.unplayed, counts.mended, counts.unsaid);
+		a_second(all_bytes()), counts.unplayed, counts.given, counts.mended, counts.unsaid);
 	if (times) {
 		struct figures it = delays(times);
 		write_shares("delay_ns", &it);

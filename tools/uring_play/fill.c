@@ -262,7 +262,8 @@ static void fill_paths(const struct entry *entry, struct io_uring_sqe *sqe)
 /* Which fields the profile looks at. */
 static bool looks_at_offset(u8 opcode)
 {
-	return is_transfer(opcode) || opcode == OP_FALLOCATE || opcode == OP_FTRUNCATE;
+	return is_transfer(opcode) || opcode == OP_FALLOCATE || opcode == OP_FTRUNCATE ||
+	       is_advice(opcode);
 }
 
 static bool looks_at_buffer(u8 opcode)
@@ -272,7 +273,7 @@ static bool looks_at_buffer(u8 opcode)
 
 static bool looks_at_flags(u8 opcode)
 {
-	return is_transfer(opcode) || opcode == OP_FSYNC ||
+	return is_transfer(opcode) || opcode == OP_FSYNC || is_advice(opcode) ||
 	       (is_on_names(opcode) && opcode != OP_MKDIRAT);
 }
 
@@ -290,9 +291,10 @@ static void keep_named(struct io_uring_sqe *sqe)
 		named.fd = all.fd;
 	if (looks_at_offset(opcode))
 		named.off = all.off;
-	if (looks_at_buffer(opcode) || opcode == OP_FALLOCATE)
+	if (looks_at_buffer(opcode) || opcode == OP_FALLOCATE || opcode == OP_FADVISE)
 		named.addr = all.addr;
-	if (is_transfer(opcode) || opcode == OP_FALLOCATE || has_two_paths(opcode))
+	if (is_transfer(opcode) || opcode == OP_FALLOCATE || has_two_paths(opcode) ||
+	    is_advice(opcode))
 		named.len = all.len;
 	if (looks_at_flags(opcode))
 		named.rw_flags = all.rw_flags;

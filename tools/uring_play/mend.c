@@ -18,16 +18,17 @@ enum { CHUNK = 1 << 16 };
 
 bool can_be_mended(u8 opcode)
 {
-	return opcode == OP_FSYNC || opcode == OP_FALLOCATE || opcode == OP_FTRUNCATE ||
-	       (is_on_names(opcode) && opcode != OP_OPENAT);
+	return is_advice(opcode) || opcode == OP_FSYNC || opcode == OP_FALLOCATE ||
+	       opcode == OP_FTRUNCATE || (is_on_names(opcode) && opcode != OP_OPENAT);
 }
 
 bool is_cut(const struct entry *entry)
 {
 	struct fields it = fields_of(entry);
 
-	return is_transfer(it.opcode) && !is_read(it.opcode) && it.offset == AT_POSITION &&
-	       entry->expected > 0 && (u64)entry->expected < asked_of(entry);
+	return !entry->is_given && is_transfer(it.opcode) && !is_read(it.opcode) &&
+	       it.offset == AT_POSITION && entry->expected > 0 &&
+	       (u64)entry->expected < asked_of(entry);
 }
 
 static void cannot(const struct entry *entry)
@@ -215,7 +216,7 @@ bool is_to_mend(const struct entry *entry)
 {
 	struct fields it = fields_of(entry);
 
-	if (!entry->is_expected)
+	if (!entry->is_expected || entry->is_given)
 		return false;
 	return is_of_names(entry) ? !entry->expected : change_of(entry, &it) != NO_CHANGE;
 }

@@ -177,6 +177,7 @@ void look_at(struct entry *entry)
 	}
 	counts.played += is_played;
 	counts.unplayed += !is_played;
+	counts.given += entry->is_given;
 	if (is_to_mend(entry)) {
 		mend(entry);
 		counts.mended++;

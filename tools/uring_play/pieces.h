@@ -6,7 +6,7 @@
 
 /* What came of it, for the summary. */
 struct counts {
-	u64 played, unplayed, mended, unsaid;
+	u64 played, unplayed, given, mended, unsaid;
 	double seconds;
 };
 extern struct counts counts;

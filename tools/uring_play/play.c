@@ -141,7 +141,8 @@ static bool fill_alone(struct entry *entry)
 	need_ring(entry->ring);
 	if (in_flight[entry->ring] == room_of(entry->ring))
 		return false;
-	entry->apart = entry->expected == -ECANCELED ? APART_LINKS : why_apart(entry);
+	entry->apart =
+		entry->expected == -ECANCELED && !entry->is_given ? APART_LINKS : why_apart(entry);
 	if (entry->apart != NOT_APART)
 		return true;
 	struct io_uring_sqe *sqe = next_sqe(entry->ring, in_flight[entry->ring]++);

@@ -11,7 +11,9 @@ enum {
 	MOST_NUMBERS = 1 << 20,
 	MOST_BUFFERS = 16384,
 	RECORD_END = 7,
+	LEAST_REFUSAL = -4095,
 };
+enum form { FORM_STORED, FORM_ZEROS, FORM_GIVEN, FORM_REFUSED };
 #define MOST_PLACES (1U << 31)
 /* The queue of a ring that continues no other. */
 #define NO_QUEUE UINT32_MAX
@@ -166,14 +168,37 @@ static void take_entry_of_zeros(struct entry *entry)
 		trace.most_zeros = count;
 }
 
+/* An entry whose result stands here. */
+static void take_given(struct entry *entry, bool is_refused)
+{
+	u64 at = text_at();
+	i32 result = (i32)take_number(4);
+
+	entry->is_given = true;
+	entry->given = result;
+	entry->is_refused = is_refused;
+	if (!is_refused)
+		entry->fails = take_limited(1, 1, "Limit");
+	else if (result < LEAST_REFUSAL || result > -1)
+		refuse("Limit", at);
+}
+
 static void take_entry(struct entry *entry, u64 begin)
 {
+	u64 at;
+
 	entry->sqe = take(64);
+	at = text_at();
 	bool is_write = entry->sqe[0] == OP_WRITE || entry->sqe[0] == OP_WRITEV;
-	if (take_limited(1, is_write ? 1 : 0, "Limit"))
+	u32 form = take_limited(1, FORM_REFUSED, "Limit");
+	if (form == FORM_ZEROS && !is_write)
+		refuse("Limit", at);
+	if (form == FORM_STORED)
+		take_stored_entry(entry, begin);
+	else if (form == FORM_ZEROS)
 		take_entry_of_zeros(entry);
 	else
-		take_stored_entry(entry, begin);
+		take_given(entry, form == FORM_REFUSED);
 }
 
 static void take_entries(struct record *record, u64 begin)

@@ -176,7 +176,7 @@ void add_entry(const struct record *record, struct entry *entry)
 {
 	entry->place = trace.places++;
 	entry->ring = record->ring;
-	if (entry->sqe[1] & FLAG_SKIP)
+	if (entry->sqe[1] & FLAG_SKIP && !entry->is_given)
 		trace.rings[record->ring].has_skip = true;
 }
 

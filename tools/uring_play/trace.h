@@ -67,6 +67,8 @@ enum apart {
 	APART_OFFSET,
 	APART_MODE,
 	APART_RANGE,
+	/* The trace gives its result. */
+	APART_GIVEN,
 	/* The kernel does otherwise with its chain. */
 	APART_LINKS,
 	APART_DOOM,
@@ -88,6 +90,9 @@ struct entry {
 	const u8 *side;
 	u32 side_length, place, ring;
 	bool is_zeros;		 /* it writes zeros, which do not stand in the text */
+	bool is_given;		 /* the trace gives its result: it has no side bytes */
+	bool is_refused, fails;	 /* as the answer of its tests by itself; as the trace says */
+	i32 given;		 /* that result */
 	bool is_expected;	 /* the report tells of it */
 	bool is_posted_expected; /* with a completion that is posted */
 	bool is_submitted;

@@ -1,4 +1,5 @@
 #include "aside.h"
+#include "given.h"
 #include "made.h"
 #include "memory.h"
 #include "notes.h"
@@ -137,12 +138,12 @@ static bool is_renumbered(const struct flight *flight, i32 result)
 {
 	const struct io_uring_sqe *sqe = &flight->asked_for;
 	const struct opened *used = flight->used;
+	enum outside why = reason_of(flight->entry);
 	bool is_number = works_on_file(sqe->opcode) && !(sqe->flags & FLAG_FIXED);
 
 	if (closes_in_table(sqe) && flight->takes_place)
 		return result == -EBADF && flight->before;
-	if (!is_number ||
-	    (flight->entry->outside != INSIDE && flight->entry->outside != OUTSIDE_THREAD))
+	if (!is_number || (why != INSIDE && why != OUTSIDE_THREAD))
 		return false;
 	if (!used)
 		return result >= 0;
@@ -163,10 +164,16 @@ enum outside outside_by_result(const struct flight *flight, i32 result)
 		return OUTSIDE_POLLED;
 	if (is_renumbered(flight, result))
 		return OUTSIDE_THREAD;
+	if (options.format == 3 && closes_in_table(sqe) && flight->was_taken && result < 0)
+		return OUTSIDE_DESCRIPTOR;
 	if (result >= 0 && opens_in_table(sqe) && (u32)result >= trace.table_size)
 		return OUTSIDE_DESCRIPTOR;
 	if (result >= 0 && end_in_file(sqe, result) > MOST_SIZE)
 		return OUTSIDE_LARGE;
+	if (options.format == 3 && is_undecided(flight, result))
+		return result == -EFAULT ? OUTSIDE_MEMORY : OUTSIDE_SYSTEM;
+	if (options.format == 3 && result != -EFBIG)
+		return INSIDE;
 	switch (result) {
 	case -EFAULT:
 		return OUTSIDE_MEMORY;
@@ -360,7 +367,8 @@ void outside_ended(struct flight *flight, pid_t thread, i32 result)
 	if (flight->is_nowhere && !reads_name(flight))
 		lose("a name that was made or taken away at a place that is not known");
 	if (flight->used && changes_file(opcode))
-		unsettle(flight->used, entry->outside == INSIDE ? OUTSIDE_CHAIN : entry->outside);
+		unsettle(flight->used,
+			 reason_of(entry) == INSIDE ? OUTSIDE_CHAIN : reason_of(entry));
 	if (flight->changes) {
 		look_at_direct(flight->changes);
 		unsettle(flight->changes, OUTSIDE_CHANGED);

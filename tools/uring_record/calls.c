@@ -198,21 +198,18 @@ static void ended_copy(struct call *call, i64 result)
 {
 	u64 length = (u64)result, at = call->arguments[3], after;
 	bool moves = call->number == SYS_sendfile || !at;
-	int copy = call->flight->used->descriptor;
+	const struct opened *to = call->flight->used;
 
-	after = (u64)lseek(copy, 0, SEEK_CUR);
+	after = (u64)lseek(to->descriptor, 0, SEEK_CUR);
 	if (!length || (!moves && !fetch(call->thread, at, &after, sizeof after)))
 		return;
 	struct io_uring_sqe sqe = { .opcode = OP_WRITE, .off = after - length, .len = (u32)length };
-	int again = open_again(copy, O_RDONLY);
 	u8 *bytes = allocate(length);
-	if (again >= 0 && pread(again, bytes, length, (off_t)sqe.off) == result)
+	if (read_back(to, bytes, length, sqe.off))
 		add_on_file(call, &sqe, moves, bytes, (u32)length, (i32)length);
 	else
 		note("what copy_file_range, sendfile or splice moved cannot be read", NULL);
 	free(bytes);
-	if (again >= 0)
-		close(again);
 }
 
 /* What a call on a file touches. */

@@ -1,6 +1,7 @@
 #include "completions.h"
 #include "ahead.h"
 #include "aside.h"
+#include "meetings.h"
 #include "memory.h"
 #include "notes.h"
 #include "others.h"
@@ -16,7 +17,7 @@ static void read_came(struct flight *flight, pid_t thread, i32 result, bool is_f
 	struct entry *entry = flight->entry;
 	u64 shown = min64((u64)result, DATA_SHOWN);
 
-	if (options.no_data)
+	if (options.no_data || is_given(entry))
 		return;
 	if (!is_fresh || is_filled_by_others(flight) || !others_slept(flight->process, thread)) {
 		note(is_fresh ? "a read while another thread ran, or another read filled its "
@@ -46,20 +47,56 @@ static void fixed_read_came(struct flight *flight, i32 result)
 	memset(buffer->unknown + from, 1, (size_t)result);
 }
 
-/* Takes the bytes of a write again whose bytes came late. */
+/* How many bytes of lengths stand before those of a write. */
+static u32 lengths_of(const struct entry *entry)
+{
+	return entry->opcode == OP_WRITEV ? 8 * entry->sqe.len : 0;
+}
+
+/* Takes the bytes of a write again from memory, whose bytes came late. */
 static void take_again(struct flight *flight, pid_t thread)
 {
 	struct entry *entry = flight->entry;
-	u32 lengths = entry->opcode == OP_WRITEV ? 8 * entry->sqe.len : 0;
+	u32 lengths = lengths_of(entry);
 
 	if (flight->has_all_vectors && !is_fixed(entry->opcode) && lengths < entry->side_length)
 		fetch_gathered(thread, flight->vectors, flight->vector_count, entry->side + lengths,
 			       entry->side_length - lengths);
 }
 
-/* A write whose bytes came late has ended: they are still there, or its file is not told. */
+/* Whether a write put all its bytes where they still are: its place is known, and nothing else has
+ * written there since. */
+static bool is_in_file(struct flight *flight, i32 result)
+{
+	const struct entry *entry = flight->entry;
+	const struct opened *file = flight->used;
+
+	return entry->outside == OUTSIDE_LATE && !entry->is_aside && flight->has_ended &&
+	       !is_fixed(entry->opcode) && result > 0 && file && !file->appends &&
+	       entry->sqe.off != AT_POSITION &&
+	       entry->side_length == lengths_of(entry) + (u32)result &&
+	       unsettled_by(file->device, file->inode) == INSIDE && !is_written_by_others(flight);
+}
+
+/* Takes the bytes of a write that came late from its file; false where they may be others. */
+static bool take_written(struct flight *flight, i32 result)
+{
+	struct entry *entry = flight->entry;
+
+	return is_in_file(flight, result) &&
+	       (options.no_data || read_back(flight->used, entry->side + lengths_of(entry),
+					     (u64)result, entry->sqe.off));
+}
+
+/* A write whose bytes came late has ended: they are in its file, or still in memory, or the file is
+ * not told. */
 static void late_write_came(struct flight *flight, pid_t thread, i32 result, bool is_fresh)
 {
+	if (take_written(flight, result)) {
+		put_inside(flight->entry);
+		return;
+	}
+	note_late(flight->entry);
 	take_again(flight, thread);
 	bool is_there =
 		is_fresh && !is_filled_by_others(flight) && others_slept(flight->process, thread);
@@ -96,7 +133,7 @@ static void result_is_outside(struct flight *flight, i32 result, enum outside wh
 {
 	static const char text[] = "a result that the profile does not have";
 
-	if (flight->entry->outside == INSIDE)
+	if (reason_of(flight->entry) == INSIDE)
 		note(text, flight->entry);
 	if (why == OUTSIDE_THREAD && result >= 0 && !flight->used)
 		lose("an entry on a number that another thread opened meanwhile");
@@ -116,7 +153,7 @@ static void completed(struct flight *flight, pid_t thread, i32 result, bool is_f
 		entry->replaced && result < 0 ? OUTSIDE_OPCODE : outside_by_result(flight, result);
 	if (why == OUTSIDE_OPCODE)
 		put_outside(entry, why);
-	else if (why != INSIDE && entry->outside != OUTSIDE_OPCODE)
+	else if (why != INSIDE && entry->outside != OUTSIDE_OPCODE && !is_given(entry))
 		result_is_outside(flight, result, why);
 	if (flight->is_late)
 		late_write_came(flight, thread, result, is_fresh);

@@ -1,5 +1,6 @@
 #include "encode.h"
 #include "aside.h"
+#include "given.h"
 #include "start.h"
 
 #include <errno.h>
@@ -15,7 +16,7 @@ enum { BUFFER = 1 << 20, ENOUGH = 1 << 22, LEAST_ZEROS = 64, MOST_LENGTHS = 1024
 /* More bytes no record of version 3 has, and no entry more beside its side bytes. */
 #define MOST_OF_RECORD UINT32_MAX
 enum { BESIDE = 69, RECORD_HEAD = 7 };
-enum form { FORM_STORED = 0, FORM_ZEROS = 1 };
+enum form { FORM_STORED = 0, FORM_ZEROS = 1, FORM_GIVEN = 2, FORM_REFUSED = 3 };
 
 static int file = -1;
 static bool is_counting;
@@ -165,6 +166,16 @@ static void put_written(const u8 *bytes, u64 length)
 		put(bytes, length);
 }
 
+/* An entry whose result the trace gives. */
+static void put_given(const struct entry *entry)
+{
+	put(&entry->sqe, sizeof entry->sqe);
+	put_number(entry->is_refused ? FORM_REFUSED : FORM_GIVEN, 1);
+	put_number((u32)given_result(entry), 4);
+	if (!entry->is_refused)
+		put_number(entry->fails, 1);
+}
+
 /* An entry with its side bytes. */
 static void put_entry(const struct entry *entry)
 {
@@ -172,6 +183,10 @@ static void put_entry(const struct entry *entry)
 	u8 *changed = NULL;
 	u32 length = entry->side_length;
 
+	if (is_given(entry)) {
+		put_given(entry);
+		return;
+	}
 	if (entry->is_aside)
 		aside_form(entry, &sqe, &changed, &length);
 	const u8 *side = changed ? changed : entry->side;

@@ -267,6 +267,8 @@ struct flight *flight_of(struct ring *ring, u64 user_data, i32 result, bool *is_
 	struct flight *other = found ? next_of(found->next_same, user_data, result, &looks) : NULL;
 
 	*is_sure = found && !other && looks && !found->alike && !found->is_mixed;
+	if (found)
+		found->has_ended = !other && looks && !found->is_mixed;
 	if (*is_sure)
 		return found;
 	for (struct flight *it = first; it && !found; it = it->next_same)
@@ -283,6 +285,8 @@ static void land_silent(struct flight *flight)
 {
 	if (flight->entry->state == ENTRY_UNSEEN)
 		flight->entry->state = ENTRY_SILENT;
+	if (flight->is_late)
+		note_late(flight->entry);
 	land(flight);
 }
 

@@ -39,6 +39,7 @@ struct flight {
 	u32 alike_count;
 	bool meets_name;	       /* another one in flight touches its name */
 	bool is_mixed;		       /* they had several results */
+	bool has_ended;		       /* so it has for sure, as has each of these */
 	bool is_late;		       /* it writes what a read in flight puts there */
 	struct io_uring_sqe asked_for; /* as the command has it */
 	u32 buffer;		       /* the buffer of the trace, of fixed forms */

@@ -35,6 +35,7 @@ static const char help[] =
 	"  -1, --version-1      the same as --format 1\n"
 	"  -n, --nop            an entry outside the profile is recorded as NOP, so that chains "
 	"hold\n"
+	"                       (with --format 2 or 1)\n"
 	"  -d, --drain          each ring runs in recorded order: the kernel is given IO_DRAIN on "
 	"each\n"
 	"                       head of a chain (this is not recorded)\n"
@@ -101,6 +102,9 @@ static void settle_options(void)
 	if (options.format == 3 && options.touched)
 		die("--touched needs --format 2: version 3 stores files before it is known which "
 		    "are used");
+	if (options.format == 3 && options.replace)
+		die("--nop needs --format 2 or 1: version 3 gives the results of entries outside "
+		    "the profile");
 	if (options.no_data && (options.touched || options.all_sums))
 		die("--no-data stores no bytes and tells no sums: leave out --touched and "
 		    "--all-sums");

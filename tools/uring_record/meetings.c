@@ -492,6 +492,39 @@ bool is_filled_by_others(struct flight *flight)
 	return search.is_met;
 }
 
+/* Finds a write of another flight. */
+static bool look_at_other_writing(struct search *search, const struct span *span)
+{
+	search->is_met |= span->flight != search->context;
+	return span->is_closed;
+}
+
+/* Searches a range of a space in what the flights of a ring write. */
+static void search_writing(struct ring *ring, struct search *search)
+{
+	sort_flights(ring);
+	for (unsigned old = 0; old < 2 && !search->is_met; old++)
+		search_spans(ring->spans[old][1], search);
+}
+
+bool is_written_by_others(struct flight *flight)
+{
+	struct search search = { .look = look_at_other_writing, .context = flight };
+
+	sort_flights(flight->ring);
+	for (const struct span *it = flight->spans; it && !search.is_met; it = it->next_of_flight) {
+		if (it->touch->kind != TOUCH_FILE || !it->touch->writes)
+			continue;
+		search.space = it->space;
+		search.from = it->from;
+		search.to = it->to;
+		search_writing(call_ring(), &search);
+		for (u32 at = 0; at < ring_count && !search.is_met; at++)
+			search_writing(rings[at], &search);
+	}
+	return search.is_met;
+}
+
 void search_fillings(pid_t process, struct search *search)
 {
 	const struct touch touch = { .kind = TOUCH_MEMORY, .process = process };
@@ -515,10 +548,6 @@ void meet_others(struct flight *flight)
 		meet_ring(&meeting, call_ring());
 	look_at_settled(flight);
 	flight->is_late = takes_late(flight);
-	if (flight->is_late) {
+	if (flight->is_late)
 		put_outside(flight->entry, OUTSIDE_LATE);
-		note("a write of what a read in flight puts there: its bytes are taken when its "
-		     "completion is seen",
-		     flight->entry);
-	}
 }

@@ -11,6 +11,8 @@ void meet_others(struct flight *flight);
 /* A flight is in flight, or is so no more. */
 void keep_spans(struct flight *flight);
 void forget_spans(struct flight *flight);
+/* Whether something else in flight may write the bytes of a file that a flight writes. */
+bool is_written_by_others(struct flight *flight);
 /* Searches a range of a process's memory that reads into registered buffers, in flight, will fill.
  */
 void search_fillings(pid_t process, struct search *search);

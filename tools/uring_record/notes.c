@@ -71,6 +71,13 @@ void note(const char *what, const struct entry *entry)
 	note_pair(what, entry, NULL);
 }
 
+void note_late(const struct entry *entry)
+{
+	note("a write of what an entry before it puts there: its bytes are taken when its "
+	     "completion is seen",
+	     entry);
+}
+
 void note_name(const char *what, const char *name)
 {
 	if (note_count > MOST_NAMED) {
@@ -129,8 +136,11 @@ void keep_places(const struct record *record, u64 number, u64 place)
 
 void count_outside(const struct record *record)
 {
-	for (u32 in = 0; in < record->count; in++)
-		counts.outside[record->entries[in].outside]++;
+	for (u32 in = 0; in < record->count; in++) {
+		const struct entry *entry = &record->entries[in];
+		u64 *counted = is_given(entry) ? counts.given : counts.outside;
+		counted[reason_of(entry)]++;
+	}
 }
 
 /* The place of one of the entries of a note. */
@@ -186,17 +196,19 @@ static void say_flags(void)
 	fputs(all ? "\n" : " none\n", stderr);
 }
 
-/* Says how many entries lie outside, and why. */
-static void say_outside(void)
+/* Says how many entries lie outside, or have given results, and why. */
+static void say_reasons(const char *what, const u64 *by_reason, bool is_said)
 {
 	u64 all = 0;
 
 	for (int why = INSIDE + 1; why < OUTSIDE_COUNT; why++)
-		all += counts.outside[why];
-	fprintf(stderr, "uring_record: outside: %" PRIu64, all);
+		all += by_reason[why];
+	if (!all && !is_said)
+		return;
+	fprintf(stderr, "uring_record: %s: %" PRIu64, what, all);
 	for (int why = INSIDE + 1; why < OUTSIDE_COUNT; why++) {
-		if (counts.outside[why])
-			fprintf(stderr, ", %s %" PRIu64, outside_words[why], counts.outside[why]);
+		if (by_reason[why])
+			fprintf(stderr, ", %s %" PRIu64, outside_words[why], by_reason[why]);
 	}
 	fputc('\n', stderr);
 }
@@ -221,7 +233,8 @@ void summary(u64 places, u64 bytes, u32 rings)
 		counts.side_bytes);
 	say_opcodes();
 	say_flags();
-	say_outside();
+	say_reasons("outside", counts.outside, true);
+	say_reasons("given", counts.given, false);
 	fprintf(stderr,
 		"uring_record: %" PRIu64 " ordinary calls; %" PRIu64 " fills of %" PRIu64
 		" bytes\n",

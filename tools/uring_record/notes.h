@@ -6,6 +6,8 @@
 
 /* Notes that something is not told faithfully, at an entry (and another), or NULL for "here". */
 void note(const char *what, const struct entry *entry);
+/* Notes a write whose bytes are not told for sure. */
+void note_late(const struct entry *entry);
 void note_pair(const char *what, const struct entry *one, const struct entry *other);
 /* The same with the name of a file. */
 void note_name(const char *what, const char *name);
@@ -18,6 +20,7 @@ struct counts {
 	u64 fills, filled; /* fills, and their bytes */
 	u64 side_bytes;
 	u64 outside[OUTSIDE_COUNT]; /* entries of the trace by why they are not compared */
+	u64 given[OUTSIDE_COUNT];   /* and by why their results are given */
 	u64 not_taken; /* entries that the kernel left in the queue, which come again */
 };
 extern struct counts counts;

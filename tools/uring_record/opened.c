@@ -92,6 +92,31 @@ int open_again(int descriptor, int flags)
 	return open(path, flags | O_CLOEXEC);
 }
 
+/* Whether a descriptor of the recorder leads to the file of a description. */
+static bool is_file_of(int descriptor, const struct opened *opened)
+{
+	struct stat status;
+
+	return !fstat(descriptor, &status) && status.st_ino == opened->inode &&
+	       status.st_dev == opened->device;
+}
+
+bool read_back(const struct opened *opened, void *bytes, u64 length, u64 offset)
+{
+	int flags = O_RDONLY | O_NONBLOCK | O_CLOEXEC, again = -1;
+
+	if (opened->descriptor >= 0)
+		again = open_again(opened->descriptor, flags);
+	else if (opened->name)
+		again = open(opened->name, flags);
+	if (again < 0)
+		return false;
+	bool is_read = is_file_of(again, opened) &&
+		       pread(again, bytes, length, (off_t)offset) == (ssize_t)length;
+	close(again);
+	return is_read;
+}
+
 struct opened *new_opened(int descriptor, u64 position)
 {
 	struct opened *opened = allocate(sizeof *opened);

@@ -32,6 +32,8 @@ bool is_same(int one, int other);
 char *name_of(int descriptor);
 /* The path that opens anew what a descriptor of the recorder leads to. */
 int open_again(int descriptor, int flags);
+/* Reads bytes of the file of a description as they are now, whatever its access is. */
+bool read_back(const struct opened *opened, void *bytes, u64 length, u64 offset);
 
 /* A description with one holder. The descriptor becomes its own. */
 struct opened *new_opened(int descriptor, u64 position);

@@ -131,6 +131,17 @@ static char *root_of(pid_t process)
 	return target_of(link);
 }
 
+/* Whether a descriptor has a file that lost its name: a relative path fails there, which no path
+ * from the root tells. */
+static bool is_lost_file(pid_t process, int descriptor, const char *target)
+{
+	char link[64];
+	struct stat status;
+
+	snprintf(link, sizeof link, "/proc/%d/fd/%d", process, descriptor);
+	return is_deleted(target) && !stat(link, &status) && !S_ISDIR(status.st_mode);
+}
+
 /* The full path of what a call names, in memory of its own, or NULL. */
 static char *full_path(pid_t process, int directory, const char *path)
 {
@@ -138,7 +149,9 @@ static char *full_path(pid_t process, int directory, const char *path)
 		     : directory == AT_FDCWD ? working_directory(process)
 					     : descriptor_target(process, directory);
 
-	if (!base || *base != '/' || has_own_names(process)) {
+	bool is_relative = *path != '/' && directory != AT_FDCWD;
+	if (!base || *base != '/' || has_own_names(process) ||
+	    (is_relative && is_lost_file(process, directory, base))) {
 		free(base);
 		return NULL;
 	}

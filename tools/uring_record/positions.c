@@ -48,18 +48,13 @@ static bool move_by(struct ring *ring, const struct io_uring_sqe *sqe, struct op
 		struct entry *read = make(on, &move, NULL, 0, (i32)length);
 		put_outside(read, unsettled_by(opened->device, opened->inode));
 	} else {
-		int again = length > MOST_REWRITTEN || opened->appends
-				    ? -1
-				    : open_again(opened->descriptor, O_RDONLY);
+		bool may_read = length <= MOST_REWRITTEN && !opened->appends;
 		u8 *bytes = allocate(length);
-		bool is_read = again >= 0 &&
-			       pread(again, bytes, length, (off_t)opened->position) == length;
+		bool is_read = may_read && read_back(opened, bytes, length, opened->position);
 		move.opcode = OP_WRITE;
 		if (is_read)
 			make(on, &move, bytes, length, (i32)length);
 		free(bytes);
-		if (again >= 0)
-			close(again);
 		if (!is_read)
 			return false;
 	}

@@ -235,13 +235,14 @@ static void write_entry(const struct record *record, const struct entry *entry)
 	if (options.format == 3)
 		fprintf(file, " ring=%u", record->ring);
 	fprintf(file, " user=%" PRIu64, (u64)entry->sqe.user_data);
-	if (entry->state == ENTRY_UNSEEN)
+	bool is_unseen = entry->state == ENTRY_UNSEEN || entry->is_given_up;
+	if (is_unseen)
 		fputs(" completion=unseen", file);
 	else if (entry->state == ENTRY_SILENT)
 		fputs(" silent", file);
 	else
 		fprintf(file, " res=%d", entry->result);
-	if (entry->state == ENTRY_POSTED)
+	if (entry->state == ENTRY_POSTED && !is_unseen)
 		fputs(" posted", file);
 	if (entry->data_length) {
 		fputs(" data=", file);
@@ -250,14 +251,16 @@ static void write_entry(const struct record *record, const struct entry *entry)
 		if (entry->data_length > DATA_SHOWN)
 			fputc('+', file);
 	}
+	if (is_given(entry))
+		fputs(" given=1", file);
 	fprintf(file, " op=%u", entry->opcode);
 	if (entry->state == ENTRY_MADE)
 		fputs(" by=recorder", file);
-	if (entry->outside != INSIDE)
+	if (entry->outside != INSIDE && !is_given(entry))
 		fprintf(file, " outside=%s", outside_words[entry->outside]);
 	if (entry->state != ENTRY_MADE)
 		fprintf(file, " submitted=%" PRIu64, entry->submitted);
-	if (entry->state == ENTRY_POSTED)
+	if (entry->state == ENTRY_POSTED && !is_unseen)
 		fprintf(file, " completed=%" PRIu64, entry->completed);
 	fputc('\n', file);
 }

@@ -57,7 +57,9 @@ static void takes_nothing(struct entry *entry)
 	unread(entry, "bytes of a write that cannot be read: none are recorded");
 	free(entry->side);
 	entry->side = NULL;
-	entry->side_length = entry->sqe.len = 0;
+	entry->side_length = 0;
+	if (!is_given(entry))
+		entry->sqe.len = 0;
 }
 
 /* READV and WRITEV: lengths, and the bytes of a write. */
@@ -165,7 +167,7 @@ static char *real_name(const struct flight *flight, int directory, const char *t
 {
 	const struct entry *entry = flight->entry;
 
-	if (entry->outside == OUTSIDE_LINK && entry->sqe.opcode != OP_OPENAT)
+	if (reason_of(entry) == OUTSIDE_LINK && entry->sqe.opcode != OP_OPENAT)
 		return NULL;
 	return entry->is_aside ? canonical_path(flight->process, directory, text) : copy_text(path);
 }
@@ -264,18 +266,21 @@ static void add_fill(struct flight *flight, struct buffer *buffer, u64 offset, c
 	counts.filled += length;
 }
 
-/* Bytes that a write takes from a registered buffer, and which of them a read will put there. */
+/* Bytes that a write takes from a registered buffer, and which of them a read will put there; and
+ * whether one that is given is among these reads, which puts nothing there in the replay. */
 struct awaited {
 	const struct ring *ring;
 	u8 *bytes;
+	bool is_given;
 };
 
 /* Marks what a read in flight will put into the range of a search: that is left to the read. */
 static bool mark_awaited(struct search *search, const struct span *span)
 {
-	const struct awaited *awaited = search->context;
+	struct awaited *awaited = search->context;
 	u64 from = span->from > search->from ? span->from : search->from;
 
+	awaited->is_given |= is_given(span->flight->entry);
 	if (span->flight->ring == awaited->ring &&
 	    span->flight->renewals == awaited->ring->renewals)
 		memset(awaited->bytes + (from - search->from), 1,
@@ -312,13 +317,16 @@ static void fill_unlike(struct flight *flight, struct buffer *buffer, const u8 *
 {
 	u64 from = flight->entry->sqe.addr, length = flight->entry->sqe.len;
 	u8 *awaited = allocate(length);
-	struct awaited those = { flight->ring, awaited };
+	struct awaited those = { flight->ring, awaited, false };
 	struct search search = { .from = from, .to = from + length };
 
 	search.look = mark_awaited;
 	search.context = &those;
 	search_fillings(flight->process, &search);
-	fill_differing(flight, buffer, bytes, awaited);
+	if (those.is_given)
+		put_aside(flight->entry, OUTSIDE_LATE);
+	else
+		fill_differing(flight, buffer, bytes, awaited);
 	free(awaited);
 }
 

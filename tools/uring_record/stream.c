@@ -1,6 +1,7 @@
 #include "stream.h"
 #include "aside.h"
 #include "encode.h"
+#include "given.h"
 #include "notes.h"
 #include "output.h"
 #include "start.h"
@@ -10,7 +11,7 @@
 #include <string.h>
 #include <unistd.h>
 
-enum { RECORD_END = 7, SHIFTED = 1024, MANY_BEHIND = 16, MOST_HELD = 65536 };
+enum { RECORD_END = 7, SHIFTED = 1024, MANY_BEHIND = 16, MOST_HELD = 65536, MUCH_HELD = 1 << 24 };
 
 /* So many of the records that are kept were put into the trace, and of so many the results too. */
 static u64 put_count, told_count;
@@ -84,9 +85,7 @@ static bool is_ended(const struct record *record)
 /* Whether an entry is written as it is now, whatever its completion is. */
 static bool is_settled_entry(const struct entry *entry)
 {
-	u8 opcode = entry->sqe.opcode;
-
-	return entry->is_landed || entry->is_aside || opcode == OP_NOP || !is_served(opcode);
+	return entry->is_landed || (entry->sqe.opcode == OP_NOP && !entry->is_aside);
 }
 
 /* Whether the bytes of a record are known. */
@@ -101,9 +100,12 @@ static bool is_settled(struct record *record)
 /* Whether the results of a record are known, and no mark is put there any more. */
 static bool is_final(struct record *record)
 {
-	while (record->final < record->count && record->entries[record->final].is_landed &&
-	       !record->entries[record->final].is_alike)
-		record->final++;
+	const struct entry *next = &record->entries[record->final];
+
+	for (; record->final < record->count; record->final++, next++) {
+		if (!(next->is_landed || next->is_given_up) || next->is_alike)
+			break;
+	}
 	return record->final == record->count;
 }
 
@@ -126,6 +128,8 @@ static void put_next(void)
 {
 	struct record *record = trace.records[put_count++];
 
+	trace.held -= record->size;
+	give_results(record);
 	is_full = is_full || is_over(record);
 	if (is_full)
 		return;
@@ -165,6 +169,14 @@ static bool is_crowded(void)
 	return trace.places > trace.gone_places + MOST_HELD;
 }
 
+/* What is in flight of a record is told as unseen: the first such entry is noted. */
+static void leave_unended(const struct record *record, u32 first)
+{
+	note("an entry that is in flight while many later ones end: it is told as unseen",
+	     &record->entries[first]);
+	leave_flights_of(record);
+}
+
 /* Whether the results of a record are written now. Where many are kept behind it, what is in flight
  * is told as if it never ended. */
 static bool is_told_now(struct record *record)
@@ -174,11 +186,8 @@ static bool is_told_now(struct record *record)
 	if (!is_crowded())
 		return false;
 	give_up_alike();
-	if (is_final(record))
-		return true;
-	note("an entry that is in flight while many later ones end: it is told as unseen",
-	     &record->entries[record->final]);
-	leave_flights_of(record);
+	if (!is_final(record))
+		leave_unended(record, record->final);
 	return true;
 }
 
@@ -197,7 +206,24 @@ static void shift_records(void)
 	told_count = 0;
 }
 
-/* Whether a record is put now. Where many are kept behind it, what is in flight is put as it is. */
+/* Whether all that a record waits for is given, or stands behind such a member of its chain: this
+ * may be in flight for as long as the command runs. */
+static bool waits_for_given(const struct record *record)
+{
+	bool is_behind = false;
+
+	for (u32 at = record->settled; at < record->count; at++) {
+		const struct entry *entry = &record->entries[at];
+		is_behind |= !entry->is_landed && is_given(entry);
+		if (!is_settled_entry(entry) && !is_behind)
+			return false;
+		is_behind &= goes_on(&entry->sqe);
+	}
+	return true;
+}
+
+/* Whether a record is put now. Where many are kept behind it, or much, what is in flight is put as
+ * it is. */
 static bool is_put_now(struct record *record)
 {
 	if (!is_ended(record))
@@ -206,7 +232,11 @@ static bool is_put_now(struct record *record)
 		return true;
 	if (is_crowded())
 		leave_flights_of(record);
-	return is_crowded();
+	else if (trace.held > MUCH_HELD && waits_for_given(record))
+		leave_unended(record, record->settled);
+	else
+		return false;
+	return true;
 }
 
 /* Writes what is known, or all. */

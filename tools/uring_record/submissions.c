@@ -2,6 +2,7 @@
 #include "ahead.h"
 #include "aside.h"
 #include "completions.h"
+#include "given.h"
 #include "meetings.h"
 #include "memory.h"
 #include "notes.h"
@@ -24,6 +25,7 @@ struct chain {
 	bool is_broken; /* a member fails in the replay, so that later ones do not run */
 	bool is_drained;
 	bool goes_on;
+	bool may_fill; /* a member that is given may put bytes into the memory of the program */
 };
 
 /* Whether a priority of a read or write is one: a class of 1 to 3, or 0 without a level. */
@@ -43,7 +45,10 @@ static bool has_other_fields(const struct io_uring_sqe *sqe)
 	case OP_CLOSE:
 		return sqe->off || sqe->addr || sqe->len || sqe->rw_flags || sqe->buf_index;
 	case OP_FSYNC:
+	case OP_SYNC_FILE_RANGE:
 		return has_index || sqe->addr;
+	case OP_FADVISE:
+		return has_index;
 	case OP_FALLOCATE:
 		return has_index || sqe->rw_flags;
 	case OP_FTRUNCATE:
@@ -74,7 +79,8 @@ static enum outside outside_by_fields(const struct ring *ring, const struct io_u
 	if (sqe->personality || has_other_fields(sqe) ||
 	    (sqe->ioprio && !(moves_bytes(opcode) && is_priority(sqe->ioprio))))
 		return OUTSIDE_FLAGS;
-	if ((moves_bytes(opcode) || opcode == OP_NOP) && sqe->rw_flags)
+	u32 served = moves_bytes(opcode) && options.format == 3 ? SERVED_RW_FLAGS : 0;
+	if ((moves_bytes(opcode) || opcode == OP_NOP) && (u32)sqe->rw_flags & ~served)
 		return OUTSIDE_FLAGS;
 	if (opcode == OP_FALLOCATE && sqe->len & (0x08 | 0x20 | 0x40))
 		return OUTSIDE_FLAGS;
@@ -125,10 +131,13 @@ static void replace_by_nop(struct entry *entry)
 }
 
 /* Notes and marks an entry whose descriptor is no file of the tree. */
-static void leads_elsewhere(struct entry *entry)
+static void leads_elsewhere(struct entry *entry, bool goes_aside)
 {
 	note("an entry on a descriptor that is no file of the root", entry);
-	put_outside(entry, OUTSIDE_DESCRIPTOR);
+	if (goes_aside || entry->is_aside)
+		put_aside(entry, OUTSIDE_DESCRIPTOR);
+	else
+		put_outside(entry, OUTSIDE_DESCRIPTOR);
 }
 
 /* What is no file of the tree, and the command has in a slot, or NULL. */
@@ -138,10 +147,10 @@ static struct opened *foreign_in(const struct ring *ring, u32 slot)
 }
 
 /* Whether an entry on what is no file of the tree is written so that its replay changes nothing: in
- * version 3 also one on a number, which may be in flight for long. */
+ * version 3 also one on a number. */
 static bool goes_aside(const struct io_uring_sqe *sqe)
 {
-	return sqe->flags & FLAG_FIXED || (options.format == 3 && works_on_file(sqe->opcode));
+	return sqe->flags & FLAG_FIXED || options.format == 3;
 }
 
 /* The same for a slot: what the entry writes there is not told. */
@@ -149,8 +158,7 @@ static void slot_leads_elsewhere(struct flight *flight, struct opened *foreign)
 {
 	struct entry *entry = flight->entry;
 
-	leads_elsewhere(entry);
-	entry->is_aside |= goes_aside(&entry->sqe);
+	leads_elsewhere(entry, goes_aside(&entry->sqe));
 	if (!changes_file(entry->sqe.opcode))
 		return;
 	unsettle(foreign, OUTSIDE_CHANGED);
@@ -160,8 +168,7 @@ static void slot_leads_elsewhere(struct flight *flight, struct opened *foreign)
 /* The same for a slot beyond those that a trace has. What is there is not known. */
 static void slot_is_beyond(struct ring *ring, struct entry *entry)
 {
-	leads_elsewhere(entry);
-	entry->is_aside = true;
+	leads_elsewhere(entry, true);
 	for (u64 at = 0; at < ring->beyond_count; at++)
 		unsettle(ring->beyond[at], OUTSIDE_CHANGED);
 }
@@ -169,10 +176,11 @@ static void slot_is_beyond(struct ring *ring, struct entry *entry)
 /* The same for a number. */
 static void number_leads_elsewhere(struct flight *flight)
 {
-	int copy = copy_descriptor(flight->process, flight->entry->sqe.fd);
+	const struct io_uring_sqe *sqe = &flight->entry->sqe;
+	int copy = copy_descriptor(flight->process, sqe->fd);
 
 	if (copy < 0) {
-		leads_elsewhere(flight->entry);
+		leads_elsewhere(flight->entry, options.format == 3);
 		return;
 	}
 	struct opened *foreign = new_foreign(copy);
@@ -198,14 +206,14 @@ static void ensure_place(struct flight *flight)
 		return;
 	}
 	if (sqe->opcode == OP_CLOSE && foreign_in(ring, sqe->file_index - 1)) {
-		leads_elsewhere(entry);
-		entry->is_aside = true;
+		leads_elsewhere(entry, true);
 	}
 	if (!works_on_file(sqe->opcode) && !closes)
 		return;
 	enum leads leads = (options.format == 1) ? ensure_slot(ring, flight->process, sqe->fd)
 						 : ensure_number(flight->process, sqe->fd);
-	if (leads == LEADS_ELSEWHERE)
+	/* (where the replay has the root at a number, to close it is the same) */
+	if (leads == LEADS_ELSEWHERE && !(options.format == 3 && closes && is_taken(sqe->fd)))
 		number_leads_elsewhere(flight);
 	if (options.format != 1 || leads != LEADS_TO_FILE)
 		return;
@@ -279,14 +287,16 @@ static void find_buffer(struct flight *flight)
 		put_aside(entry, OUTSIDE_BUFFER);
 	}
 	flight->buffer = index <= 0 ? NO_BUFFER : (u32)index - 1;
-	entry->sqe.buf_index = (u16)flight->buffer;
+	if (!is_given(entry))
+		entry->sqe.buf_index = (u16)flight->buffer;
 }
 
 /* Whether the kernel gives an operation to a thread of its own, which looks for its file only then.
  */
 static bool begins_later(u8 opcode)
 {
-	return opcode == OP_FSYNC || opcode == OP_FALLOCATE || opcode == OP_FTRUNCATE;
+	return opcode == OP_FSYNC || opcode == OP_SYNC_FILE_RANGE || opcode == OP_FADVISE ||
+	       opcode == OP_FALLOCATE || opcode == OP_FTRUNCATE;
 }
 
 /* An entry of an opcode that is not served: what it will change. */
@@ -298,11 +308,33 @@ static void take_unserved(struct flight *flight, pid_t thread)
 	look_at_unserved(flight, thread);
 	if (options.replace)
 		replace_by_nop(entry);
-	put_outside(entry, OUTSIDE_OPCODE);
+	if (options.format == 3)
+		put_aside(entry, OUTSIDE_OPCODE);
+	else
+		put_outside(entry, OUTSIDE_OPCODE);
+}
+
+/* A write behind a member of its chain that may put bytes into its memory, which the replay does
+ * not: they are taken when its completion is seen. A fill would come too late. */
+static void take_filled(struct flight *flight)
+{
+	struct entry *entry = flight->entry;
+	u8 opcode = entry->sqe.opcode;
+
+	if (!moves_bytes(opcode) || reads_bytes(opcode) || entry->is_aside)
+		return;
+	if (is_fixed(opcode)) {
+		note("a fixed write of what an entry before it in its chain may have put there",
+		     entry);
+		put_aside(entry, OUTSIDE_LATE);
+	} else {
+		put_outside(entry, OUTSIDE_LATE);
+	}
+	flight->is_late = !is_fixed(opcode);
 }
 
 /* An entry of an opcode that is served: what it points to, what it works on, and what it meets. */
-static void take_served(struct flight *flight, pid_t thread)
+static void take_served(struct flight *flight, const struct chain *chain, pid_t thread)
 {
 	struct entry *entry = flight->entry;
 
@@ -315,6 +347,8 @@ static void take_served(struct flight *flight, pid_t thread)
 	if (entry->sqe.opcode == OP_WRITE_FIXED)
 		fill_buffer(flight, thread);
 	meet_others(flight);
+	if (chain->may_fill)
+		take_filled(flight);
 	take_place(flight);
 	if (flight->used && moves_bytes(entry->sqe.opcode) && !entry->is_aside &&
 	    entry->sqe.off == AT_POSITION) {
@@ -347,10 +381,13 @@ static void take_entry(struct ring *ring, struct entry *entry, struct chain *cha
 			note(outside_notes[why], entry);
 		if (why != INSIDE || chain->is_broken)
 			put_aside(entry, why != INSIDE ? why : OUTSIDE_CHAIN);
-		take_served(flight, thread);
+		take_served(flight, chain, thread);
 	}
-	chain->is_broken |= entry->is_aside || entry->outside == OUTSIDE_DESCRIPTOR ||
-			    (why == OUTSIDE_OPCODE && !entry->replaced);
+	/* (what is given breaks its chain as it did in the kernel) */
+	chain->is_broken |=
+		options.format != 3 && (entry->is_aside || entry->outside == OUTSIDE_DESCRIPTOR ||
+					(why == OUTSIDE_OPCODE && !entry->replaced));
+	chain->may_fill |= is_given(entry) && may_fill_memory(entry);
 	launch(flight);
 }
 
@@ -418,7 +455,7 @@ static bool is_drained(const struct entry *head, const struct entry *end)
  * fields. */
 static bool is_doomed(const struct ring *ring, const struct entry *head, const struct entry *end)
 {
-	for (const struct entry *it = head; it < end; it++) {
+	for (const struct entry *it = head; options.format != 3 && it < end; it++) {
 		enum outside why = outside_by_fields(ring, &it->sqe);
 		if (why != INSIDE && !(why == OUTSIDE_OPCODE && options.replace))
 			return true;
@@ -439,6 +476,7 @@ static void take_entries(struct ring *ring, pid_t thread, struct record *record)
 			chain.head = ring->sequence;
 			chain.first = it;
 			chain.is_broken = is_doomed(ring, it, end);
+			chain.may_fill = false;
 			chain.is_drained = is_drained(it, end);
 			if (chain.is_drained)
 				ring->barrier = chain.head;
@@ -572,9 +610,9 @@ bool may_wait(struct ring *ring, pid_t thread, u32 *completions)
 		    fetch_word(thread, ring->cq + ring->cq_offsets.head);
 
 	for (const struct flight *it = ring->first; it; it = it->next) {
-		const struct entry *entry = it->entry;
-		if (entry->outside == OUTSIDE_OPCODE || entry->outside == OUTSIDE_DESCRIPTOR ||
-		    entry->sqe.flags & FLAG_SKIP)
+		enum outside why = reason_of(it->entry);
+		if (why == OUTSIDE_OPCODE || why == OUTSIDE_DESCRIPTOR ||
+		    it->entry->sqe.flags & FLAG_SKIP)
 			return false;
 		count++;
 	}

@@ -48,6 +48,11 @@ struct opened *opened_at(int number)
 	return number < 0 || (u32)number >= trace.table_size ? NULL : places[number].opened;
 }
 
+bool is_taken(int number)
+{
+	return number >= 0 && (u32)number < trace.table_size && places[number].state != PLACE_FREE;
+}
+
 /* Closes a number in the replay. */
 static void close_number(int number)
 {

@@ -13,6 +13,8 @@ void start_place(int number, i64 description);
 /* What is looked at from here on is of another call: numbers are looked at once a call. */
 void begin_batch(void);
 
+/* Whether the replay has something at a number. */
+bool is_taken(int number);
 /* Makes a number lead in the replay where it leads in the command. */
 enum leads ensure_number(pid_t process, int number);
 /* The same for version 1, with a slot of the ring for the number. */

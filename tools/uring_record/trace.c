@@ -257,6 +257,8 @@ void append_record(struct record *record)
 		return;
 	record->ring = record->of->number;
 	record->is_added = true;
+	record->size = bytes;
+	trace.held += bytes;
 	trace.bytes += bytes;
 	trace.places += places;
 	GROW(trace.records, trace.record_count, trace.record_room);
@@ -268,9 +270,17 @@ void drop_entry(struct record *record)
 	const struct entry *left = &record->entries[--record->count];
 
 	if (record->is_added) {
+		record->size -= bytes_of(left);
+		trace.held -= bytes_of(left);
 		trace.bytes -= bytes_of(left);
 		trace.places--;
 	}
+}
+
+/* Whether version 3 alone serves an opcode. */
+static bool is_of_version_3(u8 opcode)
+{
+	return options.format == 3 && (opcode == OP_SYNC_FILE_RANGE || opcode == OP_FADVISE);
 }
 
 bool is_served(u8 opcode)
@@ -292,7 +302,7 @@ bool is_served(u8 opcode)
 bool works_on_file(u8 opcode)
 {
 	return moves_bytes(opcode) || opcode == OP_FSYNC || opcode == OP_FALLOCATE ||
-	       opcode == OP_FTRUNCATE;
+	       opcode == OP_FTRUNCATE || is_of_version_3(opcode);
 }
 
 bool moves_bytes(u8 opcode)
@@ -308,7 +318,8 @@ bool reads_bytes(u8 opcode)
 
 bool changes_file(u8 opcode)
 {
-	return works_on_file(opcode) && !reads_bytes(opcode) && opcode != OP_FSYNC;
+	return works_on_file(opcode) && !reads_bytes(opcode) && opcode != OP_FSYNC &&
+	       !is_of_version_3(opcode);
 }
 
 bool is_fixed(u8 opcode)
@@ -331,10 +342,22 @@ bool goes_on(const struct io_uring_sqe *sqe)
 	return sqe->flags & (FLAG_LINK | FLAG_HARD);
 }
 
+bool is_given(const struct entry *entry)
+{
+	return options.format == 3 && entry->is_aside;
+}
+
+enum outside reason_of(const struct entry *entry)
+{
+	return is_given(entry) ? entry->given_by : entry->outside;
+}
+
 /* Whether the replay may give the rest of a chain another end than the kernel: the member asks for
  * what the replay refuses, or is a NOP there and failed in the kernel. */
 static bool turns_chain(const struct entry *entry)
 {
+	if (is_given(entry))
+		return false;
 	switch (entry->outside) {
 	case OUTSIDE_OPCODE:
 		return !entry->replaced || entry->state != ENTRY_POSTED || entry->result < 0;
@@ -360,8 +383,16 @@ void put_outside(struct entry *entry, enum outside why)
 
 void put_aside(struct entry *entry, enum outside why)
 {
-	put_outside(entry, why);
+	if (options.format != 3)
+		put_outside(entry, why);
+	else if (!entry->is_aside)
+		entry->given_by = why;
 	entry->is_aside = true;
+}
+
+void put_inside(struct entry *entry)
+{
+	entry->outside = INSIDE;
 }
 
 bool is_doubtful(const struct entry *entry)

@@ -52,7 +52,7 @@ struct description {
  * nothing; it was seen; or the recorder made the entry. */
 enum entry_state { ENTRY_UNSEEN, ENTRY_SILENT, ENTRY_POSTED, ENTRY_MADE };
 
-/* Why the kernel's result of an entry is not compared. */
+/* Why the kernel's result of an entry is not compared, or is given. */
 enum outside {
 	INSIDE,
 	OUTSIDE_OPCODE,
@@ -86,9 +86,14 @@ struct entry {
 	struct io_uring_sqe sqe; /* as recorded */
 	u8 *side;
 	u32 side_length;
-	u8 opcode;	       /* as submitted */
-	bool replaced;	       /* recorded as NOP */
-	bool is_aside;	       /* outside: it is written so that its replay changes nothing */
+	u8 opcode;     /* as submitted */
+	bool replaced; /* recorded as NOP */
+	bool is_aside; /* outside: it is written so that its replay changes nothing; in version 3
+			* given */
+	bool fails, is_refused; /* of one that is given: whether it fails; on submission */
+	bool is_given_up; /* it, or a member of its chain before it, was given before its end was
+			   * seen */
+	enum outside given_by; /* why it is given */
 	struct record *record; /* the call's; NULL of what the recorder makes */
 	struct entry *head;    /* the first of its chain; NULL of what the recorder makes */
 	struct entry *alike;   /* another one that may have had its result */
@@ -125,6 +130,7 @@ struct record {
 	bool is_put;	 /* it was written */
 	bool is_gone; /* its results were written: it is kept for its call, and what is in flight */
 	u32 flying;   /* so many entries are in flight then */
+	u64 size;     /* its bytes in the trace, or a few more */
 	u32 settled;  /* so many of its entries will be written as they are now */
 	u32 final;    /* so many will have no other result or mark */
 	u32 from;     /* where in the queue its call begins */
@@ -146,6 +152,7 @@ struct trace {
 	bool is_lost;		      /* something is not in it: results are not compared */
 	bool is_ended;		      /* it is at a limit: nothing is added */
 	u64 bytes, places;	      /* of its names, files and records; of its records */
+	u64 held;		      /* bytes of records that are not written yet */
 	u64 gone, gone_places;	      /* records that are kept no more, and their places */
 	u32 ring_numbers;	      /* rings that are in it */
 	bool uses_table;	      /* it is of version 2 */
@@ -210,6 +217,12 @@ bool goes_on(const struct io_uring_sqe *sqe);
 void put_outside(struct entry *entry, enum outside why);
 /* The same of an entry whose replay is to change nothing. */
 void put_aside(struct entry *entry, enum outside why);
+/* What was outside is told after all. */
+void put_inside(struct entry *entry);
+/* Whether the trace gives the result of an entry. */
+bool is_given(const struct entry *entry);
+/* Why an entry is outside, or is given. */
+enum outside reason_of(const struct entry *entry);
 /* Whether the replay may do otherwise with an entry: it, or an earlier member of its chain, is
  * outside. */
 bool is_doubtful(const struct entry *entry);

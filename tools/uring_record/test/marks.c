@@ -436,24 +436,53 @@ static void changed_meanwhile(void)
 	pthread_join(thread, NULL);
 }
 
-/* A chain writes what it reads; the program changes the bytes before it looks. */
+/* Waits without a call of the ring for so many completions, and takes them: the program changes
+ * bytes before it looks. */
+static void take_late(char *moved, unsigned count)
+{
+	submit(&ring, 0);
+	for (int tries = 0; tries < 10000 && *ring.cq_tail - *ring.cq_head < count; tries++)
+		usleep(100);
+	memset(moved, '!', 64);
+	while (count--)
+		take(&ring);
+}
+
+/* A chain writes what it reads, by each kind of access to the copy, and with vectors. */
 static void written_late(void)
 {
-	static char moved[64][64];
+	static const int access[] = { O_RDWR, O_WRONLY };
+	static char moved[4][64];
+
+	for (unsigned at = 0; at < 4; at++) {
+		struct iovec halves[] = { { moved[at], 20 }, { moved[at] + 20, 44 } };
+		int to = open("copy", O_CREAT | access[at % 2], 0644);
+		add(&ring, OP_READ, file, moved[at], 64, 64ULL * at)->flags = FLAG_LINK;
+		if (at < 2)
+			add(&ring, OP_WRITE, to, moved[at], 64, 64ULL * at);
+		else
+			add(&ring, OP_WRITEV, to, halves, 2, 64ULL * at);
+		take_late(moved[at], 2);
+		close(to);
+	}
+	add(&ring, OP_READ, open("copy", O_RDONLY), bytes, 256, 0);
+	expect("a read of the copy", run_one(&ring), 256);
+}
+
+/* The same where the bytes are not in the copy, or it is not known where. */
+static void written_away(void)
+{
+	static char moved[64];
 	int to = open("copy", O_CREAT | O_RDWR, 0644);
 
-	for (unsigned at = 0; at < 3; at++) {
-		add(&ring, OP_READ, file, moved[at], 64, 64ULL * at)->flags = FLAG_LINK;
-		add(&ring, OP_WRITE, to, moved[at], 64, 64ULL * at);
-		submit(&ring, 0);
-		for (int tries = 0; tries < 1000 && *ring.cq_tail - *ring.cq_head < 2; tries++)
-			usleep(100);
-		memset(moved[at], '!', 64);
-		take(&ring);
-		take(&ring);
-	}
-	add(&ring, OP_READ, to, bytes, 192, 0);
-	expect("a read of the copy", run_one(&ring), 192);
+	add(&ring, OP_READ, file, moved, 64, 0)->flags = FLAG_LINK;
+	add(&ring, OP_WRITE, to, moved, 64, 0)->flags = FLAG_LINK;
+	add(&ring, OP_WRITE, to, "over it", 7, 60);
+	take_late(moved, 3);
+	to = open("end", O_CREAT | O_RDWR | O_APPEND, 0644);
+	add(&ring, OP_READ, file, moved, 64, 0)->flags = FLAG_LINK;
+	add(&ring, OP_WRITE, to, moved, 64, 0);
+	take_late(moved, 2);
 }
 
 static const struct mode {
@@ -478,6 +507,7 @@ static const struct mode {
 	{ "closed_meanwhile", closed_meanwhile },
 	{ "changed_meanwhile", changed_meanwhile },
 	{ "written_late", written_late },
+	{ "written_away", written_away },
 };
 
 int main(int count, char **words)

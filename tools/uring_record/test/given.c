@@ -1,0 +1,270 @@
+/* Programs with entries whose results no replay decides, and with some that look like them: given
+ * MODE, in an empty directory. Each entry has the result that is expected of it. Ends with 1 where
+ * one differs, and with 77 where the kernel lacks what a mode needs.
+ *
+ * served: what version 3 decides. chains: members that are given, which break their chain or not.
+ * refused: chains that the kernel refuses on submission. errors: errors that the world does not
+ * decide, and some that it does. filled: writes of what a member before them put there. quiet:
+ * members that post nothing. */
+#include "raw.h"
+
+#include <poll.h>
+#include <sys/socket.h>
+#include <sys/stat.h>
+#include <sys/uio.h>
+
+enum { ENTRIES = 32, BYTES = 4096, SILENT = INT32_MIN, NOBODY = 250 };
+
+static struct ring ring;
+static int wanted[ENTRIES], results[ENTRIES];
+static char buffer[BYTES] __attribute__((aligned(4096))), memory[BYTES], more[BYTES];
+static int file, pipes[2], sockets[2];
+
+/* The next entry of a submission, with the result that it is to have. */
+static struct io_uring_sqe *ask(unsigned char opcode, int descriptor, const void *address,
+				unsigned length, uint64_t offset, int result)
+{
+	unsigned at = ring.added;
+	struct io_uring_sqe *sqe = add(&ring, opcode, descriptor, address, length, offset);
+
+	sqe->user_data = at;
+	wanted[at] = result;
+	return sqe;
+}
+
+/* Submits what was added, and waits for what posts. */
+static void run(const char *what)
+{
+	unsigned count = ring.added, posted = 0;
+
+	for (unsigned at = 0; at < count; at++) {
+		posted += wanted[at] != SILENT;
+		results[at] = SILENT;
+	}
+	submit(&ring, posted);
+	while (posted--) {
+		unsigned head = *ring.cq_head;
+		while (head == __atomic_load_n(ring.cq_tail, __ATOMIC_ACQUIRE))
+			if (syscall(SYS_io_uring_enter, ring.descriptor, 0, 1,
+				    IORING_ENTER_GETEVENTS, NULL, 0) < 0 &&
+			    errno != EINTR)
+				fail("a completion that is lacking");
+		const struct io_uring_cqe *cqe = &ring.cqes[head & *ring.cq_mask];
+		results[cqe->user_data] = cqe->res;
+		__atomic_store_n(ring.cq_head, head + 1, __ATOMIC_RELEASE);
+	}
+	for (unsigned at = 0; at < count; at++) {
+		if (results[at] == wanted[at])
+			continue;
+		fprintf(stderr, "%s: entry %u gave %d, not %d\n", what, at, results[at],
+			wanted[at]);
+		exit(1);
+	}
+}
+
+/* A write of some letters to the file. */
+static struct io_uring_sqe *ask_write(const char *text, uint64_t offset, int result)
+{
+	return ask(OP_WRITE, file, text, (unsigned)strlen(text), offset, result);
+}
+
+static struct io_uring_sqe *ask_nop(int result)
+{
+	return ask(OP_NOP, 0, NULL, 0, 0, result);
+}
+
+static struct io_uring_sqe *ask_poll(int result)
+{
+	struct io_uring_sqe *sqe = ask(IORING_OP_POLL_ADD, pipes[0], NULL, 0, 0, result);
+
+	sqe->poll32_events = POLLIN;
+	return sqe;
+}
+
+/* What version 3 decides, and the others do not. */
+static void served(void)
+{
+	struct iovec vector = { memory, 5 };
+
+	ask(OP_SYNC_FILE_RANGE, file, NULL, 9, 0, 0)->sync_range_flags = 7;
+	ask(OP_SYNC_FILE_RANGE, file, NULL, 9, 0, -EINVAL)->sync_range_flags = 8;
+	ask(OP_SYNC_FILE_RANGE, NOBODY, NULL, 9, 0, -EBADF)->sync_range_flags = 8;
+	ask(OP_SYNC_FILE_RANGE, file, NULL, 9, 1ULL << 63, -EINVAL);
+	ask(OP_FADVISE, file, NULL, 9, 0, 0)->fadvise_advice = 4;
+	ask(OP_FADVISE, file, NULL, 9, 0, -EINVAL)->fadvise_advice = 6;
+	ask(OP_FADVISE, NOBODY, NULL, 9, 0, -EBADF);
+	run("advice");
+	struct io_uring_sqe *sqe = ask(OP_FADVISE, file, NULL, 9, 0, -EINVAL);
+	sqe->fadvise_advice = 6;
+	sqe->flags = FLAG_LINK;
+	ask_nop(-ECANCELED);
+	run("a chain that advice breaks");
+	ask_write("dsync", 0, 5)->rw_flags = 2;
+	ask(OP_WRITEV, file, &vector, 1, 5, 5)->rw_flags = 6;
+	run("writes through");
+	ask(OP_READ, file, memory, 9, 0, 9)->rw_flags = 4;
+	run("a read");
+}
+
+/* Members that are given break their chain, or not. */
+static void chains(void)
+{
+	struct __kernel_timespec late = { .tv_sec = 20 }, soon = { .tv_nsec = 1000000 };
+
+	if (write(pipes[1], "x", 1) != 1)
+		fail("write");
+	ask_poll(POLLIN)->flags = FLAG_LINK;
+	ask_write("behind a poll", 0, 13)->flags = FLAG_LINK;
+	ask(OP_READ, file, memory, 6, 0, 6);
+	run("a chain behind a poll");
+	ask(OP_READ, file, memory, 13, 0, 13)->flags = FLAG_LINK;
+	ask(IORING_OP_LINK_TIMEOUT, -1, &late, 1, 0, -ECANCELED)->flags = FLAG_LINK;
+	ask_write("B", 0, 1);
+	run("a timeout that does not fire");
+	ask(OP_READ, file, memory, 99, 0, 13)->flags = FLAG_LINK;
+	ask(IORING_OP_LINK_TIMEOUT, -1, &late, 1, 0, -ECANCELED)->flags = FLAG_LINK;
+	ask_write("not written", 0, -ECANCELED);
+	run("a short read with a timeout");
+	ask(IORING_OP_TIMEOUT, -1, &soon, 1, 0, -ETIME)->flags = FLAG_LINK;
+	ask_write("not written", 0, -ECANCELED);
+	run("a timeout that breaks its chain");
+	ask(IORING_OP_TIMEOUT, -1, &soon, 1, 0, -ETIME)->flags = FLAG_HARD;
+	ask_write("hard", 20, 4);
+	run("a timeout that is hard");
+	ask(OP_READ, pipes[0], memory, 1, 0, 1)->flags = FLAG_LINK;
+	ask_poll(-ECANCELED)->flags = FLAG_LINK;
+	ask(IORING_OP_LINK_TIMEOUT, -1, &soon, 1, 0, -ETIME)->flags = FLAG_LINK;
+	ask_write("not written", 0, -ECANCELED);
+	run("a timeout that fires");
+	ask_poll(-ECANCELED)->flags = FLAG_LINK;
+	ask_write("not written", 0, -ECANCELED);
+	ask(IORING_OP_ASYNC_CANCEL, -1, NULL, 0, 0, 0);
+	run("a chain whose head is canceled");
+}
+
+/* Chains that the kernel refuses, as it looks at an opcode that it does not have. */
+static void refused(void)
+{
+	ask_write("not written", 0, -ECANCELED)->flags = FLAG_LINK;
+	ask(200, -1, NULL, 0, 0, -EINVAL);
+	run("a write before an opcode that is none");
+	ask_nop(-ECANCELED)->flags = FLAG_LINK;
+	ask_write("not written", 0, -ECANCELED)->flags = FLAG_LINK;
+	ask(IORING_OP_TIMEOUT, -1, memory, 7, 0, -EINVAL);
+	run("a timeout that is none");
+	ask_write("written", 0, 7);
+	run("a write");
+}
+
+/* Errors that the world does not decide, and such as it does. */
+static void errors(void)
+{
+	struct iovec vector = { buffer, BYTES };
+
+	if (syscall(SYS_io_uring_register, ring.descriptor, IORING_REGISTER_BUFFERS, &vector, 1) ||
+	    mkdir("d", 0755))
+		fail("io_uring_register");
+	ask_write("here", 0, 4);
+	run("a write");
+	ask(OP_READ, file, (void *)1, 4, 0, -EFAULT)->flags = FLAG_LINK;
+	ask_nop(-ECANCELED);
+	run("memory that is not there");
+	ask(OP_WRITE_FIXED, file, buffer, BYTES + 1, 0, -EFAULT);
+	run("a range beyond the buffer");
+	struct io_uring_sqe *sqe = ask(OP_LINKAT, AT_FDCWD, "d", (unsigned)AT_FDCWD, 0, -EPERM);
+	sqe->addr2 = (uint64_t)(uintptr_t) "e";
+	run("another name of a directory");
+	ask(OP_READ, pipes[0], memory, 1, 0, 1);
+	if (write(pipes[1], "x", 1) != 1)
+		fail("write");
+	run("a pipe");
+	ask(OP_FSYNC, pipes[0], NULL, 0, 0, -EINVAL);
+	run("a pipe that has nothing to write back");
+	ask(OP_FADVISE, file, NULL, 0, 0, -EINVAL)->buf_index = 7;
+	run("a field that no advice has");
+}
+
+/* Registers the buffer, and sends something through the pipe and through the sockets. */
+static void send_through(const char *pipe, const char *socket)
+{
+	struct iovec vector = { buffer, BYTES };
+	ssize_t piped = (ssize_t)strlen(pipe), sent = (ssize_t)strlen(socket);
+
+	if (syscall(SYS_io_uring_register, ring.descriptor, IORING_REGISTER_BUFFERS, &vector, 1))
+		fail("io_uring_register");
+	if (write(pipes[1], pipe, (size_t)piped) != piped ||
+	    write(sockets[1], socket, (size_t)sent) != sent)
+		fail("write");
+}
+
+/* Writes of what a member before them put there. */
+static void filled(void)
+{
+	send_through("piped", "sent");
+	ask(OP_READ, pipes[0], memory, 5, 0, 5)->flags = FLAG_LINK;
+	ask(OP_WRITE, file, memory, 5, 0, 5);
+	run("a write of what came from a pipe");
+	ask(IORING_OP_RECV, sockets[0], more, 4, 0, 4)->flags = FLAG_LINK;
+	ask(OP_WRITE, file, more, 4, 5, 4);
+	run("a write of what came from a socket");
+	ask(OP_READ, file, memory + 100, 9, 0, 9);
+	run("a read of both");
+}
+
+/* The same of a registered buffer, which nothing fills in the replay. */
+static void filled_buffer(void)
+{
+	send_through("fixed", "buffer");
+	ask(OP_READ_FIXED, pipes[0], buffer, 5, 0, 5)->flags = FLAG_LINK;
+	ask(OP_WRITE_FIXED, file, buffer, 5, 0, 5);
+	run("a fixed write of what came from a pipe");
+	ask(IORING_OP_RECV, sockets[0], buffer + 100, 6, 0, 6)->flags = FLAG_LINK;
+	ask(OP_WRITE_FIXED, file, buffer + 100, 6, 5, 6);
+	run("a fixed write of what came from a socket");
+	ask(OP_WRITE_FIXED, file, buffer, 106, 0, 106);
+	run("a fixed write of all");
+}
+
+/* Members that post nothing. */
+static void quiet(void)
+{
+	struct io_uring_sqe *sqe;
+
+	if (write(pipes[1], "x", 1) != 1)
+		fail("write");
+	sqe = ask_poll(SILENT);
+	sqe->flags = FLAG_LINK | FLAG_SKIP;
+	ask_write("behind", 0, 6);
+	run("a silent poll");
+	sqe = ask(IORING_OP_EPOLL_CTL, NOBODY, memory, 0, 0, -EBADF);
+	sqe->flags = FLAG_LINK | FLAG_SKIP;
+	ask_write("not written", 0, SILENT);
+	run("a silent entry that fails");
+	ask_write("end", 20, 3);
+	run("the last");
+}
+
+static const struct {
+	const char *name;
+	void (*run)(void);
+} modes[] = {
+	{ "served", served }, { "chains", chains }, { "refused", refused },
+	{ "errors", errors }, { "filled", filled }, { "filled_buffer", filled_buffer },
+	{ "quiet", quiet },
+};
+
+int main(int count, char **words)
+{
+	alarm(30);
+	open_ring(&ring, ENTRIES, 0);
+	file = open("a", O_RDWR | O_CREAT, 0644);
+	if (file < 0 || pipe(pipes) || socketpair(AF_UNIX, SOCK_STREAM, 0, sockets))
+		fail("a");
+	for (unsigned at = 0; count > 1 && at < sizeof modes / sizeof *modes; at++) {
+		if (strcmp(words[1], modes[at].name))
+			continue;
+		modes[at].run();
+		return 0;
+	}
+	return 2;
+}
