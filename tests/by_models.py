@@ -36,19 +36,27 @@ def asked(words: Words) -> argparse.Namespace:
     return known.parse_args([str(it) for it in words])
 
 
+def replayed(trace: bytes, has_sums: bool = False) -> Answer:
+    """What `serial` gives of a trace: before a fault of one of version 3 the lines of the records that are whole."""
+    try:
+        return Answer(0, model_records.report(trace, has_sums), b"")
+    except Refused as fault:
+        return refused(str(fault), model_records.lines_before(trace))
+
+
 def told(given: argparse.Namespace, text: bytes) -> Tuple[bytes, int]:
-    """What a command writes, and its status."""
+    """What a command that writes nothing before a fault writes, and its status."""
     if given.command == "diff":
         lines, are_alike = model_diff.difference(text)
         return lines, 0 if are_alike else 4
     if given.command == "check":
         return model_records.answer(text).encode(), 0
-    if given.command == "serial":
-        return model_records.report(text, given.sums), 0
     return model_rounds.rounds(text, given.window) if given.command == "rounds" else model_depends.depends(text), 0
 
 
 def answer(given: argparse.Namespace, text: bytes) -> Answer:
+    if given.command == "serial":
+        return replayed(text, given.sums)
     try:
         output, status = told(given, text)
     except Refused as fault:

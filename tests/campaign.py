@@ -19,7 +19,7 @@ from model import World
 from mounted import Passthrough
 from player import Player
 from record_traces import DESCRIPTION, DESCRIPTOR, SLOT, stored
-from traces import AT_FDCWD, FIXED_FILE, NOP, OPENAT, READ, WRITE, description, entry
+from traces import AT_FDCWD, DRAIN, FIXED_FILE, LINK, NOP, OPENAT, READ, WRITE, description, entry
 
 MINIMISE, CAMPAIGN = (os.path.join(TOP, "tools", it) for it in ("uring_minimise", "uring_campaign"))
 SECONDS, FEW = 300, 10
@@ -89,9 +89,10 @@ def rings_of_rings() -> bytes:
     on = FIXED_FILE
     early = [entry(READ, on, length=4, user_data=5), entry(OPENAT, fd=AT_FDCWD, own_flags=0x42, file_index=3, side=b"/c"), entry(WRITE, on, 2, length=5, side=b"hello")]
     late = [entry(NOP), entry(READ, on, 0, 3, 4), entry(WRITE, on, 1, 7, 13, b"thirteen byte", user_data=9), entry(READ, on, 1, length=20)]
+    given = [record_traces.given(entry(OPENAT, LINK, 3), 2), record_traces.given_refused(entry(READ, DRAIN, 3, user_data=9), -22)]
     records = [record_traces.ring(3, [(0, (DESCRIPTION, 0, 0)), (1, (DESCRIPTION, 0, 1))], [(4096, 64)]), record_traces.enter(0, [stored(it) for it in early]),
                record_traces.fill_of_zeros(0, 0, 3, 9), record_traces.ring(2, [(0, (DESCRIPTOR, 0, 2)), (1, (SLOT, 0, 1))]), record_traces.ring(1, queue=0),
-               record_traces.ring_ends(0), record_traces.enter(1, [record_traces.zeros(entry(WRITE, on, 0, 0, 6, bytes(6))), *map(stored, late)])]
+               record_traces.ring_ends(0), record_traces.enter(1, [record_traces.zeros(entry(WRITE, on, 0, 0, 6, bytes(6))), *given, *map(stored, late)])]
     front = [record_traces.head(2, 2, 4, 1), *files, description(1), description(2), record_traces.descriptor(2, 0)]
     return b"".join([*front, *records, record_traces.END])
 

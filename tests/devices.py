@@ -2,15 +2,17 @@
 import os
 import re
 from functools import partial
-from typing import Callable, List
+from typing import List, NamedTuple
 
+import model_records
 from harness import Answer, Input, Job, Outcome, Program, Words, fault, first, input_of, refused, shown, skipped, spoken, with_entries
+from harness import read as read_example
 from shims import Shim
 
 TRACES = ("read_four_bytes", "open_write_close_chain_then_empty_slot", "fallocate_and_ftruncate_tests", "side_bytes_of_read")
 # Of version 3, for the commands that read it as it comes.
 RECORDS = "version_3/rings_of_one_queue"
-BY_RECORDS = (["check"], ["compare"])
+BY_RECORDS = (["check"], ["compare"], ["serial"])
 # The first bytes of a trace, which tell its version, are asked for alone.
 HEAD = 12
 MODES = (["serial"], ["serial", "--sums"], ["check"], ["run"], ["compare"], ["rounds"], ["depends"], ["diff"])
@@ -38,18 +40,38 @@ def changed(calls: int, is_whole: bool) -> List[int]:
     return sorted({*range(1, calls + 2, STEP), *range(1, min(calls, 3) + 1), *range(max(1, calls - 2), calls + 2)})
 
 
-def allowed(on: int, how: str, at: int, is_byte: bool, calls: int, is_help: bool, wanted: Answer, read: List[int], ended: Callable[[int], Answer]) -> List[Answer]:
+class Early(NamedTuple):
+    """What comes of an input that ends early, or cannot be read to its end."""
+
+    program: Program
+    words: Words
+    file: Input
+    # A trace of version 3 whose lines are written while it is read.
+    streamed: bytes
+
+    def beginnings(self, taken: int) -> List[bytes]:
+        """What may have been written behind so many bytes."""
+        return model_records.beginnings(self.streamed[:taken])
+
+    def ended(self, taken: int) -> Answer:
+        """A trace is refused there, reports are compared as far as they go."""
+        if isinstance(self.file, bytes):
+            return self.program.run(self.words, self.file[:taken])
+        return refused("Short at {}".format(taken), model_records.lines_before(self.streamed[:taken]))
+
+
+def allowed(on: int, how: str, at: int, is_byte: bool, calls: int, is_help: bool, wanted: Answer, read: List[int], early: Early) -> List[Answer]:
     """What a run may answer of which the call numbered `at`, of so many, is changed; `read` tells how many bytes of the input
-    undisturbed calls have given, the last of them all, and `ended` gives the answer for so many of its bytes."""
+    undisturbed calls have given, the last of them all, and `early` what is answered behind so many of its bytes."""
     if at > calls or how == "short":
         return [wanted]
     moved = at - 1 if is_byte else PIECE * (at - 1) if is_help else 0
+    taken = moved if is_byte else read[min(at, len(read)) - 1]
     if on == INPUT and how != "zero":
-        return [fault("read")]
+        return [fault("read")._replace(output=it) for it in early.beginnings(taken)]
     if on == INPUT:
         # the input ends there
-        taken = moved if is_byte else read[min(at, len(read)) - 1]
-        return [wanted if taken == read[-1] else ended(taken)]
+        return [wanted if taken == read[-1] else early.ended(taken)]
     if on == OUTPUT:
         moved = moved if is_byte or is_help else begins(wanted.output)[at - 1]
         lost = Answer(3, wanted.output[:moved], b"fault: write\n")
@@ -59,17 +81,13 @@ def allowed(on: int, how: str, at: int, is_byte: bool, calls: int, is_help: bool
     return [lost, wanted] if how == "interrupt" and (is_help or on == ERRORS) else [lost]
 
 
-def short(program: Program, words: Words, file: Input, taken: int) -> Answer:
-    """The answer for an input that ends early: a trace is refused there, reports are compared as far as they go."""
-    return program.run(words, file[:taken]) if isinstance(file, bytes) else refused("Short at {}".format(taken))
-
-
 def swept(shim: Shim, program: Program, words: Words, trace: str, on: int, is_byte: bool) -> List[Outcome]:
     """Calls on one descriptor changed in turn, in each way; with is_byte each call moves a byte."""
     file = input_of(words, trace) if trace else None
     given = len(file) if isinstance(file, bytes) else os.path.getsize(file) if file else 0
     read = [0, given] if words[0] in ("diff", "make") else [0, min(HEAD, given), given]
-    ended = partial(short, program, words, file)
+    streamed = read_example(trace + ".trace") if trace == RECORDS and words == ["serial"] else b""
+    early = Early(program, words, file, streamed)
     wanted = program.run(words, file)
     undisturbed, (calls,) = shim.run(program, words, file, on=str(on), byte=int(is_byte))
     faults, runs = [], 0
@@ -80,7 +98,7 @@ def swept(shim: Shim, program: Program, words: Words, trace: str, on: int, is_by
         for at in changed(calls, is_whole):
             got, _ = shim.run(program, words, file, on=str(on), how=how, at=at, byte=int(is_byte))
             runs += 1
-            answers = allowed(on, how, at, is_byte, calls, "--help" in words, wanted, read, ended)
+            answers = allowed(on, how, at, is_byte, calls, "--help" in words, wanted, read, early)
             # (a front of a trace that is refused may be refused for the same fault, and behind some bytes of a record more are asked for again)
             answers += [wanted] if how == "zero" and on == INPUT and (wanted.status == 1 or trace == RECORDS) else []
             if got not in answers:

@@ -7,7 +7,7 @@ from typing import Any, Dict, List, Sequence, Tuple
 import model
 from model import A_DIRECTORY, APPEND, CLOEXEC, CREAT, EXCL, MOST_MOVED, TRUNC
 from traces import AT_FDCWD, BUFFER_SELECT, CLOSE, DRAIN, FALLOCATE, FIXED_FILE, FSYNC, FTRUNCATE, GREATEST_SIZE, HARDLINK, LINK, LINKAT, MKDIRAT
-from traces import NOP, OPENAT, READ, READ_FIXED, READV, RENAMEAT, SKIP, UNLINKAT, WRITE, WRITE_FIXED, WRITEV
+from traces import FADVISE, NOP, OPENAT, READ, READ_FIXED, READV, RENAMEAT, SKIP, SYNC_FILE_RANGE, UNLINKAT, WRITE, WRITE_FIXED, WRITEV
 from traces import description, directory, descriptor_table, enter, entry, file, fill, head, name, ring, two_paths
 
 NAMES = (b"a", b"b", b"c", b"dd", b"\xff\n", b"n" * 255)
@@ -22,7 +22,7 @@ OPEN_FLAGS = ((CREAT, 2), (EXCL, 5), (TRUNC, 5), (APPEND, 5), (A_DIRECTORY, 10),
 # Opcodes, each with how often it is drawn; 6 is outside the table.
 WEIGHTS = {READ: 8, WRITE: 8, READV: 3, WRITEV: 3, READ_FIXED: 5, WRITE_FIXED: 5, FSYNC: 1, NOP: 2, FALLOCATE: 5, FTRUNCATE: 4,
            OPENAT: 12, CLOSE: 6, UNLINKAT: 6, MKDIRAT: 6, LINKAT: 5, RENAMEAT: 12, 6: 1}
-OF_FILES = (READ, WRITE, READV, WRITEV, READ_FIXED, WRITE_FIXED, FSYNC, FALLOCATE, FTRUNCATE)
+OF_FILES = (READ, WRITE, READV, WRITEV, READ_FIXED, WRITE_FIXED, FSYNC, FALLOCATE, FTRUNCATE, SYNC_FILE_RANGE, FADVISE)
 # Words that a line of a report may be given, the first ones of lines, and whole lines.
 FACTS = (b"outside=x", b"op=22", b"posted", b"silent", b"", b"=", b"res=1", b"size=0", b"outside", b"a=b=c", b"a=b", b"sum=large", b"tree-sum=ab", b"submitted=5",
          b"completed=9", b"completed")

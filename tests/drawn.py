@@ -16,24 +16,18 @@ import model_records
 import model_rounds
 import model_text
 import record_traces
+from by_models import replayed
 from drawing import Draw, Near, changed, report_changed, risen, two_reports
-from harness import Answer, Job, Outcome, Program, difference, first, read, refused, reports_refused
+from harness import Answer, Job, Outcome, Program, difference, first, read, reports_refused
 
 # How many of each kind are drawn, in how many lots; and each of how many traces is also replayed in rounds.
 DRAWN, LOTS, IN_ROUNDS = 3_000, 6, 5
 
 
-def by_model(trace: bytes, has_sums: bool) -> Answer:
-    try:
-        return Answer(0, model_records.report(trace, has_sums), b"")
-    except model.Refused as fault:
-        return refused(str(fault))
-
-
 def of_drawn(program: Program, seed: int) -> Optional[str]:
     """How the program differs from the model on a drawn trace, if it does."""
     trace = Draw(seed).trace()
-    wanted = by_model(trace, True)
+    wanted = replayed(trace, True)
     told = difference(program.run(["serial", "--sums"], trace), wanted)
     if not told and seed % IN_ROUNDS == 0:
         pair = ["--workers", str(1 + seed % 4), "--window", str(1 + seed % 7)]
@@ -54,7 +48,7 @@ def of_rounds(program: Program, seed: int, trace: bytes) -> Optional[str]:
 def of_changed(program: Program, seed: int) -> Optional[str]:
     """The same of a changed trace, without sums: its buffers may be of any length."""
     trace = changed(seed)
-    return difference(program.run(["serial"], trace), by_model(trace, False))
+    return difference(program.run(["serial"], trace), replayed(trace))
 
 
 def of_reports(program: Program, seed: int) -> Optional[str]:
@@ -158,7 +152,7 @@ def of_recorded(at: str, front: str) -> Optional[str]:
 def of_example(at: str, trace: str, told: str) -> Optional[str]:
     text = read(at, told)
     wanted = Answer(1, b"", text) if told.endswith(".refused") else Answer(0, text, b"")
-    return difference(by_model(read(at, trace), told.endswith(".sums")), wanted)
+    return difference(replayed(read(at, trace), told.endswith(".sums")), wanted)
 
 
 def jobs(programs: List[Program]) -> List[Job]:

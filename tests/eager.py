@@ -6,8 +6,8 @@ from functools import partial
 from typing import Iterable, List, NamedTuple, Optional, Tuple
 
 import examples
+from by_models import replayed
 from drawing import Draw
-from drawn import by_model
 from harness import EXAMPLES, Answer, Job, Outcome, Program, difference, first, read, shown, skipped, spoken
 from shims import Shim
 
@@ -72,7 +72,7 @@ def of_examples(shim: Shim, program: Program, names: List[str], setting: Tuple[i
 def of_drawn(shim: Shim, program: Program, seeds: range, setting: Tuple[int, int]) -> List[Outcome]:
     label = "drawn traces {} to {}, eager, at {} workers and a window of {}, by {}".format(seeds[0], seeds[-1], *setting, program.compiler)
     drawn = ((seed, Draw(seed).trace()) for seed in seeds)
-    return told_of(label, (eager(shim, program, "seed {}".format(seed), trace, by_model(trace, True), *setting) for seed, trace in drawn))
+    return told_of(label, (eager(shim, program, "seed {}".format(seed), trace, replayed(trace, True), *setting) for seed, trace in drawn))
 
 
 def alone(shim: Shim, program: Program) -> List[Outcome]:

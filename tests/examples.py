@@ -10,7 +10,7 @@ WORKERS = (1, 2, 4, 64)
 WINDOWS = (1, 2, 64, 4096)
 # What the second program compares with, and what `run`, which has no rounds where little is carried, is run with.
 FEW_PAIRS = ((2, 2), (4, 64))
-ENDINGS = (".trace", ".report", ".sums", ".check", ".rounds", ".waits", ".dot", ".depends", ".depends.dot", ".text", ".refused")
+ENDINGS = (".trace", ".report", ".sums", ".check", ".rounds", ".waits", ".dot", ".depends", ".depends.dot", ".text", ".refused", ".lines")
 # What is told beside few examples, and the ending of the file that has it.
 TOLD = ((["rounds"], ".waits"), (["rounds", "--window", "64", "--dot"], ".dot"), (["depends"], ".depends"), (["depends", "--dot"], ".depends.dot"), (["show"], ".text"))
 

@@ -13,6 +13,8 @@ from shims import Shim
 
 EXAMPLE = "read_four_bytes"
 TRACE = os.path.join(EXAMPLES, EXAMPLE + ".trace")
+# The same of version 3.
+RECORDS = os.path.join(EXAMPLES, "version_3", EXAMPLE + ".trace")
 EQUAL = "entries 1 equal, 0 different, 0 outside\ntree 1 equal, 0 different, 0 outside\nslots 1 equal, 0 different, 0 outside\nbuffers 1 equal, 0 different, 0 outside\n".encode()
 # Commands that read a trace, each with the answer that stands beside the example, if one does.
 COMMANDS: Dict[Tuple[str, ...], bytes] = {
@@ -239,6 +241,7 @@ def no_half_text(program: Program) -> List[Outcome]:
     out, before = at.put("out", b"before"), b"before"
     at.ask("a refused trace", ["serial", "-o", out], refused("Short at 0"))
     at.ask("a refused trace", ["compare", "-o", at.path("new")], refused("Short at 0"))
+    at.ask("lines before a fault", ["serial", "-o", out], Answer(1, b"", read("version_3", "lines_before_a_fault.refused")), given=read("version_3", "lines_before_a_fault.trace"))
     at.ask("refused reports", ["diff", "-o", out], reports_refused("the first does not begin with uring-report 1"))
     at.ask("no memory", ["serial", "-o", out], fault("memory"), given=b"\0" * (1 << 26), shell='ulimit -v 50000; exec "$@"')
     at.ask("a closed input", ["serial", "-o", out], fault("read"), shell='exec "$@" <&-')
@@ -494,6 +497,7 @@ def jobs(programs: List[Program]) -> List[Job]:
     made += [partial(devices, device, program) for program in programs]
     report, sums = (os.path.join(EXAMPLES, EXAMPLE + ending) for ending in (".report", ".sums"))
     for is_from in (False, True):
-        for words, output in ((["serial", TRACE], read(EXAMPLE + ".report")), (["compare", TRACE], b"equal\n"), (["check", TRACE], read(EXAMPLE + ".check")), (["diff", report, sums], EQUAL)):
+        for words, output in ((["serial", TRACE], read(EXAMPLE + ".report")), (["serial", RECORDS], read("version_3", EXAMPLE + ".report")), (["compare", TRACE], b"equal\n"),
+                              (["check", TRACE], read(EXAMPLE + ".check")), (["diff", report, sums], EQUAL)):
             made.append(partial(memory, refuse, programs[0], words, output, 0, is_from))
     return made

@@ -163,9 +163,14 @@ def difference(got: Answer, wanted: Answer) -> Optional[str]:
     return "{}; wanted {}".format(shown(got), shown(wanted))
 
 
-def refused(line: str) -> Answer:
-    """The answer for a trace that is refused."""
-    return Answer(1, b"", "trace refused: {}\n".format(line).encode())
+def begins(output: bytes, whole: bytes) -> bool:
+    """Whether an output is a beginning of another one, and not all of it."""
+    return whole.startswith(output) and output != whole
+
+
+def refused(line: str, output: bytes = b"") -> Answer:
+    """The answer for a trace that is refused, behind what is written before."""
+    return Answer(1, output, "trace refused: {}\n".format(line).encode())
 
 
 def reports_refused(line: str) -> Answer:

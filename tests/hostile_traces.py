@@ -2,6 +2,7 @@
 import struct
 from typing import Iterable, Sequence
 
+import record_traces
 from traces import FIXED_FILE, GREATEST_BUFFER, GREATEST_SIZE, DRAIN, LINK, LINKAT, NOP, OPENAT, READ, READV, RENAMEAT, SKIP, WRITE, WRITEV
 from traces import description, directory, enter, entry, file, fill, head, name, ring, with_side
 
@@ -186,3 +187,11 @@ def long_reads(count: int, size: int = 1 << 20) -> bytes:
     """Reads of all of a file, of which each four are worth a thread when they are compared."""
     world = file(b"/a", size, bytes(range(1, 252)) * (size // 251)) + description(1)
     return head(1, 1, 1, 1) + world + ring([1]) + enter(0, [entry(READ, FIXED_FILE, length=size)] * count)
+
+
+def records_in_pieces(count: int, size: int = 50_000) -> bytes:
+    """A trace of version 3 of so many records, each of which writes so many bytes and reads some of them."""
+    writes = (entry(WRITE, FIXED_FILE, offset=it, length=size, side=bytes([it]) * size, user_data=it) for it in range(count))
+    reads = (entry(READ, FIXED_FILE, offset=it * 100, length=40, user_data=count + it) for it in range(count))
+    records = [record_traces.enter(0, [record_traces.stored(it) for it in pair]) for pair in zip(writes, reads)]
+    return b"".join([record_traces.of_one_file(100), *records, record_traces.END])

@@ -60,7 +60,7 @@ MOST_AT_START = 5.0
 # may take of what they take where no page was taken away before, which is 1 to 2 times. With a look at each such page it was 170.
 APART, MOST_EMPTIED = 16_384, 5.0
 # How many bytes each entry of a long trace of version 3 stores, how many such entries are written at once, and how much memory, in kilobytes,
-# counting them may take.
+# counting or replaying them may take.
 STORED, RECORDS_AT_ONCE, STREAM_MEMORY = 1 << 20, 64, 50_000
 MODES: Tuple[Tuple[List[str], str], ...] = ((["serial"], ".report"), (["serial", "--sums"], ".sums"), (["check"], ".check"))
 # How often each pair of workers and window is tried on writes that are worth threads.
@@ -115,8 +115,7 @@ def written_in_turn(folder: str, size: int) -> Tuple[str, int]:
     entries it has."""
     wrote = record_traces.stored(entry(WRITE, FIXED_FILE, length=STORED, side=os.urandom(STORED)))
     records = record_traces.enter(0, [wrote]) * RECORDS_AT_ONCE
-    start = record_traces.head(1, 1) + record_traces.file(b"/a", 0) + description(1)
-    parts = {"start": start + record_traces.ring(1, [(0, (record_traces.DESCRIPTION, 0, 0))]), "records": records, "end": record_traces.END}
+    parts = {"start": record_traces.of_one_file(0), "records": records, "end": record_traces.END}
     for name, part in parts.items():
         with open(os.path.join(folder, name), "wb") as out:
             out.write(part)
@@ -126,15 +125,16 @@ def written_in_turn(folder: str, size: int) -> Tuple[str, int]:
 
 
 def long_records(program: Program) -> List[Outcome]:
-    """A trace of version 3 of more than 2^30 bytes is counted as it comes, in the memory of one record, and replayed; one that is at fault is refused
-    as soon as that was read."""
+    """A trace of version 3 of more than 2^30 bytes is counted and replayed as it comes, in the memory of one record and of its file; one that is at
+    fault is refused as soon as that was read."""
     outcomes = []
     with tempfile.TemporaryDirectory() as folder:
         given, count = written_in_turn(folder, 1 << 30)
-        counted = program.run(["check"], None, shell='{} | {{ ulimit -v {}; exec "$@"; }}'.format(given, STREAM_MEMORY))
+        shell = '{} | {{ ulimit -v {}; exec "$@"; }}'.format(given, STREAM_MEMORY)
+        counted = program.run(["check"], None, shell=shell)
         wanted = Answer(0, "ok {} places 1 rings\n".format(count + 1).encode(), b"")
         outcomes.append(Outcome("check of over 2^30 bytes of version 3 by {}".format(program.compiler), difference(counted, wanted)))
-        replayed = program.run(["serial"], None, shell='{} | "$@"'.format(given))
+        replayed = program.run(["serial"], None, shell=shell)
         done = replayed.status == 0 and replayed.output.count(" res={} posted\n".format(STORED).encode()) == count
         outcomes.append(Outcome("serial of over 2^30 bytes of version 3 by {}".format(program.compiler), None if done else shown(replayed)))
     shell = "{{ printf 'URINGTRC\\003'; head -c {} /dev/zero; }} | {{ ulimit -v {}; exec \"$@\"; }}".format(1 << 31, STREAM_MEMORY)

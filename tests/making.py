@@ -20,7 +20,8 @@ LETTERS = b' \t\n\r"\\#=|@-*.x[],0123456789abcdef~\x00\xff/ODNLo'
 WORDS = (b"fd=1", b"len=4", b"-", b"-*3", b'"a"*16', b"x\"00\"", b"@1", b"of=/a", b"size=9", b"IO_LINK", b"0x80", b"pos=1", b"[1,2]", b"path=/a", b"...", b"\\\n", b"# c", b"O_RDWR",
          b"ring", b"enter 0", b"\nNOP", b"\ndir /q", b"rw_flags=RWF_SYNC|1", b"off=-1", b"1", b"00", b"18446744073709551616")
 # Those that version 3 has besides.
-WORDS_OF_RECORDS = (b"at=4", b"at=18446744073709551615", b"zeros=3", b"queue=0", b"fd:1", b"0:1", b":", b"ends", b"\nring 0 ends", b"\nring 1", b"\nfill 0 buffer=0 zeros=2", b"-*1048576")
+WORDS_OF_RECORDS = (b"at=4", b"at=18446744073709551615", b"zeros=3", b"queue=0", b"fd:1", b"0:1", b":", b"ends", b"\nring 0 ends", b"\nring 1", b"\nfill 0 buffer=0 zeros=2", b"-*1048576",
+                    b"given=5", b"given=-2147483648", b"failed=-4", b"failed=4294967295", b"refused=-22", b"refused=0", b"\nPOLL_ADD refused=-4095")
 FRONT = "uring-trace 2\nfile /a \"abc\"\nopen 0 /a O_RDWR\ndescriptors 0 -\nring 0\n  slots 0 -*3\n  buffer 0 0x1000 16\n"
 FRONT_OF_RECORDS = FRONT.replace("trace 2", "trace 3")
 
@@ -101,6 +102,16 @@ MISTAKES: Tuple[Tuple[str, str], ...] = (
     (FRONT_OF_RECORDS + "enter 0\n  WRITE len=2 zeros=3\n", "9:3: Side: the bytes of this entry do not fit it"),
     (FRONT_OF_RECORDS + "enter 0\n  WRITEV [1,2] zeros=3\n", "9:3: Side: the bytes of this entry do not fit it"),
     (FRONT_OF_RECORDS + "enter 0\n  READ zeros=3\n", "9:3: Limit: a number on this line is out of its range"),
+    (FRONT_OF_RECORDS + "enter 0\n  READ given=1 failed=1\n", "9:16: this stands here for the second time"),
+    (FRONT_OF_RECORDS + "enter 0\n  READ given=\n", "9:14: expected a number"),
+    (FRONT_OF_RECORDS + "enter 0\n  READ failed=4294967296\n", "9:15: expected a number of at most 32 bits"),
+    (FRONT_OF_RECORDS + "enter 0\n  READ refused=0\n", "9:16: expected an error from -4095 to -1"),
+    (FRONT_OF_RECORDS + "enter 0\n  READ refused=-4096\n", "9:16: expected an error from -4095 to -1"),
+    (FRONT_OF_RECORDS + "enter 0\n  WRITE given=1 \"a\"\n", "9:3: Side: the bytes of this entry do not fit it"),
+    (FRONT_OF_RECORDS + "enter 0\n  WRITE zeros=0 failed=1\n", "9:3: Side: the bytes of this entry do not fit it"),
+    (FRONT_OF_RECORDS + "enter 0\n  OPENAT path=/b given=5\n", "9:3: Side: the bytes of this entry do not fit it"),
+    (FRONT_OF_RECORDS + "enter 0\n  READV [4] refused=-22\n", "9:3: Side: the bytes of this entry do not fit it"),
+    (FRONT + "enter 0\n  READ given=1\n", "9:8: expected a flag, a field of this operation or a string"),
     (FRONT_OF_RECORDS + "fill 0 buffer=0 zeros=17\n", "8:1: Reference: a number on this line names nothing above"),
     (FRONT_OF_RECORDS + "fill 0 buffer=0 zeros=1 \"a\"\n", "8:25: expected the end of the line"),
 )

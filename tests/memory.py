@@ -2,8 +2,8 @@
 from functools import partial
 from typing import List
 
-from harness import Job, Outcome, Program, Words, fault, first, input_of, shown, skipped, spoken, with_entries
-from hostile_traces import heavy_writes, long_reads, stored_files
+from harness import Answer, Job, Outcome, Program, Words, begins, fault, first, input_of, shown, skipped, spoken, with_entries
+from hostile_traces import heavy_writes, long_reads, records_in_pieces, stored_files
 from shims import Shim
 
 TRACES = (
@@ -18,11 +18,12 @@ TRACES = (
     "read_only_description",
     "side_bytes_of_read",
 )
-# Of version 3, for the commands that read it as it comes, and for `show`.
-BY_RECORDS = (["check"], ["serial"], ["show"])
-RECORDS = ("version_3/rings_of_one_queue", "version_3/zeros_over_bytes")
+# Of version 3, for the commands that read it as it comes, for one that then replays it, and for `show`; one of them has records that come in pieces.
+BY_RECORDS = (["check"], ["serial"], ["serial", "--sums"], ["run"], ["run", "--eager"], ["show"])
+IN_PIECES, PIECES = "records in pieces", 4
+RECORDS = ("version_3/rings_of_one_queue", "version_3/zeros_over_bytes", IN_PIECES)
 # What `make`, and `diff` with entries, are tried with: of version 1, and of version 3.
-OF_TEXTS = (TRACES[0], *RECORDS)
+OF_TEXTS = (TRACES[0], *RECORDS[:2])
 ROUNDS = ["--workers", "2", "--window", "4"]
 MODES = (["serial"], ["serial", "--sums"], ["check"], ["run", *ROUNDS], ["compare", *ROUNDS], ["rounds"], ["depends"], ["diff"])
 WORDS_ALONE: List[Words] = [["serial", "a", "extra"], ["run", "--workers", "65"], ["--help"], ["serial", "--help"], ["serial", b"\xff"]]
@@ -31,7 +32,7 @@ HEAVY = (2, 8)
 HEAVY_WRITES = "two heavy writes"
 # So many files have sums that are each worth a thread.
 STORED_FILES = "two stored files"
-MADE = {HEAVY_WRITES: heavy_writes(HEAVY[0]), STORED_FILES: stored_files(2)}
+MADE = {HEAVY_WRITES: heavy_writes(HEAVY[0]), STORED_FILES: stored_files(2), IN_PIECES: records_in_pieces(PIECES)}
 # So many growths are each refused; of those behind them each STEP-th is.
 EACH = 300
 STEP = 7
@@ -45,7 +46,8 @@ TRIED_AGAIN = 4
 # heavy writes has, four turns are made. And a thread that is refused memory isn't started, and its sums are made where it was
 # asked for. The list of the lengths of a ring's buffers, of which each of these traces has one, is made as large as it will be ahead
 # of time too; and so is that of the full descriptors, where the first of them is made of its text.
-DONE_WITHOUT = {HEAVY_WRITES: 2 * (1 + 4 * 2), STORED_FILES: 4, **dict.fromkeys(RECORDS, 1)}
+# Where records come in pieces, the pages that each of them writes share a list, as above.
+DONE_WITHOUT = {HEAVY_WRITES: 2 * (1 + 4 * 2), STORED_FILES: 4, **dict.fromkeys(RECORDS, 1), IN_PIECES: PIECES}
 
 
 def growths(count: int, spare: int) -> List[int]:
@@ -54,11 +56,17 @@ def growths(count: int, spare: int) -> List[int]:
     return sorted({*range(1, min(last, EACH) + 1), *range(EACH, last + 1, STEP), *range(max(1, count - STEP), last + 1)})
 
 
+def has_lacked(got: Answer, lacking: List[Answer], wanted: Answer, is_streamed: bool) -> bool:
+    """Whether a run answers that it lacked something. Nothing goes out then, or a beginning of what is written while the trace is read."""
+    return got in lacking or is_streamed and got._replace(output=b"") in lacking and begins(got.output, wanted.output)
+
+
 def swept(shim: Shim, program: Program, words: Words, trace: str, is_from: bool) -> List[Outcome]:
     """Each growth of one run refused, once or from then on: the fault is that of memory or of a thread, and nothing goes
-    out. A run that met no refusal, and one with ample memory, gives the answer."""
+    out, or a beginning of the report of version 3. A run that met no refusal, and one with ample memory, gives the answer."""
     given = MADE[trace] if trace in MADE else input_of(words, trace) if trace else None
     has_workers = bool(trace) and words[0] in ("run", "compare")
+    is_streamed = trace in RECORDS and words[0] in ("serial", "run") and "--eager" not in words
     wanted = program.run(words, given)
     ample, (count, _, _, before_read) = shim.run(program, words, given)
     lacking = [fault("memory"), *([fault("thread")] if has_workers else [])]
@@ -75,7 +83,7 @@ def swept(shim: Shim, program: Program, words: Words, trace: str, is_from: bool)
             tried_again += 1
         elif refused and not is_from and got == wanted and done_without < DONE_WITHOUT.get(trace, 0) + (words[0] == "make" and trace == RECORDS[0]):
             done_without += 1
-        elif got not in (lacking if refused else [wanted]):
+        elif not (has_lacked(got, lacking, wanted, is_streamed) if refused else got == wanted):
             faults.append("growth {}: {}".format(at, shown(got)))
     if not refusals:
         faults.append("no growth was refused")

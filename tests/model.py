@@ -4,12 +4,13 @@ import struct
 from typing import Dict, Iterator, List, NamedTuple, Optional, Sequence, Set, Tuple, Union
 
 from traces import AT_FDCWD, CLOSE, FALLOCATE, FIXED_FILE, FSYNC, FTRUNCATE, GREATEST_SIZE, HARDLINK, LINK, LINKAT, MKDIRAT, NOP, OPENAT, READ
-from traces import BUFFER_SELECT, DRAIN, GREATEST_BUFFER, READ_FIXED, READV, RENAMEAT, SKIP, UNLINKAT, WRITE, WRITE_FIXED, WRITEV
+from traces import BUFFER_SELECT, DRAIN, FADVISE, GREATEST_BUFFER, READ_FIXED, READV, RENAMEAT, SKIP, SYNC_FILE_RANGE, UNLINKAT, WRITE, WRITE_FIXED, WRITEV
 
 EPERM, ENOENT, EBADF, EFAULT, EEXIST, ENOTDIR, EISDIR = 1, 2, 9, 14, 17, 20, 21
 EINVAL, EMFILE, EFBIG, ENAMETOOLONG, ENOTEMPTY, EOPNOTSUPP, ECANCELED = 22, 24, 27, 36, 39, 95, 125
 CREAT, EXCL, TRUNC, APPEND, A_DIRECTORY, CLOEXEC, KNOWN = 0x40, 0x80, 0x200, 0x400, 0x10000, 0x80000, 0x1FDFC3
 READS, WRITES = (READV, READ_FIXED, READ), (WRITEV, WRITE_FIXED, WRITE)
+OF_VERSION_3 = (SYNC_FILE_RANGE, FADVISE)
 MOST_MOVED, AT_POSITION, HALF, LAST = 0x7FFFF000, (1 << 64) - 1, 1 << 63, (1 << 32) - 1
 PAGE, SHOWN, MOST_SUMMED = 4096, 32, 1 << 24
 MOST_ITEMS, MOST_RINGS, MOST_PLACES, MOST_OF_TABLE, MOST_OF_RECORD = 65_535, 64, 1_048_576, 1_024, 32_768
@@ -92,6 +93,14 @@ class Description:
         self.node, self.access, self.append, self.position = node, access, bool(append), position
 
 
+class Given(NamedTuple):
+    """A result that stands in the trace, whether it fails, and whether it is the answer of the entry's tests by itself."""
+
+    result: int
+    fails: bool
+    is_refused: bool = False
+
+
 class Entry(NamedTuple):
     """The fields of an entry and its side bytes, without those that are written where `is_zeros` says that they are zeros."""
 
@@ -108,6 +117,7 @@ class Entry(NamedTuple):
     file_index: int
     side: bytes
     is_zeros: bool = False
+    given: Optional[Given] = None
 
     def vectors(self) -> List[int]:
         return list(struct.unpack_from("<{}Q".format(self.length), self.side))
@@ -416,7 +426,7 @@ class World:
         return False
 
     def operation(self, place: int, ring: int, entry: Entry) -> Iterator[Answer]:
-        operations = {NOP: self.nothing, FSYNC: self.sync, FALLOCATE: self.allocate, FTRUNCATE: self.truncate, OPENAT: self.open_at, CLOSE: self.close,
+        operations = {NOP: self.nothing, FSYNC: self.sync, SYNC_FILE_RANGE: self.sync_range, FADVISE: self.advise, FALLOCATE: self.allocate, FTRUNCATE: self.truncate, OPENAT: self.open_at, CLOSE: self.close,
                       UNLINKAT: self.unlink, MKDIRAT: self.make_directory, LINKAT: self.link, RENAMEAT: self.rename,
                       **dict.fromkeys(READS, self.read), **dict.fromkeys(WRITES, self.write)}
         return operations[entry.opcode](place, ring, entry)
@@ -426,6 +436,18 @@ class World:
 
     def sync(self, place: int, ring: int, entry: Entry) -> Iterator[Answer]:
         self.open_file(ring, entry)
+        yield 0, None
+
+    def sync_range(self, place: int, ring: int, entry: Entry) -> Iterator[Answer]:
+        self.open_file(ring, entry)
+        need(entry.own_flags <= 7, EINVAL)
+        need(entry.offset < HALF and entry.offset + entry.length < HALF, EINVAL)
+        yield 0, None
+
+    def advise(self, place: int, ring: int, entry: Entry) -> Iterator[Answer]:
+        self.open_file(ring, entry)
+        need((entry.address or entry.length) < HALF, EINVAL)
+        need(entry.own_flags <= 5, EINVAL)
         yield 0, None
 
     def read(self, place: int, ring: int, entry: Entry) -> Iterator[Answer]:
@@ -601,6 +623,8 @@ class World:
 
 def fault(version: int, entry: Entry) -> int:
     """The error of an entry's tests by itself, or 0."""
+    if entry.given:
+        return -entry.given.result if entry.given.is_refused else 0
     try:
         test(version, entry)
     except Failed as failed:
@@ -611,11 +635,11 @@ def fault(version: int, entry: Entry) -> int:
 def test(version: int, entry: Entry) -> None:
     opcode, own = entry.opcode, entry.own_flags
     names, named = (OPENAT, RENAMEAT, UNLINKAT, MKDIRAT, LINKAT), (NOP, FSYNC, FALLOCATE, FTRUNCATE, CLOSE)
-    need(opcode in (*READS, *WRITES, *names, *named), EINVAL)
+    need(opcode in (*READS, *WRITES, *names, *named) or version == 3 and opcode in OF_VERSION_3, EINVAL)
     need(not entry.flags & 128 and entry.personality == 0, EINVAL)
     need(not entry.flags & BUFFER_SELECT, EOPNOTSUPP)
     if opcode in (*READS, *WRITES):
-        need(own == 0, EOPNOTSUPP)
+        need(not own & ~(6 if version == 3 else 0), EOPNOTSUPP)
         if opcode in (READV, WRITEV):
             need(entry.length <= 1024 and sum(entry.vectors()) < HALF, EINVAL)
     need(opcode != FSYNC or own in (0, 1), EINVAL)
@@ -647,14 +671,21 @@ def run_step(world: World, chain: Chain, at: int) -> Reply:
         return Reply(-(chain.faults[at] or ECANCELED), at == 0 or not chain.steps[0].flags & SKIP)
     if chain.broken:
         return Reply(-ECANCELED, not chain.broken.flags & SKIP)
-    try:
-        result, data = world.run(chain.first + at, chain.ring, step)
-    except Failed as failed:
-        result, data = -failed.errno, None
-    has_failed = result != step.asked() if step.opcode in (*READS, *WRITES) else result < 0
+    result, data, has_failed = run_entry(world, chain.first + at, chain.ring, step)
     if has_failed and not step.flags & HARDLINK and at + 1 < len(chain.steps):
         chain.broken = step
     return Reply(result, has_failed or not step.flags & SKIP, data, max(result, 0))
+
+
+def run_entry(world: World, place: int, ring: int, entry: Entry) -> Tuple[int, Optional[bytes], bool]:
+    """Runs an entry, and gives its result, its data and whether it fails."""
+    if entry.given:
+        return entry.given.result, None, entry.given.fails
+    try:
+        result, data = world.run(place, ring, entry)
+    except Failed as failed:
+        result, data = -failed.errno, None
+    return result, data, result != entry.asked() if entry.opcode in (*READS, *WRITES) else result < 0
 
 
 def visible(text: bytes) -> str:
@@ -667,10 +698,14 @@ def report(text: bytes, has_sums: bool = True) -> bytes:
     return report_by_turns(World(text), has_sums)
 
 
+def replies_by_turns(world: World) -> Dict[int, Reply]:
+    """The replies of a world where no place has run, which run now one after another."""
+    return {chain.first + at: run_step(world, chain, at) for chain in world.chains for at in range(len(chain.steps))}
+
+
 def report_by_turns(world: World, has_sums: bool = True) -> bytes:
-    """The report of a world where no place has run, which run now one after another."""
-    replies = {chain.first + at: run_step(world, chain, at) for chain in world.chains for at in range(len(chain.steps))}
-    return report_of(world, replies, has_sums)
+    """The report of a world where no place has run."""
+    return report_of(world, replies_by_turns(world), has_sums)
 
 
 def report_of(world: World, replies: Dict[int, Reply], has_sums: bool = True) -> bytes:
@@ -686,7 +721,7 @@ def report_of(world: World, replies: Dict[int, Reply], has_sums: bool = True) ->
 def facts_of(entry: Entry, reply: Reply) -> str:
     """What is told of an entry behind its place, and the ring where that is told."""
     shown = " data={}{}".format(reply.data.hex(), "+" if reply.moved > SHOWN else "") if reply.data else ""
-    return "user={} res={} {}{}".format(entry.user_data, reply.result, "posted" if reply.posted else "silent", shown)
+    return "user={} res={} {}{}{}".format(entry.user_data, reply.result, "posted" if reply.posted else "silent", shown, " given=1" if entry.given else "")
 
 
 def entries_of(world: World) -> Iterator[Tuple[int, int, Entry]]:

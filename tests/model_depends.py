@@ -209,7 +209,7 @@ def in_turn(world: World) -> List[Told]:
         waits = known.waits(uses)
         known.add(place.number, uses)
         reply, step = run_step(world, place.chain, place.at), place.step()
-        is_transfer = isinstance(step, Entry) and step.opcode in (*READS, *WRITES)
+        is_transfer = isinstance(step, Entry) and step.opcode in (*READS, *WRITES) and not step.given
         told.append(Told(waits, max(reply.result, 0) if is_transfer else 0, uses))
     return told
 

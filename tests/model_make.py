@@ -28,6 +28,8 @@ OF_TRACE = {
 }
 
 
+# The words of a result that is given: one that passes, one that fails, and an error on submission.
+GIVEN, LEAST_ERROR = ("given", "failed", "refused"), (1 << 32) - 4_095
 NO_SLOT, BOTH = "expected a slot: a number, `-` or `-*COUNT`", "expected strings or zeros=N, not both"
 OF_VERSION = "expected `uring-trace 1`, `uring-trace 2` or `uring-trace 3`"
 
@@ -676,12 +678,13 @@ class Draft:
 
 
 class RecordsDraft(Draft):
-    """The same in version 3, where the entry may have zeros; and where its line begins."""
+    """The same in version 3, where the entry may have zeros, or a result that is given; and where its line begins."""
 
     def __init__(self, opcode: int, at: int) -> None:
         super().__init__(opcode)
         self.at = at
         self.zeros: Optional[int] = None
+        self.given: Optional[Tuple[str, int]] = None
         self.has_strings = False
 
     def begin_string(self, word: Word) -> None:
@@ -691,6 +694,14 @@ class RecordsDraft(Draft):
 
     def word(self, word: Word) -> None:
         zeros = word.value("zeros")
+        result = next(((key, found) for key in GIVEN for found in [word.value(key)] if found), None)
+        if result:
+            if self.given:
+                raise Refused(word.at, "this stands here for the second time")
+            self.given = result[0], number_of(result[1], 32)
+            if result[0] == "refused" and self.given[1] < LEAST_ERROR:
+                raise Refused(result[1].at, "expected an error from -4095 to -1")
+            return
         if zeros is None:
             super().word(word)
             return
@@ -699,6 +710,8 @@ class RecordsDraft(Draft):
         self.zeros = number_of(zeros, 32)
 
     def bytes(self) -> bytes:
+        if self.given:
+            return self.with_result(*self.given)
         if self.zeros is None:
             return record_traces.stored(super().bytes())
         packed, front = self.packed(self.zeros), self.front()
@@ -707,6 +720,13 @@ class RecordsDraft(Draft):
         if len(front) != min(self.zeros, 8 * length if packed[0] == WRITEV and length <= 1024 else 0):
             raise Refused(self.at, OF_TRACE["Side"])
         return packed + struct.pack("<BI", 1, self.zeros) + front
+
+    def with_result(self, key: str, result: int) -> bytes:
+        """The bytes of an entry whose result is given, which has nothing beside it."""
+        if self.zeros is not None or self.front() or self.data:
+            raise Refused(self.at, OF_TRACE["Side"])
+        packed = self.packed(0)
+        return packed + (struct.pack("<BI", 3, result) if key == "refused" else struct.pack("<BIB", 2, result, key == "failed"))
 
 
 def has_version_3(text: bytes) -> bool:

@@ -3,12 +3,13 @@ Traces of other versions are model.py's."""
 from typing import List, Optional, Tuple
 
 import model
-from model import DESCRIPTOR, LAST, SLOT, Bytes, Chain, Entry, Fill, Holder, NewRing, Reader, World, entry_of, within
+from model import DESCRIPTOR, LAST, SLOT, Bytes, Chain, Entry, Fill, Given, Holder, NewRing, Reader, Refused, World, entry_of, within
 from traces import GREATEST_SIZE, WRITE, WRITEV
 
 MOST_ITEMS, MOST_NUMBERS, MOST_BUFFERS, MOST_OF_RECORD, MOST_PLACES = 1 << 24, 1 << 20, 16_384, 32_768, 1 << 31
 BEGINNING = b"URINGTRC\3\0\0\0"
-# What begins a record.
+# The forms of an entry. What begins a record.
+STORED, ZEROS, GIVEN, REFUSED = range(4)
 ENTRIES, FILL, RING, RING_ENDS, END = 1, 2, 5, 6, 7
 
 
@@ -29,9 +30,14 @@ class Records(World):
             self.table[number] = description
         # Of each ring the one whose queue it continues, or itself.
         self.queues: List[int] = []
+        # Where the start ends, and each record but that of the end; and how many places are before.
+        self.ends = [(source.next, 0)]
+        self.read_records()
+
+    def read_records(self) -> None:
         while self.next_record():
-            pass
-        within(source.next == len(text), "Trailing", source.next)
+            self.ends.append((self.source.next, self.places))
+        within(self.source.next == len(self.source.text), "Trailing", self.source.next)
 
     def number(self, most: int, least: int = 0, kind: str = "Limit") -> int:
         return self.source.number("I", most, least, kind)
@@ -92,13 +98,22 @@ class Records(World):
 
     def next_entry(self, begin: int) -> Entry:
         source = self.source
-        fields, form = source.take(64), source.field("B")
-        within(form == 0 or form == 1 and fields[0] in (WRITE, WRITEV), "Limit", source.at)
+        fields, form = source.take(64), source.number("B", REFUSED)
+        within(form != ZEROS or fields[0] in (WRITE, WRITEV), "Limit", source.at)
+        if form in (GIVEN, REFUSED):
+            return entry_of(fields, b"")._replace(given=self.given(form))
         count, at = source.field("I"), source.at
-        within(form == 1 or source.next + count - begin <= LAST, "Limit", at)
-        entry = entry_of(fields, source.take(count if form == 0 else min(count, entry_of(fields, b"").lengths())), form == 1)
-        within(entry.has_side() if form == 0 else entry.has_count(count), "Side", at)
+        within(form == ZEROS or source.next + count - begin <= LAST, "Limit", at)
+        side = source.take(count if form == STORED else min(count, entry_of(fields, b"").lengths()))
+        entry = entry_of(fields, side, form == ZEROS)
+        within(entry.has_side() if form == STORED else entry.has_count(count), "Side", at)
         return entry
+
+    def given(self, form: int) -> Given:
+        if form == REFUSED:
+            return Given(self.source.number("i", -1, -4095), True, True)
+        result = self.source.field("i")
+        return Given(result, self.source.number("B", 1) == 1)
 
     def next_fill(self, ring: int) -> Fill:
         buffers, source = self.buffers[ring], self.source
@@ -128,6 +143,20 @@ class Records(World):
         return Holder(what, ring, self.number(count - 1, 0, "Reference"))
 
 
+class Begun(Records):
+    """What a trace of version 3 begins with whose start is whole: a fault behind that, which is told, ends it behind the records before."""
+
+    fault: Optional[Refused] = None
+
+    def read_records(self) -> None:
+        try:
+            super().read_records()
+        except Refused as fault:
+            self.fault = fault
+            self.places = self.ends[-1][1]
+            self.chains = [it for it in self.chains if it.first < self.places]
+
+
 def world_of(text: bytes) -> World:
     """The world of a trace of any version before its places run; or it is Refused."""
     return Records(text) if text.startswith(BEGINNING) else World(text)
@@ -142,3 +171,24 @@ def answer(text: bytes) -> str:
 def report(text: bytes, has_sums: bool = True) -> bytes:
     """The report of a trace of any version."""
     return model.report_by_turns(world_of(text), has_sums)
+
+
+def lines_before(text: bytes) -> bytes:
+    """What is written before the fault of a trace that is refused: of version 3 and behind a whole start, the first line and those of the entries in
+    whole records; of any other nothing. Of a trace that is accepted these are the lines of all entries."""
+    if not text.startswith(BEGINNING):
+        return b""
+    try:
+        world = Begun(text)
+    except Refused:
+        return b""
+    return "\n".join([*model.lines_in_order(world, model.replies_by_turns(world)), ""]).encode()
+
+
+def beginnings(text: bytes) -> List[bytes]:
+    """What may be written before more of a trace is read: nothing, or the lines so far, behind the start and behind each whole record."""
+    try:
+        ends = Begun(text).ends if text.startswith(BEGINNING) else []
+    except Refused:
+        ends = []
+    return [b"", *(lines_before(text[:end]) for end, _ in ends)]

@@ -3,13 +3,13 @@ from typing import Any, Dict, Iterable, Iterator, List, NamedTuple, Optional, Se
 
 import model
 import model_records
-from model import AT_POSITION, CREAT, LAST, READS, TRUNC, WRITES, Chain, Entry, Fill, Holder, NewRing, Step, World, run_step, visible
+from model import AT_POSITION, CREAT, LAST, OF_VERSION_3, READS, TRUNC, WRITES, Chain, Entry, Fill, Holder, NewRing, Step, World, run_step, visible
 from traces import AT_FDCWD, CLOSE, FALLOCATE, FIXED_FILE, FSYNC, FTRUNCATE, GREATEST_SIZE, LINKAT, MKDIRAT, OPENAT, READ_FIXED
 from traces import RENAMEAT, UNLINKAT, WRITE_FIXED
 
 ORDER, CHAIN, SLOT, DESCRIPTOR, DESCRIPTION, POSITION = "order", "chain", "slot", "descriptor", "description", "position"
 SIZE, BYTES, NAME, COUNT, BUFFER = "size", "bytes", "name", "count of names", "bytes of buffer"
-MOVING, ON_PATHS = (*READS, *WRITES, FALLOCATE, FTRUNCATE), (OPENAT, UNLINKAT, MKDIRAT, LINKAT, RENAMEAT)
+MOVING, SYNCING, ON_PATHS = (*READS, *WRITES, FALLOCATE, FTRUNCATE), (FSYNC, *OF_VERSION_3), (OPENAT, UNLINKAT, MKDIRAT, LINKAT, RENAMEAT)
 EXTENDING, ZEROING = (0, 0x10), (3, 0x10, 0x11)
 
 
@@ -172,7 +172,9 @@ def row(world: World, place: Place) -> List[Use]:
         return [written(BUFFER, (ring, step.buffer), step.offset, step.offset + step.data.size)]
     if isinstance(step, NewRing):
         return row_of_ring(ring, step)
-    if step.opcode in (*MOVING, FSYNC):
+    if step.given:
+        return []
+    if step.opcode in (*MOVING, *SYNCING):
         return [*handle(world, ring, bool(step.flags & FIXED_FILE), step.fd & LAST, False), *row_of_opened(world, ring, step)]
     if step.opcode == OPENAT:
         return row_of_open(world, place, step)
@@ -196,7 +198,7 @@ def row_of_opened(world: World, ring: int, entry: Entry) -> List[Use]:
     """What a transfer, a FALLOCATE or an FTRUNCATE uses beside the file number."""
     uses: List[Use] = []
     held = world.held(ring, entry)
-    if held is not None and entry.opcode != FSYNC:
+    if held is not None and entry.opcode in MOVING:
         node = world.descriptions[held].node
         uses.append(read(DESCRIPTION, held))
         if not world.is_directory(node):
@@ -289,7 +291,7 @@ def used(world: World, place: Place, own: List[Use]) -> List[Use]:
     step, always = place.step(), order(place)
     if place.chain.is_doomed or place.chain.broken:
         return always
-    if isinstance(step, Entry) and world.fails(place.number, place.chain.ring, step):
+    if isinstance(step, Entry) and not step.given and world.fails(place.number, place.chain.ring, step):
         return [*always, *(Use(it.item, False) for it in own if not it.is_made)]
     return always + own
 
@@ -304,7 +306,7 @@ def decides(step: Step, item: AnyItem) -> bool:
 def reach(world: World, place: Place, own: List[Use], uses: List[Use], reached: Reached) -> List[Use]:
     """What a place may still use, where the places before it that have not run reach for so much."""
     step, always, new = place.step(), order(place), new_ones(world, place)
-    if place.chain.is_doomed or place.chain.broken and not reached.writes(Item(CHAIN, place.chain.number)):
+    if place.chain.is_doomed or place.chain.broken and not reached.writes(Item(CHAIN, place.chain.number)) or isinstance(step, Entry) and step.given:
         return always
     if any(decides(step, it.item) and reached.writes(it.item) for it in own):
         return [*always, *unknown(world, place, own), *new, *reached_room(step, own, reached)]

@@ -326,13 +326,22 @@ class Records:
 
     def entry(self) -> str:
         packed = self.source.bytes(ENTRY.size)
-        form, count = self.source.numbers("BI")
+        (form,) = self.source.numbers("B")
+        fields = fields_of(packed)
+        if form in (2, 3):
+            return entry_line(fields, "", 0, self.given(form))
+        (count,) = self.source.numbers("I")
         if form == 0:
             return entry_text(packed, self.source.bytes(count), self.most)
-        fields = fields_of(packed)
         lengths = self.source.bytes(8 * fields["len"] if fields["opcode"] == WRITEV and fields["len"] <= 1024 else 0)
         beside, _, length = side_of(fields, lengths)
         return entry_line(fields, beside, count if fields["opcode"] == WRITE else length, " zeros={}".format(count))
+
+    def given(self, form: int) -> str:
+        if form == 3:
+            return " refused={}".format(*self.source.numbers("i"))
+        result, fails = self.source.numbers("iB")
+        return " {}={}".format("failed" if fails else "given", result)
 
     def fill(self) -> Iterator[str]:
         ring, buffer, form, offset, length = self.source.numbers("IHBII")

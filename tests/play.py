@@ -27,7 +27,8 @@ from harness import BUILT, EXAMPLES, TOP, Answer, Job, Outcome, Program, Timed, 
 from model import AT_POSITION
 from play_drawing import UNCOUNTED, Played, PlayedRecords
 from player import MODES, UNTRIED, Player, against
-from traces import AT_FDCWD, FALLOCATE, FIXED_FILE, FSYNC, FTRUNCATE, HARDLINK, LINK, LINKAT, MKDIRAT, NOP, OPENAT, READ, RENAMEAT, SKIP, UNLINKAT
+from traces import AT_FDCWD, FADVISE, FALLOCATE, FIXED_FILE, FSYNC, FTRUNCATE, HARDLINK, LINK, LINKAT, MKDIRAT, NOP, OPENAT, READ, RENAMEAT, SKIP
+from traces import SYNC_FILE_RANGE, UNLINKAT
 from traces import description, directory, enter, entry, file, head, ring, two_paths
 
 # Drawn traces in the test command, each played in each mode in one of the directories; how many of them with bytes changed; and how many of both of
@@ -161,11 +162,13 @@ def made_up_for(player: Player, program: Program) -> List[Outcome]:
     entries = [entry(MKDIRAT, fd=AT_FDCWD, side=b"/d"), entry(RENAMEAT, fd=AT_FDCWD, length=nowhere, side=two_paths(b"/a", b"/d/b")),
                entry(LINKAT, fd=AT_FDCWD, length=nowhere, side=two_paths(b"/d/b", b"/c")), entry(UNLINKAT, fd=AT_FDCWD, side=b"/d/b"),
                entry(FTRUNCATE, FIXED_FILE, offset=7), entry(FALLOCATE, FIXED_FILE, offset=3, address=9), entry(FSYNC, FIXED_FILE),
-               entry(READ, FIXED_FILE, length=20)]
-    trace = head(1, 1, 1, 1) + file(b"/a", 10, b"0123456789") + description(1) + ring([1]) + enter(0, entries)
+               entry(SYNC_FILE_RANGE, FIXED_FILE), entry(FADVISE, FIXED_FILE), entry(READ, FIXED_FILE, length=20)]
+    front = [record_traces.head(1, 1), record_traces.file_of(b"/a", 10, b"0123456789"), description(1), record_traces.ring_of([1], [])]
+    trace = b"".join([*front, record_traces.enter(0, [record_traces.stored(it) for it in entries]), record_traces.END])
     report = program.run(["serial", "--sums"], trace).output
     outcomes = []
-    for each in (UNCOUNTED, *([it] for it in UNCOUNTED)):
+    lacked = (*UNCOUNTED, FADVISE)
+    for each in (lacked, *([it] for it in lacked)):
         words = [word for it in each for word in ("--lacking", str(it))]
         got = player.steered(trace, report, words)
         compared = program.run(["diff"], report + got.output)

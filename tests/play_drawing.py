@@ -5,10 +5,10 @@ from typing import List, Tuple
 import drawing
 import record_traces
 from traces import CLOSE, DRAIN, FALLOCATE, FSYNC, FTRUNCATE, HARDLINK, LINK, LINKAT, MKDIRAT, NOP, OPENAT, READ, READ_FIXED, READV, RENAMEAT, SKIP
-from traces import UNLINKAT, WRITE, WRITE_FIXED, WRITEV, directory
+from traces import FADVISE, SYNC_FILE_RANGE, UNLINKAT, WRITE, WRITE_FIXED, WRITEV, directory
 
 # The opcodes whose failure breaks no chain in Linux, and is silent with CQE_SKIP_SUCCESS.
-UNCOUNTED = (FSYNC, FALLOCATE, FTRUNCATE, RENAMEAT, UNLINKAT, MKDIRAT, LINKAT)
+UNCOUNTED = (FSYNC, SYNC_FILE_RANGE, FALLOCATE, FTRUNCATE, RENAMEAT, UNLINKAT, MKDIRAT, LINKAT)
 
 
 class Played(drawing.Draw):
@@ -25,6 +25,8 @@ class Played(drawing.Draw):
 
 class PlayedRecords(record_traces.Records, Played):
     """Draws such a trace of version 3."""
+
+    each_given, each_flagged = 60, 20
 
 
 class Wide(Played):
@@ -55,4 +57,5 @@ class Wide(Played):
 class WideRecords(record_traces.Records, Wide):
     """Draws such a trace of version 3, with rings that come and go."""
 
-    records, tables = Wide.records, Wide.tables
+    records, tables, each_given, each_flagged = Wide.records, Wide.tables, 100, 20
+    weights = {**Wide.weights, SYNC_FILE_RANGE: 2, FADVISE: 2}

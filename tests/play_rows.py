@@ -5,10 +5,11 @@ import re
 import struct
 from typing import Callable, Dict, List, NamedTuple, Optional, Sequence, Tuple
 
+import record_traces
 from harness import TOP, Outcome, Program, first, shown
 from player import SOURCES, UNTRIED, Player
 from traces import AT_FDCWD, BUFFER_SELECT, CLOSE, DRAIN, FALLOCATE, FIXED_FILE, FTRUNCATE, GREATEST_SIZE, LINK, LINKAT, MKDIRAT, NOP, OPENAT
-from traces import READ, READ_FIXED, READV, RENAMEAT, SKIP, UNLINKAT, WRITE, WRITE_FIXED
+from traces import FSYNC, READ, READ_FIXED, READV, RENAMEAT, SKIP, SYNC_FILE_RANGE, UNLINKAT, WRITE, WRITE_FIXED
 from traces import description, directory, enter, entry, file, head, ring, descriptor_table, two_paths
 
 POSITION, NOWHERE = (1 << 64) - 1, AT_FDCWD & 0xffffffff
@@ -53,6 +54,14 @@ def world(*entries: bytes, version: int = 2, table: Sequence[int] = (1, 0), slot
     return head(3, 2, 1, len(records), len(table) if version == 2 else 0, version) + items + opened + numbers + ring(slots, buffers) + b"".join(records)
 
 
+def world_3(*entries: bytes) -> bytes:
+    """The same in version 3, with one record of entries without side bytes, or of given ones. The ring is place 0."""
+    items = [record_traces.file_of(b"/a", 10, b"0123456789"), directory(b"/d")]
+    made = [it if len(it) > 68 else record_traces.stored(it) for it in entries]
+    front = [record_traces.head(2, 1), *items, description(1), record_traces.ring_of([1], [(4096, 16)])]
+    return b"".join([*front, record_traces.enter(0, made), record_traces.END])
+
+
 def failing() -> List[bytes]:
     """The operations, each so that it fails, and not for its descriptor; an FSYNC does only where a disk fails."""
     return [entry(FALLOCATE, FIXED_FILE), entry(FTRUNCATE, FIXED_FILE, offset=1 << 63), on_names(RENAMEAT, two_paths(b"/no", b"/b")),
@@ -88,9 +97,12 @@ def rows() -> List[Row]:
     """Each row that a play can show, but for those below that need more than one play."""
     soft = [Play(world(with_flags(it, LINK), entry(NOP)), [(1, b"res=-125", b"res=0")]) for it in failing()]
     quiet = [Play(world(with_flags(it, SKIP)), [(0, b"posted", b"silent")]) for it in failing()]
+    ranges = entry(SYNC_FILE_RANGE, FIXED_FILE, own_flags=8)
+    soft.append(Play(world_3(with_flags(ranges, LINK), entry(NOP)), [(2, b"res=-125", b"res=0")]))
+    quiet.append(Play(world_3(with_flags(ranges, SKIP)), [(1, b"posted", b"silent")]))
     vectors = struct.pack("<QQ", 4, 1 << 62)
     return [
-        Row("A failing FSYNC, FALLOCATE, FTRUNCATE, RENAMEAT, UNLINKAT, MKDIRAT or LINKAT with IO_LINK (not for a bad descriptor)", soft + quiet),
+        Row("A failing FSYNC, SYNC_FILE_RANGE, FALLOCATE, FTRUNCATE, RENAMEAT, UNLINKAT, MKDIRAT or LINKAT with IO_LINK (not for a bad descriptor)", soft + quiet),
         Row("RENAMEAT of a file onto a directory that is above it", [Play(world(on_names(RENAMEAT, two_paths(b"/d/f", b"/d"))), [(0, b"res=-21", b"res=-39")])]),
         Row("OPENAT into a slot that the ring does not have", [
             Play(world(on_names(OPENAT, b"/no", file_index=9), on_names(OPENAT, b"/new", own_flags=0x41, file_index=9), on_names(UNLINKAT, b"/new")),
@@ -115,10 +127,14 @@ def rows() -> List[Row]:
             Play(world(on_names(OPENAT, b"f", fd=0, file_index=1), table=(2, 0)), [(0, b"res=-9", b"res=0")])]),
         Row("A path with a component `.` or `..`, or with a last slash", [
             Play(world(*(on_names(OPENAT, it, file_index=1) for it in (b"/./a", b"/d/../a", b"/d/"))), [(it, b"res=-22", b"res=0") for it in range(3)])]),
-        Row("FTRUNCATE with `addr` other than 0; values in `ioprio` or in fields that an opcode does not use", [
+        Row("FSYNC with an offset at or over 2^63", [Play(world(entry(FSYNC, FIXED_FILE, offset=1 << 63)), [(0, b"res=0", b"res=-22")])]),
+        Row("FTRUNCATE or SYNC_FILE_RANGE with `addr` other than 0; values in `ioprio` or in fields that an opcode does not use", [
+            Play(world_3(entry(SYNC_FILE_RANGE, FIXED_FILE, address=1)), [(1, b"res=0", b"res=-22")]),
             Play(world(entry(FTRUNCATE, FIXED_FILE, offset=4, address=1), on_names(UNLINKAT, b"/d/f", offset=1)), [(0, b"res=0", b"res=-22"), (1, b"res=0", b"res=-22")]),
             Play(world(with_priority(on_names(UNLINKAT, b"/d/f"))), [(0, b"res=0", b"res=-22")])]),
-        Row("A read or write with flags of its own", [Play(world(entry(READ, FIXED_FILE, length=4, own_flags=4)), [(0, b"res=-95", b"res=4")])]),
+        Row("A read or write with flags of its own, in version 3 with others than RWF_DSYNC and RWF_SYNC", [
+            Play(world(entry(READ, FIXED_FILE, length=4, own_flags=4)), [(0, b"res=-95", b"res=4")]),
+            Play(world_3(entry(READ, FIXED_FILE, length=4, own_flags=0x10)), [(1, b"res=-95", b"res=4")])]),
         Row("OPENAT with access 3, O_PATH or O_TMPFILE", [
             Play(world(on_names(OPENAT, b"/a", own_flags=3, file_index=1), on_names(OPENAT, b"/a", own_flags=0x200000, file_index=1)),
                  [(0, b"res=-22", b"res=0"), (1, b"res=-22", b"res=0")])]),
@@ -163,8 +179,22 @@ def transient_opens(player: Player, program: Program) -> Optional[str]:
     return "not seen in {} tries".format(TRIES)
 
 
+def given(player: Player, program: Program) -> Optional[str]:
+    """A given entry is left out, whatever it asks for; what it breaks by the answers is not played either, and what it passes is."""
+    made = [record_traces.given(with_flags(entry(READ, FIXED_FILE, length=4), LINK), 7, fails) for fails in (False, True)]
+    for it, wanted in zip(made, (b"res=0 posted op=0", b"op=0 outside=links")):
+        trace = world_3(it, entry(NOP))
+        report = program.run(["serial"], trace)
+        got = player.steered(trace, report.output, [], b"", player.directories()[-1])
+        lines = lines_of(got.output)
+        if got.status or not lines.get(1, b"").endswith(b"op=22 outside=given") or not lines.get(2, b"").endswith(wanted):
+            return "fault: {} {}".format(shown(report), shown(got))
+    return None
+
+
 APART: Dict[str, Callable[[Player, Program], Optional[str]]] = {
-    "An opcode outside the sixteen": other_opcodes,
+    "An opcode outside the table": other_opcodes,
+    "A given entry (version 3)": given,
     "Two OPENATs to a descriptor that fail at once, where one number is free": transient_opens,
 }
 # What a race shows or does not is told alone.

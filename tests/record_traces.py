@@ -3,13 +3,17 @@ descriptions are those of traces.py. What is of version 2 becomes a part of vers
 import random
 import re
 import struct
-from typing import List, Sequence, Tuple
+from typing import Any, Dict, List, Sequence, Tuple
 
 import traces
-from drawing import ADDRESSES, LAST, Draw, Second, altered
-from traces import ENTRY, WRITE, WRITEV
+from drawing import ADDRESSES, LAST, WEIGHTS, Second, altered
+from model import READS, WRITES
+from traces import ENTRY, FADVISE, SYNC_FILE_RANGE, WRITE, WRITEV
 
 END = b"\7"
+# Opcodes that are given, and results of an entry that is given, and of one that is refused on submission.
+POLL_ADD, TIMEOUT, LINK_TIMEOUT, EPOLL_CTL = 6, 11, 15, 29
+RESULTS, REFUSALS = (0, 0, 1, 5, -4, -125, -125, -(1 << 31), (1 << 31) - 1), (-1, -22, -22, -125, -4_095)
 # What a new ring gets in a slot.
 SLOT, DESCRIPTOR, DESCRIPTION = 0, 1, 2
 
@@ -63,6 +67,16 @@ def zeros(entry: bytes) -> bytes:
     return entry[:64] + b"\1" + entry[64 : 68 + lengths]
 
 
+def given(entry: bytes, result: int, fails: bool = False) -> bytes:
+    """An entry of which the result stands in the trace."""
+    return entry[:64] + struct.pack("<BiB", 2, result, fails)
+
+
+def given_refused(entry: bytes, result: int) -> bytes:
+    """The same of one that was refused on submission."""
+    return entry[:64] + struct.pack("<Bi", 3, result)
+
+
 def table_of(handles: Sequence[int]) -> List[bytes]:
     """The full descriptors of a table of version 2."""
     return [descriptor(number, it - 1) for number, it in enumerate(handles) if it]
@@ -76,6 +90,11 @@ def file_of(path: bytes, size: int, data: bytes) -> bytes:
 def ring_of(slots: Sequence[int], buffers: Buffers) -> bytes:
     """A ring of version 2, whose full slots get what they have there: descriptions of the start."""
     return ring(len(slots), [(number, (DESCRIPTION, 0, it - 1)) for number, it in enumerate(slots) if it], buffers)
+
+
+def of_one_file(size: int, data: bytes = b"") -> bytes:
+    """What a trace begins with of a file `/a` that is open in slot 0 of ring 0: place 0 is the ring."""
+    return head(1, 1) + file_of(b"/a", size, data) + traces.description(1) + ring(1, [(0, (DESCRIPTION, 0, 0))])
 
 
 def behind_rings(report: bytes, trace: bytes) -> bytes:
@@ -123,6 +142,9 @@ class Records(Second):
     """Draws a trace of version 3."""
 
     tables, records = (0, 1, 3, 5, 40), 14
+    weights = {**WEIGHTS, SYNC_FILE_RANGE: 3, FADVISE: 3}
+    # Of how many entries one is given, and of how many transfers one has flags of its own.
+    each_given, each_flagged = 7, 6
 
     def __init__(self, seed: int) -> None:
         super().__init__(seed)
@@ -181,8 +203,23 @@ class Records(Second):
     def filled(self, number: int, index: int, offset: int, data: bytes) -> bytes:
         return fill_of_zeros(number, index, offset, len(data)) if self.rarely(2) else fill(number, index, offset, data)
 
+    def moved(self, opcode: int, number: int) -> Dict[str, Any]:
+        if opcode == SYNC_FILE_RANGE:
+            return {"length": self.one((0, 1, 4096, LAST)), "own_flags": self.one((0, 7, 7, 8)), "address": self.source.randrange(2)}
+        if opcode == FADVISE:
+            return {"length": self.one((0, 9, LAST)), "address": self.one((0, 0, 9, (1 << 63) - 1, 1 << 63)), "own_flags": self.one((0, 4, 5, 6))}
+        own = {"own_flags": self.one((2, 4, 6, 8, 0x20))} if opcode in (*READS, *WRITES) and self.rarely(self.each_flagged) else {}
+        return {**super().moved(opcode, number), **own}
+
+    def given(self, made: bytes) -> bytes:
+        """An entry, or one of an opcode that is not served, with a result."""
+        front = made[:64] if self.rarely(3) else bytes([self.one((POLL_ADD, TIMEOUT, LINK_TIMEOUT, EPOLL_CTL, 255))]) + made[1:64]
+        return given_refused(front, self.one(REFUSALS)) if self.rarely(6) else given(front, self.one(RESULTS), self.rarely(3))
+
     def entry(self, number: int) -> bytes:
         made = super().entry(number)
+        if self.rarely(self.each_given):
+            return self.given(made)
         return zeros(made) if made[0] in (WRITE, WRITEV) and self.rarely(2) else stored(made)
 
 
@@ -198,7 +235,10 @@ def past_limits() -> List[Tuple[str, bytes]]:
         ("a descriptor", start + ring(1, [(0, (DESCRIPTOR, 0, 3))])), ("a queue", start + ring(queue=0)), ("buffers", start + ring(buffers=[(0, 0)] * 16_385)),
         ("bytes of a buffer", start + ring(buffers=[(0, (1 << 30) + 1)])), ("the end of a buffer", start + ring(buffers=[((1 << 64) - 4, 4)])),
         ("entries", start + ring() + struct.pack("<BIH", 1, 0, 32_769)), ("a buffer", start + ring() + fill(0, 0, 0, b"")),
-        ("rings", start + ring() + enter(1, [])), ("forms of an entry", start + ring() + enter(0, [bytes(64) + b"\2"])),
+        ("rings", start + ring() + enter(1, [])), ("forms of an entry", start + ring() + enter(0, [bytes(64) + b"\4"])),
+        ("whether it fails", start + ring() + enter(0, [bytes(64) + struct.pack("<BiB", 2, 0, 2)])),
+        ("a refusal", start + ring() + enter(0, [given_refused(bytes(64), -4_096)])),
+        ("a refusal without an error", start + ring() + enter(0, [given_refused(bytes(64), 0)])),
         ("bytes of a record", start + ring() + enter(0, [bytes(64) + struct.pack("<BI", 0, last)])), ("zeros", start + ring() + enter(0, [bytes(64) + b"\1"])),
         ("forms of a fill", start + ring(buffers=[(0, 9)]) + struct.pack("<BIHB", 2, 0, 0, 2)), ("kinds", start + b"\x08"),
     ]

@@ -332,6 +332,6 @@ def part(run: Callable[[Program], List[Outcome]], programs: List[Program]) -> Li
 
 
 def jobs(programs: List[Program]) -> List[Job]:
-    options = ([], ["--wait"], ["--drain"], ["--nop"], ["--wait", "--drain", "--nop"])
+    options = ([], ["--wait"], ["--drain"], [*VERSION_2, "--nop"], [*VERSION_2, "--wait", "--drain", "--nop"])
     runs = [limits, at_once, *(partial(bad, words=it) for it in options), rings, harmless, interrupted, unreadable, outputs, touched]
     return [partial(part, it, programs) for it in runs]

@@ -15,34 +15,40 @@ import recorder
 from harness import TOP, Answer, Job, Outcome, Program, first, say, shown, skipped, spoken
 from recorded import SHARED, SOURCES, UNTRIED, Tools, lacking_in_system, ran_in, read_file
 
-# Each mode of marks.c: why entries are outside, and how many lines of entries are equal at least.
+# Each mode of marks.c: in version 2 why entries are outside, in version 3 why they are given or outside, and how many lines of entries are equal there
+# at least.
 class Mode(NamedTuple):
     name: str
     marks: Sequence[str] = ()
+    given: Sequence[str] = ()
+    marks_of_3: Sequence[str] = ()
     equal: int = 1
 
 
 MODES = (
-    Mode("through_a_link", ["path"], 40),
-    Mode("links", ["opcode", "link"]),
-    Mode("elsewhere", ["path", "descriptor"], 5),
-    Mode("chosen_slots", ["slot", "descriptor"], 2),
-    Mode("open_by_how", ["opcode", "descriptor"], 4),
-    Mode("passed_on", ["opcode", "descriptor"], 2),
-    Mode("beyond", ["descriptor"], 10),
-    Mode("alike", ["opcode", "user"], 5),
-    Mode("unseen", ["descriptor", "chain"]),
-    Mode("many_completions", ["opcode"]),
-    Mode("refused", ["system", "memory", "flags", "polled"]),
-    Mode("chains", ["chain", "opcode", "descriptor"], 2),
-    Mode("other_root", [], 3),
-    Mode("huge", ["large", "descriptor"], 1),
+    Mode("through_a_link", ["path"], ["path"], equal=60),
+    Mode("links", ["opcode", "link"], ["opcode", "link"], ["path"], 3),
+    Mode("elsewhere", ["path", "descriptor"], ["path", "descriptor"], equal=8),
+    Mode("chosen_slots", ["slot", "descriptor"], ["slot", "descriptor"], ["changed"], 15),
+    Mode("open_by_how", ["opcode", "descriptor"], ["opcode", "descriptor"], ["changed"], 7),
+    Mode("passed_on", ["opcode", "descriptor"], ["opcode", "descriptor"], equal=6),
+    Mode("beyond", ["descriptor"], ["descriptor"], ["changed"], 1_000),
+    Mode("alike", ["opcode", "user"], ["opcode"], ["order"], 6),
+    Mode("unseen", ["descriptor", "chain"], ["descriptor"], ["unseen"], 5),
+    Mode("many_completions", ["opcode"], ["opcode"], equal=3),
+    Mode("refused", ["system", "memory", "flags", "polled"], ["system", "memory", "flags", "polled"], equal=5),
+    Mode("chains", ["chain", "opcode", "descriptor"], ["opcode"], equal=8),
+    Mode("other_root", equal=3),
+    Mode("huge", ["large", "descriptor"], ["large", "descriptor"], ["large"], 6),
     Mode("ends_meanwhile"),
-    Mode("closed_meanwhile", [], 0),
-    Mode("changed_meanwhile", [], 90),
-    Mode("written_late", ["late"]),
+    Mode("closed_meanwhile", equal=0),
+    Mode("changed_meanwhile", equal=90),
+    # (what these wrote is in their file)
+    Mode("written_late", equal=9),
+    Mode("written_away", ["late"], marks_of_3=["late"], equal=3),
 )
-OPTIONS: Sequence[Sequence[str]] = ([], ["--nop"], ["--drain"], ["--wait"], ["--format", "2"], ["--version-1"])
+VERSION_2 = ["--format", "2"]
+OPTIONS: Sequence[Sequence[str]] = ([], ["--drain"], ["--wait"], VERSION_2, [*VERSION_2, "--nop"], ["--version-1"])
 # What recording may cost: so many reads of memory an entry by depth, beside those of the start, which are the same on every machine;
 # and so many times the program alone. Machines differ in what a stop costs, from 2 to 3 times at depth 32, so that is a bound of the order.
 READS_AT_DEPTH, START, AT_DEPTH_32 = {1: 3.0, 32: 0.1}, 50, 5.0
@@ -97,10 +103,14 @@ def mode(tools: Tools, program: Program, mode: Mode, words: Sequence[str]) -> Ou
         return Outcome(label, skipped=made.got.errors.decode("utf-8", "replace").split("\n")[0])
     if made.got.status or made.compared.status:
         return Outcome(label, "{}; diff: {}".format(shown(made.got), shown(made.compared)))
-    faults = []
+    if words not in ([], VERSION_2):
+        return Outcome(label)
+    lacking = [it for it in (mode.marks if words else mode.marks_of_3) if "outside={}".format(it) not in made.kernel]
+    faults = ["no line has outside={}".format(it) for it in lacking]
     if not words:
-        lacking = [it for it in mode.marks if "outside={}".format(it) not in made.kernel]
-        faults += ["no line has outside={}".format(it) for it in lacking]
+        said = re.search(rb"^uring_record: given: \d+(.*)$", made.got.errors, re.M)
+        faults += ["none is given by " + it for it in mode.given if not said or ", {} ".format(it).encode() not in said[1]]
+        faults += ["it is outside, and given: " + it for it in entry_lines(made.kernel) if " given=1" in it and " outside=" in it]
         if equal_entries(made.compared) < mode.equal:
             faults.append("fewer than {} entries are equal: {}".format(mode.equal, shown(made.compared)))
     return Outcome(label, first(faults))

@@ -10,11 +10,13 @@ from functools import partial
 from threading import Lock
 from typing import Callable, List, NamedTuple, Optional, Sequence, Tuple
 
+import by_models
 import model_records
-from harness import Answer, Job, Outcome, Program, first, shown, skipped, spoken
-from model import Refused
+import record_traces
+from harness import Answer, Job, Outcome, Program, difference, first, shown, skipped, spoken
 from recorded import SOURCES, Compared, agree, compared, read_file, read_report
 from recorder import SECONDS, VERSION_2, Built, Ran, accepted, fault_of, ran_in, replayed, tools
+from streams import Fed
 
 # Programs that end as they do alone, and of which all results are told alike: their traces are replayed by the second replayer.
 PROGRAMS: Sequence[Tuple[str, Sequence[str]]] = (
@@ -91,7 +93,7 @@ def told(program: Program) -> List[Outcome]:
 
 
 def sixteen(program: Program) -> List[Outcome]:
-    """The sixteen calls have the counts that they have in version 2."""
+    """The sixteen calls have the counts that they have in version 2, but for the one entry that is outside there: it is given."""
     built, outcomes = streams(), []
     for words in ([], ["--drain"], ["--wait"]):
         name = "sixteen" + "".join(words)
@@ -100,8 +102,12 @@ def sixteen(program: Program) -> List[Outcome]:
         ran = ran_in(second, [built.file("uring_record"), *VERSION_2, "-o", second + ".trace", "-k", second + ".kernel", *words, "--", built.file("sixteen")])
         fault = made.fault or (fault_of(ran) if ran.status else None)
         if not fault and made.compared:
-            wanted = compared(model_records.report(read_file(second + ".trace")).decode(), read_file(second + ".kernel").decode()).lines()
-            fault = None if made.compared.lines() == wanted else "it has {!r}, wanted {!r}".format(made.compared.lines(), wanted)
+            wanted = compared(model_records.report(read_file(second + ".trace")).decode(), read_file(second + ".kernel").decode())
+            equal, different, outside = wanted.counts["entries"]
+            wanted.counts["entries"] = [equal + 1, different, outside - 1]
+            fault = None if made.compared.lines() == wanted.lines() else "it has {!r}, wanted {!r}".format(made.compared.lines(), wanted.lines())
+            given = re.findall(r" res=(\S+) posted given=1 op=(\d+) ", read_file(made.path + ".kernel").decode())
+            fault = fault or (None if given == [("-62", "11")] else "it gives {}".format(given))
         outcomes.append(Outcome("version 3: the sixteen calls, {}".format(spoken(words)), fault))
     return outcomes
 
@@ -147,25 +153,11 @@ def sparse(program: Program) -> List[Outcome]:
     return [Outcome("version 3: a sparse file of 4 GiB, and writes of zeros", fault)]
 
 
-class Fronts(model_records.Records):
-    """Tells of a trace, also of one that is cut off, where each record begins, and how many places are before it."""
-
-    def __init__(self, text: bytes, fronts: List[Tuple[int, int]]) -> None:
-        self.fronts = fronts
-        super().__init__(text)
-
-    def next_record(self) -> bool:
-        self.fronts.append((self.source.next, self.places))
-        return super().next_record()
-
-
 def cut(program: Program) -> List[Outcome]:
     """A call with many bytes is several records, which end where a chain does."""
     made = record(program, "large", [], [streams().file("streams"), "large"], replays=False)
-    fronts: List[Tuple[int, int]] = []
-    if not made.fault:
-        Fronts(read_file(made.path + ".trace"), fronts)
-    counts = [behind - before for (_, before), (_, behind) in zip(fronts, fronts[1:])]
+    ends = [] if made.fault else model_records.Records(read_file(made.path + ".trace")).ends
+    counts = [behind - before for (_, before), (_, behind) in zip(ends, ends[1:])]
     # (a ring; chains of three entries, until they have 4 MiB; the end)
     is_well = counts == [1, 6, 6, 0]
     return [Outcome("version 3: a call of 12 MiB", made.fault or (None if is_well else "records of {} places".format(counts)))]
@@ -194,20 +186,17 @@ def unlike(report: bytes, kernel: bytes, places: int) -> Optional[str]:
 
 
 def killed(program: Program) -> List[Outcome]:
-    """A recorder that is killed leaves whole records, with their results."""
+    """A recorder that is killed leaves whole records, with their results; `serial` of its trace gives the lines of these."""
     trace, kernel = cut_off()
-    fronts: List[Tuple[int, int]] = [(0, 0)]
-    try:
-        Fronts(trace, fronts)
-        return [Outcome("version 3: a recorder that is killed", "its trace is whole")]
-    except Refused as refused:
-        fault = None if str(refused) == "Short at {}".format(len(trace)) else str(refused)
-    whole, places = fronts[-1]
-    front = trace[:whole] + b"\7"
+    begun = model_records.Begun(trace)
+    whole, places = begun.ends[-1]
+    fault = None if str(begun.fault) == "Short at {}".format(len(trace)) else "its fault is {}".format(begun.fault)
+    front = trace[:whole] + record_traces.END
     got = program.run(["check"], front)
     if not fault and (got != Answer(0, "ok {} places 1 rings\n".format(places).encode(), b"") or len(trace) - whole > MIB or places < 1000):
         fault = "{} bytes, of which {} are whole: {}".format(len(trace), whole, shown(got))
-    return [Outcome("version 3: a recorder that is killed", fault or unlike(program.run(["serial"], front).output, kernel, places))]
+    fault = fault or unlike(program.run(["serial"], front).output, kernel, places)
+    return [Outcome("version 3: a recorder that is killed", fault or difference(program.run(["serial"], trace), by_models.replayed(trace)))]
 
 
 def piped(program: Program) -> List[Outcome]:
@@ -230,6 +219,20 @@ def piped(program: Program) -> List[Outcome]:
     ran = ran_in(path, ["sh", "-c", line, built.file("uring_record"), built.file("streams"), path])
     got = program.run(["check"], ran.output)
     return [*outcomes, Outcome("version 3: through zstd", None if got.output == b"ok 1001 places 1 rings\n" else shown(got))]
+
+
+def live(program: Program) -> List[Outcome]:
+    """The lines of what a command has submitted come while it still runs."""
+    built = streams()
+    command = [built.file("uring_record"), "-o", "-", "--", "sh", "-c", '"$0" many 10 && read line', built.file("streams")]
+    with Fed(program, ["serial"]) as fed:
+        started = subprocess.Popen(command, cwd=built.directory("live"), stdin=subprocess.PIPE, stdout=fed.started.stdin, stderr=subprocess.DEVNULL)
+        has_come, is_running = fed.comes(lambda: fed.output.count(b" res=4096 posted") == 10), started.poll() is None
+        started.stdin.close()
+        started.wait(SECONDS)
+        got = fed.end()
+    is_well = has_come and is_running and got.status == 0 and got.output.endswith(b"\nend\n")
+    return [Outcome("version 3: replayed while the command runs", None if is_well else "lines {} come: {}".format("do" if has_come else "do not", shown(got)))]
 
 
 def interrupted_pipe(program: Program) -> List[Outcome]:
@@ -336,7 +339,7 @@ def no_data(program: Program) -> List[Outcome]:
 def options(program: Program) -> List[Outcome]:
     """What goes together, and the limit."""
     built, outcomes = streams(), []
-    cases = (["--format", "4"], ["--format", "11"], ["--touched"], [*VERSION_2, "--limit", "1073741825"], ["--limit", "12"], ["--no-data", "--all-sums"], [*VERSION_2, "--no-data", "--touched"])
+    cases = (["--format", "4"], ["--format", "11"], ["--touched"], ["--nop"], [*VERSION_2, "--limit", "1073741825"], ["--limit", "12"], ["--no-data", "--all-sums"], [*VERSION_2, "--no-data", "--touched"])
     for words in cases:
         ran = ran_in(built.folder.name, [built.file("uring_record"), *words, "true"])
         outcomes.append(Outcome("the recorder: {}".format(spoken(words)), None if ran.status == 125 and b"uring_record: --" in ran.errors else fault_of(ran)))
@@ -355,4 +358,4 @@ def part(run: Callable[[Program], List[Outcome]], programs: List[Program]) -> Li
 
 
 def jobs(programs: List[Program]) -> List[Job]:
-    return [partial(part, it, programs) for it in (told, sixteen, rings, sparse, cut, killed, piped, interrupted_pipe, memory, no_data, options)]
+    return [partial(part, it, programs) for it in (told, sixteen, rings, sparse, cut, killed, piped, live, interrupted_pipe, memory, no_data, options)]

@@ -7,6 +7,7 @@ import re
 from functools import partial
 from typing import Callable, List, Optional
 
+import by_models
 import days
 import drawing
 import model
@@ -30,8 +31,10 @@ CUT = 300
 BY_BENCH = 20
 # How many drawn traces run in other orders.
 ORDERED = 200
-# The commands that replay, and with how many workers and which window an example is replayed.
-REPLAYING = (["serial"], ["run"], ["compare"], ["rounds"], ["depends"])
+# The commands that replay: those that write lines before a fault, and those that then write nothing. And with how many workers and which window an
+# example is replayed.
+SERIAL = (["serial"], ["run"], ["serial", "--sums"])
+REPLAYING = (["serial", "--json"], ["run", "--eager"], ["compare"], ["rounds"], ["depends"])
 PAIRS = ((1, 1), (2, 2), (4, 7), (4, 64), (64, 4096))
 EQUAL = Answer(0, b"equal\n", b"")
 
@@ -40,14 +43,6 @@ def by_model(trace: bytes) -> Answer:
     """What `check` says of a trace."""
     try:
         return Answer(0, model_records.answer(trace).encode(), b"")
-    except Refused as fault:
-        return refused(str(fault))
-
-
-def replayed_by_model(trace: bytes, has_sums: bool) -> Answer:
-    """What `serial` gives of it."""
-    try:
-        return Answer(0, model_records.report(trace, has_sums), b"")
     except Refused as fault:
         return refused(str(fault))
 
@@ -73,7 +68,7 @@ def of_depends(program: Program, trace: bytes, has_graph: bool) -> Optional[str]
 def in_rounds(program: Program, trace: bytes, workers: int, window: int, words: List[str]) -> Optional[str]:
     """How a replay in rounds differs from the second replayer, if it does."""
     pair = ["--workers", str(workers), "--window", str(window), *words]
-    told = difference(program.run(["run", "--sums", *pair], trace), replayed_by_model(trace, True))
+    told = difference(program.run(["run", "--sums", *pair], trace), by_models.replayed(trace, True))
     return told or difference(program.run(["compare", *pair], trace), EQUAL)
 
 
@@ -84,7 +79,7 @@ def of_drawn(program: Program, seed: int) -> Optional[str]:
     if wanted.status != 0:
         return "it is refused: {!r}".format(wanted.errors)
     told = difference(program.run(["check"], trace), wanted)
-    told = told or difference(program.run(["serial", "--sums"], trace), replayed_by_model(trace, True))
+    told = told or difference(program.run(["serial", "--sums"], trace), by_models.replayed(trace, True))
     window, has_graph = 64 if seed % 3 == 0 else 1 + seed % 7, seed % 5 == 0
     told = told or (of_depends(program, trace, has_graph) if seed % 2 else of_rounds(program, trace, window, has_graph))
     if not told and seed % IN_ROUNDS == 0:
@@ -97,7 +92,7 @@ def of_drawn(program: Program, seed: int) -> Optional[str]:
 def of_changed(program: Program, seed: int) -> Optional[str]:
     """The same of a changed trace, which may be of any version then. It is without sums: its buffers may be of any length."""
     trace = record_traces.changed(seed)
-    return difference(program.run(["check"], trace), by_model(trace)) or difference(program.run(["serial"], trace), replayed_by_model(trace, False))
+    return difference(program.run(["check"], trace), by_model(trace)) or difference(program.run(["serial"], trace), by_models.replayed(trace))
 
 
 def of_cut(program: Program, seed: int) -> Optional[str]:
@@ -106,15 +101,22 @@ def of_cut(program: Program, seed: int) -> Optional[str]:
     front = trace[: random.Random("cut {}".format(seed)).randrange(len(trace))]
     wanted = by_model(front)
     told = None if wanted == refused("Short at {}".format(len(front))) else "by the second reader {!r}".format(wanted.errors)
-    told = told or difference(program.run(["check"], front), wanted)
-    return told or first([it for it in (difference(program.run(words, front), wanted) for words in REPLAYING) if it])
+    return told or difference(program.run(["check"], front), wanted) or as_refused(program, front, by_models.replayed(front))
+
+
+def is_served_more(trace: bytes) -> bool:
+    """Whether version 3 serves more of a trace of version 2: a transfer has the flags of its own that it serves, and no others."""
+    entries = (entry for _, _, entry in model.entries_of(model.World(trace)))
+    return any(it.own_flags in (2, 4, 6) for it in entries if it.opcode in (*model.READS, *model.WRITES))
 
 
 def carried(seeds: range) -> List[Outcome]:
-    """The second replayer gives of drawn traces that are carried over what it gives of those of version 2."""
+    """The second replayer gives of drawn traces that are carried over what it gives of those of version 2, but of what version 3 alone serves."""
     faults = []
     for seed in seeds:
         before = drawing.Second(seed).trace()
+        if is_served_more(before):
+            continue
         got, wanted = model_records.report(record_traces.Carried(seed).trace()), record_traces.behind_rings(model.report(before), before)
         faults += ["seed {}: {}".format(seed, difference(Answer(0, got, b""), Answer(0, wanted, b"")))] if got != wanted else []
     day = " of {}".format(days.written()) if seeds[0] >= days.SEEDS_A_DAY else ""
@@ -171,15 +173,16 @@ def names() -> List[str]:
     return sorted(it[: -len(".trace")] for it in os.listdir(os.path.join(EXAMPLES, VERSION_3)) if it.endswith(".trace"))
 
 
-def as_refused(program: Program, trace: bytes, wanted: Answer) -> Optional[str]:
-    """How a command that replays serves a trace that is refused, if one does."""
-    return first([told for words in REPLAYING for told in [difference(program.run(words, trace), wanted)] if told])
+def as_refused(program: Program, trace: bytes, begun: Answer) -> Optional[str]:
+    """How a command that replays serves a trace that is refused otherwise, if one does: `serial` and `run` write lines before the fault, and no other does."""
+    each = [(words, begun) for words in SERIAL] + [(words, begun._replace(output=b"")) for words in REPLAYING]
+    return first([told for words, wanted in each for told in [difference(program.run(words, trace), wanted)] if told])
 
 
 def replayed(program: Program, trace: bytes, report: Answer) -> Optional[str]:
     """How what the program gives of an example differs from what stands beside it and from what the models tell, if it does."""
     each = [difference(program.run([it], trace), report) for it in ("serial", "run")]
-    each.append(difference(program.run(["serial", "--sums"], trace), replayed_by_model(trace, True)))
+    each.append(difference(program.run(["serial", "--sums"], trace), by_models.replayed(trace, True)))
     each += [in_rounds(program, trace, *pair, words) for pair in PAIRS for words in ([], ["--eager"])]
     each += [of_rounds(program, trace, window, has_graph) for window in (1, 2, 64) for has_graph in (False, True)]
     each += [of_depends(program, trace, has_graph) for has_graph in (False, True)]
@@ -191,17 +194,16 @@ def of_example(programs: List[Program], name: str) -> List[Outcome]:
     trace = read(VERSION_3, name + ".trace")
     is_refused = os.path.exists(os.path.join(EXAMPLES, VERSION_3, name + ".refused"))
     wanted = Answer(1, b"", read(VERSION_3, name + ".refused")) if is_refused else Answer(0, read(VERSION_3, name + ".check"), b"")
+    report = wanted._replace(output=read(VERSION_3, name + (".lines" if is_refused else ".report")))
     outcomes = [Outcome("the second reader of {} of version 3".format(name), difference(by_model(trace), wanted))]
-    if not is_refused:
-        report = Answer(0, read(VERSION_3, name + ".report"), b"")
-        outcomes.append(Outcome("the second replayer of {} of version 3".format(name), difference(replayed_by_model(trace, False), report)))
+    outcomes.append(Outcome("the second replayer of {} of version 3".format(name), difference(by_models.replayed(trace), report)))
     if os.path.exists(os.path.join(EXAMPLES, VERSION_3, name + ".depends")):
         told = difference(Answer(0, model_depends.depends(trace), b""), Answer(0, read(VERSION_3, name + ".depends"), b""))
         outcomes.append(Outcome("the second program on what {} of version 3 depends on".format(name), told))
     for program in programs:
         label = "{} of version 3 {{}} by {}".format(name, program.compiler)
         outcomes.append(Outcome(label.format("check"), difference(program.run(["check"], trace), wanted)))
-        told = as_refused(program, trace, wanted) if is_refused else replayed(program, trace, report)
+        told = (as_refused if is_refused else replayed)(program, trace, report)
         outcomes.append(Outcome(label.format("by commands that replay"), told))
         shown = wanted if is_refused else Answer(0, read(VERSION_3, name + ".text"), b"")
         outcomes.append(Outcome(label.format("show"), difference(program.run(["show"], trace), shown)))
@@ -213,8 +215,9 @@ def fronts(program: Program) -> List[Outcome]:
     trace = read(VERSION_3, "read_four_bytes.trace")
     faults = []
     for length in range(len(trace)):
-        wrong = difference(program.run(["check"], trace[:length]), refused("Short at {}".format(length)))
-        faults += ["at {}: {}".format(length, wrong)] if wrong else []
+        front, wanted = trace[:length], refused("Short at {}".format(length))
+        each = [difference(program.run(["check"], front), wanted), difference(program.run(["serial"], front), wanted._replace(output=model_records.lines_before(front)))]
+        faults += ["at {}: {}".format(length, wrong) for wrong in each if wrong]
     return [Outcome("every front of a trace of version 3 by {}".format(program.compiler), first(faults))]
 
 

@@ -26,10 +26,10 @@ DEFINED = {
 }
 ERRORS = ("/usr/include/asm-generic/errno-base.h", "/usr/include/asm-generic/errno.h")
 OPCODES = "/usr/include/linux/io_uring.h"
-# The sixteen operations that are modelled, and those that headers of older kernels lack (io_uring_enter(2); Linux 6.16).
+# The operations that are modelled, and those that headers of older kernels lack (io_uring_enter(2); Linux 6.16).
 KNOWN = {
-    0: "NOP", 1: "READV", 2: "WRITEV", 3: "FSYNC", 4: "READ_FIXED", 5: "WRITE_FIXED", 17: "FALLOCATE", 18: "OPENAT", 19: "CLOSE", 22: "READ",
-    23: "WRITE", 35: "RENAMEAT", 36: "UNLINKAT", 37: "MKDIRAT", 39: "LINKAT", 55: "FTRUNCATE",
+    0: "NOP", 1: "READV", 2: "WRITEV", 3: "FSYNC", 4: "READ_FIXED", 5: "WRITE_FIXED", 8: "SYNC_FILE_RANGE", 17: "FALLOCATE", 18: "OPENAT", 19: "CLOSE",
+    22: "READ", 23: "WRITE", 24: "FADVISE", 35: "RENAMEAT", 36: "UNLINKAT", 37: "MKDIRAT", 39: "LINKAT", 55: "FTRUNCATE",
     49: "READ_MULTISHOT", 50: "WAITID", 51: "FUTEX_WAIT", 52: "FUTEX_WAKE", 53: "FUTEX_WAITV", 54: "FIXED_FD_INSTALL", 56: "BIND", 57: "LISTEN",
     58: "RECV_ZC", 59: "EPOLL_WAIT", 60: "READV_FIXED", 61: "WRITEV_FIXED", 62: "PIPE",
 }
@@ -83,8 +83,8 @@ def tables() -> List[Outcome]:
 
 
 def named(trace: bytes, plain: bytes) -> bytes:
-    """A report with the names of its entries' operations and errors."""
-    chains = model_records.world_of(trace).chains
+    """A report with the names of its entries' operations and errors, or what is written of one of version 3 before a fault."""
+    chains = (model_records.Begun(trace) if trace.startswith(model_records.BEGINNING) else model.World(trace)).chains
     codes = {chain.first + at: step.opcode for chain in chains for at, step in enumerate(chain.steps) if isinstance(step, model.Entry)}
     operations, failures = opcodes(), errors() or dict(enumerate(defined("errno_names")))
 
@@ -94,7 +94,8 @@ def named(trace: bytes, plain: bytes) -> bytes:
             return line
         operation = operations.get(codes[int(entry[1])], "")
         failure = failures.get(int(entry[3]), "") if entry[2] else ""
-        return line + (" name=" + operation if operation else "") + (" errno=" + failure if failure else "")
+        front, mark, _ = line.partition(" given=1")
+        return front + (" name=" + operation if operation else "") + (" errno=" + failure if failure else "") + mark
 
     return "\n".join(map(with_names, plain.decode().split("\n"))).encode()
 

@@ -80,8 +80,12 @@ class FieldsOfRecords(Fields):
     """The same of version 3: rings that continue queues and get slots of each kind, and entries of both forms."""
 
     def written(self) -> bytes:
-        """An entry, with zeros where it may have some."""
+        """An entry, with zeros where it may have some, or with a result that is given."""
         made = self.entry()
+        if self.source.randrange(4) == 0:
+            made = bytes([self.source.randrange(256)]) + made[1:64]
+            error, result = -self.source.randrange(1, 4_096), self.number(32) - (1 << 31)
+            return record_traces.given(made, result, bool(self.source.randrange(2))) if self.source.randrange(3) else record_traces.given_refused(made, error)
         return record_traces.zeros(made) if made[0] in (traces.WRITE, traces.WRITEV) and self.source.randrange(2) else record_traces.stored(made)
 
     def ranges(self) -> List[Tuple[int, bytes]]:

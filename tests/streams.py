@@ -1,0 +1,357 @@
+"""Traces of version 3 that are replayed while they come: what `serial` and `run` write before a fault, that no line waits for more of the input, and that its
+memory does not grow with the trace. All else writes nothing before its whole output is there."""
+import hashlib
+import os
+import random
+import subprocess
+import sys
+import threading
+from functools import partial
+from typing import Callable, Iterator, List, NamedTuple, Optional, Sequence, Tuple
+
+import by_models
+import days
+import model_records
+import record_traces
+from harness import TOP, Answer, Job, Outcome, Program, Words, difference, ended, fault, first, read, refused, short, shown, spoken
+from records import lot
+from shown import named
+from traces import FIXED_FILE, READ, WRITE, entry
+
+# How many fronts of drawn traces are tried, in how many lots, and with which words.
+FRONTS, LOTS = 3_000, 6
+WORDS = (["serial"], ["serial", "--sums"], ["serial", "--all-sums"], ["serial", "--names"], ["run"], ["run", "--sums"])
+# The words of those whose lines the second replayer tells.
+PLAIN = (["serial"], ["serial", "--sums"], ["run"])
+# How many drawn traces come in pieces.
+IN_PIECES = 40
+# How many seconds lines may take to come, which is some milliseconds; how long it is looked whether any come where none should; and how long a
+# run that is fed may take.
+PROMPT, QUIET, LONG = 5.0, 0.2, 300.0
+# So many bytes are given at once.
+AT_ONCE = 1 << 20
+
+
+# --- Before a fault -------------------------------------------------------------------------------------------------
+
+def front_of(seed: int) -> bytes:
+    """A front of a drawn trace: one of three ends about where its start or a record does."""
+    trace, source = record_traces.Records(seed).trace(), random.Random("front {}".format(seed))
+    at, _ = source.choice(model_records.Records(trace).ends)
+    return trace[: source.randrange(len(trace)) if source.randrange(3) else min(at + source.randrange(-1, 2), len(trace) - 1)]
+
+
+def of_front(program: Program, seed: int) -> Optional[str]:
+    """How the program serves such a front otherwise than as Short behind the lines of its whole records, if it does."""
+    front, words = front_of(seed), WORDS[seed % len(WORDS)]
+    wanted = refused("Short at {}".format(len(front)), model_records.lines_before(front))
+    told = difference(by_models.replayed(front), wanted)
+    wanted = wanted._replace(output=named(front, wanted.output)) if "--names" in words and wanted.output else wanted
+    return "by the second reader: {}".format(told) if told else difference(program.run(words, front), wanted)
+
+
+def outputs(program: Program) -> List[Outcome]:
+    """An output that is full or closed is a fault of its own, also where the trace has one behind lines."""
+    cases = (("read_four_bytes", fault("write")), ("lines_before_a_fault", fault("write")), ("header_word", by_models.replayed(read("version_3", "header_word.trace"))))
+    outcomes = []
+    for to in ("> /dev/full", ">&-", "1< /dev/null"):
+        for name, wanted in cases:
+            told = difference(program.run(["serial"], read("version_3", name + ".trace"), shell='exec "$@" ' + to), wanted)
+            outcomes.append(Outcome("the output of {} fails, {}, by {}".format(name, to, program.compiler), told))
+    shell = '"$0" "$1" read 100000 2> /dev/null | { "$2" serial; echo "status $?" >&2; } | head -c 1 > /dev/null'
+    ran = subprocess.run(["/bin/sh", "-c", shell, sys.executable, BENCH, program.file], stdout=subprocess.PIPE, stderr=subprocess.PIPE, timeout=LONG)
+    told = difference(Answer(0, ran.stdout, ran.stderr), Answer(0, b"", b"fault: write\nstatus 3\n"))
+    return [*outcomes, Outcome("a reader that goes away from a stream, by {}".format(program.compiler), told)]
+
+
+# --- While it comes -------------------------------------------------------------------------------------------------
+
+class Fed:
+    """A program whose input is a pipe that stays open, and what it has written so far."""
+
+    def __init__(self, program: Program, words: Words) -> None:
+        pipe = subprocess.PIPE
+        self.started = subprocess.Popen([program.file, *words], bufsize=0, stdin=pipe, stdout=pipe, stderr=pipe)
+        self.output, self.count, self.came = bytearray(), 0, threading.Condition()
+        self.collector = threading.Thread(target=self.collect, daemon=True)
+        self.guard = threading.Timer(LONG, self.started.kill)
+
+    def __enter__(self) -> "Fed":
+        self.collector.start()
+        self.guard.start()
+        return self
+
+    def __exit__(self, *_: object) -> None:
+        self.guard.cancel()
+        if self.started.returncode is None:
+            self.started.kill()
+            self.started.wait()
+        self.collector.join()
+        for stream in (self.started.stdin, self.started.stdout, self.started.stderr):
+            stream.close()
+
+    def collect(self) -> None:
+        for piece in iter(lambda: os.read(self.started.stdout.fileno(), AT_ONCE), b""):
+            with self.came:
+                self.take(piece)
+                self.count += len(piece)
+                self.came.notify_all()
+
+    def take(self, piece: bytes) -> None:
+        self.output += piece
+
+    def give(self, data: bytes) -> None:
+        """Gives more of the input; it may be that the program ends before it takes all."""
+        left = memoryview(data)
+        try:
+            while left:
+                left = left[os.write(self.started.stdin.fileno(), left) :]
+        except BrokenPipeError:
+            pass
+
+    def comes(self, has_come: Callable[[], bool], seconds: float = PROMPT) -> bool:
+        """Whether what is looked for is written in time."""
+        with self.came:
+            return self.came.wait_for(has_come, seconds)
+
+    def reaches(self, count: int, seconds: float = PROMPT) -> bool:
+        """Whether so many bytes are."""
+        return self.comes(lambda: self.count >= count, seconds)
+
+    def unlike(self, output: bytes) -> Optional[str]:
+        """How what has been written in time differs from an output, if it does."""
+        self.reaches(len(output))
+        with self.came:
+            got = bytes(self.output)
+        return None if got == output else "{} bytes came, which end in {}; wanted {}, which end in {}".format(len(got), short(got[-80:]), len(output), short(output[-80:]))
+
+    def end(self) -> Answer:
+        """Closes the input, and gives the answer."""
+        self.started.stdin.close()
+        return self.answer()
+
+    def answer(self) -> Answer:
+        """The answer of a program that ends."""
+        status, _ = ended(self.started)
+        self.collector.join()
+        return Answer(status, bytes(self.output), self.started.stderr.read())
+
+
+def as_it_comes(program: Program, words: Words, pieces: Sequence[bytes]) -> Optional[str]:
+    """How a trace that comes in pieces is served otherwise than with all lines of its whole records behind each, if it is."""
+    given = b""
+    with Fed(program, words) as fed:
+        for piece in pieces:
+            fed.give(piece)
+            given += piece
+            told = fed.unlike(model_records.lines_before(given))
+            if told:
+                return "behind {} bytes {}".format(len(given), told)
+        wanted = by_models.replayed(given, "--sums" in words)
+        return "it is refused: {}".format(shown(wanted)) if wanted.status else difference(fed.end(), wanted)
+
+
+def in_two(record: bytes) -> List[bytes]:
+    return [record[: len(record) // 2], record[len(record) // 2 :]]
+
+
+def wrote(size: int) -> bytes:
+    return record_traces.stored(entry(WRITE, FIXED_FILE, length=size, side=bytes([size % 251]) * size, user_data=size))
+
+
+def looked(at: int) -> bytes:
+    return record_traces.stored(entry(READ, FIXED_FILE, offset=at, length=40, user_data=at))
+
+
+def of_sizes() -> List[Tuple[str, List[bytes]]]:
+    """Records of each size: an entry, forty, a write of 100 KB, one of 1 MB, one of zeros, and none."""
+    zeros = record_traces.zeros(entry(WRITE, FIXED_FILE, length=1 << 24, side=bytes(1 << 24), offset=1 << 21, user_data=9))
+    others = [record_traces.ring(buffers=[(0, 4096)]), record_traces.fill(1, 0, 5, b"abc"), record_traces.enter(0, []), record_traces.ring_ends(1)]
+    return [
+        ("an entry each", [record_traces.enter(0, [looked(it)]) for it in range(5)]),
+        ("forty entries each", [record_traces.enter(0, [looked(at + it) for it in range(40)]) for at in range(0, 120, 40)]),
+        ("a write of 100 KB each", [record_traces.enter(0, [wrote(100_000 + it), looked(it)]) for it in range(3)]),
+        ("a write of 1 MB each", [record_traces.enter(0, [wrote((1 << 20) + it), looked(it)]) for it in range(3)]),
+        ("a write of zeros, and records without entries", [record_traces.enter(0, [zeros, looked(1 << 21)]), *others, record_traces.enter(0, [looked(7)])]),
+    ]
+
+
+def prompt(program: Program, what: str, records: List[bytes]) -> List[Outcome]:
+    """No line waits for what stands behind its record: where a piece ends behind a record, and where it ends within the next one."""
+    start, end = record_traces.of_one_file(4096, bytes(range(256)) * 16), record_traces.END
+    label = "lines come with their records, {}, {{}}, by {}".format(what, program.compiler)
+    within = [half for it in records for half in in_two(it)]
+    across = [end_of + start_of for end_of, start_of in zip([b"", *within[1::2]], [*within[::2], b""])]
+    cases = (("one by one", [*in_two(start), *records, end]), ("in halves", [start, *within, end]), ("within the next", [start, *across, end]), ("at once", [start + b"".join(records), end]))
+    return [Outcome(label.format(how), as_it_comes(program, ["serial"], pieces)) for how, pieces in cases]
+
+
+def of_pieces(program: Program, seed: int) -> Optional[str]:
+    """The same of a drawn trace that comes in pieces of any length."""
+    trace, source = record_traces.Records(seed).trace(), random.Random("pieces {}".format(seed))
+    cuts = sorted({0, len(trace), *(source.randrange(len(trace)) for _ in range(8)), *(at for at, _ in model_records.Records(trace).ends if source.randrange(2))})
+    return as_it_comes(program, PLAIN[seed % len(PLAIN)], [trace[at:behind] for at, behind in zip(cuts, cuts[1:])])
+
+
+def told_at_once(program: Program) -> List[Outcome]:
+    """A fault behind which the input goes on is told as soon as it is read, behind the lines before it."""
+    begun = record_traces.of_one_file(9, b"123456789") + record_traces.enter(0, [looked(3)])
+    behind = [("kinds, behind lines", begun + b"\x08"), ("rings, behind lines", begun + record_traces.ring_ends(1)), ("bytes behind the end", begun + record_traces.END * 2)]
+    faults = []
+    for what, trace in [*record_traces.past_limits(), *behind]:
+        with Fed(program, ["serial"]) as fed:
+            fed.give(trace)
+            told = difference(fed.answer(), by_models.replayed(trace))
+        faults += ["{}: {}".format(what, told)] if told else []
+    return [Outcome("faults that are told while the input is open, by {}".format(program.compiler), first(faults))]
+
+
+def nothing_before(program: Program) -> List[Outcome]:
+    """Other commands, and those of versions 1 and 2, write nothing while a byte of the trace is to come."""
+    name, outcomes = "read_four_bytes.trace", []
+    of_version_3 = [["serial", "--json"], ["run", "--eager"], ["compare"], ["rounds"], ["depends"], ["check"], ["show"]]
+    for trace, each in ((read("version_3", name), of_version_3), (read(name), [["serial"], ["serial", "--sums"], ["run"]])):
+        for words in each:
+            with Fed(program, words) as fed:
+                fed.give(trace[:-1])
+                told = "it writes {}".format(short(bytes(fed.output))) if fed.reaches(1, QUIET) else None
+                fed.give(trace[-1:])
+                told = told or difference(fed.end(), program.run(words, trace))
+            outcomes.append(Outcome("nothing is written before the whole output is there: {} by {}".format(spoken(words), program.compiler), told))
+    return outcomes
+
+
+# --- In the memory of the world -------------------------------------------------------------------------------------
+
+BENCH = os.path.join(TOP, "bench", "streams.py")
+SHOWN = 32
+
+
+class Long(NamedTuple):
+    """A trace of bench/streams.py, but for its number of entries."""
+
+    kind: str
+    length: int
+    step: int
+    size: int
+
+    def pieces(self) -> int:
+        return (self.size - self.length) // self.step + 1
+
+    def command(self, count: int) -> List[str]:
+        return [sys.executable, BENCH, self.kind, str(count), *("--{}={}".format(it, getattr(self, it)) for it in ("length", "step", "size"))]
+
+    def whole(self, count: int) -> bytes:
+        return subprocess.run(self.command(count), stdin=subprocess.DEVNULL, stdout=subprocess.PIPE, check=True).stdout
+
+    def facts(self, number: int) -> bytes:
+        """What is told of the entry of a piece behind its place."""
+        data = (b"%d, " % number * SHOWN)[: min(SHOWN, self.length)].hex() + ("+" if self.length > SHOWN else "")
+        return " ring=0 user={} res={} posted{}\n".format(number, self.length, " data=" + data if self.kind == "read" else "").encode()
+
+    def lines(self, count: int) -> Iterator[bytes]:
+        """The first line, and those of so many entries; the first of them is behind the ring."""
+        facts = [self.facts(number) for number in range(self.pieces())]
+        yield b"uring-report 2\n"
+        for at in range(0, count, len(facts)):
+            yield b"".join(b"%d%s" % (place, it) for place, it in zip(range(at + 1, count + 1), facts))
+
+    def end(self, has_sum: bool) -> bytes:
+        """What stands behind the lines of a trace whose file stays as it is."""
+        data = b"".join((b"%d, " % it * self.step)[: self.step] for it in range(self.size // self.step))
+        told = " sum={}".format(hashlib.sha256(data).hexdigest()) if has_sum else ""
+        return "tree\nfile /a node=1 size={}{}\nslots\nslot 0 0 desc=0 node=1 pos=0\nbuffers\nend\n".format(self.size, told).encode()
+
+
+class Summed(Fed):
+    """The same, of which the sum of what is written is kept alone."""
+
+    def __init__(self, program: Program, words: Words) -> None:
+        super().__init__(program, words)
+        self.sum = hashlib.sha256()
+
+    def take(self, piece: bytes) -> None:
+        self.sum.update(piece)
+
+    def peak(self) -> int:
+        """The most memory that the program has had, in KiB, or 0 where it has ended. What wait4(2) tells is never below that of who started it."""
+        with open("/proc/{}/status".format(self.started.pid)) as status:
+            return next((int(line.split()[1]) for line in status if line.startswith("VmHWM:")), 0)
+
+    def feed(self, command: Sequence[str]) -> bytes:
+        """Gives what a command writes, but for its last byte, which is given back."""
+        with subprocess.Popen(command, stdin=subprocess.DEVNULL, stdout=subprocess.PIPE) as bench:
+            held = b""
+            for piece in iter(lambda: bench.stdout.read1(AT_ONCE), b""):
+                self.give(held + piece[:-1])
+                held = piece[-1:]
+        return held
+
+
+def streamed(program: Program, words: Words, what: Long, count: int) -> Tuple[Optional[str], int]:
+    """How a long trace is served otherwise than it should be, if it is; and the memory that it takes, when all but its last byte was given."""
+    with Summed(program, words) as fed:
+        last = fed.feed(what.command(count))
+        peak = fed.peak()
+        fed.give(last)
+        got = fed.end()
+    wanted = hashlib.sha256()
+    for lines in (*what.lines(count), what.end("--sums" in words)):
+        wanted.update(lines)
+    is_well = got == Answer(0, b"", b"") and fed.sum.digest() == wanted.digest()
+    return None if is_well else "{}, and {} bytes of another sum".format(shown(got), fed.count), peak
+
+
+class Bounded(NamedTuple):
+    """A long trace whose memory is bounded: the words, of how many entries, and the most KiB."""
+
+    label: str
+    what: Long
+    words: List[str]
+    count: int
+    most: int
+
+
+# Of how many times the entries the memory may be so many times as large, and so many KiB more. It is 0.9 to 1.3 times, by what comes at once.
+TIMES, MORE, SPARE = 4, 1.5, 2_048
+BOUNDED = (
+    Bounded("1,000,000 reads of 512 bytes of 1 MiB", Long("read", 512, 512, 1 << 20), ["serial"], 1_000_000, 16_000),
+    Bounded("8,192 writes of 64 KiB over 8 MiB", Long("write", 1 << 16, 1 << 16, 1 << 23), ["serial", "--sums"], 8_192, 80_000),
+    # (all bytes of a write are kept while a page of it is left)
+    Bounded("8,192 writes of 64 KiB over 8 MiB, each 4 KiB behind the one before", Long("write", 1 << 16, 1 << 12, 1 << 23), ["serial"], 8_192, 256_000),
+)
+# How many entries of each are replayed by the second replayer.
+BY_MODEL = 40
+
+
+def of_model(bounded: Bounded) -> List[Outcome]:
+    """What is wanted of long traces is what the second replayer gives of short ones."""
+    count = BY_MODEL if bounded.what.kind == "write" else bounded.what.pieces() + BY_MODEL
+    got = by_models.replayed(bounded.what.whole(count))
+    lines = b"".join(bounded.what.lines(count))
+    is_well = got.status == 0 and got.output.startswith(lines + b"tree\n") and (bounded.what.length != bounded.what.step or got.output == lines + bounded.what.end(False))
+    return [Outcome("{}, by the second replayer".format(bounded.label), None if is_well else shown(got))]
+
+
+def in_memory(program: Program, bounded: Bounded) -> List[Outcome]:
+    """Four times the entries take no more memory, and neither takes much."""
+    label, peaks = "{{}} {}, by {}".format(bounded.label, program.compiler), []
+    for times in (1, TIMES):
+        told, peak = streamed(program, bounded.words, bounded.what, times * bounded.count)
+        if told:
+            return [Outcome(label.format("the lines of {} times".format(times)), told)]
+        peaks.append(peak)
+    is_well = peaks[1] <= min(MORE * peaks[0] + SPARE, bounded.most)
+    return [Outcome(label.format("the memory of"), None if is_well else "it takes {} KiB, and {} KiB for {} times the entries".format(*peaks, TIMES))]
+
+
+def jobs(programs: List[Program]) -> List[Job]:
+    each = FRONTS // LOTS
+    starts = [at + back for back in (0, days.first_seed()) for at in range(0, FRONTS, each)]
+    made: List[Job] = [partial(in_memory, programs[0], it) for it in BOUNDED] + [partial(of_model, it) for it in BOUNDED]
+    for program in programs:
+        made += [partial(it, program) for it in (outputs, told_at_once, nothing_before)]
+        made += [partial(prompt, program, *it) for it in of_sizes()]
+        made.append(partial(lot, program, "traces of version 3 that come in pieces", of_pieces, range(IN_PIECES)))
+        made += [partial(lot, program, "fronts of traces of version 3", of_front, range(at, at + each)) for at in (starts if program is programs[0] else starts[:: LOTS])]
+    return made
