@@ -59,7 +59,7 @@ def installed() -> List[Outcome]:
         if ran.stdout != b"ok 1 places 1 rings\n":
             faults.append("the program gives {!r}".format(ran.stdout))
         faults += tools_alone(root)
-        return [Outcome(label, first(faults)), *pages(os.path.join(root, "share/man"))]
+        return [Outcome(label, first(faults))]
 
 
 def tools_alone(root: str) -> List[str]:
@@ -72,17 +72,23 @@ def tools_alone(root: str) -> List[str]:
     return faults + ([] if least.returncode == 0 else ["uring_minimise says {!r}".format(least.stdout[-200:])])
 
 
-def pages(folder: str) -> List[Outcome]:
-    """Whether the manual pages are laid out without a warning."""
+def pages() -> List[Outcome]:
+    """Whether the manual pages are laid out without a warning. They need no program."""
     if not shutil.which("groff"):
         return skipped("manual pages", "there is no groff")
-    outcomes = []
-    for at, _, names in os.walk(folder):
-        for name in names:
-            words = ["groff", "-man", "-t", "-ww", "-z", "-Tutf8", "-rLL=120n", os.path.join(at, name)]
-            ran = subprocess.run(words, stdout=subprocess.PIPE, stderr=subprocess.STDOUT)
-            outcomes.append(Outcome("the manual page {}".format(name), ran.stdout.decode("utf-8", "replace")[:300] or None))
-    return outcomes
+    with tempfile.TemporaryDirectory(prefix="uring-replay-pages-") as folder:
+        fault = made(["manuals"], folder)
+        if fault:
+            return [Outcome("make manuals", fault)]
+        made_ones = sorted(os.path.join(at, name) for at, _, names in os.walk(os.path.join(folder, "man")) for name in names)
+        faults = ["{} pages are made".format(len(made_ones))] if len(made_ones) != sum("/man/" in it for it in INSTALLED) else []
+        return [Outcome("make manuals", first(faults)), *(page(it) for it in made_ones)]
+
+
+def page(file: str) -> Outcome:
+    words = ["groff", "-man", "-t", "-ww", "-z", "-Tutf8", "-rLL=120n", file]
+    ran = subprocess.run(words, stdout=subprocess.PIPE, stderr=subprocess.STDOUT)
+    return Outcome("the manual page {}".format(os.path.basename(file)), ran.stdout.decode("utf-8", "replace")[:300] or None)
 
 
 def packed() -> List[Outcome]:
@@ -103,4 +109,4 @@ def packed() -> List[Outcome]:
 
 
 def jobs(programs: List[Program]) -> List[Job]:
-    return [installed, packed]
+    return [installed, pages, packed]
