@@ -15,7 +15,7 @@ use Rattle.trace_format.specs.Paths.{components}
 pub use Rattle.trace_format.specs.Sides.{lengths_in, total, vector_is_short}
 use Rattle.sqe_codec.specs.Answers.{◌>>=◌, ◌>>◌, require}
 pub use Rattle.sqe_codec.specs.Flags.{has, fixed_file, io_drain, io_link, io_hardlink, buffer_select, skip_success}
-use Rattle.entry_checks.specs.Operation.{Operation, nop, readv, writev, fsync, read_fixed, write_fixed, fallocate, openat, close, read, write, renameat, unlinkat, mkdirat, linkat, ftruncate, sync_file_range, fadvise, given, File, in_slot, at_descriptor, Span, Path, OpenFlags}
+use Rattle.entry_checks.specs.Operation.{Operation, nop, readv, writev, fsync, read_fixed, write_fixed, fallocate, openat, close, read, write, renameat, unlinkat, mkdirat, linkat, ftruncate, sync_file_range, fadvise, statx, statx_file, statx_root, given, File, in_slot, at_descriptor, Span, Path, OpenFlags}
 
 -- The old one of two paths, behind its length of two bytes, and the new one behind it.
 abbrev pub old_path : List ℕ → List ℕ
@@ -182,6 +182,25 @@ advised_length e = if e.addr == 0 then e.len else e.addr
 abbrev pub fadvise_row : Row
 fadvise_row v e side = Ok (fadvise (file_of e) (advised_length e) e.op_flags)
 
+-- The flags of statx(2): no other bit, and not both that ask a server of files.
+abbrev pub are_statx_flags : ℕ → Bool
+are_statx_flags f = (bit_or f 30976 == 30976) && not (has f 8192 && has f 16384)
+
+-- Whether an empty path stands for what is open at the descriptor.
+abbrev pub has_no_path : Sqe → List ℕ → Bool
+has_no_path e side = length side == 0 && has e.op_flags 4096
+
+-- That is the root where the descriptor is the working directory.
+abbrev pub statx_of_descriptor : Sqe → Operation
+statx_of_descriptor e = if file_number e == 2 ^ 32 - 100 then statx_root else statx_file (at_descriptor (file_number e))
+
+abbrev pub statx_row : Row
+statx_row v e side = do
+  check_no_registered_file e
+  require (ltb e.len (2 ^ 31)) EINVAL
+  require (are_statx_flags e.op_flags) EINVAL
+  if has_no_path e side then Ok (statx_of_descriptor e) else (check_path side >> Ok (statx (path_of e.fd side)))
+
 -- The opcodes that every version serves, by their numbers in io_uring.h.
 abbrev pub rows : List (ℕ × Row)
 rows = (0, nop_row) ∷ (1, readv_row) ∷ (2, writev_row) ∷ (3, fsync_row) ∷
@@ -190,11 +209,11 @@ rows = (0, nop_row) ∷ (1, readv_row) ∷ (2, writev_row) ∷ (3, fsync_row) �
     (36, unlinkat_row) ∷ (37, mkdirat_row) ∷ (39, linkat_row) ∷ (55, ftruncate_row) ∷ []
 
 -- Those that a version serves beside them.
-abbrev pub advice_rows : List (ℕ × Row)
-advice_rows = (8, sync_file_range_row) ∷ (24, fadvise_row) ∷ []
+abbrev pub later_rows : List (ℕ × Row)
+later_rows = (8, sync_file_range_row) ∷ (21, statx_row) ∷ (24, fadvise_row) ∷ []
 
 abbrev pub rows_beside : Version → List (ℕ × Row)
-rows_beside v = if (rules v).has_advice then advice_rows else []
+rows_beside v = if (rules v).has_later_opcodes then later_rows else []
 
 -- The row of a number, if the version serves it.
 abbrev pub row_of : Version → ℕ → Option Row

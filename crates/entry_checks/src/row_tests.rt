@@ -1,5 +1,5 @@
 //! The tests that the rows of the table name, and what they take from an entry.
-ghost use Rattle.std.specs.Prelude.{◌≡◌, ◌≤◌, ◌*◌, ◌==◌, ◌||◌, not, leb, length, drop};
+ghost use Rattle.std.specs.Prelude.{◌≡◌, ◌≤◌, ◌*◌, ◌==◌, ◌||◌, not, leb, ltb, length, drop};
 ghost use Rattle.std.specs.Int.{cast_signed, w32};
 ghost use Rattle.sqe_codec.specs.Answers.{require};
 ghost use Rattle.sqe_codec.specs.declared.errno.Errno.TheVariants.{EINVAL};
@@ -8,10 +8,11 @@ ghost use Rattle.trace_format.specs.Sides.{vector_len};
 ghost use Rattle.entry_checks.specs.Check.{check_transfer_flags, check_no_registered_file};
 ghost use Rattle.entry_checks.specs.Check.{advised_length, are_open_flags, open_flags_of, is_zero};
 ghost use Rattle.entry_checks.specs.Check.{file_closed, file_number, file_of, slot_of, span_of};
-ghost use Rattle.entry_checks.specs.Meant.{flags_meant, file_meant, span_meant};
+ghost use Rattle.entry_checks.specs.Check.{are_statx_flags, has_no_path, statx_of_descriptor};
+ghost use Rattle.entry_checks.specs.Meant.{flags_meant, file_meant, meant, span_meant};
 ghost use Rattle.entry_checks.specs.Answer.{check_submission, check_vector};
 
-use crate::operation::{BufferSpan, FileNumber, OpenAtFlags};
+use crate::operation::{BufferSpan, FileNumber, Op, OpenAtFlags};
 use sqe_codec::{BUFFER_SELECT, Errno, FIXED_FILE, Sqe, has_flag};
 use trace_format::{TextSlice, Version, vector_total};
 
@@ -29,6 +30,22 @@ const APPEND: u32 = 0o2000;
 const DIRECTORY: u32 = 0o200000;
 
 const CLOSE_ON_EXEC: u32 = 0o2000000;
+
+// The flags of statx(2), as linux/fcntl.h has them.
+const EMPTY_PATH: u32 = 0x1000;
+
+const FORCE_SYNC: u32 = 0x2000;
+
+const DONT_SYNC: u32 = 0x4000;
+
+/// All flags that statx takes.
+const STATX_FLAGS: u32 = 0x7900;
+
+/// The bit of statx's mask that none may set, `STATX__RESERVED`.
+const RESERVED: u32 = 1 << 31;
+
+/// `AT_FDCWD`, the working directory, without its sign.
+const WORKING_DIRECTORY: u32 = 4_294_967_196;
 
 /// All flags that openat takes.
 const OPEN_FLAGS: u32 = 0x1f_dfc3;
@@ -195,6 +212,42 @@ pub(crate) fn advised_length(sqe: &Sqe) -> u64
         u64::from(sqe.len)
     } else {
         sqe.addr
+    }
+}
+
+/// The mask of statx has no bit that none may set.
+pub(crate) fn stat_mask(sqe: &Sqe) -> Result<(), Errno>
+    ensures { result ≡ require (ltb sqe.now.len 2147483648) EINVAL }
+{
+    require(sqe.len < RESERVED, Errno::EINVAL)
+}
+
+/// The flags of statx: no bit that it doesn't take, and not both that ask a server of files.
+pub(crate) fn stat_flags(sqe: &Sqe) -> Result<(), Errno>
+    ensures { result ≡ require (are_statx_flags sqe.now.op_flags) EINVAL }
+{
+    let flags = sqe.op_flags;
+    let both = has_flag(flags, FORCE_SYNC) && has_flag(flags, DONT_SYNC);
+    require(flags | STATX_FLAGS == STATX_FLAGS && !both, Errno::EINVAL)
+}
+
+/// Whether an empty path stands for what is open at the descriptor.
+pub(crate) fn has_no_path(sqe: &Sqe, side: &[u8]) -> bool
+    ensures { result ≡ has_no_path sqe.now side.now }
+{
+    side.is_empty() && has_flag(sqe.op_flags, EMPTY_PATH)
+}
+
+/// That is the root where the descriptor is the working directory.
+pub(crate) fn statx_of_descriptor<'a>(sqe: &Sqe) -> Op<'a>
+    ensures { meant result ≡ statx_of_descriptor sqe.now }
+{
+    let number = file_number(sqe);
+    if number == WORKING_DIRECTORY {
+        return Op::StatxRoot;
+    }
+    Op::StatxFile {
+        file: FileNumber::Descriptor(number),
     }
 }
 

@@ -10,9 +10,9 @@ ghost use Rattle.entry_checks.specs.Answer.{answer, checked};
 use crate::operation::{Op, PathAt};
 use crate::paths::{check_path, new_path, old_path};
 use crate::row_tests::{
-    advised_length, file_closed, file_of, flag_or_none, flags_up_to, new_directory,
+    advised_length, file_closed, file_of, flag_or_none, flags_up_to, has_no_path, new_directory,
     no_registered_file, numbered_slot, open_flags, open_flags_of, slot_of, slot_or_descriptor,
-    span_of, submission, transfer, vector, written,
+    span_of, stat_flags, stat_mask, statx_of_descriptor, submission, transfer, vector, written,
 };
 use sqe_codec::{Errno, Sqe};
 use trace_format::{TextSlice, Version};
@@ -262,5 +262,25 @@ pub(crate) fn fadvise<'a>(sqe: &Sqe, side: &'a [u8]) -> Result<Op<'a>, Errno>
         file: file_of(sqe),
         size: advised_length(sqe),
         advice: sqe.op_flags,
+    })
+}
+
+/// An empty path, where its flag is set, stands for what is open at the descriptor.
+pub(crate) fn statx<'a>(sqe: &Sqe, side: &'a [u8]) -> Result<Op<'a>, Errno>
+    ensures { answer result ≡ checked table.statx_row version.One sqe.now side.now }
+{
+    submission(sqe)?;
+    no_registered_file(sqe)?;
+    stat_mask(sqe)?;
+    stat_flags(sqe)?;
+    if has_no_path(sqe, side) {
+        return Ok(statx_of_descriptor(sqe));
+    }
+    check_path(side)?;
+    Ok(Op::Statx {
+        path: PathAt {
+            directory: sqe.fd,
+            text: side,
+        },
     })
 }

@@ -63,6 +63,16 @@ impl ReadBytes {
         }
     }
 
+    /// A few bytes of no file. It takes no memory.
+    pub fn plain(bytes: Vec<u8>) -> Self
+        requires { length bytes.items ≤ MOST_COPIED }
+        ensures { result ≡ bytes.items }
+    {
+        ReadBytes {
+            kept: Kept::Plain(bytes),
+        }
+    }
+
     /// The bytes of a list from `lo` up to `hi`.
     ///
     /// # Errors

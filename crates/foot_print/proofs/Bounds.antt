@@ -19,8 +19,8 @@ use Rattle.file_tree.specs.Walk.{Place, walk, walk_from, names_from, directory_a
 use Rattle.op_meaning.specs.Site.{at_place, in_ring, sited}
 use Rattle.op_meaning.specs.Meaning.{made_node, made_description, slot_count, Handle, handle, handle_of, held, is_file, allocation, Allocation, found, shape}
 use Rattle.world_parts.specs.Items.{Atom, description_at, position_of, size_of, byte_at, name_at, names_in, buffer_byte, Item, one, file_bytes, buffer_bytes, member_of, Use, reads, writes, Footprint, has_atom}
-use Rattle.foot_print.specs.Footprint.{foreseen, shape_row, look_reads, uses, file_seen, content_of, moved_content, moved_uses, opened_at, directory_made, name_freed, allocation_uses, open_uses, use_of, held_item, file_reads, range_of, transfer_range, position_written, position_use, span_use, path_reads, name_written, directory_names, allocated_content, resized_content}
-use Rattle.op_meaning.specs.Shape.{Shape, idle, looking, moving, allocating, resizing, closing, opening, making, freeing, linking, renaming, Look, at_nothing, at_file, at_path, at_paths, look}
+use Rattle.foot_print.specs.Footprint.{foreseen, shape_row, look_reads, uses, file_seen, content_of, moved_content, moved_uses, opened_at, directory_made, name_freed, allocation_uses, open_uses, use_of, held_item, file_reads, range_of, transfer_range, position_written, position_use, span_use, path_reads, name_written, directory_names, allocated_content, resized_content, size_read, measured_at}
+use Rattle.op_meaning.specs.Shape.{Shape, idle, looking, moving, allocating, resizing, closing, opening, measuring, making, freeing, linking, renaming, Look, at_nothing, at_file, at_path, at_paths, look}
 use Rattle.foot_print.specs.Reach.{taken}
 use Rattle.foot_print.specs.Replayed.{IsBefore, is_earlier}
 use Rattle.world_parts.proofs.Collision.{same_atom-eq}
@@ -197,6 +197,10 @@ module _ (t : Recording) (k : ℕ) (s : World) (w : IsWorld s) (before : IsBefor
     bound_directory None l = bound_nothing
     bound_directory (Some y) l = elim (is_directory y.kind) as (λ b. Bound (cond b (reads (one (names_in y.node)) ∷ []) [])) [ true ↦ bound_one (names_in y.node) false l | false ↦ bound_nothing ]
 
+    bound_size : (y : Option Target) → IfSome y (λ (g : Target). T (ltb g.node (made_node t k))) → Bound (size_read y)
+    bound_size None l = bound_nothing
+    bound_size (Some y) l = elim (is_directory y.kind) as (λ b. Bound (cond b [] (reads (one (size_of y.node)) ∷ []))) [ true ↦ bound_nothing | false ↦ bound_one (size_of y.node) false l ]
+
     bound_removed : (removes : Bool) (y : Option Target) → IfSome y (λ (g : Target). T (ltb g.node (made_node t k))) → Bound (cond removes (directory_names y) [])
     bound_removed true y l = bound_directory y l
     bound_removed false y l = bound_nothing
@@ -223,6 +227,7 @@ module _ (t : Recording) (k : ℕ) (s : World) (w : IsWorld s) (before : IsBefor
     bound_uses (resizing f n) = bound_content (resized_content n) (λ i h e d. bound_cut i n e) (handle (in_ring t r) s f) (handle_before f)
     bound_uses (closing f) = bound_held true r f
     bound_uses (opening p g asked) = bound_place (opened_at (at_place t k) foreseen g) (λ q e l. bound_opened g q e q.target l) (walk s.nodes p) (placed p)
+    bound_uses (measuring p) = bound_place measured_at (λ q e l. bound_size q.target l) (walk s.nodes p) (placed p)
     bound_uses (making p) = bound_place (directory_made (at_place t k) foreseen) (λ q e l. bound_all (name_written q) [] (bound_name q e) bound_nothing) (walk s.nodes p) (placed p)
     bound_uses (freeing p removes) = bound_freed removes (walk s.nodes p) (placed p)
     bound_uses (linking old new) = bound_place name_written (λ q e l. bound_name q e) (walk s.nodes new) (placed new)

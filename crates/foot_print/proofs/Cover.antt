@@ -3,14 +3,16 @@ use native.Mathlib.Omega.{arith}
 use Rattle.std.specs.Prelude.{◌≡◌, ℕ, min, Ok}
 use Rattle.recording.specs.declared.recording.Recording.{Recording}
 use Rattle.trace_format.specs.Sides.{most_moved}
-use Rattle.entry_checks.specs.Operation.{Operation, nop, readv, writev, fsync, read_fixed, write_fixed, fallocate, openat, close, read, write, renameat, unlinkat, mkdirat, linkat, ftruncate, sync_file_range, fadvise, given}
+use Rattle.entry_checks.specs.Operation.{Operation, nop, readv, writev, fsync, read_fixed, write_fixed, fallocate, openat, close, read, write, renameat, unlinkat, mkdirat, linkat, ftruncate, sync_file_range, fadvise, statx, statx_file, statx_root, given}
 use Rattle.world_parts.specs.World.{World, IsWorld}
 use Rattle.op_meaning.specs.Site.{in_ring, sited}
-use Rattle.op_meaning.specs.Meaning.{Effect, meaning, reply, span_destination, span_bytes}
+use Rattle.file_tree.specs.Walk.{walk}
+use Rattle.op_meaning.specs.Meaning.{Effect, handle, meaning, reply, span_destination, span_bytes}
 use Rattle.foot_print.specs.Laws.{Awaits, FootprintsCover}
 use Rattle.foot_print.proofs.CoverOperation.{Owes, owed_covers}
 use Rattle.foot_print.proofs.CoverTurn.{footprints_cover}
 use Rattle.foot_print.proofs.CoverHandles.{nop_owes, fsync_owes, close_owes, sync_file_range_owes, fadvise_owes, given_owes}
+use Rattle.foot_print.proofs.CoverMeasures.{statx_owes, statx_file_owes, statx_root_owes}
 use Rattle.foot_print.proofs.CoverSizes.{fallocate_owes, ftruncate_owes}
 use Rattle.foot_print.proofs.CoverReads.{read_owes, readv_owes, read_fixed_owes}
 use Rattle.foot_print.proofs.CoverWrites.{write_owes, writev_owes, write_fixed_owes}
@@ -19,7 +21,7 @@ use Rattle.foot_print.proofs.CoverOpen.{openat_owes}
 use Rattle.foot_print.proofs.KeepNames.{Keeps, mkdirat_keeps, linkat_keeps, unlinkat_keeps}
 use Rattle.foot_print.proofs.KeepRenames.{renameat_keeps}
 use Rattle.foot_print.proofs.KeepOpen.{openat_keeps}
-use Rattle.foot_print.proofs.KeepContents.{AllOfContents, contents_leave, read_contents, write_contents, fallocate_contents, ftruncate_contents, close_contents}
+use Rattle.foot_print.proofs.KeepContents.{AllOfContents, contents_leave, read_contents, write_contents, fallocate_contents, ftruncate_contents, close_contents, statx_contents, statx_file_contents}
 
 -- What an operation owes in a world: what it uses tells what it does and supports it, and it keeps a world.
 pub record OpLaws (t : Recording) (k r : ℕ) (s : World) (o : Operation) : Type 0 where
@@ -49,6 +51,9 @@ laws t k r (mkdirat p) s w = record { owes = mkdirat_owes t k r s p w; keeps = m
 laws t k r (linkat old new) s w = record { owes = linkat_owes t k r s old new w; keeps = linkat_keeps t k r s old new w.is_world }
 laws t k r (sync_file_range f o n flags) s w = of_contents t k r s (sync_file_range f o n flags) (sync_file_range_owes t k r s f o n flags w) w.is_world (λ x e. grind arith)
 laws t k r (fadvise f n advice) s w = of_contents t k r s (fadvise f n advice) (fadvise_owes t k r s f n advice w) w.is_world (λ x e. grind arith)
+laws t k r (statx p) s w = of_contents t k r s (statx p) (statx_owes t k r s p w) w.is_world (statx_contents s (walk s.nodes p))
+laws t k r (statx_file f) s w = of_contents t k r s (statx_file f) (statx_file_owes t k r s f w) w.is_world (statx_file_contents s (handle (in_ring t r) s f))
+laws t k r statx_root s w = of_contents t k r s statx_root (statx_root_owes t k r s w) w.is_world (λ x e. grind arith)
 laws t k r (given q fails) s w = of_contents t k r s (given q fails) (given_owes t k r s q fails w) w.is_world (λ x e. grind arith)
 laws t k r (ftruncate f n) s w = of_contents t k r s (ftruncate f n) (ftruncate_owes t k r s f n w) w.is_world (ftruncate_contents t s r f n)
 

@@ -6,15 +6,16 @@ use mathlib.Core.Path.{sym, subst}
 use native.Mathlib.Omega.{arith}
 use lib.Dec.{ltb→lt, leb→le}
 use Rattle.sqe_codec.specs.declared.errno.Errno.{Errno}
-use Rattle.sqe_codec.specs.declared.errno.Errno.TheVariants.{EBADF, EINVAL, EFBIG, EOPNOTSUPP}
+use Rattle.sqe_codec.specs.declared.errno.Errno.TheVariants.{EBADF, EINVAL, EFBIG, ENOENT, EOPNOTSUPP}
 use Rattle.recording.specs.declared.recording.Recording.{Recording}
 use Rattle.entry_checks.specs.Operation.{file_limit, File}
 use Rattle.finite_maps.specs.Table.{get, adjust_number}
 use Rattle.world_parts.specs.World.{World, IsWorld, name, Change, set_slot, set_descriptor, set_position, set_size, write_bytes, zero_bytes, write_buffer, break_chain, apply}
-use Rattle.file_tree.specs.Tree.{IsTree, Node, bytes_of_node, rewritten_node}
+use Rattle.file_tree.specs.Tree.{IsTree, Node, Target, bytes_of_node, rewritten_node}
+use Rattle.file_tree.specs.Walk.{Place}
 use Rattle.extent_bytes.specs.Bytes.{resized, overwritten, zeroed}
 use Rattle.op_meaning.specs.Site.{in_ring}
-use Rattle.op_meaning.specs.Meaning.{Effect, done, made_node, made_description, Handle, handle, can_write, Destination, advance, read_meaning, write_meaning, Allocation, extend, reserve, punch, zero_extend, zero_within, allocation, allocate, fallocate_meaning, ftruncate_meaning, close_meaning}
+use Rattle.op_meaning.specs.Meaning.{Effect, done, made_node, made_description, Handle, handle, can_write, Destination, advance, read_meaning, write_meaning, Allocation, extend, reserve, punch, zero_extend, zero_within, allocation, allocate, fallocate_meaning, ftruncate_meaning, close_meaning, measured, statx_meaning, statx_file_meaning}
 use Rattle.world_parts.specs.Items.{description_at}
 use Rattle.extent_bytes.proofs.Lengths.{length-zeroed, length-overwritten, length-resized}
 use Rattle.world_parts.proofs.Changes.{adjusted, opened_kept, name_kept, rewriting-kind, rewriting-names, rewriting-others, set_position-value}
@@ -104,3 +105,17 @@ ftruncate_contents t s r f n x h = grind (arith, leb→le)
 
 pub close_contents : (t : Recording) (s : World) (r : ℕ) (f : File) (x : Effect) → close_meaning (in_ring t r) s f ≡ Ok x → AllOfContents x.changes
 close_contents t s r f x h = grind arith
+
+measured_contents : (s : World) (x : Target) → AllOfContents (measured s x).changes
+measured_contents s x = grind arith
+
+pub statx_contents : (s : World) (z : Result Place Errno) (x : Effect) → statx_meaning s z ≡ Ok x → AllOfContents x.changes
+statx_contents s z x h =
+    let q = ok_bind z _ x h in
+    let y = ok_bind (ok_or q.0.target ENOENT) _ x q.2 in
+    of_effect (measured s y.0) x y.2 (measured_contents s y.0)
+
+pub statx_file_contents : (s : World) (there : Option Handle) (x : Effect) → statx_file_meaning s there ≡ Ok x → AllOfContents x.changes
+statx_file_contents s there x h =
+    let g = ok_bind (ok_or there EBADF) _ x h in
+    of_effect (measured s g.0.opened.target) x g.2 (measured_contents s g.0.opened.target)

@@ -15,8 +15,8 @@ use Rattle.world_parts.specs.Cutting.{is_narrow_use, is_narrow}
 use Rattle.op_meaning.specs.Site.{at_place, in_ring, sited}
 use Rattle.op_meaning.specs.Meaning.{meaning, made_node, span_start, Handle, held, allocation, Allocation, lowest_free, Found, found, shape}
 use Rattle.op_meaning.specs.Step.{Turn, registered, runs, turn, queue_at}
-use Rattle.foot_print.specs.Footprint.{moved_content, moved_uses, content_of, of_file, file_seen, look_reads, uses, opened_at, use_of, as_reads, Taken, tried, is_foreseen, held_item, file_reads, transfer_range, position_written, span_use, would_extend, allocation_uses, allocated_content, resized_content, path_reads, name_written, made_where, room_where, room_uses, description_made, open_uses, row_in, order_uses, turn_uses, directory_made, name_freed}
-use Rattle.op_meaning.specs.Shape.{Shape, idle, looking, moving, allocating, resizing, closing, opening, making, freeing, linking, renaming, Look, at_nothing, at_file, at_path, at_paths, look}
+use Rattle.foot_print.specs.Footprint.{moved_content, moved_uses, content_of, of_file, file_seen, look_reads, uses, opened_at, use_of, as_reads, Taken, tried, is_foreseen, held_item, file_reads, transfer_range, position_written, span_use, would_extend, allocation_uses, allocated_content, resized_content, path_reads, name_written, made_where, room_where, room_uses, description_made, open_uses, row_in, order_uses, turn_uses, directory_made, name_freed, measured_at}
+use Rattle.op_meaning.specs.Shape.{Shape, idle, looking, moving, allocating, resizing, closing, opening, measuring, making, freeing, linking, renaming, Look, at_nothing, at_file, at_path, at_paths, look}
 use Rattle.foot_print.specs.Parts.{FootprintsAreNarrow}
 use Rattle.foot_print.proofs.Holding.{all_append, all_each, all_each_ok}
 use Rattle.foot_print.proofs.Registering.{registering_narrow}
@@ -99,6 +99,7 @@ module _ (t : Recording) (s : World) (r : ℕ) where
       both_narrow (room ++ made_where x (description_made t k)) _
       (both_narrow room _ (roomed_narrow x (room_uses (in_ring t r) s asked) (room_narrow asked)) (made_narrow x (description_made t k) tt))
       (there_narrow (opened_at (at_place t k) x g) z.place (λ q. opened_narrow k x g q q.target))
+  uses_narrow k x (measuring p) z = there_narrow measured_at z.place (λ q. grind arith)
   uses_narrow k x (making p) z = there_narrow (directory_made (at_place t k) x) z.place (λ q. made_narrow x (writes (one (names_in (made_node t k))) ∷ []) tt)
   uses_narrow k x (freeing p removes) z = there_narrow (name_freed removes) z.place (λ q. grind arith)
   uses_narrow k x (linking old new) z = there_narrow name_written z.new_place (λ q. tt)

@@ -13,9 +13,9 @@ use Rattle.file_tree.specs.Walk.{Place, walk, is_directory, names_on}
 use Rattle.op_meaning.specs.Site.{at_place, in_ring, sited}
 use Rattle.op_meaning.specs.Meaning.{made_node, Handle, handle, held, shape}
 use Rattle.world_parts.specs.Items.{Atom, description_at, position_of, size_of, byte_at, name_at, names_in, Item, one, file_bytes, all_bytes_and_sizes, member_of, Use, reads, writes, Footprint, has_atom, writes_atom}
-use Rattle.foot_print.specs.Footprint.{foreseen, shape_row, file_seen, of_file, content_of, moved_content, moved_uses, open_uses, opened_at, file_reads, range_of, position_written, span_use, path_reads, name_written, allocated_content, resized_content, transfer_range, directory_made, name_freed}
-use Rattle.op_meaning.specs.Shape.{Shape, idle, looking, moving, allocating, resizing, closing, opening, making, freeing, linking, renaming}
-use Rattle.foot_print.specs.Reach.{unresolved_shape, taken, all_files, any_name, unresolved_file, unresolved_row}
+use Rattle.foot_print.specs.Footprint.{foreseen, shape_row, file_seen, of_file, content_of, moved_content, moved_uses, open_uses, opened_at, file_reads, range_of, position_written, span_use, path_reads, name_written, allocated_content, resized_content, transfer_range, directory_made, name_freed, size_read, measured_at}
+use Rattle.op_meaning.specs.Shape.{Shape, idle, looking, moving, allocating, resizing, closing, opening, measuring, making, freeing, linking, renaming}
+use Rattle.foot_print.specs.Reach.{unresolved_shape, taken, all_files, any_name, any_size, unresolved_file, unresolved_row}
 use Rattle.foot_print.specs.Replayed.{is_earlier}
 use Rattle.world_parts.proofs.Collision.{both, left, right, either_left, same_atom-eq}
 use Rattle.foot_print.proofs.Holding.{Over, drop_false, over_self, over_nothing, over_all, over_first, over_second, over_both, over_uses, all_append, all_each, all_each_ok}
@@ -134,6 +134,25 @@ module _ (t : Recording) (k : ℕ) where
         at (Ok q) = opened_held g q q.target
         at (Err e) = over_nothing earlier _
 
+    -- What a measured path reads is held among all names and sizes.
+    names_read : (es : List (ℕ × List ℕ)) → Over earlier (any_size t k) (map (λ (e : ℕ × List ℕ). reads (one (name_at e.0 e.1))) es)
+    names_read [] = over_nothing earlier (any_size t k)
+    names_read (e ∷ es) = over_all earlier (any_size t k) (reads (one (name_at e.0 e.1)) ∷ []) _ (at_atom (any_size t k) (name_at e.0 e.1) false (λ h. either_left _ _ h) (λ h v. absurd v)) (names_read es)
+
+    size_held : (y : Option Target) → Over earlier (any_size t k) (size_read y)
+    size_held None = over_nothing earlier (any_size t k)
+    size_held (Some y) = elim (is_directory y.kind) as (λ b. Over earlier (any_size t k) (cond b [] (reads (one (size_of y.node)) ∷ []))) [
+      | true ↦ over_nothing earlier (any_size t k)
+      | false ↦ at_atom (any_size t k) (size_of y.node) false (λ h. either_left _ _ h) (λ h v. absurd v)
+    ]
+
+    measured_held : (p : Path) (z : Result Place Errno) → Over earlier (any_size t k) (path_reads s p ++ each_ok measured_at z)
+    measured_held p z = over_all earlier (any_size t k) (path_reads s p) _ (names_read (names_on s.nodes p)) (at z)
+      where
+        at : (w : Result Place Errno) → Over earlier (any_size t k) (each_ok measured_at w)
+        at (Ok q) = size_held q.target
+        at (Err e) = over_nothing earlier (any_size t k)
+
     unresolved_over_shape : (x : Shape) → Over earlier (unresolved_shape (sited t k r) x) (shape_row (sited t k r) s foreseen x)
     unfolding cut
     unresolved_over_shape idle = over_nothing earlier _
@@ -145,6 +164,7 @@ module _ (t : Recording) (k : ℕ) where
     unresolved_over_shape (resizing f n) = over_all earlier _ (file_seen (in_ring t r) s f) _ (seen_held f) (content_held f (resized_content n) (λ i h. tt) (handle (in_ring t r) s f))
     unresolved_over_shape (closing f) = over_self earlier _
     unresolved_over_shape (opening p g asked) = open_held p g (walk s.nodes p)
+    unresolved_over_shape (measuring p) = measured_held p (walk s.nodes p)
     unresolved_over_shape (making p) = names_held _ (names_behind (path_reads s p) (directory_made (at_place t k) foreseen) (walk s.nodes p) (path_names p) (λ q. tt))
     unresolved_over_shape (freeing p removes) = names_held _ (names_behind (path_reads s p) (name_freed removes) (walk s.nodes p) (path_names p) (λ q. grind arith))
     unresolved_over_shape (linking old new) = names_held _ (names_behind (path_reads s old ++ path_reads s new) name_written (walk s.nodes new) (two_paths old new) (λ q. tt))

@@ -14,7 +14,7 @@ use Rattle.world_parts.specs.World.{World}
 use Rattle.file_tree.specs.Tree.{Target}
 use Rattle.file_tree.specs.Walk.{Place, names_on, is_directory}
 use Rattle.op_meaning.specs.Meaning.{Site, meaning, made_node, made_description, slot_count, span_start, Handle, held, is_file, bytes_in, allocation, Allocation, extend, reserve, punch, zero_extend, zero_within, lowest_free, Found, found, shape}
-use Rattle.op_meaning.specs.Shape.{Shape, idle, looking, moving, allocating, resizing, closing, opening, making, freeing, linking, renaming, Look, at_nothing, at_file, at_path, at_paths, look}
+use Rattle.op_meaning.specs.Shape.{Shape, idle, looking, moving, allocating, resizing, closing, opening, measuring, making, freeing, linking, renaming, Look, at_nothing, at_file, at_path, at_paths, look}
 use Rattle.op_meaning.specs.Step.{Turn, filled, registered, refused, canceled, runs, turn, queue_at}
 use Rattle.world_parts.specs.Items.{chain_flag, ring_order, slot_at, descriptor_at, description_at, position_of, size_of, name_at, names_in, Item, one, file_bytes, buffer_bytes, all_descriptors, Use, reads, writes, Footprint}
 
@@ -160,6 +160,14 @@ closing_uses site f = map writes (held_item site f)
 abbrev pub name_freed : (removes_directory : Bool) → Place → Footprint
 name_freed removes q = name_written q ++ (if removes then directory_names q.target else [])
 
+-- What a measured path has of what it leads to: the size of a file.
+abbrev pub size_read : Option Target → Footprint
+size_read None = []
+size_read (Some y) = if is_directory y.kind then [] else reads (one (size_of y.node)) ∷ []
+
+abbrev pub measured_at : Place → Footprint
+measured_at q = size_read q.target
+
 -- The name that a directory is made at, and where it is made its number of names.
 abbrev pub directory_made : Site → Taken → Place → Footprint
 directory_made site x q = name_written q ++ made_where x (writes (one (names_in (made_node site.trace site.place))) ∷ [])
@@ -185,6 +193,7 @@ uses site s x (allocating f o n mode) z = content_of (allocated_content s x o n 
 uses site s x (resizing f n) z = content_of (resized_content n) z.file
 uses site s x (closing f) z = closing_uses site f
 uses site s x (opening p g asked) z = opening_uses site s x g asked z.place
+uses site s x (measuring p) z = each_ok measured_at z.place
 uses site s x (making p) z = each_ok (directory_made site x) z.place
 uses site s x (freeing p removes) z = each_ok (name_freed removes) z.place
 uses site s x (linking old new) z = each_ok name_written z.new_place

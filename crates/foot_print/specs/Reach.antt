@@ -11,7 +11,7 @@ use Rattle.op_meaning.specs.Step.{Turn, filled, registered, canceled, runs, turn
 use Rattle.world_parts.specs.Items.{Item, file_bytes, chain_flag, size_of, names_in, one, all_names, all_bytes_and_sizes, all_positions, all_descriptions, all_descriptors, reads, writes, Footprint}
 pub use Rattle.item_index.specs.Touching.{written_by}
 use Rattle.foot_print.specs.Footprint.{foreseen, look_reads, shape_row, through, file_reads, room_uses, description_made, closing_uses, order_uses, turn_uses}
-use Rattle.op_meaning.specs.Shape.{Shape, idle, looking, moving, allocating, resizing, closing, opening, making, freeing, linking, renaming, look}
+use Rattle.op_meaning.specs.Shape.{Shape, idle, looking, moving, allocating, resizing, closing, opening, measuring, making, freeing, linking, renaming, look}
 
 -- Whether one of some access sets writes an atom of an item of an access set.
 abbrev pub is_met : Footprint → List Footprint → Bool
@@ -62,6 +62,10 @@ all_files t k = writes (all_bytes_and_sizes (made_node t k)) ∷ writes (all_pos
 abbrev pub any_name : (trace : Recording) (place : ℕ) → Footprint
 any_name t k = writes (all_names (made_node t k)) ∷ []
 
+-- All names, and the bytes and sizes of all files, that are read.
+abbrev pub any_size : (trace : Recording) (place : ℕ) → Footprint
+any_size t k = reads (all_names (made_node t k)) ∷ reads (all_bytes_and_sizes (made_node t k)) ∷ []
+
 abbrev pub unresolved_file : Site → File → Footprint
 unresolved_file site f = file_reads site f ++ all_files site.trace site.place
 
@@ -74,6 +78,7 @@ unresolved_shape site (allocating f o n mode) = unresolved_file site f
 unresolved_shape site (resizing f n) = unresolved_file site f
 unresolved_shape site (closing f) = closing_uses site f
 unresolved_shape site (opening p g asked) = any_name site.trace site.place ++ (if g.truncate then writes (all_bytes_and_sizes (made_node site.trace site.place)) ∷ [] else [])
+unresolved_shape site (measuring p) = any_size site.trace site.place
 unresolved_shape site (making p) = any_name site.trace site.place
 unresolved_shape site (freeing p removes) = any_name site.trace site.place
 unresolved_shape site (linking old new) = any_name site.trace site.place

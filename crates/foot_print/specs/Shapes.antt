@@ -4,7 +4,7 @@ use Rattle.entry_checks.specs.Meant.{file_meant, flags_meant, path_meant, span_m
 use Rattle.foot_print.specs.declared.shape.Shape.{Shape}
 use Rattle.foot_print.specs.declared.shape.Shape.TheVariants as code
 use Rattle.op_meaning.specs.Shape as model
-use Rattle.op_meaning.specs.Shape.{idle, looking, moving, allocating, resizing, closing, opening, making, freeing, linking, renaming}
+use Rattle.op_meaning.specs.Shape.{idle, looking, moving, allocating, resizing, closing, opening, measuring, making, freeing, linking, renaming}
 
 abbrev pub shape_meant : Shape → model.Shape
 shape_meant code.Idle = idle
@@ -14,6 +14,7 @@ shape_meant (code.Allocating f o n mode) = allocating (file_meant f) o n mode
 shape_meant (code.Resizing f n) = resizing (file_meant f) n
 shape_meant (code.Closing f) = closing (file_meant f)
 shape_meant (code.Opening p g asked) = opening (path_meant p) (flags_meant g) asked
+shape_meant (code.Measuring p) = measuring (path_meant p)
 shape_meant (code.Making p) = making (path_meant p)
 shape_meant (code.Freeing p removes) = freeing (path_meant p) removes
 shape_meant (code.Linking old new) = linking (path_meant old) (path_meant new)

@@ -13,7 +13,9 @@ use crate::attempt::{Attempt, Taken};
 use crate::file_rows::{
     FileRange, allocated_uses, file_reads, file_writes, moved_uses, resized_uses, span_use,
 };
-use crate::path_rows::{description_taken, freed_at, made_at, opened_at, room_taken, written_at};
+use crate::path_rows::{
+    description_taken, freed_at, made_at, measured_at, opened_at, room_taken, written_at,
+};
 use crate::seen::shape_seen;
 use crate::shape::{Shape, shape_of};
 use entry_checks::Op;
@@ -147,6 +149,7 @@ fn push_uses(
             description_taken(attempt, footprint)?;
             opened_at(alloc, attempt, flags, lookup.place(), state, footprint)
         }
+        Shape::Measuring { .. } => measured_at(lookup.place(), state, footprint),
         Shape::Making { .. } => made_at(alloc, attempt, lookup.place(), state, footprint),
         Shape::Freeing {
             removes_directory,

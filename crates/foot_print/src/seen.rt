@@ -39,7 +39,10 @@ pub(crate) fn shape_seen<'a>(
         | Shape::Resizing { file, .. } => {
             Ok(Lookup::File(file_seen(site, file, state, footprint)?))
         }
-        Shape::Opening { path, .. } | Shape::Making { path } | Shape::Freeing { path, .. } => {
+        Shape::Opening { path, .. }
+        | Shape::Measuring { path }
+        | Shape::Making { path }
+        | Shape::Freeing { path, .. } => {
             Ok(Lookup::Path(names_seen(alloc, path, state, footprint)?))
         }
         Shape::Linking { old, new } => paths_seen(alloc, old, new, state, footprint),

@@ -40,6 +40,9 @@ pub(crate) enum Shape<'a> {
         flags: OpenAtFlags,
         slot: Option<u32>,
     },
+    Measuring {
+        path: PathAt<'a>,
+    },
     Making {
         path: PathAt<'a>,
     },
@@ -64,6 +67,15 @@ pub(crate) fn shape_of(op: Op<'_>) -> Shape<'_>
     match op {
         Op::Nop => Shape::Idle,
         Op::Given { .. } => Shape::Idle,
+        Op::StatxRoot => Shape::Idle,
+        Op::Statx { path } => Shape::Measuring { path },
+        Op::StatxFile { file } => Shape::Moving {
+            into_file: false,
+            file,
+            offset: 0,
+            count: 0,
+            span: None,
+        },
         Op::Readv {
             file,
             offset,

@@ -1,5 +1,5 @@
 -- An entry that passes its tests asks for no more than one call moves.
-use Rattle.std.proofs.Common.{◌≡◌, ℕ, ◌+◌, ◌*◌, ◌≤◌, Bool, true, false, List, [], ◌∷◌, ◌++◌, length, drop, min, Option, Some, None, refl, ◌∙◌, arith, inl, inr, subst}
+use Rattle.std.proofs.Common.{◌≡◌, ℕ, ◌+◌, ◌-◌, ◌*◌, ◌^◌, ◌≤◌, Bool, true, false, List, [], ◌∷◌, ◌++◌, length, drop, min, Option, Some, None, refl, ◌∙◌, arith, inl, inr, subst}
 use Rattle.std.specs.Prelude.{◌==◌, not, ltb, nat_le, Ok, IfOk, IfSome, ok_or, if◌then◌else◌}
 use Rattle.std.specs.List.{find}
 use Rattle.std.specs.Option.{option_map}
@@ -9,15 +9,15 @@ use Rattle.std.proofs.lemmas.Option.{same_Some, none-some}
 use Rattle.sqe_codec.specs.declared.errno.Errno.TheVariants.{EINVAL, EOPNOTSUPP}
 use Rattle.sqe_codec.specs.declared.sqe.Sqe.{Sqe}
 use Rattle.std.proofs.lemmas.Result.{IfOk-at_ok}
-use Rattle.sqe_codec.specs.Answers.{require}
+use Rattle.sqe_codec.specs.Answers.{◌>>◌, require}
 use Rattle.trace_format.specs.declared.entry.Entry.{Entry}
 use Rattle.trace_format.specs.declared.version.Version.{Version}
 use Rattle.trace_format.specs.declared.given.Given.{Given}
 use Rattle.trace_format.specs.declared.given.Given.TheVariants.{Passed, Refused}
 use Rattle.trace_format.specs.Versions.{rules}
 use Rattle.trace_format.specs.Sides.{is_side_of, SideFits, lengths_in, most_moved, total, vector_is_short, vector_len, written_len}
-use Rattle.entry_checks.specs.Operation.{Operation, asked}
-use Rattle.entry_checks.specs.Check.{Row, rows, advice_rows, rows_beside, row_of, has, buffer_select, check_fields, check_given, check}
+use Rattle.entry_checks.specs.Operation.{Operation, asked, statx, statx_file, statx_root, at_descriptor}
+use Rattle.entry_checks.specs.Check.{Row, rows, later_rows, rows_beside, statx_row, check_no_registered_file, check_path, are_statx_flags, has_no_path, statx_of_descriptor, file_number, path_of, row_of, has, buffer_select, check_fields, check_given, check}
 use Rattle.op_meaning.proofs.Fallible.{and_so, after, after_so}
 
 -- It asks for no more than one call moves.
@@ -52,12 +52,24 @@ ShortRows (p ∷ ps) = ShortRow p × ShortRows ps
 short_rows : ShortRows rows
 short_rows = search (after, after_so, short_write, short_vector, arith)
 
+short_statx : (v : Version) (e : Sqe) (side : List ℕ) → IfOk (statx_row v e side) IsShort
+short_statx v e side =
+    after IsShort (check_no_registered_file e) _ (after IsShort (require (ltb e.len (2 ^ 31)) EINVAL) _ (after IsShort (require (are_statx_flags e.op_flags) EINVAL) _ (which (has_no_path e side))))
+  where
+    at : (b : Bool) → IsShort (if b then statx_root else statx_file (at_descriptor (file_number e)))
+    at true = tt
+    at false = tt
+
+    which : (b : Bool) → IfOk (if b then Ok (statx_of_descriptor e) else (check_path side >> Ok (statx (path_of e.fd side)))) IsShort
+    which true = at (file_number e == 2 ^ 32 - 100)
+    which false = after IsShort (check_path side) _ tt
+
 -- So it does in the rows that a version has beside them.
 short_beside : (v : Version) → ShortRows (rows_beside v)
-short_beside v = by (rules v).has_advice
+short_beside v = by (rules v).has_later_opcodes
   where
-    by : (b : Bool) → ShortRows (if b then advice_rows else [])
-    by true = (λ v e side fits is. tt, (λ v e side fits is. tt, tt))
+    by : (b : Bool) → ShortRows (if b then later_rows else [])
+    by true = (λ v e side fits is. tt, ((λ v e side fits is. short_statx v e side), (λ v e side fits is. tt, tt)))
     by false = tt
 
 append_rows : (ps qs : List (ℕ × Row)) → ShortRows ps → ShortRows qs → ShortRows (ps ++ qs)

@@ -14,7 +14,7 @@ use Rattle.trace_format.specs.Sides.{most_moved}
 use Rattle.recording.specs.Accepted.{IsAccepted}
 use Rattle.recording.specs.Limits.{table_limit}
 use Rattle.trace_records.specs.declared.record.FullSlot.{FullSlot}
-use Rattle.entry_checks.specs.Operation.{Operation, nop, readv, writev, fsync, read_fixed, write_fixed, fallocate, openat, close, read, write, renameat, unlinkat, mkdirat, linkat, ftruncate, sync_file_range, fadvise, given, File, Span, Path, OpenFlags, asked, file_limit, at_position, in_slot, at_descriptor}
+use Rattle.entry_checks.specs.Operation.{Operation, nop, readv, writev, fsync, read_fixed, write_fixed, fallocate, openat, close, read, write, renameat, unlinkat, mkdirat, linkat, ftruncate, sync_file_range, fadvise, statx, statx_file, statx_root, given, File, Span, Path, OpenFlags, asked, file_limit, at_position, in_slot, at_descriptor}
 use Rattle.entry_checks.specs.Check.{has, io_hardlink, skip_success}
 use Rattle.chain_plan.specs.declared.role.Role.{Role}
 use Rattle.chain_plan.specs.Chain.{role}
@@ -24,7 +24,7 @@ use Rattle.world_parts.specs.World.{World, Change, quiet, loud, break_chain, slo
 use Rattle.world_parts.specs.Paths.{is_file_name}
 use Rattle.world_parts.proofs.FileNames.{Named, AllNaming, named_place, named_changes, named_start}
 use Rattle.op_meaning.specs.Site.{at_place, in_ring, sited}
-use Rattle.op_meaning.specs.Meaning.{Effect, done, Handle, handle, held, slot_count, can_write, is_bad_offset, span_start, span_destination, span_bytes, advance, Destination, reply, into, delivered, read_effect, readable, read_meaning, write_start, write_effect, writable, write_meaning, Allocation, extend, reserve, punch, zero_extend, zero_within, allocation, allocate, fallocate_meaning, ftruncate_meaning, room, lowest_free, filled, may_open, open_changes, open_as, openat_meaning, close_meaning, may_remove, unlinkat_meaning, mkdirat_meaning, linkat_meaning, may_replace, moved_name, move_meaning, exchange_meaning, goes_below, rename_to, renameat_meaning, made_node, made_description, meaning}
+use Rattle.op_meaning.specs.Meaning.{Effect, done, bytes_in, Handle, handle, held, slot_count, can_write, is_bad_offset, span_start, span_destination, span_bytes, advance, Destination, reply, into, delivered, read_effect, readable, read_meaning, write_start, write_effect, writable, write_meaning, Allocation, extend, reserve, punch, zero_extend, zero_within, allocation, allocate, fallocate_meaning, ftruncate_meaning, room, lowest_free, filled, may_open, open_changes, open_as, openat_meaning, close_meaning, may_remove, unlinkat_meaning, mkdirat_meaning, linkat_meaning, may_replace, moved_name, move_meaning, exchange_meaning, goes_below, rename_to, renameat_meaning, node_told, measured, statx_meaning, statx_file_meaning, made_node, made_description, meaning}
 use Rattle.op_meaning.specs.Step.{Turn, filled as fills, registered, filled_slot, refused, canceled, runs, breaks, failed, changes_of, changes_in, turn, step_world, run_world}
 use Rattle.op_meaning.proofs.Fallible.{and_then, and_so, after}
 
@@ -213,6 +213,20 @@ module _ (P : Type 0) where
       and_so (λ p. T (is_file_name p.name)) Owed (walk s.nodes old) _ (named s.nodes old) (λ p good.
       and_so (λ q. T (is_file_name q.name)) Owed (walk s.nodes new) _ (named s.nodes new) (λ q fine. and_then Owed (ok_or p.target ENOENT) _ (λ x. renames s p q x good fine old new flags)))
 
+  -- Kinds and sizes.
+  tells : (s : World) (x : Target) → Owed (measured s x)
+  tells s x = which (is_directory x.kind)
+    where
+      which : (b : Bool) → Owed (if b then node_told 1 0 else node_told 2 (length (bytes_in s x.node)))
+      which true = record { small = λ p. none; names = tt }
+      which false = record { small = λ p. none; names = tt }
+
+  measuring : (s : World) (z : Result Place Errno) → Pays (statx_meaning s z)
+  measuring s z = and_then Owed z _ (λ q. and_then Owed (ok_or q.target ENOENT) _ (λ x. tells s x))
+
+  measuring_open : (s : World) (x : Option Handle) → Pays (statx_file_meaning s x)
+  measuring_open s x = and_then Owed (ok_or x EBADF) _ (λ h. tells s h.opened.target)
+
 -- That a replay accepts a trace, and an operation of it asks for no more than one call moves.
 abbrev Asks : Recording → Operation → Type 0
 Asks t o = IsAccepted t × IfSome (asked o) (λ n. n ≤ most_moved)
@@ -237,6 +251,9 @@ owes t k r s (linkat old new) = linking _ s old new
 owes t k r s (ftruncate f n) = resizing _ (handle (in_ring t r) s f) n
 owes t k r s (sync_file_range f o n flags) = after _ (require (is_some (held (in_ring t r) s f)) EBADF) _ (after _ (require (leb flags 7) EINVAL) _ (after _ (require (ltb (o + n) (2 ^ 63)) EINVAL) _ (still _ [] tt)))
 owes t k r s (fadvise f n advice) = after _ (require (is_some (held (in_ring t r) s f)) EBADF) _ (after _ (require (ltb n (2 ^ 63)) EINVAL) _ (after _ (require (leb advice 5) EINVAL) _ (still _ [] tt)))
+owes t k r s (statx p) = measuring _ s (walk s.nodes p)
+owes t k r s (statx_file f) = measuring_open _ s (handle (in_ring t r) s f)
+owes t k r s statx_root = record { small = λ p. none; names = tt }
 owes t k r s (given q fails) = still _ [] tt
 
 -- An answer whose count one call can move.

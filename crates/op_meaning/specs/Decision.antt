@@ -9,13 +9,13 @@ use Rattle.trace_format.specs.Sides.{most_moved}
 use Rattle.world_parts.specs.World.{World, buffer, set_descriptor, set_size, set_slot}
 use Rattle.op_meaning.specs.declared.allocating.RangeAllocation.{RangeAllocation}
 use Rattle.op_meaning.specs.declared.decision.Decision.{Decision}
-use Rattle.op_meaning.specs.declared.decision.Decision.TheVariants.{Nothing, Read, Write, ReadFixed, WriteFixed, Allocate, Resize, Open, Empty, MakeDirectory, ChangeNames}
+use Rattle.op_meaning.specs.declared.decision.Decision.TheVariants.{Nothing, Tell, Read, Write, ReadFixed, WriteFixed, Allocate, Resize, Open, Empty, MakeDirectory, ChangeNames}
 use Rattle.op_meaning.specs.declared.transfers.BufferRead.{BufferRead}
 use Rattle.op_meaning.specs.declared.transfers.BufferWrite.{BufferWrite}
 use Rattle.op_meaning.specs.declared.transfers.FileRead.{FileRead}
 use Rattle.op_meaning.specs.declared.transfers.FileWrite.{FileWrite}
 use Rattle.op_meaning.specs.Handles.{allocation_meant, handle_meant}
-use Rattle.op_meaning.specs.Meaning.{Effect, Site, allocate, done, into, read_effect, reply, write_effect}
+use Rattle.op_meaning.specs.Meaning.{Effect, Site, allocate, done, into, node_told, read_effect, reply, write_effect}
 use Rattle.op_meaning.specs.NameChanges.{changes_meant, directory_effect}
 use Rattle.op_meaning.specs.Opening.{opened_as}
 
@@ -45,6 +45,7 @@ emptied r (Descriptor n) = done (set_descriptor n None ∷ [])
 -- the effect of what was decided on, where an operation stands
 abbrev pub effect_of : Site → World → Decision → Effect
 effect_of site s Nothing = done []
+effect_of site s (Tell kind size) = node_told kind size
 effect_of site s (Read x) = bytes_read s x
 effect_of site s (Write x) = bytes_written s x
 effect_of site s (ReadFixed x) = buffer_filled s site.ring x

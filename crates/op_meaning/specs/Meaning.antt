@@ -2,6 +2,7 @@
 use Rattle.std.specs.Prelude.{ℕ, Bool, true, false, not, ◌&&◌, ◌||◌, ◌==◌, ltb, leb, ◌+◌, ◌-◌, ◌^◌, min, max, List, [], ◌∷◌, ◌++◌, length, take, drop, Option, Some, None, Result, Ok, Err, ok_or, is_some, is_none, unwrap_or, if◌then◌else◌}
 use Rattle.std.specs.List.{slice_get, find, range_with_len}
 use Rattle.std.specs.Option.{option_and_then, option_map}
+use Rattle.std.specs.Int.{w64, to_le_bytes}
 use Rattle.sqe_codec.specs.declared.errno.Errno.{Errno}
 use Rattle.sqe_codec.specs.declared.errno.Errno.TheVariants.{EPERM, ENOENT, EBADF, EFAULT, EEXIST, ENOTDIR, EISDIR, EINVAL, EMFILE, EFBIG, ENOTEMPTY, EOPNOTSUPP}
 use Rattle.trace_format.specs.declared.trace.Access.{Access}
@@ -11,9 +12,9 @@ use Rattle.recording.specs.declared.recording.Ring.{Ring}
 use Rattle.recording.specs.Rings.{slots_of}
 use Rattle.trace_format.specs.declared.trace.Buffer.{Buffer}
 use Rattle.sqe_codec.specs.Answers.{◌>>=◌, ◌>>◌, require}
-use Rattle.entry_checks.specs.Operation.{Operation, nop, readv, writev, fsync, read_fixed, write_fixed, fallocate, openat, close, read, write, renameat, unlinkat, mkdirat, linkat, ftruncate, sync_file_range, fadvise, given, File, in_slot, at_descriptor, Span, Path, OpenFlags, file_limit, at_position}
+use Rattle.entry_checks.specs.Operation.{Operation, nop, readv, writev, fsync, read_fixed, write_fixed, fallocate, openat, close, read, write, renameat, unlinkat, mkdirat, linkat, ftruncate, sync_file_range, fadvise, statx, statx_file, statx_root, given, File, in_slot, at_descriptor, Span, Path, OpenFlags, file_limit, at_position}
 use Rattle.trace_format.specs.Sides.{most_moved}
-use Rattle.op_meaning.specs.Shape.{Shape, idle, looking, moving, allocating, resizing, closing, opening, making, freeing, linking, renaming, Look, at_nothing, at_file, at_path, at_paths, look}
+use Rattle.op_meaning.specs.Shape.{Shape, idle, looking, moving, allocating, resizing, closing, opening, measuring, making, freeing, linking, renaming, Look, at_nothing, at_file, at_path, at_paths, look}
 use Rattle.file_tree.specs.Tree.{a_directory, a_file, Target}
 use Rattle.world_parts.specs.World.{World, Opened, opened, position, bytes, name_count, slot, descriptor, buffer, Change, set_name, make_node, set_slot, set_descriptor, make_description, set_position, set_size, write_bytes, zero_bytes, write_buffer}
 use Rattle.file_tree.specs.Walk.{Place, walk, is_above, is_directory}
@@ -351,6 +352,24 @@ renameat_meaning s old new flags from to = do
   x ← ok_or p.target ENOENT
   rename_to s old new flags p q x
 
+-- What STATX answers of a node: in a byte its kind, 1 a directory and 2 a file, and in eight the size of a file, else 0.
+abbrev pub node_told : (kind size : ℕ) → Effect
+node_told kind size = record { count = 0; bytes = kind ∷ to_le_bytes w64 size; changes = [] }
+
+abbrev pub measured : World → Target → Effect
+measured s x = if is_directory x.kind then node_told 1 0 else node_told 2 (length (bytes_in s x.node))
+
+abbrev pub statx_meaning : World → Result Place Errno → Result Effect Errno
+statx_meaning s led = do
+  p ← led
+  x ← ok_or p.target ENOENT
+  Ok (measured s x)
+
+abbrev pub statx_file_meaning : World → Option Handle → Result Effect Errno
+statx_file_meaning s there = do
+  h ← ok_or there EBADF
+  Ok (measured s h.opened.target)
+
 -- What an operation finds where it looks: the open file, and where its path leads, or the old one of two and the new one.
 pub record Found : Type 0 where
   pub file : Option Handle
@@ -387,6 +406,9 @@ behavior (linkat old new) = record { shape = linking old new; meaning = λ site 
 behavior (ftruncate f n) = record { shape = resizing f n; meaning = λ site s z. ftruncate_meaning n z.file }
 behavior (sync_file_range f o n flags) = record { shape = looking f; meaning = λ site s z. sync_file_range_meaning o n flags (held site s f) }
 behavior (fadvise f n advice) = record { shape = looking f; meaning = λ site s z. fadvise_meaning n advice (held site s f) }
+behavior (statx p) = record { shape = measuring p; meaning = λ site s z. statx_meaning s z.place }
+behavior (statx_file f) = record { shape = moving false f 0 0 None; meaning = λ site s z. statx_file_meaning s z.file }
+behavior statx_root = record { shape = idle; meaning = λ site s z. Ok (node_told 1 0) }
 behavior (given r fails) = record { shape = idle; meaning = λ site s z. Ok (done []) }
 
 abbrev pub shape : Operation → Shape

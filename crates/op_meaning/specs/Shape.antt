@@ -11,6 +11,7 @@ pub data Shape : Type 0 where
   resizing : (file : File) (size : ℕ) → Shape
   closing : (file : File) → Shape
   opening : (path : Path) (flags : OpenFlags) (slot : Option ℕ) → Shape
+  measuring : (path : Path) → Shape
   making : (path : Path) → Shape
   freeing : (path : Path) (removes_directory : Bool) → Shape
   linking : (old new : Path) → Shape
@@ -31,6 +32,7 @@ look (allocating f o n mode) = at_file f
 look (resizing f n) = at_file f
 look (closing f) = at_nothing
 look (opening p g asked) = at_path p
+look (measuring p) = at_path p
 look (making p) = at_path p
 look (freeing p removes) = at_path p
 look (linking old new) = at_paths old new

@@ -6,6 +6,7 @@ ghost use Rattle.op_meaning.specs.Site.{IsSite, site_meant};
 ghost use Rattle.world_parts.specs.World.{apply_all};
 
 use crate::allocating::RangeAllocation;
+use crate::measuring::tell;
 use crate::names::{NameChanges, change_names};
 use crate::naming::make_directory;
 use crate::open_files::{allocate, empty};
@@ -24,6 +25,7 @@ use world_parts::State;
 #[derive(Clone, Copy)]
 pub(crate) enum Decision<'a> {
     Nothing,
+    Tell { kind: u8, size: u64 },
     Read(FileRead),
     Write(FileWrite<'a>),
     ReadFixed(BufferRead),
@@ -56,6 +58,7 @@ pub(crate) fn carry_out(
 {
     match decision {
         Decision::Nothing => Ok(finished(alloc)),
+        Decision::Tell { kind, size } => tell(alloc, kind, size),
         Decision::Read(asked) => read(alloc, asked, state),
         Decision::Write(asked) => write(alloc, asked, state),
         Decision::ReadFixed(asked) => read_fixed(alloc, site.ring, asked, state),

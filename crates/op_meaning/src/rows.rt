@@ -18,6 +18,7 @@ ghost use Rattle.world_parts.specs.World.{World};
 use crate::allocating::AllocationRequest;
 use crate::decision::{Decision, carry_out};
 use crate::lookup::Lookup;
+use crate::measuring::{measuring, measuring_open};
 use crate::names::NameChanges;
 use crate::naming::{linking, making, renaming, unlinking};
 use crate::open_files::{advising, allocating, closing, resizing, syncing, syncing_range};
@@ -42,6 +43,7 @@ fn changing<'a>(changes: Result<NameChanges<'a>, Errno>) -> Result<Decision<'a>,
 /// What an operation that moves no bytes does where an entry stands: see [`decide`]. It is a
 /// function of its own, so that a transfer, of which there are most, has no room to fill for the
 /// others.
+#[inline(never)]
 fn decide_on_rest<'a>(
     site: Site<'_>,
     op: Op<'a>,
@@ -85,6 +87,9 @@ fn decide_on_rest<'a>(
             flags,
         } => syncing_range(site, file, offset, size, flags, state),
         Op::Fadvise { file, size, advice } => advising(site, file, size, advice, state),
+        Op::Statx { path } => measuring(site, path, lookup, state),
+        Op::StatxFile { file } => measuring_open(site, file, lookup, state),
+        Op::StatxRoot => Ok(Decision::Tell { kind: 1, size: 0 }),
         // A NOP or one whose result is given, since transfers don't come here.
         _ => Ok(Decision::Nothing),
     }
@@ -148,6 +153,7 @@ fn decide<'a>(
 /// # Errors
 ///
 /// Out of memory; the state can then only be dropped.
+#[inline(always)]
 pub(crate) fn run_operation(
     alloc: Global,
     site: Site<'_>,

@@ -57,6 +57,7 @@ pub fn run_entry(
 /// # Errors
 ///
 /// Out of memory; the state can then only be dropped.
+#[inline(always)]
 pub fn run_on_state(
     alloc: Global,
     place: u32,
@@ -122,6 +123,7 @@ fn all_held(
 }
 
 /// Fills the slots of a new ring with what others hold.
+#[inline(never)]
 fn register(
     alloc: Global,
     ring: u32,
@@ -139,6 +141,7 @@ fn register(
 }
 
 /// Runs an operation, and breaks its chain where it fails.
+#[inline(always)]
 fn run(
     alloc: Global,
     site: Site<'_>,

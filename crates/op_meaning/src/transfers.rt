@@ -77,6 +77,7 @@ pub(crate) struct FileRead {
 /// # Errors
 ///
 /// That of the first test that fails: EBADF, EISDIR, EINVAL.
+#[inline(always)]
 pub(crate) fn reading<'a>(
     site: Site<'_>,
     file: FileNumber,
@@ -152,6 +153,7 @@ pub(crate) fn reading_fixed<'a>(
 }
 
 /// Where a write starts: at the end of a file that is open to append.
+#[inline(always)]
 fn write_start(file: &OpenFile, offset: u64, state: &State) -> u64
     ensures { result ≡ write_start state.now offset (handle_meant state.now file.now) }
 {
@@ -198,6 +200,7 @@ pub(crate) struct FileWrite<'a> {
 /// # Errors
 ///
 /// That of the first test that fails: EBADF, EINVAL, EFBIG.
+#[inline(always)]
 pub(crate) fn writing<'a>(
     site: Site<'_>,
     file: FileNumber,

@@ -1,5 +1,5 @@
 -- What the parser makes of the words that ask for JSON.
-use Rattle.std.proofs.Common.{◌≡◌, ◌∙◌, ℕ, Bool, true, false, List, [], ◌∷◌, ◌++◌, Some, codes, refl, sym, ap, arith}
+use Rattle.std.proofs.Common.{◌≡◌, ◌∙◌, ℕ, Bool, true, false, List, [], ◌∷◌, ◌++◌, Some, codes, refl, sym, ap, inl, inr, arith}
 use Rattle.std.specs.Fmt.{decimal}
 use Rattle.std.proofs.lemmas.Fmt.{decimal_digit, decimal_step}
 use Rattle.clap.specs.Words.{subcommand_of, takes}
@@ -21,16 +21,16 @@ sixty_four : (n : ℕ) → n ≡ 64 → decimal n ≡ codes "64"
 sixty_four n e = ap decimal e ∙ decimal_step 64 (omega arith) (omega arith) ∙ ap (λ ds. ds ++ 52 ∷ []) (decimal_digit 6 (omega arith))
 
 abbrev IsJson : Mode → Shown → List (List ℕ) → Type 0
-IsJson mode shown words = AreFound mode shown (subcommand_of replayer words) × HasForm forms.Json (subcommand_of replayer words)
+IsJson mode shown words = AreFound mode shown (subcommand_of replayer words) × HasForm forms.Json false (subcommand_of replayer words)
 
 serial_json : (sums : SumsShown) (names : Bool) → IsJson Serial (record { sums = sums; names = names }) (json_words (codes "serial") ++ shown_words sums names)
 unfolding clap_on_literals
-serial_json shows.None false = ((refl, ((refl, refl), refl)), ((refl, refl, refl, refl), refl))
-serial_json shows.None true = ((refl, ((refl, refl), refl)), ((refl, refl, refl, refl), refl))
-serial_json shows.Small false = ((refl, ((refl, refl), refl)), ((refl, refl, refl, refl), refl))
-serial_json shows.Small true = ((refl, ((refl, refl), refl)), ((refl, refl, refl, refl), refl))
-serial_json shows.All false = ((refl, (refl, refl)), ((refl, refl, refl, refl), refl))
-serial_json shows.All true = ((refl, (refl, refl)), ((refl, refl, refl, refl), refl))
+serial_json shows.None false = ((refl, ((refl, refl), refl)), ((refl, refl, refl, refl), refl, inr refl))
+serial_json shows.None true = ((refl, ((refl, refl), refl)), ((refl, refl, refl, refl), refl, inr refl))
+serial_json shows.Small false = ((refl, ((refl, refl), refl)), ((refl, refl, refl, refl), refl, inr refl))
+serial_json shows.Small true = ((refl, ((refl, refl), refl)), ((refl, refl, refl, refl), refl, inr refl))
+serial_json shows.All false = ((refl, (refl, refl)), ((refl, refl, refl, refl), refl, inr refl))
+serial_json shows.All true = ((refl, (refl, refl)), ((refl, refl, refl, refl), refl, inr refl))
 
 mode_json : (m : Mode) (shown : Shown) (words : List (List ℕ)) → AskForJsonMode m shown words → IsJson m shown words
 unfolding clap_on_literals
@@ -38,18 +38,18 @@ mode_json Serial shown words e = rw e (serial_json shown.sums shown.names)
 mode_json (Run workers window eager) shown words (w, v, eagerly, plainly, e) =
     let text : Some (codes "4") ≡ Some (decimal workers) = ap Some (sym (four workers w)) in
     let more : Some (codes "64") ≡ Some (decimal window) = ap Some (sym (sixty_four window v)) in
-    rw (e, plainly, eagerly) ((refl, (((refl, refl), refl)), refl, (text, more, (omega arith, omega arith, omega arith, omega arith))), ((refl, refl, refl, refl), refl))
+    rw (e, plainly, eagerly) ((refl, (((refl, refl), refl)), refl, (text, more, (omega arith, omega arith, omega arith, omega arith))), ((refl, refl, refl, refl), refl, inr refl))
 mode_json (Compare workers window eager) shown words e = absurd e
 mode_json (Rounds window dot) shown words (v, lines, plainly, e) =
     let more : Some (codes "64") ≡ Some (decimal window) = ap Some (sym (sixty_four window v)) in
-    rw (e, plainly, lines) ((refl, refl, refl, (more, (omega arith, omega arith))), ((refl, refl, refl, refl), refl))
-mode_json (Depends dot) shown words (lines, plainly, e) = rw (e, plainly, lines) ((refl, refl, refl), ((refl, refl, refl, refl), refl))
-mode_json Check shown words (plainly, e) = rw (e, plainly) ((refl, refl), ((refl, refl, refl, refl), refl))
+    rw (e, plainly, lines) ((refl, refl, refl, (more, (omega arith, omega arith))), ((refl, refl, refl, refl), refl, inl refl))
+mode_json (Depends dot) shown words (lines, plainly, e) = rw (e, plainly, lines) ((refl, refl, refl), ((refl, refl, refl, refl), refl, inl refl))
+mode_json Check shown words (plainly, e) = rw (e, plainly) ((refl, refl), ((refl, refl, refl, refl), refl, inl refl))
 
-pub json_found : (t : Task) (words : List (List ℕ)) → AskForJson t words → IsFound forms.Json t (subcommand_of replayer words)
+pub json_found : (t : Task) (words : List (List ℕ)) → AskForJson t words → IsFound forms.Json false t (subcommand_of replayer words)
 unfolding clap_on_literals
 json_found (Replay o) words e = mode_json o.mode o.shown words e
-json_found Diff words e = rw e (refl, ((refl, refl, refl, refl), refl))
+json_found Diff words e = rw e (refl, ((refl, refl, refl, refl), refl, inl refl))
 json_found (Show look) words e = absurd e
 json_found Make words e = absurd e
 

@@ -11,7 +11,7 @@ use Rattle.clap.specs.declared.builder.value_parser.ValueParser.TheVariants as v
 use Rattle.clap.proofs.OnLiterals.{clap_on_literals}
 use Rattle.replay_report.specs.declared.showing.SumsShown.{SumsShown}
 use Rattle.replay_report.specs.declared.showing.SumsShown.TheVariants as shows
-use Rattle.program_words.specs.Words.{HasShown, IsForm, check_command, dot_words, flag_text, replayer, shown_words, workers_option, window_option}
+use Rattle.program_words.specs.Words.{HasShown, IsCut, IsForm, check_command, dot_words, flag_text, replayer, shown_words, workers_option, window_option}
 use Rattle.program_words.specs.declared.words.Form.TheVariants as forms
 use Rattle.program_words.proofs.NumberWords.{IsValue}
 use Rattle.program_words.proofs.OptionWalk.{IsOption, at, given, value_folded, value_passed}
@@ -51,9 +51,9 @@ pub record Leaves (s : Shape) (workers window : Text) (P : List Row → Type 0) 
   pub window_text : one_of (codes "window") (finished s.rules end) ≡ Some window
   pub others : P (finished s.rules end)
 
--- no file is named, and the output is text
+-- no file is named, the output is text, and the trace is not cut off
 abbrev pub NamesNone : List Row → Type 0
-NamesNone rows = ((first_of (codes "file") rows ≡ None) × (first_of (codes "second") rows ≡ None) × (first_of (codes "output") rows ≡ None) × (first_of (codes "show") rows ≡ None)) × IsForm forms.Text (one_of (codes "json") rows)
+NamesNone rows = ((first_of (codes "file") rows ≡ None) × (first_of (codes "second") rows ≡ None) × (first_of (codes "output") rows ≡ None) × (first_of (codes "show") rows ≡ None)) × IsForm forms.Text (one_of (codes "json") rows) × IsCut false (one_of (codes "cut") rows)
 
 -- nor is the run an eager one
 abbrev pub IsPlain : List Row → Type 0
@@ -93,7 +93,7 @@ run_both t u shows.None false a b =
       rest = rw b.accepted refl;
       workers_text = ap Some a.value.plain;
       window_text = ap Some b.value.plain;
-      others = (((refl, refl), refl), (refl, ((refl, refl, refl, refl), inr refl)));
+      others = (((refl, refl), refl), (refl, ((refl, refl, refl, refl), inr refl, inr refl)));
     }
 run_both t u shows.None true a b =
     let s = leaf (codes "run") in
@@ -108,7 +108,7 @@ run_both t u shows.None true a b =
       rest = refl;
       workers_text = ap Some a.value.plain;
       window_text = ap Some b.value.plain;
-      others = (((refl, refl), refl), (refl, ((refl, refl, refl, refl), inr refl)));
+      others = (((refl, refl), refl), (refl, ((refl, refl, refl, refl), inr refl, inr refl)));
     }
 run_both t u shows.Small false a b =
     let s = leaf (codes "run") in
@@ -123,7 +123,7 @@ run_both t u shows.Small false a b =
       rest = refl;
       workers_text = ap Some a.value.plain;
       window_text = ap Some b.value.plain;
-      others = (((refl, refl), refl), (refl, ((refl, refl, refl, refl), inr refl)));
+      others = (((refl, refl), refl), (refl, ((refl, refl, refl, refl), inr refl, inr refl)));
     }
 run_both t u shows.Small true a b =
     let s = leaf (codes "run") in
@@ -138,7 +138,7 @@ run_both t u shows.Small true a b =
       rest = refl;
       workers_text = ap Some a.value.plain;
       window_text = ap Some b.value.plain;
-      others = (((refl, refl), refl), (refl, ((refl, refl, refl, refl), inr refl)));
+      others = (((refl, refl), refl), (refl, ((refl, refl, refl, refl), inr refl, inr refl)));
     }
 run_both t u shows.All false a b =
     let s = leaf (codes "run") in
@@ -153,7 +153,7 @@ run_both t u shows.All false a b =
       rest = refl;
       workers_text = ap Some a.value.plain;
       window_text = ap Some b.value.plain;
-      others = ((refl, refl), (refl, ((refl, refl, refl, refl), inr refl)));
+      others = ((refl, refl), (refl, ((refl, refl, refl, refl), inr refl, inr refl)));
     }
 run_both t u shows.All true a b =
     let s = leaf (codes "run") in
@@ -168,7 +168,7 @@ run_both t u shows.All true a b =
       rest = refl;
       workers_text = ap Some a.value.plain;
       window_text = ap Some b.value.plain;
-      others = ((refl, refl), (refl, ((refl, refl, refl, refl), inr refl)));
+      others = ((refl, refl), (refl, ((refl, refl, refl, refl), inr refl, inr refl)));
     }
 
 pub run_workers : (t : Text) (sums : SumsShown) (names : Bool) → IsTaken 64 t → Leaves (leaf (codes "run")) t (codes "64") (HasShownRows sums names) (codes "--workers" ∷ t ∷ shown_words sums names)
@@ -183,7 +183,7 @@ run_workers t shows.None false a =
       rest = rw a.accepted refl;
       workers_text = ap Some a.value.plain;
       window_text = refl;
-      others = (((refl, refl), refl), (refl, ((refl, refl, refl, refl), inr refl)));
+      others = (((refl, refl), refl), (refl, ((refl, refl, refl, refl), inr refl, inr refl)));
     }
 run_workers t shows.None true a =
     let s = leaf (codes "run") in
@@ -195,7 +195,7 @@ run_workers t shows.None true a =
       rest = refl;
       workers_text = ap Some a.value.plain;
       window_text = refl;
-      others = (((refl, refl), refl), (refl, ((refl, refl, refl, refl), inr refl)));
+      others = (((refl, refl), refl), (refl, ((refl, refl, refl, refl), inr refl, inr refl)));
     }
 run_workers t shows.Small false a =
     let s = leaf (codes "run") in
@@ -207,7 +207,7 @@ run_workers t shows.Small false a =
       rest = refl;
       workers_text = ap Some a.value.plain;
       window_text = refl;
-      others = (((refl, refl), refl), (refl, ((refl, refl, refl, refl), inr refl)));
+      others = (((refl, refl), refl), (refl, ((refl, refl, refl, refl), inr refl, inr refl)));
     }
 run_workers t shows.Small true a =
     let s = leaf (codes "run") in
@@ -219,7 +219,7 @@ run_workers t shows.Small true a =
       rest = refl;
       workers_text = ap Some a.value.plain;
       window_text = refl;
-      others = (((refl, refl), refl), (refl, ((refl, refl, refl, refl), inr refl)));
+      others = (((refl, refl), refl), (refl, ((refl, refl, refl, refl), inr refl, inr refl)));
     }
 run_workers t shows.All false a =
     let s = leaf (codes "run") in
@@ -231,7 +231,7 @@ run_workers t shows.All false a =
       rest = refl;
       workers_text = ap Some a.value.plain;
       window_text = refl;
-      others = ((refl, refl), (refl, ((refl, refl, refl, refl), inr refl)));
+      others = ((refl, refl), (refl, ((refl, refl, refl, refl), inr refl, inr refl)));
     }
 run_workers t shows.All true a =
     let s = leaf (codes "run") in
@@ -243,7 +243,7 @@ run_workers t shows.All true a =
       rest = refl;
       workers_text = ap Some a.value.plain;
       window_text = refl;
-      others = ((refl, refl), (refl, ((refl, refl, refl, refl), inr refl)));
+      others = ((refl, refl), (refl, ((refl, refl, refl, refl), inr refl, inr refl)));
     }
 
 pub run_window : (u : Text) (sums : SumsShown) (names : Bool) → IsTaken 4096 u → Leaves (leaf (codes "run")) (codes "4") u (HasShownRows sums names) (codes "--window" ∷ u ∷ shown_words sums names)
@@ -258,7 +258,7 @@ run_window u shows.None false b =
       rest = rw b.accepted refl;
       workers_text = refl;
       window_text = ap Some b.value.plain;
-      others = (((refl, refl), refl), (refl, ((refl, refl, refl, refl), inr refl)));
+      others = (((refl, refl), refl), (refl, ((refl, refl, refl, refl), inr refl, inr refl)));
     }
 run_window u shows.None true b =
     let s = leaf (codes "run") in
@@ -270,7 +270,7 @@ run_window u shows.None true b =
       rest = refl;
       workers_text = refl;
       window_text = ap Some b.value.plain;
-      others = (((refl, refl), refl), (refl, ((refl, refl, refl, refl), inr refl)));
+      others = (((refl, refl), refl), (refl, ((refl, refl, refl, refl), inr refl, inr refl)));
     }
 run_window u shows.Small false b =
     let s = leaf (codes "run") in
@@ -282,7 +282,7 @@ run_window u shows.Small false b =
       rest = refl;
       workers_text = refl;
       window_text = ap Some b.value.plain;
-      others = (((refl, refl), refl), (refl, ((refl, refl, refl, refl), inr refl)));
+      others = (((refl, refl), refl), (refl, ((refl, refl, refl, refl), inr refl, inr refl)));
     }
 run_window u shows.Small true b =
     let s = leaf (codes "run") in
@@ -294,7 +294,7 @@ run_window u shows.Small true b =
       rest = refl;
       workers_text = refl;
       window_text = ap Some b.value.plain;
-      others = (((refl, refl), refl), (refl, ((refl, refl, refl, refl), inr refl)));
+      others = (((refl, refl), refl), (refl, ((refl, refl, refl, refl), inr refl, inr refl)));
     }
 run_window u shows.All false b =
     let s = leaf (codes "run") in
@@ -306,7 +306,7 @@ run_window u shows.All false b =
       rest = refl;
       workers_text = refl;
       window_text = ap Some b.value.plain;
-      others = ((refl, refl), (refl, ((refl, refl, refl, refl), inr refl)));
+      others = ((refl, refl), (refl, ((refl, refl, refl, refl), inr refl, inr refl)));
     }
 run_window u shows.All true b =
     let s = leaf (codes "run") in
@@ -318,23 +318,23 @@ run_window u shows.All true b =
       rest = refl;
       workers_text = refl;
       window_text = ap Some b.value.plain;
-      others = ((refl, refl), (refl, ((refl, refl, refl, refl), inr refl)));
+      others = ((refl, refl), (refl, ((refl, refl, refl, refl), inr refl, inr refl)));
     }
 
 pub run_none : (sums : SumsShown) (names : Bool) → Leaves (leaf (codes "run")) (codes "4") (codes "64") (HasShownRows sums names) (shown_words sums names)
 unfolding clap_on_literals
 run_none shows.None false =
-    record { end = nothing_held; walked = refl; passes = refl; rest = refl; workers_text = refl; window_text = refl; others = (((refl, refl), refl), (refl, ((refl, refl, refl, refl), inr refl))) }
+    record { end = nothing_held; walked = refl; passes = refl; rest = refl; workers_text = refl; window_text = refl; others = (((refl, refl), refl), (refl, ((refl, refl, refl, refl), inr refl, inr refl))) }
 run_none shows.None true =
-    record { end = _; walked = refl; passes = refl; rest = refl; workers_text = refl; window_text = refl; others = (((refl, refl), refl), (refl, ((refl, refl, refl, refl), inr refl))) }
+    record { end = _; walked = refl; passes = refl; rest = refl; workers_text = refl; window_text = refl; others = (((refl, refl), refl), (refl, ((refl, refl, refl, refl), inr refl, inr refl))) }
 run_none shows.Small false =
-    record { end = _; walked = refl; passes = refl; rest = refl; workers_text = refl; window_text = refl; others = (((refl, refl), refl), (refl, ((refl, refl, refl, refl), inr refl))) }
+    record { end = _; walked = refl; passes = refl; rest = refl; workers_text = refl; window_text = refl; others = (((refl, refl), refl), (refl, ((refl, refl, refl, refl), inr refl, inr refl))) }
 run_none shows.Small true =
-    record { end = _; walked = refl; passes = refl; rest = refl; workers_text = refl; window_text = refl; others = (((refl, refl), refl), (refl, ((refl, refl, refl, refl), inr refl))) }
+    record { end = _; walked = refl; passes = refl; rest = refl; workers_text = refl; window_text = refl; others = (((refl, refl), refl), (refl, ((refl, refl, refl, refl), inr refl, inr refl))) }
 run_none shows.All false =
-    record { end = _; walked = refl; passes = refl; rest = refl; workers_text = refl; window_text = refl; others = ((refl, refl), (refl, ((refl, refl, refl, refl), inr refl))) }
+    record { end = _; walked = refl; passes = refl; rest = refl; workers_text = refl; window_text = refl; others = ((refl, refl), (refl, ((refl, refl, refl, refl), inr refl, inr refl))) }
 run_none shows.All true =
-    record { end = _; walked = refl; passes = refl; rest = refl; workers_text = refl; window_text = refl; others = ((refl, refl), (refl, ((refl, refl, refl, refl), inr refl))) }
+    record { end = _; walked = refl; passes = refl; rest = refl; workers_text = refl; window_text = refl; others = ((refl, refl), (refl, ((refl, refl, refl, refl), inr refl, inr refl))) }
 
 pub compare_both : (t : Text) (u : Text) → IsTaken 64 t → IsTaken 4096 u → Leaves (leaf (codes "compare")) t u IsPlain (codes "--workers" ∷ t ∷ codes "--window" ∷ u ∷ [])
 unfolding clap_on_literals
@@ -350,7 +350,7 @@ compare_both t u a b =
       rest = rw b.accepted refl;
       workers_text = rw a.value.plain refl;
       window_text = rw b.value.plain refl;
-      others = (refl, ((refl, refl, refl, refl), inl refl));
+      others = (refl, ((refl, refl, refl, refl), inl refl, inl refl));
     }
 
 pub compare_workers : (t : Text) → IsTaken 64 t → Leaves (leaf (codes "compare")) t (codes "64") IsPlain (codes "--workers" ∷ t ∷ [])
@@ -364,7 +364,7 @@ compare_workers t a =
       rest = rw a.accepted refl;
       workers_text = rw a.value.plain refl;
       window_text = refl;
-      others = (refl, ((refl, refl, refl, refl), inl refl));
+      others = (refl, ((refl, refl, refl, refl), inl refl, inl refl));
     }
 
 pub compare_window : (u : Text) → IsTaken 4096 u → Leaves (leaf (codes "compare")) (codes "4") u IsPlain (codes "--window" ∷ u ∷ [])
@@ -378,7 +378,7 @@ compare_window u b =
       rest = rw b.accepted refl;
       workers_text = refl;
       window_text = rw b.value.plain refl;
-      others = (refl, ((refl, refl, refl, refl), inl refl));
+      others = (refl, ((refl, refl, refl, refl), inl refl, inl refl));
     }
 
 pub compare_none : Leaves (leaf (codes "compare")) (codes "4") (codes "64") IsPlain ([])
@@ -391,7 +391,7 @@ compare_none =
       rest = refl;
       workers_text = refl;
       window_text = refl;
-      others = (refl, ((refl, refl, refl, refl), inl refl));
+      others = (refl, ((refl, refl, refl, refl), inl refl, inl refl));
     }
 
 pub rounds_window : (u : Text) (dot : Bool) → IsTaken 4096 u → LeavesWindow (leaf (codes "rounds")) u dot (codes "--window" ∷ u ∷ dot_words dot)
@@ -405,7 +405,7 @@ rounds_window u false b =
       rest = rw b.accepted refl;
       window_text = rw b.value.plain refl;
       dot_text = refl;
-      files = ((refl, refl, refl, refl), inr refl);
+      files = ((refl, refl, refl, refl), inr refl, inl refl);
     }
 rounds_window u true b =
     let s = leaf (codes "rounds") in
@@ -416,12 +416,12 @@ rounds_window u true b =
       rest = refl;
       window_text = rw b.value.plain refl;
       dot_text = refl;
-      files = ((refl, refl, refl, refl), inr refl);
+      files = ((refl, refl, refl, refl), inr refl, inl refl);
     }
 
 pub rounds_none : (dot : Bool) → LeavesWindow (leaf (codes "rounds")) (codes "64") dot (dot_words dot)
 unfolding clap_on_literals
 rounds_none false =
-    record { end = nothing_held; walked = refl; passes = refl; rest = refl; window_text = refl; dot_text = refl; files = ((refl, refl, refl, refl), inr refl) }
+    record { end = nothing_held; walked = refl; passes = refl; rest = refl; window_text = refl; dot_text = refl; files = ((refl, refl, refl, refl), inr refl, inl refl) }
 rounds_none true =
-    record { end = _; walked = refl; passes = refl; rest = refl; window_text = refl; dot_text = refl; files = ((refl, refl, refl, refl), inr refl) }
+    record { end = _; walked = refl; passes = refl; rest = refl; window_text = refl; dot_text = refl; files = ((refl, refl, refl, refl), inr refl, inl refl) }

@@ -31,7 +31,7 @@ use Rattle.program_words.specs.declared.words.UsageKind.TheVariants.{Memory}
 use Rattle.replay_report.specs.declared.showing.Shown.{Shown}
 use Rattle.replay_report.specs.declared.showing.SumsShown.{SumsShown}
 use Rattle.replay_report.specs.declared.showing.SumsShown.TheVariants as shows
-use Rattle.program_words.specs.Words.{AreFound, AreRoundOptions, AskFor, AskForHelp, AskForMode, AskForText, AskForVersion, HasForm, HasLook, HasNumbers, HasShown, HasSums, IsForm, IsFound, IsNamed, IsTaskFound, IsNumberOption, dot_words, places_words, flag_text, form_of_flag, kind_meant, name_in, plain, replayer, shown_words, text_in}
+use Rattle.program_words.specs.Words.{AreFound, AreRoundOptions, AskFor, AskForCut, AskForHelp, AskForMode, AskForText, AskForVersion, HasForm, HasLook, HasNumbers, HasShown, HasSums, IsCut, IsForm, IsFound, IsNamed, IsTaskFound, IsNumberOption, dot_words, places_words, flag_text, form_of_flag, kind_meant, name_in, plain, replayer, shown_words, text_in}
 use Rattle.program_words.specs.Limits.{IsWindow}
 use Rattle.program_words.specs.declared.words.Form.{Form}
 use Rattle.program_words.specs.declared.words.Form.TheVariants as forms
@@ -169,21 +169,21 @@ options_found (Depends dot) shown words e = rw (e.1, e.0) (depends_found dot)
 options_found Check shown words e = rw e.1 (refl, e.0)
 
 -- and by them no file is named, and the output is text
-serial_files : (sums : SumsShown) (names : Bool) → HasForm forms.Text (subcommand_of replayer (codes "serial" ∷ shown_words sums names))
+serial_files : (sums : SumsShown) (names : Bool) → HasForm forms.Text false (subcommand_of replayer (codes "serial" ∷ shown_words sums names))
 unfolding clap_on_literals
-serial_files shows.None false = ((refl, refl, refl, refl), inr refl)
-serial_files shows.None true = ((refl, refl, refl, refl), inr refl)
-serial_files shows.Small false = ((refl, refl, refl, refl), inr refl)
-serial_files shows.Small true = ((refl, refl, refl, refl), inr refl)
-serial_files shows.All false = ((refl, refl, refl, refl), inr refl)
-serial_files shows.All true = ((refl, refl, refl, refl), inr refl)
+serial_files shows.None false = ((refl, refl, refl, refl), inr refl, inr refl)
+serial_files shows.None true = ((refl, refl, refl, refl), inr refl, inr refl)
+serial_files shows.Small false = ((refl, refl, refl, refl), inr refl, inr refl)
+serial_files shows.Small true = ((refl, refl, refl, refl), inr refl, inr refl)
+serial_files shows.All false = ((refl, refl, refl, refl), inr refl, inr refl)
+serial_files shows.All true = ((refl, refl, refl, refl), inr refl, inr refl)
 
-depends_files : (dot : Bool) → HasForm forms.Text (subcommand_of replayer (codes "depends" ∷ dot_words dot))
+depends_files : (dot : Bool) → HasForm forms.Text false (subcommand_of replayer (codes "depends" ∷ dot_words dot))
 unfolding clap_on_literals
-depends_files false = ((refl, refl, refl, refl), inr refl)
-depends_files true = ((refl, refl, refl, refl), inr refl)
+depends_files false = ((refl, refl, refl, refl), inr refl, inl refl)
+depends_files true = ((refl, refl, refl, refl), inr refl, inl refl)
 
-files_found : (m : Mode) (shown : Shown) (words : List (List ℕ)) → AskForMode m shown words → HasForm forms.Text (subcommand_of replayer words)
+files_found : (m : Mode) (shown : Shown) (words : List (List ℕ)) → AskForMode m shown words → HasForm forms.Text false (subcommand_of replayer words)
 unfolding clap_on_literals
 files_found Serial shown words e = rw e (serial_files shown.sums shown.names)
 files_found (Run workers window eager) shown words e =
@@ -196,7 +196,7 @@ files_found (Rounds window dot) shown words e =
     let l = rounds_leaves window dot e.0 e.1 e.2 in
     rw (e.4, rounds_found (decimal window) dot (e.0 ++ dot_words dot) l) l.files
 files_found (Depends dot) shown words e = rw e.1 (depends_files dot)
-files_found Check shown words e = rw e.1 ((refl, refl, refl, refl), inr refl)
+files_found Check shown words e = rw e.1 ((refl, refl, refl, refl), inr refl, inl refl)
 
 serial_taken : (sums : SumsShown) (names : Bool) → takes replayer (codes "serial" ∷ shown_words sums names) ≡ true
 unfolding clap_on_literals
@@ -241,10 +241,10 @@ unfolding clap_on_literals
 show_found false = (refl, refl, refl)
 show_found true = (refl, refl, refl)
 
-show_files : (places : Bool) → HasForm forms.Text (subcommand_of replayer (codes "show" ∷ places_words places))
+show_files : (places : Bool) → HasForm forms.Text false (subcommand_of replayer (codes "show" ∷ places_words places))
 unfolding clap_on_literals
-show_files false = ((refl, refl, refl, refl), inl refl)
-show_files true = ((refl, refl, refl, refl), inl refl)
+show_files false = ((refl, refl, refl, refl), inl refl, inl refl)
+show_files true = ((refl, refl, refl, refl), inl refl, inl refl)
 
 show_taken : (places : Bool) → takes replayer (codes "show" ∷ places_words places) ≡ true
 unfolding clap_on_literals
@@ -252,12 +252,12 @@ show_taken false = refl
 show_taken true = refl
 
 -- the same for each task
-text_found : (t : Task) (words : List (List ℕ)) → AskForText t words → IsFound forms.Text t (subcommand_of replayer words)
+text_found : (t : Task) (words : List (List ℕ)) → AskForText t words → IsFound forms.Text false t (subcommand_of replayer words)
 unfolding clap_on_literals
 text_found (Replay o) words e = (options_found o.mode o.shown words e, files_found o.mode o.shown words e)
-text_found Diff words e = rw e (refl, ((refl, refl, refl, refl), inr refl))
+text_found Diff words e = rw e (refl, ((refl, refl, refl, refl), inr refl, inl refl))
 text_found (Show look) words e = rw e.1 (((show_found look.places).0, ((show_found look.places).1, e.0, (show_found look.places).2)), show_files look.places)
-text_found Make words e = rw e (refl, ((refl, refl, refl, refl), inl refl))
+text_found Make words e = rw e (refl, ((refl, refl, refl, refl), inl refl, inl refl))
 
 text_taken : (t : Task) (words : List (List ℕ)) → AskForText t words → takes replayer words ≡ true
 unfolding clap_on_literals
@@ -266,24 +266,59 @@ text_taken Diff words e = rw e refl
 text_taken (Show look) words e = rw e.1 (show_taken look.places)
 text_taken Make words e = rw e refl
 
--- and in each form
-task_found : (form : Form) (t : Task) (words : List (List ℕ)) → AskFor form t words → IsFound form t (subcommand_of replayer words)
-task_found forms.Text t words e = text_found t words e
-task_found forms.Json t words e = json_found t words e
+-- the same of a trace that may be cut off
+cut_found : (sums : SumsShown) (names : Bool) → let found = subcommand_of replayer (codes "serial" ∷ codes "--cut" ∷ shown_words sums names) in AreFound Serial (record { sums = sums; names = names }) found × HasForm forms.Text true found
+unfolding clap_on_literals
+cut_found shows.None false = ((refl, ((refl, refl), refl)), ((refl, refl, refl, refl), inr refl, refl))
+cut_found shows.None true = ((refl, ((refl, refl), refl)), ((refl, refl, refl, refl), inr refl, refl))
+cut_found shows.Small false = ((refl, ((refl, refl), refl)), ((refl, refl, refl, refl), inr refl, refl))
+cut_found shows.Small true = ((refl, ((refl, refl), refl)), ((refl, refl, refl, refl), inr refl, refl))
+cut_found shows.All false = ((refl, (refl, refl)), ((refl, refl, refl, refl), inr refl, refl))
+cut_found shows.All true = ((refl, (refl, refl)), ((refl, refl, refl, refl), inr refl, refl))
 
-task_taken : (form : Form) (t : Task) (words : List (List ℕ)) → AskFor form t words → takes replayer words ≡ true
-task_taken forms.Text t words e = text_taken t words e
-task_taken forms.Json t words e = json_taken t words e
+cut_taken : (sums : SumsShown) (names : Bool) → takes replayer (codes "serial" ∷ codes "--cut" ∷ shown_words sums names) ≡ true
+unfolding clap_on_literals
+cut_taken shows.None false = refl
+cut_taken shows.None true = refl
+cut_taken shows.Small false = refl
+cut_taken shows.Small true = refl
+cut_taken shows.All false = refl
+cut_taken shows.All true = refl
+
+cut_task_found : (t : Task) (words : List (List ℕ)) → AskForCut t words → IsFound forms.Text true t (subcommand_of replayer words)
+cut_task_found (Replay o) words e = rw (e.0, e.1) (cut_found o.shown.sums o.shown.names)
+cut_task_found Diff words e = absurd e
+cut_task_found (Show look) words e = absurd e
+cut_task_found Make words e = absurd e
+
+cut_task_taken : (t : Task) (words : List (List ℕ)) → AskForCut t words → takes replayer words ≡ true
+cut_task_taken (Replay o) words e = rw e.1 (cut_taken o.shown.sums o.shown.names)
+cut_task_taken Diff words e = absurd e
+cut_task_taken (Show look) words e = absurd e
+cut_task_taken Make words e = absurd e
+
+-- and in each form
+task_found : (form : Form) (cut : Bool) (t : Task) (words : List (List ℕ)) → AskFor form cut t words → IsFound form cut t (subcommand_of replayer words)
+task_found forms.Text false t words e = text_found t words e
+task_found forms.Json false t words e = json_found t words e
+task_found forms.Text true t words e = cut_task_found t words e
+task_found forms.Json true t words e = absurd e
+
+task_taken : (form : Form) (cut : Bool) (t : Task) (words : List (List ℕ)) → AskFor form cut t words → takes replayer words ≡ true
+task_taken forms.Text false t words e = text_taken t words e
+task_taken forms.Json false t words e = json_taken t words e
+task_taken forms.Text true t words e = cut_task_taken t words e
+task_taken forms.Json true t words e = absurd e
 
 -- the task in the matches of the words that ask for it
-pub task_met : (a : App) (words : List (List ℕ)) (m : ArgMatches) (form : Form) (t : Task) → a ≡ replayer → AskFor form t words → HasMatchesOf a words m
-    → IsFound form t (subcommand_rows_of m)
-task_met a words m form t command asked h =
+pub task_met : (a : App) (words : List (List ℕ)) (m : ArgMatches) (form : Form) (cut : Bool) (t : Task) → a ≡ replayer → AskFor form cut t words → HasMatchesOf a words m
+    → IsFound form cut t (subcommand_rows_of m)
+task_met a words m form cut t command asked h =
     let same : subcommand_rows_of m ≡ subcommand_of replayer words = (h (ap is_simple command)).1 ∙ ap (λ x. subcommand_of x words) command in
-    subst (IsFound form t) (sym same) (task_found form t words asked)
+    subst (IsFound form cut t) (sym same) (task_found form cut t words asked)
 
-pub words_pass : (a : App) (words : List (List ℕ)) (form : Form) (t : Task) → a ≡ replayer → AskFor form t words → takes a words ≡ true
-words_pass a words form t command asked = ap (λ x. takes x words) command ∙ task_taken form t words asked
+pub words_pass : (a : App) (words : List (List ℕ)) (form : Form) (cut : Bool) (t : Task) → a ≡ replayer → AskFor form cut t words → takes a words ≡ true
+words_pass a words form cut t command asked = ap (λ x. takes x words) command ∙ task_taken form cut t words asked
 
 -- words that have one fault end the parse by it
 pub request_ends : {T : Type 0} (a : App) (words : List (List ℕ)) (r : Result T Error) (kind : ErrorKind) → a ≡ replayer → fault_of replayer words ≡ kind ∷ [] → (is_simple_and_free a ≡ true → FailsBy (fault_of a words) r)
@@ -444,6 +479,12 @@ module _ (m chosen : ArgMatches) (rows : IsChosen m chosen) where
       is ∙ ap form_of_flag (none (one_text-rows (found_of chosen) (codes "json") ∙ no_text_at (codes "json") (subcommand_rows_of m) (rows_of (found_of chosen)) (sym rows) lacks))
   form_chosen flag given forms.Text is none read (inr found) = is ∙ ap form_of_flag (flag_is (codes "json") flag false read found)
   form_chosen flag given forms.Json is none read found = is ∙ ap form_of_flag (flag_is (codes "json") flag true read found)
+
+  -- whether the trace may be cut off
+  pub cut_chosen : (flag cut : Bool) → (one_text (found_of chosen) (codes "cut") ≡ None → flag ≡ false) → ReadsFlag chosen (codes "cut") flag → IsCut cut (text_in (codes "cut") (subcommand_rows_of m)) → flag ≡ cut
+  cut_chosen flag false none read (inl lacks) = none (one_text-rows (found_of chosen) (codes "cut") ∙ no_text_at (codes "cut") (subcommand_rows_of m) (rows_of (found_of chosen)) (sym rows) lacks)
+  cut_chosen flag false none read (inr found) = flag_is (codes "cut") flag false read found
+  cut_chosen flag true none read found = flag_is (codes "cut") flag true read found
 
   -- the options where the subcommand is `serial`
   pub serial_chosen : (given : Shown) (mode : Mode) (shown : Shown) → subcommand_name_of m ≡ Some (codes "serial") → ReadsShown chosen given

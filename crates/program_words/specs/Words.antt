@@ -103,10 +103,19 @@ AskForJson Diff words = words ≡ json_words (codes "diff")
 AskForJson (Show look) words = ⊥
 AskForJson Make words = ⊥
 
--- The words that ask for a task, and for a form of its output.
-abbrev pub AskFor : Form → Task → List (List ℕ) → Type 0
-AskFor forms.Text task words = AskForText task words
-AskFor forms.Json task words = AskForJson task words
+-- The words that ask for the report of a trace that may be cut off: `--cut` behind the name of the command. Which words ask for it beside other options is not said here.
+abbrev pub AskForCut : Task → List (List ℕ) → Type 0
+AskForCut (Replay options) words = (options.mode ≡ Serial) × (words ≡ codes "serial" ∷ codes "--cut" ∷ shown_words options.shown.sums options.shown.names)
+AskForCut Diff words = ⊥
+AskForCut (Show look) words = ⊥
+AskForCut Make words = ⊥
+
+-- The words that ask for a task, for a form of its output, and whether its trace may be cut off.
+abbrev pub AskFor : Form → (may_be_cut : Bool) → Task → List (List ℕ) → Type 0
+AskFor forms.Text false task words = AskForText task words
+AskFor forms.Json false task words = AskForJson task words
+AskFor forms.Text true task words = AskForCut task words
+AskFor forms.Json true task words = ⊥
 
 -- The words that ask for help, and for the version.
 abbrev pub AskForHelp : List (List ℕ) → Type 0
@@ -119,13 +128,13 @@ AskForVersion words = (words ≡ codes "-V" ∷ []) ⊎ (words ≡ codes "--vers
 abbrev pub HasNoNames : Files → Type 0
 HasNoNames files = (files.input ≡ None) × (files.second ≡ None) × (files.output ≡ None) × (files.trace ≡ None)
 
--- The task from standard input to standard output, in this form.
-abbrev pub IsRequestFor : Form → Task → Request → Type 0
-IsRequestFor form task request = (request.task ≡ task) × HasNoNames request.files × (request.form ≡ form)
+-- The task from standard input to standard output, in this form, of a trace that may be cut off or not.
+abbrev pub IsRequestFor : Form → (may_be_cut : Bool) → Task → Request → Type 0
+IsRequestFor form cut task request = (request.task ≡ task) × HasNoNames request.files × (request.form ≡ form) × (request.may_be_cut ≡ cut)
 
 -- The same, or out of memory.
-abbrev pub GivesTask : Result Request Usage → Form → Task → Type 0
-GivesTask result form task = MatchResult result (IsRequestFor form task) (λ usage. usage.kind ≡ Memory)
+abbrev pub GivesTask : Result Request Usage → Form → (may_be_cut : Bool) → Task → Type 0
+GivesTask result form cut task = MatchResult result (IsRequestFor form cut task) (λ usage. usage.kind ≡ Memory)
 
 -- What is said of an argument that is not text: its bytes as those of a path in a report.
 abbrev pub not_text : List ℕ → List ℕ
@@ -217,12 +226,17 @@ abbrev pub form_of_flag : Bool → Form
 form_of_flag false = forms.Text
 form_of_flag true = forms.Json
 
--- No name of a file was found, and this form is asked for.
-abbrev pub HasForm : Form → Option (List ℕ × List Row) → Type 0
-HasForm form found = HasNoFiles found × IsForm form (text_in (codes "json") found)
+-- The text of the flag for a trace that may be cut off, which most subcommands lack.
+abbrev pub IsCut : Bool → Option (List ℕ) → Type 0
+IsCut false text = (text ≡ None) ⊎ (text ≡ Some (flag_text false))
+IsCut true text = text ≡ Some (flag_text true)
 
-abbrev pub IsFound : Form → Task → Option (List ℕ × List Row) → Type 0
-IsFound form task found = IsTaskFound task found × HasForm form found
+-- No name of a file was found, and this form is asked for, of a trace that may be cut off or not.
+abbrev pub HasForm : Form → Bool → Option (List ℕ × List Row) → Type 0
+HasForm form cut found = HasNoFiles found × IsForm form (text_in (codes "json") found) × IsCut cut (text_in (codes "cut") found)
+
+abbrev pub IsFound : Form → Bool → Task → Option (List ℕ × List Row) → Type 0
+IsFound form cut task found = IsTaskFound task found × HasForm form cut found
 
 -- The command line, as its parser sees it: a subcommand has to be named. The number of an option lies within its limits.
 abbrev pub sums_flag : Rule
@@ -242,6 +256,9 @@ eager_flag = record (new_rule (codes "eager")) { long = Some (codes "eager"); ac
 
 abbrev pub json_flag : Rule
 json_flag = record (new_rule (codes "json")) { long = Some (codes "json"); action = Some SetTrue }
+
+abbrev pub cut_flag : Rule
+cut_flag = record (new_rule (codes "cut")) { long = Some (codes "cut"); action = Some SetTrue }
 
 abbrev pub file_argument : Rule
 file_argument = record (new_rule (codes "file")) { value_names = 1 }
@@ -308,12 +325,16 @@ with_files app = with_rule (with_rule app file_argument) output_option
 abbrev pub with_form : App → App
 with_form app = with_rule app json_flag
 
+-- A command whose trace may be cut off.
+abbrev pub with_cut : App → App
+with_cut app = with_rule app cut_flag
+
 -- The command line with no subcommand, and with those that replay a trace.
 abbrev pub replayer_alone : App
 replayer_alone = on_top (λ s. record s { has_version = true; no_binary_name = true; subcommand_required = true }) (new_app (codes "uring_replay"))
 
 abbrev pub with_replays : App → App
-with_replays app = with_subcommand (with_subcommand (with_subcommand app (with_form (with_files serial_command)).top) (with_form (with_files run_command)).top) (with_files compare_command).top
+with_replays app = with_subcommand (with_subcommand (with_subcommand app (with_cut (with_form (with_files serial_command))).top) (with_cut (with_form (with_files run_command))).top) (with_files compare_command).top
 
 -- The whole command line.
 abbrev pub replayer : App

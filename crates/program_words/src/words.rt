@@ -1,5 +1,5 @@
 //! The words of the command line.
-ghost use Rattle.std.specs.Prelude.{◌≡◌, ◌≤◌, ◌⊎◌, ℕ, string_bytes, IfOk, IsErrAnd, MatchResult};
+ghost use Rattle.std.specs.Prelude.{◌≡◌, ◌≤◌, ◌⊎◌, ℕ, Bool, string_bytes, IfOk, IsErrAnd, MatchResult};
 ghost use Rattle.std.specs.Prelude.{Some, codes, map};
 ghost use Rattle.std.specs.Fmt.{decimal};
 ghost use Rattle.clap.specs.Words.{App, FailsBy, app_of, fault_of, found_of, kind_of, one_text};
@@ -12,6 +12,7 @@ ghost use Rattle.program_words.specs.Words.{names_flag};
 ghost use Rattle.program_words.specs.Words.{HasLook, first_option, make_command, places_flag};
 ghost use Rattle.program_words.specs.Words.{show_command, show_option};
 ghost use Rattle.program_words.specs.Words.{IsForm, form_of_flag, json_flag, text_in, with_form};
+ghost use Rattle.program_words.specs.Words.{IsCut, cut_flag, with_cut};
 ghost use Rattle.program_words.specs.Words.{IsRule, IsServedTask, check_command, compare_command};
 ghost use Rattle.program_words.specs.Words.{depends_command, diff_command, dot_flag, eager_flag};
 ghost use Rattle.program_words.specs.Words.{file_argument};
@@ -104,12 +105,15 @@ pub enum Form {
     Json,
 }
 
-/// A task, the files that it reads and writes, and the form of what it writes.
+/// A task, the files that it reads and writes, the form of what it writes, and what it takes for a
+/// trace.
 #[derive(Clone, Copy, Debug, PartialEq, Eq)]
 pub struct Request<'a> {
     pub task: Task,
     pub files: Files<'a>,
     pub form: Form,
+    /// A trace of version 3 that is cut off is taken as one that ends behind its last whole record.
+    pub may_be_cut: bool,
 }
 
 /// The version of the program, and of the formats that it reads and writes. It stands here alone.
@@ -176,10 +180,11 @@ const MOST_PLACES: u32 = 4096;
 /// or without, `check`, `make` or `diff`. `run` and
 /// `compare` come with the numbers of workers and of places or without, `rounds` with that of places.
 /// Each has the names of its input and output or not. Each but `compare`, `show` and `make` comes with
-/// `--json` or without. Any other words are wrong, unless they ask for help or for the version.
+/// `--json` or without, `serial` and `run` also with `--cut`. Any other words are wrong, unless they ask for help or for the version.
 pub fn read_words<'a>(alloc: Global, words: &'a [&'a str]) -> Result<Request<'a>, Usage>
-    ensures task { (form : Form) (task : Task) → AskFor form task (map (λ word. word.now) words.now)
-        → GivesTask result form task }
+    ensures task { (form : Form) (cut : Bool) (task : Task)
+        → AskFor form cut task (map (λ word. word.now) words.now)
+        → GivesTask result form cut task }
     ensures help { AskForHelp (map (λ word. word.now) words.now) → GivesHelp result }
     ensures version { AskForVersion (map (λ word. word.now) words.now) → GivesVersion result }
     ensures served { IfOk result (λ request. IsServedTask request.task) }
@@ -194,8 +199,9 @@ pub fn read_words<'a>(alloc: Global, words: &'a [&'a str]) -> Result<Request<'a>
 }
 
 fn parsed<'a>(alloc: Global, words: &'a [&'a str]) -> Result<Request<'a>, Error>
-    ensures task { (form : Form) (task : Task) → AskFor form task (map (λ word. word.now) words.now)
-        → MatchResult result (IsRequestFor form task)
+    ensures task { (form : Form) (cut : Bool) (task : Task)
+        → AskFor form cut task (map (λ word. word.now) words.now)
+        → MatchResult result (IsRequestFor form cut task)
         (λ error. kind_of error ≡ ErrorKind.OutOfMemory) }
     ensures help { AskForHelp (map (λ word. word.now) words.now) → IsErrAnd result (λ error.
         (kind_of error ≡ ErrorKind.DisplayHelp) ⊎ (kind_of error ≡ ErrorKind.OutOfMemory)) }
@@ -213,14 +219,16 @@ fn parsed<'a>(alloc: Global, words: &'a [&'a str]) -> Result<Request<'a>, Error>
 
 /// What the subcommand that was named asks for.
 fn request_in<'a>(matches: &ArgMatches<'a>) -> Request<'a>
-    ensures task { (form : Form) (task : Task) → IsFound form task (subcommand_rows_of matches.now)
-        → IsRequestFor form task result }
+    ensures task { (form : Form) (cut : Bool) (task : Task)
+        → IsFound form cut task (subcommand_rows_of matches.now)
+        → IsRequestFor form cut task result }
     ensures served { IsServedTask result.task }
 {
     Request {
         task: task_in(matches),
         files: files_in(matches),
         form: form_in(matches),
+        may_be_cut: cut_in(matches),
     }
 }
 
@@ -232,6 +240,17 @@ fn form_in(matches: &ArgMatches<'_>) -> Form
     match matches.subcommand() {
         Some((_, chosen)) => form_of_flag(chosen.get_flag("json")),
         None => Form::Text,
+    }
+}
+
+/// Whether the trace may be cut off.
+fn cut_in(matches: &ArgMatches<'_>) -> bool
+    ensures { (cut : Bool) → IsCut cut (text_in (codes "cut") (subcommand_rows_of matches.now))
+        → result ≡ cut }
+{
+    match matches.subcommand() {
+        Some((_, chosen)) => chosen.get_flag("cut"),
+        None => false,
     }
 }
 
@@ -433,6 +452,17 @@ fn with_form<'a>(
     command?.arg(json_flag(alloc))
 }
 
+/// A command whose trace may be cut off.
+fn with_cut<'a>(
+    alloc: Global,
+    command: Result<Command<'a>, AllocError>,
+) -> Result<Command<'a>, AllocError>
+    ensures { (app : App) → IfOk command.entry (HasApp app)
+        → IfOk result (λ more. HasApp (with_cut app) more) }
+{
+    command?.arg(cut_flag(alloc))
+}
+
 /// The command line with no subcommand.
 fn program_alone<'a>(alloc: Global) -> Result<Command<'a>, AllocError>
     ensures { IfOk result (λ command. app_of command ≡ replayer_alone) }
@@ -452,9 +482,11 @@ fn with_replays<'a>(alloc: Global, command: Command<'a>) -> Result<Command<'a>, 
     ensures { IfOk result (λ more. app_of more ≡ with_replays (app_of command.entry)) }
 {
     let serial = with_files(alloc, TRACE, serial_command(alloc));
-    let command = with_subcommand(command, with_form(alloc, serial))?;
+    let serial = with_cut(alloc, with_form(alloc, serial));
+    let command = with_subcommand(command, serial)?;
     let run = with_files(alloc, TRACE, run_command(alloc));
-    let command = with_subcommand(command, with_form(alloc, run))?;
+    let run = with_cut(alloc, with_form(alloc, run));
+    let command = with_subcommand(command, run)?;
     with_subcommand(command, with_files(alloc, TRACE, compare_command(alloc)))
 }
 
@@ -595,6 +627,17 @@ fn json_flag<'a>(alloc: Global) -> Arg<'a>
         .long("json")
         .action(ArgAction::SetTrue)
         .help("Print each line as an object of JSON")
+}
+
+fn cut_flag<'a>(alloc: Global) -> Arg<'a>
+    ensures { IsRule cut_flag result }
+{
+    Arg::new(alloc, "cut")
+        .long("cut")
+        .action(ArgAction::SetTrue)
+        .help(
+            "Take a trace of version 3 that is cut off as one that ends behind its last whole record",
+        )
 }
 
 fn places_flag<'a>(alloc: Global) -> Arg<'a>

@@ -1,12 +1,12 @@
 -- The model: what a run that writes a report as text does to its reader and its writer: of a trace of version 3 the report is written while the trace is read.
-use Rattle.std.specs.Prelude.{◌≡◌, ◌≢◌, ⊤, Bool, true, false, List, [], Option, ℕ}
+use Rattle.std.specs.Prelude.{◌≡◌, ◌≢◌, ⊤, Bool, true, false, List, [], Option, None, Some, ℕ}
 use Rattle.std.specs.Io.KnownBytes.{Appends, Consumes, Keeps}
 use Rattle.byte_transfer.specs.Transfer.{AppendsPart}
 use Rattle.trace_format.specs.Grammar.{fault}
 use Rattle.trace_format.specs.declared.fault.Kind.TheVariants as kind
 use Rattle.recording.specs.declared.recording.Recording.{Recording}
 use Rattle.replay_report.specs.declared.showing.Shown.{Shown}
-use Rattle.report_stream.specs.Written.{WritesUpTo}
+use Rattle.report_stream.specs.Written.{WritesCut, WritesUpTo}
 use Rattle.report_stream.specs.declared.fault.ReportFault.{ReportFault}
 use Rattle.report_stream.specs.declared.fault.ReportFault.TheVariants as streamed
 use Rattle.replay_program.specs.declared.fault.RunFault.{RunFault}
@@ -28,6 +28,11 @@ pub record WritesReportOf (shown : Shown) (left left' written written' : Option 
   pub read : ReadsTrace left left' t
   pub wrote : Appends written written' (sequential_report t shown)
 
+-- The same of a trace that is cut off at a byte, if it is: the report is the one of the trace that ends behind the last whole record.
+abbrev pub WritesReportUpTo : (cut : Option ℕ) → Shown → (left left' written written' : Option (List ℕ)) → Type 0
+WritesReportUpTo None = WritesReportOf
+WritesReportUpTo (Some at) = WritesCut at []
+
 -- The reader was read to its end, and the writer took the first bytes of the report, but not all.
 pub record WritesPartOf (shown : Shown) (left left' written written' : Option (List ℕ)) : Type 0 where
   pub t : Recording
@@ -48,18 +53,18 @@ report_told streamed.Read = Read
 report_told streamed.Write = Write
 
 -- What was written of one of version 3: the lines of the records before the fault, or a beginning of what the bytes so far give.
-pub record StreamUpTo (shown : Shown) (left left' written written' : Option (List ℕ)) (f : RunFault) : Type 0 where
+pub record StreamUpTo (may_be_cut : Bool) (shown : Shown) (left left' written written' : Option (List ℕ)) (f : RunFault) : Type 0 where
   pub e : ReportFault
   pub told : f ≡ report_told e
-  pub wrote : WritesUpTo [] shown left left' written written' e
+  pub wrote : WritesUpTo may_be_cut [] shown left left' written written' e
 
 -- The same, by the version: true of version 3.
-abbrev pub UpTo : Bool → Shown → (left left' written written' : Option (List ℕ)) → RunFault → Type 0
-UpTo false = WholeUpTo
-UpTo true = StreamUpTo
+abbrev pub UpTo : (three may_be_cut : Bool) → Shown → (left left' written written' : Option (List ℕ)) → RunFault → Type 0
+UpTo false may_be_cut = WholeUpTo
+UpTo true may_be_cut = StreamUpTo may_be_cut
 
 -- What was taken of the reader, and what was written of that before a fault.
-pub record ReportUpTo (shown : Shown) (left left' written written' : Option (List ℕ)) (f : RunFault) : Type 0 where
+pub record ReportUpTo (may_be_cut : Bool) (shown : Shown) (left left' written written' : Option (List ℕ)) (f : RunFault) : Type 0 where
   pub text : List ℕ
   pub taken : Consumes left left' text
-  pub is : UpTo (has_version_3 text) shown left left' written written' f
+  pub is : UpTo (has_version_3 text) may_be_cut shown left left' written written' f

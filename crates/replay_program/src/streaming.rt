@@ -1,11 +1,11 @@
 //! A report that is written while its trace is read, where that is of version 3.
-ghost use Rattle.std.specs.Prelude.{◌≡◌, ◌+◌, ◌-◌, ◌^◌, ◌<◌, IfErr, IfOk, OnOk};
+ghost use Rattle.std.specs.Prelude.{◌≡◌, ◌+◌, ◌-◌, ◌^◌, ◌<◌, false, None, IfErr, IfOk};
 ghost use Rattle.report_stream.specs.Steps.{reads_of, writes_of};
 ghost use Rattle.program_words.specs.Limits.{IsServed};
 ghost use Rattle.replay_program.specs.Runs.{TakesTrace, read_failures, reads_failed};
 ghost use Rattle.replay_program.specs.Runs.{write_failures, writes_failed};
 ghost use Rattle.replay_program.specs.Taking.{IsReportOf, TellsOfReport};
-ghost use Rattle.replay_program.specs.Streaming.{IsStreamed, ReportUpTo, WritesReportOf, report_told};
+ghost use Rattle.replay_program.specs.Streaming.{IsStreamed, ReportUpTo, WritesReportUpTo, report_told};
 
 use crate::fault::RunFault;
 use crate::recordings::{Taken, recording_of_whole, taken_text};
@@ -22,6 +22,9 @@ use std::thread::Threads;
 /// are written before more is read, in the memory of the world and one record. One of version 1 or 2
 /// is run as the options say, and nothing is written before the whole report is there.
 ///
+/// One of version 3 that is cut off is taken as one that ends behind its last whole record, where it
+/// may be cut off. The answer is at which byte that ends, and none where the trace is whole.
+///
 /// # Errors
 ///
 /// Trace where the input is none: of version 3 behind the lines of the records before the fault.
@@ -32,16 +35,18 @@ pub fn run_report<T: Threads + Wait + Sync, R: Source, W: Sink>(
     reader: &mut R,
     writer: &mut W,
     options: &Options,
-) -> Result<(), RunFault>
+    may_be_cut: bool,
+) -> Result<Option<u64>, RunFault>
     requires mode { IsServed options.now.mode }
     requires streamed { IsStreamed options.now.mode }
     requires reader { R.failures reader.old < 2 ^ 64 - 1 }
     requires writer { W.failures writer.old < 2 ^ 64 - 1 }
 
     // The report is the one of the trace that the reader's bytes spell.
-    ensures done { OnOk result (WritesReportOf options.now.shown (R.left reader.old)
+    ensures done { IfOk result (λ cut. WritesReportUpTo cut options.now.shown (R.left reader.old)
         (R.left reader.new) (W.written writer.old) (W.written writer.new)) }
-    ensures fault { IfErr result (ReportUpTo options.now.shown (R.left reader.old)
+    ensures whole { may_be_cut ≡ false → IfOk result (λ cut. cut ≡ None) }
+    ensures fault { IfErr result (ReportUpTo may_be_cut options.now.shown (R.left reader.old)
         (R.left reader.new) (W.written writer.old) (W.written writer.new)) }
 
     ensures taken { TakesTrace (R.left reader.old) (R.left reader.new) }
@@ -55,21 +60,23 @@ pub fn run_report<T: Threads + Wait + Sync, R: Source, W: Sink>(
             head,
             reader,
             writer,
-            asked_of(options),
+            asked_of(options, may_be_cut),
         ) {
-            Ok(()) => Ok(()),
+            Ok(cut) => Ok(cut),
             Err(fault) => Err(report_told(fault)),
         },
         Taken::Whole(text) => {
             let report = report_of_whole(rt, alloc, text, options)?;
-            written_pieces(writer, &report)
+            written_pieces(writer, &report)?;
+            Ok(None)
         }
     }
 }
 
 /// What the options ask of a report. One that is made in recorded order has one thread.
-fn asked_of(options: &Options) -> Asked
-    ensures { result.shown ≡ options.now.shown }
+fn asked_of(options: &Options, may_be_cut: bool) -> Asked
+    ensures shown { result.shown ≡ options.now.shown }
+    ensures cut { result.may_be_cut ≡ may_be_cut }
 {
     let workers = match options.mode {
         Mode::Run { workers, .. } => workers,
@@ -78,6 +85,7 @@ fn asked_of(options: &Options) -> Asked
     Asked {
         shown: options.shown,
         workers,
+        may_be_cut,
     }
 }
 

@@ -14,11 +14,11 @@ use Rattle.trace_stream.specs.declared.stream.Stream.{Stream}
 use Rattle.replay_report.specs.declared.showing.Shown.{Shown}
 use Rattle.replay_stream.specs.Replayed.{HasRun, HasRunNext}
 use Rattle.replay_stream.specs.declared.replaying.Replaying.{Replaying}
-use Rattle.report_stream.specs.Written.{AppendsFirst, IsFrontText, IsTextTo}
+use Rattle.report_stream.specs.Written.{AppendsFirst, IsCutOff, IsFrontText, IsTextTo}
 use Rattle.report_stream.specs.declared.fault.ReportFault.{ReportFault}
 use Rattle.report_stream.specs.declared.fault.ReportFault.TheVariants.{Trace, Memory, Read, Write}
 use Rattle.report_stream.specs.declared.turn.Turn.{Turn}
-use Rattle.report_stream.specs.declared.turn.Turn.TheVariants.{Next, Last}
+use Rattle.report_stream.specs.declared.turn.Turn.TheVariants.{Next, Last, Cut}
 
 -- The fault of a stream, as it is told.
 abbrev pub IsToldAs : StreamFault → ReportFault → Type 0
@@ -26,6 +26,11 @@ IsToldAs e (Trace f) = (e ≡ stream.Trace f) × (f.kind ≢ kind.Memory)
 IsToldAs e Memory = (f : TraceFault) × (e ≡ stream.Trace f)
 IsToldAs e Read = e ≡ stream.Read
 IsToldAs e Write = ⊥
+
+-- It is no end of bytes before the trace ends.
+abbrev pub IsNotShort : ReportFault → Type 0
+IsNotShort (Trace f) = f.kind ≢ kind.Short
+IsNotShort other = ⊤
 
 -- The writer took the first bytes of the text, and the others are left.
 abbrev pub Moves : Option (List ℕ) → Option (List ℕ) → List ℕ → List ℕ → Type 0
@@ -90,15 +95,33 @@ pub record AtEnd (ahead : List ℕ) (left left' written written' : Option (List 
   pub wrote : Appends written written' out
   pub so_far : IsFrontText start rs shown (out ++ text)
 
--- A turn goes on by a record, or finds the end.
+-- All bytes were taken, and are cut off at a byte behind some records, with this fault; the records were run, and their lines are what was written.
+pub record AtCut (ahead : List ℕ) (left left' written written' : Option (List ℕ)) (p : Replaying) (shown : Shown) (at : ℕ) (f : TraceFault) : Type 0 where
+  pub start : three.Start
+  pub rs : List Record
+  pub all : ReadsAll ahead left left' (λ bytes. (cut : IsCutOff bytes start rs at) × (cut.f ≡ f))
+  pub run : HasRun start rs p
+  pub text : List ℕ
+  pub wrote : Appends written written' text
+  pub so_far : IsFrontText start rs shown text
+
+-- A turn goes on by a record, finds the end, or bytes that end before it.
 abbrev pub GoesTo : (ahead : List ℕ) (left left' written written' : Option (List ℕ)) → Stream → (text : List ℕ) → Shown → Turn → Type 0
 GoesTo ahead left left' written written' s text shown (Next p) = UnderWay ahead left left' written written' s p.value text shown
 GoesTo ahead left left' written written' s text shown (Last p) = AtEnd ahead left left' written written' p.value text shown
+GoesTo ahead left left' written written' s text shown (Cut p at f) = AtCut ahead left left' written written' p.value shown at f
+
+-- A fault stops a turn: the bytes end behind the records so far, at a byte, or within the next one.
+abbrev pub StopsAt : Replaying → (at : ℕ) → ReportFault → Turn → Type 0
+StopsAt p at fault (Next q) = ⊥
+StopsAt p at fault (Last q) = ⊥
+StopsAt p at fault (Cut q n f) = (fault ≡ Trace f) × (f.kind ≡ kind.Short) × (q.value ≡ p) × (n ≡ at)
 
 -- A record begins behind the one before it, below 2^63.
 abbrev pub IsOn : Stream → Stream → Turn → Type 0
 IsOn s s' (Next p) = (s.held.place < s'.held.place) × (s'.held.place < 2 ^ 63)
 IsOn s s' (Last p) = ⊤
+IsOn s s' (Cut p at f) = ⊤
 
 -- How many calls of the reader failed, and how many of the writer.
 abbrev pub reads_of : ReportFault → ℕ

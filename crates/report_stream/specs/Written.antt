@@ -1,5 +1,5 @@
 -- The model: what is written of a trace of version 3 that is replayed record by record: its report, or so much of it as the records so far tell.
-use Rattle.std.specs.Prelude.{◌≡◌, ◌≤◌, ◌⊎◌, ◌++◌, ℕ, true, [], List, length, take, Option}
+use Rattle.std.specs.Prelude.{◌≡◌, ◌≢◌, ◌≤◌, ◌⊎◌, ◌++◌, ℕ, Bool, true, [], List, length, take, Option, None, Some}
 use Rattle.std.specs.Io.KnownBytes.{Appends, Consumes, IsAtEnd, Keeps}
 use Rattle.trace_format.specs.Grammar.{Breaks}
 use Rattle.trace_format.specs.declared.fault.Kind.TheVariants.{Short}
@@ -43,12 +43,21 @@ pub record HasFront (bytes : List ℕ) (b : three.Start) (rs : List Record) : Ty
   pub split : bytes ≡ here ++ rest
   pub spelled : IsFront here (trace_of b rs)
 
--- What the bytes so far give: nothing, the lines of the records that they begin with, or the whole report.
-abbrev pub Tells : List ℕ → Shown → List ℕ → Type 0
-Tells bytes shown text =
+-- The bytes end before the trace does: at a byte, behind a start and some records, or within the record behind that.
+pub record IsCutOff (bytes : List ℕ) (b : three.Start) (rs : List Record) (at : ℕ) : Type 0 where
+  pub front : HasFront bytes b rs
+  pub ends : length front.here ≡ at
+  pub f : TraceFault
+  pub short : f.kind ≡ Short
+  pub broken : HasFaultBehind bytes b rs f
+
+-- What the bytes so far give: nothing, the lines of the records that they begin with, or the whole report. Where they may be cut off, also that of these records.
+abbrev pub Tells : (may_be_cut : Bool) → List ℕ → Shown → List ℕ → Type 0
+Tells may bytes shown text =
     (text ≡ [])
     ⊎ ((b : three.Start) × (rs : List Record) × HasFront bytes b rs × IsFrontText b rs shown text)
     ⊎ ((t : whole.Trace) × SpellsTrace bytes t × (text ≡ report t shown))
+    ⊎ ((may ≡ true) × (b : three.Start) × (rs : List Record) × (at : ℕ) × IsCutOff bytes b rs at × (text ≡ report (trace_of b rs) shown))
 
 -- The known bytes grew by the first bytes of a text, perhaps by none, perhaps by all.
 abbrev pub AppendsFirst : Option (List ℕ) → Option (List ℕ) → List ℕ → Type 0
@@ -59,33 +68,44 @@ abbrev pub WritesReport : List ℕ → Shown → (left left' written written' : 
 WritesReport ahead shown left left' written written' =
     ReadsAll ahead left left' (λ text. (t : whole.Trace) × SpellsTrace text t × Appends written written' (report t shown))
 
+-- The same of bytes that are cut off: the report is the one of the trace that ends behind the last whole record, at a byte.
+abbrev pub WritesCut : (at : ℕ) → List ℕ → Shown → (left left' written written' : Option (List ℕ)) → Type 0
+WritesCut at ahead shown left left' written written' =
+    ReadsAll ahead left left' (λ text. (b : three.Start) × (rs : List Record) × IsCutOff text b rs at × Appends written written' (report (trace_of b rs) shown))
+
+-- The one or the other: some trace was cut off, at a byte, or none.
+abbrev pub Writes : Option ℕ → List ℕ → Shown → (left left' written written' : Option (List ℕ)) → Type 0
+Writes None = WritesReport
+Writes (Some at) = WritesCut at
+
 -- The bytes have the fault in the start, and nothing was written.
 abbrev pub FailsAtStart : List ℕ → TraceFault → (written written' : Option (List ℕ)) → Type 0
 FailsAtStart bytes f written written' = Breaks start 0 bytes f × Keeps written written'
 
--- They have it behind some records, and the writer took the first line and the lines of these records, and nothing else.
-abbrev pub FailsBehind : List ℕ → Shown → TraceFault → (written written' : Option (List ℕ)) → Type 0
-FailsBehind bytes shown f written written' =
-    (b : three.Start) × (rs : List Record) × (text : List ℕ) × HasFaultBehind bytes b rs f × IsFrontText b rs shown text × Appends written written' text
+-- They have it behind some records, and the writer took the first line and the lines of these records, and nothing else. Where they may be cut off, an end too early is no fault there.
+abbrev pub FailsBehind : (may_be_cut : Bool) → List ℕ → Shown → TraceFault → (written written' : Option (List ℕ)) → Type 0
+FailsBehind may bytes shown f written written' =
+    (may ≡ true → f.kind ≢ Short)
+    × ((b : three.Start) × (rs : List Record) × (text : List ℕ) × HasFaultBehind bytes b rs f × IsFrontText b rs shown text × Appends written written' text)
 
 -- What was read ahead and what the reader lost has the fault. It is told where the reader is at its end, or where no byte more changes it.
-pub record WritesBefore (ahead : List ℕ) (shown : Shown) (f : TraceFault) (left left' written written' : Option (List ℕ)) : Type 0 where
+pub record WritesBefore (may_be_cut : Bool) (ahead : List ℕ) (shown : Shown) (f : TraceFault) (left left' written written' : Option (List ℕ)) : Type 0 where
   pub more : List ℕ
   pub taken : Consumes left left' more
   pub ended : f.kind ≡ Short → IsAtEnd left'
-  pub wrote : FailsAtStart (ahead ++ more) f written written' ⊎ FailsBehind (ahead ++ more) shown f written written'
+  pub wrote : FailsAtStart (ahead ++ more) f written written' ⊎ FailsBehind may_be_cut (ahead ++ more) shown f written written'
 
 -- The writer took a beginning of what the bytes so far give, and nothing else.
-pub record WritesSome (ahead : List ℕ) (shown : Shown) (left left' written written' : Option (List ℕ)) : Type 0 where
+pub record WritesSome (may_be_cut : Bool) (ahead : List ℕ) (shown : Shown) (left left' written written' : Option (List ℕ)) : Type 0 where
   pub more : List ℕ
   pub taken : Consumes left left' more
   pub text : List ℕ
-  pub told : Tells (ahead ++ more) shown text
+  pub told : Tells may_be_cut (ahead ++ more) shown text
   pub wrote : AppendsFirst written written' text
 
 -- What was written before a fault.
-abbrev pub WritesUpTo : List ℕ → Shown → (left left' written written' : Option (List ℕ)) → ReportFault → Type 0
-WritesUpTo ahead shown left left' written written' (Trace f) = WritesBefore ahead shown f left left' written written'
-WritesUpTo ahead shown left left' written written' Memory = WritesSome ahead shown left left' written written'
-WritesUpTo ahead shown left left' written written' Read = WritesSome ahead shown left left' written written'
-WritesUpTo ahead shown left left' written written' Write = WritesSome ahead shown left left' written written'
+abbrev pub WritesUpTo : (may_be_cut : Bool) → List ℕ → Shown → (left left' written written' : Option (List ℕ)) → ReportFault → Type 0
+WritesUpTo may ahead shown left left' written written' (Trace f) = WritesBefore may ahead shown f left left' written written'
+WritesUpTo may ahead shown left left' written written' Memory = WritesSome may ahead shown left left' written written'
+WritesUpTo may ahead shown left left' written written' Read = WritesSome may ahead shown left left' written written'
+WritesUpTo may ahead shown left left' written written' Write = WritesSome may ahead shown left left' written written'

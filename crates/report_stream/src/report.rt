@@ -1,12 +1,12 @@
 //! A report that is written while its trace is read.
-ghost use Rattle.std.specs.Prelude.{◌≡◌, ◌+◌, ◌-◌, ◌<◌, ◌^◌, [], IfErr, IfOk, OnOk};
+ghost use Rattle.std.specs.Prelude.{◌≡◌, ◌+◌, ◌-◌, ◌<◌, ◌^◌, [], false, None, IfErr, IfOk};
 ghost use Rattle.byte_transfer.specs.Transfer.{Takes};
 ghost use Rattle.recording.specs.Fronts.{IsSpelledFront};
 ghost use Rattle.replay_stream.specs.Replayed.{HasRun};
 ghost use Rattle.report_stream.specs.Steps.{reads_failed, writes_failed};
-ghost use Rattle.report_stream.specs.Written.{WritesReport, WritesUpTo};
+ghost use Rattle.report_stream.specs.Written.{Writes, WritesUpTo};
 
-use crate::ending::{Asked, write_end};
+use crate::ending::{Asked, end_at_cut, write_end};
 use crate::fault::{ReportFault, told_of};
 use crate::lines::lines_in;
 use crate::turn::{Pending, Turn, take_turn};
@@ -19,12 +19,14 @@ use trace_stream::Stream;
 
 /// Writes the report of the trace of version 3 whose first bytes were read ahead, and whose others
 /// the reader has left. The lines of a record are written before the reader is asked for the bytes
-/// behind it.
+/// behind it. The answer is at which byte the trace is cut off, where that may be, and none where it
+/// is whole.
 ///
 /// # Errors
 ///
 /// Trace with the first fault of the trace, behind the first line and the lines of all whole
-/// records before it; Memory, Read and Write behind a beginning of what was to be written.
+/// records before it; Memory, Read and Write behind a beginning of what was to be written. Behind a
+/// start, bytes that end too early are no fault where they may be cut off.
 pub fn write_report<T: Threads + Sync, R: Source, W: Sink>(
     rt: &T,
     alloc: Global,
@@ -32,13 +34,14 @@ pub fn write_report<T: Threads + Sync, R: Source, W: Sink>(
     reader: &mut R,
     writer: &mut W,
     asked: Asked,
-) -> Result<(), ReportFault>
+) -> Result<Option<u64>, ReportFault>
     requires reader { R.failures reader.old < 2 ^ 64 - 1 }
     requires writer { W.failures writer.old < 2 ^ 64 - 1 }
-    ensures ok { OnOk result (WritesReport ahead.items asked.shown (R.left reader.old)
+    ensures ok { IfOk result (λ cut. Writes cut ahead.items asked.shown (R.left reader.old)
         (R.left reader.new) (W.written writer.old) (W.written writer.new)) }
-    ensures err { IfErr result (WritesUpTo ahead.items asked.shown (R.left reader.old)
-        (R.left reader.new) (W.written writer.old) (W.written writer.new)) }
+    ensures whole { asked.may_be_cut ≡ false → IfOk result (λ cut. cut ≡ None) }
+    ensures err { IfErr result (WritesUpTo asked.may_be_cut ahead.items asked.shown
+        (R.left reader.old) (R.left reader.new) (W.written writer.old) (W.written writer.new)) }
     ensures taken { Takes (R.left reader.old) (R.left reader.new) }
     ensures reads { R.failures reader.new ≡ R.failures reader.old + reads_failed result }
     ensures writes { W.failures writer.new ≡ W.failures writer.old + writes_failed result }
@@ -57,6 +60,9 @@ pub fn write_report<T: Threads + Sync, R: Source, W: Sink>(
             Turn::Next(next) => replaying = next,
             Turn::Last(last) => {
                 return write_end(rt, alloc, &mut pending.text, &last, writer, asked);
+            }
+            Turn::Cut(front, at, fault) => {
+                return end_at_cut(rt, alloc, &front, (at, fault), writer, asked);
             }
         }
     }

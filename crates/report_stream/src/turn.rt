@@ -1,12 +1,13 @@
 //! One turn of a report: the next record runs, and its lines come behind those that wait.
 ghost use Rattle.std.specs.Prelude.{◌≡◌, ◌+◌, ◌-◌, ◌<◌, ◌^◌, [], ◌∷◌, ◌++◌, ℕ, IfErr, IfOk, List};
-ghost use Rattle.std.specs.Prelude.{Option};
+ghost use Rattle.std.specs.Prelude.{Bool, Option};
 ghost use Rattle.byte_transfer.specs.Transfer.{Takes};
 ghost use Rattle.recording.specs.Fronts.{IsSpelledFront};
 ghost use Rattle.recording.specs.Steps.{places};
 ghost use Rattle.replay_stream.specs.Replayed.{HasRun, HasRunNext, MayRun};
-ghost use Rattle.report_stream.specs.Steps.{AddsLines, GoesTo, IsOn, IsUnderWay, RanLast};
-ghost use Rattle.report_stream.specs.Steps.{UnderWay, reads_failed, writes_failed};
+ghost use Rattle.report_stream.specs.Steps.{AddsLines, GoesTo, IsNotShort, IsOn, IsUnderWay};
+ghost use Rattle.report_stream.specs.Steps.{RanLast, StopsAt, UnderWay};
+ghost use Rattle.report_stream.specs.Steps.{reads_failed, reads_of, writes_failed, writes_of};
 ghost use Rattle.report_stream.specs.Written.{IsTextTo, WritesUpTo};
 ghost use Rattle.trace_records.specs.declared.record.Record as three;
 ghost use Rattle.trace_records.specs.declared.start.Start as three_start;
@@ -18,6 +19,7 @@ use byte_transfer::{Sink, Source};
 use replay_report::Shown;
 use replay_stream::Replaying;
 use std::alloc::{AllocError, Global};
+use trace_format::{Kind, TraceFault};
 use trace_records::Record;
 use trace_stream::Stream;
 
@@ -38,6 +40,9 @@ pub(crate) enum Turn {
     Next(Box<Replaying>),
     /// There was none.
     Last(Box<Replaying>),
+    /// The bytes end behind the records so far, at this byte, or within the next one, with this
+    /// fault.
+    Cut(Box<Replaying>, u64, TraceFault),
 }
 
 /// Runs the next record.
@@ -82,6 +87,19 @@ fn tell<W: Sink>(
     Ok(())
 }
 
+/// The turn of a fault: the bytes end before the trace does, or else the turn fails.
+fn stopped(replaying: Box<Replaying>, at: u64, fault: ReportFault) -> Result<Turn, ReportFault>
+    ensures ok { IfOk result (StopsAt replaying.value at fault) }
+    ensures err { IfErr result (λ e. (e ≡ fault) × IsNotShort fault) }
+    ensures reads { reads_failed result ≡ reads_of fault }
+    ensures writes { writes_failed result ≡ writes_of fault }
+{
+    match fault {
+        ReportFault::Trace(cut) if cut.kind == Kind::Short => Ok(Turn::Cut(replaying, at, cut)),
+        _ => Err(fault),
+    }
+}
+
 /// Runs the next record and adds its lines. The lines that wait are written before the reader is
 /// asked for more bytes.
 pub(crate) fn take_turn<R: Source, W: Sink>(
@@ -102,20 +120,26 @@ pub(crate) fn take_turn<R: Source, W: Sink>(
         pending.new.stream pending.new.text.items shown) }
     ensures err { (ahead : List ℕ) (a w : Option (List ℕ)) → UnderWay ahead a (R.left reader.old) w
         (W.written writer.old) pending.old.stream replaying.value pending.old.text.items shown
-        → IfErr result (WritesUpTo ahead shown a (R.left reader.new) w (W.written writer.new)) }
+        → (may_be_cut : Bool) → IfErr result
+        (WritesUpTo may_be_cut ahead shown a (R.left reader.new) w (W.written writer.new)) }
     ensures on { IfOk result (IsOn pending.old.stream pending.new.stream) }
     ensures taken { Takes (R.left reader.old) (R.left reader.new) }
     ensures reads { R.failures reader.new ≡ R.failures reader.old + reads_failed result }
     ensures writes { W.failures writer.new ≡ W.failures writer.old + writes_failed result }
 {
-    let Some(next) = next_record(
+    let at = pending.stream.place();
+    let found = next_record(
         alloc,
         &mut pending.stream,
         reader,
         writer,
         &mut pending.text,
-    )?
-    else {
+    );
+    let found = match found {
+        Ok(found) => found,
+        Err(fault) => return stopped(replaying, at, fault),
+    };
+    let Some(next) = found else {
         return Ok(Turn::Last(replaying));
     };
     let replaying = run_next(alloc, replaying, next)?;

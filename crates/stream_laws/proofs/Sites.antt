@@ -13,14 +13,14 @@ use Rattle.trace_format.proofs.Spots.{slice_get-append_left}
 use Rattle.recording.specs.declared.recording.Recording.{Recording}
 use Rattle.recording.specs.declared.recording.Ring.{Ring}
 use Rattle.recording.specs.Rings.{slots_of}
-use Rattle.entry_checks.specs.Operation.{Operation, nop, readv, writev, fsync, read_fixed, write_fixed, fallocate, openat, close, read, write, renameat, unlinkat, mkdirat, linkat, ftruncate, sync_file_range, fadvise, given, File, in_slot, at_descriptor, Span, OpenFlags}
+use Rattle.entry_checks.specs.Operation.{Operation, nop, readv, writev, fsync, read_fixed, write_fixed, fallocate, openat, close, read, write, renameat, unlinkat, mkdirat, linkat, ftruncate, sync_file_range, fadvise, statx, statx_file, statx_root, given, File, in_slot, at_descriptor, Span, OpenFlags}
 use Rattle.finite_maps.specs.Table.{Table, get, pair_cmp}
 use Rattle.std.specs.Ordering.{nat_cmp}
 use Rattle.file_tree.specs.Tree.{a_directory}
 use Rattle.file_tree.specs.Walk.{Place, walk}
 use Rattle.world_parts.specs.World.{World, Broken, slot, descriptor, buffer, set_name, make_node, set_slot, set_descriptor, make_description}
 use Rattle.op_meaning.specs.Site.{sited}
-use Rattle.op_meaning.specs.Meaning.{done, made_node, made_description, slot_count, registered_buffer, span_start, held, handle_of, handle, into, read_meaning, readv_meaning, write_meaning, fallocate_meaning, ftruncate_meaning, sync_file_range_meaning, fadvise_meaning, room, filled, may_open, found_or_made, open_changes, opened_with, open_as, new_directory, meaning}
+use Rattle.op_meaning.specs.Meaning.{done, made_node, made_description, slot_count, registered_buffer, span_start, held, handle_of, handle, into, read_meaning, readv_meaning, write_meaning, fallocate_meaning, ftruncate_meaning, sync_file_range_meaning, fadvise_meaning, room, filled, may_open, found_or_made, open_changes, opened_with, open_as, new_directory, meaning, statx_file_meaning}
 use Rattle.stream_laws.specs.Standing.{still_open, IsFrontOf, StandsFor}
 
 -- A ring of the one recording, as it is in the other.
@@ -108,4 +108,7 @@ module _ {v u : Recording} {first : ℕ} (stands : StandsFor v u first) (r : ℕ
       meaning_same (ftruncate f n) = ap (ftruncate_meaning n) (handle_same f)
       meaning_same (sync_file_range f o n flags) = ap (sync_file_range_meaning o n flags) (held_same f)
       meaning_same (fadvise f n advice) = ap (fadvise_meaning n advice) (held_same f)
+      meaning_same (statx p) = refl
+      meaning_same (statx_file f) = ap (statx_file_meaning s) (handle_same f)
+      meaning_same statx_root = refl
       meaning_same (given r fails) = refl

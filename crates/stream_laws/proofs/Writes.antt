@@ -7,12 +7,12 @@ use Rattle.sqe_codec.specs.declared.errno.Errno.TheVariants.{EPERM, ENOENT, EBAD
 use Rattle.sqe_codec.specs.Answers.{◌>>◌, require}
 use Rattle.trace_format.specs.Sides.{most_moved}
 use Rattle.recording.specs.declared.recording.Recording.{Recording}
-use Rattle.entry_checks.specs.Operation.{Operation, nop, readv, writev, fsync, read_fixed, write_fixed, fallocate, openat, close, read, write, renameat, unlinkat, mkdirat, linkat, ftruncate, sync_file_range, fadvise, given, File, in_slot, at_descriptor, Span, Path, OpenFlags, file_limit, at_position}
+use Rattle.entry_checks.specs.Operation.{Operation, nop, readv, writev, fsync, read_fixed, write_fixed, fallocate, openat, close, read, write, renameat, unlinkat, mkdirat, linkat, ftruncate, sync_file_range, fadvise, statx, statx_file, statx_root, given, File, in_slot, at_descriptor, Span, Path, OpenFlags, file_limit, at_position}
 use Rattle.file_tree.specs.Tree.{Target}
 use Rattle.file_tree.specs.Walk.{Place, walk, is_directory}
 use Rattle.world_parts.specs.World.{World, Change, set_name, make_node, set_slot, set_descriptor, make_description, set_position, set_size, write_bytes, zero_bytes, write_buffer, break_chain, slot}
 use Rattle.op_meaning.specs.Site.{sited}
-use Rattle.op_meaning.specs.Meaning.{Effect, done, Handle, handle, held, slot_count, can_write, is_bad_offset, span_start, span_destination, span_bytes, advance, Destination, reply, into, delivered, read_effect, readable, read_meaning, write_start, write_effect, writable, write_meaning, Allocation, extend, reserve, punch, zero_extend, zero_within, allocation, allocate, fallocate_meaning, ftruncate_meaning, room, filled, may_open, open_changes, openat_meaning, close_meaning, may_remove, unlinkat_meaning, mkdirat_meaning, linkat_meaning, may_replace, moved_name, move_meaning, exchange_meaning, goes_below, rename_to, renameat_meaning, made_node, made_description, meaning}
+use Rattle.op_meaning.specs.Meaning.{Effect, done, Handle, handle, held, slot_count, can_write, is_bad_offset, span_start, span_destination, span_bytes, advance, Destination, reply, into, delivered, read_effect, readable, read_meaning, write_start, write_effect, writable, write_meaning, Allocation, extend, reserve, punch, zero_extend, zero_within, allocation, allocate, fallocate_meaning, ftruncate_meaning, room, filled, may_open, open_changes, openat_meaning, close_meaning, may_remove, unlinkat_meaning, mkdirat_meaning, linkat_meaning, may_replace, moved_name, move_meaning, exchange_meaning, goes_below, rename_to, renameat_meaning, bytes_in, node_told, measured, statx_meaning, statx_file_meaning, made_node, made_description, meaning}
 use Rattle.op_meaning.specs.Step.{changes_of}
 use Rattle.op_meaning.proofs.Fallible.{and_then, and_so, after}
 
@@ -157,6 +157,20 @@ module _ (r : ℕ) where
   renaming s old new flags =
       and_then Stays (walk s.nodes old) _ (λ p. and_then Stays (walk s.nodes new) _ (λ q. and_then Stays (ok_or p.target ENOENT) _ (λ x. renames s p q x old new flags)))
 
+  -- Kinds and sizes.
+  tells : (s : World) (x : Target) → Stays (measured s x)
+  tells s x = which (is_directory x.kind)
+    where
+      which : (b : Bool) → Stays (if b then node_told 1 0 else node_told 2 (length (bytes_in s x.node)))
+      which true = tt
+      which false = tt
+
+  measuring : (s : World) (z : Result Place Errno) → IfOk (statx_meaning s z) Stays
+  measuring s z = and_then Stays z _ (λ q. and_then Stays (ok_or q.target ENOENT) _ (λ x. tells s x))
+
+  measuring_open : (s : World) (x : Option Handle) → IfOk (statx_file_meaning s x) Stays
+  measuring_open s x = and_then Stays (ok_or x EBADF) _ (λ h. tells s h.opened.target)
+
   stays : (t : Recording) (k : ℕ) (s : World) (o : Operation) → IfOk (meaning (sited t k r) s o) Stays
   stays t k s nop = tt
   stays t k s (readv f o n) = reads s (handle (sited t k r) s f) o (min n most_moved) (Ok reply) tt
@@ -176,6 +190,9 @@ module _ (r : ℕ) where
   stays t k s (ftruncate f n) = resizing (handle (sited t k r) s f) n
   stays t k s (sync_file_range f o n flags) = after Stays (require (is_some (held (sited t k r) s f)) EBADF) _ (after Stays (require (leb flags 7) EINVAL) _ (after Stays (require (ltb (o + n) (2 ^ 63)) EINVAL) _ tt))
   stays t k s (fadvise f n advice) = after Stays (require (is_some (held (sited t k r) s f)) EBADF) _ (after Stays (require (ltb n (2 ^ 63)) EINVAL) _ (after Stays (require (leb advice 5) EINVAL) _ tt))
+  stays t k s (statx p) = measuring s (walk s.nodes p)
+  stays t k s (statx_file f) = measuring_open s (handle (sited t k r) s f)
+  stays t k s statx_root = tt
   stays t k s (given q fails) = tt
 
   pub changes_in_ring : (t : Recording) (k : ℕ) (s : World) (o : Operation) → AllIn r (changes_of (meaning (sited t k r) s o))

@@ -1,7 +1,7 @@
 -- What the format asks of the records of a spelled trace, and of their steps.
 use Rattle.std.proofs.Common.{◌≡◌, ℕ, suc, ◌+◌, ◌<◌, ◌≤◌, true, List, [], ◌∷◌, length, Some, None, refl, sym, subst, arith, inl, inr, ◌⊎◌}
 use Rattle.std.specs.List.{All, slice_get}
-use Rattle.std.proofs.lemmas.Bool.{ltb-true, leb-true}
+use Rattle.std.proofs.lemmas.Bool.{ltb-true, leb-true, and_parts}
 use Rattle.std.proofs.lemmas.List.Elements.{All-nil, All-cons, All-head, All-tail, All-append, All-push, All-map, All-weaker, All-get_or}
 use Rattle.std.proofs.lemmas.Option.{slice_get_within, get_or_from_slice_get}
 use Rattle.sqe_codec.specs.Fields.{IsEntry, entry_of}
@@ -42,7 +42,7 @@ entry_facts {B = B} keeps y o =
       bytes = sqe.x;
       has = subst B (sym sqe.own.is.1) sqe.own.has;
       fields = refl;
-      fits = test_passed side.after;
+      fits = (and_parts (is_side_of (entry_of sqe.x) side.x) _ (test_passed side.after)).0;
     } in
     subst (EntryFacts B) (sym e.1) made
 

@@ -22,7 +22,7 @@ use Rattle.trace_format.specs.declared.trace.Trace.{Trace}
 use Rattle.trace_format.specs.Grammar.{Grammar, Done, Bytes, Place, Test, Known, Choice, ◌>>=◌, Spells, Breaks, fault, number, number_to, several}
 use Rattle.trace_format.specs.declared.fault.TraceFault.{TraceFault}
 use Rattle.trace_format.specs.Paths.{is_path, parent_of, has_name, has_directory, is_directory, is_file}
-use Rattle.trace_format.specs.Sides.{is_side_of}
+use Rattle.trace_format.specs.Sides.{is_early_side_of}
 use Rattle.trace_format.specs.Versions.{rules, version_of}
 use Rattle.trace_format.specs.Counts.{places_in, places_limit}
 
@@ -159,7 +159,7 @@ entry = do
   place ← Place
   len ← number w32
   side ← Bytes len
-  _ ← Test (is_side_of (entry_of bytes) side) (fault Side place)
+  _ ← Test (is_early_side_of (entry_of bytes) side) (fault Side place)
   Done (record { sqe = entry_of bytes; side = side; given = None })
 
 -- entries of one ring, where so many places come before them

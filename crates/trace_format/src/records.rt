@@ -10,7 +10,7 @@ ghost use Rattle.trace_format.specs.Text.{entry, enter, fill, one_record, buffer
 use crate::entries::{Entries, Spot};
 use crate::fault::{Kind, ReadError, refused};
 use crate::given::Form;
-use crate::sides::fits;
+use crate::sides::fits_early;
 use crate::source::{Source, blob_of, bytes_of, u8_of, u16_of, u16_to, u32_of};
 use crate::steps::{Records, step_count};
 use crate::trace::{Record, Ring};
@@ -39,7 +39,7 @@ fn spot_of(source: Source<'_>) -> Result<(Spot, Source<'_>), ReadError>
     let place = source.place;
     let (len, source) = u32_of(source)?;
     let (side, source) = bytes_of(source, len as usize)?;
-    if !fits(&sqe, side) {
+    if !fits_early(&sqe, side) {
         return Err(refused(Kind::Side, place));
     }
     let at = start.place as u32;

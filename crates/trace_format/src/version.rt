@@ -9,8 +9,8 @@ pub enum Version {
     One,
     /// With a table of ordinary descriptors, and the exchange of two names.
     Two,
-    /// With flags of transfers that ask for stored data, and with advice. Its traces have a form
-    /// of their own, which [`crate::read_trace`] does not read.
+    /// With flags of transfers that ask for stored data, and with more opcodes. Its traces have a
+    /// form of their own, which [`crate::read_trace`] does not read.
     Three,
 }
 
@@ -25,8 +25,8 @@ pub struct Rules {
     pub most_rename_flags: u32,
     /// The flags that a transfer takes, of those of preadv2(2) and pwritev2(2).
     pub transfer_flags: u32,
-    /// Whether it has SYNC_FILE_RANGE and FADVISE.
-    pub has_advice: bool,
+    /// Whether it has SYNC_FILE_RANGE, STATX and FADVISE.
+    pub has_later_opcodes: bool,
 }
 
 impl Version {
@@ -51,21 +51,21 @@ impl Version {
                 most_descriptors: 0,
                 most_rename_flags: 1,
                 transfer_flags: 0,
-                has_advice: false,
+                has_later_opcodes: false,
             },
             Version::Two => Rules {
                 number: 2,
                 most_descriptors: 1_024,
                 most_rename_flags: 2,
                 transfer_flags: 0,
-                has_advice: false,
+                has_later_opcodes: false,
             },
             Version::Three => Rules {
                 number: 3,
                 most_descriptors: 1_048_576,
                 most_rename_flags: 2,
                 transfer_flags: 6,
-                has_advice: true,
+                has_later_opcodes: true,
             },
         }
     }

@@ -196,6 +196,13 @@ impl Stream {
         }
     }
 
+    /// The byte behind the records so far, counted from the first of the trace on.
+    pub fn place(&self) -> u64
+        ensures { result ≡ self.now.held.place }
+    {
+        self.held.place()
+    }
+
     /// How many places and rings the records so far have.
     pub fn tally(&self) -> Tally
         ensures places { result.places ≡ self.now.front.places }

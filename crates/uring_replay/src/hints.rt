@@ -14,6 +14,9 @@ pub(crate) fn hint(fault: RunFault) -> Option<&'static str> {
         Kind::Short if at == 0 => Some(
             "hint: the input is empty. Name a trace: uring_replay check a.trace",
         ),
+        Kind::Short => Some(
+            "hint: the trace is cut off. One of version 3 may be taken up to there: uring_replay serial a.trace --cut",
+        ),
         Kind::Version => Some(
             "hint: the trace has a version that this program does not read: see uring_replay --version",
         ),

@@ -10,12 +10,12 @@ mod output;
 mod trouble;
 
 use crate::inputs::{Input, first_input, second_input, trace_input};
-use crate::output::{ended, ended_making, output_of};
+use crate::output::{Output, ended, ended_making, output_of};
 use crate::trouble::{Trouble, shown};
 use replay_program::{
-    Files, Form, FromStd, Mode, Options, Request, Task, Usage, no_memory, not_text, read_words,
-    run, run_check, run_diff, run_diff_of_two, run_diff_of_two_shown, run_diff_shown, run_make,
-    run_report, run_show,
+    Files, Form, FromStd, Mode, Options, Request, RunFault, Task, Usage, no_memory, not_text,
+    read_words, run, run_check, run_diff, run_diff_of_two, run_diff_of_two_shown, run_diff_shown,
+    run_make, run_report, run_show,
 };
 use std::alloc::AllocError;
 use std::env;
@@ -67,23 +67,44 @@ fn served<'a, T: Threads + Wait + Sync>(
 ) -> Result<(), Trouble<'a>>
     requires { IsServedTask request.now.task }
 {
+    if let Some(why) = misuse(request) {
+        return Err(Trouble::usage(rt.alloc(), why));
+    }
     let files = request.files;
     let form = request.form;
-    if form == Form::Json && is_graph(request.task) {
-        let text = "'--dot' prints a graph, which has no JSON: leave out '--dot' or '--json'";
-        return Err(Trouble::usage(rt.alloc(), text));
-    }
-    if form == Form::Json && files.trace.is_some() {
-        let text =
-            "'--show' prints lines of a trace, which have no JSON: leave out '--show' or '--json'";
-        return Err(Trouble::usage(rt.alloc(), text));
-    }
     let input = first_input(rt, files.input)?;
     match request.task {
-        Task::Replay(options) => replayed(rt, threads, input, files.output, &options, form),
+        Task::Replay(options) => replayed(rt, threads, input, request, &options),
         Task::Show(look) => displayed(rt, input, files.output, look),
         Task::Make => made(rt, input, files.output),
         Task::Diff => compared(rt, input, files, form),
+    }
+}
+
+/// Why flags that are right one by one ask for nothing together, where they do.
+fn misuse(request: &Request<'_>) -> Option<&'static str> {
+    let is_json = request.form == Form::Json;
+    if is_json && is_graph(request.task) {
+        return Some("'--dot' prints a graph, which has no JSON: leave out '--dot' or '--json'");
+    }
+    if is_json && request.files.trace.is_some() {
+        return Some(
+            "'--show' prints lines of a trace, which have no JSON: leave out '--show' or '--json'",
+        );
+    }
+    if request.may_be_cut && (is_json || is_eager(request.task)) {
+        return Some(
+            "'--cut' is for a report that is written as the trace comes: leave out '--json' and '--eager', or '--cut'",
+        );
+    }
+    None
+}
+
+/// Whether a task makes every round of two places or more on threads.
+fn is_eager(task: Task) -> bool {
+    match task {
+        Task::Replay(options) => matches!(options.mode, Mode::Run { eager: true, .. }),
+        Task::Diff | Task::Show(_) | Task::Make => false,
     }
 }
 
@@ -103,22 +124,48 @@ fn replayed<'a, T: Threads + Wait + Sync>(
     rt: &'a HostRuntime,
     threads: &T,
     input: Input,
-    output: Option<&'a str>,
+    request: &Request<'a>,
     options: &Options,
-    form: Form,
 ) -> Result<(), Trouble<'a>>
     requires { IsServed options.now.mode }
 {
-    let mut writer = FromStd::new(output_of(rt, output, &[&input])?);
+    let form = request.form;
+    let mut writer = FromStd::new(output_of(rt, request.files.output, &[&input])?);
     let mut reader = FromStd::new(input);
     let done = match options.mode {
         Mode::Check => run_check(rt.alloc(), &mut reader, &mut writer, form),
         Mode::Serial | Mode::Run { eager: false, .. } if form == Form::Text => {
-            run_report(threads, rt.alloc(), &mut reader, &mut writer, options)
+            let may_be_cut = request.may_be_cut;
+            let done = run_report(
+                threads,
+                rt.alloc(),
+                &mut reader,
+                &mut writer,
+                options,
+                may_be_cut,
+            );
+            return reported(rt, writer.stream, done);
         }
         _ => run(threads, rt.alloc(), &mut reader, &mut writer, options, form),
     };
     ended(writer.stream, done)
+}
+
+/// Ends a report, and tells at which byte its trace is cut off, if it is.
+fn reported<'a>(
+    rt: &HostRuntime,
+    output: Output<'a>,
+    done: Result<Option<u64>, RunFault>,
+) -> Result<(), Trouble<'a>> {
+    let cut = match done {
+        Ok(cut) => cut,
+        Err(fault) => return ended(output, Err(fault)),
+    };
+    ended(output, Ok(()))?;
+    if let Some(at) = cut {
+        let _ = eprintln!(rt; "cut at {at}");
+    }
+    Ok(())
 }
 
 /// Shows a trace as text.

@@ -16,7 +16,7 @@ use Rattle.world_parts.proofs.Sharing.{holds_true}
 use Rattle.op_meaning.specs.Site.{in_ring, sited}
 use Rattle.op_meaning.specs.Meaning.{made_node, made_description, slot_count, span_start, lowest_free, shape}
 use Rattle.foot_print.specs.Footprint.{use_of, held_item, file_reads, span_use, description_made, holder_item, slot_uses}
-use Rattle.op_meaning.specs.Shape.{Shape, idle, looking, moving, allocating, resizing, closing, opening, making, freeing, linking, renaming}
+use Rattle.op_meaning.specs.Shape.{Shape, idle, looking, moving, allocating, resizing, closing, opening, measuring, making, freeing, linking, renaming}
 use Rattle.op_meaning.specs.Step.{Turn, filled, registered, runs, queue_at}
 use Rattle.foot_print.specs.Reach.{shape_makes, room_asked, room_at, unresolved_shape, written_by, is_met, node_made, makes, all_files, any_name, unresolved_file, unresolved_of, extras_of, task, look_of, order_of, running_row, accepted_row, wide_row, is_taken_to_run, reach}
 use Rattle.foot_print.specs.Replayed.{is_earlier, Known}
@@ -156,6 +156,7 @@ module _ (t : Recording) where
     shape_bound r (closing f) = held true r f
     shape_bound r (opening p g asked) = all (any_name t k) _ names_bound
         (cond_both g.truncate _ _ Bound (λ _. item (all_bytes_and_sizes (made_node t k)) true of_files) (λ _. nothing))
+    shape_bound r (measuring p) = all (reads (all_names (made_node t k)) ∷ []) _ (read (all_names (made_node t k))) (read (all_bytes_and_sizes (made_node t k)))
     shape_bound r (making p) = names_bound
     shape_bound r (freeing p removes) = names_bound
     shape_bound r (linking old new) = names_bound

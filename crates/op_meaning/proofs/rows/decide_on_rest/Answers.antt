@@ -69,3 +69,15 @@ returns-in-Renameat-clause-meaning c =
 
 pub returns-in-Renameat-clause-limits : goal.returns-in-Renameat-clause-limits
 returns-in-Renameat-clause-limits c = c.changing.ensures.limits c.args.state.now c.args.site.ring
+
+pub returns-in-Statx-clause-meaning : goal.returns-in-Statx-clause-meaning
+returns-in-Statx-clause-meaning c = rw c.in-Statx.is c.measuring.ensures.meaning
+
+pub returns-in-Statx-clause-limits : goal.returns-in-Statx-clause-limits
+returns-in-Statx-clause-limits c = c.measuring.ensures.limits
+
+pub returns-in-StatxFile-clause-meaning : goal.returns-in-StatxFile-clause-meaning
+returns-in-StatxFile-clause-meaning c = rw c.in-StatxFile.is c.measuring_open.ensures.meaning
+
+pub returns-in-StatxFile-clause-limits : goal.returns-in-StatxFile-clause-limits
+returns-in-StatxFile-clause-limits c = c.measuring_open.ensures.limits

@@ -6,8 +6,8 @@ use Rattle.program_words.proofs.words.parsed.Goals as goal
 
 pub returns-in-Ok-clause-task : goal.returns-in-Ok-clause-task
 returns-in-Ok-clause-task c =
-    λ form o asked. c.request_in.ensures.task form o
-    (task_met (app_of c.in_ok-command.command) (map (λ word. word.now) c.args.words.now) c.in-Ok.matches form o c.in_ok-command.ensures asked c.in-Ok.ensures.matches)
+    λ form cut o asked. c.request_in.ensures.task form cut o
+    (task_met (app_of c.in_ok-command.command) (map (λ word. word.now) c.args.words.now) c.in-Ok.matches form cut o c.in_ok-command.ensures asked c.in-Ok.ensures.matches)
 
 pub returns-in-Ok-clause-help : goal.returns-in-Ok-clause-help
 returns-in-Ok-clause-help c = λ asked. help_ends (app_of c.in_ok-command.command) (map (λ word. word.now) c.args.words.now) (Ok c.in-Ok.matches) c.in_ok-command.ensures asked c.in-Ok.ensures.kinds
@@ -20,7 +20,7 @@ returns-in-Err-clause-version c = λ asked. version_ends {T = ArgMatches} (app_o
 
 pub returns-in-Err-clause-task : goal.returns-in-Err-clause-task
 returns-in-Err-clause-task c =
-    λ form o asked. c.in-Err.ensures.passes (words_pass (app_of c.in_ok-command.command) (map (λ word. word.now) c.args.words.now) form o c.in_ok-command.ensures asked)
+    λ form cut o asked. c.in-Err.ensures.passes (words_pass (app_of c.in_ok-command.command) (map (λ word. word.now) c.args.words.now) form cut o c.in_ok-command.ensures asked)
 
 pub returns-in-Err-clause-help : goal.returns-in-Err-clause-help
 returns-in-Err-clause-help c = λ asked. help_ends {T = ArgMatches} (app_of c.in_ok-command.command) (map (λ word. word.now) c.args.words.now) (Err c.in-Err.error) c.in_ok-command.ensures asked c.in-Err.ensures.kinds

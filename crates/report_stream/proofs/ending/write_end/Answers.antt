@@ -1,6 +1,14 @@
-use Rattle.report_stream.proofs.Turns.{ends_late_if}
+use Rattle.std.proofs.Common.{◌++◌}
+use Rattle.replay_report.specs.InOrder.{last_lines}
+use Rattle.report_stream.specs.Steps.{EndsEarly}
+use Rattle.report_stream.proofs.Turns.{ends_behind, told_out}
 use Rattle.report_stream.proofs.ending.write_end.Goals as goal
 
-pub returns-clause-err : goal.returns-clause-err
-returns-clause-err g c =
-    ends_late_if c.flush-2.result _ _ _ c.args.text.now.items _ _ c.in_ok-flush.ensures.ok c.in_ok-last.ensures c.flush-2.ensures.err c.flush-2.ensures.part
+pub returns-in_err-write_last-clause-err : goal.returns-in_err-write_last-clause-err
+returns-in_err-write_last-clause-err g c =
+    let e = c.in_err-write_last.field-0.0 in
+    let p = c.args.replaying.now in
+    let text = c.args.text.now.items in
+    let last = last_lines p.recording p.state c.args.asked.shown in
+    told_out _ e (EndsEarly (g.W.Sink.written c.args.writer.now) (g.W.Sink.written c.write_last.new.writer) (text ++ last)) c.from_residual-in_err-write_last.ensures.1
+    (ends_behind _ _ _ text last e c.in_ok-flush.ensures.ok c.in_err-write_last.ensures.err)
