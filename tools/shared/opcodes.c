@@ -14,6 +14,7 @@ static const char *const names[] = {
 	[OP_FALLOCATE] = "FALLOCATE",
 	[OP_OPENAT] = "OPENAT",
 	[OP_CLOSE] = "CLOSE",
+	[OP_STATX] = "STATX",
 	[OP_READ] = "READ",
 	[OP_WRITE] = "WRITE",
 	[OP_FADVISE] = "FADVISE",

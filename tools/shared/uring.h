@@ -32,6 +32,7 @@ enum opcode {
 	OP_FALLOCATE = 17,
 	OP_OPENAT = 18,
 	OP_CLOSE = 19,
+	OP_STATX = 21,
 	OP_READ = 22,
 	OP_WRITE = 23,
 	OP_FADVISE = 24,

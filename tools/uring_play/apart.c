@@ -202,6 +202,8 @@ bool is_found_late(const struct entry *entry)
 		return it.file_index == UINT32_MAX;
 	if (entry->expected != -EINVAL)
 		return false;
+	if (it.opcode == OP_STATX)
+		return is_stat(it.opcode);
 	if (it.opcode == OP_OPENAT)
 		return (it.own_flags & CREATED_DIRECTORY) == CREATED_DIRECTORY;
 	if (it.opcode == OP_RENAMEAT)

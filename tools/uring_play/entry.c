@@ -30,9 +30,14 @@ bool has_two_paths(u8 opcode)
 	return opcode == OP_RENAMEAT || opcode == OP_LINKAT;
 }
 
+bool is_stat(u8 opcode)
+{
+	return trace.version == 3 && opcode == OP_STATX;
+}
+
 bool is_on_names(u8 opcode)
 {
-	return opcode == OP_OPENAT || opcode == OP_UNLINKAT || opcode == OP_MKDIRAT ||
+	return is_stat(opcode) || opcode == OP_OPENAT || opcode == OP_UNLINKAT || opcode == OP_MKDIRAT ||
 	       has_two_paths(opcode);
 }
 
@@ -139,6 +144,8 @@ bool fits(const struct entry *entry)
 {
 	u64 length = entry->side_length;
 
+	if (is_stat(entry->sqe[0]))
+		return !memchr(entry->side, 0, length);
 	switch (entry->sqe[0]) {
 	case OP_OPENAT:
 	case OP_UNLINKAT:

@@ -27,6 +27,7 @@ bool has_two_paths(u8 opcode);
 
 /* Whether version 3 alone serves an opcode, and whether the profile serves it. */
 bool is_advice(u8 opcode);
+bool is_stat(u8 opcode);
 bool is_served(u8 opcode);
 /* How many bytes a read or write asks for. */
 u64 asked_of(const struct entry *entry);

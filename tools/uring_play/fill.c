@@ -10,6 +10,7 @@
 #include <stdlib.h>
 #include <string.h>
 #include <sys/mman.h>
+#include <sys/stat.h>
 #include <sys/uio.h>
 #include <unistd.h>
 
@@ -20,6 +21,7 @@
 enum { ARENAS = 4, ARENA = 64 << 20, GREAT = 4 << 20, FOLDED = 64 << 20, PAGE = 4096 };
 /* A process has some 65,000 mappings at most, and a great read some 33. */
 enum { BEHIND_FIELDS = 48, CROWDED = 64, MODE_OF_FILES = 0644, MODE_OF_DIRECTORIES = 0755 };
+enum { KIND_DIRECTORY = 1, KIND_FILE = 2 };
 /* Low enough that vectors of many bytes stay below the end of all addresses, where it is free. */
 #define LOW_ADDRESS ((u8 *)(1UL << 45))
 
@@ -158,6 +160,18 @@ static u8 *memory_to_read(u64 size)
 	return memory;
 }
 
+/* What a STATX told: a kind, and the size of a file. */
+static void keep_told(struct entry *entry)
+{
+	const struct statx *told = (const void *)read_into[entry->place];
+	bool is_directory = S_ISDIR(told->stx_mode);
+	u64 size = is_directory ? 0 : told->stx_size;
+
+	entry->data_length = 1 + sizeof size;
+	entry->data[0] = is_directory ? KIND_DIRECTORY : KIND_FILE;
+	memcpy(entry->data + 1, &size, sizeof size);
+}
+
 /* A silent read brought all that it asked for, where the answers say that it did. */
 void keep_data(struct entry *entry)
 {
@@ -165,6 +179,11 @@ void keep_data(struct entry *entry)
 
 	if (!read_into[entry->place] || (is_silent && !entry->is_expected))
 		return;
+	if (is_stat(entry->sqe[0])) {
+		if (is_silent || !entry->result)
+			keep_told(entry);
+		return;
+	}
 	if (!is_silent && entry->result <= 0)
 		return;
 	entry->data_length = is_silent ? asked_of(entry) : (u64)entry->result;
@@ -253,6 +272,10 @@ static void fill_paths(const struct entry *entry, struct io_uring_sqe *sqe)
 		sqe->addr2 = fill_path(new_path_of(entry), &to);
 		sqe->len = (u32)to;
 	}
+	if (is_stat(sqe->opcode)) {
+		read_into[entry->place] = memory_of(sizeof(struct statx));
+		sqe->addr2 = address_of(read_into[entry->place]);
+	}
 	if (sqe->opcode == OP_OPENAT)
 		sqe->len = MODE_OF_FILES;
 	if (sqe->opcode == OP_MKDIRAT)
@@ -294,7 +317,7 @@ static void keep_named(struct io_uring_sqe *sqe)
 	if (looks_at_buffer(opcode) || opcode == OP_FALLOCATE || opcode == OP_FADVISE)
 		named.addr = all.addr;
 	if (is_transfer(opcode) || opcode == OP_FALLOCATE || has_two_paths(opcode) ||
-	    is_advice(opcode))
+	    is_advice(opcode) || is_stat(opcode))
 		named.len = all.len;
 	if (looks_at_flags(opcode))
 		named.rw_flags = all.rw_flags;

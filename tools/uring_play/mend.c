@@ -19,7 +19,7 @@ enum { CHUNK = 1 << 16 };
 bool can_be_mended(u8 opcode)
 {
 	return is_advice(opcode) || opcode == OP_FSYNC || opcode == OP_FALLOCATE ||
-	       opcode == OP_FTRUNCATE || (is_on_names(opcode) && opcode != OP_OPENAT);
+	       opcode == OP_FTRUNCATE || (is_on_names(opcode) && opcode != OP_OPENAT && !is_stat(opcode));
 }
 
 bool is_cut(const struct entry *entry)

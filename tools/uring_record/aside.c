@@ -139,7 +139,7 @@ static bool is_renumbered(const struct flight *flight, i32 result)
 	const struct io_uring_sqe *sqe = &flight->asked_for;
 	const struct opened *used = flight->used;
 	enum outside why = reason_of(flight->entry);
-	bool is_number = works_on_file(sqe->opcode) && !(sqe->flags & FLAG_FIXED);
+	bool is_number = uses_file(sqe) && !(sqe->flags & FLAG_FIXED);
 
 	if (closes_in_table(sqe) && flight->takes_place)
 		return result == -EBADF && flight->before;

@@ -10,6 +10,27 @@
 #include "table.h"
 
 #include <string.h>
+#include <sys/stat.h>
+
+/* The kinds that a STATX tells. */
+enum { TOLD_DIRECTORY = 1, TOLD_FILE = 2 };
+
+/* Whether what an entry put into the memory of the program is there still, and may be told. */
+static bool is_there_still(struct flight *flight, pid_t thread, bool is_fresh)
+{
+	struct entry *entry = flight->entry;
+
+	if (options.no_data || is_given(entry))
+		return false;
+	if (is_fresh && !is_filled_by_others(flight) && others_slept(flight->process, thread))
+		return true;
+	note(is_fresh ? "a read while another thread ran, or another read filled its "
+			"memory: its bytes are not told"
+		      : "a read whose completion was seen at a later call: its bytes are "
+			"not told (--wait tells them)",
+	     entry);
+	return false;
+}
 
 /* Takes the first bytes of what was read, for the results. */
 static void read_came(struct flight *flight, pid_t thread, i32 result, bool is_fresh)
@@ -17,18 +38,26 @@ static void read_came(struct flight *flight, pid_t thread, i32 result, bool is_f
 	struct entry *entry = flight->entry;
 	u64 shown = min64((u64)result, DATA_SHOWN);
 
-	if (options.no_data || is_given(entry))
+	if (!is_there_still(flight, thread, is_fresh))
 		return;
-	if (!is_fresh || is_filled_by_others(flight) || !others_slept(flight->process, thread)) {
-		note(is_fresh ? "a read while another thread ran, or another read filled its "
-				"memory: its bytes are not told"
-			      : "a read whose completion was seen at a later call: its bytes are "
-				"not told (--wait tells them)",
-		     entry);
-		return;
-	}
 	entry->data_length = (u64)result;
 	fetch_gathered(thread, flight->vectors, flight->vector_count, entry->data, shown);
+}
+
+/* What a STATX told: a kind in a byte, and the size of a file in eight. */
+static void told_came(struct flight *flight, pid_t thread, bool is_fresh)
+{
+	struct entry *entry = flight->entry;
+	struct statx told;
+
+	if (!is_there_still(flight, thread, is_fresh) ||
+	    !fetch(thread, flight->asked_for.addr2, &told, sizeof told))
+		return;
+	bool is_directory = S_ISDIR(told.stx_mode);
+	u64 size = is_directory ? 0 : told.stx_size;
+	entry->data_length = 1 + sizeof size;
+	entry->data[0] = is_directory ? TOLD_DIRECTORY : TOLD_FILE;
+	memcpy(entry->data + 1, &size, sizeof size);
 }
 
 /* What a fixed read puts into its buffer is not known here. */
@@ -159,6 +188,8 @@ static void completed(struct flight *flight, pid_t thread, i32 result, bool is_f
 		late_write_came(flight, thread, result, is_fresh);
 	if (result > 0 && (opcode == OP_READ || opcode == OP_READV))
 		read_came(flight, thread, result, is_fresh);
+	if (!result && opcode == OP_STATX)
+		told_came(flight, thread, is_fresh);
 	if (result > 0 && opcode == OP_READ_FIXED)
 		fixed_read_came(flight, result);
 	if (flight->meets_name)

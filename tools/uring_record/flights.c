@@ -431,6 +431,12 @@ static void touch_names(struct flight *flight)
 		if (flight->used && entry->sqe.open_flags & O_TRUNC)
 			touch_file(flight, flight->used, 0, UINT64_MAX, true);
 		break;
+	case OP_STATX:
+		if (!stats_number(&entry->sqe))
+			touch_name(flight, entry->side, entry->side_length, false);
+		if (flight->used)
+			touch_file(flight, flight->used, size_now(flight->used), UINT64_MAX, false);
+		break;
 	case OP_UNLINKAT:
 	case OP_MKDIRAT:
 		touch_name(flight, entry->side, entry->side_length, true);
@@ -456,10 +462,10 @@ void look_at_touches(struct flight *flight)
 	if (entry->replaced || !is_served(opcode))
 		return;
 	touch_names(flight);
-	if (works_on_file(opcode) || opcode == OP_OPENAT || opcode == OP_CLOSE)
+	if (uses_file(&entry->sqe) || opcode == OP_OPENAT || opcode == OP_CLOSE)
 		touch_place(flight);
-	if (moves_bytes(opcode))
-		touch_vectors(flight, reads_bytes(opcode));
+	if (moves_bytes(opcode) || opcode == OP_STATX)
+		touch_vectors(flight, fills_memory(opcode));
 	if (!flight->used)
 		return;
 	if (moves_bytes(opcode))

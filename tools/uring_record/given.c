@@ -174,7 +174,7 @@ bool may_fill_memory(const struct entry *entry)
 	u8 opcode = entry->opcode;
 
 	if (is_served(opcode))
-		return reads_bytes(opcode);
+		return fills_memory(opcode);
 	switch (opcode) {
 	case POLL_ADD:
 	case POLL_REMOVE:

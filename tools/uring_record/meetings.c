@@ -238,7 +238,7 @@ void keep_spans(struct flight *flight)
 		const struct touch *touch = &flight->touches[at];
 		u64 from, to;
 		range_of(touch, &from, &to);
-		if (touch->kind == TOUCH_MEMORY && reads_bytes(opcode))
+		if (touch->kind == TOUCH_MEMORY && fills_memory(opcode))
 			put_span(&filling[is_fixed(opcode)], flight, touch, space_of_touch(touch),
 				 from, to);
 	}
@@ -294,7 +294,7 @@ static void look_at_settled(struct flight *flight)
 	const struct opened *file = flight->used;
 
 	look_at_names(flight);
-	if (!file || !reads_bytes(flight->entry->sqe.opcode))
+	if (!file || !fills_memory(flight->entry->sqe.opcode))
 		return;
 	enum outside why = unsettled_by(file->device, file->inode);
 	if (why == INSIDE)

@@ -7,6 +7,7 @@
 #include <fcntl.h>
 #include <stdlib.h>
 #include <string.h>
+#include <sys/stat.h>
 
 enum { MOST_VECTORS = 1024, SHORT_GAP = 512, MUCH = 1 << 20 };
 
@@ -122,6 +123,8 @@ static bool follows_last(const struct io_uring_sqe *sqe)
 
 	if (sqe->opcode == OP_LINKAT)
 		return sqe->hardlink_flags & AT_SYMLINK_FOLLOW;
+	if (sqe->opcode == OP_STATX)
+		return !(sqe->statx_flags & AT_SYMLINK_NOFOLLOW);
 	return sqe->opcode == OP_OPENAT && !(sqe->open_flags & O_NOFOLLOW) &&
 	       (sqe->open_flags & made) != made;
 }
@@ -219,6 +222,30 @@ static void take_two_paths(struct flight *flight, pid_t thread)
 	free(other);
 }
 
+/* A STATX by a number has no path. Where it has one, or is of the working directory, it is outside. */
+static void take_no_path(struct entry *entry, pid_t thread)
+{
+	char *text = fetch_text(thread, entry->sqe.addr);
+
+	if (!text)
+		unread(entry, "a path that cannot be read");
+	else if (*text || entry->sqe.fd == AT_FDCWD)
+		put_aside(entry, OUTSIDE_FLAGS);
+	free(text);
+}
+
+/* STATX: its path, and where it puts what it tells. */
+static void take_told(struct flight *flight, pid_t thread)
+{
+	struct iovec told = { (void *)(uintptr_t)flight->entry->sqe.addr2, sizeof(struct statx) };
+
+	if (stats_number(&flight->entry->sqe))
+		take_no_path(flight->entry, thread);
+	else
+		take_one_path(flight, thread);
+	keep_vectors(flight, &told, 1);
+}
+
 void take_side(struct flight *flight, pid_t thread)
 {
 	switch (flight->entry->sqe.opcode) {
@@ -236,6 +263,9 @@ void take_side(struct flight *flight, pid_t thread)
 	case OP_UNLINKAT:
 	case OP_MKDIRAT:
 		take_one_path(flight, thread);
+		break;
+	case OP_STATX:
+		take_told(flight, thread);
 		break;
 	case OP_RENAMEAT:
 	case OP_LINKAT:

@@ -48,6 +48,7 @@ static bool has_other_fields(const struct io_uring_sqe *sqe)
 	case OP_SYNC_FILE_RANGE:
 		return has_index || sqe->addr;
 	case OP_FADVISE:
+	case OP_STATX:
 		return has_index;
 	case OP_FALLOCATE:
 		return has_index || sqe->rw_flags;
@@ -63,6 +64,15 @@ static bool has_other_fields(const struct io_uring_sqe *sqe)
 	default:
 		return false;
 	}
+}
+
+/* Whether a STATX has flags, or a mask, that the kernel refuses once it runs. */
+static bool has_other_stat_flags(const struct io_uring_sqe *sqe)
+{
+	u32 both = AT_STATX_FORCE_SYNC | AT_STATX_DONT_SYNC;
+	u32 served = both | AT_SYMLINK_NOFOLLOW | AT_NO_AUTOMOUNT | AT_EMPTY_PATH;
+
+	return sqe->statx_flags & ~served || (sqe->statx_flags & both) == both || sqe->len >> 31;
 }
 
 /* Why an entry asks for what lies outside the profile by its fields, and the replay may answer
@@ -87,6 +97,8 @@ static enum outside outside_by_fields(const struct ring *ring, const struct io_u
 	if (opcode == OP_RENAMEAT && sqe->rename_flags & ~(options.format == 1 ? 1U : 3U))
 		return OUTSIDE_FLAGS;
 	if (opcode == OP_LINKAT && sqe->hardlink_flags & ~0x400U)
+		return OUTSIDE_FLAGS;
+	if (opcode == OP_STATX && has_other_stat_flags(sqe))
 		return OUTSIDE_FLAGS;
 	if (has_index && (sqe->file_index == IORING_FILE_INDEX_ALLOC ||
 			  sqe->file_index > ring->registered || sqe->file_index > most_slots()))
@@ -113,7 +125,7 @@ static void count_entry(const struct io_uring_sqe *sqe)
 	counts.opcodes[sqe->opcode]++;
 	for (unsigned bit = 0; bit < 8; bit++)
 		counts.flags[bit] += sqe->flags >> bit & 1U;
-	if (!works_on_file(sqe->opcode))
+	if (!uses_file(sqe))
 		return;
 	counts.by_slot += !!(sqe->flags & FLAG_FIXED);
 	counts.by_descriptor += !(sqe->flags & FLAG_FIXED);
@@ -196,7 +208,7 @@ static void ensure_place(struct flight *flight)
 	struct io_uring_sqe *sqe = &entry->sqe;
 	bool closes = closes_in_table(sqe);
 
-	if (works_on_file(sqe->opcode) && sqe->flags & FLAG_FIXED) {
+	if (uses_file(sqe) && sqe->flags & FLAG_FIXED) {
 		u32 slot = (u32)sqe->fd;
 		struct opened *foreign = foreign_in(ring, slot);
 		if (foreign)
@@ -208,7 +220,7 @@ static void ensure_place(struct flight *flight)
 	if (sqe->opcode == OP_CLOSE && foreign_in(ring, sqe->file_index - 1)) {
 		leads_elsewhere(entry, true);
 	}
-	if (!works_on_file(sqe->opcode) && !closes)
+	if (!uses_file(sqe) && !closes)
 		return;
 	enum leads leads = (options.format == 1) ? ensure_slot(ring, flight->process, sqe->fd)
 						 : ensure_number(flight->process, sqe->fd);
@@ -266,7 +278,9 @@ static void find_description(struct flight *flight)
 			put_aside(entry, OUTSIDE_DESCRIPTOR);
 		}
 	}
-	if (!works_on_file(opcode))
+	if (opcode == OP_STATX && flight->names[0])
+		flight->used = new_direct(flight->names[0], O_RDONLY);
+	if (!uses_file(&entry->sqe))
 		return;
 	bool moves = moves_bytes(opcode) && entry->sqe.off == AT_POSITION;
 	if (moves)
@@ -544,7 +558,7 @@ static void look_at_numbers(struct ring *ring, const struct record *record)
 		const struct io_uring_sqe *sqe = &it->asked_for;
 		if (entry < record->entries || entry >= end)
 			break;
-		if (!it->used || !works_on_file(sqe->opcode) || sqe->flags & FLAG_FIXED ||
+		if (!it->used || !uses_file(sqe) || sqe->flags & FLAG_FIXED ||
 		    opened_at(sqe->fd) != it->used || leads_to(it->process, sqe->fd, it->used))
 			continue;
 		note("a number that another thread changed meanwhile", entry);

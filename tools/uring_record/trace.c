@@ -294,6 +294,8 @@ bool is_served(u8 opcode)
 	case OP_MKDIRAT:
 	case OP_LINKAT:
 		return true;
+	case OP_STATX:
+		return options.format == 3;
 	default:
 		return works_on_file(opcode);
 	}
@@ -305,6 +307,16 @@ bool works_on_file(u8 opcode)
 	       opcode == OP_FTRUNCATE || is_of_version_3(opcode);
 }
 
+bool stats_number(const struct io_uring_sqe *sqe)
+{
+	return sqe->opcode == OP_STATX && sqe->statx_flags & AT_EMPTY_PATH;
+}
+
+bool uses_file(const struct io_uring_sqe *sqe)
+{
+	return works_on_file(sqe->opcode) || stats_number(sqe);
+}
+
 bool moves_bytes(u8 opcode)
 {
 	return reads_bytes(opcode) || opcode == OP_WRITE || opcode == OP_WRITEV ||
@@ -314,6 +326,11 @@ bool moves_bytes(u8 opcode)
 bool reads_bytes(u8 opcode)
 {
 	return opcode == OP_READ || opcode == OP_READV || opcode == OP_READ_FIXED;
+}
+
+bool fills_memory(u8 opcode)
+{
+	return reads_bytes(opcode) || opcode == OP_STATX;
 }
 
 bool changes_file(u8 opcode)

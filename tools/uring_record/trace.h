@@ -202,8 +202,13 @@ void drop_entry(struct record *record);
 bool is_served(u8 opcode);
 /* Whether an opcode works on the file of its `fd`; moves bytes; has an offset. */
 bool works_on_file(u8 opcode);
+/* Whether an entry is a STATX of what is open at a number, and whether one uses a file number. */
+bool stats_number(const struct io_uring_sqe *sqe);
+bool uses_file(const struct io_uring_sqe *sqe);
 bool moves_bytes(u8 opcode);
 bool reads_bytes(u8 opcode);
+/* Whether an opcode that is served puts something into the memory of the program. */
+bool fills_memory(u8 opcode);
 bool is_fixed(u8 opcode);
 /* Whether it may change the bytes of its file. */
 bool changes_file(u8 opcode);

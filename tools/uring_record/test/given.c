@@ -5,7 +5,7 @@
  * served: what version 3 decides. chains: members that are given, which break their chain or not.
  * refused: chains that the kernel refuses on submission. errors: errors that the world does not
  * decide, and some that it does. filled: writes of what a member before them put there. quiet:
- * members that post nothing. */
+ * members that post nothing. told: what a STATX tells of a path, and of what is open. */
 #include "raw.h"
 
 #include <poll.h>
@@ -244,13 +244,65 @@ static void quiet(void)
 	run("the last");
 }
 
+/* A STATX of a path. */
+static struct io_uring_sqe *ask_stat(const char *path, unsigned flags, int result)
+{
+	static struct statx told[ENTRIES];
+	static unsigned count;
+	struct io_uring_sqe *sqe = ask(IORING_OP_STATX, AT_FDCWD, path, STATX_BASIC_STATS,
+				       (uint64_t)(uintptr_t)&told[count++], result);
+
+	sqe->statx_flags = flags;
+	return sqe;
+}
+
+/* Kinds and sizes: of files, directories and what lacks; a link, and flags that are given. */
+static void told(void)
+{
+	if (mkdir("directory", 0755) || symlink("a", "link"))
+		fail("directory");
+	ask_stat("a", 0, 0);
+	run("an empty file");
+	ask_write("123456789", 0, 9);
+	run("a write");
+	ask_stat("a", AT_SYMLINK_NOFOLLOW, 0);
+	run("a file");
+	ask_stat("directory", AT_STATX_DONT_SYNC, 0);
+	run("a directory");
+	ask_stat("none", 0, -ENOENT);
+	run("a missing name");
+	ask_stat("a/b", 0, -ENOTDIR);
+	run("a name below a file");
+	ask_stat("", 0, -ENOENT);
+	run("an empty path");
+	ask_stat("link", 0, 0);
+	run("through a link");
+	ask_stat("link", AT_SYMLINK_NOFOLLOW, 0);
+	run("a link");
+	ask_stat("", AT_EMPTY_PATH, 0)->fd = file;
+	run("what is open");
+	ask_stat("", AT_EMPTY_PATH, -EBADF)->fd = NOBODY;
+	run("nothing open");
+	ask_stat("", AT_EMPTY_PATH, 0)->fd = pipes[0];
+	run("a pipe");
+	ask_stat("", AT_EMPTY_PATH, 0);
+	run("the working directory");
+	ask_stat("a", 0x400, -EINVAL);
+	run("a flag");
+	ask_stat("a", AT_STATX_SYNC_TYPE, -EINVAL);
+	run("both flags");
+	ask_stat("a", 0, 0)->len = 1U << 31;
+	wanted[0] = -EINVAL;
+	run("a mask");
+}
+
 static const struct {
 	const char *name;
 	void (*run)(void);
 } modes[] = {
 	{ "served", served }, { "chains", chains }, { "refused", refused },
 	{ "errors", errors }, { "filled", filled }, { "filled_buffer", filled_buffer },
-	{ "quiet", quiet },
+	{ "quiet", quiet },   { "told", told },
 };
 
 int main(int count, char **words)
