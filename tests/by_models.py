@@ -44,6 +44,15 @@ def replayed(trace: bytes, has_sums: bool = False) -> Answer:
         return refused(str(fault), model_records.lines_before(trace))
 
 
+def replayed_if_cut(trace: bytes, has_sums: bool = False) -> Answer:
+    """The same of `serial --cut`: a trace of version 3 that ends too early behind its start is taken as one that ends behind its last whole record."""
+    answer = replayed(trace, has_sums)
+    if not answer.output or answer.errors != refused("Short at {}".format(len(trace))).errors:
+        return answer
+    report, at = model_records.cut_off(trace, has_sums)
+    return Answer(0, report, b"cut at %d\n" % at)
+
+
 def told(given: argparse.Namespace, text: bytes) -> Tuple[bytes, int]:
     """What a command that writes nothing before a fault writes, and its status."""
     if given.command == "diff":

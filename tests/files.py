@@ -351,13 +351,13 @@ def at_terminals(program: Program) -> List[Outcome]:
         ("a report", read(EXAMPLE + ".report"), "trace refused: Magic at 0", "hint: the input is not a trace."),
         ("an empty input", b"", "trace refused: Short at 0", "hint: the input is empty."),
         ("another version", trace[:8] + b"\x09" + trace[9:], "trace refused: Version at 8", "hint: the trace has a version that this program does not read"),
-        ("a short trace", trace[:100], "trace refused: Short at 100", ""),
+        ("a short trace", trace[:100], "trace refused: Short at 100", "hint: the trace is cut off."),
     ]
     for label, given, line, hint in cases:
         status, said = errors_at_terminal(program, ["check"], given)
         lines = said.split("\r\n")
-        well = status == 1 and lines[0] == line and (lines[1].startswith(hint) if hint else lines[1:] == [""])
-        at.said("{}, told at a terminal".format(label), None if well and len(lines) == 2 + bool(hint) else "status {}, {!r}".format(status, said))
+        well = status == 1 and lines[0] == line and lines[1].startswith(hint)
+        at.said("{}, told at a terminal".format(label), None if well and len(lines) == 3 else "status {}, {!r}".format(status, said))
     return at.outcomes
 
 

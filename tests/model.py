@@ -4,13 +4,15 @@ import struct
 from typing import Dict, Iterator, List, NamedTuple, Optional, Sequence, Set, Tuple, Union
 
 from traces import AT_FDCWD, CLOSE, FALLOCATE, FIXED_FILE, FSYNC, FTRUNCATE, GREATEST_SIZE, HARDLINK, LINK, LINKAT, MKDIRAT, NOP, OPENAT, READ
-from traces import BUFFER_SELECT, DRAIN, FADVISE, GREATEST_BUFFER, READ_FIXED, READV, RENAMEAT, SKIP, SYNC_FILE_RANGE, UNLINKAT, WRITE, WRITE_FIXED, WRITEV
+from traces import BUFFER_SELECT, DRAIN, FADVISE, GREATEST_BUFFER, READ_FIXED, READV, RENAMEAT, SKIP, STATX, SYNC_FILE_RANGE, UNLINKAT, WRITE, WRITE_FIXED, WRITEV
 
 EPERM, ENOENT, EBADF, EFAULT, EEXIST, ENOTDIR, EISDIR = 1, 2, 9, 14, 17, 20, 21
 EINVAL, EMFILE, EFBIG, ENAMETOOLONG, ENOTEMPTY, EOPNOTSUPP, ECANCELED = 22, 24, 27, 36, 39, 95, 125
 CREAT, EXCL, TRUNC, APPEND, A_DIRECTORY, CLOEXEC, KNOWN = 0x40, 0x80, 0x200, 0x400, 0x10000, 0x80000, 0x1FDFC3
 READS, WRITES = (READV, READ_FIXED, READ), (WRITEV, WRITE_FIXED, WRITE)
-OF_VERSION_3 = (SYNC_FILE_RANGE, FADVISE)
+ADVICE = (SYNC_FILE_RANGE, FADVISE)
+OF_VERSION_3 = (*ADVICE, STATX)
+EMPTY_PATH, STATX_FLAGS, BOTH_SYNCS = 0x1000, 0x7900, 0x6000
 MOST_MOVED, AT_POSITION, HALF, LAST = 0x7FFFF000, (1 << 64) - 1, 1 << 63, (1 << 32) - 1
 PAGE, SHOWN, MOST_SUMMED = 4096, 32, 1 << 24
 MOST_ITEMS, MOST_RINGS, MOST_PLACES, MOST_OF_TABLE, MOST_OF_RECORD = 65_535, 64, 1_048_576, 1_024, 32_768
@@ -128,12 +130,16 @@ class Entry(NamedTuple):
         end = 2 + struct.unpack_from("<H", self.side)[0]
         return [self.side[2:end], self.side[end:]]
 
-    def has_side(self) -> bool:
-        """Whether its side bytes are such as it has."""
+    def has_no_path(self) -> bool:
+        """Whether it is of what is open at its descriptor, as a STATX with an empty path may be."""
+        return self.opcode == STATX and not self.side and bool(self.own_flags & EMPTY_PATH)
+
+    def has_side(self, version: int) -> bool:
+        """Whether its side bytes are such as it has in a version."""
         count = len(self.side)
         if self.opcode in (RENAMEAT, LINKAT):
             return count >= 2 and count >= 2 + struct.unpack_from("<H", self.side)[0] and 0 not in self.side[2:]
-        if self.opcode in (OPENAT, UNLINKAT, MKDIRAT):
+        if self.opcode in (OPENAT, UNLINKAT, MKDIRAT) or version == 3 and self.opcode == STATX:
             return 0 not in self.side
         return self.has_count(count)
 
@@ -349,7 +355,7 @@ class World:
         fields, count = source.take(64), source.field("I")
         at = source.at
         entry = entry_of(fields, source.take(count))
-        within(entry.has_side(), "Side", at)
+        within(entry.has_side(2), "Side", at)
         return entry
 
     # Names.
@@ -427,7 +433,7 @@ class World:
 
     def operation(self, place: int, ring: int, entry: Entry) -> Iterator[Answer]:
         operations = {NOP: self.nothing, FSYNC: self.sync, SYNC_FILE_RANGE: self.sync_range, FADVISE: self.advise, FALLOCATE: self.allocate, FTRUNCATE: self.truncate, OPENAT: self.open_at, CLOSE: self.close,
-                      UNLINKAT: self.unlink, MKDIRAT: self.make_directory, LINKAT: self.link, RENAMEAT: self.rename,
+                      UNLINKAT: self.unlink, STATX: self.stat, MKDIRAT: self.make_directory, LINKAT: self.link, RENAMEAT: self.rename,
                       **dict.fromkeys(READS, self.read), **dict.fromkeys(WRITES, self.write)}
         return operations[entry.opcode](place, ring, entry)
 
@@ -449,6 +455,15 @@ class World:
         need((entry.address or entry.length) < HALF, EINVAL)
         need(entry.own_flags <= 5, EINVAL)
         yield 0, None
+
+    def stat(self, place: int, ring: int, entry: Entry) -> Iterator[Answer]:
+        if entry.has_no_path():
+            found = 0 if entry.fd == AT_FDCWD else self.open_file(ring, entry).node
+        else:
+            found = self.walk_from(entry.fd, entry.side)[2]
+            need(found is not None, ENOENT)
+        node = self.nodes[found]
+        yield 0, struct.pack("<BQ", 2, node.size) if isinstance(node, Bytes) else struct.pack("<BQ", 1, 0)
 
     def read(self, place: int, ring: int, entry: Entry) -> Iterator[Answer]:
         description = self.open_file(ring, entry)
@@ -643,7 +658,9 @@ def test(version: int, entry: Entry) -> None:
         if opcode in (READV, WRITEV):
             need(entry.length <= 1024 and sum(entry.vectors()) < HALF, EINVAL)
     need(opcode != FSYNC or own in (0, 1), EINVAL)
-    need(opcode not in (*names, CLOSE) or not entry.flags & FIXED_FILE, EBADF)
+    need(opcode not in (*names, STATX, CLOSE) or not entry.flags & FIXED_FILE, EBADF)
+    if opcode == STATX:
+        need(entry.length < 1 << 31 and not own & ~STATX_FLAGS and own & BOTH_SYNCS != BOTH_SYNCS, EINVAL)
     if opcode == OPENAT:
         need(own & 3 != 3 and not own & ~KNOWN and not (own & CREAT and own & A_DIRECTORY), EINVAL)
         need(not (own & CLOEXEC and entry.file_index) and entry.file_index != LAST, EINVAL)
@@ -651,7 +668,7 @@ def test(version: int, entry: Entry) -> None:
         need(not (entry.file_index and entry.fd) and entry.file_index != LAST, EINVAL)
     allowed = {RENAMEAT: (0, 1) if version == 1 else (0, 1, 2), UNLINKAT: (0, 0x200), LINKAT: (0, 0x400)}
     need(opcode not in allowed or own in allowed[opcode], EINVAL)
-    for path in entry.paths() if opcode in names else ():
+    for path in entry.paths() if opcode in (*names, STATX) and not entry.has_no_path() else ():
         need(path != b"", ENOENT)
         need(len(path) <= 4095, ENAMETOOLONG)
         need(not path.endswith(b"/") and not {b".", b".."} & set(path.split(b"/")), EINVAL)

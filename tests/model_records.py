@@ -106,7 +106,7 @@ class Records(World):
         within(form == ZEROS or source.next + count - begin <= LAST, "Limit", at)
         side = source.take(count if form == STORED else min(count, entry_of(fields, b"").lengths()))
         entry = entry_of(fields, side, form == ZEROS)
-        within(entry.has_side() if form == STORED else entry.has_count(count), "Side", at)
+        within(entry.has_side(3) if form == STORED else entry.has_count(count), "Side", at)
         return entry
 
     def given(self, form: int) -> Given:
@@ -183,6 +183,12 @@ def lines_before(text: bytes) -> bytes:
     except Refused:
         return b""
     return "\n".join([*model.lines_in_order(world, model.replies_by_turns(world)), ""]).encode()
+
+
+def cut_off(text: bytes, has_sums: bool = True) -> Tuple[bytes, int]:
+    """The report of a trace of version 3 that ends too early behind its start, taken as one that ends behind its last whole record; and where that ends."""
+    at, _ = Begun(text).ends[-1]
+    return report(text[:at] + bytes([END]), has_sums), at
 
 
 def beginnings(text: bytes) -> List[bytes]:

@@ -3,13 +3,13 @@ from typing import Any, Dict, Iterable, Iterator, List, NamedTuple, Optional, Se
 
 import model
 import model_records
-from model import AT_POSITION, CREAT, LAST, OF_VERSION_3, READS, TRUNC, WRITES, Chain, Entry, Fill, Holder, NewRing, Step, World, run_step, visible
+from model import ADVICE, AT_POSITION, CREAT, LAST, READS, TRUNC, WRITES, Chain, Entry, Fill, Holder, NewRing, Step, World, run_step, visible
 from traces import AT_FDCWD, CLOSE, FALLOCATE, FIXED_FILE, FSYNC, FTRUNCATE, GREATEST_SIZE, LINKAT, MKDIRAT, OPENAT, READ_FIXED
-from traces import RENAMEAT, UNLINKAT, WRITE_FIXED
+from traces import RENAMEAT, STATX, UNLINKAT, WRITE_FIXED
 
 ORDER, CHAIN, SLOT, DESCRIPTOR, DESCRIPTION, POSITION = "order", "chain", "slot", "descriptor", "description", "position"
 SIZE, BYTES, NAME, COUNT, BUFFER = "size", "bytes", "name", "count of names", "bytes of buffer"
-MOVING, SYNCING, ON_PATHS = (*READS, *WRITES, FALLOCATE, FTRUNCATE), (FSYNC, *OF_VERSION_3), (OPENAT, UNLINKAT, MKDIRAT, LINKAT, RENAMEAT)
+MOVING, SYNCING, ON_PATHS = (*READS, *WRITES, FALLOCATE, FTRUNCATE), (FSYNC, *ADVICE), (OPENAT, UNLINKAT, MKDIRAT, LINKAT, RENAMEAT)
 EXTENDING, ZEROING = (0, 0x10), (3, 0x10, 0x11)
 
 
@@ -178,9 +178,27 @@ def row(world: World, place: Place) -> List[Use]:
         return [*handle(world, ring, bool(step.flags & FIXED_FILE), step.fd & LAST, False), *row_of_opened(world, ring, step)]
     if step.opcode == OPENAT:
         return row_of_open(world, place, step)
+    if step.opcode == STATX:
+        return row_of_stat(world, ring, step)
     if step.opcode == CLOSE:
         return handle(world, ring, step.file_index > 0, step.file_index - 1 if step.file_index else step.fd & LAST, True)
     return row_of_names(world, place, step) if step.opcode in ON_PATHS else []
+
+
+def row_of_stat(world: World, ring: int, entry: Entry) -> List[Use]:
+    """A STATX reads what leads to a node, and of a file the size."""
+    if not entry.has_no_path():
+        path = way(world, entry.fd, entry.side)
+        return [*path.looked_up(), *size_read(world, path.found)]
+    if entry.fd == AT_FDCWD:
+        return []
+    held = world.held(ring, entry)
+    opened = [] if held is None else [read(DESCRIPTION, held), *size_read(world, world.descriptions[held].node)]
+    return [*handle(world, ring, False, entry.fd & LAST, False), *opened]
+
+
+def size_read(world: World, node: Optional[int]) -> List[Use]:
+    return [] if node is None or world.is_directory(node) else [read(SIZE, node)]
 
 
 def row_of_ring(ring: int, step: NewRing) -> List[Use]:
@@ -300,7 +318,9 @@ def decides(step: Step, item: AnyItem) -> bool:
     """Whether it hangs on this item of a step which ones the others are."""
     if not isinstance(step, Entry):
         return False
-    return bool({SLOT, DESCRIPTOR, DESCRIPTION} & set(kinds(item))) if step.opcode in MOVING else step.opcode in ON_PATHS and NAME in kinds(item)
+    if step.opcode in MOVING or step.has_no_path():
+        return bool({SLOT, DESCRIPTOR, DESCRIPTION} & set(kinds(item)))
+    return step.opcode in (*ON_PATHS, STATX) and NAME in kinds(item)
 
 
 def reach(world: World, place: Place, own: List[Use], uses: List[Use], reached: Reached) -> List[Use]:
@@ -326,9 +346,11 @@ def unknown(world: World, place: Place, own: List[Use]) -> List[Use]:
     """What an operation reaches for of which the items are not known."""
     entry, nodes, descriptions = place.step(), world.items + 1 + place.number, world.described + place.number
     contents, names = Use(All((BYTES, SIZE), nodes), True), Use(All((NAME, COUNT), nodes), True)
-    if entry.opcode in MOVING:
+    if entry.opcode in MOVING or entry.has_no_path():
         kept = [it for it in own if {SLOT, DESCRIPTOR, BUFFER} & set(kinds(it.item))]
         return [*kept, contents, Use(All((POSITION,), descriptions), True), Use(All((DESCRIPTION,), descriptions), False)]
+    if entry.opcode == STATX:
+        return [names._replace(is_written=False), contents._replace(is_written=False)]
     return [names, contents] if entry.opcode == OPENAT and entry.own_flags & TRUNC else [names]
 
 

@@ -5,9 +5,9 @@ from typing import List, Tuple
 import drawing
 import record_traces
 from traces import CLOSE, DRAIN, FALLOCATE, FSYNC, FTRUNCATE, HARDLINK, LINK, LINKAT, MKDIRAT, NOP, OPENAT, READ, READ_FIXED, READV, RENAMEAT, SKIP
-from traces import FADVISE, SYNC_FILE_RANGE, UNLINKAT, WRITE, WRITE_FIXED, WRITEV, directory
+from traces import FADVISE, STATX, SYNC_FILE_RANGE, UNLINKAT, WRITE, WRITE_FIXED, WRITEV, directory
 
-# The opcodes whose failure breaks no chain in Linux, and is silent with CQE_SKIP_SUCCESS.
+# The opcodes whose failure breaks no chain in Linux, and is silent with CQE_SKIP_SUCCESS; but for STATX, of which the player can make up for none.
 UNCOUNTED = (FSYNC, SYNC_FILE_RANGE, FALLOCATE, FTRUNCATE, RENAMEAT, UNLINKAT, MKDIRAT, LINKAT)
 
 
@@ -17,7 +17,7 @@ class Played(drawing.Draw):
     def entry(self, number: int) -> bytes:
         drawn = super().entry(number)
         opcode, flags = drawn[0], drawn[1]
-        if opcode in UNCOUNTED:
+        if opcode in (*UNCOUNTED, STATX):
             flags = flags & ~LINK | HARDLINK if flags & LINK else flags
             flags &= ~SKIP if not self.rarely(4) else ~0
         return bytes([opcode, flags]) + drawn[2:]
@@ -58,4 +58,4 @@ class WideRecords(record_traces.Records, Wide):
     """Draws such a trace of version 3, with rings that come and go."""
 
     records, tables, each_given, each_flagged = Wide.records, Wide.tables, 100, 20
-    weights = {**Wide.weights, SYNC_FILE_RANGE: 2, FADVISE: 2}
+    weights = {**Wide.weights, SYNC_FILE_RANGE: 2, FADVISE: 2, STATX: 4}

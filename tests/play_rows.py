@@ -9,7 +9,7 @@ import record_traces
 from harness import TOP, Outcome, Program, first, shown
 from player import SOURCES, UNTRIED, Player
 from traces import AT_FDCWD, BUFFER_SELECT, CLOSE, DRAIN, FALLOCATE, FIXED_FILE, FTRUNCATE, GREATEST_SIZE, LINK, LINKAT, MKDIRAT, NOP, OPENAT
-from traces import FSYNC, READ, READ_FIXED, READV, RENAMEAT, SKIP, SYNC_FILE_RANGE, UNLINKAT, WRITE, WRITE_FIXED
+from traces import FSYNC, READ, READ_FIXED, READV, RENAMEAT, SKIP, STATX, SYNC_FILE_RANGE, UNLINKAT, WRITE, WRITE_FIXED
 from traces import description, directory, enter, entry, file, head, ring, descriptor_table, two_paths
 
 POSITION, NOWHERE = (1 << 64) - 1, AT_FDCWD & 0xffffffff
@@ -98,11 +98,12 @@ def rows() -> List[Row]:
     soft = [Play(world(with_flags(it, LINK), entry(NOP)), [(1, b"res=-125", b"res=0")]) for it in failing()]
     quiet = [Play(world(with_flags(it, SKIP)), [(0, b"posted", b"silent")]) for it in failing()]
     ranges = entry(SYNC_FILE_RANGE, FIXED_FILE, own_flags=8)
-    soft.append(Play(world_3(with_flags(ranges, LINK), entry(NOP)), [(2, b"res=-125", b"res=0")]))
-    quiet.append(Play(world_3(with_flags(ranges, SKIP)), [(1, b"posted", b"silent")]))
+    missing, bad = record_traces.stored(on_names(STATX, b"/no", length=0x7ff)), entry(STATX, fd=9, own_flags=0x1000)
+    soft += [Play(world_3(with_flags(it, LINK), entry(NOP)), [(2, b"res=-125", b"res=0")]) for it in (ranges, missing, bad)]
+    quiet += [Play(world_3(with_flags(it, SKIP)), [(1, b"posted", b"silent")]) for it in (ranges, missing, bad)]
     vectors = struct.pack("<QQ", 4, 1 << 62)
     return [
-        Row("A failing FSYNC, SYNC_FILE_RANGE, FALLOCATE, FTRUNCATE, RENAMEAT, UNLINKAT, MKDIRAT or LINKAT with IO_LINK (not for a bad descriptor)", soft + quiet),
+        Row("A failing FSYNC, SYNC_FILE_RANGE, STATX, FALLOCATE, FTRUNCATE, RENAMEAT, UNLINKAT, MKDIRAT or LINKAT with IO_LINK (for a bad descriptor only STATX)", soft + quiet),
         Row("RENAMEAT of a file onto a directory that is above it", [Play(world(on_names(RENAMEAT, two_paths(b"/d/f", b"/d"))), [(0, b"res=-21", b"res=-39")])]),
         Row("OPENAT into a slot that the ring does not have", [
             Play(world(on_names(OPENAT, b"/no", file_index=9), on_names(OPENAT, b"/new", own_flags=0x41, file_index=9), on_names(UNLINKAT, b"/new")),
@@ -114,10 +115,11 @@ def rows() -> List[Row]:
             Play(world(entry(WRITE, FIXED_FILE, offset=POSITION, length=8, side=bytes(8)), size=GREATEST_SIZE), [(-1, b"pos=1099511627776", b"pos=1099511627773")])]),
         Row("READV of several vectors, one of them of 2^47 bytes or more", [
             Play(world(entry(READV, FIXED_FILE, length=2, side=vectors)), [(0, b"res=10", b"res=-14")])]),
-        Row("Tests of an entry by itself (flags of CLOSE, OPENAT, RENAMEAT, LINKAT)", [
+        Row("Tests of an entry by itself (flags of CLOSE, OPENAT, STATX, RENAMEAT, LINKAT)", [
             Play(world(entry(NOP, LINK), it), [(0, b"res=-125", b"res=0")])
             for it in (entry(CLOSE, file_index=(1 << 32) - 1), on_names(OPENAT, b"/a", own_flags=0x10040, file_index=1),
-                       on_names(RENAMEAT, two_paths(b"/a", b"/b"), own_flags=8), on_names(LINKAT, two_paths(b"/a", b"/b"), own_flags=8))]),
+                       on_names(RENAMEAT, two_paths(b"/a", b"/b"), own_flags=8), on_names(LINKAT, two_paths(b"/a", b"/b"), own_flags=8))] + [
+            Play(world_3(entry(NOP, LINK), record_traces.stored(on_names(STATX, b"/a", own_flags=0x400))), [(1, b"res=-125", b"res=0")])]),
         Row("Order of tests: a read of length 0 on a directory, a bad buffer with a wrong access, both paths of LINKAT and RENAMEAT, flags and a path", [Play(world(it), [(0, here, there)]) for it, here, there in in_another_order()]),
         Row("Offset and length together over 2^63 - 1", [
             Play(world(entry(READ, FIXED_FILE, offset=(1 << 63) - 2, length=4)), [(0, b"res=0", b"res=-22")])]),

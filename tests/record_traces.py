@@ -8,7 +8,7 @@ from typing import Any, Dict, List, Sequence, Tuple
 import traces
 from drawing import ADDRESSES, LAST, WEIGHTS, Second, altered
 from model import READS, WRITES
-from traces import ENTRY, FADVISE, SYNC_FILE_RANGE, WRITE, WRITEV
+from traces import AT_FDCWD, ENTRY, FADVISE, STATX, SYNC_FILE_RANGE, WRITE, WRITEV
 
 END = b"\7"
 # Opcodes that are given, and results of an entry that is given, and of one that is refused on submission.
@@ -142,7 +142,7 @@ class Records(Second):
     """Draws a trace of version 3."""
 
     tables, records = (0, 1, 3, 5, 40), 14
-    weights = {**WEIGHTS, SYNC_FILE_RANGE: 3, FADVISE: 3}
+    weights = {**WEIGHTS, SYNC_FILE_RANGE: 3, FADVISE: 3, STATX: 7}
     # Of how many entries one is given, and of how many transfers one has flags of its own.
     each_given, each_flagged = 7, 6
 
@@ -202,6 +202,17 @@ class Records(Second):
 
     def filled(self, number: int, index: int, offset: int, data: bytes) -> bytes:
         return fill_of_zeros(number, index, offset, len(data)) if self.rarely(2) else fill(number, index, offset, data)
+
+    def fields(self, opcode: int, number: int) -> Dict[str, Any]:
+        if opcode != STATX:
+            return super().fields(opcode, number)
+        own = self.one((0, 0, 0, 0x100, 0x800, 0x2000, 0x4000, 0x6000, 0x400)) if self.rarely(3) else 0
+        mask = 1 << 31 if self.rarely(25) else self.one((0, 0x7FF, 0xFFF))
+        if self.rarely(2):
+            return {"fd": self.start(), "length": mask, "own_flags": own | 0x1000 * self.rarely(5), "side": self.path()}
+        is_root = self.rarely(8)
+        fd = AT_FDCWD if is_root else self.source.randrange(-1, self.table + 1)
+        return {"fd": fd, "length": mask, "own_flags": own | 0x1000 * (not self.rarely(8))}
 
     def moved(self, opcode: int, number: int) -> Dict[str, Any]:
         if opcode == SYNC_FILE_RANGE:

@@ -41,6 +41,7 @@ MODES = (
     Mode("errors", [(READ, -14, FAILS), (READ, 1, PASSES), (FSYNC, -22, FAILS), (FADVISE, -22, FAILS)], (8, 0), (2, 0)),
     Mode("filled", [(READ, 5, PASSES), (RECV, 4, PASSES)], (5, 0)),
     Mode("filled_buffer", [(READ_FIXED, 5, PASSES), (WRITE_FIXED, 5, PASSES), (RECV, 6, PASSES), (WRITE_FIXED, 6, PASSES)], (5, 0), (0, 1)),
+    Mode("told", [(STATX, 0, PASSES)] * 3 + [(STATX, -22, FAILS)] * 3, (16, 0), (2, 0)),
     Mode("quiet", [(POLL_ADD, 0, PASSES), (EPOLL_CTL, -9, FAILS)], (5, 0), (0, 1)),
 )
 OPTIONS: Sequence[Sequence[str]] = ([], ["--wait"])

@@ -28,7 +28,7 @@ ERRORS = ("/usr/include/asm-generic/errno-base.h", "/usr/include/asm-generic/err
 OPCODES = "/usr/include/linux/io_uring.h"
 # The operations that are modelled, and those that headers of older kernels lack (io_uring_enter(2); Linux 6.16).
 KNOWN = {
-    0: "NOP", 1: "READV", 2: "WRITEV", 3: "FSYNC", 4: "READ_FIXED", 5: "WRITE_FIXED", 8: "SYNC_FILE_RANGE", 17: "FALLOCATE", 18: "OPENAT", 19: "CLOSE",
+    0: "NOP", 1: "READV", 2: "WRITEV", 3: "FSYNC", 4: "READ_FIXED", 5: "WRITE_FIXED", 8: "SYNC_FILE_RANGE", 17: "FALLOCATE", 18: "OPENAT", 19: "CLOSE", 21: "STATX",
     22: "READ", 23: "WRITE", 24: "FADVISE", 35: "RENAMEAT", 36: "UNLINKAT", 37: "MKDIRAT", 39: "LINKAT", 55: "FTRUNCATE",
     49: "READ_MULTISHOT", 50: "WAITID", 51: "FUTEX_WAIT", 52: "FUTEX_WAKE", 53: "FUTEX_WAITV", 54: "FIXED_FD_INSTALL", 56: "BIND", 57: "LISTEN",
     58: "RECV_ZC", 59: "EPOLL_WAIT", 60: "READV_FIXED", 61: "WRITEV_FIXED", 62: "PIPE",

@@ -50,6 +50,34 @@ def of_front(program: Program, seed: int) -> Optional[str]:
     return "by the second reader: {}".format(told) if told else difference(program.run(words, front), wanted)
 
 
+def of_cut(program: Program, seed: int) -> Optional[str]:
+    """How `--cut` serves such a front otherwise than as a trace that ends behind its last whole record, if it does. Of a whole trace it changes nothing."""
+    front, words = front_of(seed), PLAIN[seed % len(PLAIN)]
+    wanted = by_models.replayed_if_cut(front, "--sums" in words)
+    whole = record_traces.Records(seed).trace()
+    told = None if seed % IN_PIECES else difference(program.run([*words, "--cut"], whole), by_models.replayed(whole, "--sums" in words))
+    return told or difference(program.run([*words, "--cut"], front), wanted)
+
+
+def not_cut(program: Program) -> List[Outcome]:
+    """What `--cut` takes is Short behind a start of version 3, and nothing else."""
+    begun = record_traces.of_one_file(9, b"123456789") + record_traces.enter(0, [looked(3)])
+    start, _ = model_records.Records(begun + record_traces.END).ends[0]
+    cases = (
+        ("nothing", b""),
+        ("a start that is cut off", begun[: start - 1]),
+        ("version 2", read("read_four_bytes.trace")[:-1]),
+        ("another fault", begun + b"\x08"),
+        ("bytes behind the end", begun + record_traces.END * 2),
+    )
+    outcomes = []
+    for what, trace in cases:
+        wanted = by_models.replayed(trace)
+        told = "it is not refused" if wanted.status != 1 else difference(program.run(["serial", "--cut"], trace), wanted)
+        outcomes.append(Outcome("--cut of {}, by {}".format(what, program.compiler), told))
+    return outcomes
+
+
 def outputs(program: Program) -> List[Outcome]:
     """An output that is full or closed is a fault of its own, also where the trace has one behind lines."""
     cases = (("read_four_bytes", fault("write")), ("lines_before_a_fault", fault("write")), ("header_word", by_models.replayed(read("version_3", "header_word.trace"))))
@@ -350,8 +378,9 @@ def jobs(programs: List[Program]) -> List[Job]:
     starts = [at + back for back in (0, days.first_seed()) for at in range(0, FRONTS, each)]
     made: List[Job] = [partial(in_memory, programs[0], it) for it in BOUNDED] + [partial(of_model, it) for it in BOUNDED]
     for program in programs:
-        made += [partial(it, program) for it in (outputs, told_at_once, nothing_before)]
+        made += [partial(it, program) for it in (outputs, told_at_once, nothing_before, not_cut)]
         made += [partial(prompt, program, *it) for it in of_sizes()]
         made.append(partial(lot, program, "traces of version 3 that come in pieces", of_pieces, range(IN_PIECES)))
-        made += [partial(lot, program, "fronts of traces of version 3", of_front, range(at, at + each)) for at in (starts if program is programs[0] else starts[:: LOTS])]
+        made += [partial(lot, program, label, tried, range(at, at + each)) for label, tried in (("fronts of traces of version 3", of_front), ("such fronts with --cut", of_cut))
+                 for at in (starts if program is programs[0] else starts[:: LOTS])]
     return made

@@ -30,12 +30,14 @@ WRONG: List[Words] = [
     ["show", "a", "extra"], ["show", "--sums"], ["show", "--places", "--places"], ["show", "--first"], ["show", "--first", "0"], ["show", "--first", "x"], ["make", "a", "extra"], ["make", "--places"], ["make", "--sums"],
     ["diff", "a", "b", "extra"], ["diff", "--eager"], ["diff", "--sums"], ["diff", "--workers", "2"],
     ["diff", "--show"], ["diff", "--show", "a", "--show", "b"], ["diff", "--show", "a", "--json"], ["diff", "--json", "--show=a", "b", "c"],
+    ["serial", "--cut", "--cut"], ["serial", "--cut=1"], ["serial", "--cut", "--json"], ["run", "--json", "--cut"], ["run", "--cut", "--eager"],
+    ["compare", "--cut"], ["rounds", "--cut"], ["depends", "--cut"], ["check", "--cut"], ["show", "--cut"], ["make", "--cut"], ["diff", "--cut"],
     ["serial", "--show", "a"], ["run", "--show", "a"], ["check", "--show=a"], ["show", "--show", "a"], ["make", "--show", "a"],
 ]
 GOOD: List[Words] = [
     ["serial"], ["run"], ["run", "--workers=64", "--window=4096"], ["run", "--workers", "1", "--window", "1"],
     ["run", "--window", "1", "--workers", "64"], ["run", "--eager"], ["run", "--eager", "--window=2", "--workers", "2"],
-    ["run", "--window", "2", "--eager", "-"], ["run", "-", "--eager"], ["serial", "-"], ["serial", "--", "-"],
+    ["run", "--window", "2", "--eager", "-"], ["run", "-", "--eager"], ["serial", "-"], ["serial", "--", "-"], ["serial", "--cut"], ["run", "--cut", "-"],
 ]
 NO_TEXT: List[Words] = [[b"\xff"], ["serial", b"--su\xffms"], ["run", "--workers", b"\xff4"], [b"\xc3"]]
 
