@@ -1,4 +1,5 @@
 pub mod AnyTraces
+pub mod Beside
 pub mod Checks
 pub mod Diffs
 pub mod Forms

@@ -3,6 +3,7 @@
 #![tactic(auto)]
 
 mod any_trace;
+mod beside;
 mod checking;
 mod differing;
 mod ending;
@@ -17,6 +18,7 @@ mod showing;
 mod streaming;
 
 pub use any_trace::AnyTrace;
+pub use beside::run_diff_beside;
 pub use byte_transfer::{
     Failed, FromStd, MOST_BYTES, Sink, Source, TextFault, read_text, write_text,
 };

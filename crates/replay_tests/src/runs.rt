@@ -5,7 +5,7 @@ use crate::examples::{NEIGHBOURING_WRITES_DO_NOT_COLLIDE, READ_FOUR_BYTES};
 use replay_core::{ReplayFault, Verdict};
 use replay_program::{
     Files, Form, FromStd, Mode, Options, ReportsFault, RunFault, Task, read_words, run, run_alone,
-    run_diff, run_diff_of_two, run_diff_shown, run_make, told,
+    run_diff, run_diff_beside, run_diff_shown, run_make, told,
 };
 use replay_report::{Shown, SumsShown};
 use report_diff::{Flaw, Refusal, Side};
@@ -321,7 +321,7 @@ fn compares_the_reports_of_two_readers(rt: HostRuntime) {
     let mut first = FromStd::new("uring-report 1\n0 user=7 res=4 posted\nend\n".as_bytes());
     let mut second = FromStd::new("uring-report 1\n0 user=7 res=4 silent\nend\n".as_bytes());
     let mut writer = FromStd::new(Vec::new(alloc));
-    let done = run_diff_of_two(alloc, &mut first, &mut second, &mut writer, Form::Text);
+    let done = run_diff_beside(alloc, &mut first, &mut second, &mut writer);
     assert_eq!(rt; done, Err(RunFault::Different));
     let text = "- 0 user=7 res=4 posted\n\
         + 0 user=7 res=4 silent\n\

@@ -7,3 +7,12 @@ pub mod RepeatLemmas
 pub mod PlaceLemmas
 pub mod IndexLemmas
 pub mod Reports
+pub mod CountLemmas
+pub mod Apart
+pub mod Rising
+pub mod Removing
+pub mod Early
+pub mod SaysLemmas
+pub mod MergeLemmas
+pub mod FinishLemmas
+pub mod EarlyText

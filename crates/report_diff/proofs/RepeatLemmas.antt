@@ -5,7 +5,7 @@ use Rattle.std.proofs.lemmas.List.{append-nil}
 use Rattle.report_diff.specs.Lines.{line_about, subject}
 use Rattle.report_diff.specs.Repeats.{if_new, once, once_behind}
 
-once_behind-append : (earlier xs ys : List (List ℕ)) → once_behind earlier (xs ++ ys) ≡ once_behind earlier xs ++ once_behind (earlier ++ xs) ys
+pub once_behind-append : (earlier xs ys : List (List ℕ)) → once_behind earlier (xs ++ ys) ≡ once_behind earlier xs ++ once_behind (earlier ++ xs) ys
 once_behind-append earlier [] ys = rw append-nil refl
 once_behind-append earlier (x ∷ xs) ys =
     ap (λ rest. if_new earlier x ++ rest) (once_behind-append (earlier ++ x ∷ []) xs ys)

@@ -14,7 +14,7 @@ onto zero b (p ∷ parts) = refl
 onto (suc n) b (p ∷ []) = refl
 onto (suc n) b (p ∷ q ∷ parts) = refl
 
-letter : (n b : ℕ) (rest : List ℕ) → (b == 32) ≡ false → first_words (suc n) (b ∷ rest) ≡ b ∷ first_words (suc n) rest
+pub letter : (n b : ℕ) (rest : List ℕ) → (b == 32) ≡ false → first_words (suc n) (b ∷ rest) ≡ b ∷ first_words (suc n) rest
 unfolding first_words
 letter n b rest other = rw other (onto n b (words rest))
 
@@ -24,15 +24,15 @@ between : (n : ℕ) (parts : List (List ℕ)) → 0 < length parts
 between n [] some = absurd (omega arith)
 between n (p ∷ parts) some = refl
 
-space : (n : ℕ) (rest : List ℕ) → first_words (suc (suc n)) (32 ∷ rest) ≡ 32 ∷ first_words (suc n) rest
+pub space : (n : ℕ) (rest : List ℕ) → first_words (suc (suc n)) (32 ∷ rest) ≡ 32 ∷ first_words (suc n) rest
 unfolding first_words
 space n rest = between n (words rest) (omega (arith, length-slice_split (λ c. c == 32) rest))
 
-last_space : (rest : List ℕ) → first_words 1 (32 ∷ rest) ≡ []
+pub last_space : (rest : List ℕ) → first_words 1 (32 ∷ rest) ≡ []
 unfolding first_words
 last_space rest = refl
 
-none_left : (n : ℕ) → first_words (suc n) [] ≡ []
+pub none_left : (n : ℕ) → first_words (suc n) [] ≡ []
 unfolding first_words
 none_left zero = refl
 none_left (suc n) = refl

@@ -10,6 +10,8 @@ use Rattle.report_diff.specs.declared.telling.Outcome.{Outcome}
 use Rattle.report_diff.specs.declared.telling.Outcome.TheVariants.{Equal, Different, Outside}
 use Rattle.report_diff.specs.declared.telling.Finding.{Finding}
 use Rattle.report_diff.specs.declared.telling.Told.{Told}
+use Rattle.report_diff.specs.declared.counting.Counts.{Counts}
+use Rattle.report_diff.specs.declared.counting.Tally.{Tally}
 use Rattle.report_diff.specs.Lines.{fact_name, facts, line_about, line_kind, section_of, subject}
 use Rattle.report_diff.specs.Repeats.{once}
 
@@ -159,10 +161,12 @@ section_name Tree = codes "tree"
 section_name Slots = codes "slots"
 section_name Buffers = codes "buffers"
 
-unfoldable pub count_line : List Finding → Section → List ℕ
-count_line findings section =
-    section_name section ++ codes " " ++ decimal (count findings section Equal) ++ codes " equal, " ++ decimal (count findings section Different)
-    ++ codes " different, " ++ decimal (count findings section Outside) ++ codes " outside\n"
+unfoldable pub tally_line : Section → (equal different outside : ℕ) → List ℕ
+tally_line section equal different outside =
+    section_name section ++ codes " " ++ decimal equal ++ codes " equal, " ++ decimal different ++ codes " different, " ++ decimal outside ++ codes " outside\n"
+
+abbrev pub count_line : List Finding → Section → List ℕ
+count_line findings section = tally_line section (count findings section Equal) (count findings section Different) (count findings section Outside)
 
 -- The line of the files whose bytes are not compared, where there are some.
 abbrev pub large_count : List Finding → ℕ
@@ -193,12 +197,25 @@ no_difference all = not (list_any (λ f. same_outcome f.outcome Different) all)
 abbrev pub are_alike : List (List ℕ) → List (List ℕ) → Bool
 are_alike first second = no_difference (findings (found first second))
 
+-- A view of code: the counts of a section, and those of all.
+pub record IsTally (section : Section) (all : List Finding) (tally : Tally) : Type 0 where
+  pub equal : tally.equal ≡ count all section Equal
+  pub different : tally.different ≡ count all section Different
+  pub outside : tally.outside ≡ count all section Outside
+
+pub record AreCounts (all : List Finding) (counts : Counts) : Type 0 where
+  pub entries : IsTally Entries all counts.entries
+  pub tree : IsTally Tree all counts.tree
+  pub slots : IsTally Slots all counts.slots
+  pub buffers : IsTally Buffers all counts.buffers
+  pub large : counts.large ≡ large_count all
+
 -- Some more was found, and is told.
 pub record Adds (old new : Told) (more : List Found) : Type 0 where
-  pub findings : new.findings.items ≡ old.findings.items ++ findings more
+  pub counts : (all : List Finding) → AreCounts all old.counts → AreCounts (all ++ findings more) new.counts
   pub text : new.text.items ≡ old.text.items ++ found_text more
 
 -- What was found so far.
 pub record Holds (all : Told) (founds : List Found) : Type 0 where
-  pub findings : all.findings.items ≡ findings founds
+  pub counts : AreCounts (findings founds) all.counts
   pub text : all.text.items ≡ found_text founds

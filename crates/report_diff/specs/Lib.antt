@@ -5,3 +5,4 @@ pub mod Refusals
 pub mod Differences
 pub mod Known
 pub mod Inputs
+pub mod Merging

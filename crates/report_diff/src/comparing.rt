@@ -1,20 +1,24 @@
 //! Two reports, in one text or in two.
-ghost use Rattle.std.specs.Prelude.{◌≡◌, ◌≤◌, IfErr, IfOk, List, None, OnOk, length, ℕ};
+ghost use Rattle.std.specs.Prelude.{◌≡◌, ◌≤◌, ◌++◌, IfErr, IfOk, List, None, OnOk, Some, length, ℕ};
 ghost use Rattle.std.specs.List.{flat_map, position_or_len};
-ghost use Rattle.report_diff.specs.Differences.{Adds, Holds, are_alike, difference_text, found};
+ghost use Rattle.report_diff.specs.Differences.{Adds, Found, found};
 ghost use Rattle.report_diff.specs.Differences.{of_first, of_second};
 ghost use Rattle.report_diff.specs.Inputs.{Compares, ComparesLines, ComparesTwo, TellsFlaw, TellsVersions};
 ghost use Rattle.report_diff.specs.Inputs.{TellsOfInput, TellsOfLines, TellsOfTwo};
-ghost use Rattle.report_diff.specs.Inputs.{flaw_of, is_end, is_nothing, report_in, version_of, versions_flaw};
+ghost use Rattle.report_diff.specs.Merging.{ComparesFound, HoldsBehind, IsPassed, order_behind};
+ghost use Rattle.report_diff.specs.Refusals.{refusal_text};
+ghost use Rattle.report_diff.specs.Inputs.{flaw_behind, flaw_of, is_end, is_nothing, report_in, version_of, versions_flaw};
 ghost use Rattle.report_diff.specs.declared.comparing.DiffFault.TheVariants.{Memory, Refused};
 ghost use Rattle.report_diff.specs.Lines.{texts};
 ghost use Rattle.report_diff.specs.Repeats.{IsIndex};
 
+use crate::counting::counts_text;
 use crate::index::Index;
 use crate::lines::lines;
+use crate::passed::Passed;
 use crate::places::in_order;
 use crate::refusal::{Flaw, Refusal, Side};
-use crate::telling::{Told, counts_text, no_difference};
+use crate::telling::Told;
 use crate::version::Version;
 use std::alloc::{AllocError, Global};
 
@@ -90,9 +94,9 @@ fn compare_lines(alloc: Global, first: &[&[u8]], second: &[&[u8]]) -> Result<Com
     let one = report_in(Side::First, first)?;
     let other = report_in(Side::Second, second)?;
     of_one_version(first, second)?;
-    let one = Index::of(alloc, Side::First, one)?;
-    let other = Index::of(alloc, Side::Second, other)?;
-    Ok(compared(alloc, &one, &other)?)
+    let one = Index::of(alloc, Side::First, 0, one)?;
+    let other = Index::of(alloc, Side::Second, 0, other)?;
+    Ok(compared(alloc, Told::nothing(alloc), &one, &other)?)
 }
 
 /// Refuses two reports of different versions.
@@ -112,18 +116,36 @@ fn of_one_version(first: &[&[u8]], second: &[&[u8]]) -> Result<(), Refusal>
 }
 
 /// The lines of a text up to its first line `end`, behind which nothing may stand, in their order.
-#[tactic(auto, unfolding(crate::specs::Inputs::flaw_of, crate::specs::Inputs::report_in))]
+#[tactic(auto, unfolding(crate::specs::Inputs::flaw_of))]
 fn report_in<'t, 'a>(side: Side, text: &'t [&'a [u8]]) -> Result<&'t [&'a [u8]], Refusal>
     ensures report { IfOk result (λ report. texts report.now ≡ report_in (texts text.now)) }
     ensures whole { OnOk result (flaw_of side (texts text.now) ≡ None) }
     ensures err { IfErr result (λ why. TellsFlaw side (texts text.now) (Refused why)) }
 {
-    let Some(version) = Version::of(text) else {
-        return Err(Refusal {
+    match Version::of(text) {
+        Some(version) => body_in(side, version, Passed::none(), text),
+        None => Err(Refusal {
             side,
             flaw: Flaw::Heading,
-        });
-    };
+        }),
+    }
+}
+
+/// The same of a text of which some lines were passed.
+pub(crate) fn body_in<'t, 'a>(
+    side: Side,
+    version: Version,
+    passed: Passed,
+    text: &'t [&'a [u8]],
+) -> Result<&'t [&'a [u8]], Refusal>
+    ensures report { IfOk result (λ report. texts report.now ≡ report_in (texts text.now)) }
+    ensures orderly { (earlier : List (List ℕ)) → IsPassed passed earlier
+        → IfOk result (λ report. order_behind side version earlier (texts report.now) ≡ None) }
+    ensures whole { (earlier : List (List ℕ)) → IsPassed passed earlier
+        → OnOk result (flaw_behind side (earlier ++ texts text.now) (Some version) ≡ None) }
+    ensures err { (earlier : List (List ℕ)) → IsPassed passed earlier → IfErr result
+        (λ why. flaw_behind side (earlier ++ texts text.now) (Some version) ≡ Some (refusal_text why)) }
+{
     let end = end_of(text);
     if end == text.len() {
         return Err(Refusal {
@@ -137,7 +159,7 @@ fn report_in<'t, 'a>(side: Side, text: &'t [&'a [u8]]) -> Result<&'t [&'a [u8]],
             flaw: Flaw::GoesOn,
         });
     }
-    in_order(side, version, &text[..end])?;
+    in_order(side, version, passed, &text[..end])?;
     Ok(&text[..end])
 }
 
@@ -165,34 +187,40 @@ fn end_of(lines: &[&[u8]]) -> usize
     lines.len()
 }
 
-/// How two reports compare.
-fn compared(alloc: Global, first: &Index<'_>, second: &Index<'_>) -> Result<Comparison, AllocError>
-    ensures text { (one other : List (List ℕ)) → IsIndex first.now one → IsIndex second.now other
-        → IfOk result (λ comparison. comparison.text.items ≡ difference_text one other) }
-    ensures alike { (one other : List (List ℕ)) → IsIndex first.now one → IsIndex second.now other
-        → IfOk result (λ comparison. comparison.alike ≡ are_alike one other) }
+/// How two reports compare, behind what was found before.
+pub(crate) fn compared(
+    alloc: Global,
+    told: Told,
+    first: &Index<'_>,
+    second: &Index<'_>,
+) -> Result<Comparison, AllocError>
+    ensures { (one other : List (List ℕ)) → (taken : List ℕ) → (before : List Found)
+        → IsIndex first.now one → IsIndex second.now other → HoldsBehind taken told before
+        → IfOk result (ComparesFound taken (before ++ found one other)) }
 {
-    let told = told(alloc, first, second)?;
-    let counts = counts_text(alloc, told.findings.as_slice())?;
-    let alike = no_difference(told.findings.as_slice());
+    let mut told = told;
+    add_all(alloc, &mut told, first, second)?;
+    let counts = counts_text(alloc, told.counts)?;
+    let alike = told.counts.no_difference();
     let mut text = told.text;
     text.extend_from_slice(counts.as_bytes())?;
     Ok(Comparison { text, alike })
 }
 
-/// What the lines of two reports tell: those of the first, then those that only the second has.
+/// Adds what the lines of two reports tell: those of the first, then those that only the second has.
 #[tactic(auto, unfolding(crate::specs::Differences::found))]
-fn told(alloc: Global, first: &Index<'_>, second: &Index<'_>) -> Result<Told, AllocError>
+fn add_all(
+    alloc: Global,
+    told: &mut Told,
+    first: &Index<'_>,
+    second: &Index<'_>,
+) -> Result<(), AllocError>
     ensures { (one other : List (List ℕ)) → IsIndex first.now one → IsIndex second.now other
-        → IfOk result (λ all. Holds all (found one other)) }
+        → OnOk result (Adds told.old told.new (found one other)) }
 {
-    let mut told = Told {
-        findings: Vec::new(alloc),
-        text: Vec::new(alloc),
-    };
-    add_firsts(alloc, &mut told, second, first.lines())?;
-    add_seconds(alloc, &mut told, first, second.lines())?;
-    Ok(told)
+    add_firsts(alloc, told, second, first.lines())?;
+    add_seconds(alloc, told, first, second.lines())?;
+    Ok(())
 }
 
 fn add_firsts(

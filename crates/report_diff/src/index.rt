@@ -1,10 +1,10 @@
 //! The lines of a text by their subjects.
-ghost use Rattle.std.specs.Prelude.{◌≡◌, ◌∷◌, ◌++◌, IfErr, IfOk, List, None, OnOk, [], ℕ, is_some};
+ghost use Rattle.std.specs.Prelude.{◌≡◌, ◌≤◌, ◌^◌, ◌∷◌, ◌++◌, IfErr, IfOk, List, None, OnOk, [], ℕ, is_some};
 ghost use Rattle.std.specs.Prelude.{not};
 ghost use Rattle.std.specs.Option.{option_map};
 ghost use Rattle.report_diff.specs.Differences.{has_section};
-ghost use Rattle.report_diff.specs.Inputs.{TellsOtherwise};
 ghost use Rattle.report_diff.specs.Lines.{line_about, texts};
+ghost use Rattle.report_diff.specs.Merging.{TellsSaid};
 ghost use Rattle.report_diff.specs.Repeats.{IsIndex, once, otherwise, says_otherwise};
 
 use crate::comparing::DiffFault;
@@ -23,11 +23,17 @@ pub(crate) struct Index<'a> {
 
 impl<'a> Index<'a> {
     /// The index of a text, which is refused where a line has other facts than an earlier one of
-    /// its subject.
-    pub(crate) fn of(alloc: Global, side: Side, lines: &[&'a [u8]]) -> Result<Index<'a>, DiffFault>
+    /// its subject. So many lines were taken out before the one that may be told.
+    pub(crate) fn of(
+        alloc: Global,
+        side: Side,
+        skipped: usize,
+        lines: &[&'a [u8]],
+    ) -> Result<Index<'a>, DiffFault>
+        requires { skipped ≤ 2 ^ 62 }
         ensures index { IfOk result (λ index. IsIndex index (texts lines.now)) }
         ensures agrees { OnOk result (otherwise (texts lines.now) ≡ None) }
-        ensures err { IfErr result (TellsOtherwise side (texts lines.now)) }
+        ensures err { IfErr result (TellsSaid side skipped (texts lines.now)) }
     {
         let mut index = Index {
             known: BTreeMap::new(alloc),
@@ -36,7 +42,7 @@ impl<'a> Index<'a> {
         for (place, line) in lines.iter().enumerate() {
             if !index.add(alloc, line)? {
                 let flaw = Flaw::Otherwise {
-                    line: place + 1,
+                    line: place + 1 + skipped,
                     subject: shown(subject(line)),
                 };
                 return Err(DiffFault::Refused(Refusal { side, flaw }));

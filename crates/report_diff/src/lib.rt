@@ -8,15 +8,21 @@
 #![tactic(auto)]
 
 mod comparing;
+mod counting;
 mod facts;
+mod finishing;
+mod fronts;
 mod index;
 mod known;
 mod lines;
+mod merging;
+mod passed;
 mod places;
 mod refusal;
 mod telling;
 mod version;
 
 pub use comparing::{Comparison, DiffFault, compare, compare_two};
+pub use fronts::{HEADING, Merging, Offer};
 pub use refusal::{Flaw, Refusal, Shown, Side};
 pub use version::Version;

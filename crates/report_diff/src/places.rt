@@ -1,17 +1,24 @@
 //! The entries of a report in the order of their places.
 ghost use Rattle.std.specs.Prelude.{◌≡◌, ◌<◌, ◌^◌, ◌∷◌, ◌++◌, IfErr, IfSome, List, OnOk, [], ℕ};
-ghost use Rattle.std.specs.Prelude.{MatchOption, false, true};
-ghost use Rattle.report_diff.specs.Inputs.{TellsOrder, order_of};
-ghost use Rattle.report_diff.specs.Lines.{texts};
-ghost use Rattle.report_diff.specs.Places.{RisesFrom, falls, number_of, place_of};
+ghost use Rattle.std.specs.Prelude.{◌+◌, ◌≤◌, IfOk, MatchOption, None, Some, false, true};
+ghost use Rattle.report_diff.specs.Lines.{line_kind, texts};
+ghost use Rattle.report_diff.specs.Merging.{IsPassed, goes_on, heading, order_behind};
+ghost use Rattle.report_diff.specs.Places.{RisesFrom, falls, is_entry, line_place, number_of};
+ghost use Rattle.report_diff.specs.Places.{place_of};
+ghost use Rattle.report_diff.specs.Refusals.{refusal_text};
 ghost use Rattle.report_diff.specs.declared.version.Version.TheVariants.{Two};
 
 use crate::lines::{line_kind, subject};
+use crate::passed::Passed;
 use crate::refusal::{Flaw, Refusal, Side, shown};
 use crate::version::Version;
+use std::alloc::AllocError;
 
 /// The greatest place that can be told.
 const MOST: u64 = 4_294_967_295;
+
+/// More lines than this are taken for too many.
+const MOST_LINES: usize = 4_611_686_018_427_387_904;
 
 /// The number of 32 bits that digits write.
 fn number_of(digits: &[u8]) -> Option<u64>
@@ -60,18 +67,76 @@ fn next_behind(next: u64, line: &[u8]) -> Option<u64>
     if place < next { None } else { Some(place + 1) }
 }
 
-/// Refuses a report whose places do not rise, by its first line that falls.
-fn all_rise(side: Side, report: &[&[u8]]) -> Result<(), Refusal>
-    ensures ok { OnOk result (order_of side Two (texts report.now) ≡ None) }
-    ensures err { IfErr result (TellsOrder side Two (texts report.now)) }
+/// The place of a line, where it is of an entry whose place is not below `next`.
+pub(crate) fn place_on(next: u64, line: &[u8]) -> Option<u64>
+    ensures { MatchOption result ((earlier : List (List ℕ)) → RisesFrom next earlier
+        → goes_on earlier line.now ≡ false)
+        (λ place. (is_entry (line_kind line.now) ≡ true) × (line_place line.now ≡ Some place)
+        × (next ≤ place) × (place < 2 ^ 32)) }
 {
-    let mut next = 0;
+    if !line_kind(line).is_entry() {
+        return None;
+    }
+    match place_of(subject(line)) {
+        Some(place) if next <= place => Some(place),
+        _ => None,
+    }
+}
+
+impl Passed {
+    /// No line was passed.
+    pub(crate) fn none() -> Passed
+        ensures { IsPassed result [] }
+    {
+        Passed { lines: 0, next: 0 }
+    }
+
+    /// The heading of a report of version 2 was passed.
+    pub(crate) fn heading() -> Passed
+        ensures passed { IsPassed result (heading ∷ []) }
+        ensures next { result.next ≡ 0 }
+    {
+        Passed { lines: 1, next: 0 }
+    }
+
+    /// An entry of this place was passed.
+    pub(crate) fn on(&mut self, place: u64) -> Result<(), AllocError>
+        requires { place < 2 ^ 32 }
+        ensures lines { OnOk result (self.new.lines ≡ self.old.lines + 1) }
+        ensures next { OnOk result (self.new.next ≡ place + 1) }
+    {
+        self.lines = one_more(self.lines)?;
+        self.next = place + 1;
+        Ok(())
+    }
+}
+
+/// A count of lines and one. More lines than can be told are taken for too many to hold.
+pub(crate) fn one_more(count: usize) -> Result<usize, AllocError>
+    ensures { IfOk result (λ n. (n ≡ count + 1) × (n ≤ 2 ^ 62)) }
+{
+    if count < MOST_LINES {
+        Ok(count + 1)
+    } else {
+        Err(AllocError)
+    }
+}
+
+/// Refuses a report whose places do not rise, by its first line that falls, behind the lines of it
+/// that were passed.
+fn all_rise(side: Side, passed: Passed, report: &[&[u8]]) -> Result<(), Refusal>
+    ensures ok { (earlier : List (List ℕ)) → IsPassed passed earlier
+        → OnOk result (order_behind side Two earlier (texts report.now) ≡ None) }
+    ensures err { (earlier : List (List ℕ)) → IsPassed passed earlier → IfErr result
+        (λ why. order_behind side Two earlier (texts report.now) ≡ Some (refusal_text why)) }
+{
+    let mut next = passed.next;
     for (place, line) in report.iter().enumerate() {
         match next_behind(next, line) {
             Some(after) => next = after,
             None => {
                 let flaw = Flaw::Order {
-                    line: place + 1,
+                    line: passed.lines + place + 1,
                     subject: shown(subject(line)),
                 };
                 return Err(Refusal { side, flaw });
@@ -81,13 +146,20 @@ fn all_rise(side: Side, report: &[&[u8]]) -> Result<(), Refusal>
     Ok(())
 }
 
-/// Refuses a report whose lines are not in the order of its version.
-pub(crate) fn in_order(side: Side, version: Version, report: &[&[u8]]) -> Result<(), Refusal>
-    ensures ok { OnOk result (order_of side version (texts report.now) ≡ None) }
-    ensures err { IfErr result (TellsOrder side version (texts report.now)) }
+/// Refuses a report whose lines are not in the order of its version, behind those that were passed.
+pub(crate) fn in_order(
+    side: Side,
+    version: Version,
+    passed: Passed,
+    report: &[&[u8]],
+) -> Result<(), Refusal>
+    ensures ok { (earlier : List (List ℕ)) → IsPassed passed earlier
+        → OnOk result (order_behind side version earlier (texts report.now) ≡ None) }
+    ensures err { (earlier : List (List ℕ)) → IsPassed passed earlier → IfErr result
+        (λ why. order_behind side version earlier (texts report.now) ≡ Some (refusal_text why)) }
 {
     match version {
         Version::One => Ok(()),
-        Version::Two => all_rise(side, report),
+        Version::Two => all_rise(side, passed, report),
     }
 }

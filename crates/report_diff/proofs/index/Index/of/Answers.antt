@@ -1,6 +1,7 @@
 use Rattle.std.proofs.Common.{◌≡◌, ◌+◌, ℕ, false, true, List, get_or, take, drop, refl, sym, ap, ◌∙◌}
 use Rattle.std.specs.Option.{option_map}
 use Rattle.report_diff.specs.Lines.{line_about, texts}
+use Rattle.report_diff.specs.Merging.{further}
 use Rattle.report_diff.specs.Refusals.{otherwise_text, shown_subject}
 use Rattle.report_diff.specs.Repeats.{once, otherwise, says_otherwise}
 use Rattle.report_diff.proofs.Slices.{no_slice, texts_more, texts_split, length_texts}
@@ -21,7 +22,8 @@ returns-then-not-branch-clause-err c =
     let line = (get_or all place no_slice).now in
     let other : says_otherwise text line ≡ true = says_other _ (sym c.if-not-branch.true ∙ c.in_ok-add.ensures.agrees text c.loop-place.invariant.index) in
     let found = first_found says_otherwise text (texts (drop (place + 1) all)) line c.loop-place.invariant.agrees other in
-    ap (option_map (λ (found : ℕ × List ℕ). otherwise_text c.args.side found.0 (shown_subject found.1))) (ap otherwise (texts_split all place c.loop-place-test.true) ∙ found)
+    ap (option_map (λ (found : ℕ × List ℕ). otherwise_text c.args.side found.0 (shown_subject found.1)))
+    (ap (further c.args.skipped) (ap otherwise (texts_split all place c.loop-place-test.true) ∙ found))
     ∙ rw (length_texts all place c.loop-place-test.true, c.shown.ensures, c.subject.ensures) refl
 
 pub loop-place-preserved : goal.loop-place-preserved

@@ -1,0 +1,4 @@
+pub mod Moving
+pub mod FirstLines
+pub mod Standing
+pub mod Ending
