@@ -173,9 +173,9 @@ def refused(line: str, output: bytes = b"") -> Answer:
     return Answer(1, output, "trace refused: {}\n".format(line).encode())
 
 
-def reports_refused(line: str) -> Answer:
-    """The answer of `diff` for an input that is not two reports."""
-    return Answer(1, b"", "reports refused: {}\n".format(line).encode())
+def reports_refused(line: str, output: bytes = b"") -> Answer:
+    """The answer of `diff` for what is not two reports, behind what is written before."""
+    return Answer(1, output, "reports refused: {}\n".format(line).encode())
 
 
 def fault(cause: str) -> Answer:

@@ -82,16 +82,22 @@ def report_in(side: str, lines: List[bytes]) -> List[bytes]:
     return lines[:end]
 
 
+def place_of(word: bytes) -> Optional[int]:
+    """The place that a first word is: decimal, without a zero before it."""
+    is_place = re.fullmatch(rb"0|[1-9][0-9]{0,9}", word) and int(word) <= MOST_PLACE
+    return int(word) if is_place else None
+
+
 def refuse_unless_rising(side: str, lines: List[bytes]) -> None:
     last = -1
     for number, line in enumerate(lines, 1):
         word = line.split(b" ")[0]
         if word in HEADINGS or word in KINDS:
             continue
-        is_place = re.fullmatch(rb"0|[1-9][0-9]{0,9}", word) and int(word) <= MOST_PLACE
-        if not is_place or int(word) <= last:
+        place = place_of(word)
+        if place is None or place <= last:
             raise Refused("line {} of the {} is out of order at {}".format(number, side, shown(word)))
-        last = int(word)
+        last = place
 
 
 def reports(first: List[bytes], second: List[bytes]) -> Tuple[Report, Report]:
@@ -152,3 +158,25 @@ def told_of(one: Report, two: Report) -> Tuple[bytes, bool]:
     large = sum(line.leaves_large(two.first[line.subject]) for line in one.lines if line.subject in two.first)
     told += [b"large %d not compared" % large] if large else []
     return b"".join(it + b"\n" for it in told), not any(counts[section, "different"] for section in SECTIONS)
+
+
+def front(text: bytes) -> Dict[int, Line]:
+    """The entries that come first behind the heading of version 2, by their places. They go up to the first line that is no entry whose place rises.
+    A line counts once its line feed is there."""
+    heading, *lines = text.split(b"\n")[:-1] or [b""]
+    entries: Dict[int, Line] = {}
+    for line in lines if VERSIONS.get(heading) == 2 else ():
+        place = place_of(line.split(b" ")[0])
+        if place is None or place <= next(reversed(entries), -1):
+            break
+        entries[place] = line_of(line)
+    return entries
+
+
+def early(first: bytes, second: bytes) -> bytes:
+    """What `diff` of two texts tells before they end, and where they are refused: that of the entries in the front of the first that the front of the
+    second reaches. It has an entry of that place, or of a later one."""
+    one, two = front(first), front(second)
+    reached = [place for place in one if place <= max(two, default=-1)]
+    told = [line for place in reached for line in compared(one[place], two.get(place), True)[1]]
+    return b"".join(it + b"\n" for it in told)

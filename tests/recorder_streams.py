@@ -226,7 +226,7 @@ def live(program: Program) -> List[Outcome]:
     built = streams()
     command = [built.file("uring_record"), "-o", "-", "--", "sh", "-c", '"$0" many 10 && read line', built.file("streams")]
     with Fed(program, ["serial"]) as fed:
-        started = subprocess.Popen(command, cwd=built.directory("live"), stdin=subprocess.PIPE, stdout=fed.started.stdin, stderr=subprocess.DEVNULL)
+        started = subprocess.Popen(command, cwd=built.directory("live"), stdin=subprocess.PIPE, stdout=fed.inputs[0], stderr=subprocess.DEVNULL)
         has_come, is_running = fed.comes(lambda: fed.output.count(b" res=4096 posted") == 10), started.poll() is None
         started.stdin.close()
         started.wait(SECONDS)

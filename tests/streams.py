@@ -95,14 +95,22 @@ def outputs(program: Program) -> List[Outcome]:
 # --- While it comes -------------------------------------------------------------------------------------------------
 
 class Fed:
-    """A program whose input is a pipe that stays open, and what it has written so far."""
+    """A program whose inputs are pipes that stay open, and what it has written so far."""
 
-    def __init__(self, program: Program, words: Words) -> None:
-        pipe = subprocess.PIPE
-        self.started = subprocess.Popen([program.file, *words], bufsize=0, stdin=pipe, stdout=pipe, stderr=pipe)
+    def __init__(self, program: Program, words: Words, named: int = 0) -> None:
+        """Its input is standard input, or so many files that are named behind its words."""
+        pipe, ends = subprocess.PIPE, [os.pipe() for _ in range(named or 1)]
+        given, self.inputs = [it for it, _ in ends], [it for _, it in ends]
+        command = [program.file, *words, *("/dev/fd/{}".format(it) for it in given if named)]
+        self.started = subprocess.Popen(
+            command, bufsize=0, stdin=subprocess.DEVNULL if named else given[0], stdout=pipe, stderr=pipe, pass_fds=given if named else ()
+        )
         self.output, self.count, self.came = bytearray(), 0, threading.Condition()
         self.collector = threading.Thread(target=self.collect, daemon=True)
         self.guard = threading.Timer(LONG, self.started.kill)
+        self.seconds = 0.0
+        for it in given:
+            os.close(it)
 
     def __enter__(self) -> "Fed":
         self.collector.start()
@@ -115,7 +123,8 @@ class Fed:
             self.started.kill()
             self.started.wait()
         self.collector.join()
-        for stream in (self.started.stdin, self.started.stdout, self.started.stderr):
+        self.shut()
+        for stream in (self.started.stdout, self.started.stderr):
             stream.close()
 
     def collect(self) -> None:
@@ -128,14 +137,19 @@ class Fed:
     def take(self, piece: bytes) -> None:
         self.output += piece
 
-    def give(self, data: bytes) -> None:
-        """Gives more of the input; it may be that the program ends before it takes all."""
+    def give(self, data: bytes, to: int = 0) -> None:
+        """Gives more of an input; it may be that the program ends before it takes all."""
         left = memoryview(data)
         try:
             while left:
-                left = left[os.write(self.started.stdin.fileno(), left) :]
+                left = left[os.write(self.inputs[to], left) :]
         except BrokenPipeError:
             pass
+
+    def shut(self) -> None:
+        """Closes the inputs."""
+        while self.inputs:
+            os.close(self.inputs.pop())
 
     def comes(self, has_come: Callable[[], bool], seconds: float = PROMPT) -> bool:
         """Whether what is looked for is written in time."""
@@ -154,15 +168,20 @@ class Fed:
         return None if got == output else "{} bytes came, which end in {}; wanted {}, which end in {}".format(len(got), short(got[-80:]), len(output), short(output[-80:]))
 
     def end(self) -> Answer:
-        """Closes the input, and gives the answer."""
-        self.started.stdin.close()
+        """Closes the inputs, and gives the answer."""
+        self.shut()
         return self.answer()
 
     def answer(self) -> Answer:
         """The answer of a program that ends."""
-        status, _ = ended(self.started)
+        status, self.seconds = ended(self.started)
         self.collector.join()
         return Answer(status, bytes(self.output), self.started.stderr.read())
+
+    def peak(self) -> int:
+        """The most memory that the program has had, in KiB, or 0 where it has ended. What wait4(2) tells is never below that of who started it."""
+        with open("/proc/{}/status".format(self.started.pid)) as status:
+            return next((int(line.split()[1]) for line in status if line.startswith("VmHWM:")), 0)
 
 
 def as_it_comes(program: Program, words: Words, pieces: Sequence[bytes]) -> Optional[str]:
@@ -300,11 +319,6 @@ class Summed(Fed):
 
     def take(self, piece: bytes) -> None:
         self.sum.update(piece)
-
-    def peak(self) -> int:
-        """The most memory that the program has had, in KiB, or 0 where it has ended. What wait4(2) tells is never below that of who started it."""
-        with open("/proc/{}/status".format(self.started.pid)) as status:
-            return next((int(line.split()[1]) for line in status if line.startswith("VmHWM:")), 0)
 
     def feed(self, command: Sequence[str]) -> bytes:
         """Gives what a command writes, but for its last byte, which is given back."""
