@@ -197,16 +197,21 @@ static void send_through(const char *pipe, const char *socket)
 		fail("write");
 }
 
+/* Takes bytes from a pipe or a socket, and writes them to the file by the next member of the chain. */
+static void carry(unsigned char take, int from, unsigned char put, char *at,
+		  unsigned length, uint64_t offset, const char *what)
+{
+	ask(take, from, at, length, 0, (int)length)->flags = FLAG_LINK;
+	ask(put, file, at, length, offset, (int)length);
+	run(what);
+}
+
 /* Writes of what a member before them put there. */
 static void filled(void)
 {
 	send_through("piped", "sent");
-	ask(OP_READ, pipes[0], memory, 5, 0, 5)->flags = FLAG_LINK;
-	ask(OP_WRITE, file, memory, 5, 0, 5);
-	run("a write of what came from a pipe");
-	ask(IORING_OP_RECV, sockets[0], more, 4, 0, 4)->flags = FLAG_LINK;
-	ask(OP_WRITE, file, more, 4, 5, 4);
-	run("a write of what came from a socket");
+	carry(OP_READ, pipes[0], OP_WRITE, memory, 5, 0, "a write of what came from a pipe");
+	carry(IORING_OP_RECV, sockets[0], OP_WRITE, more, 4, 5, "a write of what came from a socket");
 	ask(OP_READ, file, memory + 100, 9, 0, 9);
 	run("a read of both");
 }
@@ -215,12 +220,10 @@ static void filled(void)
 static void filled_buffer(void)
 {
 	send_through("fixed", "buffer");
-	ask(OP_READ_FIXED, pipes[0], buffer, 5, 0, 5)->flags = FLAG_LINK;
-	ask(OP_WRITE_FIXED, file, buffer, 5, 0, 5);
-	run("a fixed write of what came from a pipe");
-	ask(IORING_OP_RECV, sockets[0], buffer + 100, 6, 0, 6)->flags = FLAG_LINK;
-	ask(OP_WRITE_FIXED, file, buffer + 100, 6, 5, 6);
-	run("a fixed write of what came from a socket");
+	carry(OP_READ_FIXED, pipes[0], OP_WRITE_FIXED, buffer, 5, 0,
+	      "a fixed write of what came from a pipe");
+	carry(IORING_OP_RECV, sockets[0], OP_WRITE_FIXED, buffer + 100, 6, 5,
+	      "a fixed write of what came from a socket");
 	ask(OP_WRITE_FIXED, file, buffer, 106, 0, 106);
 	run("a fixed write of all");
 }
