@@ -46,12 +46,16 @@ module _ {X : Type 0} where
   absent k [] h = refl
   absent k (e ∷ es) h = ap (λ b. cond b (Some e.1) (lookup (nat_eq k) es)) h.0 ∙ absent k es h.1
 
+  -- a number that comes first does not come again
+  pub none_again : (e : ℕ × X) (es : List (ℕ × X)) → AllByRecursion (λ y. nat_eq e.0 y ≡ false) (keys_of es) → get (table_of number_keys.total es) e.0 ≡ None
+  none_again e es h = get-of es (table_of number_keys.total es) e.0 refl ∙ absent e.0 es h
+
   count-table_of : (es : List (ℕ × X)) → IsDistinct nat_eq (keys_of es) → length es ≡ count (table_of number_keys.total es)
   unfolding IsDistinct
   count-table_of [] h = refl
   count-table_of (e ∷ es) h =
       let rest = table_of number_keys.total es in
-      let none : get rest e.0 ≡ None = get-of es rest e.0 refl ∙ absent e.0 es h.0 in
+      let none : get rest e.0 ≡ None = none_again e es h.0 in
       let more : suc (length es) ≡ length es + 1 = omega arith in
       more ∙ ap (λ n. n + 1) (count-table_of es h.1)
       ∙ sym (length-put nat_cmp number_keys.total e.0 e.1 rest.entries rest.sorted ∙ ap (λ r. cond (is_some r) (count rest) (count rest + 1)) none)
