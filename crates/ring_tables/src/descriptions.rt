@@ -1,10 +1,14 @@
 //! The open file descriptions of a replay.
-ghost use Rattle.std.specs.Prelude.{◌≡◌, ◌↔◌, IsTrue, OnErr, OnOk};
+ghost use Rattle.std.specs.Prelude.{◌≡◌, ◌==◌, ◌↔◌, nat_eq, IsTrue, OnErr, OnOk};
 ghost use Rattle.std.specs.Option.{option_map};
-ghost use Rattle.finite_maps.specs.Table.{adjust_number, empty, get, insert, number_keys, remove};
+ghost use Rattle.indexmap.specs.IndexSet.{contains};
+ghost use Rattle.finite_maps.specs.Marks.{Marks};
+ghost use Rattle.finite_maps.specs.Sifted.{has_value, only};
+ghost use Rattle.finite_maps.specs.Table.{adjust_number, count, empty, get, insert, number_keys};
+ghost use Rattle.finite_maps.specs.Table.{remove};
 
-use finite_maps::value_at;
-use indexmap::IndexMap;
+use finite_maps::{keep_only, value_at};
+use indexmap::{IndexMap, IndexSet};
 use std::alloc::{AllocError, Global};
 use std::marker::Model;
 use trace_format::Description;
@@ -90,5 +94,40 @@ impl Descriptions {
         ensures { IsTrue result ↔ (self.now ≡ other.now) }
     {
         self.entries == other.entries
+    }
+
+    /// How many descriptions there are.
+    pub fn len(&self) -> usize
+        ensures { result ≡ count self.now }
+    {
+        self.entries.len()
+    }
+
+    /// Marks the nodes of the descriptions whose numbers are in a set.
+    ///
+    /// # Errors
+    ///
+    /// Out of memory; some of them are marked then.
+    pub fn mark_nodes(
+        &self,
+        held: &IndexSet<u32>,
+        marks: &mut IndexSet<u32>,
+    ) -> Result<(), AllocError>
+        ensures { OnOk result (Marks (λ i. has_value (λ d. d.node == i)
+            (only (λ d. contains nat_eq held.now d) self.now)) marks.old marks.new) }
+    {
+        for (number, description) in &self.entries {
+            if held.contains(number) {
+                marks.insert(description.node)?;
+            }
+        }
+        Ok(())
+    }
+
+    /// Keeps the descriptions whose numbers a set has. It takes no memory.
+    pub fn keep_only(&mut self, numbers: &IndexSet<u32>)
+        ensures { self.new ≡ only (λ d. contains nat_eq numbers.now d) self.old }
+    {
+        keep_only(&mut self.entries, numbers);
     }
 }
