@@ -1,6 +1,7 @@
 //! Slots, descriptions and buffers.
 
 use extent_bytes::MAX_LEN;
+use indexmap::IndexSet;
 use ring_tables::{Buffers, Descriptions, Descriptors, Slots};
 use std::alloc::{AllocError, Global};
 use std::test::Fail;
@@ -95,6 +96,38 @@ fn positions_tell_descriptions_apart(rt: HostRuntime) -> Result<(), Fail> {
     let mut descriptions = no_descriptions(rt.alloc())?;
     let mut others = no_descriptions(rt.alloc())?;
     assert!(rt; positions_tell(&mut descriptions, &mut others)?);
+    Ok(())
+}
+
+/// The first description on another node.
+const ON_NODE_4: Description = Description {
+    node: 4,
+    access: Access::Read,
+    append: false,
+    position: 0,
+};
+
+/// Whether of the descriptions 0 on node 4 and 1 on node 3 the second alone stays, with its node
+/// marked, where a set has the numbers 1 and 2.
+fn held_stay(alloc: Global, descriptions: &mut Descriptions) -> Result<bool, AllocError> {
+    descriptions.set(0, ON_NODE_4)?;
+    descriptions.set(1, OPEN)?;
+    let mut held = IndexSet::new(alloc);
+    held.insert(1)?;
+    held.insert(2)?;
+    let mut nodes = IndexSet::new(alloc);
+    descriptions.mark_nodes(&held, &mut nodes)?;
+    let marked = nodes.contains(&3) && !nodes.contains(&4) && !nodes.contains(&1);
+    let both = descriptions.len() == 2;
+    descriptions.keep_only(&held);
+    let one_left = descriptions.get(0).is_none() && descriptions.position(1) == Some(10);
+    Ok(marked && both && one_left && descriptions.len() == 1)
+}
+
+#[test]
+fn descriptions_that_are_held_stay(rt: HostRuntime) -> Result<(), Fail> {
+    let mut descriptions = no_descriptions(rt.alloc())?;
+    assert!(rt; held_stay(rt.alloc(), &mut descriptions)?);
     Ok(())
 }
 

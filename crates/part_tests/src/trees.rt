@@ -1,6 +1,7 @@
 //! Directories and files.
 
 use file_tree::{Kind, Tree};
+use indexmap::IndexSet;
 use std::alloc::{AllocError, Global};
 use std::test::Fail;
 
@@ -208,5 +209,26 @@ fn listings_are_counted(alloc: Global, tree: &mut Tree) -> Result<bool, AllocErr
 fn counts_of_names(rt: HostRuntime) -> Result<(), Fail> {
     let mut tree = small_tree(rt.alloc())?;
     assert!(rt; listings_are_counted(rt.alloc(), &mut tree)?);
+    Ok(())
+}
+
+/// Whether the three nodes that a name leads to are marked, once a fourth lost its name, and these
+/// and the root stay alone.
+fn named_nodes_stay(alloc: Global, tree: &mut Tree) -> Result<bool, AllocError> {
+    tree.set_name(alloc, 2, b"f", None)?;
+    let mut marks = IndexSet::new(alloc);
+    tree.mark_named(&mut marks)?;
+    let three = marks.contains(&1) && marks.contains(&2) && marks.contains(&3);
+    let no_other = !marks.contains(&0) && !marks.contains(&4);
+    marks.insert(0)?;
+    tree.keep_only(&marks);
+    let stay = tree.kind(0).is_some() && tree.name(2, b"e") == Some(3) && tree.kind(3).is_some();
+    Ok(three && no_other && stay && tree.kind(4).is_none() && tree.node_count() == 4)
+}
+
+#[test]
+fn nodes_without_names_go(rt: HostRuntime) -> Result<(), Fail> {
+    let mut tree = small_tree(rt.alloc())?;
+    assert!(rt; named_nodes_stay(rt.alloc(), &mut tree)?);
     Ok(())
 }
