@@ -15,6 +15,7 @@ pub mod Trees
 pub mod KeepWorld
 pub mod FootprintCode
 pub mod Starts
+mod Swept
 pub mod Fills
 pub mod FullPaths
 pub mod KnownPaths

@@ -12,5 +12,6 @@ pub mod Pending
 pub mod Putting
 pub mod Sized
 pub mod Start
+pub mod Sweeping
 pub mod Uses
 pub mod World

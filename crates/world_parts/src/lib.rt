@@ -18,6 +18,7 @@ mod part;
 mod putting;
 mod start;
 mod state;
+mod sweeping;
 mod whole;
 
 pub use broken::Broken;
