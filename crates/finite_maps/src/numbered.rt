@@ -24,7 +24,8 @@ pub fn keep_only<V: Drop>(map: &mut IndexMap<u32, V>, numbers: &IndexSet<u32>)
 {
     map.retain(
         |number: &u32, value: &mut V| -> bool
-            ensures { (result ≡ contains nat_eq numbers.entry.now number.now) × (value.new ≡ value.old) }
+            ensures { (result ≡ contains nat_eq numbers.entry.now number.now)
+                × (value.new ≡ value.old) }
         { numbers.contains(number) },
     );
 }
