@@ -37,6 +37,13 @@ impl State {
         self.descriptions.len()
     }
 
+    /// How many chains broke, of those that no sweep forgot.
+    pub fn broken_count(&self) -> usize
+        ensures { result ≡ count self.now.broken }
+    {
+        self.broken.len()
+    }
+
     /// Marks the open file descriptions that slots hold.
     fn mark_in_slots(&self, marks: &mut IndexSet<u32>) -> Result<(), AllocError>
         ensures { OnOk result
@@ -86,22 +93,39 @@ impl State {
         Ok(led)
     }
 
+    /// How much there is for a sweep to look at that drops none of these: the nodes with their
+    /// names, the open file descriptions, and the full slots and descriptors.
+    fn looked_at(&self, held: &IndexSet<u32>, led: &IndexSet<u32>) -> usize {
+        let mut size = held.len();
+        size = size.saturating_add(self.slots.iter().len());
+        size = size.saturating_add(self.descriptors.iter().len());
+        size = size.saturating_add(led.len());
+        for node in led {
+            if let Some(names) = self.nodes.names(*node) {
+                size = size.saturating_add(names.len());
+            }
+        }
+        size
+    }
+
     /// Drops the open file descriptions that neither a slot nor a descriptor holds, but for the
     /// first `started`; then the nodes that no name leads to, that are not open, and are not the
-    /// root; and forgets which chains broke. What stays is not copied.
+    /// root; and forgets which chains broke. What stays is not copied. Gives how much stays for
+    /// another sweep to look at, by which it can be put off.
     ///
     /// # Errors
     ///
     /// Out of memory; the state is as before.
-    pub fn sweep(&mut self, alloc: Global, started: u32) -> Result<(), AllocError>
+    pub fn sweep(&mut self, alloc: Global, started: u32) -> Result<usize, AllocError>
         ensures ok { OnOk result (self.new ≡ swept started self.old) }
         ensures err { OnErr result (self.new ≡ self.old) }
     {
         let held = self.held(alloc, started)?;
         let led = self.led_to(alloc, &held)?;
+        let left = self.looked_at(&held, &led);
         self.descriptions.keep_only(&held);
         self.nodes.keep_only(&led);
         self.broken.clear();
-        Ok(())
+        Ok(left)
     }
 }
