@@ -1,0 +1,9 @@
+pub mod Alike
+pub mod Changes
+pub mod HolderFacts
+pub mod Holders
+pub mod Images
+pub mod Means
+pub mod Places
+pub mod Streams
+pub mod Sweeping

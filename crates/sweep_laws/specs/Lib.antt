@@ -1,0 +1,4 @@
+pub mod Holding
+pub mod Laws
+pub mod Swept
+pub mod Within
