@@ -1,5 +1,6 @@
 -- A replay that takes a record at a time goes on by the next record.
-use Rattle.std.proofs.Common.{◌≡◌, ℕ, ◌-◌, ◌≤◌, [], ◌∷◌, ◌++◌, List, length, sym, ap, subst, ◌∙◌}
+use Rattle.std.proofs.Common.{◌≡◌, ℕ, ◌-◌, ◌≤◌, [], ◌∷◌, ◌++◌, List, length, sym, ap, subst, ◌∙◌, inl, inr}
+use Rattle.std.specs.Prelude.{◌⊎◌}
 use Rattle.trace_records.specs.declared.record.Record.{Record}
 use Rattle.trace_records.specs.declared.start.Start.{Start}
 use Rattle.recording.specs.declared.recording.Recording.{Recording}
@@ -11,11 +12,14 @@ use Rattle.recording.proofs.Blanks.{length-blanks}
 use Rattle.recording.proofs.Fronts.{forgotten_is_of_front, next_is_of_front, start_is_of_front}
 use Rattle.chain_plan.specs.Stretch.{IsApart, chains_ahead}
 use Rattle.world_parts.specs.Start.{start}
+use Rattle.world_parts.specs.Sweeping.{swept}
+use Rattle.world_parts.specs.World.{World}
 use Rattle.op_meaning.specs.Step.{run_replies}
-use Rattle.stream_laws.specs.Laws.{IsBehind}
 use Rattle.stream_laws.specs.Streamed.{at_hand, gone, place_behind, recording_of, replies_from, with_ring_of, world_from, world_within}
 use Rattle.stream_laws.proofs.Growing.{hand_stands}
-use Rattle.stream_laws.proofs.Streams.{record_is_alone, record_is_let_go, replies_are_in_order, stream_begins, stream_goes_on}
+use Rattle.stream_laws.proofs.Streams.{record_is_alone, record_is_let_go}
+use Rattle.sweep_laws.specs.Swept.{IsSweptBehind}
+use Rattle.sweep_laws.proofs.Streams.{swept_begins, swept_goes_on, swept_replies, sweep_is_behind}
 use Rattle.replay_stream.specs.declared.replaying.Replaying.{Replaying}
 use Rattle.replay_stream.specs.Replayed.{HasRun, HasRunNext}
 
@@ -24,7 +28,7 @@ pub begins : (b : Start) (p : Replaying) → IsSpelledFront b [] → p.recording
 begins b p spelled is state = record {
   recording = subst (λ (t : Recording). IsOfFront t b []) (sym is) (start_is_of_front b spelled);
   gone = ap let_go is;
-  state = subst (IsBehind b []) (sym (state ∙ ap start is)) (stream_begins b).1;
+  state = subst (IsSweptBehind b []) (sym (state ∙ ap start is)) (swept_begins b spelled);
 }
 
 -- What the places of a record ask that are run from a first one on.
@@ -60,27 +64,38 @@ module _ (b : Start) (front : List Record) (r : Record) (p : Replaying) (run : H
   pub ready : (t : Recording) (first : ℕ) → t ≡ with_next (let_go p.recording) r → first ≡ places (let_go p.recording) → IsReady t first
   ready t first is at = subst (λ (x : Recording). IsReady x first) (sym (is ∙ is_hand)) (subst (IsReady (at_hand b front r)) (sym (at ∙ is_first)) hand_ready)
 
+  -- the world once they have run, from which what nothing leads to may be dropped
+  swept_or_not : (t : Recording) (z w : World) → t ≡ at_hand b front r → z ≡ world_within b front r p.state (places (at_hand b front r) - place_behind b front)
+      → (w ≡ z) ⊎ (w ≡ swept (length t.descriptions) z) → IsSweptBehind b (front ++ r ∷ []) w
+  swept_or_not t z w hand world x =
+      let behind = subst (IsSweptBehind b (front ++ r ∷ [])) (sym world) (swept_goes_on b front r p.state hand_accepted spelled run.state) in
+      elim x [
+        | inl same ↦ subst (IsSweptBehind b (front ++ r ∷ [])) (sym same) behind
+        | inr less ↦ subst (IsSweptBehind b (front ++ r ∷ [])) (sym (less ∙ ap (λ (u : Recording). swept (length u.descriptions) z) hand)) (sweep_is_behind b (front ++ r ∷ []) z behind)
+      ]
+
   -- what the replay has once they have run
-  pub goes_on : (q : Replaying) (rings : ℕ) → q.recording ≡ with_next (let_go p.recording) r → q.first ≡ places (let_go p.recording) → rings ≡ length (let_go p.recording).rings
-      → q.state ≡ world_from q.recording q.first (places q.recording - q.first) (with_ring_of q.recording rings p.state)
+  pub goes_on : (q : Replaying) (rings : ℕ) (z : World) → q.recording ≡ with_next (let_go p.recording) r → q.first ≡ places (let_go p.recording) → rings ≡ length (let_go p.recording).rings
+      → z ≡ world_from q.recording q.first (places q.recording - q.first) (with_ring_of q.recording rings p.state)
+      → (q.state ≡ z) ⊎ (q.state ≡ swept (length q.recording.descriptions) z)
       → q.replies ≡ replies_from q.recording q.first (places q.recording - q.first) (with_ring_of q.recording rings p.state)
       → HasRunNext b front r q
-  goes_on q rings is at ring state replies =
+  goes_on q rings z is at ring state dropped replies =
       let hand : q.recording ≡ at_hand b front r = is ∙ is_hand in
       let first : q.first ≡ place_behind b front = at ∙ is_first in
       let count : rings ≡ length (gone b front).rings = ring ∙ ap (λ (t : Recording). length t.rings) run.gone in
-      let world : q.state ≡ world_within b front r p.state (places (at_hand b front r) - place_behind b front) =
+      let world : z ≡ world_within b front r p.state (places (at_hand b front r) - place_behind b front) =
       state ∙ (λ i. world_from (hand i) (first i) (places (hand i) - first i) (with_ring_of (hand i) (count i) p.state)) in
       let told = replies ∙ (λ i. replies_from (hand i) (first i) (places (hand i) - first i) (with_ring_of (hand i) (count i) p.state)) in
       record {
         run = record {
           recording = subst (λ (t : Recording). IsOfFront t b (front ++ r ∷ [])) (sym is) next_of_front.1;
           gone = ap let_go hand ∙ record_is_let_go b front r;
-          state = subst (IsBehind b (front ++ r ∷ [])) (sym world) (stream_goes_on b front r p.state hand_accepted run.state);
+          state = swept_or_not q.recording z q.state hand world dropped;
         };
         at_hand = hand;
         first = first;
         replies = λ back.
             let u = recording_of b (front ++ r ∷ back) in
-            (λ i. run_replies u (first i) ++ told i) ∙ replies_are_in_order b front back r p.state hand_accepted run.state ∙ ap (λ (t : Recording). run_replies u (places t)) (sym hand);
+            (λ i. run_replies u (first i) ++ told i) ∙ swept_replies b front back r p.state hand_accepted spelled run.state ∙ ap (λ (t : Recording). run_replies u (places t)) (sym hand);
       }

@@ -8,15 +8,15 @@ use Rattle.recording.specs.Growing.{let_go}
 use Rattle.recording.specs.Steps.{places}
 use Rattle.op_meaning.specs.declared.reply.Reply.{Reply}
 use Rattle.op_meaning.specs.Step.{run_replies}
-use Rattle.stream_laws.specs.Laws.{IsBehind}
 use Rattle.stream_laws.specs.Streamed.{at_hand, gone, place_behind, recording_of}
+use Rattle.sweep_laws.specs.Swept.{IsSweptBehind}
 use Rattle.replay_stream.specs.declared.replaying.Replaying.{Replaying}
 
--- The records so far were run: the recording is theirs, whose steps may be let go, and the world stands for the sequential run behind them.
+-- The records so far were run: the recording is theirs, whose steps may be let go, and the world has what something leads to of that of the sequential run behind them.
 pub record HasRun (b : Start) (front : List Record) (p : Replaying) : Type 0 where
   pub recording : IsOfFront p.recording b front
   pub gone : let_go p.recording ≡ gone b front
-  pub state : IsBehind b front p.state
+  pub state : IsSweptBehind b front p.state
 
 -- The replies are those of the sequential run, from a place on.
 abbrev pub AreReplies : Recording → (first end : ℕ) → List Reply → Type 0

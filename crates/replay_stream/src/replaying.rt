@@ -1,5 +1,5 @@
 //! A replay that takes a record at a time.
-ghost use Rattle.std.specs.Prelude.{◌≡◌, ◌+◌, ◌-◌, ◌≤◌, [], ◌∷◌, ◌++◌, List, IfOk, OnOk};
+ghost use Rattle.std.specs.Prelude.{◌≡◌, ◌+◌, ◌-◌, ◌≤◌, ◌⊎◌, [], ◌∷◌, ◌++◌, length, List, IfOk, OnOk};
 ghost use Rattle.chain_plan.specs.Stretch.{IsApart, chains_ahead};
 ghost use Rattle.recording.specs.Accepted.{IsAccepted};
 ghost use Rattle.recording.specs.Fronts.{IsSpelledFront};
@@ -8,6 +8,7 @@ ghost use Rattle.replay_stream.specs.Replayed.{HasRun, HasRunNext, MayRun};
 ghost use Rattle.stream_laws.specs.Streamed.{replies_from, with_ring_of, world_from};
 ghost use Rattle.trace_records.specs.declared.record.Record as three;
 ghost use Rattle.trace_records.specs.declared.start.Start as three_start;
+ghost use Rattle.world_parts.specs.Sweeping.{swept};
 
 use chain_plan::Stretch;
 use op_meaning::{Replies, run_on_state};
@@ -19,8 +20,13 @@ use world_parts::State;
 /// The roles of so many places are found at once.
 const AHEAD: u32 = 64;
 
-/// What a replay has after each record: the world, and the last record with its replies. The memory
-/// that it takes does not depend on how many records were run.
+/// What nothing leads to is dropped when so many nodes and open file descriptions were made, and
+/// chains broken, since the last time, and as many as there was left to look at then.
+const MADE: usize = 512;
+
+/// What a replay has after each record: the world, without what nothing leads to any more, and the
+/// last record with its replies. The memory that it takes does not depend on how many records were
+/// run.
 #[derive(Drop)]
 pub struct Replaying {
     /// The recording so far. The steps before those of the last record do nothing.
@@ -29,8 +35,40 @@ pub struct Replaying {
     pub first: u32,
     /// The replies of its steps, in order.
     pub replies: Replies,
-    /// The world behind it.
+    /// The world behind it. It may lack what nothing leads to.
     pub state: State,
+    /// How much may be there before what nothing leads to is dropped.
+    room: usize,
+}
+
+/// How much there is that may be dropped: nodes, open file descriptions, and chains that broke.
+fn made_in(state: &State) -> usize {
+    let made = state.node_count().saturating_add(state.description_count());
+    made.saturating_add(state.broken_count())
+}
+
+/// How much there may be before something is dropped, where so much is left to look at: a sweep
+/// costs no more than what is made until the next one.
+fn room_above(state: &State, left: usize) -> usize {
+    made_in(state).saturating_add(left.max(MADE))
+}
+
+/// Drops what nothing leads to, where there is more than the room. Gives the room from then on.
+fn sweep_if_due(
+    alloc: Global,
+    recording: &Recording,
+    room: usize,
+    state: &mut State,
+) -> Result<usize, AllocError>
+    requires { IsAccepted recording.now }
+    ensures { OnOk result ((state.new ≡ state.old)
+        ⊎ (state.new ≡ swept (length recording.now.descriptions) state.old)) }
+{
+    if made_in(state) <= room {
+        return Ok(room);
+    }
+    let left = state.sweep(alloc, recording.descriptions.as_slice().len() as u32)?;
+    Ok(room_above(state, left))
 }
 
 /// Adds the buffers of the ring of a number, if there is one.
@@ -83,15 +121,18 @@ impl Replaying {
     {
         let recording = Recording::of_start(alloc, start)?;
         let state = State::of(alloc, &recording)?;
+        let room = room_above(&state, made_in(&state));
         Ok(Replaying {
             recording,
             first: 0,
             replies: Replies::new(alloc),
             state,
+            room,
         })
     }
 
-    /// Lets go of the last record, and runs the places of the next one in recorded order.
+    /// Lets go of the last record, and runs the places of the next one in recorded order. Then it
+    /// may drop what nothing leads to, at a cost that is in proportion to what was made.
     ///
     /// # Errors
     ///
@@ -110,11 +151,13 @@ impl Replaying {
         let recording = recording.with_record(alloc, next)?;
         add_new_ring(&recording, rings, &mut state)?;
         let replies = replies_from(alloc, &recording, first, &mut state)?;
+        let room = sweep_if_due(alloc, &recording, self.room, &mut state)?;
         Ok(Replaying {
             recording,
             first,
             replies,
             state,
+            room,
         })
     }
 }

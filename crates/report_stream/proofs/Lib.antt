@@ -1,3 +1,4 @@
 pub mod LastLines
 pub mod WholeReport
+pub mod WithinLines
 pub mod Turns

@@ -1,6 +1,6 @@
 -- The text of all records and what follows it are the report.
 use Rattle.std.proofs.Common.{◌≡◌, ◌∙◌, ◌<◌, ◌++◌, [], ℕ, zero, suc, add-one, List, Option, append_assoc, sym, ap, subst, refl, arith}
-use Rattle.std.specs.Prelude.{codes, slice_get}
+use Rattle.std.specs.Prelude.{codes, length, slice_get}
 use Rattle.std.proofs.lemmas.List.{append-nil}
 use Rattle.trace_records.specs.declared.record.Record.{Record}
 use Rattle.trace_records.specs.declared.start.Start.{Start}
@@ -15,7 +15,7 @@ use Rattle.op_meaning.specs.Step.{sequential_replies, sequential_reply, sequenti
 use Rattle.op_meaning.proofs.Kept.{kept_so_far}
 use Rattle.stream_laws.specs.Laws.{ShowAlike}
 use Rattle.stream_laws.specs.Streamed.{recording_of}
-use Rattle.stream_laws.proofs.Streams.{stream_ends}
+use Rattle.sweep_laws.proofs.Streams.{swept_ends}
 use Rattle.replay_stream.specs.Replayed.{HasRun}
 use Rattle.replay_stream.specs.declared.replaying.Replaying.{Replaying}
 use Rattle.replay_report.specs.declared.showing.Lines.{Lines}
@@ -26,6 +26,7 @@ use Rattle.replay_report.specs.Report.{line, title, world_lines}
 use Rattle.replay_report.proofs.InOrder.{reports_in_order}
 use Rattle.replay_report.proofs.ReportLemmas.{range_grown}
 use Rattle.report_stream.specs.Written.{IsFrontText, lines_in, report}
+use Rattle.report_stream.proofs.WithinLines.{lines_within}
 
 -- lines by what places reply are the same where they reply the same
 lines_alike : (t : Recording) (f g : ℕ → Option Reply) (lines : Lines) (n : ℕ) → ((k : ℕ) → k < n → f k ≡ g k) → entry_lines t f lines n ≡ entry_lines t g lines n
@@ -57,11 +58,11 @@ whole_report b rs p shown text last run is end =
     let told : entry_lines u (sequential_reply u) lines n ≡ entry_lines u (slice_get (sequential_replies u)) lines n =
     lines_alike u (sequential_reply u) (slice_get (sequential_replies u)) lines n (λ k lt. sym (kept.kept k lt)) in
     let rings : p.recording.rings ≡ u.rings = ap (λ (t : Recording). t.rings) run.recording.same in
-    let shows : ShowAlike p.state (sequential_world u) = stream_ends b rs p.state run.state in
+    let ends = swept_ends b rs p.state run.state in
     let behind : last ≡ last_lines u (sequential_world u) shown =
     end
     ∙ ap (λ (x : List Ring). world_lines x p.state shown.sums ++ line (codes "end")) rings
-    ∙ ap (λ x. x ++ line (codes "end")) (worlds_alike u.rings p.state (sequential_world u) shown.sums shows) in
+    ∙ ap (λ x. x ++ line (codes "end")) (lines_within (length b.descriptions) ends.whole p.state ends.is_world ends.within u.rings shown.sums ∙ worlds_alike u.rings ends.whole (sequential_world u) shown.sums ends.shows) in
     ap (λ x. x ++ last) (all ∙ ap (λ x. title lines ++ x) told)
     ∙ append_assoc (title lines) (entry_lines u (slice_get (sequential_replies u)) lines n) last
     ∙ ap (λ x. title lines ++ entry_lines u (slice_get (sequential_replies u)) lines n ++ x) behind

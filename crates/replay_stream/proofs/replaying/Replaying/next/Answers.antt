@@ -43,9 +43,14 @@ pub returns : goal.returns
 returns c = λ b front run spelled.
     let t = c.in_ok-recording.recording in
     let first = c.places-first.result in
-    goes_on b front c.args.next c.args.self run spelled _ _
+    goes_on b front c.args.next c.args.self run spelled _ _ _
     (c.in_ok-recording.ensures ∙ ap (λ t. with_next t c.args.next) c.let_go.ensures)
     (c.places-first.ensures ∙ ap places c.let_go.ensures)
     (ap length c.as_slice-rings.ensures ∙ ap (λ (t : Recording). length t.rings) c.let_go.ensures)
     (c.in_ok-replies.ensures.world ∙ ap (world_from t first (places t - first)) c.in_ok-add_new_ring.ensures)
+    c.in_ok-room.ensures
     (c.in_ok-replies.ensures.replies ∙ ap (replies_from t first (places t - first)) c.in_ok-add_new_ring.ensures)
+
+pub sweep_if_due-requires : goal.sweep_if_due-requires
+sweep_if_due-requires c =
+    (is_ready c.args.self c.args.next _ c.in_ok-recording.recording c.places-first.result c.requires c.let_go.ensures c.in_ok-recording.ensures c.places-first.ensures).accepted
