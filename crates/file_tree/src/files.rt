@@ -15,6 +15,7 @@ use std::alloc::{AllocError, Global};
 
 impl Tree {
     /// The bytes of a file; none where the node is none.
+    #[inline(always)]
     pub fn bytes(&self, node: u32) -> Option<&Extents>
         ensures { option_copied result ≡ tree.bytes self.now node }
     {

@@ -43,6 +43,7 @@ pub(crate) enum Decision<'a> {
 /// # Errors
 ///
 /// Out of memory; the state can then only be dropped.
+#[inline(always)]
 pub(crate) fn carry_out(
     alloc: Global,
     site: Site<'_>,

@@ -36,6 +36,7 @@ pub fn slot_count(trace: &Recording, ring: u32) -> usize
 }
 
 /// The number of the open file description that a registered file of a ring holds.
+#[inline(always)]
 fn held_by_slot(trace: &Recording, ring: u32, slot: u32, state: &State) -> Option<u32>
     ensures { result ≡ held (in_ring trace.now ring) state.now (in_slot slot) }
 {
@@ -109,6 +110,7 @@ pub(crate) fn can_write(access: Access) -> bool
 }
 
 /// Whether a node is a directory.
+#[inline(always)]
 pub fn is_directory(node: u32, state: &State) -> bool
     ensures { result ≡ walk.is_directory (world.kind state.now node) }
 {
@@ -168,6 +170,7 @@ pub fn size(node: u32, state: &State) -> u64
 }
 
 /// Where a transfer starts: at its offset, or at the position.
+#[inline(always)]
 pub(crate) fn transfer_start(file: &OpenFile, offset: u64, state: &State) -> u64
     ensures { result ≡ transfer_start state.now offset (handle_meant state.now file.now) }
 {

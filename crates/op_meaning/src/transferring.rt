@@ -62,6 +62,7 @@ fn advance(file: &OpenFile, offset: u64, end: u64, state: &mut State)
 /// # Errors
 ///
 /// Out of memory.
+#[inline(always)]
 pub(crate) fn read(alloc: Global, read: FileRead, state: &mut State) -> Result<Done, AllocError>
     ensures answer { IfOk result (Gives (bytes_read state.old read)) }
     ensures state { OnOk result
@@ -117,6 +118,7 @@ pub(crate) fn read_fixed(
 /// # Errors
 ///
 /// Out of memory.
+#[inline(always)]
 pub(crate) fn write(
     alloc: Global,
     write: FileWrite<'_>,

@@ -29,6 +29,7 @@ use trace_format::TextSlice;
 use world_parts::State;
 
 /// The open file that a read at an offset is from, or why it is refused.
+#[inline(always)]
 pub(crate) fn readable_at(
     opened: Option<OpenFile>,
     offset: u64,
@@ -165,6 +166,7 @@ fn write_start(file: &OpenFile, offset: u64, state: &State) -> u64
 }
 
 /// The open file that a write of so many bytes is to, and where it starts, or why it is refused.
+#[inline(always)]
 pub(crate) fn writable_at(
     opened: Option<OpenFile>,
     offset: u64,

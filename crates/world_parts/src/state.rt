@@ -61,6 +61,7 @@ impl Model for State {
 
 impl State {
     /// The open file description that a registered file of a ring holds.
+    #[inline(always)]
     pub fn slot(&self, ring: u32, number: u32) -> Option<u32>
         ensures { result ≡ world.slot self.now ring number }
     {
@@ -83,6 +84,7 @@ impl State {
     }
 
     /// What an open file description says.
+    #[inline(always)]
     pub fn description(&self, number: u32) -> Option<Description>
         ensures { result ≡ get self.now.descriptions number }
     {
