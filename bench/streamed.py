@@ -3,12 +3,13 @@
 
     bench/streamed.py --kinds writes      one of the kinds below
     bench/streamed.py --modes serial      one of the modes
-    bench/streamed.py --entries N         so many reads in place of 30,000,000, and a hundredth part of writes
+    bench/streamed.py --entries N         so many reads in place of 30,000,000, and a hundredth part of writes and of files
     bench/streamed.py --program FILE      another program in place of crates/uring_replay/out/uring_replay
 
 The traces are those of bench/streams.py, of a file of 64 MiB, through a pipe. `reads` are of 512 bytes, `writes` of 64 KiB, side by side;
-those of `overlapping` begin 4 KiB behind one another. Seconds are those of a processor that the program takes, without those of
-bench/streams.py. Peak memory is what Linux tells of it (VmHWM), looked up 100 times a second.
+those of `overlapping` begin 4 KiB behind one another. `temporaries` is that of bench/temporaries.py: files of 64 KiB, of which each is made,
+written, closed and removed. Seconds are those of a processor that the program takes, without those of what makes the trace. Peak memory is
+what Linux tells of it (VmHWM), looked up 100 times a second.
 """
 import argparse
 import os
@@ -22,12 +23,12 @@ sys.path.insert(0, os.path.dirname(os.path.abspath(__file__)))
 
 from costs import BUILT, HERE
 
-STREAMS = os.path.join(HERE, "streams.py")
 SIZE = 64 << 20
 KINDS = {
-    "reads": ["read", "{all}", "--length", "512"],
-    "writes": ["write", "{few}", "--length", "65536"],
-    "overlapping": ["write", "{few}", "--length", "65536", "--step", "4096"],
+    "reads": "streams.py read {all} --length 512 --size {size}",
+    "writes": "streams.py write {few} --length 65536 --size {size}",
+    "overlapping": "streams.py write {few} --length 65536 --step 4096 --size {size}",
+    "temporaries": "temporaries.py {few} --size 65536",
 }
 MODES = {"serial": ["serial"], "check": ["check"], "run": ["run", "--workers", "4"]}
 PAUSE = 0.01
@@ -72,12 +73,13 @@ def main() -> None:
     words.add_argument("--entries", type=int, default=30_000_000)
     words.add_argument("--program", default=BUILT)
     given = words.parse_args()
-    print("| Stream | Entries | {} |\n|{}".format(" | ".join("`{}`: time, memory".format(it) for it in given.modes), "---|" * (2 + len(given.modes))), flush=True)
+    few = max(given.entries // 100, 1)
+    print("| Stream | Entries or files | {} |\n|{}".format(" | ".join("`{}`: time, memory".format(it) for it in given.modes), "---|" * (2 + len(given.modes))), flush=True)
     for kind in given.kinds:
-        made_by = [it.format(all=given.entries, few=max(given.entries // 100, 1)) for it in KINDS[kind]]
-        command = [sys.executable, STREAMS, *made_by, "--size", str(SIZE)]
+        script, *made_by = KINDS[kind].format(all=given.entries, few=few, size=SIZE).split()
+        command = [sys.executable, os.path.join(HERE, script), *made_by]
         cells = ["{:.1f} s, {:.0f} MB".format(*streamed([given.program, *MODES[it]], command)) for it in given.modes]
-        print("| `{}` | {:,} | {} |".format(kind, int(made_by[1]), " | ".join(cells)), flush=True)
+        print("| `{}` | {:,} | {} |".format(kind, given.entries if kind == "reads" else few, " | ".join(cells)), flush=True)
 
 
 if __name__ == "__main__":

@@ -57,6 +57,18 @@ def parts(kind: str, count: int, length: int, step: int, size: int) -> Iterator[
     yield record_traces.END
 
 
+def put_out(made: Iterator[bytes]) -> None:
+    """Writes what is made, much at once."""
+    held = bytearray()
+    for part in made:
+        held += part
+        if len(held) >= AT_ONCE:
+            sys.stdout.buffer.write(held)
+            held.clear()
+    sys.stdout.buffer.write(held)
+    sys.stdout.buffer.flush()
+
+
 def main() -> None:
     words = argparse.ArgumentParser(description=__doc__, formatter_class=argparse.RawDescriptionHelpFormatter)
     words.add_argument("kind", choices=list(KINDS))
@@ -65,14 +77,7 @@ def main() -> None:
     words.add_argument("--step", type=int, default=0, help="how far apart they are (the length)")
     words.add_argument("--size", type=int, default=1 << 20, help="how many bytes the file has (1,048,576)")
     given = words.parse_args()
-    held = bytearray()
-    for part in parts(given.kind, given.entries, given.length, given.step or given.length, given.size):
-        held += part
-        if len(held) >= AT_ONCE:
-            sys.stdout.buffer.write(held)
-            held.clear()
-    sys.stdout.buffer.write(held)
-    sys.stdout.buffer.flush()
+    put_out(parts(given.kind, given.entries, given.length, given.step or given.length, given.size))
 
 
 if __name__ == "__main__":

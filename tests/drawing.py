@@ -33,7 +33,7 @@ LINES = (b"", b" ", b"tree", b"slots", b"buffers x", b"dir", b"slot 1", b"descri
 class Draw:
     """Draws a trace from a source of random numbers."""
 
-    names, weights, flags, records, most_slots, longest, most_described = NAMES, WEIGHTS, FLAGS, 9, 6, 6_000, 6
+    names, weights, flags, fewest, records, most_slots, longest, most_described = NAMES, WEIGHTS, FLAGS, 1, 9, 6, 6_000, 6
     tables, accesses, buffer_sizes, counts = range(5), (0, 1, 2, 2, 2), LENGTHS, (0, 1, 7, 33, 5_000, LAST)
     offsets, great_offsets, each_great, each_at_position, each_fill = OFFSETS, GREAT_OFFSETS, 12, 3, 5
     ranges, great_ranges = (1, 100, 5_000), (0, 1, 100, 5_000, GREATEST_SIZE, 1 << 63)
@@ -69,7 +69,7 @@ class Draw:
         self.table = self.one(self.tables) if self.version == 2 else 0
         table = self.handles(len(described), self.table)
         rings = [self.ring(len(described)) for _ in range(self.source.randrange(1, 4))]
-        records = [self.record(self.source.randrange(len(rings))) for _ in range(self.source.randrange(1, self.records))]
+        records = [self.record(self.source.randrange(len(rings))) for _ in range(self.source.randrange(self.fewest, self.records))]
         return self.whole(items, described, table, rings, records)
 
     def whole(self, items: List[bytes], described: List[bytes], table: List[int], rings: List[bytes], records: List[bytes]) -> bytes:

@@ -2,6 +2,7 @@
 from functools import partial
 from typing import List
 
+from dropped import made_and_removed
 from harness import Answer, Job, Outcome, Program, Words, begins, fault, first, input_of, shown, skipped, spoken, with_entries
 from hostile_traces import heavy_writes, long_reads, records_in_pieces, stored_files
 from shims import Shim
@@ -21,6 +22,8 @@ TRACES = (
 # Of version 3, for the commands that read it as it comes, for one that then replays it, and for `show`; one of them has records that come in pieces.
 BY_RECORDS = (["check"], ["serial"], ["serial", "--sums"], ["run"], ["run", "--eager"], ["show"])
 IN_PIECES, PIECES = "records in pieces", 4
+# One of version 3 in which something is dropped, by `serial` alone.
+TEMPORARIES = "temporary files"
 RECORDS = ("version_3/rings_of_one_queue", "version_3/zeros_over_bytes", IN_PIECES)
 # What `make`, and `diff` with entries, are tried with: of version 1, and of version 3.
 OF_TEXTS = (TRACES[0], *RECORDS[:2])
@@ -32,7 +35,7 @@ HEAVY = (2, 8)
 HEAVY_WRITES = "two heavy writes"
 # So many files have sums that are each worth a thread.
 STORED_FILES = "two stored files"
-MADE = {HEAVY_WRITES: heavy_writes(HEAVY[0]), STORED_FILES: stored_files(2), IN_PIECES: records_in_pieces(PIECES)}
+MADE = {HEAVY_WRITES: heavy_writes(HEAVY[0]), STORED_FILES: stored_files(2), IN_PIECES: records_in_pieces(PIECES), TEMPORARIES: made_and_removed(300)}
 # So many growths are each refused; of those behind them each STEP-th is.
 EACH = 300
 STEP = 7
@@ -66,7 +69,7 @@ def swept(shim: Shim, program: Program, words: Words, trace: str, is_from: bool)
     out, or a beginning of the report of version 3. A run that met no refusal, and one with ample memory, gives the answer."""
     given = MADE[trace] if trace in MADE else input_of(words, trace) if trace else None
     has_workers = bool(trace) and words[0] in ("run", "compare")
-    is_streamed = trace in RECORDS and words[0] in ("serial", "run") and "--eager" not in words
+    is_streamed = trace in (*RECORDS, TEMPORARIES) and words[0] in ("serial", "run") and "--eager" not in words
     wanted = program.run(words, given)
     ample, (count, _, _, before_read) = shim.run(program, words, given)
     lacking = [fault("memory"), *([fault("thread")] if has_workers else [])]
@@ -126,6 +129,7 @@ def jobs(programs: List[Program]) -> List[Job]:
     for is_from in (False, True):
         made += [partial(swept, shim, whole, words, trace, is_from) for words in MODES for trace in TRACES]
         made += [partial(swept, shim, whole, words, trace, is_from) for words in BY_RECORDS for trace in RECORDS]
+        made.append(partial(swept, shim, whole, ["serial"], TEMPORARIES, is_from))
         made += [partial(swept, shim, whole, words, trace, is_from) for trace in OF_TEXTS for words in (["make"], with_entries(trace))]
         made += [partial(swept, shim, whole, words, "", is_from) for words in WORDS_ALONE]
         made.append(partial(swept, shim, whole, ["run", *ROUNDS], HEAVY_WRITES, is_from))

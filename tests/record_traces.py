@@ -141,10 +141,11 @@ class Carried(Second):
 class Records(Second):
     """Draws a trace of version 3."""
 
-    tables, records = (0, 1, 3, 5, 40), 14
+    tables, fewest, records = (0, 1, 3, 5, 40), 0, 14
     weights = {**WEIGHTS, SYNC_FILE_RANGE: 3, FADVISE: 3, STATX: 7}
-    # Of how many entries one is given, and of how many transfers one has flags of its own.
-    each_given, each_flagged = 7, 6
+    # Of how many entries one is given, and of how many transfers one has flags of its own. Of how many records one is a ring, and of the others the
+    # end of one.
+    each_given, each_flagged, each_ring, each_end = 7, 6, 5, 12
 
     def __init__(self, seed: int) -> None:
         super().__init__(seed)
@@ -156,7 +157,7 @@ class Records(Second):
         described = [self.described(nodes) for _ in range(self.source.randrange(1, self.most_described + 1))]
         self.table, self.handles_end = self.one(self.tables), len(described)
         full = table_of(self.handles(len(described), self.table))
-        records = [self.next_record() for _ in range(self.source.randrange(self.records))]
+        records = [self.next_record() for _ in range(self.source.randrange(self.fewest, self.records))]
         return b"".join([head(len(items), len(described), self.table, len(full)), *items, *described, *full, *records, END])
 
     def file(self, path: bytes, size: int) -> bytes:
@@ -170,10 +171,10 @@ class Records(Second):
         return file(path, size, ranges)
 
     def next_record(self) -> bytes:
-        if not self.there or self.rarely(5):
+        if not self.there or self.rarely(self.each_ring):
             return self.new_ring()
         number = self.one(self.there)
-        if self.rarely(12):
+        if self.rarely(self.each_end):
             self.there.remove(number)
             return ring_ends(number)
         return self.record(number)
