@@ -80,7 +80,7 @@ class ManyRecords(Many, Records):
     """Draws such a trace of version 3, in which rings come and go."""
 
     weights = {**Many.weights, STATX: 2, FADVISE: 1}
-    each_ring, each_end, each_given = 40, 60, 25
+    most_described, each_ring, each_end, each_given = 60, 40, 60, 25
 
 
 class Alike(Many):
