@@ -21,16 +21,16 @@ from record_traces import DESCRIPTION, SLOT, Carried, Records, file_of, stored
 from records import lot
 from streams import BY_MODEL, Bounded, in_memory
 from traces import AT_FDCWD, CLOSE, FADVISE, FIXED_FILE, FSYNC, FTRUNCATE, LINK, LINKAT, MKDIRAT, NOP, OPENAT, READ, RENAMEAT, STATX, UNLINKAT, WRITE
-from traces import description, directory, enter, entry, head, ring, two_paths
+from traces import description, directory, enter, entry, head, name, ring, two_paths
 
 BENCH = os.path.join(TOP, "bench", "temporaries.py")
-# Something is dropped when as many nodes and descriptions were made as were left the last time, and no fewer than so many. At least so often that
-# comes to pass where all is made to succeed, and in drawn traces.
+# Something is dropped when so many nodes and descriptions were made since the last time, and as many as there was left to look at then. At least so
+# often that comes to pass where all is made to succeed, and in drawn traces.
 MADE, OFTEN, ONCE = 512, 4, 1
 # How many traces of each kind are tried. How many files lead a life in one.
 DRAWN, LIVES = 4, 1_200
-# Beside how many descriptions so many temporary files come and go, and how many times the processor time of those beside one that may take, which is
-# 1 to 2 times. Were these descriptions looked at each time that the fewest were made, it would be over 10.
+# Beside how many descriptions or names so many temporary files come and go, and how many times the processor time of those beside one that may take,
+# which is 1 to 4 times. Were all these looked at each time that the fewest were made, it would be 8 times and more.
 BESIDE, TEMPORARIES, MOST_BESIDE = 200_000, 20_000, 5.0
 # How many slots and descriptors there are, how long a file is left alone, and how long one of a few is.
 OPEN, PAUSE, LONG, EACH_LONG = 150, 30, 3_000, 12
@@ -39,25 +39,36 @@ LAST, POSITION, EXCHANGE, REMOVES_DIRECTORY = (1 << 32) - 1, (1 << 64) - 1, 2, 0
 
 # --- How often something is dropped ---------------------------------------------------------------------------------
 
-def left_in(world: model_records.Records) -> int:
-    """How many nodes and descriptions something leads to; those that the trace starts with count."""
-    slots = (number for handles in (*world.slots, world.table) for number in handles if number is not None)
-    held = {*range(world.described), *slots}
-    nodes = {0, *(node for _, node in world.paths()), *(world.descriptions[it].node for it in held)}
-    return len(held) + len(nodes)
+class Left(NamedTuple):
+    """What something leads to: how many nodes and descriptions there are of it, and how much there is of it to look at."""
+
+    there: int
+    size: int
+
+
+def left_in(world: model_records.Records) -> Left:
+    """The descriptions that the trace starts with count."""
+    holding = [number for handles in (*world.slots, world.table) for number in handles if number is not None]
+    named = [node for _, node in world.paths()]
+    held = {*range(world.described), *holding}
+    nodes = {0, *named, *(world.descriptions[it].node for it in held)}
+    return Left(len(held) + len(nodes), len(held) + len(holding) + len(nodes) + len(named))
 
 
 def kept_by_model(trace: bytes) -> Tuple[int, Answer]:
-    """How often enough was made behind a record of a trace of version 3 that something is dropped; and what the second replayer gives, which keeps all."""
+    """How often enough was made behind a record of a trace of version 3 that something is dropped, chains that broke aside; and what the second replayer
+    gives, which keeps all."""
     world, replies = model_records.Records(trace), {}
     ends, times, gone = {places for _, places in world.ends}, 0, 0
-    left = len(world.nodes) + len(world.descriptions)
+    made = len(world.nodes) + len(world.descriptions)
+    room = made + max(made, MADE)
     for chain in world.chains:
         if chain.first in ends:
-            there = len(world.nodes) + len(world.descriptions)
-            if there - gone - left >= max(left, MADE):
+            made = len(world.nodes) + len(world.descriptions)
+            if made - gone > room:
                 left, times = left_in(world), times + 1
-                gone = there - left
+                gone = made - left.there
+                room = left.there + max(left.size, MADE)
         replies.update({chain.first + at: model.run_step(world, chain, at) for at in range(len(chain.steps))})
     return times, Answer(0, model.report_of(world, replies), b"")
 
@@ -340,9 +351,10 @@ def temporaries(number: int, count: int) -> bytes:
     return b"".join(record_traces.enter(number, made[at : at + 30]) for at in range(0, len(made), 30))
 
 
-def made_and_removed(count: int, described: int = 0) -> bytes:
-    """A trace of so many temporary files, and of so many descriptions that it starts with, of the root."""
-    return record_traces.head(0, described) + description(0, 0) * described + record_traces.ring(1) + temporaries(0, count) + record_traces.END
+def made_and_removed(count: int, described: int = 0, named: int = 0) -> bytes:
+    """A trace of so many temporary files, of so many descriptions that it starts with, of the root, and of a file that has so many names beside its own."""
+    items = [file_of(b"/named", 0, b"")] + [name(b"/n%d" % at, 1) for at in range(named)] if named else []
+    return b"".join([record_traces.head(len(items), described), *items, description(0, 0) * described, record_traces.ring(1), temporaries(0, count), record_traces.END])
 
 
 def told_of(number: int, entries: List[bytes]) -> bytes:
@@ -442,8 +454,9 @@ BOUNDED = (
 
 def in_time(program: Program) -> List[Outcome]:
     """The cost is in proportion to what was made, and not to what is left each time."""
-    many, one = (Timed(["serial"], made_and_removed(TEMPORARIES, it)) for it in (BESIDE, 1))
-    return [Outcome("temporary files beside {} descriptions by {}".format(BESIDE, program.compiler), program.outlasts(many, one, MOST_BESIDE))]
+    one = Timed(["serial"], made_and_removed(TEMPORARIES, 1, 1))
+    kinds = (("descriptions", made_and_removed(TEMPORARIES, BESIDE)), ("names", made_and_removed(TEMPORARIES, 1, BESIDE)))
+    return [Outcome("temporary files beside {} {} by {}".format(BESIDE, label, program.compiler), program.outlasts(Timed(["serial"], trace), one, MOST_BESIDE)) for label, trace in kinds]
 
 
 def by_bench(bounded: Bounded) -> List[Outcome]:
