@@ -29,9 +29,11 @@ BENCH = os.path.join(TOP, "bench", "temporaries.py")
 MADE, OFTEN, ONCE = 512, 4, 1
 # How many traces of each kind are tried. How many files lead a life in one.
 DRAWN, LIVES = 4, 1_200
-# Beside how many descriptions or names so many temporary files come and go, and how many times the processor time of those beside one that may take,
-# which is 1 to 4 times. Were all these looked at each time that the fewest were made, it would be 8 times and more.
+# Beside how many descriptions, or names of one file, so many temporary files come and go. How many times the processor time of those beside one
+# description they may take, which is 1 to 2 times; and how many times that of the names alone, which is 1 to 1.6 times. Were all these looked at each
+# time that the fewest were made, it would be over 10 times, and 4.
 BESIDE, TEMPORARIES, MOST_BESIDE = 200_000, 20_000, 5.0
+BESIDE_NAMES, MOST_BESIDE_NAMES = 100_000, 2.5
 # How many slots and descriptors there are, how long a file is left alone, and how long one of a few is.
 OPEN, PAUSE, LONG, EACH_LONG = 150, 30, 3_000, 12
 LAST, POSITION, EXCHANGE, REMOVES_DIRECTORY = (1 << 32) - 1, (1 << 64) - 1, 2, 0x200
@@ -454,9 +456,12 @@ BOUNDED = (
 
 def in_time(program: Program) -> List[Outcome]:
     """The cost is in proportion to what was made, and not to what is left each time."""
-    one = Timed(["serial"], made_and_removed(TEMPORARIES, 1, 1))
-    kinds = (("descriptions", made_and_removed(TEMPORARIES, BESIDE)), ("names", made_and_removed(TEMPORARIES, 1, BESIDE)))
-    return [Outcome("temporary files beside {} {} by {}".format(BESIDE, label, program.compiler), program.outlasts(Timed(["serial"], trace), one, MOST_BESIDE)) for label, trace in kinds]
+    kinds = (
+        ("descriptions", made_and_removed(TEMPORARIES, BESIDE), made_and_removed(TEMPORARIES, 1), MOST_BESIDE),
+        ("names", made_and_removed(BESIDE_NAMES, 1, BESIDE), made_and_removed(1, 1, BESIDE), MOST_BESIDE_NAMES),
+    )
+    label = "temporary files beside {} {} by {}".format
+    return [Outcome(label(BESIDE, kind, program.compiler), program.outlasts(Timed(["serial"], many), Timed(["serial"], one), most)) for kind, many, one, most in kinds]
 
 
 def by_bench(bounded: Bounded) -> List[Outcome]:
