@@ -21,7 +21,7 @@ use Rattle.stream_laws.proofs.Streams.{record_is_alone, record_is_let_go}
 use Rattle.sweep_laws.specs.Swept.{IsSweptBehind}
 use Rattle.sweep_laws.proofs.Streams.{swept_begins, swept_goes_on, swept_replies, sweep_is_behind}
 use Rattle.replay_stream.specs.declared.replaying.Replaying.{Replaying}
-use Rattle.replay_stream.specs.Replayed.{HasRun, HasRunNext}
+use Rattle.replay_stream.specs.Replayed.{HasRun, HasRunNext, MayLack}
 
 -- a replay begins
 pub begins : (b : Start) (p : Replaying) → IsSpelledFront b [] → p.recording ≡ of_start b → p.state ≡ start p.recording → HasRun b [] p
@@ -64,34 +64,23 @@ module _ (b : Start) (front : List Record) (r : Record) (p : Replaying) (run : H
   pub ready : (t : Recording) (first : ℕ) → t ≡ with_next (let_go p.recording) r → first ≡ places (let_go p.recording) → IsReady t first
   ready t first is at = subst (λ (x : Recording). IsReady x first) (sym (is ∙ is_hand)) (subst (IsReady (at_hand b front r)) (sym (at ∙ is_first)) hand_ready)
 
-  -- the world once they have run, from which what nothing leads to may be dropped
-  swept_or_not : (t : Recording) (z w : World) → t ≡ at_hand b front r → z ≡ world_within b front r p.state (places (at_hand b front r) - place_behind b front)
-      → (w ≡ z) ⊎ (w ≡ swept (length t.descriptions) z) → IsSweptBehind b (front ++ r ∷ []) w
-  swept_or_not t z w hand world x =
-      let behind = subst (IsSweptBehind b (front ++ r ∷ [])) (sym world) (swept_goes_on b front r p.state hand_accepted spelled run.state) in
-      elim x [
-        | inl same ↦ subst (IsSweptBehind b (front ++ r ∷ [])) (sym same) behind
-        | inr less ↦ subst (IsSweptBehind b (front ++ r ∷ [])) (sym (less ∙ ap (λ (u : Recording). swept (length u.descriptions) z) hand)) (sweep_is_behind b (front ++ r ∷ []) z behind)
-      ]
-
   -- what the replay has once they have run
-  pub goes_on : (q : Replaying) (rings : ℕ) (z : World) → q.recording ≡ with_next (let_go p.recording) r → q.first ≡ places (let_go p.recording) → rings ≡ length (let_go p.recording).rings
-      → z ≡ world_from q.recording q.first (places q.recording - q.first) (with_ring_of q.recording rings p.state)
-      → (q.state ≡ z) ⊎ (q.state ≡ swept (length q.recording.descriptions) z)
+  pub goes_on : (q : Replaying) (rings : ℕ) → q.recording ≡ with_next (let_go p.recording) r → q.first ≡ places (let_go p.recording) → rings ≡ length (let_go p.recording).rings
+      → q.state ≡ world_from q.recording q.first (places q.recording - q.first) (with_ring_of q.recording rings p.state)
       → q.replies ≡ replies_from q.recording q.first (places q.recording - q.first) (with_ring_of q.recording rings p.state)
       → HasRunNext b front r q
-  goes_on q rings z is at ring state dropped replies =
+  goes_on q rings is at ring state replies =
       let hand : q.recording ≡ at_hand b front r = is ∙ is_hand in
       let first : q.first ≡ place_behind b front = at ∙ is_first in
       let count : rings ≡ length (gone b front).rings = ring ∙ ap (λ (t : Recording). length t.rings) run.gone in
-      let world : z ≡ world_within b front r p.state (places (at_hand b front r) - place_behind b front) =
+      let world : q.state ≡ world_within b front r p.state (places (at_hand b front r) - place_behind b front) =
       state ∙ (λ i. world_from (hand i) (first i) (places (hand i) - first i) (with_ring_of (hand i) (count i) p.state)) in
       let told = replies ∙ (λ i. replies_from (hand i) (first i) (places (hand i) - first i) (with_ring_of (hand i) (count i) p.state)) in
       record {
         run = record {
           recording = subst (λ (t : Recording). IsOfFront t b (front ++ r ∷ [])) (sym is) next_of_front.1;
           gone = ap let_go hand ∙ record_is_let_go b front r;
-          state = swept_or_not q.recording z q.state hand world dropped;
+          state = subst (IsSweptBehind b (front ++ r ∷ [])) (sym world) (swept_goes_on b front r p.state hand_accepted spelled run.state);
         };
         at_hand = hand;
         first = first;
@@ -99,3 +88,24 @@ module _ (b : Start) (front : List Record) (r : Record) (p : Replaying) (run : H
             let u = recording_of b (front ++ r ∷ back) in
             (λ i. run_replies u (first i) ++ told i) ∙ swept_replies b front back r p.state hand_accepted spelled run.state ∙ ap (λ (t : Recording). run_replies u (places t)) (sym hand);
       }
+
+-- what it has when what nothing leads to may have been dropped
+module _ (b : Start) (front : List Record) (r : Record) (p : Replaying) (h : HasRunNext b front r p) where
+  same_descriptions : length p.recording.descriptions ≡ length b.descriptions
+  same_descriptions = ap (λ (t : Recording). length t.descriptions) h.at_hand
+
+  swept_or_not : (w : World) → (w ≡ p.state) ⊎ (w ≡ swept (length p.recording.descriptions) p.state) → IsSweptBehind b (front ++ r ∷ []) w
+  swept_or_not w (inl same) = subst (IsSweptBehind b (front ++ r ∷ [])) (sym same) h.run.state
+  swept_or_not w (inr less) = subst (IsSweptBehind b (front ++ r ∷ [])) (sym (less ∙ ap (λ n. swept n p.state) same_descriptions)) (sweep_is_behind b (front ++ r ∷ []) p.state h.run.state)
+
+  pub may_lack : (q : Replaying) → q.recording ≡ p.recording → q.first ≡ p.first → q.replies ≡ p.replies → MayLack (length p.recording.descriptions) p.state q.state → HasRunNext b front r q
+  may_lack q recording first replies state = record {
+    run = record {
+      recording = subst (λ (t : Recording). IsOfFront t b (front ++ r ∷ [])) (sym recording) h.run.recording;
+      gone = ap let_go recording ∙ h.run.gone;
+      state = swept_or_not q.state state.is;
+    };
+    at_hand = recording ∙ h.at_hand;
+    first = first ∙ h.first;
+    replies = λ back. (λ i. run_replies (recording_of b (front ++ r ∷ back)) (first i) ++ replies i) ∙ h.replies back ∙ ap (λ (t : Recording). run_replies (recording_of b (front ++ r ∷ back)) (places t)) (sym recording);
+  }

@@ -1,14 +1,13 @@
 //! A replay that takes a record at a time.
-ghost use Rattle.std.specs.Prelude.{◌≡◌, ◌+◌, ◌-◌, ◌≤◌, ◌⊎◌, [], ◌∷◌, ◌++◌, length, List, IfOk, OnOk};
+ghost use Rattle.std.specs.Prelude.{◌≡◌, ◌+◌, ◌-◌, ◌≤◌, [], ◌∷◌, ◌++◌, length, List, IfOk, OnOk};
 ghost use Rattle.chain_plan.specs.Stretch.{IsApart, chains_ahead};
 ghost use Rattle.recording.specs.Accepted.{IsAccepted};
 ghost use Rattle.recording.specs.Fronts.{IsSpelledFront};
 ghost use Rattle.recording.specs.Steps.{places};
-ghost use Rattle.replay_stream.specs.Replayed.{HasRun, HasRunNext, MayRun};
+ghost use Rattle.replay_stream.specs.Replayed.{HasRun, HasRunNext, HasRunSome, MayLack, MayRun};
 ghost use Rattle.stream_laws.specs.Streamed.{replies_from, with_ring_of, world_from};
 ghost use Rattle.trace_records.specs.declared.record.Record as three;
 ghost use Rattle.trace_records.specs.declared.start.Start as three_start;
-ghost use Rattle.world_parts.specs.Sweeping.{swept};
 
 use chain_plan::Stretch;
 use op_meaning::{Replies, run_on_state};
@@ -61,8 +60,8 @@ fn sweep_if_due(
     state: &mut State,
 ) -> Result<usize, AllocError>
     requires { IsAccepted recording.now }
-    ensures { OnOk result ((state.new ≡ state.old)
-        ⊎ (state.new ≡ swept (length recording.now.descriptions) state.old)) }
+    ensures { OnOk result
+        (MayLack (length recording.now.descriptions) state.old state.new) }
 {
     if made_in(state) <= room {
         return Ok(room);
@@ -143,6 +142,17 @@ impl Replaying {
             → HasRun b front self → IsSpelledFront b (front ++ next ∷ [])
             → IfOk result (HasRunNext b front next) }
     {
+        let ran = self.run(alloc, next)?;
+        ran.swept(alloc)
+    }
+
+    /// Lets go of the last record, and runs the places of the next one.
+    fn run(self, alloc: Global, next: Record) -> Result<Self, AllocError>
+        requires { MayRun self next }
+        ensures { (b : three_start.Start) (front : List three.Record)
+            → HasRun b front self → IsSpelledFront b (front ++ next ∷ [])
+            → IfOk result (HasRunNext b front next) }
+    {
         let mut recording = self.recording;
         let mut state = self.state;
         recording.let_go(alloc);
@@ -151,11 +161,27 @@ impl Replaying {
         let recording = recording.with_record(alloc, next)?;
         add_new_ring(&recording, rings, &mut state)?;
         let replies = replies_from(alloc, &recording, first, &mut state)?;
-        let room = sweep_if_due(alloc, &recording, self.room, &mut state)?;
         Ok(Replaying {
             recording,
             first,
             replies,
+            state,
+            room: self.room,
+        })
+    }
+
+    /// Drops what nothing leads to, where enough was made since the last time.
+    fn swept(self, alloc: Global) -> Result<Self, AllocError>
+        requires { HasRunSome self }
+        ensures { (b : three_start.Start) (front : List three.Record) (r : three.Record)
+            → HasRunNext b front r self → IfOk result (HasRunNext b front r) }
+    {
+        let mut state = self.state;
+        let room = sweep_if_due(alloc, &self.recording, self.room, &mut state)?;
+        Ok(Replaying {
+            recording: self.recording,
+            first: self.first,
+            replies: self.replies,
             state,
             room,
         })

@@ -4,4 +4,4 @@ use Rattle.world_parts.specs.World.{Description}
 use Rattle.replay_stream.proofs.replaying.sweep_if_due.Goals as goal
 
 pub returns : goal.returns
-returns c = inr (c.in_ok-left.ensures.ok ∙ ap (λ (l : List Description). swept (length l) c.args.state.now) c.as_slice.ensures)
+returns c = record { is = inr (c.in_ok-left.ensures.ok ∙ ap (λ (l : List Description). swept (length l) c.args.state.now) c.as_slice.ensures) }
