@@ -1,2 +1,3 @@
 mod Slices
 mod Feed
+pub mod Whole

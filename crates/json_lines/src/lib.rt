@@ -3,7 +3,9 @@
 #![tactic(auto)]
 
 mod fields;
+mod form;
 mod lines;
 mod stream;
 
+pub use form::{Form, text_as};
 pub use stream::{JsonLines, json_of};
