@@ -1,3 +1,4 @@
+pub mod WholeLines
 pub mod LastLines
 pub mod WholeReport
 pub mod WithinLines

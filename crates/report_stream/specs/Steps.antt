@@ -1,7 +1,9 @@
 -- A helper: what stands between two records while a report is written, and what the parts of one turn do.
 use Rattle.std.specs.Prelude.{◌≡◌, ◌≢◌, ◌<◌, ◌^◌, ◌++◌, ⊤, ℕ, List, Option, Result, Ok, Err}
 use Rattle.std.specs.Io.KnownBytes.{Appends, Consumes}
-use Rattle.byte_transfer.specs.Transfer.{Takes}
+use Rattle.byte_transfer.specs.Transfer.{AppendsPart, Takes}
+use Rattle.json_lines.specs.Forms.{IsWhole, written_as}
+use Rattle.json_lines.specs.declared.form.Form.{Form}
 use Rattle.trace_format.specs.declared.fault.Kind.TheVariants as kind
 use Rattle.trace_format.specs.declared.fault.TraceFault.{TraceFault}
 use Rattle.trace_records.specs.Whole.{SpellsTrace}
@@ -32,15 +34,22 @@ abbrev pub IsNotShort : ReportFault → Type 0
 IsNotShort (Trace f) = f.kind ≢ kind.Short
 IsNotShort other = ⊤
 
--- The writer took the first bytes of the text, and the others are left.
-abbrev pub Moves : Option (List ℕ) → Option (List ℕ) → List ℕ → List ℕ → Type 0
-Moves written written' text text' = (out : List ℕ) × Appends written written' out × (text ≡ out ++ text')
+-- A text was not written whole: the writer took a part of it, or memory ran out before.
+abbrev pub IsNotWritten : (written written' : Option (List ℕ)) → List ℕ → ReportFault → Type 0
+IsNotWritten written written' text Write = AppendsPart written written' text
+IsNotWritten written written' text Memory = written' ≡ written
+IsNotWritten written written' text Read = ⊥
+IsNotWritten written written' text (Trace f) = ⊥
 
--- The stream has the fault behind the records so far, and the writer took the whole text; or it took a beginning of that.
-abbrev pub StopsWith : (left left' written written' : Option (List ℕ)) → Stream → List ℕ → ReportFault → Type 0
-StopsWith left left' written written' s text (Trace f) =
-    GivesFault left left' s (stream.Trace f) × (f.kind ≢ kind.Memory) × Appends written written' text
-StopsWith left left' written written' s text other = Takes left left' × AppendsFirst written written' text
+-- The writer took the first bytes of the text in the form, and the others are left. Of whole lines it took whole lines.
+abbrev pub Moves : Form → Option (List ℕ) → Option (List ℕ) → List ℕ → List ℕ → Type 0
+Moves form written written' text text' = (out : List ℕ) × Appends written written' (written_as form out) × (text ≡ out ++ text') × (IsWhole text → IsWhole out)
+
+-- The stream has the fault behind the records so far, and the writer took the whole text in the form; or it took a beginning of that.
+abbrev pub StopsWith : Form → (left left' written written' : Option (List ℕ)) → Stream → List ℕ → ReportFault → Type 0
+StopsWith form left left' written written' s text (Trace f) =
+    GivesFault left left' s (stream.Trace f) × (f.kind ≢ kind.Memory) × Appends written written' (written_as form text)
+StopsWith form left left' written written' s text other = Takes left left' × AppendsFirst written written' (written_as form text)
 
 -- The replay has just run the last of some records.
 pub record RanLast (p : Replaying) : Type 0 where
@@ -49,15 +58,15 @@ pub record RanLast (p : Replaying) : Type 0 where
   pub r : Record
   pub run : HasRunNext b front r p
 
--- The lines up to a place are what was written before, what the writer took, and the text. Where it failed, it took a beginning of the lines.
-abbrev pub AddsLines : Result (Unit {0}) ReportFault → three.Start → List Record → Shown → (place : ℕ) → (written written' : Option (List ℕ)) → (before text : List ℕ) → Type 0
-AddsLines (Ok done) b rs shown place written written' before text =
-    (out : List ℕ) × Appends written written' out × IsTextTo b rs shown place ((before ++ out) ++ text)
-AddsLines (Err Write) b rs shown place written written' before text =
-    (lines : List ℕ) × IsTextTo b rs shown place (before ++ lines) × AppendsFirst written written' lines
-AddsLines (Err Memory) b rs shown place written written' before text = written' ≡ written
-AddsLines (Err Read) b rs shown place written written' before text = ⊥
-AddsLines (Err (Trace f)) b rs shown place written written' before text = ⊥
+-- The lines up to a place are what was written before, the whole lines that the writer took in the form, and the text. Where it failed, it took a beginning of the lines.
+abbrev pub AddsLines : Result (Unit {0}) ReportFault → three.Start → List Record → Shown → Form → (place : ℕ) → (written written' : Option (List ℕ)) → (before text : List ℕ) → Type 0
+AddsLines (Ok done) b rs shown form place written written' before text =
+    (out : List ℕ) × Appends written written' (written_as form out) × IsWhole out × IsTextTo b rs shown place ((before ++ out) ++ text)
+AddsLines (Err Write) b rs shown form place written written' before text =
+    (lines : List ℕ) × IsTextTo b rs shown place (before ++ lines) × AppendsFirst written written' (written_as form lines)
+AddsLines (Err Memory) b rs shown form place written written' before text = written' ≡ written
+AddsLines (Err Read) b rs shown form place written written' before text = ⊥
+AddsLines (Err (Trace f)) b rs shown form place written written' before text = ⊥
 
 -- The writer took a beginning of the text, or memory ran out behind that.
 abbrev pub EndsEarly : (written written' : Option (List ℕ)) → List ℕ → ReportFault → Type 0
@@ -66,8 +75,8 @@ EndsEarly written written' text Memory = AppendsFirst written written' text
 EndsEarly written written' text Read = ⊥
 EndsEarly written written' text (Trace f) = ⊥
 
--- The bytes that were taken are a start, some records and what is held; the records were run; what was written, and the text behind it, are their lines.
-pub record UnderWay (ahead : List ℕ) (left left' written written' : Option (List ℕ)) (s : Stream) (p : Replaying) (text : List ℕ) (shown : Shown) : Type 0 where
+-- The bytes that were taken are a start, some records and what is held; the records were run; the whole lines that were written in the form, and the text behind them, are their lines.
+pub record UnderWay (ahead : List ℕ) (left left' written written' : Option (List ℕ)) (s : Stream) (p : Replaying) (text : List ℕ) (shown : Shown) (form : Form) : Type 0 where
   pub start : three.Start
   pub rs : List Record
   pub more : List ℕ
@@ -75,41 +84,43 @@ pub record UnderWay (ahead : List ℕ) (left left' written written' : Option (Li
   pub stands : Stands start s (ahead ++ more) rs
   pub run : HasRun start rs p
   pub out : List ℕ
-  pub wrote : Appends written written' out
+  pub wrote : Appends written written' (written_as form out)
+  pub whole : IsWhole out
   pub so_far : IsFrontText start rs shown (out ++ text)
 
 -- It is so of what was read ahead, left and written at some time.
-pub record IsUnderWay (left written : Option (List ℕ)) (s : Stream) (p : Replaying) (text : List ℕ) (shown : Shown) : Type 0 where
+pub record IsUnderWay (left written : Option (List ℕ)) (s : Stream) (p : Replaying) (text : List ℕ) (shown : Shown) (form : Form) : Type 0 where
   pub ahead : List ℕ
   pub left_first : Option (List ℕ)
   pub written_first : Option (List ℕ)
-  pub is : UnderWay ahead left_first left written_first written s p text shown
+  pub is : UnderWay ahead left_first left written_first written s p text shown form
 
 -- All bytes were taken, and are a trace whose records were run.
-pub record AtEnd (ahead : List ℕ) (left left' written written' : Option (List ℕ)) (p : Replaying) (text : List ℕ) (shown : Shown) : Type 0 where
+pub record AtEnd (ahead : List ℕ) (left left' written written' : Option (List ℕ)) (p : Replaying) (text : List ℕ) (shown : Shown) (form : Form) : Type 0 where
   pub start : three.Start
   pub rs : List Record
   pub all : ReadsAll ahead left left' (λ bytes. SpellsTrace bytes (trace_of start rs))
   pub run : HasRun start rs p
   pub out : List ℕ
-  pub wrote : Appends written written' out
+  pub wrote : Appends written written' (written_as form out)
+  pub whole : IsWhole out
   pub so_far : IsFrontText start rs shown (out ++ text)
 
--- All bytes were taken, and are cut off at a byte behind some records, with this fault; the records were run, and their lines are what was written.
-pub record AtCut (ahead : List ℕ) (left left' written written' : Option (List ℕ)) (p : Replaying) (shown : Shown) (at : ℕ) (f : TraceFault) : Type 0 where
+-- All bytes were taken, and are cut off at a byte behind some records, with this fault; the records were run, and their lines in the form are what was written.
+pub record AtCut (ahead : List ℕ) (left left' written written' : Option (List ℕ)) (p : Replaying) (shown : Shown) (form : Form) (at : ℕ) (f : TraceFault) : Type 0 where
   pub start : three.Start
   pub rs : List Record
   pub all : ReadsAll ahead left left' (λ bytes. (cut : IsCutOff bytes start rs at) × (cut.f ≡ f))
   pub run : HasRun start rs p
   pub text : List ℕ
-  pub wrote : Appends written written' text
+  pub wrote : Appends written written' (written_as form text)
   pub so_far : IsFrontText start rs shown text
 
 -- A turn goes on by a record, finds the end, or bytes that end before it.
-abbrev pub GoesTo : (ahead : List ℕ) (left left' written written' : Option (List ℕ)) → Stream → (text : List ℕ) → Shown → Turn → Type 0
-GoesTo ahead left left' written written' s text shown (Next p) = UnderWay ahead left left' written written' s p.value text shown
-GoesTo ahead left left' written written' s text shown (Last p) = AtEnd ahead left left' written written' p.value text shown
-GoesTo ahead left left' written written' s text shown (Cut p at f) = AtCut ahead left left' written written' p.value shown at f
+abbrev pub GoesTo : (ahead : List ℕ) (left left' written written' : Option (List ℕ)) → Stream → (text : List ℕ) → Shown → Form → Turn → Type 0
+GoesTo ahead left left' written written' s text shown form (Next p) = UnderWay ahead left left' written written' s p.value text shown form
+GoesTo ahead left left' written written' s text shown form (Last p) = AtEnd ahead left left' written written' p.value text shown form
+GoesTo ahead left left' written written' s text shown form (Cut p at f) = AtCut ahead left left' written written' p.value shown form at f
 
 -- A fault stops a turn: the bytes end behind the records so far, at a byte, or within the next one.
 abbrev pub StopsAt : Replaying → (at : ℕ) → ReportFault → Turn → Type 0

@@ -1,6 +1,8 @@
 -- The model: what is written of a trace of version 3 that is replayed record by record: its report, or so much of it as the records so far tell.
 use Rattle.std.specs.Prelude.{◌≡◌, ◌≢◌, ◌≤◌, ◌⊎◌, ◌++◌, ℕ, Bool, true, [], List, length, take, Option, None, Some}
 use Rattle.std.specs.Io.KnownBytes.{Appends, Consumes, IsAtEnd, Keeps}
+use Rattle.json_lines.specs.Forms.{written_as}
+use Rattle.json_lines.specs.declared.form.Form.{Form}
 use Rattle.trace_format.specs.Grammar.{Breaks}
 use Rattle.trace_format.specs.declared.fault.Kind.TheVariants.{Short}
 use Rattle.trace_format.specs.declared.fault.TraceFault.{TraceFault}
@@ -63,18 +65,18 @@ Tells may bytes shown text =
 abbrev pub AppendsFirst : Option (List ℕ) → Option (List ℕ) → List ℕ → Type 0
 AppendsFirst old new text = (n : ℕ) × (n ≤ length text) × Appends old new (take n text)
 
--- The reader was read to its end, what was read ahead and what it had left spells a trace, and the writer took the report of that, and nothing else.
-abbrev pub WritesReport : List ℕ → Shown → (left left' written written' : Option (List ℕ)) → Type 0
-WritesReport ahead shown left left' written written' =
-    ReadsAll ahead left left' (λ text. (t : whole.Trace) × SpellsTrace text t × Appends written written' (report t shown))
+-- The reader was read to its end, what was read ahead and what it had left spells a trace, and the writer took the report of that in the form, and nothing else.
+abbrev pub WritesReport : List ℕ → Shown → Form → (left left' written written' : Option (List ℕ)) → Type 0
+WritesReport ahead shown form left left' written written' =
+    ReadsAll ahead left left' (λ text. (t : whole.Trace) × SpellsTrace text t × Appends written written' (written_as form (report t shown)))
 
 -- The same of bytes that are cut off: the report is the one of the trace that ends behind the last whole record, at a byte.
-abbrev pub WritesCut : (at : ℕ) → List ℕ → Shown → (left left' written written' : Option (List ℕ)) → Type 0
-WritesCut at ahead shown left left' written written' =
-    ReadsAll ahead left left' (λ text. (b : three.Start) × (rs : List Record) × IsCutOff text b rs at × Appends written written' (report (trace_of b rs) shown))
+abbrev pub WritesCut : (at : ℕ) → List ℕ → Shown → Form → (left left' written written' : Option (List ℕ)) → Type 0
+WritesCut at ahead shown form left left' written written' =
+    ReadsAll ahead left left' (λ text. (b : three.Start) × (rs : List Record) × IsCutOff text b rs at × Appends written written' (written_as form (report (trace_of b rs) shown)))
 
 -- The one or the other: some trace was cut off, at a byte, or none.
-abbrev pub Writes : Option ℕ → List ℕ → Shown → (left left' written written' : Option (List ℕ)) → Type 0
+abbrev pub Writes : Option ℕ → List ℕ → Shown → Form → (left left' written written' : Option (List ℕ)) → Type 0
 Writes None = WritesReport
 Writes (Some at) = WritesCut at
 
@@ -82,30 +84,30 @@ Writes (Some at) = WritesCut at
 abbrev pub FailsAtStart : List ℕ → TraceFault → (written written' : Option (List ℕ)) → Type 0
 FailsAtStart bytes f written written' = Breaks start 0 bytes f × Keeps written written'
 
--- They have it behind some records, and the writer took the first line and the lines of these records, and nothing else. Where they may be cut off, an end too early is no fault there.
-abbrev pub FailsBehind : (may_be_cut : Bool) → List ℕ → Shown → TraceFault → (written written' : Option (List ℕ)) → Type 0
-FailsBehind may bytes shown f written written' =
+-- They have it behind some records, and the writer took the first line and the lines of these records in the form, and nothing else. Where they may be cut off, an end too early is no fault there.
+abbrev pub FailsBehind : (may_be_cut : Bool) → List ℕ → Shown → Form → TraceFault → (written written' : Option (List ℕ)) → Type 0
+FailsBehind may bytes shown form f written written' =
     (may ≡ true → f.kind ≢ Short)
-    × ((b : three.Start) × (rs : List Record) × (text : List ℕ) × HasFaultBehind bytes b rs f × IsFrontText b rs shown text × Appends written written' text)
+    × ((b : three.Start) × (rs : List Record) × (text : List ℕ) × HasFaultBehind bytes b rs f × IsFrontText b rs shown text × Appends written written' (written_as form text))
 
 -- What was read ahead and what the reader lost has the fault. It is told where the reader is at its end, or where no byte more changes it.
-pub record WritesBefore (may_be_cut : Bool) (ahead : List ℕ) (shown : Shown) (f : TraceFault) (left left' written written' : Option (List ℕ)) : Type 0 where
+pub record WritesBefore (may_be_cut : Bool) (ahead : List ℕ) (shown : Shown) (form : Form) (f : TraceFault) (left left' written written' : Option (List ℕ)) : Type 0 where
   pub more : List ℕ
   pub taken : Consumes left left' more
   pub ended : f.kind ≡ Short → IsAtEnd left'
-  pub wrote : FailsAtStart (ahead ++ more) f written written' ⊎ FailsBehind may_be_cut (ahead ++ more) shown f written written'
+  pub wrote : FailsAtStart (ahead ++ more) f written written' ⊎ FailsBehind may_be_cut (ahead ++ more) shown form f written written'
 
--- The writer took a beginning of what the bytes so far give, and nothing else.
-pub record WritesSome (may_be_cut : Bool) (ahead : List ℕ) (shown : Shown) (left left' written written' : Option (List ℕ)) : Type 0 where
+-- The writer took a beginning of what the bytes so far give in the form, and nothing else.
+pub record WritesSome (may_be_cut : Bool) (ahead : List ℕ) (shown : Shown) (form : Form) (left left' written written' : Option (List ℕ)) : Type 0 where
   pub more : List ℕ
   pub taken : Consumes left left' more
   pub text : List ℕ
   pub told : Tells may_be_cut (ahead ++ more) shown text
-  pub wrote : AppendsFirst written written' text
+  pub wrote : AppendsFirst written written' (written_as form text)
 
 -- What was written before a fault.
-abbrev pub WritesUpTo : (may_be_cut : Bool) → List ℕ → Shown → (left left' written written' : Option (List ℕ)) → ReportFault → Type 0
-WritesUpTo may ahead shown left left' written written' (Trace f) = WritesBefore may ahead shown f left left' written written'
-WritesUpTo may ahead shown left left' written written' Memory = WritesSome may ahead shown left left' written written'
-WritesUpTo may ahead shown left left' written written' Read = WritesSome may ahead shown left left' written written'
-WritesUpTo may ahead shown left left' written written' Write = WritesSome may ahead shown left left' written written'
+abbrev pub WritesUpTo : (may_be_cut : Bool) → List ℕ → Shown → Form → (left left' written written' : Option (List ℕ)) → ReportFault → Type 0
+WritesUpTo may ahead shown form left left' written written' (Trace f) = WritesBefore may ahead shown form f left left' written written'
+WritesUpTo may ahead shown form left left' written written' Memory = WritesSome may ahead shown form left left' written written'
+WritesUpTo may ahead shown form left left' written written' Read = WritesSome may ahead shown form left left' written written'
+WritesUpTo may ahead shown form left left' written written' Write = WritesSome may ahead shown form left left' written written'

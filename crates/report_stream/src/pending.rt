@@ -1,34 +1,71 @@
 //! The lines that are not written yet.
 ghost use Rattle.std.specs.Prelude.{◌≡◌, ◌+◌, ◌-◌, ◌<◌, ◌^◌, [], IfErr, IfOk, IfSome, OnOk};
 ghost use Rattle.std.specs.Io.KnownBytes.{Appends};
-ghost use Rattle.byte_transfer.specs.Transfer.{AppendsPart, Takes};
+ghost use Rattle.byte_transfer.specs.Transfer.{Takes};
+ghost use Rattle.json_lines.specs.Forms.{written_as};
+ghost use Rattle.json_lines.specs.Lines.{json_lines};
 ghost use Rattle.trace_stream.specs.Streams.{Gives};
-ghost use Rattle.report_stream.specs.Steps.{Moves, StopsWith, reads_failed, writes_failed};
+ghost use Rattle.report_stream.specs.Steps.{IsNotWritten, Moves, StopsWith};
+ghost use Rattle.report_stream.specs.Steps.{reads_failed, writes_failed};
 
 use crate::fault::{ReportFault, told_of};
 use byte_transfer::{Failed, Sink, Source, write_text};
+use json_lines::{Form, json_of};
 use std::alloc::Global;
 use trace_records::Record;
 use trace_stream::Stream;
 
-/// Writes the text, and leaves none.
-pub(crate) fn flush<W: Sink>(writer: &mut W, text: &mut Vec<u8>) -> Result<(), ReportFault>
+/// Writes bytes.
+fn write_out<W: Sink>(writer: &mut W, bytes: &[u8]) -> Result<(), ReportFault>
     requires { W.failures writer.old < 2 ^ 64 - 1 }
-    ensures ok { OnOk result
-        (Appends (W.written writer.old) (W.written writer.new) text.old.items) }
-    ensures empty { OnOk result (text.new.items ≡ []) }
-    ensures err { IfErr result (λ e. e ≡ ReportFault.Write) }
-    ensures part { IfErr result (λ _. AppendsPart
-        (W.written writer.old) (W.written writer.new) text.old.items) }
-    ensures failures { W.failures writer.new ≡ W.failures writer.old + writes_failed result }
+    ensures ok { OnOk result (Appends (W.written writer.old) (W.written writer.new) bytes.now) }
+    ensures err { IfErr result
+        (IsNotWritten (W.written writer.old) (W.written writer.new) bytes.now) }
+    ensures reads { reads_failed result ≡ 0 }
+    ensures writes { W.failures writer.new ≡ W.failures writer.old + writes_failed result }
 {
-    match write_text(writer, text.as_slice()) {
-        Ok(()) => {
-            text.clear();
-            Ok(())
-        }
+    match write_text(writer, bytes) {
+        Ok(()) => Ok(()),
         Err(Failed) => Err(ReportFault::Write),
     }
+}
+
+/// Writes the objects of the lines of a text.
+fn write_json<W: Sink>(alloc: Global, writer: &mut W, text: &[u8]) -> Result<(), ReportFault>
+    requires { W.failures writer.old < 2 ^ 64 - 1 }
+    ensures ok { OnOk result
+        (Appends (W.written writer.old) (W.written writer.new) (json_lines text.now)) }
+    ensures err { IfErr result
+        (IsNotWritten (W.written writer.old) (W.written writer.new) (json_lines text.now)) }
+    ensures reads { reads_failed result ≡ 0 }
+    ensures writes { W.failures writer.new ≡ W.failures writer.old + writes_failed result }
+{
+    let json = json_of(alloc, text)?;
+    write_out(writer, json.as_slice())
+}
+
+/// Writes the text in the form that is asked for, and leaves none.
+pub(crate) fn flush<W: Sink>(
+    alloc: Global,
+    writer: &mut W,
+    form: Form,
+    text: &mut Vec<u8>,
+) -> Result<(), ReportFault>
+    requires { W.failures writer.old < 2 ^ 64 - 1 }
+    ensures ok { OnOk result (Appends (W.written writer.old) (W.written writer.new)
+        (written_as form text.old.items)) }
+    ensures empty { OnOk result (text.new.items ≡ []) }
+    ensures err { IfErr result (IsNotWritten (W.written writer.old) (W.written writer.new)
+        (written_as form text.old.items)) }
+    ensures reads { reads_failed result ≡ 0 }
+    ensures writes { W.failures writer.new ≡ W.failures writer.old + writes_failed result }
+{
+    match form {
+        Form::Text => write_out(writer, text.as_slice())?,
+        Form::Json => write_json(alloc, writer, text.as_slice())?,
+    }
+    text.clear();
+    Ok(())
 }
 
 /// The next record. The text is written before more is read, so that no line waits for bytes.
@@ -37,15 +74,16 @@ pub(crate) fn next_record<R: Source, W: Sink>(
     stream: &mut Stream,
     reader: &mut R,
     writer: &mut W,
+    form: Form,
     text: &mut Vec<u8>,
 ) -> Result<Option<Record>, ReportFault>
     requires reader { R.failures reader.old < 2 ^ 64 - 1 }
     requires writer { W.failures writer.old < 2 ^ 64 - 1 }
     ensures ok { IfOk result
         (Gives (R.left reader.old) (R.left reader.new) stream.old stream.new) }
-    ensures moves { IfOk result (λ _. Moves
+    ensures moves { IfOk result (λ _. Moves form
         (W.written writer.old) (W.written writer.new) text.old.items text.new.items) }
-    ensures err { IfErr result (StopsWith (R.left reader.old) (R.left reader.new)
+    ensures err { IfErr result (StopsWith form (R.left reader.old) (R.left reader.new)
         (W.written writer.old) (W.written writer.new) stream.old text.old.items) }
     ensures on { IfOk result (λ x. IfSome x (λ _. (stream.old.held.place < stream.new.held.place)
         × (stream.new.held.place < 2 ^ 63))) }
@@ -55,9 +93,9 @@ pub(crate) fn next_record<R: Source, W: Sink>(
 {
     match stream.next_held(alloc) {
         Ok(Some(record)) => return Ok(Some(record)),
-        Ok(None) => flush(writer, text)?,
+        Ok(None) => flush(alloc, writer, form, text)?,
         Err(fault) => {
-            flush(writer, text)?;
+            flush(alloc, writer, form, text)?;
             return Err(told_of(fault));
         }
     }

@@ -18,7 +18,7 @@ use trace_records::Start;
 use trace_stream::Stream;
 
 /// Writes the report of the trace of version 3 whose first bytes were read ahead, and whose others
-/// the reader has left. The lines of a record are written before the reader is asked for the bytes
+/// the reader has left, as text or as objects. The lines of a record are written before the reader is asked for the bytes
 /// behind it. The answer is at which byte the trace is cut off, where that may be, and none where it
 /// is whole.
 ///
@@ -37,10 +37,10 @@ pub fn write_report<T: Threads + Sync, R: Source, W: Sink>(
 ) -> Result<Option<u64>, ReportFault>
     requires reader { R.failures reader.old < 2 ^ 64 - 1 }
     requires writer { W.failures writer.old < 2 ^ 64 - 1 }
-    ensures ok { IfOk result (λ cut. Writes cut ahead.items asked.shown (R.left reader.old)
-        (R.left reader.new) (W.written writer.old) (W.written writer.new)) }
+    ensures ok { IfOk result (λ cut. Writes cut ahead.items asked.shown asked.form
+        (R.left reader.old) (R.left reader.new) (W.written writer.old) (W.written writer.new)) }
     ensures whole { asked.may_be_cut ≡ false → IfOk result (λ cut. cut ≡ None) }
-    ensures err { IfErr result (WritesUpTo asked.may_be_cut ahead.items asked.shown
+    ensures err { IfErr result (WritesUpTo asked.may_be_cut ahead.items asked.shown asked.form
         (R.left reader.old) (R.left reader.new) (W.written writer.old) (W.written writer.new)) }
     ensures taken { Takes (R.left reader.old) (R.left reader.new) }
     ensures reads { R.failures reader.new ≡ R.failures reader.old + reads_failed result }
@@ -56,7 +56,7 @@ pub fn write_report<T: Threads + Sync, R: Source, W: Sink>(
     };
     let mut replaying = begun(alloc, start)?;
     loop {
-        match take_turn(alloc, &mut pending, replaying, reader, writer, asked.shown)? {
+        match take_turn(alloc, &mut pending, replaying, reader, writer, asked)? {
             Turn::Next(next) => replaying = next,
             Turn::Last(last) => {
                 return write_end(rt, alloc, &mut pending.text, &last, writer, asked);

@@ -12,11 +12,11 @@ ghost use Rattle.report_stream.specs.Written.{IsTextTo, WritesUpTo};
 ghost use Rattle.trace_records.specs.declared.record.Record as three;
 ghost use Rattle.trace_records.specs.declared.start.Start as three_start;
 
+use crate::ending::Asked;
 use crate::fault::ReportFault;
 use crate::lines::push_lines;
 use crate::pending::{flush, next_record};
 use byte_transfer::{Sink, Source};
-use replay_report::Shown;
 use replay_stream::Replaying;
 use std::alloc::{AllocError, Global};
 use trace_format::{Kind, TraceFault};
@@ -65,24 +65,26 @@ fn run_next(
 
 /// Adds the lines of the record that has just run, and writes a text that is full.
 fn tell<W: Sink>(
+    alloc: Global,
     writer: &mut W,
     text: &mut Vec<u8>,
     replaying: &Replaying,
-    shown: Shown,
+    asked: Asked,
 ) -> Result<(), ReportFault>
     requires ran { RanLast replaying.now }
     requires writer { W.failures writer.old < 2 ^ 64 - 1 }
     ensures ok { (b : three_start.Start) → (front : List three.Record) → (r : three.Record)
         → (before : List ℕ) → HasRunNext b front r replaying.now
-        → IsTextTo b (front ++ r ∷ []) shown replaying.now.first (before ++ text.old.items)
-        → AddsLines result b (front ++ r ∷ []) shown (places replaying.now.recording)
-        (W.written writer.old) (W.written writer.new) before text.new.items }
+        → IsTextTo b (front ++ r ∷ []) asked.shown replaying.now.first (before ++ text.old.items)
+        → AddsLines result b (front ++ r ∷ []) asked.shown asked.form
+        (places replaying.now.recording) (W.written writer.old) (W.written writer.new)
+        before text.new.items }
     ensures reads { reads_failed result ≡ 0 }
     ensures writes { W.failures writer.new ≡ W.failures writer.old + writes_failed result }
 {
-    push_lines(text, replaying, shown)?;
+    push_lines(text, replaying, asked.shown)?;
     if text.len() >= FULL {
-        flush(writer, text)?;
+        flush(alloc, writer, asked.form, text)?;
     }
     Ok(())
 }
@@ -108,20 +110,22 @@ pub(crate) fn take_turn<R: Source, W: Sink>(
     replaying: Box<Replaying>,
     reader: &mut R,
     writer: &mut W,
-    shown: Shown,
+    asked: Asked,
 ) -> Result<Turn, ReportFault>
     requires under_way { IsUnderWay (R.left reader.old) (W.written writer.old) pending.old.stream
-        replaying.value pending.old.text.items shown }
+        replaying.value pending.old.text.items asked.shown asked.form }
     requires reader { R.failures reader.old < 2 ^ 64 - 1 }
     requires writer { W.failures writer.old < 2 ^ 64 - 1 }
     ensures ok { (ahead : List ℕ) (a w : Option (List ℕ)) → UnderWay ahead a (R.left reader.old) w
-        (W.written writer.old) pending.old.stream replaying.value pending.old.text.items shown
+        (W.written writer.old) pending.old.stream replaying.value pending.old.text.items
+        asked.shown asked.form
         → IfOk result (GoesTo ahead a (R.left reader.new) w (W.written writer.new)
-        pending.new.stream pending.new.text.items shown) }
+        pending.new.stream pending.new.text.items asked.shown asked.form) }
     ensures err { (ahead : List ℕ) (a w : Option (List ℕ)) → UnderWay ahead a (R.left reader.old) w
-        (W.written writer.old) pending.old.stream replaying.value pending.old.text.items shown
+        (W.written writer.old) pending.old.stream replaying.value pending.old.text.items
+        asked.shown asked.form
         → (may_be_cut : Bool) → IfErr result
-        (WritesUpTo may_be_cut ahead shown a (R.left reader.new) w (W.written writer.new)) }
+        (WritesUpTo may_be_cut ahead asked.shown asked.form a (R.left reader.new) w (W.written writer.new)) }
     ensures on { IfOk result (IsOn pending.old.stream pending.new.stream) }
     ensures taken { Takes (R.left reader.old) (R.left reader.new) }
     ensures reads { R.failures reader.new ≡ R.failures reader.old + reads_failed result }
@@ -133,6 +137,7 @@ pub(crate) fn take_turn<R: Source, W: Sink>(
         &mut pending.stream,
         reader,
         writer,
+        asked.form,
         &mut pending.text,
     );
     let found = match found {
@@ -143,6 +148,6 @@ pub(crate) fn take_turn<R: Source, W: Sink>(
         return Ok(Turn::Last(replaying));
     };
     let replaying = run_next(alloc, replaying, next)?;
-    tell(writer, &mut pending.text, &replaying, shown)?;
+    tell(alloc, writer, &mut pending.text, &replaying, asked)?;
     Ok(Turn::Next(replaying))
 }

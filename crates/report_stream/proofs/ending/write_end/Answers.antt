@@ -1,4 +1,5 @@
 use Rattle.std.proofs.Common.{◌++◌}
+use Rattle.json_lines.specs.Forms.{written_as}
 use Rattle.replay_report.specs.InOrder.{last_lines}
 use Rattle.report_stream.specs.Steps.{EndsEarly}
 use Rattle.report_stream.proofs.Turns.{ends_behind, told_out}
@@ -10,5 +11,6 @@ returns-in_err-write_last-clause-err g c =
     let p = c.args.replaying.now in
     let text = c.args.text.now.items in
     let last = last_lines p.recording p.state c.args.asked.shown in
-    told_out _ e (EndsEarly (g.W.Sink.written c.args.writer.now) (g.W.Sink.written c.write_last.new.writer) (text ++ last)) c.from_residual-in_err-write_last.ensures.1
-    (ends_behind _ _ _ text last e c.in_ok-flush.ensures.ok c.in_err-write_last.ensures.err)
+    let form = c.args.asked.form in
+    told_out _ e (EndsEarly (g.W.Sink.written c.args.writer.now) (g.W.Sink.written c.write_last.new.writer) (written_as form text ++ written_as form last)) c.from_residual-in_err-write_last.ensures.1
+    (ends_behind _ _ _ (written_as form text) (written_as form last) e c.in_ok-flush.ensures.ok c.in_err-write_last.ensures.err)

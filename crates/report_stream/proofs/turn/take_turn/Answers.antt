@@ -8,33 +8,33 @@ use Rattle.report_stream.proofs.turn.take_turn.Goals as goal
 
 pub returns-in-Err-clause-ok : goal.returns-in-Err-clause-ok
 returns-in-Err-clause-ok g c = λ ahead a w h.
-    stopped_if ahead a _ w _ c.args.pending.now.stream c.args.replaying.value c.args.pending.now.text.items c.args.shown h c.stopped.result _ _ c.in-Err.fault _ _ c.in-Err.ensures.err
+    stopped_if ahead a _ w _ c.args.pending.now.stream c.args.replaying.value c.args.pending.now.text.items c.args.asked.shown c.args.asked.form h c.stopped.result _ _ c.in-Err.fault _ _ c.in-Err.ensures.err
     (subst (λ (at : ℕ). IfOk c.stopped.result (StopsAt c.args.replaying.value at c.in-Err.fault)) c.place-at.ensures c.stopped.ensures.ok)
 
 pub returns-in-Err-clause-err : goal.returns-in-Err-clause-err
 returns-in-Err-clause-err g c = λ ahead a w h may.
-    fails_if ahead a _ w _ c.args.pending.now.stream c.args.replaying.value c.args.pending.now.text.items c.args.shown h c.stopped.result may _ _ c.in-Err.fault c.in-Err.ensures.err c.stopped.ensures.err
+    fails_if ahead a _ w _ c.args.pending.now.stream c.args.replaying.value c.args.pending.now.text.items c.args.asked.shown c.args.asked.form h c.stopped.result may _ _ c.in-Err.fault c.in-Err.ensures.err c.stopped.ensures.err
 
 pub returns-in_default-clause-ok : goal.returns-in_default-clause-ok
 returns-in_default-clause-ok g c = λ ahead a w h.
-    at_end ahead a _ w _ c.args.pending.now.stream c.args.replaying.value c.args.pending.now.text.items c.args.shown h _ _ c.next_record-found.new.stream _ (rw c.in_default.is at c.in-Ok.ensures.ok) c.in-Ok.ensures.moves
+    at_end ahead a _ w _ c.args.pending.now.stream c.args.replaying.value c.args.pending.now.text.items c.args.asked.shown c.args.asked.form h _ _ c.next_record-found.new.stream _ (rw c.in_default.is at c.in-Ok.ensures.ok) c.in-Ok.ensures.moves
 
 pub run_next-requires : goal.run_next-requires
 run_next-requires g c =
     let u = c.requires.under_way in
-    may_run u.ahead u.left_first _ u.written_first _ c.args.pending.now.stream c.args.replaying.value c.args.pending.now.text.items c.args.shown u.is _ c.next_record-found.new.stream c.in-Some.next (rw c.in-Some.is at c.in-Ok.ensures.ok)
+    may_run u.ahead u.left_first _ u.written_first _ c.args.pending.now.stream c.args.replaying.value c.args.pending.now.text.items c.args.asked.shown c.args.asked.form u.is _ c.next_record-found.new.stream c.in-Some.next (rw c.in-Some.is at c.in-Ok.ensures.ok)
 
 pub returns-in_err-replaying-clause-err : goal.returns-in_err-replaying-clause-err
 returns-in_err-replaying-clause-err g c = λ ahead a w h may.
-    memory_out _ may ahead a _ w _ c.args.shown c.from_residual.ensures.1
-    (stays ahead a _ w _ c.args.pending.now.stream c.args.replaying.value c.args.pending.now.text.items c.args.shown h may _ _ c.next_record-found.new.text.items c.in-Ok.ensures.taken c.in-Ok.ensures.moves)
+    memory_out _ may ahead a _ w _ c.args.asked.shown c.args.asked.form c.from_residual.ensures.1
+    (stays ahead a _ w _ c.args.pending.now.stream c.args.replaying.value c.args.pending.now.text.items c.args.asked.shown c.args.asked.form h may _ _ c.next_record-found.new.text.items c.in-Ok.ensures.taken c.in-Ok.ensures.moves)
 
 pub tell-requires-clause-ran : goal.tell-requires-clause-ran
 tell-requires-clause-ran g c =
     let u = c.requires.under_way in
     let h = u.is in
     let gives = rw c.in-Some.is at c.in-Ok.ensures.ok in
-    let front = next_front u.ahead u.left_first _ u.written_first _ c.args.pending.now.stream c.args.replaying.value c.args.pending.now.text.items c.args.shown h _ c.next_record-found.new.stream c.in-Some.next gives in
+    let front = next_front u.ahead u.left_first _ u.written_first _ c.args.pending.now.stream c.args.replaying.value c.args.pending.now.text.items c.args.asked.shown c.args.asked.form h _ c.next_record-found.new.stream c.in-Some.next gives in
     ran_last h.start h.rs c.in-Some.next c.in_ok-replaying.replaying.value c.deref.result.now c.deref.ensures (c.in_ok-replaying.ensures h.start h.rs h.run front)
 
 pub returns-in_err-tell-clause-err : goal.returns-in_err-tell-clause-err
@@ -42,7 +42,8 @@ returns-in_err-tell-clause-err g c = λ ahead a w h may.
     let s = c.args.pending.now.stream in
     let p = c.args.replaying.value in
     let text = c.args.pending.now.text.items in
-    let shown = c.args.shown in
+    let shown = c.args.asked.shown in
+    let form = c.args.asked.form in
     let next = c.in-Some.next in
     let q = c.deref.result.now in
     let e = c.in_err-tell.field-0.0 in
@@ -50,11 +51,11 @@ returns-in_err-tell-clause-err g c = λ ahead a w h may.
     let written' = g.W.Sink.written c.tell.new.writer in
     let gives = rw c.in-Some.is at c.in-Ok.ensures.ok in
     let moves = c.in-Ok.ensures.moves in
-    let front = next_front ahead a _ w _ s p text shown h _ c.next_record-found.new.stream next gives in
+    let front = next_front ahead a _ w _ s p text shown form h _ c.next_record-found.new.stream next gives in
     let ran : HasRunNext h.start h.rs next q = subst (HasRunNext h.start h.rs next) (sym c.deref.ensures) (c.in_ok-replaying.ensures h.start h.rs h.run front) in
-    let before = before_lines ahead a _ w _ s p text shown h _ next q c.next_record-found.new.text.items moves ran in
-    told_out _ e (WritesUpTo may ahead shown a left' w written') c.from_residual-in_err-tell.ensures.1
-    (not_told ahead a _ w _ s p text shown h _ _ _ c.next_record-found.new.stream next q c.next_record-found.new.text.items c.tell.new.text.items e gives c.in-Ok.ensures.taken moves ran
+    let before = before_lines ahead a _ w _ s p text shown form h _ next q c.next_record-found.new.text.items moves ran in
+    told_out _ e (WritesUpTo may ahead shown form a left' w written') c.from_residual-in_err-tell.ensures.1
+    (not_told ahead a _ w _ s p text shown form h _ _ _ c.next_record-found.new.stream next q c.next_record-found.new.text.items c.tell.new.text.items e gives c.in-Ok.ensures.taken moves ran
     (c.in_err-tell.ensures.ok h.start h.rs next (h.out ++ moves.0) ran before) may)
 
 pub returns-clause-ok : goal.returns-clause-ok
@@ -62,16 +63,17 @@ returns-clause-ok g c = λ ahead a w h.
     let s = c.args.pending.now.stream in
     let p = c.args.replaying.value in
     let text = c.args.pending.now.text.items in
-    let shown = c.args.shown in
+    let shown = c.args.asked.shown in
+    let form = c.args.asked.form in
     let next = c.in-Some.next in
     let q = c.deref.result.now in
     let left' = g.R.Source.left c.next_record-found.new.reader in
     let written' = g.W.Sink.written c.tell.new.writer in
     let gives = rw c.in-Some.is at c.in-Ok.ensures.ok in
     let moves = c.in-Ok.ensures.moves in
-    let front = next_front ahead a _ w _ s p text shown h _ c.next_record-found.new.stream next gives in
+    let front = next_front ahead a _ w _ s p text shown form h _ c.next_record-found.new.stream next gives in
     let ran : HasRunNext h.start h.rs next q = subst (HasRunNext h.start h.rs next) (sym c.deref.ensures) (c.in_ok-replaying.ensures h.start h.rs h.run front) in
-    let before = before_lines ahead a _ w _ s p text shown h _ next q c.next_record-found.new.text.items moves ran in
-    subst (λ (r : Replaying). UnderWay ahead a left' w written' c.next_record-found.new.stream r c.tell.new.text.items shown) c.deref.ensures
-    (goes_on ahead a _ w _ s p text shown h _ _ _ c.next_record-found.new.stream next q c.next_record-found.new.text.items c.tell.new.text.items gives moves ran
+    let before = before_lines ahead a _ w _ s p text shown form h _ next q c.next_record-found.new.text.items moves ran in
+    subst (λ (r : Replaying). UnderWay ahead a left' w written' c.next_record-found.new.stream r c.tell.new.text.items shown form) c.deref.ensures
+    (goes_on ahead a _ w _ s p text shown form h _ _ _ c.next_record-found.new.stream next q c.next_record-found.new.text.items c.tell.new.text.items gives moves ran
     (c.in_ok-tell.ensures.ok h.start h.rs next (h.out ++ moves.0) ran before))
