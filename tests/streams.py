@@ -1,16 +1,19 @@
 """Traces of version 3 that are replayed while they come: what `serial` and `run` write before a fault, that no line waits for more of the input, and that its
 memory does not grow with the trace. All else writes nothing before its whole output is there."""
 import hashlib
+import json
 import os
 import random
 import subprocess
 import sys
 import threading
 from functools import partial
+from itertools import chain
 from typing import Callable, Iterator, List, NamedTuple, Optional, Sequence, Tuple
 
 import by_models
 import days
+import json_lines
 import model_records
 import record_traces
 from harness import TOP, Answer, Job, Outcome, Program, Words, difference, ended, fault, first, read, refused, short, shown, spoken
@@ -20,9 +23,9 @@ from traces import FIXED_FILE, READ, WRITE, entry
 
 # How many fronts of drawn traces are tried, in how many lots, and with which words.
 FRONTS, LOTS = 3_000, 6
-WORDS = (["serial"], ["serial", "--sums"], ["serial", "--all-sums"], ["serial", "--names"], ["run"], ["run", "--sums"])
+WORDS = (["serial"], ["serial", "--sums"], ["serial", "--all-sums"], ["serial", "--names"], ["run"], ["run", "--sums"], ["serial", "--json"], ["run", "--json", "--names"])
 # The words of those whose lines the second replayer tells.
-PLAIN = (["serial"], ["serial", "--sums"], ["run"])
+PLAIN = (["serial"], ["serial", "--sums"], ["run"], ["serial", "--json"], ["run", "--json", "--sums"])
 # How many drawn traces come in pieces.
 IN_PIECES = 40
 # How many seconds lines may take to come, which is some milliseconds; how long it is looked whether any come where none should; and how long a
@@ -33,6 +36,13 @@ AT_ONCE = 1 << 20
 
 
 # --- Before a fault -------------------------------------------------------------------------------------------------
+
+def differs(words: Words, got: Answer, wanted: Answer) -> Optional[str]:
+    """How an answer differs from a wanted one, if it does; where the words ask for objects, from that of the objects of its lines."""
+    if "--json" not in words:
+        return difference(got, wanted)
+    return difference(got._replace(output=b""), wanted._replace(output=b"")) or json_lines.of_text(wanted.output, got.output)
+
 
 def front_of(seed: int) -> bytes:
     """A front of a drawn trace: one of three ends about where its start or a record does."""
@@ -47,7 +57,7 @@ def of_front(program: Program, seed: int) -> Optional[str]:
     wanted = refused("Short at {}".format(len(front)), model_records.lines_before(front))
     told = difference(by_models.replayed(front), wanted)
     wanted = wanted._replace(output=named(front, wanted.output)) if "--names" in words and wanted.output else wanted
-    return "by the second reader: {}".format(told) if told else difference(program.run(words, front), wanted)
+    return "by the second reader: {}".format(told) if told else differs(words, program.run(words, front), wanted)
 
 
 def of_cut(program: Program, seed: int) -> Optional[str]:
@@ -55,8 +65,8 @@ def of_cut(program: Program, seed: int) -> Optional[str]:
     front, words = front_of(seed), PLAIN[seed % len(PLAIN)]
     wanted = by_models.replayed_if_cut(front, "--sums" in words)
     whole = record_traces.Records(seed).trace()
-    told = None if seed % IN_PIECES else difference(program.run([*words, "--cut"], whole), by_models.replayed(whole, "--sums" in words))
-    return told or difference(program.run([*words, "--cut"], front), wanted)
+    told = None if seed % IN_PIECES else differs(words, program.run([*words, "--cut"], whole), by_models.replayed(whole, "--sums" in words))
+    return told or differs(words, program.run([*words, "--cut"], front), wanted)
 
 
 def not_cut(program: Program) -> List[Outcome]:
@@ -83,9 +93,9 @@ def outputs(program: Program) -> List[Outcome]:
     cases = (("read_four_bytes", fault("write")), ("lines_before_a_fault", fault("write")), ("header_word", by_models.replayed(read("version_3", "header_word.trace"))))
     outcomes = []
     for to in ("> /dev/full", ">&-", "1< /dev/null"):
-        for name, wanted in cases:
-            told = difference(program.run(["serial"], read("version_3", name + ".trace"), shell='exec "$@" ' + to), wanted)
-            outcomes.append(Outcome("the output of {} fails, {}, by {}".format(name, to, program.compiler), told))
+        for words, (name, wanted) in ((words, it) for words in (["serial"], ["serial", "--json"]) for it in cases):
+            told = difference(program.run(words, read("version_3", name + ".trace"), shell='exec "$@" ' + to), wanted)
+            outcomes.append(Outcome("the output of {} fails, {} {}, by {}".format(name, spoken(words), to, program.compiler), told))
     shell = '"$0" "$1" read 100000 2> /dev/null | { "$2" serial; echo "status $?" >&2; } | head -c 1 > /dev/null'
     ran = subprocess.run(["/bin/sh", "-c", shell, sys.executable, BENCH, program.file], stdout=subprocess.PIPE, stderr=subprocess.PIPE, timeout=LONG)
     told = difference(Answer(0, ran.stdout, ran.stderr), Answer(0, b"", b"fault: write\nstatus 3\n"))
@@ -160,11 +170,14 @@ class Fed:
         """Whether so many bytes are."""
         return self.comes(lambda: self.count >= count, seconds)
 
-    def unlike(self, output: bytes) -> Optional[str]:
-        """How what has been written in time differs from an output, if it does."""
-        self.reaches(len(output))
+    def unlike(self, output: bytes, is_json: bool) -> Optional[str]:
+        """How what has been written in time differs from an output, or from the objects of its lines, if it does."""
+        lines = output.count(b"\n")
+        self.comes(lambda: self.output.count(b"\n") >= lines if is_json else self.count >= len(output))
         with self.came:
             got = bytes(self.output)
+        if is_json:
+            return json_lines.of_text(output, got)
         return None if got == output else "{} bytes came, which end in {}; wanted {}, which end in {}".format(len(got), short(got[-80:]), len(output), short(output[-80:]))
 
     def end(self) -> Answer:
@@ -191,11 +204,11 @@ def as_it_comes(program: Program, words: Words, pieces: Sequence[bytes]) -> Opti
         for piece in pieces:
             fed.give(piece)
             given += piece
-            told = fed.unlike(model_records.lines_before(given))
+            told = fed.unlike(model_records.lines_before(given), "--json" in words)
             if told:
                 return "behind {} bytes {}".format(len(given), told)
         wanted = by_models.replayed(given, "--sums" in words)
-        return "it is refused: {}".format(shown(wanted)) if wanted.status else difference(fed.end(), wanted)
+        return "it is refused: {}".format(shown(wanted)) if wanted.status else differs(words, fed.end(), wanted)
 
 
 def in_two(record: bytes) -> List[bytes]:
@@ -226,11 +239,11 @@ def of_sizes() -> List[Tuple[str, List[bytes]]]:
 def prompt(program: Program, what: str, records: List[bytes]) -> List[Outcome]:
     """No line waits for what stands behind its record: where a piece ends behind a record, and where it ends within the next one."""
     start, end = record_traces.of_one_file(4096, bytes(range(256)) * 16), record_traces.END
-    label = "lines come with their records, {}, {{}}, by {}".format(what, program.compiler)
+    label = "lines come with their records, {}, {{}}, {{}}, by {}".format(what, program.compiler)
     within = [half for it in records for half in in_two(it)]
     across = [end_of + start_of for end_of, start_of in zip([b"", *within[1::2]], [*within[::2], b""])]
     cases = (("one by one", [*in_two(start), *records, end]), ("in halves", [start, *within, end]), ("within the next", [start, *across, end]), ("at once", [start + b"".join(records), end]))
-    return [Outcome(label.format(how), as_it_comes(program, ["serial"], pieces)) for how, pieces in cases]
+    return [Outcome(label.format(spoken(words), how), as_it_comes(program, words, pieces)) for words in (["serial"], ["serial", "--json"]) for how, pieces in cases]
 
 
 def of_pieces(program: Program, seed: int) -> Optional[str]:
@@ -256,8 +269,8 @@ def told_at_once(program: Program) -> List[Outcome]:
 def nothing_before(program: Program) -> List[Outcome]:
     """Other commands, and those of versions 1 and 2, write nothing while a byte of the trace is to come."""
     name, outcomes = "read_four_bytes.trace", []
-    of_version_3 = [["serial", "--json"], ["run", "--eager"], ["compare"], ["rounds"], ["depends"], ["check"], ["show"]]
-    for trace, each in ((read("version_3", name), of_version_3), (read(name), [["serial"], ["serial", "--sums"], ["run"]])):
+    of_version_3 = [["run", "--eager"], ["run", "--eager", "--json"], ["compare"], ["rounds"], ["depends"], ["check"], ["show"]]
+    for trace, each in ((read("version_3", name), of_version_3), (read(name), [["serial"], ["serial", "--sums"], ["serial", "--json"], ["run"]])):
         for words in each:
             with Fed(program, words) as fed:
                 fed.give(trace[:-1])
@@ -303,11 +316,23 @@ class Long(NamedTuple):
         for at in range(0, count, len(facts)):
             yield b"".join(b"%d%s" % (place, it) for place, it in zip(range(at + 1, count + 1), facts))
 
+    def objects(self, count: int) -> Iterator[bytes]:
+        """The objects of these lines."""
+        parts = [objects_of(b"0" + self.facts(number)).partition(b'"place":0') for number in range(self.pieces())]
+        yield objects_of(b"uring-report 2\n")
+        for at in range(0, count, len(parts)):
+            yield b"".join(b'%s"place":%d%s' % (before, place, behind) for place, (before, _, behind) in zip(range(at + 1, count + 1), parts))
+
     def end(self, has_sum: bool) -> bytes:
         """What stands behind the lines of a trace whose file stays as it is."""
         data = b"".join((b"%d, " % it * self.step)[: self.step] for it in range(self.size // self.step))
         told = " sum={}".format(hashlib.sha256(data).hexdigest()) if has_sum else ""
         return "tree\nfile /a node=1 size={}{}\nslots\nslot 0 0 desc=0 node=1 pos=0\nbuffers\nend\n".format(self.size, told).encode()
+
+
+def objects_of(lines: bytes) -> bytes:
+    """The objects of some lines."""
+    return b"".join(json.dumps(dict(json_lines.meant(it.decode())), separators=(",", ":")).encode() + b"\n" for it in lines.splitlines())
 
 
 class Summed(Fed):
@@ -337,8 +362,8 @@ def streamed(program: Program, words: Words, what: Long, count: int) -> Tuple[Op
         peak = fed.peak()
         fed.give(last)
         got = fed.end()
-    wanted = hashlib.sha256()
-    for lines in (*what.lines(count), what.end("--sums" in words)):
+    wanted, end = hashlib.sha256(), what.end("--sums" in words)
+    for lines in chain(what.objects(count), [objects_of(end)]) if "--json" in words else chain(what.lines(count), [end]):
         wanted.update(lines)
     is_well = got == Answer(0, b"", b"") and fed.sum.digest() == wanted.digest()
     return None if is_well else "{}, and {} bytes of another sum".format(shown(got), fed.count), peak
@@ -358,6 +383,7 @@ class Bounded(NamedTuple):
 TIMES, MORE, SPARE = 4, 1.5, 2_048
 BOUNDED = (
     Bounded("1,000,000 reads of 512 bytes of 1 MiB", Long("read", 512, 512, 1 << 20), ["serial"], 1_000_000, 16_000),
+    Bounded("1,000,000 reads of 512 bytes of 1 MiB, as objects", Long("read", 512, 512, 1 << 20), ["serial", "--json"], 1_000_000, 16_000),
     Bounded("8,192 writes of 64 KiB over 8 MiB", Long("write", 1 << 16, 1 << 16, 1 << 23), ["serial", "--sums"], 8_192, 80_000),
     # (all bytes of a write are kept while a page of it is left)
     Bounded("8,192 writes of 64 KiB over 8 MiB, each 4 KiB behind the one before", Long("write", 1 << 16, 1 << 12, 1 << 23), ["serial"], 8_192, 256_000),
@@ -390,7 +416,7 @@ def in_memory(program: Program, bounded: Bounded) -> List[Outcome]:
 def jobs(programs: List[Program]) -> List[Job]:
     each = FRONTS // LOTS
     starts = [at + back for back in (0, days.first_seed()) for at in range(0, FRONTS, each)]
-    made: List[Job] = [partial(in_memory, programs[0], it) for it in BOUNDED] + [partial(of_model, it) for it in BOUNDED]
+    made: List[Job] = [partial(in_memory, programs[0], it) for it in BOUNDED] + [partial(of_model, it) for it in BOUNDED if "--json" not in it.words]
     for program in programs:
         made += [partial(it, program) for it in (outputs, told_at_once, nothing_before, not_cut)]
         made += [partial(prompt, program, *it) for it in of_sizes()]

@@ -30,7 +30,7 @@ WRONG: List[Words] = [
     ["show", "a", "extra"], ["show", "--sums"], ["show", "--places", "--places"], ["show", "--first"], ["show", "--first", "0"], ["show", "--first", "x"], ["make", "a", "extra"], ["make", "--places"], ["make", "--sums"],
     ["diff", "a", "b", "extra"], ["diff", "--eager"], ["diff", "--sums"], ["diff", "--workers", "2"],
     ["diff", "--show"], ["diff", "--show", "a", "--show", "b"], ["diff", "--show", "a", "--json"], ["diff", "--json", "--show=a", "b", "c"],
-    ["serial", "--cut", "--cut"], ["serial", "--cut=1"], ["serial", "--cut", "--json"], ["run", "--json", "--cut"], ["run", "--cut", "--eager"],
+    ["serial", "--cut", "--cut"], ["serial", "--cut=1"], ["run", "--cut", "--eager"], ["run", "--json", "--eager", "--cut"],
     ["compare", "--cut"], ["rounds", "--cut"], ["depends", "--cut"], ["check", "--cut"], ["show", "--cut"], ["make", "--cut"], ["diff", "--cut"],
     ["serial", "--show", "a"], ["run", "--show", "a"], ["check", "--show=a"], ["show", "--show", "a"], ["make", "--show", "a"],
 ]

@@ -12,7 +12,7 @@ use Rattle.clap.proofs.OnLiterals.{clap_on_literals}
 use Rattle.replay_report.specs.declared.showing.SumsShown.{SumsShown}
 use Rattle.replay_report.specs.declared.showing.SumsShown.TheVariants as shows
 use Rattle.program_words.specs.Words.{HasShown, IsCut, IsForm, check_command, dot_words, flag_text, replayer, shown_words, workers_option, window_option}
-use Rattle.program_words.specs.declared.words.Form.TheVariants as forms
+use Rattle.json_lines.specs.declared.form.Form.TheVariants as forms
 use Rattle.program_words.proofs.NumberWords.{IsValue}
 use Rattle.program_words.proofs.OptionWalk.{IsOption, at, given, value_folded, value_passed}
 

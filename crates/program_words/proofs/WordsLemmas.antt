@@ -33,8 +33,8 @@ use Rattle.replay_report.specs.declared.showing.SumsShown.{SumsShown}
 use Rattle.replay_report.specs.declared.showing.SumsShown.TheVariants as shows
 use Rattle.program_words.specs.Words.{AreFound, AreRoundOptions, AskFor, AskForCut, AskForHelp, AskForMode, AskForText, AskForVersion, HasForm, HasLook, HasNumbers, HasShown, HasSums, IsCut, IsForm, IsFound, IsNamed, IsTaskFound, IsNumberOption, dot_words, places_words, flag_text, form_of_flag, kind_meant, name_in, plain, replayer, shown_words, text_in}
 use Rattle.program_words.specs.Limits.{IsWindow}
-use Rattle.program_words.specs.declared.words.Form.{Form}
-use Rattle.program_words.specs.declared.words.Form.TheVariants as forms
+use Rattle.json_lines.specs.declared.form.Form.{Form}
+use Rattle.json_lines.specs.declared.form.Form.TheVariants as forms
 use Rattle.program_words.proofs.JsonWords.{json_found, json_taken}
 use Rattle.program_words.proofs.NumberWords.{accepted, number_is_value}
 use Rattle.program_words.proofs.OptionWalk.{at, level_by_parts, stopped_at, stopped_passes, stopped_walk, takes_by_parts}

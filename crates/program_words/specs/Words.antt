@@ -14,8 +14,8 @@ use Rattle.clap.specs.declared.error.kind.ErrorKind.TheVariants.{DisplayHelp, Di
 use Rattle.program_words.specs.declared.words.Mode.{Mode}
 use Rattle.program_words.specs.declared.words.Mode.TheVariants.{Serial, Run, Compare, Rounds, Depends, Check}
 use Rattle.program_words.specs.declared.words.Files.{Files}
-use Rattle.program_words.specs.declared.words.Form.{Form}
-use Rattle.program_words.specs.declared.words.Form.TheVariants as forms
+use Rattle.json_lines.specs.declared.form.Form.{Form}
+use Rattle.json_lines.specs.declared.form.Form.TheVariants as forms
 use Rattle.program_words.specs.declared.words.Request.{Request}
 use Rattle.program_words.specs.declared.words.Task.{Task}
 use Rattle.program_words.specs.declared.words.Task.TheVariants.{Replay, Diff, Show, Make}

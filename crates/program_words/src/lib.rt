@@ -3,6 +3,7 @@
 
 mod words;
 
+pub use json_lines::Form;
 pub use words::{
-    Files, Form, Mode, Options, Request, Task, Usage, UsageKind, no_memory, not_text, read_words,
+    Files, Mode, Options, Request, Task, Usage, UsageKind, no_memory, not_text, read_words,
 };

@@ -25,6 +25,7 @@ ghost use Rattle.program_words.specs.Limits.{IsServed};
 
 use clap::error::ErrorKind;
 use clap::{Arg, ArgAction, ArgMatches, Command, Error, value_parser};
+use json_lines::Form;
 use replay_report::{Shown, SumsShown, escaped};
 use std::alloc::{AllocError, Global};
 use trace_text::Look;
@@ -94,15 +95,6 @@ pub struct Files<'a> {
     /// The trace whose entries a comparison shows.
     pub trace: Option<&'a str>,
     pub output: Option<&'a str>,
-}
-
-/// The form of an output.
-#[derive(Clone, Copy, Debug, PartialEq, Eq)]
-pub enum Form {
-    /// Lines of words.
-    Text,
-    /// An object of JSON for each of these lines.
-    Json,
 }
 
 /// A task, the files that it reads and writes, the form of what it writes, and what it takes for a

@@ -7,9 +7,9 @@ use Rattle.trace_format.specs.Grammar.{fault}
 use Rattle.trace_format.specs.declared.fault.Kind.TheVariants.{Memory}
 use Rattle.replay_program.specs.declared.fault.RunFault.{RunFault}
 use Rattle.replay_program.specs.declared.fault.RunFault.TheVariants.{Trace, Write}
-use Rattle.program_words.specs.declared.words.Form.{Form}
+use Rattle.json_lines.specs.declared.form.Form.{Form}
 use Rattle.replay_program.specs.Checks.{ReadsAnswer, TellsOfCheck, WritesAnswer, WritesAnswerPart}
-use Rattle.replay_program.specs.Forms.{written_as}
+use Rattle.json_lines.specs.Forms.{written_as}
 use Rattle.replay_program.specs.Runs.{reads_failed, writes_failed}
 use Rattle.byte_transfer.specs.Transfer.{AppendsPart}
 

@@ -6,7 +6,7 @@ use Rattle.report_diff.specs.declared.comparing.Comparison.{Comparison}
 use Rattle.replay_program.specs.declared.fault.RunFault.{RunFault}
 use Rattle.replay_program.specs.declared.fault.RunFault.TheVariants.{Trace, Replay, Reports, Read, Write, Different}
 use Rattle.replay_program.specs.declared.fault.ReportsFault.TheVariants.{Refused, TooLong, Memory}
-use Rattle.program_words.specs.declared.words.Form.{Form}
+use Rattle.json_lines.specs.declared.form.Form.{Form}
 use Rattle.replay_program.specs.Diffs.{ComparesReports, ComparesTwoReports, TellsOfText, TellsOfTwoReports, WritesDifferencesPart, WritesPartOfTwo}
 use Rattle.replay_program.specs.Runs.{writes_failed}
 use Rattle.byte_transfer.specs.Transfer.{AppendsPart, ConsumesUpTo}

@@ -3,11 +3,12 @@ use Rattle.std.proofs.Common.{◌≡◌, ℕ, ◌+◌, ◌<◌, ◌++◌, List, 
 use Rattle.std.specs.List.{concat}
 use Rattle.recording.specs.declared.recording.Recording.{Recording}
 use Rattle.json_lines.specs.Lines.{json_lines}
-use Rattle.program_words.specs.declared.words.Form.{Form}
+use Rattle.json_lines.specs.declared.form.Form.{Form}
 use Rattle.program_words.specs.declared.words.Mode.{Mode}
 use Rattle.program_words.specs.declared.words.Mode.TheVariants.{Serial, Run, Compare, Rounds, Depends, Check}
 use Rattle.program_words.specs.declared.words.Options.{Options}
-use Rattle.replay_program.specs.Forms.{form_in, written_as}
+use Rattle.json_lines.specs.Forms.{written_as}
+use Rattle.replay_program.specs.Forms.{form_in}
 use Rattle.replay_program.specs.Runs.{IsAlone, IsModeOutput, IsNoComparison, IsOutputOf}
 use Rattle.replay_program.proofs.TransferLemmas.{concat_more}
 
@@ -21,7 +22,7 @@ piece_taken pieces i json json' line line' piece lt is before next more =
     ∙ before (piece ++ more) ∙ next more
 
 -- a mode that is no comparison has its output in the form that is asked for
-form_kept : (mode : Mode) (form : Form) → IsNoComparison mode → form_in mode form ≡ form
+pub form_kept : (mode : Mode) (form : Form) → IsNoComparison mode → form_in mode form ≡ form
 form_kept Serial form h = refl
 form_kept (Run workers window eager) form h = refl
 form_kept (Compare workers window eager) form h = absurd h

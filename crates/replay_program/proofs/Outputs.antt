@@ -6,7 +6,7 @@ use Rattle.std.proofs.lemmas.Result.{IfErr-at_err, IfErr-weaker, on_ok_weaker}
 use Rattle.recording.specs.declared.recording.Recording.{Recording}
 use Rattle.replay_program.specs.declared.fault.RunFault.{RunFault}
 use Rattle.replay_program.specs.declared.fault.RunFault.TheVariants.{Different, Write}
-use Rattle.program_words.specs.declared.words.Form.{Form}
+use Rattle.json_lines.specs.declared.form.Form.{Form}
 use Rattle.program_words.specs.declared.words.Options.{Options}
 use Rattle.replay_program.specs.Runs.{IsOutputOf, ReadsTrace, ReplayWantsMemoryOrThread, TellsOfReading, WritesOutput, WritesPart, read_failures, reads_failed, writes_failed}
 use Rattle.byte_transfer.specs.Transfer.{AppendsPart}

@@ -14,7 +14,7 @@ use Rattle.replay_core.specs.declared.difference.Verdict.{Verdict}
 use Rattle.replay_core.specs.declared.difference.Verdict.TheVariants as verdict
 use Rattle.replay_program.specs.Runs.{ReadsTrace, WritesPart, sequential_report, verdict_line}
 use Rattle.byte_transfer.specs.Transfer.{AppendsPart}
-use Rattle.program_words.specs.declared.words.Form.{Form}
+use Rattle.json_lines.specs.declared.form.Form.{Form}
 use Rattle.program_words.specs.declared.words.Options.{Options}
 use Rattle.program_words.specs.declared.words.Mode.TheVariants.{Compare}
 

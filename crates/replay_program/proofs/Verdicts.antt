@@ -8,7 +8,7 @@ use Rattle.replay_core.specs.declared.difference.Verdict.{Verdict}
 use Rattle.replay_core.specs.declared.difference.Verdict.TheVariants.{Equal}
 use Rattle.replay_program.specs.declared.fault.RunFault.{RunFault}
 use Rattle.replay_program.specs.declared.fault.RunFault.TheVariants.{Trace, Replay, Reports, Read, Write, Different}
-use Rattle.program_words.specs.declared.words.Form.{Form}
+use Rattle.json_lines.specs.declared.form.Form.{Form}
 use Rattle.program_words.specs.declared.words.Options.{Options}
 use Rattle.program_words.specs.declared.words.Mode.TheVariants.{Compare}
 use Rattle.replay_program.specs.Runs.{ReadsTrace, TellsOfReading, WritesOutput, read_failures, reads_failed, verdict_line}

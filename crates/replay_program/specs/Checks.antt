@@ -11,13 +11,13 @@ use Rattle.trace_records.specs.Tallies as tallies
 use Rattle.trace_records.specs.Whole as of_records
 use Rattle.trace_records.specs.declared.trace.Trace as records
 use Rattle.replay_report.specs.Report.{line}
-use Rattle.replay_program.specs.Forms.{written_as}
+use Rattle.json_lines.specs.Forms.{written_as}
 use Rattle.replay_program.specs.Recordings.{has_version_3}
 use Rattle.replay_program.specs.Runs.{ReadsNoTrace}
 use Rattle.byte_transfer.specs.Transfer.{AppendsPart}
 use Rattle.replay_program.specs.declared.fault.RunFault.{RunFault}
 use Rattle.replay_program.specs.declared.fault.RunFault.TheVariants.{Trace, Replay, Reports, Read, Write, Different}
-use Rattle.program_words.specs.declared.words.Form.{Form}
+use Rattle.json_lines.specs.declared.form.Form.{Form}
 
 -- The answer: how many places and rings a trace has.
 abbrev pub ok_line : ℕ → ℕ → List ℕ

@@ -8,8 +8,8 @@ use Rattle.report_diff.specs.declared.refusal.Refusal.{Refusal}
 use Rattle.replay_program.specs.declared.fault.RunFault.{RunFault}
 use Rattle.replay_program.specs.declared.fault.RunFault.TheVariants.{Trace, Replay, Reports, Read, Write, Different}
 use Rattle.replay_program.specs.declared.fault.ReportsFault.TheVariants.{Refused, TooLong, Memory}
-use Rattle.program_words.specs.declared.words.Form.{Form}
-use Rattle.replay_program.specs.Forms.{written_as}
+use Rattle.json_lines.specs.declared.form.Form.{Form}
+use Rattle.json_lines.specs.Forms.{written_as}
 use Rattle.replay_program.specs.Runs.{most_taken}
 use Rattle.byte_transfer.specs.Transfer.{AppendsPart}
 

@@ -21,10 +21,11 @@ use Rattle.replay_report.specs.Report.{check_line, line, report_of}
 use Rattle.replay_report.specs.declared.showing.Shown.{Shown}
 use Rattle.round_report.specs.Rounds.{graph_text, log_of, rounds_text}
 use Rattle.depend_report.specs.Whole.{IsTextOf}
-use Rattle.replay_program.specs.Forms.{form_in, written_as}
+use Rattle.json_lines.specs.Forms.{written_as}
+use Rattle.replay_program.specs.Forms.{form_in}
 use Rattle.replay_program.specs.Recordings.{has_version_3, SpellsRecording, IsEnough, IsFaultOf}
 use Rattle.byte_transfer.specs.Transfer.{AppendsPart}
-use Rattle.program_words.specs.declared.words.Form.{Form}
+use Rattle.json_lines.specs.declared.form.Form.{Form}
 
 -- The report of the sequential run of a trace.
 abbrev pub sequential_report : Recording → Shown → List ℕ

@@ -1,6 +1,8 @@
 -- A helper: what was taken of a text before its version is known, and what the readers of each version tell.
 use Rattle.std.specs.Prelude.{◌≡◌, ◌⊎◌, ◌≤◌, ◌++◌, true, false, List, Option, ℕ, length}
 use Rattle.std.specs.Io.KnownBytes.{Consumes, IsAtEnd}
+use Rattle.json_lines.specs.Forms.{written_as}
+use Rattle.json_lines.specs.declared.form.Form.{Form}
 use Rattle.trace_format.specs.Grammar.{fault}
 use Rattle.trace_format.specs.Text.{IsRefusal, longest}
 use Rattle.trace_format.specs.declared.fault.TraceFault.{TraceFault}
@@ -35,9 +37,9 @@ told_of stream_fault.Read = Read
 abbrev pub TellsOfStream : List ℕ → Option (List ℕ) → Option (List ℕ) → RunFault → Type 0
 TellsOfStream ahead left left' f = (e : StreamFault) × Tells ahead left left' e × (f ≡ told_of e)
 
--- The report of a text of version 1 or 2.
-abbrev pub IsReportOf : List ℕ → Shown → List ℕ → Type 0
-IsReportOf text shown report = (t : Recording) × (length text ≤ longest) × SpellsRecording false text t × (report ≡ sequential_report t shown)
+-- The report of a text of version 1 or 2, in the form that is asked for.
+abbrev pub IsReportOf : List ℕ → Shown → Form → List ℕ → Type 0
+IsReportOf text shown form report = (t : Recording) × (length text ≤ longest) × SpellsRecording false text t × (report ≡ written_as form (sequential_report t shown))
 
 -- The program tells a fault of the text, or that memory ran out or a thread was refused behind it.
 abbrev pub TellsOfReport : List ℕ → RunFault → Type 0

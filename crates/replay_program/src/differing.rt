@@ -6,14 +6,13 @@ ghost use Rattle.replay_program.specs.Diffs.{ComparesTwoReports, ReadsAll, Tells
 ghost use Rattle.replay_program.specs.Diffs.{TellsOfTwoReports, WritesDifferencesOfTwo};
 ghost use Rattle.replay_program.specs.Diffs.{WritesDifferencesPart, WritesPartOfTwo};
 ghost use Rattle.replay_program.specs.Runs.{most_taken, read_failures, write_failures};
-ghost use Rattle.replay_program.specs.Forms.{written_as};
+ghost use Rattle.json_lines.specs.Forms.{written_as};
 ghost use Rattle.byte_transfer.specs.Transfer.{ConsumesUpTo};
 
 use crate::fault::{ReportsFault, RunFault};
-use crate::forms::text_as;
 use crate::session::written;
 use byte_transfer::{MOST_BYTES, Sink, Source, TextFault, read_text};
-use program_words::Form;
+use json_lines::{Form, text_as};
 use report_diff::{Comparison, DiffFault, compare, compare_two};
 use std::alloc::{AllocError, Global};
 

@@ -14,7 +14,7 @@ use crate::differing::{comparison_of_two, taken_comparison};
 use crate::fault::{ReportsFault, RunFault};
 use crate::session::written;
 use byte_transfer::{Sink, Source};
-use program_words::Form;
+use json_lines::Form;
 use report_diff::Comparison;
 use std::alloc::{AllocError, Global};
 

@@ -1,24 +1,13 @@
 //! An output in the form that is asked for.
 ghost use Rattle.std.specs.Prelude.{◌≡◌, IfErr, IfOk};
 ghost use Rattle.json_lines.specs.Lines.{json_lines};
-ghost use Rattle.replay_program.specs.Forms.{written_as};
+ghost use Rattle.json_lines.specs.Forms.{written_as};
 
 use crate::fault::RunFault;
-use json_lines::{JsonLines, json_of};
-use program_words::Form;
+use json_lines::{Form, JsonLines};
 use replay_core::ReplayFault;
 use replay_report::Pieces;
 use std::alloc::{AllocError, Global};
-
-/// A text in the form that is asked for.
-pub(crate) fn text_as(alloc: Global, form: Form, text: Vec<u8>) -> Result<Vec<u8>, AllocError>
-    ensures { IfOk result (λ output. output.items ≡ written_as form text.items) }
-{
-    match form {
-        Form::Text => Ok(text),
-        Form::Json => json_of(alloc, &text),
-    }
-}
 
 /// A text in pieces in the form that is asked for.
 pub(crate) fn pieces_as(alloc: Global, form: Form, text: Pieces) -> Result<Pieces, RunFault>

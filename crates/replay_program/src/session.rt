@@ -25,7 +25,8 @@ use crate::in_turn::serial_report;
 use crate::recordings::taken_recording;
 use byte_transfer::{Sink, Source, write_text};
 use depend_report::{depends_graph, depends_text};
-use program_words::{Form, Mode, Options};
+use json_lines::Form;
+use program_words::{Mode, Options};
 use recording::Recording;
 use replay_core::parallel::replay;
 use replay_core::quick::replay_quick;
@@ -111,7 +112,7 @@ pub fn run<T: Threads + Wait + Sync, R: Source, W: Sink>(
 }
 
 /// The output of any mode but a comparison, in the form that is asked for.
-fn output_in_rounds<T: Threads + Wait + Sync>(
+pub(crate) fn output_in_rounds<T: Threads + Wait + Sync>(
     rt: &T,
     alloc: Global,
     trace: &Recording,
@@ -129,7 +130,7 @@ fn output_in_rounds<T: Threads + Wait + Sync>(
 }
 
 /// The text of any mode but a comparison.
-pub(crate) fn text_in_rounds<T: Threads + Wait + Sync>(
+fn text_in_rounds<T: Threads + Wait + Sync>(
     rt: &T,
     alloc: Global,
     trace: &Recording,

@@ -92,9 +92,9 @@ fn misuse(request: &Request<'_>) -> Option<&'static str> {
             "'--show' prints lines of a trace, which have no JSON: leave out '--show' or '--json'",
         );
     }
-    if request.may_be_cut && (is_json || is_eager(request.task)) {
+    if request.may_be_cut && is_eager(request.task) {
         return Some(
-            "'--cut' is for a report that is written as the trace comes: leave out '--json' and '--eager', or '--cut'",
+            "'--cut' is for a report that is written as the trace comes: leave out '--eager' or '--cut'",
         );
     }
     None
@@ -134,15 +134,15 @@ fn replayed<'a, T: Threads + Wait + Sync>(
     let mut reader = FromStd::new(input);
     let done = match options.mode {
         Mode::Check => run_check(rt.alloc(), &mut reader, &mut writer, form),
-        Mode::Serial | Mode::Run { eager: false, .. } if form == Form::Text => {
-            let may_be_cut = request.may_be_cut;
+        Mode::Serial | Mode::Run { eager: false, .. } => {
             let done = run_report(
                 threads,
                 rt.alloc(),
                 &mut reader,
                 &mut writer,
                 options,
-                may_be_cut,
+                form,
+                request.may_be_cut,
             );
             return reported(rt, writer.stream, done);
         }
