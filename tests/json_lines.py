@@ -10,7 +10,7 @@ from typing import Any, List, Optional, Sequence, Tuple
 from drawing import Draw, by_places
 from drawing import two_reports as two_drawn_reports
 from examples import names as examples
-from harness import EXAMPLES, Answer, Job, Outcome, Program, difference, first, read, spoken, two_reports
+from harness import EXAMPLES, Answer, Job, Outcome, Program, Words, difference, first, read, spoken, two_reports
 
 # How many traces are drawn, in how many lots.
 DRAWN, LOTS = 300, 6
@@ -93,10 +93,17 @@ def of_text(text: bytes, lines: bytes) -> Optional[str]:
     return None
 
 
+def differs(words: Words, got: Answer, wanted: Answer) -> Optional[str]:
+    """How an answer differs from a wanted one, if it does; where the words ask for objects, from that of the objects of its lines."""
+    if "--json" not in words:
+        return difference(got, wanted)
+    return difference(got._replace(output=b""), wanted._replace(output=b"")) or of_text(wanted.output, got.output)
+
+
 def of_words(program: Program, words: Sequence[str], given: bytes) -> Optional[str]:
     """How the JSON of some words differs from their text, if it does: a refusal is the same."""
-    text, answer = program.run(words, given), program.run([*words, "--json"], given)
-    told = difference(Answer(answer.status, b"", answer.errors), Answer(text.status, b"", text.errors)) or of_text(text.output, answer.output)
+    as_json = [*words, "--json"]
+    told = differs(as_json, program.run(as_json, given), program.run(words, given))
     return "{}: {}".format(spoken(words), told) if told else None
 
 

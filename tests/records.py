@@ -10,6 +10,7 @@ from typing import Callable, List, Optional
 import by_models
 import days
 import drawing
+import json_lines
 import model
 import model_depends
 import model_records
@@ -33,8 +34,8 @@ BY_BENCH = 20
 ORDERED = 200
 # The commands that replay: those that write lines before a fault, and those that then write nothing. And with how many workers and which window an
 # example is replayed.
-SERIAL = (["serial"], ["run"], ["serial", "--sums"])
-REPLAYING = (["serial", "--json"], ["run", "--eager"], ["compare"], ["rounds"], ["depends"])
+SERIAL = (["serial"], ["run"], ["serial", "--sums"], ["serial", "--json"])
+REPLAYING = (["run", "--eager"], ["compare"], ["rounds"], ["depends"])
 PAIRS = ((1, 1), (2, 2), (4, 7), (4, 64), (64, 4096))
 EQUAL = Answer(0, b"equal\n", b"")
 
@@ -176,7 +177,7 @@ def names() -> List[str]:
 def as_refused(program: Program, trace: bytes, begun: Answer) -> Optional[str]:
     """How a command that replays serves a trace that is refused otherwise, if one does: `serial` and `run` write lines before the fault, and no other does."""
     each = [(words, begun) for words in SERIAL] + [(words, begun._replace(output=b"")) for words in REPLAYING]
-    return first([told for words, wanted in each for told in [difference(program.run(words, trace), wanted)] if told])
+    return first([told for words, wanted in each for told in [json_lines.differs(words, program.run(words, trace), wanted)] if told])
 
 
 def replayed(program: Program, trace: bytes, report: Answer) -> Optional[str]:

@@ -37,13 +37,6 @@ AT_ONCE = 1 << 20
 
 # --- Before a fault -------------------------------------------------------------------------------------------------
 
-def differs(words: Words, got: Answer, wanted: Answer) -> Optional[str]:
-    """How an answer differs from a wanted one, if it does; where the words ask for objects, from that of the objects of its lines."""
-    if "--json" not in words:
-        return difference(got, wanted)
-    return difference(got._replace(output=b""), wanted._replace(output=b"")) or json_lines.of_text(wanted.output, got.output)
-
-
 def front_of(seed: int) -> bytes:
     """A front of a drawn trace: one of three ends about where its start or a record does."""
     trace, source = record_traces.Records(seed).trace(), random.Random("front {}".format(seed))
@@ -57,7 +50,7 @@ def of_front(program: Program, seed: int) -> Optional[str]:
     wanted = refused("Short at {}".format(len(front)), model_records.lines_before(front))
     told = difference(by_models.replayed(front), wanted)
     wanted = wanted._replace(output=named(front, wanted.output)) if "--names" in words and wanted.output else wanted
-    return "by the second reader: {}".format(told) if told else differs(words, program.run(words, front), wanted)
+    return "by the second reader: {}".format(told) if told else json_lines.differs(words, program.run(words, front), wanted)
 
 
 def of_cut(program: Program, seed: int) -> Optional[str]:
@@ -65,8 +58,8 @@ def of_cut(program: Program, seed: int) -> Optional[str]:
     front, words = front_of(seed), PLAIN[seed % len(PLAIN)]
     wanted = by_models.replayed_if_cut(front, "--sums" in words)
     whole = record_traces.Records(seed).trace()
-    told = None if seed % IN_PIECES else differs(words, program.run([*words, "--cut"], whole), by_models.replayed(whole, "--sums" in words))
-    return told or differs(words, program.run([*words, "--cut"], front), wanted)
+    told = None if seed % IN_PIECES else json_lines.differs(words, program.run([*words, "--cut"], whole), by_models.replayed(whole, "--sums" in words))
+    return told or json_lines.differs(words, program.run([*words, "--cut"], front), wanted)
 
 
 def not_cut(program: Program) -> List[Outcome]:
@@ -170,7 +163,7 @@ class Fed:
         """Whether so many bytes are."""
         return self.comes(lambda: self.count >= count, seconds)
 
-    def unlike(self, output: bytes, is_json: bool) -> Optional[str]:
+    def unlike(self, output: bytes, is_json: bool = False) -> Optional[str]:
         """How what has been written in time differs from an output, or from the objects of its lines, if it does."""
         lines = output.count(b"\n")
         self.comes(lambda: self.output.count(b"\n") >= lines if is_json else self.count >= len(output))
@@ -208,7 +201,7 @@ def as_it_comes(program: Program, words: Words, pieces: Sequence[bytes]) -> Opti
             if told:
                 return "behind {} bytes {}".format(len(given), told)
         wanted = by_models.replayed(given, "--sums" in words)
-        return "it is refused: {}".format(shown(wanted)) if wanted.status else differs(words, fed.end(), wanted)
+        return "it is refused: {}".format(shown(wanted)) if wanted.status else json_lines.differs(words, fed.end(), wanted)
 
 
 def in_two(record: bytes) -> List[bytes]:

@@ -31,7 +31,7 @@ use Rattle.program_words.specs.declared.words.UsageKind.TheVariants.{Memory}
 use Rattle.replay_report.specs.declared.showing.Shown.{Shown}
 use Rattle.replay_report.specs.declared.showing.SumsShown.{SumsShown}
 use Rattle.replay_report.specs.declared.showing.SumsShown.TheVariants as shows
-use Rattle.program_words.specs.Words.{AreFound, AreRoundOptions, AskFor, AskForCut, AskForHelp, AskForMode, AskForText, AskForVersion, HasForm, HasLook, HasNumbers, HasShown, HasSums, IsCut, IsForm, IsFound, IsNamed, IsTaskFound, IsNumberOption, dot_words, places_words, flag_text, form_of_flag, kind_meant, name_in, plain, replayer, shown_words, text_in}
+use Rattle.program_words.specs.Words.{AreFound, AreRoundOptions, AskFor, AskForCut, AskForHelp, AskForMode, AskForText, AskForVersion, HasForm, HasLook, HasNumbers, HasShown, HasSums, IsCut, IsForm, IsFound, IsNamed, IsTaskFound, IsNumberOption, cut_words, dot_words, places_words, flag_text, form_of_flag, kind_meant, name_in, plain, replayer, shown_words, text_in}
 use Rattle.program_words.specs.Limits.{IsWindow}
 use Rattle.json_lines.specs.declared.form.Form.{Form}
 use Rattle.json_lines.specs.declared.form.Form.TheVariants as forms
@@ -267,48 +267,58 @@ text_taken (Show look) words e = rw e.1 (show_taken look.places)
 text_taken Make words e = rw e refl
 
 -- the same of a trace that may be cut off
-cut_found : (sums : SumsShown) (names : Bool) → let found = subcommand_of replayer (codes "serial" ∷ codes "--cut" ∷ shown_words sums names) in AreFound Serial (record { sums = sums; names = names }) found × HasForm forms.Text true found
+cut_found : (form : Form) (sums : SumsShown) (names : Bool) → let found = subcommand_of replayer (cut_words form ++ shown_words sums names) in AreFound Serial (record { sums = sums; names = names }) found × HasForm form true found
 unfolding clap_on_literals
-cut_found shows.None false = ((refl, ((refl, refl), refl)), ((refl, refl, refl, refl), inr refl, refl))
-cut_found shows.None true = ((refl, ((refl, refl), refl)), ((refl, refl, refl, refl), inr refl, refl))
-cut_found shows.Small false = ((refl, ((refl, refl), refl)), ((refl, refl, refl, refl), inr refl, refl))
-cut_found shows.Small true = ((refl, ((refl, refl), refl)), ((refl, refl, refl, refl), inr refl, refl))
-cut_found shows.All false = ((refl, (refl, refl)), ((refl, refl, refl, refl), inr refl, refl))
-cut_found shows.All true = ((refl, (refl, refl)), ((refl, refl, refl, refl), inr refl, refl))
+cut_found forms.Text shows.None false = ((refl, ((refl, refl), refl)), ((refl, refl, refl, refl), inr refl, refl))
+cut_found forms.Text shows.None true = ((refl, ((refl, refl), refl)), ((refl, refl, refl, refl), inr refl, refl))
+cut_found forms.Text shows.Small false = ((refl, ((refl, refl), refl)), ((refl, refl, refl, refl), inr refl, refl))
+cut_found forms.Text shows.Small true = ((refl, ((refl, refl), refl)), ((refl, refl, refl, refl), inr refl, refl))
+cut_found forms.Text shows.All false = ((refl, (refl, refl)), ((refl, refl, refl, refl), inr refl, refl))
+cut_found forms.Text shows.All true = ((refl, (refl, refl)), ((refl, refl, refl, refl), inr refl, refl))
+cut_found forms.Json shows.None false = ((refl, ((refl, refl), refl)), ((refl, refl, refl, refl), refl, refl))
+cut_found forms.Json shows.None true = ((refl, ((refl, refl), refl)), ((refl, refl, refl, refl), refl, refl))
+cut_found forms.Json shows.Small false = ((refl, ((refl, refl), refl)), ((refl, refl, refl, refl), refl, refl))
+cut_found forms.Json shows.Small true = ((refl, ((refl, refl), refl)), ((refl, refl, refl, refl), refl, refl))
+cut_found forms.Json shows.All false = ((refl, (refl, refl)), ((refl, refl, refl, refl), refl, refl))
+cut_found forms.Json shows.All true = ((refl, (refl, refl)), ((refl, refl, refl, refl), refl, refl))
 
-cut_taken : (sums : SumsShown) (names : Bool) → takes replayer (codes "serial" ∷ codes "--cut" ∷ shown_words sums names) ≡ true
+cut_taken : (form : Form) (sums : SumsShown) (names : Bool) → takes replayer (cut_words form ++ shown_words sums names) ≡ true
 unfolding clap_on_literals
-cut_taken shows.None false = refl
-cut_taken shows.None true = refl
-cut_taken shows.Small false = refl
-cut_taken shows.Small true = refl
-cut_taken shows.All false = refl
-cut_taken shows.All true = refl
+cut_taken forms.Text shows.None false = refl
+cut_taken forms.Text shows.None true = refl
+cut_taken forms.Text shows.Small false = refl
+cut_taken forms.Text shows.Small true = refl
+cut_taken forms.Text shows.All false = refl
+cut_taken forms.Text shows.All true = refl
+cut_taken forms.Json shows.None false = refl
+cut_taken forms.Json shows.None true = refl
+cut_taken forms.Json shows.Small false = refl
+cut_taken forms.Json shows.Small true = refl
+cut_taken forms.Json shows.All false = refl
+cut_taken forms.Json shows.All true = refl
 
-cut_task_found : (t : Task) (words : List (List ℕ)) → AskForCut t words → IsFound forms.Text true t (subcommand_of replayer words)
-cut_task_found (Replay o) words e = rw (e.0, e.1) (cut_found o.shown.sums o.shown.names)
-cut_task_found Diff words e = absurd e
-cut_task_found (Show look) words e = absurd e
-cut_task_found Make words e = absurd e
+cut_task_found : (form : Form) (t : Task) (words : List (List ℕ)) → AskForCut form t words → IsFound form true t (subcommand_of replayer words)
+cut_task_found form (Replay o) words e = rw (e.0, e.1) (cut_found form o.shown.sums o.shown.names)
+cut_task_found form Diff words e = absurd e
+cut_task_found form (Show look) words e = absurd e
+cut_task_found form Make words e = absurd e
 
-cut_task_taken : (t : Task) (words : List (List ℕ)) → AskForCut t words → takes replayer words ≡ true
-cut_task_taken (Replay o) words e = rw e.1 (cut_taken o.shown.sums o.shown.names)
-cut_task_taken Diff words e = absurd e
-cut_task_taken (Show look) words e = absurd e
-cut_task_taken Make words e = absurd e
+cut_task_taken : (form : Form) (t : Task) (words : List (List ℕ)) → AskForCut form t words → takes replayer words ≡ true
+cut_task_taken form (Replay o) words e = rw e.1 (cut_taken form o.shown.sums o.shown.names)
+cut_task_taken form Diff words e = absurd e
+cut_task_taken form (Show look) words e = absurd e
+cut_task_taken form Make words e = absurd e
 
 -- and in each form
 task_found : (form : Form) (cut : Bool) (t : Task) (words : List (List ℕ)) → AskFor form cut t words → IsFound form cut t (subcommand_of replayer words)
 task_found forms.Text false t words e = text_found t words e
 task_found forms.Json false t words e = json_found t words e
-task_found forms.Text true t words e = cut_task_found t words e
-task_found forms.Json true t words e = absurd e
+task_found form true t words e = cut_task_found form t words e
 
 task_taken : (form : Form) (cut : Bool) (t : Task) (words : List (List ℕ)) → AskFor form cut t words → takes replayer words ≡ true
 task_taken forms.Text false t words e = text_taken t words e
 task_taken forms.Json false t words e = json_taken t words e
-task_taken forms.Text true t words e = cut_task_taken t words e
-task_taken forms.Json true t words e = absurd e
+task_taken form true t words e = cut_task_taken form t words e
 
 -- the task in the matches of the words that ask for it
 pub task_met : (a : App) (words : List (List ℕ)) (m : ArgMatches) (form : Form) (cut : Bool) (t : Task) → a ≡ replayer → AskFor form cut t words → HasMatchesOf a words m

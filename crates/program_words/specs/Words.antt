@@ -103,19 +103,22 @@ AskForJson Diff words = words ≡ json_words (codes "diff")
 AskForJson (Show look) words = ⊥
 AskForJson Make words = ⊥
 
--- The words that ask for the report of a trace that may be cut off: `--cut` behind the name of the command. Which words ask for it beside other options is not said here.
-abbrev pub AskForCut : Task → List (List ℕ) → Type 0
-AskForCut (Replay options) words = (options.mode ≡ Serial) × (words ≡ codes "serial" ∷ codes "--cut" ∷ shown_words options.shown.sums options.shown.names)
-AskForCut Diff words = ⊥
-AskForCut (Show look) words = ⊥
-AskForCut Make words = ⊥
+-- The words that ask for the report of a trace that may be cut off: `--cut` behind the name of the command, and `--json` behind that. Which words ask for it beside other options is not said here.
+abbrev pub cut_words : Form → List (List ℕ)
+cut_words forms.Text = codes "serial" ∷ codes "--cut" ∷ []
+cut_words forms.Json = codes "serial" ∷ codes "--cut" ∷ codes "--json" ∷ []
+
+abbrev pub AskForCut : Form → Task → List (List ℕ) → Type 0
+AskForCut form (Replay options) words = (options.mode ≡ Serial) × (words ≡ cut_words form ++ shown_words options.shown.sums options.shown.names)
+AskForCut form Diff words = ⊥
+AskForCut form (Show look) words = ⊥
+AskForCut form Make words = ⊥
 
 -- The words that ask for a task, for a form of its output, and whether its trace may be cut off.
 abbrev pub AskFor : Form → (may_be_cut : Bool) → Task → List (List ℕ) → Type 0
 AskFor forms.Text false task words = AskForText task words
 AskFor forms.Json false task words = AskForJson task words
-AskFor forms.Text true task words = AskForCut task words
-AskFor forms.Json true task words = ⊥
+AskFor form true task words = AskForCut form task words
 
 -- The words that ask for help, and for the version.
 abbrev pub AskForHelp : List (List ℕ) → Type 0
