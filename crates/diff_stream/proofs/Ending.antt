@@ -1,13 +1,16 @@
 -- Two texts that were read to their ends.
-use Rattle.std.proofs.Common.{◌≡◌, ◌⊎◌, ◌++◌, ◌∷◌, ℕ, true, false, List, [], take, drop, Option, Some, inl, inr, refl, sym, ap, subst, ◌∙◌, codes, append_assoc}
+use Rattle.std.proofs.Common.{◌≡◌, ◌⊎◌, ◌++◌, ◌∷◌, ℕ, true, false, List, [], Option, Some, inl, inr, refl, sym, ap, subst, ◌∙◌, codes, append_assoc}
 use Rattle.std.specs.List.{after_first, take_while}
 use Rattle.std.proofs.lemmas.Bool.{cases_Bool}
 use Rattle.std.proofs.lemmas.List.Sums.{take_while-cons}
 use Rattle.std.specs.Str.{bytes_eq}
 use Rattle.std.specs.Io.KnownBytes.{Appends, Consumes}
-use Rattle.std.proofs.lemmas.List.{append-nil, take-append-drop}
+use Rattle.std.proofs.lemmas.List.{append-nil}
 use Rattle.std.proofs.KnownBytes.{Appends-nil, Appends-trans, Consumes-nil, Consumes-trans}
-use Rattle.byte_transfer.specs.Transfer.{AppendsPart, Takes}
+use Rattle.byte_transfer.specs.Transfer.{Takes}
+use Rattle.json_lines.specs.Forms.{written_as}
+use Rattle.json_lines.specs.declared.form.Form.{Form}
+use Rattle.json_lines.proofs.Whole.{empty_whole, written_behind, written_empty}
 use Rattle.report_diff.specs.declared.comparing.Comparison.{Comparison}
 use Rattle.report_diff.specs.declared.comparing.DiffFault.{DiffFault}
 use Rattle.report_diff.specs.declared.comparing.DiffFault.TheVariants as diff
@@ -23,29 +26,29 @@ use Rattle.diff_stream.specs.declared.held.Side.{Side}
 use Rattle.diff_stream.specs.declared.held.Sides.{Sides}
 use Rattle.diff_stream.specs.declared.fault.CompareFault.{CompareFault}
 use Rattle.diff_stream.specs.declared.fault.CompareFault.TheVariants.{Refused, Memory, Read, Write}
-use Rattle.diff_stream.specs.Compared.{ReadsBoth, WritesComparison, WritesSome, WritesUpTo}
+use Rattle.diff_stream.specs.Compared.{AppendsSome, ReadsBoth, WritesComparison, WritesSome, WritesUpTo}
 use Rattle.diff_stream.specs.Faults.{IsOutside, of_diff}
-use Rattle.diff_stream.specs.Steps.{Begins, Begun, FrontsEnd, IsOther, IsWhole, LeavesAll, SideEnds, Stands}
+use Rattle.diff_stream.specs.Steps.{Begins, Begun, FrontsEnd, HoldsAll, IsOther, LeavesAll, SideEnds, Stands}
 use Rattle.diff_stream.proofs.FirstLines.{first_of_lines, first_of_whole, no_whole, passed_on}
+use Rattle.diff_stream.proofs.Moving.{some_of_all, some_of_none}
 
 -- a fault that is no reason of the texts
-pub up_to : (l l' r r' w w' : Option (List ℕ)) (e : CompareFault) → IsOutside e → WritesSome l l' r r' w w' → WritesUpTo l l' r r' w w' e
-up_to l l' r r' w w' (Refused why) out some = absurd out
-up_to l l' r r' w w' Memory out some = some
-up_to l l' r r' w w' Read out some = some
-up_to l l' r r' w w' Write out some = some
+pub up_to : (form : Form) (l l' r r' w w' : Option (List ℕ)) (e : CompareFault) → IsOutside e → WritesSome form l l' r r' w w' → WritesUpTo form l l' r r' w w' e
+up_to form l l' r r' w w' (Refused why) out some = absurd out
+up_to form l l' r r' w w' Memory out some = some
+up_to form l l' r r' w w' Read out some = some
+up_to form l l' r r' w w' Write out some = some
 
 -- nothing was written
-pub nothing_written : (l l' r r' w : Option (List ℕ)) → Takes l l' → Takes r r' → WritesSome l l' r r' w w
-nothing_written l l' r r' w first second = record {
+pub nothing_written : (form : Form) (l l' r r' w : Option (List ℕ)) → Takes l l' → Takes r r' → WritesSome form l l' r r' w w
+nothing_written form l l' r r' w first second = record {
   first = first.0;
   second = second.0;
   one = first.1;
   other = second.1;
-  out = [];
-  rest = early_text_of_two first.0 second.0;
+  text = early_text_of_two first.0 second.0;
   told = inl refl;
-  wrote = Appends-nil w;
+  wrote = some_of_none w (written_as form (early_text_of_two first.0 second.0));
 }
 
 -- a side that ends, and all of it
@@ -63,8 +66,8 @@ awaits_all m s left left' all (inr (line, there, known)) (more, taken, at_end, i
     let rest = first_of_lines s.lines more line there in inr (line, rest.0, ap lines is ∙ rest.1, known)
 
 -- what is known of two texts of version 2, read to their ends
-pub record Whole (a b : Side) (m : Merging) (l l' r r' w w' : Option (List ℕ)) (all all2 : List ℕ) : Type 0 where
-  pub is : Stands a b m l l' r r' w w'
+pub record Whole (form : Form) (a b : Side) (m : Merging) (l l' r r' w w' : Option (List ℕ)) (all all2 : List ℕ) : Type 0 where
+  pub is : Stands form a b m l l' r r' w w'
   pub awaits : AwaitsText m (lines all)
   pub read : (l2 r2 : Option (List ℕ)) → LeavesAll a l' l2 all → LeavesAll b r' r2 all2
       → ReadsBoth l l2 r r2 (text_of (heading ∷ is.one) ++ all) (text_of (heading ∷ is.other) ++ all2)
@@ -78,9 +81,9 @@ reads_all one s l l' l2 all taken (more, behind, at_end, is, no_more) =
     subst (Consumes l l2) (append_assoc (text_of (heading ∷ one)) s.lines more ∙ ap (λ x. text_of (heading ∷ one) ++ x) (sym is))
     (Consumes-trans l l' l2 (text_of (heading ∷ one) ++ s.lines) more taken behind)
 
-pub whole_is : (a b : Side) (m : Merging) (l l1 l2 r r1 r2 w w1 : Option (List ℕ)) (all all2 : List ℕ) → (at : Stands a b m l l1 r r1 w w1)
-    → FrontsEnd at.one at.other a b m → LeavesAll a l1 l2 all → LeavesAll b r1 r2 all2 → Whole a b m l l1 r r1 w w1 all all2
-whole_is a b m l l1 l2 r r1 r2 w w1 all all2 at ends leaves leaves2 = record {
+pub whole_is : (form : Form) (a b : Side) (m : Merging) (l l1 l2 r r1 r2 w w1 : Option (List ℕ)) (all all2 : List ℕ) → (at : Stands form a b m l l1 r r1 w w1)
+    → FrontsEnd at.one at.other a b m → LeavesAll a l1 l2 all → LeavesAll b r1 r2 all2 → Whole form a b m l l1 r r1 w w1 all all2
+whole_is form a b m l l1 l2 r r1 r2 w w1 all all2 at ends leaves leaves2 = record {
   is = at;
   awaits = awaits_all m a l1 l2 all at.awaits leaves;
   read = λ l3 r3 first second. record {
@@ -106,68 +109,71 @@ whole_is a b m l l1 l2 r r1 r2 w w1 all all2 at ends leaves leaves2 = record {
         ∙ ap (λ x. at.taken ++ x) none ∙ append-nil at.taken
 
 -- how they are told: refused
-pub refused_up_to : (a b : Side) (m : Merging) (l l1 l2 r r1 r2 w w1 : Option (List ℕ)) (all all2 : List ℕ) (it : Whole a b m l l1 r r1 w w1 all all2)
+pub refused_up_to : (form : Form) (a b : Side) (m : Merging) (l l1 l2 r r1 r2 w w1 : Option (List ℕ)) (all all2 : List ℕ) (it : Whole form a b m l l1 r r1 w w1 all all2)
     → LeavesAll a l1 l2 all → LeavesAll b r1 r2 all2 → m.told.text.items ≡ [] → (f : DiffFault)
-    → TellsOfLines (heading ∷ it.is.one ++ lines all) (heading ∷ it.is.other ++ lines all2) f → WritesUpTo l l2 r r2 w w1 (of_diff f)
-refused_up_to a b m l l1 l2 r r1 r2 w w1 all all2 it leaves leaves2 none (diff.Refused why) tells = record {
+    → TellsOfLines (heading ∷ it.is.one ++ lines all) (heading ∷ it.is.other ++ lines all2) f → WritesUpTo form l l2 r r2 w w1 (of_diff f)
+refused_up_to form a b m l l1 l2 r r1 r2 w w1 all all2 it leaves leaves2 none (diff.Refused why) tells = record {
   first = text_of (heading ∷ it.is.one) ++ all;
   second = text_of (heading ∷ it.is.other) ++ all2;
   read = it.read l2 r2 leaves leaves2;
   refused = rw (it.first_lines, it.second_lines) tells;
-  wrote = subst (Appends w w1) (sym (it.early_is none)) it.is.wrote;
+  wrote = subst (λ x. Appends w w1 (written_as form x)) (sym (it.early_is none)) it.is.wrote;
 }
-refused_up_to a b m l l1 l2 r r1 r2 w w1 all all2 it leaves leaves2 none diff.Memory tells =
+refused_up_to form a b m l l1 l2 r r1 r2 w w1 all all2 it leaves leaves2 none diff.Memory tells =
     let read = it.read l2 r2 leaves leaves2 in
     record {
       first = text_of (heading ∷ it.is.one) ++ all;
       second = text_of (heading ∷ it.is.other) ++ all2;
       one = read.one;
       other = read.other;
-      out = it.is.taken;
-      rest = [];
-      told = inl (append-nil it.is.taken ∙ sym (it.early_is none));
-      wrote = it.is.wrote;
+      text = it.is.taken;
+      told = inl (sym (it.early_is none));
+      wrote = some_of_all w w1 (written_as form it.is.taken) it.is.wrote;
     }
 
 -- or compared
-differences_are : (a b : Side) (m : Merging) (l l1 r r1 w w1 : Option (List ℕ)) (all all2 : List ℕ) (it : Whole a b m l l1 r r1 w w1 all all2) (comparison : Comparison)
+differences_are : (form : Form) (a b : Side) (m : Merging) (l l1 r r1 w w1 : Option (List ℕ)) (all all2 : List ℕ) (it : Whole form a b m l l1 r r1 w w1 all all2) (comparison : Comparison)
     → ComparesBehind it.is.taken (heading ∷ it.is.one ++ lines all) (heading ∷ it.is.other ++ lines all2) comparison
     → differences_of_two (text_of (heading ∷ it.is.one) ++ all) (text_of (heading ∷ it.is.other) ++ all2) ≡ it.is.taken ++ comparison.text.items
-differences_are a b m l l1 r r1 w w1 all all2 it comparison compares = rw (it.first_lines, it.second_lines) (sym compares.text)
+differences_are form a b m l l1 r r1 w w1 all all2 it comparison compares = rw (it.first_lines, it.second_lines) (sym compares.text)
 
-pub compared : (a b : Side) (m : Merging) (l l1 l2 r r1 r2 w w1 w2 : Option (List ℕ)) (all all2 : List ℕ) (it : Whole a b m l l1 r r1 w w1 all all2)
+pub compared : (form : Form) (a b : Side) (m : Merging) (l l1 l2 r r1 r2 w w1 w2 : Option (List ℕ)) (all all2 : List ℕ) (it : Whole form a b m l l1 r r1 w w1 all all2)
     → LeavesAll a l1 l2 all → LeavesAll b r1 r2 all2 → (comparison : Comparison)
     → ComparesBehind it.is.taken (heading ∷ it.is.one ++ lines all) (heading ∷ it.is.other ++ lines all2) comparison
-    → Appends w1 w2 comparison.text.items → WritesComparison l l2 r r2 w w2 comparison.alike
-compared a b m l l1 l2 r r1 r2 w w1 w2 all all2 it leaves leaves2 comparison compares wrote = record {
+    → Appends w1 w2 (written_as form comparison.text.items) → WritesComparison form l l2 r r2 w w2 comparison.alike
+compared form a b m l l1 l2 r r1 r2 w w1 w2 all all2 it leaves leaves2 comparison compares wrote = record {
   first = text_of (heading ∷ it.is.one) ++ all;
   second = text_of (heading ∷ it.is.other) ++ all2;
   read = it.read l2 r2 leaves leaves2;
   reports = rw (it.first_lines, it.second_lines) compares.reports;
-  wrote = subst (Appends w w2) (sym (differences_are a b m l l1 r r1 w w1 all all2 it comparison compares))
-      (Appends-trans w w1 w2 it.is.taken comparison.text.items it.is.wrote wrote);
+  wrote = subst (Appends w w2)
+      (sym (ap (written_as form) (differences_are form a b m l l1 r r1 w w1 all all2 it comparison compares) ∙ written_behind form it.is.taken comparison.text.items it.is.whole))
+      (Appends-trans w w1 w2 (written_as form it.is.taken) (written_as form comparison.text.items) it.is.wrote wrote);
   decided = rw (it.first_lines, it.second_lines) compares.alike;
 }
 
-pub part_compared : (a b : Side) (m : Merging) (l l1 l2 r r1 r2 w w1 w2 : Option (List ℕ)) (all all2 : List ℕ) (it : Whole a b m l l1 r r1 w w1 all all2)
+pub part_compared : (form : Form) (a b : Side) (m : Merging) (l l1 l2 r r1 r2 w w1 w2 : Option (List ℕ)) (all all2 : List ℕ) (it : Whole form a b m l l1 r r1 w w1 all all2)
     → LeavesAll a l1 l2 all → LeavesAll b r1 r2 all2 → (comparison : Comparison) → (text : List ℕ) → text ≡ comparison.text.items
     → ComparesBehind it.is.taken (heading ∷ it.is.one ++ lines all) (heading ∷ it.is.other ++ lines all2) comparison
-    → AppendsPart w1 w2 text → WritesSome l l2 r r2 w w2
-part_compared a b m l l1 l2 r r1 r2 w w1 w2 all all2 it leaves leaves2 comparison text same compares part =
+    → AppendsSome w1 w2 (written_as form text) → WritesSome form l l2 r r2 w w2
+part_compared form a b m l l1 l2 r r1 r2 w w1 w2 all all2 it leaves leaves2 comparison text same compares (out, rest, is, wrote) =
     let read = it.read l2 r2 leaves leaves2 in
     record {
       first = text_of (heading ∷ it.is.one) ++ all;
       second = text_of (heading ∷ it.is.other) ++ all2;
       one = read.one;
       other = read.other;
-      out = it.is.taken ++ take part.0 text;
-      rest = drop part.0 text;
+      text = it.is.taken ++ text;
       told = inr (
         rw (it.first_lines, it.second_lines) compares.reports,
-        append_assoc it.is.taken (take part.0 text) (drop part.0 text) ∙ ap (λ x. it.is.taken ++ x) (take-append-drop part.0 text ∙ same)
-            ∙ sym (differences_are a b m l l1 r r1 w w1 all all2 it comparison compares),
+        ap (λ x. it.is.taken ++ x) same ∙ sym (differences_are form a b m l l1 r r1 w w1 all all2 it comparison compares),
       );
-      wrote = Appends-trans w w1 w2 it.is.taken (take part.0 text) it.is.wrote part.2;
+      wrote = (
+        written_as form it.is.taken ++ out,
+        rest,
+        written_behind form it.is.taken text it.is.whole ∙ ap (λ x. written_as form it.is.taken ++ x) is ∙ sym (append_assoc (written_as form it.is.taken) out rest),
+        Appends-trans w w1 w2 (written_as form it.is.taken) out it.is.wrote wrote,
+      );
     }
 
 -- texts of which one does not begin as a report of version 2
@@ -199,10 +205,10 @@ nothing_told a b l l1 r r1 all all2 (inl other) leaves leaves2 =
 nothing_told a b l l1 r r1 all all2 (inr other) leaves leaves2 =
     ap found_text (nothing_early (front (whole_lines all)) (front (whole_lines all2)) (inr (other_front b r r1 all2 other leaves2)))
 
-pub whole_taken : (s : Side) (l l1 l2 : Option (List ℕ)) (all : List ℕ) → IsWhole s l l1 → LeavesAll s l1 l2 all → Consumes l l2 all
+pub whole_taken : (s : Side) (l l1 l2 : Option (List ℕ)) (all : List ℕ) → HoldsAll s l l1 → LeavesAll s l1 l2 all → Consumes l l2 all
 whole_taken s l l1 l2 all whole (more, taken, at_end, is, no_more) = subst (Consumes l l2) (sym is) (Consumes-trans l l1 l2 s.lines more whole.taken taken)
 
-pub both_whole : (a b : Side) (l l1 l2 r r1 r2 : Option (List ℕ)) (all all2 : List ℕ) → IsWhole a l l1 → IsWhole b r r1 → LeavesAll a l1 l2 all → LeavesAll b r1 r2 all2
+pub both_whole : (a b : Side) (l l1 l2 r r1 r2 : Option (List ℕ)) (all all2 : List ℕ) → HoldsAll a l l1 → HoldsAll b r r1 → LeavesAll a l1 l2 all → LeavesAll b r1 r2 all2
     → ReadsBoth l l2 r r2 all all2
 both_whole a b l l1 l2 r r1 r2 all all2 one other leaves leaves2 = record {
   one = whole_taken a l l1 l2 all one leaves;
@@ -211,47 +217,46 @@ both_whole a b l l1 l2 r r1 r2 all all2 one other leaves leaves2 = record {
   other_ended = leaves2.2;
 }
 
-pub refused_whole : (a b : Side) (l l1 l2 r r1 r2 w : Option (List ℕ)) (all all2 : List ℕ) → IsWhole a l l1 → IsWhole b r r1 → LeavesAll a l1 l2 all → LeavesAll b r1 r2 all2
-    → IsOther a ⊎ IsOther b → (f : DiffFault) → TellsOfTwo all all2 f → WritesUpTo l l2 r r2 w w (of_diff f)
-refused_whole a b l l1 l2 r r1 r2 w all all2 one other leaves leaves2 odd (diff.Refused why) tells = record {
+pub refused_whole : (form : Form) (a b : Side) (l l1 l2 r r1 r2 w : Option (List ℕ)) (all all2 : List ℕ) → HoldsAll a l l1 → HoldsAll b r r1 → LeavesAll a l1 l2 all → LeavesAll b r1 r2 all2
+    → IsOther a ⊎ IsOther b → (f : DiffFault) → TellsOfTwo all all2 f → WritesUpTo form l l2 r r2 w w (of_diff f)
+refused_whole form a b l l1 l2 r r1 r2 w all all2 one other leaves leaves2 odd (diff.Refused why) tells = record {
   first = all;
   second = all2;
   read = both_whole a b l l1 l2 r r1 r2 all all2 one other leaves leaves2;
   refused = tells;
-  wrote = subst (Appends w w) (sym (nothing_told a b l1 l2 r1 r2 all all2 odd leaves leaves2)) (Appends-nil w);
+  wrote = subst (Appends w w) (sym (ap (written_as form) (nothing_told a b l1 l2 r1 r2 all all2 odd leaves leaves2) ∙ written_empty form)) (Appends-nil w);
 }
-refused_whole a b l l1 l2 r r1 r2 w all all2 one other leaves leaves2 odd diff.Memory tells =
-    nothing_written l l2 r r2 w (all, whole_taken a l l1 l2 all one leaves) (all2, whole_taken b r r1 r2 all2 other leaves2)
+refused_whole form a b l l1 l2 r r1 r2 w all all2 one other leaves leaves2 odd diff.Memory tells =
+    nothing_written form l l2 r r2 w (all, whole_taken a l l1 l2 all one leaves) (all2, whole_taken b r r1 r2 all2 other leaves2)
 
-pub compared_whole : (l l2 r r2 w w2 : Option (List ℕ)) (all all2 : List ℕ) → ReadsBoth l l2 r r2 all all2 → (comparison : Comparison) → ComparesTwo all all2 comparison
-    → Appends w w2 comparison.text.items → WritesComparison l l2 r r2 w w2 comparison.alike
-compared_whole l l2 r r2 w w2 all all2 read comparison compares wrote = record {
+pub compared_whole : (form : Form) (l l2 r r2 w w2 : Option (List ℕ)) (all all2 : List ℕ) → ReadsBoth l l2 r r2 all all2 → (comparison : Comparison) → ComparesTwo all all2 comparison
+    → Appends w w2 (written_as form comparison.text.items) → WritesComparison form l l2 r r2 w w2 comparison.alike
+compared_whole form l l2 r r2 w w2 all all2 read comparison compares wrote = record {
   first = all;
   second = all2;
   read = read;
   reports = compares.reports;
-  wrote = subst (Appends w w2) compares.text wrote;
+  wrote = subst (λ x. Appends w w2 (written_as form x)) compares.text wrote;
   decided = compares.alike;
 }
 
-pub part_whole : (l l2 r r2 w w2 : Option (List ℕ)) (all all2 : List ℕ) → ReadsBoth l l2 r r2 all all2 → (comparison : Comparison) → ComparesTwo all all2 comparison
-    → (text : List ℕ) → text ≡ comparison.text.items → AppendsPart w w2 text → WritesSome l l2 r r2 w w2
-part_whole l l2 r r2 w w2 all all2 read comparison compares text same part = record {
+pub part_whole : (form : Form) (l l2 r r2 w w2 : Option (List ℕ)) (all all2 : List ℕ) → ReadsBoth l l2 r r2 all all2 → (comparison : Comparison) → ComparesTwo all all2 comparison
+    → (text : List ℕ) → text ≡ comparison.text.items → AppendsSome w w2 (written_as form text) → WritesSome form l l2 r r2 w w2
+part_whole form l l2 r r2 w w2 all all2 read comparison compares text same part = record {
   first = all;
   second = all2;
   one = read.one;
   other = read.other;
-  out = take part.0 text;
-  rest = drop part.0 text;
-  told = inr (compares.reports, take-append-drop part.0 text ∙ same ∙ compares.text);
-  wrote = part.2;
+  text = text;
+  told = inr (compares.reports, same ∙ compares.text);
+  wrote = part;
 }
 
 -- the headings of both were passed
-pub begun_stands : (s : Sides) (a b a' b' : Side) (l l1 r r1 w : Option (List ℕ)) → Begun s → Begins true s.first a l l1 → Begins true s.second b r r1
+pub begun_stands : (form : Form) (s : Sides) (a b a' b' : Side) (l l1 r r1 w : Option (List ℕ)) → Begun s → Begins true s.first a l l1 → Begins true s.second b r r1
     → a'.lines ≡ after_first is_feed a.lines → a'.ended ≡ a.ended → b'.lines ≡ after_first is_feed b.lines → b'.ended ≡ b.ended
-    → Stands a' b' s.merging l l1 r r1 w w
-begun_stands s a b a' b' l l1 r r1 w begun first second rest same rest2 same2 = record {
+    → Stands form a' b' s.merging l l1 r r1 w w
+begun_stands form s a b a' b' l l1 r r1 w begun first second rest same rest2 same2 = record {
   one = [];
   other = [];
   taken = [];
@@ -262,7 +267,8 @@ begun_stands s a b a' b' l l1 r r1 w begun first second rest same rest2 same2 = 
   second_taken = passed s.second b b' r r1 begun.second second rest2;
   first_ended = λ ended. (let never : false ≡ true = sym begun.first_goes_on ∙ sym first.4 ∙ sym same ∙ ended in absurd cc);
   second_ended = λ ended. (let never : false ≡ true = sym begun.second_goes_on ∙ sym second.4 ∙ sym same2 ∙ ended in absurd cc);
-  wrote = Appends-nil w;
+  whole = empty_whole;
+  wrote = subst (Appends w w) (sym (written_empty form)) (Appends-nil w);
   awaits = inl begun.level;
 }
   where
@@ -274,19 +280,19 @@ begun_stands s a b a' b' l l1 r r1 w begun first second rest same rest2 same2 = 
         subst (Consumes left left') all taken
 
 -- what began otherwise is held whole
-pub begun_whole : (s s' : Side) (left left' : Option (List ℕ)) → s.lines ≡ [] → s.ended ≡ false → Begins false s s' left left' → IsWhole s' left left'
+pub begun_whole : (s s' : Side) (left left' : Option (List ℕ)) → s.lines ≡ [] → s.ended ≡ false → Begins false s s' left left' → HoldsAll s' left left'
 begun_whole s s' left left' none on (more, taken, is, other, ended) = record {
   taken = subst (Consumes left left') (sym (is ∙ ap (λ x. x ++ more) none)) taken;
   ended = λ at_end. ended at_end on;
 }
 
-pub heading_whole : (s s' : Side) (left left' : Option (List ℕ)) → s.lines ≡ [] → s.ended ≡ false → Begins true s s' left left' → IsWhole s' left left'
+pub heading_whole : (s s' : Side) (left left' : Option (List ℕ)) → s.lines ≡ [] → s.ended ≡ false → Begins true s s' left left' → HoldsAll s' left left'
 heading_whole s s' left left' none on (more, taken, is, there, same) = record {
   taken = subst (Consumes left left') (sym (is ∙ ap (λ x. x ++ more) none)) taken;
   ended = λ at_end. (let never : false ≡ true = sym on ∙ sym same ∙ at_end in absurd cc);
 }
 
-pub unread_whole : (s : Side) (left : Option (List ℕ)) → s.lines ≡ [] → s.ended ≡ false → IsWhole s left left
+pub unread_whole : (s : Side) (left : Option (List ℕ)) → s.lines ≡ [] → s.ended ≡ false → HoldsAll s left left
 unread_whole s left none on = record {
   taken = subst (Consumes left left) (sym none) (Consumes-nil left);
   ended = λ at_end. (let never : false ≡ true = sym on ∙ at_end in absurd cc);

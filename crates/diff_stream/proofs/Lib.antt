@@ -1,3 +1,4 @@
+pub mod FoundLines
 pub mod Moving
 pub mod FirstLines
 pub mod Standing

@@ -1,17 +1,47 @@
 -- What was found and is written, or not.
-use Rattle.std.proofs.Common.{◌≡◌, ℕ, List, [], Option, take, drop, refl, sym, subst, ◌∙◌}
-use Rattle.std.proofs.KnownBytes.{Appends-nil}
+use Rattle.std.proofs.Common.{◌≡◌, ◌⊎◌, ◌++◌, ℕ, List, [], Option, take, drop, inl, inr, refl, sym, ap, subst, ◌∙◌}
+use Rattle.std.specs.Io.KnownBytes.{Appends}
+use Rattle.std.proofs.KnownBytes.{Appends-nil, Appends-trans}
 use Rattle.std.proofs.lemmas.List.{append-nil, take-append-drop}
 use Rattle.byte_transfer.specs.Transfer.{AppendsPart}
+use Rattle.json_lines.specs.Forms.{IsWhole, written_as}
+use Rattle.json_lines.specs.Lines.{json_lines}
+use Rattle.json_lines.specs.declared.form.Form.{Form}
+use Rattle.json_lines.specs.declared.form.Form.TheVariants.{Text, Json}
+use Rattle.json_lines.proofs.Whole.{written_behind, written_empty}
 use Rattle.report_diff.specs.declared.fronts.Merging.{Merging}
 use Rattle.report_diff.specs.Merging.{Merges}
+use Rattle.diff_stream.specs.Compared.{AppendsSome}
 use Rattle.diff_stream.specs.Steps.{Moves, StopsAt}
+use Rattle.diff_stream.proofs.FoundLines.{merged_whole}
 
-pub stays : (m : Merging) (w : Option (List ℕ)) → Moves m m w w
-stays m w = record {
+-- ---- beginnings of a text
+
+some_of_part : (w w' : Option (List ℕ)) (text : List ℕ) → AppendsPart w w' text → AppendsSome w w' text
+some_of_part w w' text part = (take part.0 text, drop part.0 text, sym (take-append-drop part.0 text), part.2)
+
+pub some_of_text : (form : Form) (w w' : Option (List ℕ)) (text : List ℕ) → form ≡ Text → AppendsPart w w' text → AppendsSome w w' (written_as form text)
+some_of_text form w w' text is part = subst (λ f. AppendsSome w w' (written_as f text)) (sym is) (some_of_part w w' text part)
+
+pub some_of_json : (form : Form) (w w' : Option (List ℕ)) (text json : List ℕ) → form ≡ Json → json ≡ json_lines text → AppendsPart w w' json
+    → AppendsSome w w' (written_as form text)
+some_of_json form w w' text json is objects part =
+    subst (λ f. AppendsSome w w' (written_as f text)) (sym is) (subst (AppendsSome w w') objects (some_of_part w w' json part))
+
+pub some_of_none : (w : Option (List ℕ)) (text : List ℕ) → AppendsSome w w text
+some_of_none w text = ([], text, refl, Appends-nil w)
+
+pub some_of_all : (w w' : Option (List ℕ)) (text : List ℕ) → Appends w w' text → AppendsSome w w' text
+some_of_all w w' text wrote = (text, [], sym (append-nil text), wrote)
+
+-- ---- what was found
+
+pub stays : (form : Form) (m : Merging) (w : Option (List ℕ)) → Moves form m m w w
+stays form m w = record {
   out = [];
-  wrote = Appends-nil w;
+  wrote = subst (Appends w w) (sym (written_empty form)) (Appends-nil w);
   text = refl;
+  all = inr refl;
   merges = λ one other taken merges. subst (Merges m one other) (sym (append-nil taken)) merges;
   first = refl;
   second = refl;
@@ -20,8 +50,26 @@ stays m w = record {
   lines = refl;
 }
 
-pub part_stops : (m : Merging) (w w' : Option (List ℕ)) (text : List ℕ) → text ≡ m.told.text.items → AppendsPart w w' text → StopsAt m w w'
-part_stops m w w' text is part = (take part.0 text, drop part.0 text, sym is ∙ sym (take-append-drop part.0 text), part.2)
+pub moved_stops : (form : Form) (m m' : Merging) (w w' : Option (List ℕ)) → Moves form m m' w w' → StopsAt form m w w'
+moved_stops form m m' w w' moves = by moves.all
+  where
+    by : (m'.told.text.items ≡ []) ⊎ (moves.out ≡ []) → StopsAt form m w w'
+    by (inl none) =
+        let same : moves.out ≡ m.told.text.items = sym (append-nil moves.out) ∙ ap (λ x. moves.out ++ x) (sym none) ∙ sym moves.text in
+        some_of_all w w' (written_as form m.told.text.items) (subst (λ x. Appends w w' (written_as form x)) same moves.wrote)
+    by (inr none) =
+        ([], written_as form m.told.text.items, refl, subst (Appends w w') (ap (written_as form) none ∙ written_empty form) moves.wrote)
 
-pub moved_stops : (m m' : Merging) (w w' : Option (List ℕ)) → Moves m m' w w' → StopsAt m w w'
-moved_stops m m' w w' moves = (moves.out, m'.told.text.items, moves.text, moves.wrote)
+-- it is whole lines behind whole lines
+pub moved_whole : (form : Form) (m m' : Merging) (w w' : Option (List ℕ)) (one other : List (List ℕ)) (taken : List ℕ) → Merges m one other taken → IsWhole taken
+    → (moves : Moves form m m' w w') → IsWhole (taken ++ moves.out)
+moved_whole form m m' w w' one other taken merges whole moves = by moves.all
+  where
+    by : (m'.told.text.items ≡ []) ⊎ (moves.out ≡ []) → IsWhole (taken ++ moves.out)
+    by (inl none) = subst IsWhole (ap (λ x. (taken ++ moves.out) ++ x) none ∙ append-nil (taken ++ moves.out)) (merged_whole m' one other (taken ++ moves.out) (moves.merges one other taken merges))
+    by (inr none) = subst IsWhole (sym (ap (λ x. taken ++ x) none ∙ append-nil taken)) whole
+
+pub moved_wrote : (form : Form) (m m' : Merging) (w w1 w2 : Option (List ℕ)) (taken : List ℕ) → IsWhole taken → Appends w w1 (written_as form taken) → (moves : Moves form m m' w1 w2)
+    → Appends w w2 (written_as form (taken ++ moves.out))
+moved_wrote form m m' w w1 w2 taken whole wrote moves =
+    subst (Appends w w2) (sym (written_behind form taken moves.out whole)) (Appends-trans w w1 w2 (written_as form taken) (written_as form moves.out) wrote moves.wrote)

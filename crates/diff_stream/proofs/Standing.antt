@@ -1,10 +1,13 @@
 -- What stands between two lines, after one step more.
-use Rattle.std.proofs.Common.{◌≡◌, ◌≤◌, ◌⊎◌, ◌++◌, ◌∷◌, ℕ, Bool, true, false, List, [], Option, None, Some, inl, inr, refl, sym, ap, subst, ◌∙◌, arith, append_assoc}
+use Rattle.std.proofs.Common.{◌≡◌, ◌≤◌, ◌⊎◌, ◌++◌, ◌∷◌, ℕ, Bool, true, false, List, [], Option, None, Some, inl, inr, sym, ap, subst, ◌∙◌, arith, append_assoc}
 use Rattle.std.specs.List.{after_first}
 use Rattle.std.specs.Io.KnownBytes.{Consumes, IsAtEnd}
 use Rattle.std.proofs.lemmas.List.{append-nil}
-use Rattle.std.proofs.KnownBytes.{Appends-nil, Appends-trans, Consumes-nil, Consumes-trans}
+use Rattle.std.proofs.KnownBytes.{Appends-trans, Consumes-nil, Consumes-trans}
 use Rattle.byte_transfer.specs.Transfer.{Takes}
+use Rattle.json_lines.specs.Forms.{written_as}
+use Rattle.json_lines.specs.declared.form.Form.{Form}
+use Rattle.json_lines.proofs.Whole.{written_behind}
 use Rattle.report_diff.specs.declared.fronts.Merging.{Merging}
 use Rattle.report_diff.specs.Merging.{Awaits, IsAwaited, Merges, early_text_of_two, heading, is_feed, text_of}
 use Rattle.report_diff.proofs.EarlyText.{early_so_far}
@@ -14,6 +17,8 @@ use Rattle.diff_stream.specs.declared.held.Side.{Side}
 use Rattle.diff_stream.specs.Compared.{WritesSome}
 use Rattle.diff_stream.specs.Steps.{AtEnds, FrontsEnd, HasLine, Moves, Stands, StopsAt}
 use Rattle.diff_stream.proofs.FirstLines.{passed_on, plain_line, stays}
+use Rattle.diff_stream.proofs.FoundLines.{merged_whole}
+use Rattle.diff_stream.proofs.Moving.{moved_whole, moved_wrote, some_of_none}
 
 -- bytes come behind those that are held
 comes : (all : List (List ℕ)) (a b c : Option (List ℕ)) (held held' more : List ℕ) → Consumes a b (text_of all ++ held) → Consumes b c more → held' ≡ held ++ more
@@ -51,9 +56,9 @@ still m m' text text' more from first is (inl level) = inl (from ∙ level ∙ a
 still m m' text text' more from first is (inr (line, there, known)) =
     inr (line, subst (λ t. first_line t ≡ Some line) (sym is) (stays text more line there), subst (λ f. IsAwaited f line) (sym from) known)
 
-pub first_read : (a b : Side) (m m' : Merging) (a' : Side) (l l1 l2 r r1 w w1 w2 : Option (List ℕ)) → Stands a b m l l1 r r1 w w1 → Came a a' l1 l2 → Moves m m' w1 w2
-    → Stands a' b m' l l2 r r1 w w2
-first_read a b m m' a' l l1 l2 r r1 w w1 w2 at came moves = record {
+pub first_read : (form : Form) (a b : Side) (m m' : Merging) (a' : Side) (l l1 l2 r r1 w w1 w2 : Option (List ℕ)) → Stands form a b m l l1 r r1 w w1 → Came a a' l1 l2 → Moves form m m' w1 w2
+    → Stands form a' b m' l l2 r r1 w w2
+first_read form a b m m' a' l l1 l2 r r1 w w1 w2 at came moves = record {
   one = at.one;
   other = at.other;
   taken = at.taken ++ moves.out;
@@ -64,13 +69,14 @@ first_read a b m m' a' l l1 l2 r r1 w w1 w2 at came moves = record {
   second_taken = at.second_taken;
   first_ended = came.ended at.first_ended;
   second_ended = at.second_ended;
-  wrote = Appends-trans w w1 w2 at.taken moves.out at.wrote moves.wrote;
+  whole = moved_whole form m m' w1 w2 at.one at.other at.taken at.merges at.whole moves;
+  wrote = moved_wrote form m m' w w1 w2 at.taken at.whole at.wrote moves;
   awaits = still m m' a.lines a'.lines came.more moves.from moves.first came.is at.awaits;
 }
 
-pub second_read : (a b : Side) (m m' : Merging) (b' : Side) (l l1 r r1 r2 w w1 w2 : Option (List ℕ)) → Stands a b m l l1 r r1 w w1 → Came b b' r1 r2 → Moves m m' w1 w2
-    → Stands a b' m' l l1 r r2 w w2
-second_read a b m m' b' l l1 r r1 r2 w w1 w2 at came moves = record {
+pub second_read : (form : Form) (a b : Side) (m m' : Merging) (b' : Side) (l l1 r r1 r2 w w1 w2 : Option (List ℕ)) → Stands form a b m l l1 r r1 w w1 → Came b b' r1 r2 → Moves form m m' w1 w2
+    → Stands form a b' m' l l1 r r2 w w2
+second_read form a b m m' b' l l1 r r1 r2 w w1 w2 at came moves = record {
   one = at.one;
   other = at.other;
   taken = at.taken ++ moves.out;
@@ -81,15 +87,16 @@ second_read a b m m' b' l l1 r r1 r2 w w1 w2 at came moves = record {
   second_taken = comes (heading ∷ at.other) r r1 r2 b.lines b'.lines came.more at.second_taken came.taken came.is;
   first_ended = at.first_ended;
   second_ended = came.ended at.second_ended;
-  wrote = Appends-trans w w1 w2 at.taken moves.out at.wrote moves.wrote;
+  whole = moved_whole form m m' w1 w2 at.one at.other at.taken at.merges at.whole moves;
+  wrote = moved_wrote form m m' w w1 w2 at.taken at.whole at.wrote moves;
   awaits = still m m' a.lines a.lines [] moves.from moves.first (sym (append-nil a.lines)) at.awaits;
 }
 
 -- a line of the first is passed
-pub first_passed : (a b : Side) (m m' : Merging) (a' : Side) (l l1 r r1 w w1 : Option (List ℕ)) (line : List ℕ) → (at : Stands a b m l l1 r r1 w w1) → first_line a.lines ≡ Some line
+pub first_passed : (form : Form) (a b : Side) (m m' : Merging) (a' : Side) (l l1 r r1 w w1 : Option (List ℕ)) (line : List ℕ) → (at : Stands form a b m l l1 r r1 w w1) → first_line a.lines ≡ Some line
     → Merges m' (at.one ++ line ∷ []) at.other at.taken → m'.from ≡ m'.first.next → a'.lines ≡ after_first is_feed a.lines → a'.ended ≡ a.ended
-    → Stands a' b m' l l1 r r1 w w1
-first_passed a b m m' a' l l1 r r1 w w1 line at there merges level rest same = record {
+    → Stands form a' b m' l l1 r r1 w w1
+first_passed form a b m m' a' l l1 r r1 w w1 line at there merges level rest same = record {
   one = at.one ++ line ∷ [];
   other = at.other;
   taken = at.taken;
@@ -100,15 +107,16 @@ first_passed a b m m' a' l l1 r r1 w w1 line at there merges level rest same = r
   second_taken = at.second_taken;
   first_ended = λ ended. at.first_ended (sym same ∙ ended);
   second_ended = at.second_ended;
+  whole = at.whole;
   wrote = at.wrote;
   awaits = inl level;
 }
 
 -- and one of the second
-pub second_passed : (a b : Side) (m m' : Merging) (b' : Side) (l l1 r r1 w w1 : Option (List ℕ)) (line : List ℕ) → (at : Stands a b m l l1 r r1 w w1) → first_line b.lines ≡ Some line
+pub second_passed : (form : Form) (a b : Side) (m m' : Merging) (b' : Side) (l l1 r r1 w w1 : Option (List ℕ)) (line : List ℕ) → (at : Stands form a b m l l1 r r1 w w1) → first_line b.lines ≡ Some line
     → Merges m' at.one (at.other ++ line ∷ []) at.taken → m'.from ≡ m.from → m'.first ≡ m.first → b'.lines ≡ after_first is_feed b.lines → b'.ended ≡ b.ended
-    → Stands a b' m' l l1 r r1 w w1
-second_passed a b m m' b' l l1 r r1 w w1 line at there merges from first rest same = record {
+    → Stands form a b' m' l l1 r r1 w w1
+second_passed form a b m m' b' l l1 r r1 w w1 line at there merges from first rest same = record {
   one = at.one;
   other = at.other ++ line ∷ [];
   taken = at.taken;
@@ -119,14 +127,15 @@ second_passed a b m m' b' l l1 r r1 w w1 line at there merges from first rest sa
   second_taken = subst (Consumes r r1) (passed_on (heading ∷ at.other) b.lines line there ∙ ap (λ x. text_of (heading ∷ (at.other ++ line ∷ [])) ++ x) (sym rest)) at.second_taken;
   first_ended = at.first_ended;
   second_ended = λ ended. at.second_ended (sym same ∙ ended);
+  whole = at.whole;
   wrote = at.wrote;
   awaits = still m m' a.lines a.lines [] from first (sym (append-nil a.lines)) at.awaits;
 }
 
 -- the state stays, where only the merging changes
-pub remains : (a b : Side) (m m' : Merging) (l l1 r r1 w w1 : Option (List ℕ)) → (at : Stands a b m l l1 r r1 w w1) → Merges m' at.one at.other at.taken
-    → ((m'.from ≡ m'.first.next) ⊎ ((line : List ℕ) × (first_line a.lines ≡ Some line) × IsAwaited m'.from line)) → Stands a b m' l l1 r r1 w w1
-remains a b m m' l l1 r r1 w w1 at merges awaits = record {
+pub remains : (form : Form) (a b : Side) (m m' : Merging) (l l1 r r1 w w1 : Option (List ℕ)) → (at : Stands form a b m l l1 r r1 w w1) → Merges m' at.one at.other at.taken
+    → ((m'.from ≡ m'.first.next) ⊎ ((line : List ℕ) × (first_line a.lines ≡ Some line) × IsAwaited m'.from line)) → Stands form a b m' l l1 r r1 w w1
+remains form a b m m' l l1 r r1 w w1 at merges awaits = record {
   one = at.one;
   other = at.other;
   taken = at.taken;
@@ -137,14 +146,15 @@ remains a b m m' l l1 r r1 w w1 at merges awaits = record {
   second_taken = at.second_taken;
   first_ended = at.first_ended;
   second_ended = at.second_ended;
+  whole = at.whole;
   wrote = at.wrote;
   awaits = awaits;
 }
 
 -- a beginning of what the bytes tell was written
-pub some_written : (a b : Side) (m : Merging) (l l1 l2 r r1 r2 w w1 w2 : Option (List ℕ)) → Stands a b m l l1 r r1 w w1 → Takes l1 l2 → Takes r1 r2 → StopsAt m w1 w2
-    → WritesSome l l2 r r2 w w2
-some_written a b m l l1 l2 r r1 r2 w w1 w2 at more more2 (out, rest, is, wrote) =
+pub some_written : (form : Form) (a b : Side) (m : Merging) (l l1 l2 r r1 r2 w w1 w2 : Option (List ℕ)) → Stands form a b m l l1 r r1 w w1 → Takes l1 l2 → Takes r1 r2 → StopsAt form m w1 w2
+    → WritesSome form l l2 r r2 w w2
+some_written form a b m l l1 l2 r r1 r2 w w1 w2 at more more2 (out, rest, is, wrote) =
     let held = text_of (heading ∷ at.one) ++ a.lines in
     let held2 = text_of (heading ∷ at.other) ++ b.lines in
     let begins = early_so_far m at.one at.other at.taken (a.lines ++ more.0) (b.lines ++ more2.0) at.merges at.plain at.plain_other in
@@ -155,20 +165,26 @@ some_written a b m l l1 l2 r r1 r2 w w1 w2 at more more2 (out, rest, is, wrote) 
       second = held2 ++ more2.0;
       one = Consumes-trans l l1 l2 held more.0 at.first_taken more.1;
       other = Consumes-trans r r1 r2 held2 more2.0 at.second_taken more2.1;
-      out = at.taken ++ out;
-      rest = rest ++ begins.0;
-      told = inl (joined at.taken out rest begins.0 m.told.text.items is ∙ sym same);
-      wrote = Appends-trans w w1 w2 at.taken out at.wrote wrote;
+      text = (at.taken ++ m.told.text.items) ++ begins.0;
+      told = inl (sym same);
+      wrote = (
+        written_as form at.taken ++ out,
+        rest ++ written_as form begins.0,
+        written_behind form (at.taken ++ m.told.text.items) begins.0 (merged_whole m at.one at.other at.taken at.merges)
+            ∙ ap (λ x. x ++ written_as form begins.0) (written_behind form at.taken m.told.text.items at.whole)
+            ∙ joined (written_as form at.taken) out rest (written_as form begins.0) (written_as form m.told.text.items) is,
+        Appends-trans w w1 w2 (written_as form at.taken) out at.wrote wrote,
+      );
     }
   where
-    joined : (taken out rest more text : List ℕ) → text ≡ out ++ rest → (taken ++ out) ++ (rest ++ more) ≡ (taken ++ text) ++ more
+    joined : (taken out rest more text : List ℕ) → text ≡ out ++ rest → (taken ++ text) ++ more ≡ (taken ++ out) ++ (rest ++ more)
     joined taken out rest more text e =
-        append_assoc taken out (rest ++ more) ∙ ap (λ x. taken ++ x) (sym (append_assoc out rest more)) ∙ sym (append_assoc taken (out ++ rest) more)
-        ∙ ap (λ x. (taken ++ x) ++ more) (sym e)
+        ap (λ x. (taken ++ x) ++ more) e ∙ append_assoc taken (out ++ rest) more ∙ ap (λ x. taken ++ x) (append_assoc out rest more)
+        ∙ sym (append_assoc taken out (rest ++ more))
 
 -- what is awaited of the next line
-pub awaits_line : (a b : Side) (m : Merging) (l l1 r r1 w w1 : Option (List ℕ)) (line : List ℕ) → Stands a b m l l1 r r1 w w1 → first_line a.lines ≡ Some line → Awaits m line
-awaits_line a b m l l1 r r1 w w1 line at there = by at.awaits
+pub awaits_line : (form : Form) (a b : Side) (m : Merging) (l l1 r r1 w w1 : Option (List ℕ)) (line : List ℕ) → Stands form a b m l l1 r r1 w w1 → first_line a.lines ≡ Some line → Awaits m line
+awaits_line form a b m l l1 r r1 w w1 line at there = by at.awaits
   where
     by : ((m.from ≡ m.first.next) ⊎ ((other : List ℕ) × (first_line a.lines ≡ Some other) × IsAwaited m.from other)) → Awaits m line
     by (inl level) = inl level
@@ -178,8 +194,8 @@ awaits_line a b m l l1 r r1 w w1 line at there = by at.awaits
 pub takes_none : (a : Option (List ℕ)) → Takes a a
 takes_none a = ([], Consumes-nil a)
 
-pub stops_none : (m : Merging) (w : Option (List ℕ)) → StopsAt m w w
-stops_none m w = ([], m.told.text.items, refl, Appends-nil w)
+pub stops_none : (form : Form) (m : Merging) (w : Option (List ℕ)) → StopsAt form m w w
+stops_none form m w = some_of_none w (written_as form m.told.text.items)
 
 -- where no line is ahead, all that was passed of the second is below what may come of the first
 pub level_of : (m : Merging) (one other : List (List ℕ)) (taken : List ℕ) → Merges m one other taken → m.ahead ≡ None → m.second.next ≤ m.from
@@ -189,8 +205,8 @@ pub takes_on : (a b c : Option (List ℕ)) → Takes a b → Takes b c → Takes
 takes_on a b c before more = (before.0 ++ more.0, Consumes-trans a b c before.0 more.0 before.1 more.1)
 
 -- what was found is written, and nothing is read
-abbrev pub found_written : (a b : Side) (m m' : Merging) (l l1 r r1 w w1 w2 : Option (List ℕ)) → Stands a b m l l1 r r1 w w1 → Moves m m' w1 w2 → Stands a b m' l l1 r r1 w w2
-found_written a b m m' l l1 r r1 w w1 w2 at moves = record {
+abbrev pub found_written : (form : Form) (a b : Side) (m m' : Merging) (l l1 r r1 w w1 w2 : Option (List ℕ)) → Stands form a b m l l1 r r1 w w1 → Moves form m m' w1 w2 → Stands form a b m' l l1 r r1 w w2
+found_written form a b m m' l l1 r r1 w w1 w2 at moves = record {
   one = at.one;
   other = at.other;
   taken = at.taken ++ moves.out;
@@ -201,13 +217,14 @@ found_written a b m m' l l1 r r1 w w1 w2 at moves = record {
   second_taken = at.second_taken;
   first_ended = at.first_ended;
   second_ended = at.second_ended;
-  wrote = Appends-trans w w1 w2 at.taken moves.out at.wrote moves.wrote;
+  whole = moved_whole form m m' w1 w2 at.one at.other at.taken at.merges at.whole moves;
+  wrote = moved_wrote form m m' w w1 w2 at.taken at.whole at.wrote moves;
   awaits = still m m' a.lines a.lines [] moves.from moves.first (sym (append-nil a.lines)) at.awaits;
 }
 
-pub moved_ends : (a b : Side) (m m' : Merging) (l l1 r r1 w w1 w2 : Option (List ℕ)) → (at : AtEnds a b m l l1 r r1 w w1) → Moves m m' w1 w2
+pub moved_ends : (form : Form) (a b : Side) (m m' : Merging) (l l1 r r1 w w1 w2 : Option (List ℕ)) → (at : AtEnds form a b m l l1 r r1 w w1) → Moves form m m' w1 w2
     → FrontsEnd at.is.one at.is.other a b m'
-moved_ends a b m m' l l1 r r1 w w1 w2 at moves = by at.ends
+moved_ends form a b m m' l l1 r r1 w w1 w2 at moves = by at.ends
   where
     by : FrontsEnd at.is.one at.is.other a b m → FrontsEnd at.is.one at.is.other a b m'
     by (inl first) = inl first

@@ -12,6 +12,7 @@ use crate::fault::CompareFault;
 use crate::held::Sides;
 use crate::side::has_line;
 use byte_transfer::{Sink, Source};
+use json_lines::Form;
 use report_diff::Offer;
 use std::alloc::Global;
 
@@ -22,20 +23,21 @@ fn turn_of_second<S: Source, W: Sink>(
     sides: &mut Sides,
     second: &mut S,
     writer: &mut W,
+    form: Form,
 ) -> Result<bool, CompareFault>
     requires ahead { sides.old.merging.ahead ≡ None }
     requires second { S.failures second.old < 2 ^ 64 - 1 }
     requires writer { W.failures writer.old < 2 ^ 64 - 1 }
     ensures ok { (l left r w : Option (List ℕ)) → (line : List ℕ)
-        → Stands sides.old.first sides.old.second sides.old.merging l left r
+        → Stands form sides.old.first sides.old.second sides.old.merging l left r
         (S.left second.old) w (W.written writer.old)
         → first_line sides.old.first.lines ≡ Some line → IsAwaited sides.old.merging.from line
-        → IfOk result (λ on. GoesTo on sides.new.first sides.new.second sides.new.merging l left r
+        → IfOk result (λ on. GoesTo form on sides.new.first sides.new.second sides.new.merging l left r
         (S.left second.new) w (W.written writer.new)) }
     ensures err { (l left r w : Option (List ℕ))
-        → Stands sides.old.first sides.old.second sides.old.merging l left r
+        → Stands form sides.old.first sides.old.second sides.old.merging l left r
         (S.left second.old) w (W.written writer.old)
-        → IfErr result (λ _. WritesSome l left r (S.left second.new) w (W.written writer.new)) }
+        → IfErr result (λ _. WritesSome form l left r (S.left second.new) w (W.written writer.new)) }
     ensures outside { IfErr result IsOutside }
     ensures lines { result ≡ Ok true
         → passed_lines sides.new.merging ≡ passed_lines sides.old.merging + 1 }
@@ -43,7 +45,7 @@ fn turn_of_second<S: Source, W: Sink>(
     ensures reads { OnOk result (S.failures second.new ≡ S.failures second.old) }
     ensures writes { W.failures writer.new ≡ W.failures writer.old + writes_failed result }
 {
-    if !has_line(alloc, &mut sides.second, second, &mut sides.merging, writer)? {
+    if !has_line(alloc, &mut sides.second, second, &mut sides.merging, writer, form)? {
         return Ok(false);
     }
     let Some(line) = sides.second.lines.line() else {
@@ -64,21 +66,22 @@ fn turn<R: Source, S: Source, W: Sink>(
     first: &mut R,
     second: &mut S,
     writer: &mut W,
+    form: Form,
 ) -> Result<bool, CompareFault>
-    requires under_way { IsUnderWay sides.old.first sides.old.second sides.old.merging
+    requires under_way { IsUnderWay form sides.old.first sides.old.second sides.old.merging
         (R.left first.old) (S.left second.old) (W.written writer.old) }
     requires first { R.failures first.old < 2 ^ 64 - 1 }
     requires second { S.failures second.old < 2 ^ 64 - 1 }
     requires writer { W.failures writer.old < 2 ^ 64 - 1 }
     ensures ok { (l r w : Option (List ℕ))
-        → Stands sides.old.first sides.old.second sides.old.merging l (R.left first.old) r
+        → Stands form sides.old.first sides.old.second sides.old.merging l (R.left first.old) r
         (S.left second.old) w (W.written writer.old)
-        → IfOk result (λ on. GoesTo on sides.new.first sides.new.second sides.new.merging l
+        → IfOk result (λ on. GoesTo form on sides.new.first sides.new.second sides.new.merging l
         (R.left first.new) r (S.left second.new) w (W.written writer.new)) }
     ensures err { (l r w : Option (List ℕ))
-        → Stands sides.old.first sides.old.second sides.old.merging l (R.left first.old) r
+        → Stands form sides.old.first sides.old.second sides.old.merging l (R.left first.old) r
         (S.left second.old) w (W.written writer.old)
-        → IfErr result (λ _. WritesSome l (R.left first.new) r (S.left second.new) w
+        → IfErr result (λ _. WritesSome form l (R.left first.new) r (S.left second.new) w
         (W.written writer.new)) }
     ensures outside { IfErr result IsOutside }
     ensures lines { result ≡ Ok true
@@ -89,7 +92,7 @@ fn turn<R: Source, S: Source, W: Sink>(
     ensures more { OnOk result (S.failures second.new ≡ S.failures second.old) }
     ensures writes { W.failures writer.new ≡ W.failures writer.old + writes_failed result }
 {
-    if !has_line(alloc, &mut sides.first, first, &mut sides.merging, writer)? {
+    if !has_line(alloc, &mut sides.first, first, &mut sides.merging, writer, form)? {
         return Ok(false);
     }
     let Some(line) = sides.first.lines.line() else {
@@ -100,7 +103,7 @@ fn turn<R: Source, S: Source, W: Sink>(
             sides.first.lines.pass();
             Ok(true)
         }
-        Offer::Second => turn_of_second(alloc, sides, second, writer),
+        Offer::Second => turn_of_second(alloc, sides, second, writer, form),
         Offer::Ended => Ok(false),
     }
 }
@@ -112,21 +115,22 @@ pub(crate) fn merge<R: Source, S: Source, W: Sink>(
     first: &mut R,
     second: &mut S,
     writer: &mut W,
+    form: Form,
 ) -> Result<(), CompareFault>
-    requires under_way { IsUnderWay sides.old.first sides.old.second sides.old.merging
+    requires under_way { IsUnderWay form sides.old.first sides.old.second sides.old.merging
         (R.left first.old) (S.left second.old) (W.written writer.old) }
     requires first { R.failures first.old < 2 ^ 64 - 1 }
     requires second { S.failures second.old < 2 ^ 64 - 1 }
     requires writer { W.failures writer.old < 2 ^ 64 - 1 }
     ensures ok { (l r w : Option (List ℕ))
-        → Stands sides.old.first sides.old.second sides.old.merging l (R.left first.old) r
+        → Stands form sides.old.first sides.old.second sides.old.merging l (R.left first.old) r
         (S.left second.old) w (W.written writer.old)
-        → OnOk result (AtEnds sides.new.first sides.new.second sides.new.merging l
+        → OnOk result (AtEnds form sides.new.first sides.new.second sides.new.merging l
         (R.left first.new) r (S.left second.new) w (W.written writer.new)) }
     ensures err { (l r w : Option (List ℕ))
-        → Stands sides.old.first sides.old.second sides.old.merging l (R.left first.old) r
+        → Stands form sides.old.first sides.old.second sides.old.merging l (R.left first.old) r
         (S.left second.old) w (W.written writer.old)
-        → IfErr result (λ _. WritesSome l (R.left first.new) r (S.left second.new) w
+        → IfErr result (λ _. WritesSome form l (R.left first.new) r (S.left second.new) w
         (W.written writer.new)) }
     ensures outside { IfErr result IsOutside }
     ensures taken { Takes (R.left first.old) (R.left first.new)
@@ -136,7 +140,7 @@ pub(crate) fn merge<R: Source, S: Source, W: Sink>(
     ensures writes { W.failures writer.new ≡ W.failures writer.old + writes_failed result }
 {
     loop {
-        if !turn(alloc, sides, first, second, writer)? {
+        if !turn(alloc, sides, first, second, writer, form)? {
             return Ok(());
         }
     }

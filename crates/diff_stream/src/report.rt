@@ -4,19 +4,21 @@ ghost use Rattle.std.specs.Prelude.{[], Option, false};
 ghost use Rattle.byte_transfer.specs.Transfer.{Takes};
 ghost use Rattle.diff_stream.specs.Compared.{WritesComparison, WritesUpTo};
 ghost use Rattle.diff_stream.specs.Faults.{IsOutside, writes_failed};
-ghost use Rattle.diff_stream.specs.Steps.{AtEnds, Begins, Begun, IsOther, IsWhole};
+ghost use Rattle.diff_stream.specs.Steps.{AtEnds, Begins, Begun, HoldsAll, IsOther};
 
 use crate::fault::CompareFault;
 use crate::held::{Side, Sides};
 use crate::merge::merge;
 use crate::side::{rest_of, write_found};
-use byte_transfer::{Sink, Source, write_text};
+use crate::writing::write_as;
+use byte_transfer::{Sink, Source};
+use json_lines::Form;
 use report_diff::{HEADING, Merging, compare_two};
 use std::alloc::{AllocError, Global};
 use text_lines::TextLines;
 
-/// Compares two reports that the readers have left, writes where they differ, and tells whether no
-/// line does.
+/// Compares two reports that the readers have left, writes where they differ, in the form that is
+/// asked for, and tells whether no line does.
 ///
 /// Where both have version 2, the entries that come first in both are compared as they are read:
 /// what is told of one is written before a reader is asked for more bytes. Entries that only the
@@ -31,13 +33,14 @@ pub fn write_differences<R: Source, S: Source, W: Sink>(
     first: &mut R,
     second: &mut S,
     writer: &mut W,
+    form: Form,
 ) -> Result<bool, CompareFault>
     requires first { R.failures first.old < 2 ^ 64 - 1 }
     requires second { S.failures second.old < 2 ^ 64 - 1 }
     requires writer { W.failures writer.old < 2 ^ 64 - 1 }
-    ensures ok { IfOk result (WritesComparison (R.left first.old) (R.left first.new)
+    ensures ok { IfOk result (WritesComparison form (R.left first.old) (R.left first.new)
         (S.left second.old) (S.left second.new) (W.written writer.old) (W.written writer.new)) }
-    ensures err { IfErr result (WritesUpTo (R.left first.old) (R.left first.new)
+    ensures err { IfErr result (WritesUpTo form (R.left first.old) (R.left first.new)
         (S.left second.old) (S.left second.new) (W.written writer.old) (W.written writer.new)) }
     ensures taken { Takes (R.left first.old) (R.left first.new)
         × Takes (S.left second.old) (S.left second.new) }
@@ -45,15 +48,15 @@ pub fn write_differences<R: Source, S: Source, W: Sink>(
 {
     let mut sides = started(alloc)?;
     if !begins(alloc, &mut sides.first, first)? {
-        return compare_whole(alloc, sides, first, second, writer);
+        return compare_whole(alloc, sides, first, second, writer, form);
     }
     if !begins(alloc, &mut sides.second, second)? {
-        return compare_whole(alloc, sides, first, second, writer);
+        return compare_whole(alloc, sides, first, second, writer, form);
     }
     sides.first.lines.pass();
     sides.second.lines.pass();
-    merge(alloc, &mut sides, first, second, writer)?;
-    compare_rest(alloc, sides, first, second, writer)
+    merge(alloc, &mut sides, first, second, writer, form)?;
+    compare_rest(alloc, sides, first, second, writer, form)
 }
 
 /// Nothing was read.
@@ -103,30 +106,31 @@ fn compare_rest<R: Source, S: Source, W: Sink>(
     first: &mut R,
     second: &mut S,
     writer: &mut W,
+    form: Form,
 ) -> Result<bool, CompareFault>
     requires first { R.failures first.old < 2 ^ 64 - 1 }
     requires second { S.failures second.old < 2 ^ 64 - 1 }
     requires writer { W.failures writer.old < 2 ^ 64 - 1 }
     ensures ok { (l r w : Option (List ℕ))
-        → AtEnds sides.first sides.second sides.merging l (R.left first.old) r
+        → AtEnds form sides.first sides.second sides.merging l (R.left first.old) r
         (S.left second.old) w (W.written writer.old)
-        → IfOk result (WritesComparison l (R.left first.new) r (S.left second.new) w
+        → IfOk result (WritesComparison form l (R.left first.new) r (S.left second.new) w
         (W.written writer.new)) }
     ensures err { (l r w : Option (List ℕ))
-        → AtEnds sides.first sides.second sides.merging l (R.left first.old) r
+        → AtEnds form sides.first sides.second sides.merging l (R.left first.old) r
         (S.left second.old) w (W.written writer.old)
-        → IfErr result (WritesUpTo l (R.left first.new) r (S.left second.new) w
+        → IfErr result (WritesUpTo form l (R.left first.new) r (S.left second.new) w
         (W.written writer.new)) }
     ensures taken { Takes (R.left first.old) (R.left first.new)
         × Takes (S.left second.old) (S.left second.new) }
     ensures writes { W.failures writer.new ≡ W.failures writer.old + writes_failed result }
 {
     let mut merging = sides.merging;
-    write_found(&mut merging, writer)?;
+    write_found(alloc, &mut merging, writer, form)?;
     let one = rest_of(alloc, sides.first, first)?;
     let other = rest_of(alloc, sides.second, second)?;
     let comparison = merging.finish(alloc, one.as_slice(), other.as_slice())?;
-    write_text(writer, comparison.text.as_slice())?;
+    write_as(alloc, comparison.text.as_slice(), writer, form)?;
     Ok(comparison.alike)
 }
 
@@ -137,18 +141,19 @@ fn compare_whole<R: Source, S: Source, W: Sink>(
     first: &mut R,
     second: &mut S,
     writer: &mut W,
+    form: Form,
 ) -> Result<bool, CompareFault>
     requires first { R.failures first.old < 2 ^ 64 - 1 }
     requires second { S.failures second.old < 2 ^ 64 - 1 }
     requires writer { W.failures writer.old < 2 ^ 64 - 1 }
-    ensures ok { (l r : Option (List ℕ)) → IsWhole sides.first l (R.left first.old)
-        → IsWhole sides.second r (S.left second.old)
-        → IfOk result (WritesComparison l (R.left first.new) r (S.left second.new)
+    ensures ok { (l r : Option (List ℕ)) → HoldsAll sides.first l (R.left first.old)
+        → HoldsAll sides.second r (S.left second.old)
+        → IfOk result (WritesComparison form l (R.left first.new) r (S.left second.new)
         (W.written writer.old) (W.written writer.new)) }
-    ensures err { (l r : Option (List ℕ)) → IsWhole sides.first l (R.left first.old)
-        → IsWhole sides.second r (S.left second.old)
+    ensures err { (l r : Option (List ℕ)) → HoldsAll sides.first l (R.left first.old)
+        → HoldsAll sides.second r (S.left second.old)
         → IsOther sides.first ⊎ IsOther sides.second
-        → IfErr result (WritesUpTo l (R.left first.new) r (S.left second.new)
+        → IfErr result (WritesUpTo form l (R.left first.new) r (S.left second.new)
         (W.written writer.old) (W.written writer.new)) }
     ensures taken { Takes (R.left first.old) (R.left first.new)
         × Takes (S.left second.old) (S.left second.new) }
@@ -157,6 +162,6 @@ fn compare_whole<R: Source, S: Source, W: Sink>(
     let one = rest_of(alloc, sides.first, first)?;
     let other = rest_of(alloc, sides.second, second)?;
     let comparison = compare_two(alloc, one.as_slice(), other.as_slice())?;
-    write_text(writer, comparison.text.as_slice())?;
+    write_as(alloc, comparison.text.as_slice(), writer, form)?;
     Ok(comparison.alike)
 }

@@ -7,25 +7,29 @@ ghost use Rattle.diff_stream.specs.Steps.{HasLine, LeavesAll, Moves, StopsAt};
 
 use crate::fault::CompareFault;
 use crate::held::Side;
-use byte_transfer::{Sink, Source, write_text};
+use crate::writing::write_as;
+use byte_transfer::{Sink, Source};
+use json_lines::Form;
 use report_diff::Merging;
 use std::alloc::Global;
 
 /// Writes what was found and is not written yet.
 pub(crate) fn write_found<W: Sink>(
+    alloc: Global,
     merging: &mut Merging,
     writer: &mut W,
+    form: Form,
 ) -> Result<(), CompareFault>
     requires { W.failures writer.old < 2 ^ 64 - 1 }
     ensures ok { OnOk result
-        (Moves merging.old merging.new (W.written writer.old) (W.written writer.new)) }
+        (Moves form merging.old merging.new (W.written writer.old) (W.written writer.new)) }
     ensures empty { OnOk result (merging.new.told.text.items ≡ []) }
     ensures err { IfErr result
-        (λ _. StopsAt merging.old (W.written writer.old) (W.written writer.new)) }
+        (λ _. StopsAt form merging.old (W.written writer.old) (W.written writer.new)) }
     ensures outside { IfErr result IsOutside }
     ensures failures { W.failures writer.new ≡ W.failures writer.old + writes_failed result }
 {
-    write_text(writer, merging.text())?;
+    write_as(alloc, merging.text(), writer, form)?;
     merging.take();
     Ok(())
 }
@@ -38,15 +42,16 @@ pub(crate) fn has_line<R: Source, W: Sink>(
     reader: &mut R,
     merging: &mut Merging,
     writer: &mut W,
+    form: Form,
 ) -> Result<bool, CompareFault>
     requires reader { R.failures reader.old < 2 ^ 64 - 1 }
     requires writer { W.failures writer.old < 2 ^ 64 - 1 }
     ensures line { IfOk result
         (λ some. HasLine some side.old side.new (R.left reader.old) (R.left reader.new)) }
     ensures moves { OnOk result
-        (Moves merging.old merging.new (W.written writer.old) (W.written writer.new)) }
+        (Moves form merging.old merging.new (W.written writer.old) (W.written writer.new)) }
     ensures err { IfErr result
-        (λ _. StopsAt merging.old (W.written writer.old) (W.written writer.new)) }
+        (λ _. StopsAt form merging.old (W.written writer.old) (W.written writer.new)) }
     ensures outside { IfErr result IsOutside }
     ensures taken { Takes (R.left reader.old) (R.left reader.new) }
     ensures reads { OnOk result (R.failures reader.new ≡ R.failures reader.old) }
@@ -58,7 +63,7 @@ pub(crate) fn has_line<R: Source, W: Sink>(
     if side.ended {
         return Ok(false);
     }
-    write_found(merging, writer)?;
+    write_found(alloc, merging, writer, form)?;
     if side.lines.read_line(alloc, reader)? {
         return Ok(true);
     }

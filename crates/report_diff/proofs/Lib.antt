@@ -16,3 +16,4 @@ pub mod SaysLemmas
 pub mod MergeLemmas
 pub mod FinishLemmas
 pub mod EarlyText
+pub mod ToldLines
