@@ -45,7 +45,14 @@ fn turn_of_second<S: Source, W: Sink>(
     ensures reads { OnOk result (S.failures second.new ≡ S.failures second.old) }
     ensures writes { W.failures writer.new ≡ W.failures writer.old + writes_failed result }
 {
-    if !has_line(alloc, &mut sides.second, second, &mut sides.merging, writer, form)? {
+    if !has_line(
+        alloc,
+        &mut sides.second,
+        second,
+        &mut sides.merging,
+        writer,
+        form,
+    )? {
         return Ok(false);
     }
     let Some(line) = sides.second.lines.line() else {
@@ -92,7 +99,14 @@ fn turn<R: Source, S: Source, W: Sink>(
     ensures more { OnOk result (S.failures second.new ≡ S.failures second.old) }
     ensures writes { W.failures writer.new ≡ W.failures writer.old + writes_failed result }
 {
-    if !has_line(alloc, &mut sides.first, first, &mut sides.merging, writer, form)? {
+    if !has_line(
+        alloc,
+        &mut sides.first,
+        first,
+        &mut sides.merging,
+        writer,
+        form,
+    )? {
         return Ok(false);
     }
     let Some(line) = sides.first.lines.line() else {
