@@ -1,5 +1,5 @@
 """Two reports that `diff` reads side by side: pairs by hand and drawn ones, what is written before they end and before a refusal, pairs that come through
-pipes, calls that fail, and memory and time."""
+pipes, calls that fail, and memory and time; as text and as objects."""
 import os
 import random
 import re
@@ -13,7 +13,8 @@ from typing import Callable, Iterator, List, NamedTuple, Optional, Tuple
 import days
 import model_diff
 from files import TRACE, Folder
-from harness import SECONDS, Answer, Job, Outcome, Program, Timed, begins, difference, fault, first, reports_refused, short, shown, skipped
+from harness import SECONDS, Answer, Job, Outcome, Program, Timed, begins, difference, fault, first, reports_refused, short, shown, skipped, spoken
+from json_lines import objects
 from records import lot
 from report_pairs import END, FIRST_HEADING, HEADING, Pair, entry
 from shims import Shim
@@ -24,6 +25,19 @@ NO_END, NO_HEADING = "the {} has no {}end", "the {} does not begin with uring-re
 DRAWN, IN_PIECES = 500, 40
 # Of the drawn pairs at least so many in a hundred are of each kind.
 EACH_KIND = 5
+
+# The comparison as text and as objects.
+TEXT, JSON = ["diff"], ["diff", "--json"]
+FORMS = (TEXT, JSON)
+
+
+def as_asked(words: List[str], text: bytes) -> bytes:
+    """What is written of a text in the form that some words ask for."""
+    return objects(text) if words == JSON else text
+
+
+def in_form(words: List[str], answer: Answer) -> Answer:
+    return answer._replace(output=as_asked(words, answer.output))
 
 
 def lacks_end(side: str) -> str:
@@ -113,16 +127,17 @@ def of_model(it: Refusal) -> List[Outcome]:
 
 
 def by_hand(program: Program) -> List[Outcome]:
-    """The program does so of two files. Where it reads both whole it writes nothing: with --json, with a trace, and of one input."""
+    """The program does so of two files, also as JSON. Where it reads both whole it writes nothing: with a trace, and of one input."""
     at = Folder(program)
     for it in refusals():
         one, other = at.put("one", it.one), at.put("other", it.other)
         at.ask(it.name, ["diff", one, other], reports_refused(it.line, it.early))
-        at.ask("{}, as JSON".format(it.name), ["diff", "--json", one, other], reports_refused(it.line))
+        at.ask("{}, as JSON".format(it.name), ["diff", "--json", one, other], reports_refused(it.line, objects(it.early)))
         at.ask("{}, with entries".format(it.name), ["diff", "--show", TRACE, one, other], reports_refused(it.line))
         if re.search(rb"^end$", it.one, re.M) and "first goes on" not in it.line and it.one:
             at.ask("{}, in one input".format(it.name), ["diff"], reports_refused(it.line), given=it.one + it.other)
-        at.ask("{}, into a file".format(it.name), ["diff", one, other, "-o", at.path("out")], Answer(1, b"", reports_refused(it.line).errors))
+        for words in FORMS:
+            at.ask("{}, into a file, by {}".format(it.name, spoken(words)), [*words, one, other, "-o", at.path("out")], Answer(1, b"", reports_refused(it.line).errors))
     at.holds("no file is made", "out", None, ["one", "other"])
     return at.outcomes
 
@@ -130,24 +145,29 @@ def by_hand(program: Program) -> List[Outcome]:
 # --- Drawn ----------------------------------------------------------------------------------------------------------
 
 def of_pair(program: Program, seed: int) -> Optional[str]:
-    """How the program compares a drawn pair otherwise than the second comparison, if it does: by names, with one on standard input, into a file."""
+    """How the program compares a drawn pair otherwise than the second comparison, if it does, in each form."""
     one, other = Pair(seed).texts
     wanted, early = answer_of(one, other), model_diff.early(one, other)
     if not wanted.output.startswith(early):
         return "by the second comparison: the whole text does not begin with {}".format(short(early))
+    return first([told for words in FORMS for told in [of_texts(program, seed, words, one, other, in_form(words, wanted))] if told])
+
+
+def of_texts(program: Program, seed: int, words: List[str], one: bytes, other: bytes, wanted: Answer) -> Optional[str]:
+    """The same by some words: by names, with one on standard input, into a file."""
     with tempfile.TemporaryDirectory(prefix="uring-replay-test-") as folder:
         names = [os.path.join(folder, it) for it in ("one", "other", "out")]
         for name, text in zip(names, (one, other)):
             with open(name, "wb") as file:
                 file.write(text)
         if seed % 8 == 0:
-            return difference(program.run(["diff", "-", names[1]], one), wanted)
+            return difference(program.run([*words, "-", names[1]], one), wanted)
         if seed % 8 == 1:
-            return difference(program.run(["diff", names[0], "-"], other), wanted)
+            return difference(program.run([*words, names[0], "-"], other), wanted)
         if seed % 8 == 2:
-            told = difference(program.run(["diff", *names[:2], "-o", names[2]], b""), wanted._replace(output=b""))
+            told = difference(program.run([*words, *names[:2], "-o", names[2]], b""), wanted._replace(output=b""))
             return told or ("the file is made, or is not" if os.path.exists(names[2]) != (wanted.status in (0, 4)) else None)
-        return difference(program.run(["diff", *names[:2]], b""), wanted)
+        return difference(program.run([*words, *names[:2]], b""), wanted)
 
 
 def kinds(seeds: range) -> List[Outcome]:
@@ -162,30 +182,30 @@ def kinds(seeds: range) -> List[Outcome]:
 
 # --- While they come ------------------------------------------------------------------------------------------------
 
-def in_pieces(program: Program, seed: int) -> Optional[str]:
+def in_pieces(words: List[str], program: Program, seed: int) -> Optional[str]:
     """How a drawn pair that comes in pieces is served otherwise, if it is: behind each piece, while both stall, all that is told early of what came."""
     texts, source = Pair(seed).texts, random.Random("pieces side by side {}".format(seed))
     given = [0, 0]
-    with Fed(program, ["diff"], 2) as fed:
+    with Fed(program, words, 2) as fed:
         while given != [len(it) for it in texts]:
             side = source.choice([it for it in range(2) if given[it] < len(texts[it])])
             piece = texts[side][given[side] :][: source.choice((1, 9, 60, 200, 2_000))]
             fed.give(piece, side)
             given[side] += len(piece)
-            told = fed.unlike(model_diff.early(texts[0][: given[0]], texts[1][: given[1]]))
+            told = fed.unlike(as_asked(words, model_diff.early(texts[0][: given[0]], texts[1][: given[1]])))
             if told:
                 return "behind {} and {} bytes {}".format(*given, told)
-        return difference(fed.end(), answer_of(*texts))
+        return difference(fed.end(), in_form(words, answer_of(*texts)))
 
 
 # So many entries that differ are more than a pipe takes.
 LONG_OUTPUT = 5_000
 
 
-def stalled(program: Program) -> List[Outcome]:
+def stalled(words: List[str], program: Program) -> List[Outcome]:
     """What differs so far comes while both stall, and nothing of what may still be told otherwise."""
-    outcomes = []
-    with Fed(program, ["diff"], 2) as fed:
+    outcomes, how = [], "by {} of {}".format(spoken(words), program.compiler)
+    with Fed(program, words, 2) as fed:
         steps: List[Tuple[str, int, bytes, bytes]] = [
             ("headings", 0, HEADING, b""), ("headings", 1, HEADING, b""), ("entries of the first alone", 0, entry(1, 4) + entry(2, 4), b""),
             ("a line without its feed", 1, entry(1, 5)[:-1], b""), ("its feed", 1, b"\n", changed(1)), ("a later entry of the second", 1, entry(3, 5), b"- " + entry(2, 4)),
@@ -195,15 +215,15 @@ def stalled(program: Program) -> List[Outcome]:
         told = b""
         for what, side, piece, more in steps:
             fed.give(piece, side)
-            told += more
+            told += as_asked(words, more)
             wrong = fed.unlike(told)
             if not more and not wrong and fed.reaches(len(told) + 1, QUIET):
                 wrong = "it writes {}".format(short(bytes(fed.output[len(told) :])))
-            outcomes.append(Outcome("{} of the {} come, and both stall, by {}".format(what, ("first", "second")[side], program.compiler), wrong))
+            outcomes.append(Outcome("{} of the {} come, and both stall, {}".format(what, ("first", "second")[side], how), wrong))
         behind = b"".join(b"+ " + entry(it, 5) for it in (3, 4))
         counts = b"entries 0 equal, 5 different, 0 outside\ntree 0 equal, 1 different, 0 outside\nslots 0 equal, 0 different, 0 outside\nbuffers 0 equal, 0 different, 0 outside\n"
-        wanted = Answer(4, told + b"- dir /d node=1\n+ dir /d node=2\n" + behind + counts, b"")
-        outcomes.append(Outcome("both end, by {}".format(program.compiler), difference(fed.end(), wanted)))
+        wanted = Answer(4, told + as_asked(words, b"- dir /d node=1\n+ dir /d node=2\n" + behind + counts), b"")
+        outcomes.append(Outcome("both end, {}".format(how), difference(fed.end(), wanted)))
     return outcomes
 
 
@@ -224,25 +244,25 @@ def by_fifos(program: Program) -> List[Outcome]:
     return at.outcomes
 
 
-def outputs(program: Program) -> List[Outcome]:
+def outputs(words: List[str], program: Program) -> List[Outcome]:
     """An output that is full or closed, and a reader that goes away, are faults of their own, also where the reports are refused."""
     at = Folder(program)
     one, cut, other = at.put("one", of_first(*range(9)) + END), at.put("cut", of_first(*range(9))), at.put("other", of_second(*range(9)) + END)
     for to in ("> /dev/full", ">&-", "1< /dev/null"):
         for name in (one, cut):
-            at.ask("the output fails, {}".format(to), ["diff", name, other], fault("write"), shell='exec "$@" ' + to)
+            at.ask("the output of {} fails, {}".format(spoken(words), to), [*words, name, other], fault("write"), shell='exec "$@" ' + to)
     names = [at.put("long one", of_first(*range(LONG_OUTPUT)) + END), at.put("long other", of_second(*range(LONG_OUTPUT)) + END)]
     goes = '{ "$@"; echo "status $?" >&2; } | head -c 1 > /dev/null'
-    at.ask("a reader that goes away", ["diff", *names], Answer(0, b"", b"fault: write\nstatus 3\n"), shell=goes)
-    with Fed(program, ["diff"], 2) as fed:
+    at.ask("a reader of {} that goes away".format(spoken(words)), [*words, *names], Answer(0, b"", b"fault: write\nstatus 3\n"), shell=goes)
+    with Fed(program, words, 2) as fed:
         fed.give(of_first(1))
         fed.give(of_second(1), 1)
         fed.reaches(1)
-        at.said("what came is there", fed.unlike(changed(1)))
-    with Fed(program, ["diff"], 2) as fed:
+        at.said("what came is there, by {}".format(spoken(words)), fed.unlike(as_asked(words, changed(1))))
+    with Fed(program, words, 2) as fed:
         fed.give(b"uring-report 9\n" + of_first(1) + END)
         fed.give(b"", 1)
-        at.said("a first of no version, whose second is to come, tells nothing", "it writes" if fed.reaches(1, QUIET) else None)
+        at.said("a first of no version, whose second is to come, tells nothing by {}".format(spoken(words)), "it writes" if fed.reaches(1, QUIET) else None)
     return at.outcomes
 
 
@@ -280,14 +300,14 @@ class Compared(NamedTuple):
     seconds: float
 
 
-def compared(program: Program, reports: Callable[[bool], Iterator[bytes]], early: bytes, ends: Tuple[bytes, bytes], wanted: Answer) -> Compared:
+def compared(words: List[str], program: Program, reports: Callable[[bool], Iterator[bytes]], early: bytes, ends: Tuple[bytes, bytes], wanted: Answer) -> Compared:
     """Compares two long reports that come through pipes side by side. What is told of entries has to be there before their ends are given."""
 
     def feed(fed: Fed, side: int) -> None:
         for piece in reports(side > 0):
             fed.give(piece, side)
 
-    with Fed(program, ["diff"], 2) as fed:
+    with Fed(program, words, 2) as fed:
         feeders = [threading.Thread(target=feed, args=(fed, side)) for side in range(2)]
         for it in feeders:
             it.start()
@@ -299,17 +319,17 @@ def compared(program: Program, reports: Callable[[bool], Iterator[bytes]], early
             for it in feeders:
                 it.join()
             return Compared("it does not take both side by side: {} bytes came".format(fed.count), 0, 0.0)
-        told = fed.unlike(early)
+        told = fed.unlike(as_asked(words, early))
         peak = fed.peak()
         for side, end in enumerate(ends):
             fed.give(end, side)
-        return Compared(told or difference(fed.end(), wanted), peak, fed.seconds)
+        return Compared(told or difference(fed.end(), in_form(words, wanted)), peak, fed.seconds)
 
 
-def blocks_compared(program: Program, blocks: int, ends: Tuple[bytes, bytes], wanted: Answer) -> Compared:
+def blocks_compared(words: List[str], program: Program, blocks: int, ends: Tuple[bytes, bytes], wanted: Answer) -> Compared:
     """The same of reports in blocks; `wanted` lacks what is told of these."""
     early = told_of_blocks(blocks)
-    return compared(program, lambda is_second: in_blocks(is_second, blocks), early, ends, wanted._replace(output=early + wanted.output))
+    return compared(words, program, lambda is_second: in_blocks(is_second, blocks), early, ends, wanted._replace(output=early + wanted.output))
 
 
 def counts_of(equal: int, different: int = 0, tree: int = 1) -> bytes:
@@ -317,21 +337,21 @@ def counts_of(equal: int, different: int = 0, tree: int = 1) -> bytes:
     return told.format(equal, different, tree, tree).encode()
 
 
-def in_memory(program: Program) -> List[Outcome]:
+def in_memory(words: List[str], program: Program) -> List[Outcome]:
     """Reports in step take memory that does not grow with them, and time in proportion."""
-    outcomes, took = [], []
+    outcomes, took, how = [], [], "by {} of {}".format(spoken(words), program.compiler)
     for entries in (MANY // TIMES, MANY):
         wanted = Answer(4, counts_of(entries - entries // BLOCK, entries // BLOCK), b"")
-        took.append(blocks_compared(program, entries // BLOCK, (END, END), wanted))
-        outcomes.append(Outcome("{} entries in step, by {}".format(entries, program.compiler), took[-1].fault))
+        took.append(blocks_compared(words, program, entries // BLOCK, (END, END), wanted))
+        outcomes.append(Outcome("{} entries in step, {}".format(entries, how), took[-1].fault))
     few, many = took
     is_well = many.peak <= min(MOST_KIB, MORE * few.peak + SPARE)
-    outcomes.append(Outcome("their memory, by {}".format(program.compiler), None if is_well else "it is {} KiB, and {} KiB for {} times the entries".format(few.peak, many.peak, TIMES)))
+    outcomes.append(Outcome("their memory, {}".format(how), None if is_well else "it is {} KiB, and {} KiB for {} times the entries".format(few.peak, many.peak, TIMES)))
     is_well = many.seconds < MOST_TIMES * few.seconds
-    return [*outcomes, Outcome("their time, by {}".format(program.compiler), None if is_well else "it is {:.1f} seconds, and {:.1f} for {} times the entries".format(few.seconds, many.seconds, TIMES))]
+    return [*outcomes, Outcome("their time, {}".format(how), None if is_well else "it is {:.1f} seconds, and {:.1f} for {} times the entries".format(few.seconds, many.seconds, TIMES))]
 
 
-def refused_at_the_end(program: Program) -> List[Outcome]:
+def refused_at_the_end(words: List[str], program: Program) -> List[Outcome]:
     """What was written stands, whatever is wrong at the ends."""
     last = 102 + BLOCK * 100 + len(SECTIONS.splitlines()) - 100
     cases = (
@@ -339,8 +359,8 @@ def refused_at_the_end(program: Program) -> List[Outcome]:
         ("the second goes on", (END, END * 2), "the second goes on behind its end"), ("a place falls", (b"5 res=0\n" + END, END), "line {} of the first is out of order at 5".format(last)),
         ("a file of two sizes", (END, b"file /a size=11\n" + END), "line {} of the second says otherwise of file /a".format(last)),
     )
-    label = "{{}}, behind 100,000 entries, by {}".format(program.compiler)
-    return [Outcome(label.format(what), blocks_compared(program, 100, ends, reports_refused(line)).fault) for what, ends, line in cases]
+    label = "{{}}, behind 100,000 entries, by {} of {}".format(spoken(words), program.compiler)
+    return [Outcome(label.format(what), blocks_compared(words, program, 100, ends, reports_refused(line)).fault) for what, ends, line in cases]
 
 
 def long_lines(is_second: bool) -> Iterator[bytes]:
@@ -351,10 +371,10 @@ def long_lines(is_second: bool) -> Iterator[bytes]:
         yield b"%d" % place + data
 
 
-def past_the_limit(program: Program) -> List[Outcome]:
+def past_the_limit(words: List[str], program: Program) -> List[Outcome]:
     """Two reports have no longest length that is read."""
-    took = compared(program, long_lines, b"", (END, END), Answer(0, counts_of((1 << 10) + 1, tree=0), b""))
-    label = "two reports of more than 2^30 bytes{{}}, by {}".format(program.compiler)
+    took = compared(words, program, long_lines, b"", (END, END), Answer(0, counts_of((1 << 10) + 1, tree=0), b""))
+    label = "two reports of more than 2^30 bytes{{}}, by {} of {}".format(spoken(words), program.compiler)
     return [Outcome(label.format(""), took.fault), Outcome(label.format(": their memory"), None if took.peak <= MOST_KIB else "it is {} KiB".format(took.peak))]
 
 
@@ -396,10 +416,11 @@ def is_beginning(output: bytes, wanted: Answer) -> bool:
     return begins(output, wanted.output) or output == wanted.output
 
 
-def without_memory(shim: Shim, program: Program, name: str, texts: Tuple[bytes, bytes], is_from: bool) -> List[Outcome]:
+def without_memory(shim: Shim, words: List[str], program: Program, name: str, texts: Tuple[bytes, bytes], is_from: bool) -> List[Outcome]:
     """Each growth refused: out of memory, behind a beginning of what is written; or the answer, where the library tries again."""
     at, faults, refusals = Folder(program), [], 0
-    words, wanted = ["diff", at.put("one", texts[0]), at.put("other", texts[1])], answer_of(*texts)
+    wanted, how = in_form(words, answer_of(*texts)), spoken(words)
+    words = [*words, at.put("one", texts[0]), at.put("other", texts[1])]
     ample, (count, _, _, _) = shim.run(program, words, b"")
     faults += [] if ample == wanted else ["with ample memory: {}".format(shown(ample))]
     for growth in range(1, count + 2):
@@ -409,15 +430,15 @@ def without_memory(shim: Shim, program: Program, name: str, texts: Tuple[bytes, 
         if not is_lack and not (got == wanted and not (refused and is_from)):
             faults.append("growth {}: {}".format(growth, shown(got)))
     faults += [] if refusals else ["no growth was refused"]
-    at.said("{}, growths refused{} ({} of {})".format(name, " from one on" if is_from else "", refusals, count), first(faults))
+    at.said("{} by {}, growths refused{} ({} of {})".format(name, how, " from one on" if is_from else "", refusals, count), first(faults))
     return at.outcomes
 
 
-def by_device(shim: Shim, program: Program, name: str, texts: Tuple[bytes, bytes]) -> List[Outcome]:
+def by_device(shim: Shim, form: List[str], program: Program, name: str, texts: Tuple[bytes, bytes]) -> List[Outcome]:
     """Calls that read one of the reports or write, a byte a call: each fails, is interrupted or would block, behind all that is told of what came; or no more
     comes. The first report is standard input, and the second the first descriptor that is free."""
     at, faults, runs = Folder(program), [], 0
-    words, wanted = ["diff", "-", at.put("other", texts[1])], answer_of(*texts)
+    words, wanted = [*form, "-", at.put("other", texts[1])], in_form(form, answer_of(*texts))
     for on, text in ((FIRST, texts[0]), (SECOND, texts[1]), (OUTPUT, wanted.output)):
         # (an input is read up to a call that gives nothing)
         many = len(text) + (on != OUTPUT)
@@ -432,29 +453,31 @@ def by_device(shim: Shim, program: Program, name: str, texts: Tuple[bytes, bytes
                 if on == OUTPUT:
                     answers = [fault("write")._replace(output=came)]
                 elif how == "zero":
-                    answers = [answer_of(*beside), wanted]
+                    answers = [in_form(form, answer_of(*beside)), wanted]
                 else:
-                    answers = [fault("read")._replace(output=model_diff.early(*beside))]
+                    answers = [fault("read")._replace(output=as_asked(form, model_diff.early(*beside)))]
                 if got not in answers:
                     faults.append("{} at call {} on {}: {}".format(how, call, on, shown(got)))
-    at.said("{}, devices that fail ({} runs)".format(name, runs), first(faults))
+    at.said("{} by {}, devices that fail ({} runs)".format(name, spoken(form), runs), first(faults))
     return at.outcomes
 
 
 def jobs(programs: List[Program]) -> List[Job]:
     whole = programs[0]
-    made: List[Job] = [partial(in_memory, whole), partial(past_the_limit, whole), *(partial(in_time, whole, it) for it in range(3)), partial(kinds, range(DRAWN))]
-    made += [partial(of_model, it) for it in refusals()]
+    made: List[Job] = [partial(it, words, whole) for words in FORMS for it in (in_memory, past_the_limit)]
+    made += [*(partial(in_time, whole, it) for it in range(3)), partial(kinds, range(DRAWN)), *(partial(of_model, it) for it in refusals())]
     for program in programs:
-        made += [partial(it, program) for it in (by_hand, stalled, by_fifos, outputs, refused_at_the_end)]
+        made += [partial(it, program) for it in (by_hand, by_fifos)] + [partial(it, words, program) for words in FORMS for it in (stalled, outputs, refused_at_the_end)]
         for start in (0, days.first_seed()) if program is whole else (0,):
             made += [partial(lot, program, "pairs of reports side by side", of_pair, range(at, at + DRAWN // 2)) for at in (start, start + DRAWN // 2)]
-            made.append(partial(lot, program, "pairs of reports that come in pieces", in_pieces, range(start, start + IN_PIECES)))
+            for words in FORMS:
+                made.append(partial(lot, program, "pairs of reports that come in pieces, by {},".format(spoken(words)), partial(in_pieces, words), range(start, start + IN_PIECES)))
     device, refuse = Shim("device", 1), Shim("refuse", 4)
     lacking = device.lacking() or refuse.lacking()
     if lacking:
         return [*made, partial(skipped, "failing devices and out of memory, of two reports", lacking)]
-    for name, *texts in pairs_that_fail():
-        made += [partial(without_memory, refuse, whole, name, texts, is_from) for is_from in (False, True)]
-        made.append(partial(by_device, device, whole, name, texts))
+    for words in FORMS:
+        for name, *texts in pairs_that_fail():
+            made += [partial(without_memory, refuse, words, whole, name, texts, is_from) for is_from in (False, True)]
+            made.append(partial(by_device, device, words, whole, name, texts))
     return made

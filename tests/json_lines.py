@@ -75,6 +75,21 @@ def meant(line: str) -> Pairs:
     return [("kind", word), *facts(line[len(word):])]
 
 
+def string(text: str) -> str:
+    """A string of JSON: a quotation mark and a backslash behind a backslash, and what is not printable as its number."""
+    return '"{}"'.format("".join("\\" + it if it in '"\\' else it if " " <= it <= "~" else "\\u{:04x}".format(ord(it)) for it in text))
+
+
+def value(of: Any) -> str:
+    return string(of) if isinstance(of, str) else str(of).lower() if isinstance(of, bool) else str(of)
+
+
+def objects(text: bytes) -> bytes:
+    """The objects of the lines of a text, byte by byte."""
+    each = [meant(line.decode("latin-1")) for line in text.split(b"\n") if line]
+    return "".join("{{{}}}\n".format(",".join("{}:{}".format(string(key), value(it)) for key, it in pairs)) for pairs in each).encode()
+
+
 def of_text(text: bytes, lines: bytes) -> Optional[str]:
     """How objects differ from those of the lines of a text, if they do."""
     if lines and not lines.endswith(b"\n") or not lines.isascii():

@@ -1,7 +1,6 @@
 """Traces of version 3 that are replayed while they come: what `serial` and `run` write before a fault, that no line waits for more of the input, and that its
 memory does not grow with the trace. All else writes nothing before its whole output is there."""
 import hashlib
-import json
 import os
 import random
 import subprocess
@@ -311,8 +310,8 @@ class Long(NamedTuple):
 
     def objects(self, count: int) -> Iterator[bytes]:
         """The objects of these lines."""
-        parts = [objects_of(b"0" + self.facts(number)).partition(b'"place":0') for number in range(self.pieces())]
-        yield objects_of(b"uring-report 2\n")
+        parts = [json_lines.objects(b"0" + self.facts(number)).partition(b'"place":0') for number in range(self.pieces())]
+        yield json_lines.objects(b"uring-report 2\n")
         for at in range(0, count, len(parts)):
             yield b"".join(b'%s"place":%d%s' % (before, place, behind) for place, (before, _, behind) in zip(range(at + 1, count + 1), parts))
 
@@ -321,11 +320,6 @@ class Long(NamedTuple):
         data = b"".join((b"%d, " % it * self.step)[: self.step] for it in range(self.size // self.step))
         told = " sum={}".format(hashlib.sha256(data).hexdigest()) if has_sum else ""
         return "tree\nfile /a node=1 size={}{}\nslots\nslot 0 0 desc=0 node=1 pos=0\nbuffers\nend\n".format(self.size, told).encode()
-
-
-def objects_of(lines: bytes) -> bytes:
-    """The objects of some lines."""
-    return b"".join(json.dumps(dict(json_lines.meant(it.decode())), separators=(",", ":")).encode() + b"\n" for it in lines.splitlines())
 
 
 class Summed(Fed):
@@ -356,7 +350,7 @@ def streamed(program: Program, words: Words, what: Long, count: int) -> Tuple[Op
         fed.give(last)
         got = fed.end()
     wanted, end = hashlib.sha256(), what.end("--sums" in words)
-    for lines in chain(what.objects(count), [objects_of(end)]) if "--json" in words else chain(what.lines(count), [end]):
+    for lines in chain(what.objects(count), [json_lines.objects(end)]) if "--json" in words else chain(what.lines(count), [end]):
         wanted.update(lines)
     is_well = got == Answer(0, b"", b"") and fed.sum.digest() == wanted.digest()
     return None if is_well else "{}, and {} bytes of another sum".format(shown(got), fed.count), peak

@@ -7,7 +7,7 @@ use Rattle.replay_program.specs.declared.fault.RunFault.{RunFault}
 use Rattle.replay_program.specs.declared.fault.RunFault.TheVariants.{Trace, Replay, Reports, Read, Write, Different}
 use Rattle.replay_program.specs.declared.fault.ReportsFault.TheVariants.{Refused, TooLong, Memory}
 use Rattle.json_lines.specs.declared.form.Form.{Form}
-use Rattle.replay_program.specs.Diffs.{ComparesReports, ComparesTwoReports, TellsOfText, TellsOfTwoReports, WritesDifferencesPart, WritesPartOfTwo}
+use Rattle.replay_program.specs.Diffs.{ComparesReports, TellsOfText, TellsOfTwoReports, WritesDifferencesPart}
 use Rattle.replay_program.specs.Runs.{writes_failed}
 use Rattle.byte_transfer.specs.Transfer.{AppendsPart, ConsumesUpTo}
 
@@ -16,12 +16,6 @@ pub part : (form : Form) (left left' written written' : Option (List ℕ)) (comp
     → AppendsPart written written' bytes → WritesDifferencesPart form left left' written written'
 part form left left' written written' comparison bytes found text wrote =
     record { input = found.input; read = found.read; wrote = subst (AppendsPart written written') (text ∙ found.text) wrote }
-
--- the same of the text of two readers
-pub part_of_two : (form : Form) (left left' more more' written written' : Option (List ℕ)) (comparison : Comparison) (bytes : List ℕ) → ComparesTwoReports form left left' more more' comparison → bytes ≡ comparison.text.items
-    → AppendsPart written written' bytes → WritesPartOfTwo form left left' more more' written written'
-part_of_two form left left' more more' written written' comparison bytes found text wrote =
-    record { first = found.first; second = found.second; read = found.read; wrote = subst (AppendsPart written written') (text ∙ found.text) wrote }
 
 -- a fault of the first text, before the second was asked for, and of the second
 pub tells_first : (left left' more more' : Option (List ℕ)) (f : RunFault) → TellsOfText left left' f → TellsOfTwoReports left left' more more' f

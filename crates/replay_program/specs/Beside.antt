@@ -1,6 +1,7 @@
 -- The model: what a comparison of two reports that are read side by side does to its readers and its writer.
 use Rattle.std.specs.Prelude.{ℕ, false, List, Option}
 use Rattle.diff_stream.specs.Compared.{WritesComparison, WritesRefused, WritesSome}
+use Rattle.json_lines.specs.declared.form.Form.{Form}
 use Rattle.diff_stream.specs.declared.fault.CompareFault.{CompareFault}
 use Rattle.diff_stream.specs.declared.fault.CompareFault.TheVariants as compare
 use Rattle.replay_program.specs.declared.fault.RunFault.{RunFault}
@@ -14,13 +15,13 @@ compare_told compare.Memory = Reports Memory
 compare_told compare.Read = Read
 compare_told compare.Write = Write
 
--- What was written before a fault: the whole text where the reports differ; what is told early of them where they are refused; else a beginning of what the bytes so far tell.
-abbrev pub DiffUpTo : (left left' more more' written written' : Option (List ℕ)) → RunFault → Type 0
-DiffUpTo left left' more more' written written' Different = WritesComparison left left' more more' written written' false
-DiffUpTo left left' more more' written written' (Reports (Refused why)) = WritesRefused why left left' more more' written written'
-DiffUpTo left left' more more' written written' (Reports Memory) = WritesSome left left' more more' written written'
-DiffUpTo left left' more more' written written' (Reports TooLong) = ⊥
-DiffUpTo left left' more more' written written' Read = WritesSome left left' more more' written written'
-DiffUpTo left left' more more' written written' Write = WritesSome left left' more more' written written'
-DiffUpTo left left' more more' written written' (Trace f) = ⊥
-DiffUpTo left left' more more' written written' (Replay f) = ⊥
+-- What was written, in this form, before a fault: the whole text where the reports differ; what is told early of them where they are refused; else a beginning of what the bytes so far tell.
+abbrev pub DiffUpTo : Form → (left left' more more' written written' : Option (List ℕ)) → RunFault → Type 0
+DiffUpTo form left left' more more' written written' Different = WritesComparison form left left' more more' written written' false
+DiffUpTo form left left' more more' written written' (Reports (Refused why)) = WritesRefused form why left left' more more' written written'
+DiffUpTo form left left' more more' written written' (Reports Memory) = WritesSome form left left' more more' written written'
+DiffUpTo form left left' more more' written written' (Reports TooLong) = ⊥
+DiffUpTo form left left' more more' written written' Read = WritesSome form left left' more more' written written'
+DiffUpTo form left left' more more' written written' Write = WritesSome form left left' more more' written written'
+DiffUpTo form left left' more more' written written' (Trace f) = ⊥
+DiffUpTo form left left' more more' written written' (Replay f) = ⊥

@@ -75,11 +75,11 @@ pub record ReadsTwo (left left' more more' : Option (List ℕ)) (first second : 
   pub reports : refusal_of_two first second ≡ None
 
 -- The two reports compare so.
-pub record ComparesTwoReports (form : Form) (left left' more more' : Option (List ℕ)) (comparison : Comparison) : Type 0 where
+pub record ComparesTwoReports (left left' more more' : Option (List ℕ)) (comparison : Comparison) : Type 0 where
   pub first : List ℕ
   pub second : List ℕ
   pub read : ReadsTwo left left' more more' first second
-  pub text : comparison.text.items ≡ written_as form (differences_of_two first second)
+  pub text : comparison.text.items ≡ differences_of_two first second
   pub decided : comparison.alike ≡ are_alike_of_two first second
 
 -- Both were read to their ends, and what they had left are not two reports, for this reason.
@@ -89,21 +89,6 @@ pub record ReadsNoTwo (left left' more more' : Option (List ℕ)) (why : Refusal
   pub one : ReadsAll left left' first
   pub other : ReadsAll more more' second
   pub refused : refusal_of_two first second ≡ Some (refusal_text why)
-
--- Both were read to their ends, and the writer took the whole text of the comparison in this form, and nothing else.
-pub record WritesDifferencesOfTwo (form : Form) (alike : Bool) (left left' more more' written written' : Option (List ℕ)) : Type 0 where
-  pub first : List ℕ
-  pub second : List ℕ
-  pub read : ReadsTwo left left' more more' first second
-  pub wrote : Appends written written' (written_as form (differences_of_two first second))
-  pub decided : are_alike_of_two first second ≡ alike
-
--- Both were read to their ends, and the writer took the first bytes of the text, but not all.
-pub record WritesPartOfTwo (form : Form) (left left' more more' written written' : Option (List ℕ)) : Type 0 where
-  pub first : List ℕ
-  pub second : List ℕ
-  pub read : ReadsTwo left left' more more' first second
-  pub wrote : AppendsPart written written' (written_as form (differences_of_two first second))
 
 -- What a fault tells of both readers.
 abbrev pub TellsOfTwoReports : (left left' more more' : Option (List ℕ)) → RunFault → Type 0

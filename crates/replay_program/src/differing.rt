@@ -3,8 +3,7 @@ ghost use Rattle.std.specs.Prelude.{◌≡◌, ◌≢◌, ◌+◌, ◌-◌, ◌^
 ghost use Rattle.std.specs.Io.KnownBytes.{Keeps};
 ghost use Rattle.replay_program.specs.Diffs.{ComparesReports, TellsOfReports, WritesDifferences};
 ghost use Rattle.replay_program.specs.Diffs.{ComparesTwoReports, ReadsAll, TellsOfText};
-ghost use Rattle.replay_program.specs.Diffs.{TellsOfTwoReports, WritesDifferencesOfTwo};
-ghost use Rattle.replay_program.specs.Diffs.{WritesDifferencesPart, WritesPartOfTwo};
+ghost use Rattle.replay_program.specs.Diffs.{TellsOfTwoReports, WritesDifferencesPart};
 ghost use Rattle.replay_program.specs.Runs.{most_taken, read_failures, write_failures};
 ghost use Rattle.json_lines.specs.Forms.{written_as};
 ghost use Rattle.byte_transfer.specs.Transfer.{ConsumesUpTo};
@@ -105,61 +104,15 @@ fn comparison_as(alloc: Global, form: Form, comparison: Comparison) -> Result<Co
     }
 }
 
-/// Reads two reports, each from a reader of its own, compares them and writes where they differ.
-/// Nothing is written before the whole text is there, and the run ends at the first failure of a
-/// side.
-///
-/// # Errors
-///
-/// As those of [`run_diff`].
-pub fn run_diff_of_two<R: Source, S: Source, W: Sink>(
-    alloc: Global,
-    first: &mut R,
-    second: &mut S,
-    writer: &mut W,
-    form: Form,
-) -> Result<(), RunFault>
-    requires first { R.failures first.old < 2 ^ 64 - 1 }
-    requires second { S.failures second.old < 2 ^ 64 - 1 }
-    requires writer { W.failures writer.old < 2 ^ 64 - 1 }
-
-    // The text is the one of the two reports that the bytes of both readers are.
-    ensures alike { OnOk result (WritesDifferencesOfTwo form true (R.left first.old)
-        (R.left first.new) (S.left second.old) (S.left second.new) (W.written writer.old) (W.written writer.new)) }
-    ensures different { result ≡ Err RunFault.Different
-        → WritesDifferencesOfTwo form false (R.left first.old) (R.left first.new)
-        (S.left second.old) (S.left second.new) (W.written writer.old) (W.written writer.new) }
-    ensures part { result ≡ Err RunFault.Write
-        → WritesPartOfTwo form (R.left first.old) (R.left first.new)
-        (S.left second.old) (S.left second.new) (W.written writer.old) (W.written writer.new) }
-    ensures nothing { IfErr result (λ fault. fault ≢ RunFault.Write → fault ≢ RunFault.Different
-        → Keeps (W.written writer.old) (W.written writer.new)) }
-
-    ensures taken { ConsumesUpTo most_taken (R.left first.old) (R.left first.new)
-        × ConsumesUpTo most_taken (S.left second.old) (S.left second.new) }
-    ensures reading { IfErr result (TellsOfTwoReports (R.left first.old) (R.left first.new)
-        (S.left second.old) (S.left second.new)) }
-    ensures write { W.failures writer.new ≡ W.failures writer.old + write_failures result }
-{
-    let comparison = comparison_of_two(alloc, first, second, form)?;
-    written(writer, comparison.text.as_slice())?;
-    if comparison.alike {
-        Ok(())
-    } else {
-        Err(RunFault::Different)
-    }
-}
-
 /// How the reports that two readers have left compare.
 pub(crate) fn comparison_of_two<R: Source, S: Source>(
     alloc: Global,
     first: &mut R,
     second: &mut S,
-    form: Form,
 ) -> Result<Comparison, RunFault>
     requires first { R.failures first.old < 2 ^ 64 - 1 }
     requires second { S.failures second.old < 2 ^ 64 - 1 }
-    ensures ok { IfOk result (ComparesTwoReports form (R.left first.old) (R.left first.new)
+    ensures ok { IfOk result (ComparesTwoReports (R.left first.old) (R.left first.new)
         (S.left second.old) (S.left second.new)) }
     ensures taken { ConsumesUpTo most_taken (R.left first.old) (R.left first.new)
         × ConsumesUpTo most_taken (S.left second.old) (S.left second.new) }
@@ -172,7 +125,7 @@ pub(crate) fn comparison_of_two<R: Source, S: Source>(
     let one = report_text(alloc, first)?;
     let other = report_text(alloc, second)?;
     match compare_two(alloc, one.as_slice(), other.as_slice()) {
-        Ok(comparison) => comparison_as(alloc, form, comparison),
+        Ok(comparison) => Ok(comparison),
         Err(DiffFault::Refused(why)) => Err(RunFault::Reports(ReportsFault::Refused(why))),
         Err(DiffFault::Memory) => Err(RunFault::Reports(ReportsFault::Memory)),
     }

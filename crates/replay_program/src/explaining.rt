@@ -184,6 +184,6 @@ fn shown_comparison_of_two<T: Source, R: Source, S: Source>(
         (λ fault. (fault ≢ RunFault.Write) × (fault ≢ RunFault.Different)) }
 {
     let trace = taken_any(alloc, trace)?;
-    let comparison = comparison_of_two(alloc, first, second, Form::Text)?;
+    let comparison = comparison_of_two(alloc, first, second)?;
     comparison_shown(alloc, &trace, comparison)
 }

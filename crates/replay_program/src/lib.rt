@@ -23,7 +23,7 @@ pub use byte_transfer::{
     Failed, FromStd, MOST_BYTES, Sink, Source, TextFault, read_text, write_text,
 };
 pub use checking::run_check;
-pub use differing::{run_diff, run_diff_of_two};
+pub use differing::run_diff;
 pub use ending::{Ending, Stream, fault_ending, usage_ending, usage_text};
 pub use explaining::{run_diff_of_two_shown, run_diff_shown};
 pub use fault::{ReportsFault, RunFault};

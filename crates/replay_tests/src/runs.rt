@@ -321,7 +321,7 @@ fn compares_the_reports_of_two_readers(rt: HostRuntime) {
     let mut first = FromStd::new("uring-report 1\n0 user=7 res=4 posted\nend\n".as_bytes());
     let mut second = FromStd::new("uring-report 1\n0 user=7 res=4 silent\nend\n".as_bytes());
     let mut writer = FromStd::new(Vec::new(alloc));
-    let done = run_diff_beside(alloc, &mut first, &mut second, &mut writer);
+    let done = run_diff_beside(alloc, &mut first, &mut second, &mut writer, Form::Text);
     assert_eq!(rt; done, Err(RunFault::Different));
     let text = "- 0 user=7 res=4 posted\n\
         + 0 user=7 res=4 silent\n\

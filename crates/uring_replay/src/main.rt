@@ -14,8 +14,8 @@ use crate::output::{Output, ended, ended_making, output_of};
 use crate::trouble::{Trouble, shown};
 use replay_program::{
     Files, Form, FromStd, Mode, Options, Request, RunFault, Task, Usage, no_memory, not_text,
-    read_words, run, run_check, run_diff, run_diff_beside, run_diff_of_two, run_diff_of_two_shown,
-    run_diff_shown, run_make, run_report, run_show,
+    read_words, run, run_check, run_diff, run_diff_beside, run_diff_of_two_shown, run_diff_shown,
+    run_make, run_report, run_show,
 };
 use std::alloc::AllocError;
 use std::env;
@@ -236,10 +236,7 @@ fn compared_apart<'a>(
     let mut writer = FromStd::new(output_of(rt, output, &[&first, &second])?);
     let mut first = FromStd::new(first);
     let mut second = FromStd::new(second);
-    let done = match form {
-        Form::Text => run_diff_beside(rt.alloc(), &mut first, &mut second, &mut writer),
-        Form::Json => run_diff_of_two(rt.alloc(), &mut first, &mut second, &mut writer, form),
-    };
+    let done = run_diff_beside(rt.alloc(), &mut first, &mut second, &mut writer, form);
     ended(writer.stream, done)
 }
 
