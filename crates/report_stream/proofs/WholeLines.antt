@@ -1,6 +1,5 @@
 -- Lines of entries are whole.
-use Rattle.std.proofs.Common.{◌≡◌, ◌∙◌, ◌++◌, [], ◌∷◌, ℕ, List, Option, None, Some, sym, subst}
-use Rattle.std.specs.Prelude.{codes, if◌then◌else◌}
+use Rattle.std.proofs.Common.{◌++◌, [], ◌∷◌, ℕ, List, Option, None, Some, sym, subst}
 use Rattle.std.specs.List.{flat_map, range_with_len}
 use Rattle.json_lines.specs.Forms.{IsWhole}
 use Rattle.json_lines.proofs.Whole.{both_whole, empty_whole, line_whole}
@@ -8,7 +7,7 @@ use Rattle.sqe_codec.specs.Answers.{each}
 use Rattle.trace_records.specs.declared.record.Record.{Record}
 use Rattle.trace_records.specs.declared.start.Start.{Start}
 use Rattle.recording.specs.declared.recording.Recording.{Recording}
-use Rattle.recording.specs.Steps.{Action, Step, fill, register, step_at, submit}
+use Rattle.recording.specs.Steps.{Action, fill, register, step_at, submit}
 use Rattle.op_meaning.specs.declared.reply.Reply.{Reply}
 use Rattle.op_meaning.specs.Step.{sequential_reply}
 use Rattle.stream_laws.specs.Streamed.{recording_of}
