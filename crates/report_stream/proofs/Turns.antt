@@ -93,6 +93,16 @@ module _ (form : Form) where
 pub ends_whole : (a b c : Option (List ℕ)) (text last out : List ℕ) → Appends a b text → out ≡ last → Appends b c out → Appends a c (text ++ last)
 ends_whole a b c text last out wrote is behind = Appends-trans a b c text last wrote (subst (Appends b c) is behind)
 
+pub early_of : (a b : Option (List ℕ)) (text : List ℕ) (f : ReportFault) → IsNotWritten a b text f → EndsEarly a b text f
+early_of a b text Write part = part_of a b text Write part
+early_of a b text Memory part = part_of a b text Memory part
+early_of a b text Read part = absurd part
+early_of a b text (Trace f) part = absurd part
+
+pub last_early : (form : Form) (r : Result (Unit {0}) ReportFault) (a b : Option (List ℕ)) (text last : List ℕ) → text ≡ last → IfErr r (IsNotWritten a b (written_as form text)) → IfErr r (EndsEarly a b (written_as form last))
+last_early form (Ok done) a b text last is part = tt
+last_early form (Err e) a b text last is part = early_of a b (written_as form last) e (subst (λ (x : List ℕ). IsNotWritten a b (written_as form x) e) is part)
+
 pub ends_part : (a b : Option (List ℕ)) (text last : List ℕ) (f : ReportFault) → IsNotWritten a b text f → EndsEarly a b (text ++ last) f
 ends_part a b text last Write part = first_more a b text last (part_of a b text Write part)
 ends_part a b text last Memory part = first_more a b text last (part_of a b text Memory part)
@@ -141,10 +151,7 @@ part_stops form b c v u s text Memory takes part = (takes, part_of v u (written_
 part_stops form b c v u s text Read takes part = absurd part
 part_stops form b c v u s text (Trace f) takes part = absurd part
 
--- the whole text moves, or none of it
-pub moves_all : (form : Form) (v u : Option (List ℕ)) (text empty : List ℕ) → Appends v u (written_as form text) → empty ≡ [] → Moves form v u text empty
-moves_all form v u text empty wrote none = (text, wrote, sym (ap (λ (x : List ℕ). text ++ x) none ∙ append-nil text), λ whole. whole)
-
+-- none of the text moves
 pub moves_none : (form : Form) (v : Option (List ℕ)) (text : List ℕ) → Moves form v v text text
 moves_none form v text = ([], nothing_out form v, refl, λ whole. empty_whole)
 

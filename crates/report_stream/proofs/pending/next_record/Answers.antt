@@ -2,8 +2,11 @@ use Rattle.std.proofs.Common.{[], Ok, ap, subst}
 use Rattle.std.proofs.KnownBytes.{Consumes-nil}
 use Rattle.trace_stream.specs.Streams.{GivesFault}
 use Rattle.trace_stream.specs.declared.stream.Stream.{Stream}
-use Rattle.report_stream.proofs.Turns.{told_stops}
+use Rattle.report_stream.proofs.Turns.{moves_none, told_stops}
 use Rattle.report_stream.proofs.pending.next_record.Goals as goal
+
+pub returns-in-Ok-Some-clause-moves : goal.returns-in-Ok-Some-clause-moves
+returns-in-Ok-Some-clause-moves g c = moves_none c.args.form _ c.args.text.now.items
 
 pub returns-in-Err-clause-err : goal.returns-in-Err-clause-err
 returns-in-Err-clause-err g c =
