@@ -115,8 +115,12 @@ impl Blob {
         })
     }
 
-    /// So many bytes of a text, from a place on.
-    pub(crate) fn part(text: &Text, from: u64, len: usize) -> Result<Self, AllocError>
+    /// So many bytes of a text, from a place on, none of which is copied.
+    ///
+    /// # Errors
+    ///
+    /// `AllocError` where the text has too many owners.
+    pub fn part(text: &Text, from: u64, len: usize) -> Result<Self, AllocError>
         requires { len ≤ length (drop from text.now.value.items) }
         ensures { IfOk result (λ blob. blob ≡ take len (drop from text.now.value.items)) }
     {

@@ -14,6 +14,9 @@ use std::marker::Model;
 use std::mem;
 use std::sync::Arc;
 
+/// How many bytes of a text an entry has without those beside it: its 64, and a length.
+const FIELDS: usize = 68;
+
 /// Where a text has an entry, and what is behind its fields.
 #[derive(Clone, Copy)]
 pub(crate) struct Spot {
@@ -116,6 +119,21 @@ impl EntriesBuilder {
             text: Vec::new(alloc),
             spots: Vec::new(alloc),
         }
+    }
+
+    /// No entries, with room for so many, which have so many bytes beside them in all.
+    ///
+    /// # Errors
+    ///
+    /// `AllocError` where an allocation was refused.
+    pub fn with_room(alloc: Global, count: usize, bytes: usize) -> Result<Self, AllocError>
+        ensures { IfOk result (λ e. e ≡ []) }
+    {
+        let fields = count.saturating_mul(FIELDS);
+        Ok(EntriesBuilder {
+            text: Vec::with_capacity(alloc, fields.saturating_add(bytes))?,
+            spots: Vec::with_capacity(alloc, count)?,
+        })
     }
 
     /// Adds an entry of these fields, with these bytes beside it.
