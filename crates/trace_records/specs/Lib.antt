@@ -1,6 +1,7 @@
 pub mod Fields
 pub mod Start
 pub mod Front
+pub mod Found
 pub mod Records
 pub mod Whole
 pub mod Spelling

@@ -13,8 +13,8 @@
 //! the first fault in reading order. No later byte changes a fault, but that the text is too short.
 //! [`write_start`], [`write_record`] and [`write_end`] write the parts, [`write_trace`] all.
 //!
-//! Not served yet, and refused as out of range at their field: symbolic links, the records that
-//! set and seek (kinds 3 and 4), and entries with a given result (forms 2 and 3).
+//! Not served yet, and refused as out of range at their field: symbolic links, and the records that
+//! set and seek (kinds 3 and 4).
 #![tactic(auto)]
 
 mod counting;
@@ -22,6 +22,7 @@ mod descriptions;
 mod entries;
 mod fault;
 mod fills;
+mod found;
 mod front;
 mod header;
 mod items;
