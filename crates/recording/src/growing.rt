@@ -40,11 +40,29 @@ fn push_entry(alloc: Global, entries: &mut EntriesBuilder, entry: &Entry) -> Res
     }
 }
 
+/// How many bytes stand beside an entry.
+fn len_beside(beside: &Beside) -> usize {
+    match beside {
+        Beside::Stored { bytes } => bytes.as_slice().len(),
+        Beside::Zeros { len, .. } => *len as usize,
+        Beside::Given { .. } => 0,
+    }
+}
+
+/// How many bytes stand beside entries.
+fn len_beside_all(entries: &[Entry]) -> usize {
+    let mut len = 0usize;
+    for entry in entries {
+        len = len.saturating_add(len_beside(&entry.beside));
+    }
+    len
+}
+
 /// The entries of a record.
 fn entries_of(alloc: Global, entries: &[Entry]) -> Result<Entries, AllocError>
     ensures { IfOk result (λ e. e ≡ map meant.submitted entries.now) }
 {
-    let mut made = EntriesBuilder::new(alloc);
+    let mut made = EntriesBuilder::with_room(alloc, entries.len(), len_beside_all(entries))?;
     for entry in entries {
         push_entry(alloc, &mut made, entry)?;
     }
