@@ -105,6 +105,15 @@ impl Replies {
         }
     }
 
+    /// Forgets all replies. The memory that they took is kept for others.
+    pub fn clear(&mut self)
+        ensures { self.new ≡ [] }
+    {
+        self.lines.clear();
+        self.copied.clear();
+        self.lists.clear();
+    }
+
     /// How many replies there are.
     pub fn len(&self) -> usize
         ensures { result ≡ length self.now }
