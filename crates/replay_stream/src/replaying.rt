@@ -81,31 +81,33 @@ fn add_new_ring(recording: &Recording, ring: usize, state: &mut State) -> Result
     Ok(())
 }
 
-/// Runs the places from the first one on in recorded order, and gives their replies.
+/// Runs the places from the first one on in recorded order, and puts their replies in the place of
+/// others.
 fn replies_from(
     alloc: Global,
     recording: &Recording,
     first: u32,
     state: &mut State,
-) -> Result<Replies, AllocError>
+    replies: &mut Replies,
+) -> Result<(), AllocError>
     requires accepted { IsAccepted recording.now }
     requires within { first ≤ places recording.now }
     requires apart { IsApart recording.now first }
     requires chains { chains_ahead recording.now first ≡ first }
     ensures world { OnOk result (state.new
         ≡ world_from recording.now first (places recording.now - first) state.old) }
-    ensures replies { IfOk result (λ replies. replies
+    ensures replies { OnOk result (replies.new
         ≡ replies_from recording.now first (places recording.now - first) state.old) }
 {
     let mut plan = Stretch::ahead_of(alloc, first, first);
-    let mut replies = Replies::new(alloc);
+    replies.clear();
     for place in first..recording.places() {
         if place == plan.end() {
             plan = plan.next(recording, AHEAD)?;
         }
         replies.push(run_on_state(alloc, place, recording, &plan.role(place), state)?)?;
     }
-    Ok(replies)
+    Ok(())
 }
 
 impl Replaying {
@@ -160,7 +162,8 @@ impl Replaying {
         let rings = recording.rings.as_slice().len();
         let recording = recording.with_record(alloc, next)?;
         add_new_ring(&recording, rings, &mut state)?;
-        let replies = replies_from(alloc, &recording, first, &mut state)?;
+        let mut replies = self.replies;
+        replies_from(alloc, &recording, first, &mut state, &mut replies)?;
         Ok(Replaying {
             recording,
             first,
