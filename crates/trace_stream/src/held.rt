@@ -102,6 +102,9 @@ impl Held {
         ensures same { OnOk result (self.new ≡ self.old) }
         ensures bound { self.new.place + length self.new.rest < 2 ^ 63 }
     {
+        if self.used == 0 {
+            return Ok(());
+        }
         let mut bytes = Vec::new(alloc);
         bytes.extend_from_slice(&self.bytes[self.used..])?;
         self.bytes = bytes;
