@@ -106,10 +106,7 @@ fn stored_of<'a>(
 }
 
 #[tactic(auto, unfolding(crate::specs::Records::zeros))]
-fn zeros_of<'a>(
-    sqe: &Sqe,
-    source: Source<'a>,
-) -> Result<(Found<'a>, Source<'a>), ReadError>
+fn zeros_of<'a>(sqe: &Sqe, source: Source<'a>) -> Result<(Found<'a>, Source<'a>), ReadError>
     requires { may_be_zeros sqe.now ≡ true }
     ensures { Gives with_rest result (reading_from source.entry (zeros sqe.now)) }
 {

@@ -1,5 +1,5 @@
 //! Entries where a text has them: the bytes beside them are copied once all are read.
-ghost use Rattle.std.specs.Prelude.{◌≡◌, ◌+◌, ◌≤◌, length, map, take, drop, IfOk};
+ghost use Rattle.std.specs.Prelude.{◌≡◌, ◌≤◌, length, take, drop, IfOk};
 ghost use Rattle.std.specs.List.{flat_map};
 ghost use Rattle.trace_records.specs.Found.{copied, copied_of};
 ghost use Rattle.trace_records.specs.declared.record.Beside.TheVariants as beside;
