@@ -15,11 +15,11 @@ use Rattle.world_parts.proofs.broken.Flag.TheSendSync as flag
 
 inside_send : IsSend Inside.the_row
 inside_send = recorded_send Inside.the_field.row _ _ Inside.the_type.to_one (struct_send (Struct.shape Inside.the_type)
-    (tree_send, (descriptions.the_send, (slots.the_send, (descriptors.the_send, (buffers_send, (search (flag.the_send, flag.the_sync, crosses, sendable) depth 20, tt)))))))
+    (tree_send, (descriptions.the_send, (slots.the_send, (descriptors.the_send, (buffers_send, (search (flag.the_send, flag.the_sync, crosses, sendable) depth 20, (search (crosses, sendable) depth 20, tt))))))))
 
 inside_sync : IsSync Inside.the_row
 inside_sync = recorded_sync Inside.the_field.row _ _ Inside.the_type.to_one (struct_sync (Struct.shape Inside.the_type)
-    (tree_sync, (descriptions.the_sync, (slots.the_sync, (descriptors.the_sync, (buffers_sync, (search (flag.the_send, flag.the_sync, crosses, sendable) depth 20, tt)))))))
+    (tree_sync, (descriptions.the_sync, (slots.the_sync, (descriptors.the_sync, (buffers_sync, (search (flag.the_send, flag.the_sync, crosses, sendable) depth 20, (search (crosses, sendable) depth 20, tt))))))))
 
 state_send : IsSend State.the_row
 state_send = search (inside_send, crosses, sendable) depth 20

@@ -29,6 +29,7 @@ impl State {
             descriptors: Descriptors::new(alloc),
             buffers: Buffers::new(alloc),
             broken: IndexMap::new(alloc),
+            shares_texts: true,
         }
     }
 

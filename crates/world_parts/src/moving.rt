@@ -84,7 +84,7 @@ impl State {
     }
 
     /// Writes bytes of a text into a file from `at` on, as [`State::write`] does. Many share the
-    /// text.
+    /// text, where texts are shared.
     ///
     /// # Errors
     ///
@@ -100,7 +100,7 @@ impl State {
         ensures { OnOk result
             (self.new ≡ apply (world.write_bytes node at (sliced bytes.entry)) self.old) }
     {
-        if !are_shared(bytes.len() as u64, 0, at) {
+        if !self.shares_texts || !are_shared(bytes.len() as u64, 0, at) {
             return self.write(node, at, bytes.as_slice());
         }
         let part = Extents::of_text(alloc, bytes.text, bytes.from, bytes.len(), at)?;
@@ -125,7 +125,7 @@ impl State {
     }
 
     /// Writes bytes of a trace over those of a registered buffer of a ring from `at` on, as
-    /// [`State::write_buffer`] does. Many share the trace's text.
+    /// [`State::write_buffer`] does. Many share the trace's text, where texts are shared.
     ///
     /// # Errors
     ///
@@ -141,7 +141,7 @@ impl State {
             (self.new ≡ apply (world.write_buffer ring index at bytes.now) self.old) }
     {
         match bytes.slice() {
-            Some(bytes) if are_shared(bytes.len() as u64, 0, at) => {
+            Some(bytes) if self.shares_texts && are_shared(bytes.len() as u64, 0, at) => {
                 self.buffers.write_text(ring, index, at, bytes)
             }
             _ => self.write_buffer(ring, index, at, bytes.as_slice()),

@@ -185,6 +185,7 @@ impl State {
             descriptors: Descriptors::new(alloc),
             buffers: Buffers::new(alloc),
             broken: IndexMap::new(alloc),
+            shares_texts: true,
         }
     }
 

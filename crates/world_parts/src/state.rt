@@ -37,6 +37,8 @@ pub struct State {
     pub(crate) descriptors: Descriptors,
     pub(crate) buffers: Buffers,
     pub(crate) broken: IndexMap<u32, Flag>,
+    // Whether files and buffers may share the texts of a trace. Of a trace that goes they hold copies.
+    pub(crate) shares_texts: bool,
 }
 
 impl Model for State {
@@ -60,6 +62,14 @@ impl Model for State {
 }
 
 impl State {
+    /// From here on bytes of a trace are copied into files and buffers. None of them shares a text
+    /// then, so that a text takes memory no longer than it is there itself.
+    pub fn copy_texts(&mut self)
+        ensures { self.new ≡ self.old }
+    {
+        self.shares_texts = false;
+    }
+
     /// The open file description that a registered file of a ring holds.
     #[inline(always)]
     pub fn slot(&self, ring: u32, number: u32) -> Option<u32>
