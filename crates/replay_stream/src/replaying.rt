@@ -121,7 +121,8 @@ impl Replaying {
         ensures { IfOk result (HasRun start []) }
     {
         let recording = Recording::of_start(alloc, start)?;
-        let state = State::of(alloc, &recording)?;
+        let mut state = State::of(alloc, &recording)?;
+        state.copy_texts();
         let room = room_above(&state, made_in(&state));
         Ok(Replaying {
             recording,
