@@ -36,7 +36,6 @@ PLAIN = (
     "docs/JSON.md",
     "docs/LINUX.md",
     "docs/MODEL.md",
-    "docs/NEXT.md",
     "docs/PERFORMANCE.md",
     "docs/PLAYING.md",
     "docs/PROFILE.md",

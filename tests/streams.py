@@ -18,7 +18,7 @@ import record_traces
 from harness import TOP, Answer, Job, Outcome, Program, Words, difference, ended, fault, first, read, refused, short, shown, spoken
 from records import lot
 from shown import named
-from traces import FIXED_FILE, READ, WRITE, entry
+from traces import FIXED_FILE, READ, WRITE, description, entry
 
 # How many fronts of drawn traces are tried, in how many lots, and with which words.
 FRONTS, LOTS = 3_000, 6
@@ -372,8 +372,7 @@ BOUNDED = (
     Bounded("1,000,000 reads of 512 bytes of 1 MiB", Long("read", 512, 512, 1 << 20), ["serial"], 1_000_000, 16_000),
     Bounded("1,000,000 reads of 512 bytes of 1 MiB, as objects", Long("read", 512, 512, 1 << 20), ["serial", "--json"], 1_000_000, 16_000),
     Bounded("8,192 writes of 64 KiB over 8 MiB", Long("write", 1 << 16, 1 << 16, 1 << 23), ["serial", "--sums"], 8_192, 80_000),
-    # (all bytes of a write are kept while a page of it is left)
-    Bounded("8,192 writes of 64 KiB over 8 MiB, each 4 KiB behind the one before", Long("write", 1 << 16, 1 << 12, 1 << 23), ["serial"], 8_192, 256_000),
+    Bounded("8,192 writes of 64 KiB over 8 MiB, each 4 KiB behind the one before", Long("write", 1 << 16, 1 << 12, 1 << 23), ["serial"], 8_192, 80_000),
 )
 # How many entries of each are replayed by the second replayer.
 BY_MODEL = 40
@@ -400,12 +399,38 @@ def in_memory(program: Program, bounded: Bounded) -> List[Outcome]:
     return [Outcome(label.format("the memory of"), None if is_well else "it takes {} KiB, and {} KiB for {} times the entries".format(*peaks, TIMES))]
 
 
+# How many records leave one page each in a file, and 1 MB over the bytes of the one before in another; and the most KiB.
+RECORDS, PAGE, MOST = 400, 4096, 40_000
+
+
+def leaving_a_page(number: int) -> bytes:
+    page = entry(WRITE, FIXED_FILE, 0, offset=number * PAGE, length=PAGE, side=bytes([1 + number % 250]) * PAGE, user_data=number)
+    others = [entry(WRITE, FIXED_FILE, 1, length=1 << 16, side=bytes([1 + it]) * (1 << 16), user_data=it) for it in range(16)]
+    return record_traces.enter(0, [record_traces.stored(it) for it in (page, *others)])
+
+
+def pages_alone(program: Program) -> List[Outcome]:
+    """What is left of a record in the world takes its own memory, and not that of the record."""
+    files = record_traces.file(b"/a", 0) + record_traces.file(b"/b", 0) + description(1) + description(2)
+    slots = [(it, (record_traces.DESCRIPTION, 0, it)) for it in range(2)]
+    with Fed(program, ["serial"]) as fed:
+        fed.give(record_traces.head(2, 2) + files + record_traces.ring(2, slots))
+        for number in range(RECORDS):
+            fed.give(leaving_a_page(number))
+        peak = fed.peak()
+        fed.give(record_traces.END)
+        got = fed.end()
+    size = "\nfile /a node=1 size={}\nfile /b node=2 size={}\n".format(RECORDS * PAGE, 1 << 16).encode()
+    is_well = got.status == 0 and size in got.output and peak <= MOST
+    return [Outcome("the memory of {} records of which a page is left, by {}".format(RECORDS, program.compiler), None if is_well else "{}, and {} KiB".format(shown(got), peak))]
+
+
 def jobs(programs: List[Program]) -> List[Job]:
     each = FRONTS // LOTS
     starts = [at + back for back in (0, days.first_seed()) for at in range(0, FRONTS, each)]
     made: List[Job] = [partial(in_memory, programs[0], it) for it in BOUNDED] + [partial(of_model, it) for it in BOUNDED if "--json" not in it.words]
     for program in programs:
-        made += [partial(it, program) for it in (outputs, told_at_once, nothing_before, not_cut)]
+        made += [partial(it, program) for it in (outputs, told_at_once, nothing_before, not_cut, pages_alone)]
         made += [partial(prompt, program, *it) for it in of_sizes()]
         made.append(partial(lot, program, "traces of version 3 that come in pieces", of_pieces, range(IN_PIECES)))
         made += [partial(lot, program, label, tried, range(at, at + each)) for label, tried in (("fronts of traces of version 3", of_front), ("such fronts with --cut", of_cut))
