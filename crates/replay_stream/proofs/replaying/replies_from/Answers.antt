@@ -26,7 +26,7 @@ loop-place-init c =
     let is = c.ahead_of-plan.ensures in
     record {
       state = rw none refl;
-      replies = rw none c.new-replies.ensures;
+      replies = rw none c.clear.ensures;
       stretch = rw is (no_places c.args.recording.now c.args.first c.requires.within c.requires.apart c.requires.chains);
       behind = omega arith;
       from = rw is (omega arith);

@@ -47,5 +47,5 @@ returns c = λ b front run spelled.
     (c.in_ok-recording.ensures ∙ ap (λ t. with_next t c.args.next) c.let_go.ensures)
     (c.places-first.ensures ∙ ap places c.let_go.ensures)
     (ap length c.as_slice-rings.ensures ∙ ap (λ (t : Recording). length t.rings) c.let_go.ensures)
-    (c.in_ok-replies.ensures.world ∙ ap (world_from t first (places t - first)) c.in_ok-add_new_ring.ensures)
-    (c.in_ok-replies.ensures.replies ∙ ap (replies_from t first (places t - first)) c.in_ok-add_new_ring.ensures)
+    (c.in_ok-replies_from.ensures.world ∙ ap (world_from t first (places t - first)) c.in_ok-add_new_ring.ensures)
+    (c.in_ok-replies_from.ensures.replies ∙ ap (replies_from t first (places t - first)) c.in_ok-add_new_ring.ensures)
