@@ -1,5 +1,6 @@
 -- Lines of entries are whole.
 use Rattle.std.proofs.Common.{◌++◌, [], ◌∷◌, ℕ, List, Option, None, Some, sym, subst}
+use Rattle.std.specs.Prelude.{codes}
 use Rattle.std.specs.List.{flat_map, range_with_len}
 use Rattle.json_lines.specs.Forms.{IsWhole}
 use Rattle.json_lines.proofs.Whole.{both_whole, empty_whole, line_whole}
@@ -41,4 +42,4 @@ pub text_whole : (b : Start) (rs : List Record) (shown : Shown) (place : ℕ) (t
 text_whole b rs shown place text is =
     let t = recording_of b (rs ++ []) in
     let lines = lines_in shown in
-    subst IsWhole (sym (is.is [])) (both_whole (title lines) (entry_lines t (sequential_reply t) lines place) (line_whole _) (entries_whole t (sequential_reply t) lines place))
+    subst IsWhole (sym (is.is [])) (both_whole (title lines) (entry_lines t (sequential_reply t) lines place) (line_whole (codes "uring-report 2")) (entries_whole t (sequential_reply t) lines place))
