@@ -98,7 +98,7 @@ fn marks_of(step: &Step<'_>, version: Version, follows: bool) -> Marks
                 fails: (links || follows) && check(entry, version).is_err(),
             }
         }
-        Action::Fill { .. } | Action::Register(_) => Marks {
+        _ => Marks {
             links: false,
             skips: false,
             drains: false,
@@ -126,7 +126,7 @@ fn lone_marks(step: &Step<'_>) -> Option<Marks>
                 fails: false,
             })
         }
-        Action::Fill { .. } | Action::Register(_) => Some(Marks {
+        _ => Some(Marks {
             links: false,
             skips: false,
             drains: false,

@@ -1,9 +1,9 @@
 -- The model: what an entry asks for, or the error that its submission gives, each test in the order in which it is made.
-use Rattle.std.specs.Prelude.{ℕ, ℤ, pos, negsuc, zero, suc, bytes_eq, unwrap_or, Bool, false, not, ◌&&◌, ◌||◌, ◌==◌, ltb, leb, ◌-◌, ◌*◌, ◌%◌, ◌^◌, List, [], ◌∷◌, ◌++◌, length, take, drop, Option, None, Some, Result, Ok, Err, ok_or, bit_or, if◌then◌else◌}
-use Rattle.std.specs.List.{list_any, last_or, find}
+use Rattle.std.specs.Prelude.{ℕ, ℤ, pos, negsuc, zero, suc, unwrap_or, Bool, false, not, ◌&&◌, ◌||◌, ◌==◌, ltb, leb, ◌-◌, ◌*◌, ◌%◌, ◌^◌, List, [], ◌∷◌, ◌++◌, length, take, drop, Option, None, Some, Result, Ok, Err, ok_or, bit_or, if◌then◌else◌}
+use Rattle.std.specs.List.{find}
 use Rattle.std.specs.Option.{option_map}
 use Rattle.sqe_codec.specs.declared.errno.Errno.{Errno}
-use Rattle.sqe_codec.specs.declared.errno.Errno.TheVariants.{ENOENT, EBADF, EINVAL, ENAMETOOLONG, EOPNOTSUPP, Other}
+use Rattle.sqe_codec.specs.declared.errno.Errno.TheVariants.{EBADF, EINVAL, EOPNOTSUPP, Other}
 use Rattle.sqe_codec.specs.declared.sqe.Sqe.{Sqe}
 use Rattle.trace_format.specs.declared.entry.Entry.{Entry}
 use Rattle.trace_format.specs.declared.given.Given.{Given}
@@ -11,7 +11,7 @@ use Rattle.trace_format.specs.declared.given.Given.TheVariants.{Passed, Refused}
 use Rattle.trace_format.specs.declared.version.Version.{Version}
 use Rattle.trace_format.specs.Versions.{rules}
 use Rattle.std.specs.Int.{w16, w32, from_le_bytes, cast_signed, cast_unsigned}
-use Rattle.trace_format.specs.Paths.{components}
+pub use Rattle.trace_records.specs.Opens.{check_path, are_open_flags}
 pub use Rattle.trace_format.specs.Sides.{lengths_in, total, vector_is_short}
 use Rattle.sqe_codec.specs.Answers.{◌>>=◌, ◌>>◌, require}
 pub use Rattle.sqe_codec.specs.Flags.{has, fixed_file, io_drain, io_link, io_hardlink, buffer_select, skip_success}
@@ -23,18 +23,6 @@ old_path side = take (from_le_bytes w16 (take 2 side)) (drop 2 side)
 
 abbrev pub new_path : List ℕ → List ℕ
 new_path side = drop (from_le_bytes w16 (take 2 side)) (drop 2 side)
-
--- `.` and `..` are no components here.
-abbrev pub is_dots : List ℕ → Bool
-is_dots name = bytes_eq name (46 ∷ []) || bytes_eq name (46 ∷ 46 ∷ [])
-
--- The tests of a path.
-abbrev pub check_path : List ℕ → Result (Unit {0}) Errno
-check_path path = do
-  require (not (length path == 0)) ENOENT
-  require (leb (length path) 4095) ENAMETOOLONG
-  require (not (unwrap_or (last_or None path) 0 == 47)) EINVAL
-  require (not (list_any is_dots (components path))) EINVAL
 
 -- A transfer has no flags of its own but those of the version; an operation on paths or slots has no registered file.
 abbrev pub check_transfer_flags : Version → Sqe → Result (Unit {0}) Errno
@@ -68,11 +56,6 @@ path_of d text = record { directory = d; text = text }
 
 abbrev pub open_flags_of : ℕ → OpenFlags
 open_flags_of f = record { access = f % 4; create = has f 64; exclusive = has f 128; truncate = has f 512; append = has f 1024; directory = has f 65536 }
-
--- The tests of openat's flags: no access 3, no bit outside 0x1fdfc3, and no flag that its file_index forbids.
-abbrev pub are_open_flags : ℕ → ℕ → Bool
-are_open_flags f index =
-    not (f % 4 == 3) && (bit_or f 2088899 == 2088899) && not (has f 64 && has f 65536) && not (has f 524288 && not (index == 0)) && not (index == 2 ^ 32 - 1)
 
 -- Whether a signed number is zero.
 abbrev pub is_zero : ℤ → Bool

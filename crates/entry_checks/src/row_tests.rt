@@ -15,6 +15,7 @@ ghost use Rattle.entry_checks.specs.Answer.{check_submission, check_vector};
 use crate::operation::{BufferSpan, FileNumber, Op, OpenAtFlags};
 use sqe_codec::{BUFFER_SELECT, Errno, FIXED_FILE, Sqe, has_flag};
 use trace_format::{TextSlice, Version, vector_total};
+use trace_records::are_open_flags;
 
 // The flags of open(2), as asm-generic/fcntl.h has them.
 const ACCESS: u32 = 0o3;
@@ -28,8 +29,6 @@ const TRUNCATE: u32 = 0o1000;
 const APPEND: u32 = 0o2000;
 
 const DIRECTORY: u32 = 0o200000;
-
-const CLOSE_ON_EXEC: u32 = 0o2000000;
 
 // The flags of statx(2), as linux/fcntl.h has them.
 const EMPTY_PATH: u32 = 0x1000;
@@ -46,9 +45,6 @@ const RESERVED: u32 = 1 << 31;
 
 /// `AT_FDCWD`, the working directory, without its sign.
 const WORKING_DIRECTORY: u32 = 4_294_967_196;
-
-/// All flags that openat takes.
-const OPEN_FLAGS: u32 = 0x1f_dfc3;
 
 /// `IORING_FILE_INDEX_ALLOC`, by which the kernel would choose the slot.
 const ALLOCATED_SLOT: u32 = u32::MAX;
@@ -114,20 +110,11 @@ pub(crate) fn flag_or_none(sqe: &Sqe, flag: u32) -> Result<(), Errno>
     require(sqe.op_flags == 0 || sqe.op_flags == flag, Errno::EINVAL)
 }
 
-/// The flags of openat: an access, no bit that it doesn't take, no file made where a directory is
-/// asked for, no flag for an ordinary descriptor where a slot is named, and no slot that the kernel
-/// would choose.
+/// The flags of openat, by the entry's file index.
 pub(crate) fn open_flags(sqe: &Sqe) -> Result<(), Errno>
     ensures { result ≡ require (are_open_flags sqe.now.op_flags sqe.now.file_index) EINVAL }
 {
-    let flags = sqe.op_flags;
-    let known = flags & ACCESS != 3 && flags | OPEN_FLAGS == OPEN_FLAGS;
-    let agree = !(has_flag(flags, CREATE) && has_flag(flags, DIRECTORY))
-        && !(has_flag(flags, CLOSE_ON_EXEC) && sqe.file_index != 0);
-    require(
-        known && agree && sqe.file_index != ALLOCATED_SLOT,
-        Errno::EINVAL,
-    )
+    require(are_open_flags(sqe.op_flags, sqe.file_index), Errno::EINVAL)
 }
 
 /// A close names a slot or a descriptor, not both.
@@ -191,7 +178,7 @@ pub(crate) fn span_of(sqe: &Sqe) -> BufferSpan
 }
 
 /// The flags of openat that have an effect.
-pub(crate) fn open_flags_of(flags: u32) -> OpenAtFlags
+pub fn open_flags_of(flags: u32) -> OpenAtFlags
     ensures { flags_meant result ≡ open_flags_of flags }
 {
     OpenAtFlags {

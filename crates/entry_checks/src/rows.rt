@@ -8,7 +8,7 @@ ghost use Rattle.entry_checks.specs.Check as table;
 ghost use Rattle.entry_checks.specs.Answer.{answer, checked};
 
 use crate::operation::{Op, PathAt};
-use crate::paths::{check_path, new_path, old_path};
+use crate::paths::{new_path, old_path};
 use crate::row_tests::{
     advised_length, file_closed, file_of, flag_or_none, flags_up_to, has_no_path, new_directory,
     no_registered_file, numbered_slot, open_flags, open_flags_of, slot_of, slot_or_descriptor,
@@ -16,6 +16,7 @@ use crate::row_tests::{
 };
 use sqe_codec::{Errno, Sqe};
 use trace_format::{TextSlice, Version};
+use trace_records::check_path;
 
 // The flags of unlinkat(2) and linkat(2), as linux/fcntl.h has them.
 const REMOVE_DIRECTORY: u32 = 0x200;

@@ -10,6 +10,8 @@ mod records;
 #[cfg(test)]
 mod reports;
 #[cfg(test)]
+mod sets;
+#[cfg(test)]
 mod slices;
 #[cfg(test)]
 mod so_far;

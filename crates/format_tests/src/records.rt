@@ -28,33 +28,33 @@ const READ_FOUR_BYTES: [u8; 202] = [
 ];
 
 /// Where a text is refused for this, and none where it is taken or has another fault.
-fn told_at(alloc: Global, text: &[u8], kind: Kind) -> Option<u64> {
+pub(crate) fn told_at(alloc: Global, text: &[u8], kind: Kind) -> Option<u64> {
     match read_trace(alloc, text) {
         Ok(_) => None,
         Err(fault) => (fault.kind == kind).then_some(fault.at),
     }
 }
 
-fn is_written_whole(alloc: Global) -> Result<bool, AllocError> {
-    match read_trace(alloc, READ_FOUR_BYTES.as_slice()) {
+fn is_written_whole(alloc: Global, bytes: &[u8]) -> Result<bool, AllocError> {
+    match read_trace(alloc, bytes) {
         Ok(trace) => {
             let text = write_trace(alloc, &trace)?;
-            Ok(text.as_slice() == READ_FOUR_BYTES.as_slice())
+            Ok(text.as_slice() == bytes)
         }
         Err(_) => Ok(false),
     }
 }
 
-/// Whether the parts that are read, one after another, are written as they stand there.
-fn is_written_by_parts(alloc: Global) -> Result<bool, AllocError> {
-    let bytes = READ_FOUR_BYTES.as_slice();
+/// Whether the parts that are read, one after another, are written as they stand there: the start,
+/// and so many records, each with one place but the last, which is the end.
+fn is_written_by_parts(alloc: Global, bytes: &[u8], records: u32) -> Result<bool, AllocError> {
     let Ok((start, mut at)) = read_start(alloc, bytes) else {
         return Ok(false);
     };
     let mut text = Vec::new(alloc);
     write_start(&mut text, &start)?;
     let mut front = Front::new(alloc);
-    for _ in 0..3 {
+    for _ in 0..records {
         let Some(rest) = bytes.get(at..) else {
             return Ok(false);
         };
@@ -70,13 +70,17 @@ fn is_written_by_parts(alloc: Global) -> Result<bool, AllocError> {
             None => write_end(&mut text)?,
         }
     }
-    Ok(front.places() == 2 && text.as_slice() == bytes)
+    Ok(front.places().saturating_add(1) == records && text.as_slice() == bytes)
+}
+
+/// Whether a trace with so many records is written as it stands there, whole and by parts.
+pub(crate) fn is_written(alloc: Global, bytes: &[u8], records: u32) -> Result<bool, AllocError> {
+    Ok(is_written_whole(alloc, bytes)? && is_written_by_parts(alloc, bytes, records)?)
 }
 
 #[test]
 fn parts_of_a_trace(rt: HostRuntime) -> Result<(), Fail> {
-    assert!(rt; is_written_whole(rt.alloc())?);
-    assert!(rt; is_written_by_parts(rt.alloc())?);
+    assert!(rt; is_written(rt.alloc(), READ_FOUR_BYTES.as_slice(), 3)?);
     Ok(())
 }
 
@@ -96,7 +100,7 @@ fn a_trace_without_its_end(rt: HostRuntime) {
 }
 
 /// A place, the byte that is put there, and the fault that the trace has then.
-const CASES: [(usize, u8, Kind, u64); 16] = [
+const CASES: [(usize, u8, Kind, u64); 17] = [
     (8, 2, Kind::Version, 8),
     (28, 1, Kind::Limit, 28),
     (32, 4, Kind::Limit, 32),
@@ -104,8 +108,9 @@ const CASES: [(usize, u8, Kind, u64); 16] = [
     (57, 0, Kind::Limit, 57),
     (57, 11, Kind::Limit, 57),
     (71, 2, Kind::Reference, 71),
-    (85, 3, Kind::Limit, 85),
-    (85, 4, Kind::Limit, 85),
+    (85, 3, Kind::Limit, 86),
+    (85, 4, Kind::Limit, 86),
+    (85, 8, Kind::Limit, 85),
     (89, 0, Kind::Reference, 86),
     (98, 4, Kind::Limit, 98),
     (126, 1, Kind::Reference, 126),

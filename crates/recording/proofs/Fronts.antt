@@ -1,16 +1,16 @@
 -- The recording of the records so far goes on by the next record, also where its steps are forgotten.
-use Rattle.std.proofs.Common.{◌≡◌, ℕ, ◌+◌, ◌<◌, List, [], ◌∷◌, ◌++◌, length, map, Some, refl, sym, ap, subst, ◌∙◌, arith, inl, inr, length-append}
+use Rattle.std.proofs.Common.{◌≡◌, ℕ, ◌+◌, ◌<◌, true, List, [], ◌∷◌, ◌++◌, length, map, Some, refl, sym, ap, ◌∙◌, arith, length-append}
 use Rattle.std.specs.List.{slice_get}
 use Rattle.std.proofs.lemmas.List.{length-map}
-use Rattle.std.proofs.lemmas.Option.{slice_get_cases, slice_get_within, same_Some}
+use Rattle.std.proofs.lemmas.Option.{slice_get_within, same_Some}
 use Rattle.trace_format.specs.declared.entry.Entry.{Entry}
 use Rattle.trace_records.specs.Front.{places_of, no_records as no_front}
 use Rattle.trace_records.specs.declared.record.Record.{Record}
-use Rattle.trace_records.specs.declared.record.Record.TheVariants.{Enter, Fill, RingStarts, RingEnds}
+use Rattle.trace_records.specs.declared.record.Record.TheVariants.{Enter, Fill, Set, Seek, RingStarts, RingEnds}
 use Rattle.recording.specs.declared.recording.Recording.{Recording}
 use Rattle.recording.specs.declared.recording.Ring.{Ring}
 use Rattle.recording.specs.Accepted.{IsAccepted}
-use Rattle.recording.specs.Actions.{Step, submit}
+use Rattle.recording.specs.Actions.{Step, submit, is_on_ring}
 use Rattle.recording.specs.Forgotten.{blank, blanks}
 use Rattle.recording.specs.Fronts.{StartIsOfFront, NextIsOfFront, ForgottenIsOfFront, front}
 use Rattle.recording.specs.Growing.{Grown, filling_bytes, grown_in, let_go, no_records, submitted, with_grown, with_record, with_records}
@@ -36,6 +36,8 @@ start_is_of_front s h = record {
 same_rings : (g h : Grown) (r : Record) → g.rings ≡ h.rings → (with_record g r).rings ≡ (with_record h r).rings
 same_rings g h (Enter ring entries) e = e
 same_rings g h (Fill ring buffer offset filling) e = e
+same_rings g h (Set file content) e = e
+same_rings g h (Seek file position) e = e
 same_rings g h (RingStarts ring) e = rw e refl
 same_rings g h (RingEnds ring) e = rw e refl
 
@@ -45,6 +47,8 @@ more_places g (Enter ring entries) =
     let made = kept.Enter ring (map submitted entries) in
     omega (arith, length-append g.steps (record_steps (length g.steps) made), length-record_steps (length g.steps) made, length-map entries submitted)
 more_places g (Fill ring buffer offset filling) = length-append g.steps (record_steps (length g.steps) (kept.Fill ring buffer offset (filling_bytes filling)))
+more_places g (Set file content) = length-append g.steps (record_steps (length g.steps) (kept.Set file content))
+more_places g (Seek file position) = length-append g.steps (record_steps (length g.steps) (kept.Seek file position))
 more_places g (RingStarts ring) = length-append g.steps (record_steps (length g.steps) (kept.Register (length g.rings) ring.full))
 more_places g (RingEnds ring) = omega arith
 
@@ -79,12 +83,9 @@ blank_at count k s here =
 not_an_entry : (k : ℕ) (e : Entry) → (blank k).action ≡ submit e → ⊥
 not_an_entry k e is = cc
 
--- where there is a step, there is a ring
-has_ring : (v : Recording) → IsAccepted v → (k : ℕ) → k < length v.steps → 0 < length v.rings
-has_ring v h k lt = elim (slice_get_cases v.steps k).1 [
-  | inl there ↦ omega (arith, h.rings k there.0 there.2)
-  | inr past ↦ absurd (omega (arith, past.0))
-]
+-- it does nothing on a ring
+on_no_ring : (k : ℕ) → is_on_ring (blank k).action ≡ true → ⊥
+on_no_ring k is = cc
 
 forgotten_accepted : (v : Recording) → IsAccepted v → IsAccepted (let_go v)
 forgotten_accepted v h =
@@ -104,9 +105,7 @@ forgotten_accepted v h =
       slots = h.slots;
       descriptors = h.descriptors;
       fits = λ k s e here action. absurd (not_an_entry k e (sym (ap (λ (x : Step). x.action) (blank_at count k s here).1) ∙ action));
-      rings = λ k s here.
-          let at = blank_at count k s here in
-          subst (λ (x : Step). x.ring < length v.rings) (sym at.1) (has_ring v h k at.0);
+      rings = λ k s here on. absurd (on_no_ring k (ap (λ (x : Step). is_on_ring x.action) (sym (blank_at count k s here).1) ∙ on));
     }
 
 pub forgotten_is_of_front : ForgottenIsOfFront

@@ -10,7 +10,7 @@ use Rattle.trace_format.specs.Sides.{SideFits}
 use Rattle.recording.specs.declared.recording.Recording.{Recording}
 use Rattle.recording.specs.declared.recording.Ring.{Ring}
 use Rattle.recording.specs.Accepted.{IsAccepted, RecordsAccepted}
-use Rattle.recording.specs.Actions.{Action, submit, fill, register}
+use Rattle.recording.specs.Actions.{Action, submit, fill, register, set, seek}
 use Rattle.recording.specs.Growing.{Grown, grown_in, of_start, with_grown, with_records, no_records}
 use Rattle.recording.specs.Limits.{table_limit, buffers_limit}
 use Rattle.recording.specs.Rings.{slots_of}
@@ -37,7 +37,7 @@ grown_accepted v f g h fits =
       slots = All-weaker (RingFits d) (λ (r : Ring). All (λ n. n ≤ d) r.slots) (λ r ring. ring.held) g.rings fits.rings;
       descriptors = h.descriptors;
       fits = λ k s e here action. subst ActionFits action (all_at steps g.steps k s here fits.steps).action;
-      rings = λ k s here. (all_at steps g.steps k s here fits.steps).in_rings;
+      rings = λ k s here on. (all_at steps g.steps k s here fits.steps).in_rings on;
     }
 
 -- the bytes beside an entry fit it, unless it is given
@@ -45,6 +45,8 @@ action_fits : (a : Action) → ((e : Entry) → a ≡ submit e → SideFits e) �
 action_fits (submit e) h = h e refl
 action_fits (fill buffer offset bytes) h = tt
 action_fits (register slots) h = tt
+action_fits (set file content) h = tt
+action_fits (seek file position) h = tt
 
 -- the rings and steps of a recording that a replay accepts fit
 pub accepted_fits : (v : Recording) (f : Front) → IsAccepted v → length f.rings ≡ length v.rings → f.places ≡ length v.steps → GrownFits (length v.descriptions) f (grown_in v)
@@ -82,7 +84,7 @@ start_accepted s start =
       slots = All-nil (λ (r : Ring). All (λ n. n ≤ d) r.slots);
       descriptors = table_fits s.table_size d s.descriptors start.descriptors;
       fits = λ k s e here action. absurd (cc);
-      rings = λ k s here. absurd (cc);
+      rings = λ k s here on. absurd (cc);
     }
 
 pub records_accepted : RecordsAccepted

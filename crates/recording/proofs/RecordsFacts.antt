@@ -3,7 +3,7 @@ use Rattle.std.proofs.Common.{◌≡◌, ℕ, suc, ◌+◌, ◌<◌, ◌≤◌, 
 use Rattle.std.specs.Prelude.{◌^◌, ◌==◌, map}
 use Rattle.std.specs.List.{All, slice_get}
 use Rattle.std.specs.Int.{w16, w32}
-use Rattle.std.proofs.lemmas.Bool.{leb-true}
+use Rattle.std.proofs.lemmas.Bool.{eqb-true, leb-true}
 use Rattle.std.proofs.lemmas.Bool.Decides.{nat_tests}
 use Rattle.std.proofs.lemmas.List.{append-nil, length-set, length-map}
 use Rattle.std.proofs.lemmas.List.Elements.{All-nil, All-cons, All-append, All-push, All-map, All-set, All-weaker, All-get_or}
@@ -15,24 +15,26 @@ use Rattle.trace_format.specs.Sides.{SideFits, is_side_of}
 use Rattle.trace_format.specs.Text.{buffer}
 use Rattle.trace_format.proofs.Apart.{AnyText, keeps_any, Own, apart, at_place, at_test, test_passed, at_known, at_done, at_choice, within_limit, each, length-several}
 use Rattle.trace_records.specs.Front.{Front, after, ring_at, sizes_of, places_of, no_records as no_front}
-use Rattle.trace_records.specs.Records.{ring_there, meant, stored, zeros, passed, refused, entry, enter, filled, fill, ring, ring_ends, ring_starts, body, has_room, next}
+use Rattle.trace_records.specs.Records.{ring_there, meant, stored, zeros, passed, refused, entry, enter, filled, fill, slot_at, descriptor_at, file_at, position, content, set, seek, ring, ring_ends, ring_starts, body, is_place, has_room, next}
 use Rattle.trace_records.specs.Whole.{Behind, Begins, Ends}
 use Rattle.trace_records.specs.declared.front.Sizes.{Sizes}
 use Rattle.trace_records.specs.declared.record.Entry.{Entry}
 use Rattle.trace_records.specs.declared.record.Beside.{Beside}
+use Rattle.trace_records.specs.declared.record.Content.{Content}
+use Rattle.trace_records.specs.declared.record.FileAt.{FileAt}
 use Rattle.trace_records.specs.declared.record.Ring as new
 use Rattle.trace_records.specs.declared.record.Record.{Record}
-use Rattle.trace_records.specs.declared.record.Record.TheVariants.{Enter, Fill, RingStarts, RingEnds}
+use Rattle.trace_records.specs.declared.record.Record.TheVariants.{Enter, Fill, Set, Seek, RingStarts, RingEnds}
 use Rattle.trace_records.specs.declared.start.Descriptor.{Descriptor}
 use Rattle.trace_records.specs.declared.start.Start.{Start}
 use Rattle.trace_records.specs.declared.trace.Trace.{Trace}
 use Rattle.recording.specs.declared.recording.Ring.{Ring}
 use Rattle.recording.specs.Fronts.{IsSpelledFront}
-use Rattle.recording.specs.Growing.{Grown, HasRoom, given_in, submitted, filling_bytes, new_ring, with_end, with_record, with_records, no_records}
+use Rattle.recording.specs.Growing.{Grown, HasRoom, given_in, submitted, new_ring, with_end, with_record, with_records, no_records}
 use Rattle.recording.specs.Limits.{places_limit, table_limit, buffers_limit}
 use Rattle.recording.specs.Rings.{slots_of}
 use Rattle.recording.specs.Spelled.{IsSpelled}
-use Rattle.recording.specs.Actions.{Step, Action, submit, fill as fills, register}
+use Rattle.recording.specs.Actions.{Step, Action, submit, fill as fills, register, set as sets, seek as seeks, ring_of, is_slot, is_on_ring}
 use Rattle.recording.proofs.StartFacts.{DescriptorFits, StartFits, start_fits}
 
 -- ---- lists
@@ -134,10 +136,30 @@ ring_sizes s f r o =
     } in
     subst RingSizes (sym (at_done buffers.after).1) made
 
+-- A slot is one of a ring that is there.
+abbrev pub FileFits : Front → FileAt → Type 0
+FileFits f file = is_slot file ≡ true → ring_of file < length f.rings
+
+file_fits : (s : Start) (f : Front) (file : FileAt) → Own AnyText (file_at s f) file → FileFits f file
+unfolding file_at slot_at
+file_fits s f file o =
+    let what = apart keeps_any o in
+    elim (at_choice what.after) [
+      | inl a ↦
+          let ring = apart keeps_any a.1 in
+          let number = apart keeps_any ring.after in
+          subst (FileFits f) (sym (at_done number.after).1) (λ slot. ring_is_there f ring.x ring.own)
+      | inr b ↦
+          let number = apart keeps_any b.1 in
+          subst (FileFits f) (sym (at_done number.after).1) (λ slot. absurd (cc))
+    ]
+
 -- What the format asks of a record, by the rings and places before it.
 abbrev pub RecordFits : Front → Record → Type 0
 RecordFits f (Enter ring entries) = (ring < length f.rings) × All EntryFits entries × (f.places + length entries ≤ places_limit)
 RecordFits f (Fill ring buffer offset filling) = (ring < length f.rings) × (f.places < places_limit)
+RecordFits f (Set file content) = FileFits f file × (f.places < places_limit)
+RecordFits f (Seek file position) = FileFits f file × (f.places < places_limit)
 RecordFits f (RingStarts ring) = RingSizes ring × (length f.rings < table_limit) × (f.places < places_limit)
 RecordFits f (RingEnds ring) = Unit {0}
 
@@ -169,6 +191,20 @@ fill_fits f r room o =
     let buffer = apart keeps_any (at_place ring.after) in
     filled_fits f ring.x buffer.x _ r (ring_is_there f ring.x ring.own) room (at_known buffer.after)
 
+set_fits : (s : Start) (f : Front) (r : Record) → f.places < places_limit → Own AnyText (set s f) r → RecordFits f r
+unfolding set
+set_fits s f r room o =
+    let file = apart keeps_any o in
+    let content = apart keeps_any file.after in
+    subst (RecordFits f) (sym (at_done content.after).1) (file_fits s f file.x file.own, room)
+
+seek_fits : (s : Start) (f : Front) (r : Record) → f.places < places_limit → Own AnyText (seek s f) r → RecordFits f r
+unfolding seek
+seek_fits s f r room o =
+    let file = apart keeps_any o in
+    let position = apart keeps_any file.after in
+    subst (RecordFits f) (sym (at_done position.after).1) (file_fits s f file.x file.own, room)
+
 ring_starts_fits : (s : Start) (f : Front) (r : Record) → length f.rings < table_limit → f.places < places_limit → Own AnyText (ring_starts s f) r → RecordFits f r
 ring_starts_fits s f r few room o =
     let ring = apart keeps_any o in
@@ -179,21 +215,31 @@ ring_ends_fits f r o =
     let n = apart keeps_any o in
     subst (RecordFits f) (sym (at_done n.after).1) tt
 
--- a fill and a ring have room for a place, and a ring for a ring
-fill_room : (f : Front) (kind : ℕ) → (kind == 2) ≡ true → has_room f kind ≡ true → f.places < places_limit
-fill_room f kind is room = grind (arith, nat_tests)
+-- a record that is a place has room for one, and a ring for a ring
+place_room : (f : Front) (kind : ℕ) → is_place kind ≡ true → has_room f kind ≡ true → f.places < places_limit
+place_room f kind is room = grind (arith, nat_tests)
 
-ring_room : (f : Front) (kind : ℕ) → (kind == 5) ≡ true → has_room f kind ≡ true → (f.places < places_limit) × (length f.rings < table_limit)
-ring_room f kind is room = (grind (arith, nat_tests), grind (arith, nat_tests))
+ring_room : (f : Front) (kind : ℕ) → (kind == 5) ≡ true → has_room f kind ≡ true → length f.rings < table_limit
+ring_room f kind is room = grind (arith, nat_tests)
+
+-- such a record has this kind
+place_of : (kind n : ℕ) → is_place n ≡ true → (kind == n) ≡ true → is_place kind ≡ true
+place_of kind n place is = rw (eqb-true _ _ is) place
 
 body_fits : (s : Start) (f : Front) (begin kind : ℕ) (r : Record) → has_room f kind ≡ true → Own AnyText (body s f begin kind) r → RecordFits f r
 body_fits s f begin kind r room o = elim (at_choice o) [
   | inl a ↦ enter_fits f begin r a.1
   | inr b ↦ elim (at_choice b.1) [
-    | inl c ↦ fill_fits f r (fill_room f kind c.0 room) c.1
+    | inl c ↦ fill_fits f r (place_room f kind (place_of kind 2 refl c.0) room) c.1
     | inr d ↦ elim (at_choice d.1) [
-      | inl e ↦ let rooms = ring_room f kind e.0 room in ring_starts_fits s f r rooms.1 rooms.0 e.1
-      | inr e ↦ ring_ends_fits f r e.1
+      | inl e ↦ set_fits s f r (place_room f kind (place_of kind 3 refl e.0) room) e.1
+      | inr e ↦ elim (at_choice e.1) [
+        | inl g ↦ seek_fits s f r (place_room f kind (place_of kind 4 refl g.0) room) g.1
+        | inr g ↦ elim (at_choice g.1) [
+          | inl h ↦ ring_starts_fits s f r (ring_room f kind h.0 room) (place_room f kind (place_of kind 5 refl h.0) room) h.1
+          | inr h ↦ ring_ends_fits f r h.1
+        ]
+      ]
     ]
   ]
 ]
@@ -224,10 +270,12 @@ abbrev pub ActionFits : Action → Type 0
 ActionFits (submit e) = SideFits e
 ActionFits (fills buffer offset bytes) = Unit {0}
 ActionFits (register slots) = Unit {0}
+ActionFits (sets file content) = Unit {0}
+ActionFits (seeks file position) = Unit {0}
 
--- So does a step, and its ring is one of so many.
+-- So does a step, and its ring is one of so many, where it does something there.
 pub record StepFits (rings : ℕ) (s : Step) : Type 0 where
-  pub in_rings : s.ring < rings
+  pub in_rings : is_on_ring s.action ≡ true → s.ring < rings
   pub action : ActionFits s.action
 
 -- The rings and steps so far are those that the front counts, within their limits.
@@ -244,7 +292,7 @@ none_fit d = record { rings_are = refl; places_are = refl; few_rings = omega ari
 
 -- steps on one of so many rings are on one of more
 more_rings : (n m : ℕ) (steps : List Step) → n ≤ m → All (StepFits n) steps → All (StepFits m) steps
-more_rings n m steps le all = All-weaker (StepFits n) (StepFits m) (λ s h. record { in_rings = omega (arith, h.in_rings, le); action = h.action }) steps all
+more_rings n m steps le all = All-weaker (StepFits n) (StepFits m) (λ s h. record { in_rings = λ on. omega (arith, h.in_rings on, le); action = h.action }) steps all
 
 -- the step that submits an entry
 abbrev step_of : ℕ → ℕ → Submitted → Step
@@ -253,7 +301,7 @@ step_of ring from e = record { ring = ring; from_record = from; action = submit 
 -- each entry of a record is a step that fits
 entries_fit : (n ring from : ℕ) (entries : List Entry) → ring < n → All EntryFits entries → All (StepFits n) (map (step_of ring from) (map submitted entries))
 entries_fit n ring from entries lt all =
-    let one : (e : Entry) → EntryFits e → StepFits n (step_of ring from (submitted e)) = λ e h. record { in_rings = lt; action = h } in
+    let one : (e : Entry) → EntryFits e → StepFits n (step_of ring from (submitted e)) = λ e h. record { in_rings = λ on. lt; action = h } in
     All-map (StepFits n) (step_of ring from) (map submitted entries)
     (All-map (λ e. StepFits n (step_of ring from e)) submitted entries (All-weaker EntryFits (λ e. StepFits n (step_of ring from (submitted e))) one entries all))
 
@@ -272,6 +320,20 @@ length-with_end rings n = elim (slice_get_cases rings n).1 [
   | inr h ↦ rw (h.1, with_end) refl
 ]
 
+-- one step more on the rings that are there
+with_step : (d : ℕ) (f : Front) (g : Grown) (s : Step) → (is_on_ring s.action ≡ true → s.ring < length f.rings) → ActionFits s.action → f.places < places_limit
+    → GrownFits d f g → GrownFits d (record { rings = f.rings; places = f.places + 1 }) (record { rings = g.rings; steps = g.steps ++ s ∷ [] })
+with_step d f g s on_ring action room fits =
+    let many : length (g.steps ++ s ∷ []) ≡ length g.steps + 1 = length-append g.steps (s ∷ []) in
+    record {
+      rings_are = fits.rings_are;
+      places_are = omega (arith, many, fits.places_are);
+      few_rings = fits.few_rings;
+      few_steps = omega (arith, many, fits.places_are, room);
+      rings = fits.rings;
+      steps = All-push (StepFits (length g.rings)) g.steps s fits.steps (record { in_rings = λ on. omega (arith, on_ring on, fits.rings_are); action = action });
+    }
+
 -- one record more
 pub one_fits : (d : ℕ) (f : Front) (g : Grown) (r : Record) → RecordFits f r → GrownFits d f g → GrownFits d (after f r) (with_record g r)
 one_fits d f g (Enter n entries) h fits =
@@ -285,17 +347,9 @@ one_fits d f g (Enter n entries) h fits =
       rings = fits.rings;
       steps = All-append (StepFits (length g.rings)) g.steps steps fits.steps (entries_fit (length g.rings) n (length g.steps) entries (omega (arith, h.0, fits.rings_are)) h.1);
     }
-one_fits d f g (Fill n b offset made) h fits =
-    let step : Step = record { ring = n; from_record = length g.steps; action = fills b offset (filling_bytes made) } in
-    let many : length (g.steps ++ step ∷ []) ≡ length g.steps + 1 = length-append g.steps (step ∷ []) in
-    record {
-      rings_are = fits.rings_are;
-      places_are = omega (arith, many, fits.places_are);
-      few_rings = fits.few_rings;
-      few_steps = omega (arith, many, fits.places_are, h.1);
-      rings = fits.rings;
-      steps = All-push (StepFits (length g.rings)) g.steps step fits.steps (record { in_rings = omega (arith, h.0, fits.rings_are); action = tt });
-    }
+one_fits d f g (Fill n b offset made) h fits = with_step d f g _ (λ on. h.0) tt h.1 fits
+one_fits d f g (Set file content) h fits = with_step d f g _ h.0 tt h.1 fits
+one_fits d f g (Seek file position) h fits = with_step d f g _ h.0 tt h.1 fits
 one_fits d f g (RingStarts made) h fits =
     let one : Ring = new_ring g.rings made in
     let step : Step = record { ring = length g.rings; from_record = length g.steps; action = register made.full } in
@@ -308,7 +362,7 @@ one_fits d f g (RingStarts made) h fits =
       few_rings = omega (arith, rings, fits.rings_are, h.1);
       few_steps = omega (arith, many, fits.places_are, h.2);
       rings = All-push (RingFits d) g.rings one fits.rings (record { slots = omega (arith, h.0.slots); buffers = h.0.buffers; held = All-nil (λ n. n ≤ d) });
-      steps = All-push (StepFits (length (g.rings ++ one ∷ []))) g.steps step before (record { in_rings = omega (arith, rings); action = tt });
+      steps = All-push (StepFits (length (g.rings ++ one ∷ []))) g.steps step before (record { in_rings = λ on. omega (arith, rings); action = tt });
     }
 one_fits d f g (RingEnds n) h fits =
     let same = length-with_end g.rings n in
@@ -364,6 +418,8 @@ descriptors_within s h =
 places_fit : (f : Front) (r : Record) → RecordFits f r → f.places ≤ places_limit → f.places + places_of r ≤ places_limit
 places_fit f (Enter ring entries) h le = h.2
 places_fit f (Fill ring buffer offset filling) h le = omega (arith, h.1)
+places_fit f (Set file content) h le = omega (arith, h.1)
+places_fit f (Seek file position) h le = omega (arith, h.1)
 places_fit f (RingStarts ring) h le = omega (arith, h.2)
 places_fit f (RingEnds ring) h le = omega (arith, le)
 

@@ -7,10 +7,9 @@ use Rattle.std.proofs.lemmas.Grind.{common_steps}
 use Rattle.std.proofs.lemmas.Option.{slice_get-get_or, slice_get-map, get_or_from_slice_get}
 use Rattle.trace_format.specs.declared.entry.Entry.{Entry}
 use Rattle.trace_format.proofs.Spots.{slice_get-append_left, slice_get-append_right}
-use Rattle.trace_records.specs.declared.record.FullSlot.{FullSlot}
 use Rattle.recording.specs.declared.record.Record.{Record}
-use Rattle.recording.specs.declared.record.Record.TheVariants.{Enter, Fill, Register}
-use Rattle.recording.specs.Actions.{Step, submit, fill, register}
+use Rattle.recording.specs.declared.record.Record.TheVariants.{Enter, Fill, Register, Set, Seek}
+use Rattle.recording.specs.Actions.{Step, submit}
 use Rattle.recording.specs.Records.{Later, step_count, record_steps, steps_from, indexes_from, firsts_from}
 
 -- how many steps records have
@@ -22,6 +21,8 @@ pub length-record_steps : (p : ℕ) (r : Record) → length (record_steps p r) �
 length-record_steps p (Enter ring entries) = length-map entries _
 length-record_steps p (Fill ring buffer offset bytes) = refl
 length-record_steps p (Register ring slots) = refl
+length-record_steps p (Set file content) = refl
+length-record_steps p (Seek file position) = refl
 
 pub length-steps_from : (p : ℕ) (rs : List Record) → length (steps_from p rs) ≡ places_in rs
 length-steps_from p [] = refl
@@ -155,17 +156,17 @@ pub enter_step : (p ring k : ℕ) (entries : List Entry) (e : Entry) → slice_g
 enter_step p ring k entries e here =
     rw (slice_get-map _ entries k, here) refl
 
-pub fill_step : (p ring buffer offset k : ℕ) (bytes : List ℕ) → k < 1
-    → slice_get (record_steps p (Fill ring buffer offset bytes)) k ≡ Some (record { ring = ring; from_record = p; action = fill buffer offset bytes })
-fill_step p ring buffer offset k bytes lt =
+-- the step of a record that has one
+pub one_step : (k : ℕ) (s : Step) → k < 1 → slice_get (s ∷ []) k ≡ Some s
+one_step k s lt =
     let e : k ≡ 0 = omega arith in
     rw e refl
 
-pub register_step : (p ring k : ℕ) (slots : List FullSlot) → k < 1
-    → slice_get (record_steps p (Register ring slots)) k ≡ Some (record { ring = ring; from_record = p; action = register slots })
-register_step p ring k slots lt =
+-- the same where what its ring is has been found
+pub one_step_on : (k : ℕ) (s : Step) (ring : ℕ) → k < 1 → ring ≡ s.ring → slice_get (s ∷ []) k ≡ Some (record s { ring = ring })
+one_step_on k s ring lt is =
     let e : k ≡ 0 = omega arith in
-    rw e refl
+    rw (e, is) refl
 
 -- what is kept beside records, behind p places, with one more that has a step
 pub kept_more : (p place : ℕ) (indexes firsts indexes_next firsts_next : List ℕ) (rs rs_next : List Record) (index count limit : ℕ) (r : Record)

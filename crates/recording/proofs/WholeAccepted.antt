@@ -167,7 +167,7 @@ whole_accepted t h =
       fits = λ k s e here action none.
           let f = step_from t k s here in
           spelled_fits t h k f.step e f.there (submitted_of f.step.action e (ap (λ (x : Step). x.action) f.is ∙ action));
-      rings = λ k s here.
+      rings = λ k s here on.
           let f = step_from t k s here in
           omega (arith, spelled_rings t h k f.step f.there, ap (λ (x : Step). x.ring) f.is, length-rings_from 0 t.rings);
     }

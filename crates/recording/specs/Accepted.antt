@@ -17,7 +17,7 @@ use Rattle.recording.specs.declared.recording.Recording.{Recording}
 use Rattle.recording.specs.declared.recording.Ring.{Ring}
 use Rattle.recording.specs.Limits.{places_limit, items_limit, table_limit, buffers_limit}
 use Rattle.recording.specs.Rings.{slots_of}
-use Rattle.recording.specs.Steps.{Step, submit, places, step_at}
+use Rattle.recording.specs.Steps.{Step, submit, is_on_ring, places, step_at}
 use Rattle.recording.specs.Whole.{of_whole}
 use Rattle.recording.specs.Growing.{of_records}
 use Rattle.recording.specs.Spelled as records
@@ -55,8 +55,8 @@ pub record IsAccepted (t : Recording) : Type 0 where
   pub descriptors : All (λ n. n ≤ length t.descriptions) t.descriptors
   -- the bytes beside each entry fit it, unless it is given
   pub fits : (k : ℕ) (s : Step) (e : Entry) → step_at t k ≡ Some s → s.action ≡ submit e → SideFits e
-  -- the ring of each step is there
-  pub rings : (k : ℕ) (s : Step) → step_at t k ≡ Some s → s.ring < length t.rings
+  -- the ring of each step is there, where what it does is done on that
+  pub rings : (k : ℕ) (s : Step) → step_at t k ≡ Some s → is_on_ring s.action ≡ true → s.ring < length t.rings
 
 -- each trace of version 1 or 2 that some bytes spell gives one
 abbrev pub WholeAccepted : Type 0

@@ -14,7 +14,7 @@ use Rattle.trace_records.specs.declared.record.Entry.{Entry}
 use Rattle.trace_records.specs.declared.record.Filling.{Filling}
 use Rattle.trace_records.specs.declared.record.Filling.TheVariants.{Stored, Zeros}
 use Rattle.trace_records.specs.declared.record.Record.{Record}
-use Rattle.trace_records.specs.declared.record.Record.TheVariants.{Enter, Fill, RingStarts, RingEnds}
+use Rattle.trace_records.specs.declared.record.Record.TheVariants.{Enter, Fill, Set, Seek, RingStarts, RingEnds}
 use Rattle.trace_records.specs.declared.record.Ring as new
 use Rattle.trace_records.specs.declared.trace.Trace.{Trace}
 use Rattle.recording.specs.declared.growing.Growing as code
@@ -76,6 +76,8 @@ grown g = record { rings = g.rings.items; steps = g.steps }
 abbrev pub with_record : Grown → Record → Grown
 with_record g (Enter ring entries) = record g { steps = g.steps ++ record_steps (length g.steps) (kept.Enter ring (map submitted entries)) }
 with_record g (Fill ring buffer offset filling) = record g { steps = g.steps ++ record_steps (length g.steps) (kept.Fill ring buffer offset (filling_bytes filling)) }
+with_record g (Set file content) = record g { steps = g.steps ++ record_steps (length g.steps) (kept.Set file content) }
+with_record g (Seek file position) = record g { steps = g.steps ++ record_steps (length g.steps) (kept.Seek file position) }
 with_record g (RingStarts ring) = record { rings = g.rings ++ new_ring g.rings ring ∷ []; steps = g.steps ++ record_steps (length g.steps) (kept.Register (length g.rings) ring.full) }
 with_record g (RingEnds ring) = record g { rings = with_end g.rings ring }
 

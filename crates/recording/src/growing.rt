@@ -173,6 +173,12 @@ fn grown_by(
                 bytes,
             })?
         }
+        trace_records::Record::Set { file, content } => {
+            steps.with(Record::Set { file, content })?
+        }
+        trace_records::Record::Seek { file, position } => {
+            steps.with(Record::Seek { file, position })?
+        }
         trace_records::Record::RingStarts { ring } => {
             steps.with(with_ring(alloc, &mut rings, ring)?)?
         }

@@ -3,12 +3,16 @@ ghost use Rattle.std.specs.Prelude.{◌≡◌, ◌+◌, ◌-◌, ◌<◌, ◌≤
 ghost use Rattle.std.specs.List.{slice_get};
 ghost use Rattle.recording.specs.Limits.{places_limit};
 ghost use Rattle.recording.specs.Records.{step_count, record_steps};
-ghost use Rattle.recording.specs.Steps.{step_meant};
+ghost use Rattle.recording.specs.Steps.{ring_of, step_meant};
 
 use crate::record::{Record, step_count};
 use crate::steps::{Action, Step};
 use std::alloc::{AllocError, Global};
 use std::marker::Model;
+use trace_records::FileAt;
+
+/// The ring of a step that is on none: all rings have numbers below it.
+const NO_RING: u32 = 1_048_576;
 
 /// Records in order, behind some places. A step is found by its place in constant time: by the
 /// index of its record, and by the place of that record's first step. Each record has a step.
@@ -55,6 +59,16 @@ fn add_record(
 {
     firsts.push(first)?;
     indexes.resize(indexes.len() + count, index)
+}
+
+/// The ring of a slot. A descriptor is on none.
+fn ring_of(file: FileAt) -> u32
+    ensures { result ≡ ring_of file }
+{
+    match file {
+        FileAt::Slot { ring, number: _ } => ring,
+        FileAt::Descriptor { number: _ } => NO_RING,
+    }
 }
 
 impl Grown {
@@ -166,6 +180,22 @@ impl Grown {
                 ring: *ring,
                 record_number: first,
                 action: Action::Register(slots),
+            },
+            Record::Set { file, content } => Step {
+                ring: ring_of(*file),
+                record_number: first,
+                action: Action::Set {
+                    file: *file,
+                    content,
+                },
+            },
+            Record::Seek { file, position } => Step {
+                ring: ring_of(*file),
+                record_number: first,
+                action: Action::Seek {
+                    file: *file,
+                    position: *position,
+                },
             },
         }
     }

@@ -20,4 +20,4 @@ mod whole;
 pub use recording::{Recording, Ring};
 pub use steps::{Action, Step, Steps};
 pub use trace_format::{Access, Blob, Buffer, Description, Entry, Series, Version};
-pub use trace_records::{FullSlot, Holder, Item, Node, Range};
+pub use trace_records::{Content, FileAt, FullSlot, Holder, Item, Node, Range};

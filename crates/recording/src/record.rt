@@ -3,7 +3,7 @@ ghost use Rattle.std.specs.Prelude.{◌≡◌};
 ghost use Rattle.recording.specs.Records.{step_count};
 
 use trace_format::{Blob, Entries, Series};
-use trace_records::FullSlot;
+use trace_records::{Content, FileAt, FullSlot};
 
 /// A record that has steps.
 #[derive(Drop)]
@@ -25,6 +25,16 @@ pub enum Record {
         ring: u32,
         slots: Series<FullSlot>,
     },
+    /// What a slot or a descriptor holds from there on, a step.
+    Set {
+        file: FileAt,
+        content: Content,
+    },
+    /// The position of what a slot or a descriptor holds, a step.
+    Seek {
+        file: FileAt,
+        position: u64,
+    },
 }
 
 /// How many steps a record has.
@@ -33,6 +43,6 @@ pub(crate) fn step_count(item: &Record) -> usize
 {
     match item {
         Record::Enter { ring: _, entries } => entries.len(),
-        Record::Fill { .. } | Record::Register { .. } => 1,
+        _ => 1,
     }
 }

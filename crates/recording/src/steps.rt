@@ -14,7 +14,7 @@ use crate::record::Record;
 use std::alloc::{AllocError, Global};
 use std::marker::Model;
 use trace_format::{Blob, Entry, Records, Series};
-use trace_records::FullSlot;
+use trace_records::{Content, FileAt, FullSlot};
 
 /// What a step does.
 #[derive(Drop)]
@@ -29,12 +29,22 @@ pub enum Action<'a> {
     },
     /// Fills slots of the ring, which is new, with what others hold.
     Register(&'a Series<FullSlot>),
+    /// Says what a slot or a descriptor holds from there on.
+    Set {
+        file: FileAt,
+        content: &'a Content,
+    },
+    /// Gives the position of what a slot or a descriptor holds.
+    Seek {
+        file: FileAt,
+        position: u64,
+    },
 }
 
 /// A step of a recording, with its ring and the number of its record.
 #[derive(Drop)]
 pub struct Step<'a> {
-    /// The number of its ring.
+    /// The number of its ring, 1,048,576 where it is on none.
     pub ring: u32,
     /// A number that the steps of its record share, and those of no other one have.
     pub record_number: u32,

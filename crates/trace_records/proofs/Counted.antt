@@ -9,7 +9,7 @@ use Rattle.trace_records.specs.declared.fault.ReadError.{ReadError}
 use Rattle.trace_records.specs.declared.fault.ReadError.TheVariants as errors
 use Rattle.trace_records.specs.declared.front.Sizes.{Sizes}
 use Rattle.trace_records.specs.declared.record.Record.{Record}
-use Rattle.trace_records.specs.declared.record.Record.TheVariants.{Enter, Fill, RingStarts, RingEnds}
+use Rattle.trace_records.specs.declared.record.Record.TheVariants.{Enter, Fill, Set, Seek, RingStarts, RingEnds}
 use Rattle.trace_records.specs.declared.start.Start.{Start}
 use Rattle.trace_records.specs.Front.{Front, no_records, after, places_of, rings_after, sizes_of}
 use Rattle.trace_records.specs.declared.trace.Trace.{Trace}
@@ -31,9 +31,11 @@ pub none_counted : (s : Start) (place : ℕ) (text : List ℕ) → Counted s no_
 none_counted s place text = record { earlier = []; going = begun s place text; places_are = refl; rings_are = refl }
 
 -- a record adds a ring where it is a new one
-rings-after : (so_far : List (Option Sizes)) (r : Record) → length (rings_after so_far r) ≡ length so_far + cond (is_ring r) 1 0
+pub rings-after : (so_far : List (Option Sizes)) (r : Record) → length (rings_after so_far r) ≡ length so_far + cond (is_ring r) 1 0
 rings-after so_far (Enter ring entries) = sym (add-zero (length so_far))
 rings-after so_far (Fill ring buffer offset filling) = sym (add-zero (length so_far))
+rings-after so_far (Set file content) = sym (add-zero (length so_far))
+rings-after so_far (Seek file position) = sym (add-zero (length so_far))
 rings-after so_far (RingStarts ring) = length-append so_far (Some (sizes_of ring) ∷ [])
 rings-after so_far (RingEnds ring) = length-set so_far ring None ∙ sym (add-zero (length so_far))
 

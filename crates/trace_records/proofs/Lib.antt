@@ -12,3 +12,4 @@ pub mod Going
 pub mod Counted
 pub mod Zeros
 pub mod Added
+pub mod Words

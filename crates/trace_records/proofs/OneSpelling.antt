@@ -23,8 +23,8 @@ use Rattle.trace_format.proofs.Spelled.{Once, IsWritten, front, last, behind, th
 use Rattle.trace_records.specs.Fields.{number_in, number_of}
 use Rattle.trace_records.specs.Front.{Front, no_records, after}
 use Rattle.trace_records.specs.Start.{Counts, header, range, file, other_name, node, new_path, item, description, descriptor, start}
-use Rattle.trace_records.specs.Records.{ring_there, is_form, lengths_len, stored, zeros, passed, refused, beside, entry, enter, filled, fill, slot_holder, other_holder, other, holder, full_slot, queue, own_queue, ring, is_kind, body, next}
-use Rattle.trace_records.specs.Spelling.{range_bytes, kind_of, node_bytes, item_bytes, descriptor_bytes, start_bytes, beside_bytes, entry_text, holder_bytes, full_slot_bytes, queue_number, ring_bytes, record_bytes, end_bytes, trace_bytes}
+use Rattle.trace_records.specs.Records.{ring_there, is_form, lengths_len, stored, zeros, passed, refused, beside, entry, enter, filled, fill, slot_holder, other_holder, other, holder, full_slot, queue, own_queue, ring, slot_at, file_at, opened, content, set, seek, is_kind, body, next}
+use Rattle.trace_records.specs.Spelling.{range_bytes, kind_of, node_bytes, item_bytes, descriptor_bytes, start_bytes, beside_bytes, entry_text, holder_bytes, full_slot_bytes, queue_number, ring_bytes, file_bytes, content_bytes, record_bytes, end_bytes, trace_bytes}
 use Rattle.trace_records.specs.Whole.{Behind, Ends, SpellsTrace}
 use Rattle.trace_records.specs.declared.start.Range.{Range}
 use Rattle.trace_records.specs.declared.start.Node.{Node}
@@ -36,6 +36,10 @@ use Rattle.trace_records.specs.declared.record.Beside.{Beside}
 use Rattle.trace_records.specs.declared.record.Beside.TheVariants.{Stored, Given}
 use Rattle.trace_records.specs.declared.record.Filling.TheVariants as filling
 use Rattle.trace_records.specs.declared.record.Holder.{Holder}
+use Rattle.trace_records.specs.declared.record.FileAt.{FileAt}
+use Rattle.trace_records.specs.declared.record.FileAt.TheVariants as files
+use Rattle.trace_records.specs.declared.record.Content.{Content}
+use Rattle.trace_records.specs.declared.record.Content.TheVariants as contents
 use Rattle.trace_records.specs.declared.record.FullSlot.{FullSlot}
 use Rattle.trace_records.specs.declared.record.Record.{Record}
 use Rattle.trace_records.specs.declared.record.Record.TheVariants.{Enter, Fill}
@@ -414,6 +418,92 @@ once_fill f y o =
     let text = (front (once_ring_there f) ring).whole ∙ ap (λ (t : List ℕ). to_le_bytes w32 ring.x ++ t) (front (once_number u16) buffer).whole in
     ap (λ (t : List ℕ). 2 ∷ t) text ∙ once_filled ring.x buffer.x _ y (at_known buffer.after)
 
+-- ---- sets and seeks
+
+once_slot_at : (f : Front) (y : FileAt) (o : Own IsBytes (slot_at f) y) → 0 ∷ o.text ≡ file_bytes y
+unfolding slot_at
+once_slot_at f y o =
+    behind (0 ∷ []) (
+    then (once_ring_there f) o (λ ring _ o.
+    then (once_number_of u32 _) o (λ number _ o.
+    ends file_bytes o refl)))
+
+descriptor_counted : (what n : ℕ) → what ≤ 1 → (what ≡ 0 → ⊥) → what ∷ two_words n ≡ file_bytes (files.Descriptor n)
+unfolding two_words
+descriptor_counted zero n h some = absurd (some refl)
+descriptor_counted (suc zero) n h some = refl
+descriptor_counted (suc (suc what)) n h some = absurd (omega arith)
+
+once_file_at : (s : Start) (f : Front) → Once (file_at s f) file_bytes
+unfolding file_at
+once_file_at s f y o =
+    let what = apart keeps_bytes o in
+    let first = (front (once_number_to u8 1) what).whole in
+    let most = within_limit keeps_bytes w8 1 what.x what.own in
+    elim (at_choice what.after) [
+      | inl a ↦ first ∙ rw (eqb-true _ _ a.0, ← a.2) (once_slot_at f y a.1)
+      | inr b ↦
+          let n = apart keeps_bytes b.1 in
+          let e = at_done n.after in
+          first ∙ ap (λ (t : List ℕ). what.x ∷ t) (sym b.2 ∙ last (front (once_other_holder _) n) e.0) ∙ descriptor_counted what.x n.x most (eqb-false _ _ b.0) ∙ ap file_bytes (sym e.1)
+    ]
+
+once_opened : (y : Content) (o : Own IsBytes opened y) → 1 ∷ o.text ≡ content_bytes y
+unfolding opened
+once_opened y o =
+    behind (1 ∷ []) (
+    then (once_number u32) (at_place o) (λ flags _ o.
+    then (once_number_to u64 (2 ^ 63 - 1)) (at_test o) (λ position _ o.
+    then (once_number u16) o (λ len _ o.
+    then (once_bytes len) (at_place o) (λ path own o.
+    let counted : 1 ∷ to_le_bytes w32 flags ++ to_le_bytes w64 position ++ to_le_bytes w16 len ++ path ≡ content_bytes (contents.Path flags position path) =
+    rw (length_bytes own) refl in
+    ends content_bytes (at_test o) counted)))))
+
+last_content : (what : ℕ) → what ≤ 3 → (what ≡ 0 → ⊥) → (what ≡ 1 → ⊥) → (what ≡ 2 → ⊥) → what ≡ 3
+last_content what h no_zero no_one no_two = omega arith
+
+once_content : (s : Start) (f : Front) → Once (content s f) content_bytes
+unfolding content
+once_content s f y o =
+    let what = apart keeps_bytes o in
+    let first = (front (once_number_to u8 3) what).whole in
+    let most = within_limit keeps_bytes w8 3 what.x what.own in
+    elim (at_choice what.after) [
+      | inl a ↦
+          let e = at_done a.1 in
+          first ∙ ap (λ (t : List ℕ). what.x ∷ t) (sym a.2 ∙ e.0) ∙ ap (λ (n : ℕ). n ∷ []) (eqb-true _ _ a.0) ∙ ap content_bytes (sym e.1)
+      | inr b ↦ elim (at_choice b.1) [
+        | inl a ↦ first ∙ rw (eqb-true _ _ a.0, ← b.2, ← a.2) (once_opened y a.1)
+        | inr c ↦ elim (at_choice c.1) [
+          | inl a ↦
+              let of = apart keeps_bytes a.1 in
+              let e = at_done of.after in
+              first ∙ rw (eqb-true _ _ a.0, ← b.2, ← c.2, ← a.2) (ap (λ (t : List ℕ). 2 ∷ t) (last (front (once_file_at s f) of) e.0) ∙ ap content_bytes (sym e.1))
+          | inr d ↦
+              let e = at_done d.1 in
+              let three : what.x ≡ 3 = last_content what.x most (eqb-false _ _ b.0) (eqb-false _ _ c.0) (eqb-false _ _ d.0) in
+              first ∙ ap (λ (t : List ℕ). what.x ∷ t) (sym (d.2 ∙ c.2 ∙ b.2) ∙ e.0) ∙ ap (λ (n : ℕ). n ∷ []) three ∙ ap content_bytes (sym e.1)
+        ]
+      ]
+    ]
+
+once_set : (s : Start) (f : Front) (y : Record) (o : Own IsBytes (set s f) y) → 3 ∷ o.text ≡ record_bytes y
+unfolding set
+once_set s f y o =
+    behind (3 ∷ []) (
+    then (once_file_at s f) o (λ file _ o.
+    then (once_content s f) o (λ content _ o.
+    ends record_bytes o refl)))
+
+once_seek : (s : Start) (f : Front) (y : Record) (o : Own IsBytes (seek s f) y) → 4 ∷ o.text ≡ record_bytes y
+unfolding seek
+once_seek s f y o =
+    behind (4 ∷ []) (
+    then (once_file_at s f) o (λ file _ o.
+    then (once_number_to u64 (2 ^ 63 - 1)) o (λ position _ o.
+    ends record_bytes o refl)))
+
 -- ---- records
 
 once_body : (s : Start) (f : Front) (begin kind : ℕ) (y : Record) → is_kind kind ≡ true → (kind ≡ 7 → ⊥)
@@ -424,21 +514,27 @@ once_body s f begin kind y served going o =
       | inr b ↦ elim (at_choice b.1) [
         | inl a ↦ rw (eqb-true _ _ a.0, ← b.2, ← a.2) (once_fill f y a.1)
         | inr c ↦ elim (at_choice c.1) [
-          | inl a ↦
-              let r = apart keeps_bytes a.1 in
-              let e = at_done r.after in
-              rw (eqb-true _ _ a.0, ← b.2, ← c.2, ← a.2) (ap (λ (t : List ℕ). 5 ∷ t) (last (front (once_ring s f) r) e.0) ∙ ap record_bytes (sym e.1))
-          | inr d ↦
-              let n = apart keeps_bytes d.1 in
-              let e = at_done n.after in
-              let six : kind ≡ 6 = last_kind kind served (eqb-false _ _ b.0) (eqb-false _ _ c.0) (eqb-false _ _ d.0) going in
-              rw (six, ← b.2, ← c.2, ← d.2) (ap (λ (t : List ℕ). 6 ∷ t) (last (front (once_ring_there f) n) e.0) ∙ ap record_bytes (sym e.1))
+          | inl a ↦ rw (eqb-true _ _ a.0, ← b.2, ← c.2, ← a.2) (once_set s f y a.1)
+          | inr d ↦ elim (at_choice d.1) [
+            | inl a ↦ rw (eqb-true _ _ a.0, ← b.2, ← c.2, ← d.2, ← a.2) (once_seek s f y a.1)
+            | inr g ↦ elim (at_choice g.1) [
+              | inl a ↦
+                  let r = apart keeps_bytes a.1 in
+                  let e = at_done r.after in
+                  rw (eqb-true _ _ a.0, ← b.2, ← c.2, ← d.2, ← g.2, ← a.2) (ap (λ (t : List ℕ). 5 ∷ t) (last (front (once_ring s f) r) e.0) ∙ ap record_bytes (sym e.1))
+              | inr h ↦
+                  let n = apart keeps_bytes h.1 in
+                  let e = at_done n.after in
+                  let six : kind ≡ 6 = last_kind kind served (eqb-false _ _ b.0) (eqb-false _ _ c.0) (eqb-false _ _ d.0) (eqb-false _ _ g.0) (eqb-false _ _ h.0) going in
+                  rw (six, ← b.2, ← c.2, ← d.2, ← g.2, ← h.2) (ap (λ (t : List ℕ). 6 ∷ t) (last (front (once_ring_there f) n) e.0) ∙ ap record_bytes (sym e.1))
+            ]
+          ]
         ]
       ]
     ]
   where
-    last_kind : (kind : ℕ) → is_kind kind ≡ true → (kind ≡ 1 → ⊥) → (kind ≡ 2 → ⊥) → (kind ≡ 5 → ⊥) → (kind ≡ 7 → ⊥) → kind ≡ 6
-    last_kind kind served a b c d = grind (arith, nat_tests)
+    last_kind : (kind : ℕ) → is_kind kind ≡ true → (kind ≡ 1 → ⊥) → (kind ≡ 2 → ⊥) → (kind ≡ 3 → ⊥) → (kind ≡ 4 → ⊥) → (kind ≡ 5 → ⊥) → (kind ≡ 7 → ⊥) → kind ≡ 6
+    last_kind kind served a b c d e f = grind (arith, nat_tests)
 
 -- a record, or the end
 next_text : Option Record → List ℕ

@@ -4,7 +4,7 @@ use Rattle.std.specs.List.{slice_get}
 use Rattle.trace_records.specs.declared.front.Sizes.{Sizes}
 use Rattle.trace_records.specs.declared.record.Ring.{Ring}
 use Rattle.trace_records.specs.declared.record.Record.{Record}
-use Rattle.trace_records.specs.declared.record.Record.TheVariants.{Enter, Fill, RingStarts, RingEnds}
+use Rattle.trace_records.specs.declared.record.Record.TheVariants.{Enter, Fill, Set, Seek, RingStarts, RingEnds}
 
 -- the sizes of each ring so far, none of one that ended, and how many places there are
 pub record Front : Type 0 where
@@ -19,10 +19,12 @@ no_records = record { rings = []; places = 0 }
 abbrev pub sizes_of : Ring → Sizes
 sizes_of r = record { slots = r.slots; buffers = map (λ b. b.len) r.buffers }
 
--- a record's own places: one of each entry, of a fill and of a new ring
+-- a record's own places: one of each entry, of a fill, a set, a seek and a new ring
 abbrev pub places_of : Record → ℕ
 places_of (Enter ring entries) = length entries
 places_of (Fill ring buffer offset filling) = 1
+places_of (Set file content) = 1
+places_of (Seek file position) = 1
 places_of (RingStarts ring) = 1
 places_of (RingEnds ring) = 0
 

@@ -1,5 +1,6 @@
 pub mod Fields
 pub mod Start
+pub mod Opens
 pub mod Front
 pub mod Found
 pub mod Records

@@ -1,12 +1,13 @@
 -- The model: the text of a record, by the start of the trace and the records before it.
-use Rattle.std.specs.Prelude.{ℕ, suc, ◌+◌, ◌-◌, ◌==◌, ◌^◌, Bool, ◌&&◌, ◌||◌, not, List, [], ◌++◌, length, replicate, Option, None, Some, nat_le, nat_lt, min, if◌then◌else◌}
-use Rattle.std.specs.Int.{w8, w16, w32, cast_signed}
+use Rattle.std.specs.Prelude.{ℕ, suc, ◌+◌, ◌-◌, ◌==◌, ◌^◌, Bool, ◌&&◌, ◌||◌, not, is_ok, List, [], ◌++◌, length, replicate, Option, None, Some, nat_le, nat_lt, min, if◌then◌else◌}
+use Rattle.std.specs.Int.{w8, w16, w32, w64, cast_signed}
 use Rattle.sqe_codec.specs.declared.sqe.Sqe.{Sqe}
 use Rattle.sqe_codec.specs.Fields.{entry_of}
 use Rattle.trace_format.specs.Grammar.{Grammar, Done, Bytes, Place, Test, Known, Choice, ◌>>=◌, fault, number, number_to, several}
-use Rattle.trace_format.specs.Sides.{vector_len, is_side_of}
+use Rattle.trace_records.specs.Opens.{check_path, are_open_flags}
+use Rattle.trace_format.specs.Sides.{vector_len, is_side_of, has_zero}
 use Rattle.trace_format.specs.Text.{buffer}
-use Rattle.trace_format.specs.declared.fault.Kind.TheVariants.{Limit, Reference, Side}
+use Rattle.trace_format.specs.declared.fault.Kind.TheVariants.{Limit, Path, Reference, Side}
 use Rattle.trace_format.specs.declared.given.Given.TheVariants.{Passed, Refused}
 use Rattle.trace_records.specs.Fields.{number_in, number_of, end_of}
 use Rattle.trace_records.specs.Front.{Front, ring_at, slots_in, buffer_len, places_limit}
@@ -17,10 +18,14 @@ use Rattle.trace_records.specs.declared.record.Beside.TheVariants.{Stored, Zeros
 use Rattle.trace_records.specs.declared.record.Filling.TheVariants as filling
 use Rattle.trace_records.specs.declared.record.Holder.{Holder}
 use Rattle.trace_records.specs.declared.record.Holder.TheVariants.{Slot, Descriptor, Description}
+use Rattle.trace_records.specs.declared.record.FileAt.{FileAt}
+use Rattle.trace_records.specs.declared.record.FileAt.TheVariants as files
+use Rattle.trace_records.specs.declared.record.Content.{Content}
+use Rattle.trace_records.specs.declared.record.Content.TheVariants as contents
 use Rattle.trace_records.specs.declared.record.FullSlot.{FullSlot}
 use Rattle.trace_records.specs.declared.record.Ring.{Ring}
 use Rattle.trace_records.specs.declared.record.Record.{Record}
-use Rattle.trace_records.specs.declared.record.Record.TheVariants.{Enter, Fill, RingStarts, RingEnds}
+use Rattle.trace_records.specs.declared.record.Record.TheVariants.{Enter, Fill, Set, Seek, RingStarts, RingEnds}
 
 -- the number of a ring that is there
 abbrev pub ring_there : Front → Grammar ℕ
@@ -190,13 +195,82 @@ ring start front = do
   buffers ← several count buffer []
   Done (record { queue = queue; slots = slots; full = full; buffers = buffers })
 
--- entries, a fill, a ring, the end of a ring, the end; a set and a seek, kinds 3 and 4, are not served
-abbrev pub is_kind : ℕ → Bool
-is_kind kind = kind == 1 || kind == 2 || kind == 5 || kind == 6 || kind == 7
+-- a slot of a ring that is there
+unfoldable pub slot_at : Front → Grammar FileAt
+slot_at front = do
+  ring ← ring_there front
+  number ← number_of w32 (slots_in front.rings ring)
+  Done (files.Slot ring number)
 
--- a fill and a ring are a place, of which there is one more; rings have numbers below 2^20
+-- one of the descriptors
+abbrev pub descriptor_at : Start → Grammar FileAt
+descriptor_at start = do
+  number ← other_holder start.table_size
+  Done (files.Descriptor number)
+
+-- a slot or a descriptor
+unfoldable pub file_at : Start → Front → Grammar FileAt
+file_at start front = do
+  what ← number_to w8 1
+  Choice (what == 0) (slot_at front) (descriptor_at start)
+
+-- a position of a description
+abbrev pub position : Grammar ℕ
+position = number_to w64 (2 ^ 63 - 1)
+
+-- a path that passes the tests of a path, and has no zero byte
+abbrev pub is_call_path : List ℕ → Bool
+is_call_path path = is_ok (check_path path) && not (has_zero path)
+
+-- flags of openat that pass its tests, a position, and the path
+unfoldable pub opened : Grammar Content
+opened = do
+  place ← Place
+  flags ← number w32
+  _ ← Test (are_open_flags flags 0) (fault Limit place)
+  position ← position
+  len ← number w16
+  place ← Place
+  path ← Bytes len
+  _ ← Test (is_call_path path) (fault Path place)
+  Done (contents.Path flags position path)
+
+-- what another slot or descriptor holds
+abbrev pub copied : Start → Front → Grammar Content
+copied start front = do
+  of ← file_at start front
+  Done (contents.Copy of)
+
+-- nothing, a new description of a path, what another one holds, or what is no file of the tree
+unfoldable pub content : Start → Front → Grammar Content
+content start front = do
+  what ← number_to w8 3
+  Choice (what == 0) (Done contents.Nothing) (Choice (what == 1) opened (Choice (what == 2) (copied start front) (Done contents.Taken)))
+
+-- what a slot or a descriptor holds from here on
+unfoldable pub set : Start → Front → Grammar Record
+set start front = do
+  file ← file_at start front
+  content ← content start front
+  Done (Set file content)
+
+-- the position of what a slot or a descriptor holds
+unfoldable pub seek : Start → Front → Grammar Record
+seek start front = do
+  file ← file_at start front
+  position ← position
+  Done (Seek file position)
+
+-- entries, a fill, a set, a seek, a ring, the end of a ring, the end
+abbrev pub is_kind : ℕ → Bool
+is_kind kind = nat_le 1 kind && nat_le kind 7
+
+-- a fill, a set, a seek and a ring are a place, of which there is one more; rings have numbers below 2^20
+abbrev pub is_place : ℕ → Bool
+is_place kind = nat_le 2 kind && nat_le kind 5
+
 abbrev pub has_room : Front → ℕ → Bool
-has_room front kind = (not (kind == 2 || kind == 5) || nat_lt front.places places_limit) && (not (kind == 5) || nat_lt (length front.rings) 1048576)
+has_room front kind = (not (is_place kind) || nat_lt front.places places_limit) && (not (kind == 5) || nat_lt (length front.rings) 1048576)
 
 -- a new ring, and the end of one
 abbrev pub ring_starts : Start → Front → Grammar Record
@@ -211,7 +285,9 @@ ring_ends front = do
 
 -- what follows the kind of a record
 abbrev pub body : Start → Front → ℕ → ℕ → Grammar Record
-body start front begin kind = Choice (kind == 1) (enter front begin) (Choice (kind == 2) (fill front) (Choice (kind == 5) (ring_starts start front) (ring_ends front)))
+body start front begin kind =
+    Choice (kind == 1) (enter front begin) (Choice (kind == 2) (fill front) (Choice (kind == 3) (set start front)
+    (Choice (kind == 4) (seek start front) (Choice (kind == 5) (ring_starts start front) (ring_ends front)))))
 
 -- the next record, or none where the trace ends
 unfoldable pub next : Start → Front → Grammar (Option Record)

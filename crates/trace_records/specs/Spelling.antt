@@ -18,10 +18,14 @@ use Rattle.trace_records.specs.declared.record.Filling.{Filling}
 use Rattle.trace_records.specs.declared.record.Filling.TheVariants as filling
 use Rattle.trace_records.specs.declared.record.Holder.{Holder}
 use Rattle.trace_records.specs.declared.record.Holder.TheVariants as holder
+use Rattle.trace_records.specs.declared.record.FileAt.{FileAt}
+use Rattle.trace_records.specs.declared.record.FileAt.TheVariants as files
+use Rattle.trace_records.specs.declared.record.Content.{Content}
+use Rattle.trace_records.specs.declared.record.Content.TheVariants as contents
 use Rattle.trace_records.specs.declared.record.FullSlot.{FullSlot}
 use Rattle.trace_records.specs.declared.record.Ring.{Ring}
 use Rattle.trace_records.specs.declared.record.Record.{Record}
-use Rattle.trace_records.specs.declared.record.Record.TheVariants.{Enter, Fill, RingStarts, RingEnds}
+use Rattle.trace_records.specs.declared.record.Record.TheVariants.{Enter, Fill, Set, Seek, RingStarts, RingEnds}
 use Rattle.trace_records.specs.declared.trace.Trace.{Trace}
 use Rattle.trace_records.specs.Records.{own_queue}
 use Rattle.trace_records.specs.Whole.{SpellsTrace}
@@ -74,10 +78,15 @@ abbrev pub filling_bytes : ℕ → Filling → List ℕ
 filling_bytes offset (filling.Stored bytes) = 0 ∷ to_le_bytes w32 offset ++ to_le_bytes w32 (length bytes) ++ bytes
 filling_bytes offset (filling.Zeros len) = 1 ∷ to_le_bytes w32 offset ++ to_le_bytes w32 len
 
--- what holds it, its ring, and its number
+-- whether it is a descriptor, its ring, and its number
+abbrev pub file_bytes : FileAt → List ℕ
+file_bytes (files.Slot ring number) = 0 ∷ to_le_bytes w32 ring ++ to_le_bytes w32 number
+file_bytes (files.Descriptor number) = 1 ∷ to_le_bytes w32 0 ++ to_le_bytes w32 number
+
+-- a slot, a descriptor, or the number of a description
 abbrev pub holder_bytes : Holder → List ℕ
-holder_bytes (holder.Slot ring number) = 0 ∷ to_le_bytes w32 ring ++ to_le_bytes w32 number
-holder_bytes (holder.Descriptor number) = 1 ∷ to_le_bytes w32 0 ++ to_le_bytes w32 number
+holder_bytes (holder.Slot ring number) = file_bytes (files.Slot ring number)
+holder_bytes (holder.Descriptor number) = file_bytes (files.Descriptor number)
 holder_bytes (holder.Description number) = 2 ∷ to_le_bytes w32 0 ++ to_le_bytes w32 number
 
 -- number, and what it gets
@@ -93,10 +102,19 @@ queue_number (Some ring) = ring
 abbrev pub ring_bytes : Ring → List ℕ
 ring_bytes r = to_le_bytes w32 (queue_number r.queue) ++ to_le_bytes w32 r.slots ++ to_le_bytes w32 (length r.full) ++ flat_map full_slot_bytes r.full ++ to_le_bytes w16 (length r.buffers) ++ flat_map buffer_bytes r.buffers
 
+-- what it is, and what it has
+abbrev pub content_bytes : Content → List ℕ
+content_bytes contents.Nothing = 0 ∷ []
+content_bytes (contents.Path flags position path) = 1 ∷ to_le_bytes w32 flags ++ to_le_bytes w64 position ++ to_le_bytes w16 (length path) ++ path
+content_bytes (contents.Copy of) = 2 ∷ file_bytes of
+content_bytes contents.Taken = 3 ∷ []
+
 -- kind, and what the kind has
 abbrev pub record_bytes : Record → List ℕ
 record_bytes (Enter ring entries) = 1 ∷ to_le_bytes w32 ring ++ to_le_bytes w16 (length entries) ++ flat_map entry_text entries
 record_bytes (Fill ring buffer offset filling) = 2 ∷ to_le_bytes w32 ring ++ to_le_bytes w16 buffer ++ filling_bytes offset filling
+record_bytes (Set file content) = 3 ∷ file_bytes file ++ content_bytes content
+record_bytes (Seek file position) = 4 ∷ file_bytes file ++ to_le_bytes w64 position
 record_bytes (RingStarts ring) = 5 ∷ ring_bytes ring
 record_bytes (RingEnds ring) = 6 ∷ to_le_bytes w32 ring
 

@@ -81,6 +81,8 @@ impl Front {
                 self.places += entries.as_slice().len() as u32;
             }
             Record::Fill { .. } => self.places += 1,
+            Record::Set { .. } => self.places += 1,
+            Record::Seek { .. } => self.places += 1,
             Record::RingStarts { ring } => {
                 let sizes = sizes_of(alloc, ring)?;
                 self.rings.push(Some(sizes))?;

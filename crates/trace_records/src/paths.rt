@@ -4,7 +4,7 @@ ghost use Rattle.std.specs.List.{list_all};
 ghost use Rattle.trace_format.specs.Paths.{is_name, is_path, parent_of, runs};
 ghost use Rattle.trace_format.specs.Sides.{has_zero};
 
-fn has_zero(bytes: &[u8]) -> bool
+pub(crate) fn has_zero(bytes: &[u8]) -> bool
     ensures { result ≡ has_zero bytes.now }
 {
     bytes.iter().any(|b| *b == 0)

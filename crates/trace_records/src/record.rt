@@ -66,6 +66,34 @@ pub struct Ring {
     pub buffers: Series<Buffer>,
 }
 
+/// Where a file may be open: a slot of a ring, or an ordinary descriptor.
+#[derive(Clone, Copy, Debug)]
+pub enum FileAt {
+    /// A slot of a ring that is there.
+    Slot { ring: u32, number: u32 },
+    /// An ordinary descriptor.
+    Descriptor { number: u32 },
+}
+
+/// What a set leaves at a slot or a descriptor.
+#[derive(Drop)]
+pub enum Content {
+    /// Nothing, as close(2).
+    Nothing,
+    /// A new description of a path, as open(2) makes it with these flags, and its position.
+    Path {
+        flags: u32,
+        position: u64,
+        path: Blob,
+    },
+    /// What another slot or descriptor holds, as dup2(2).
+    Copy {
+        of: FileAt,
+    },
+    /// Something that is no file of the tree, a pipe or a socket say.
+    Taken,
+}
+
 /// What was recorded in one step of the recording.
 #[derive(Drop)]
 pub enum Record {
@@ -81,6 +109,16 @@ pub enum Record {
         buffer: u16,
         offset: u32,
         filling: Filling,
+    },
+    /// Kind 3: what a slot or a descriptor holds from here on. A place.
+    Set {
+        file: FileAt,
+        content: Content,
+    },
+    /// Kind 4: the position of what a slot or a descriptor holds, as lseek(2). A place.
+    Seek {
+        file: FileAt,
+        position: u64,
     },
     /// Kind 5: a new ring. Its number is how many rings there were. A place.
     RingStarts {

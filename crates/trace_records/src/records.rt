@@ -3,7 +3,7 @@ ghost use Rattle.std.specs.Prelude.{◌≡◌, ◌+◌, ◌≤◌, ◌<◌, ◌^
 ghost use Rattle.trace_records.specs.Front.{places_of, places_limit};
 ghost use Rattle.trace_records.specs.Read.{Gives};
 ghost use Rattle.trace_records.specs.Sources.{reading_from, with_rest};
-ghost use Rattle.trace_records.specs.Records.{is_kind, has_room};
+ghost use Rattle.trace_records.specs.Records.{is_kind, is_place, has_room};
 ghost use Rattle.trace_records.specs.Records.{ring_starts, ring_ends, body, next};
 
 use crate::entries::enter_of;
@@ -12,6 +12,7 @@ use crate::fills::fill_of;
 use crate::front::{Front, PLACES};
 use crate::record::Record;
 use crate::rings::{ring_of, ring_there_of};
+use crate::sets::{seek_of, set_of};
 use crate::source::{Source, u8_of};
 use crate::start::Start;
 use std::alloc::Global;
@@ -20,19 +21,25 @@ use trace_format::Kind;
 /// How many rings a trace has at most.
 const RINGS: usize = 1_048_576;
 
-/// Whether records of this kind are served.
+/// Whether there are records of this kind.
 fn is_kind(kind: u8) -> bool
     ensures { result ≡ is_kind kind }
 {
-    matches!(kind, 1 | 2 | 5 | 6 | 7)
+    kind >= 1 && kind <= 7
+}
+
+/// Whether a record of this kind is one place.
+fn is_place(kind: u8) -> bool
+    ensures { result ≡ is_place kind }
+{
+    kind >= 2 && kind <= 5
 }
 
 /// Whether one more record of this kind may follow.
 fn has_room(front: &Front, kind: u8) -> bool
     ensures { result ≡ has_room front.now kind }
 {
-    let is_place = kind == 2 || kind == 5;
-    (!is_place || front.places() < PLACES) && (kind != 5 || front.rings() < RINGS)
+    (!is_place(kind) || front.places() < PLACES) && (kind != 5 || front.rings() < RINGS)
 }
 
 fn ring_starts_of<'a>(
@@ -77,6 +84,8 @@ fn body_of<'a>(
     match kind {
         1 => enter_of(alloc, front, begin, source),
         2 => fill_of(alloc, front, source),
+        3 => set_of(alloc, start, front, source),
+        4 => seek_of(start, front, source),
         5 => ring_starts_of(alloc, start, front, source),
         _ => ring_ends_of(front, source),
     }

@@ -51,7 +51,10 @@ fn slot_holder_of<'a>(front: &Front, source: Source<'a>) -> Result<(Holder, Sour
 }
 
 #[tactic(auto, unfolding(crate::specs::Records::other_holder))]
-fn other_holder_of(source: Source<'_>, count: usize) -> Result<(u32, Source<'_>), ReadError>
+pub(crate) fn other_holder_of(
+    source: Source<'_>,
+    count: usize,
+) -> Result<(u32, Source<'_>), ReadError>
     ensures { Gives with_rest result (reading_from source.entry (other_holder count)) }
 {
     let (_, source) = u32_to(source, 0)?;

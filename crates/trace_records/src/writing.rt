@@ -7,9 +7,10 @@ ghost use Rattle.trace_records.specs.Spelling.{range_bytes, kind_of, node_bytes,
 ghost use Rattle.trace_records.specs.Spelling.{descriptor_bytes, header_bytes, start_bytes};
 ghost use Rattle.trace_records.specs.Spelling.{beside_bytes, entry_text, filling_bytes};
 ghost use Rattle.trace_records.specs.Spelling.{holder_bytes, full_slot_bytes, queue_number};
+ghost use Rattle.trace_records.specs.Spelling.{file_bytes, content_bytes};
 ghost use Rattle.trace_records.specs.Spelling.{ring_bytes, record_bytes, end_bytes, trace_bytes};
 
-use crate::record::{Beside, Entry, Filling, FullSlot, Holder, Record, Ring};
+use crate::record::{Beside, Content, Entry, FileAt, Filling, FullSlot, Holder, Record, Ring};
 use crate::start::{Descriptor, Item, Node, Range, Start};
 use crate::trace::Trace;
 use sqe_codec::pack;
@@ -266,12 +267,21 @@ fn put_three(out: &mut Vec<u8>, what: u8, ring: u32, number: u32) -> Result<(), 
     out.extend_from_slice(&number.to_le_bytes())
 }
 
+fn put_file(out: &mut Vec<u8>, file: FileAt) -> Result<(), AllocError>
+    ensures { OnOk result (out.new.items ≡ out.old.items ++ file_bytes file) }
+{
+    match file {
+        FileAt::Slot { ring, number } => put_three(out, 0, ring, number),
+        FileAt::Descriptor { number } => put_three(out, 1, 0, number),
+    }
+}
+
 fn put_holder(out: &mut Vec<u8>, holder: Holder) -> Result<(), AllocError>
     ensures { OnOk result (out.new.items ≡ out.old.items ++ holder_bytes holder) }
 {
     match holder {
-        Holder::Slot { ring, number } => put_three(out, 0, ring, number),
-        Holder::Descriptor { number } => put_three(out, 1, 0, number),
+        Holder::Slot { ring, number } => put_file(out, FileAt::Slot { ring, number }),
+        Holder::Descriptor { number } => put_file(out, FileAt::Descriptor { number }),
         Holder::Description { number } => put_three(out, 2, 0, number),
     }
 }
@@ -290,6 +300,42 @@ fn put_full_slots(out: &mut Vec<u8>, slots: &[FullSlot]) -> Result<(), AllocErro
         put_full_slot(out, slot)?;
     }
     Ok(())
+}
+
+/// Flags, a position, and a path with its length, behind the number for these.
+fn put_opened(out: &mut Vec<u8>, flags: u32, position: u64, path: &[u8]) -> Result<(), AllocError>
+    ensures { OnOk result (out.new.items
+        ≡ out.old.items ++ content_bytes (Content.Path flags position path.now)) }
+{
+    out.push(1)?;
+    out.extend_from_slice(&flags.to_le_bytes())?;
+    out.extend_from_slice(&position.to_le_bytes())?;
+    put_u16(out, path.len())?;
+    out.extend_from_slice(path)
+}
+
+fn put_content(out: &mut Vec<u8>, content: &Content) -> Result<(), AllocError>
+    ensures { OnOk result (out.new.items ≡ out.old.items ++ content_bytes content.now) }
+{
+    match content {
+        Content::Nothing => {
+            out.push(0)?;
+            Ok(())
+        }
+        Content::Path {
+            flags,
+            position,
+            path,
+        } => put_opened(out, *flags, *position, path.as_slice()),
+        Content::Copy { of } => {
+            out.push(2)?;
+            put_file(out, *of)
+        }
+        Content::Taken => {
+            out.push(3)?;
+            Ok(())
+        }
+    }
 }
 
 fn queue_number(queue: Option<u32>) -> u32
@@ -337,6 +383,16 @@ pub fn write_record(out: &mut Vec<u8>, made: &Record) -> Result<(), AllocError>
             out.extend_from_slice(&ring.to_le_bytes())?;
             out.extend_from_slice(&buffer.to_le_bytes())?;
             put_filling(out, *offset, filling)
+        }
+        Record::Set { file, content } => {
+            out.push(3)?;
+            put_file(out, *file)?;
+            put_content(out, content)
+        }
+        Record::Seek { file, position } => {
+            out.push(4)?;
+            put_file(out, *file)?;
+            out.extend_from_slice(&position.to_le_bytes())
         }
         Record::RingStarts { ring } => {
             out.push(5)?;

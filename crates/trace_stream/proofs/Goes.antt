@@ -7,7 +7,7 @@ use Rattle.trace_format.specs.Grammar.{Breaks, Grammar, Spells, fault}
 use Rattle.trace_format.specs.declared.fault.Kind.TheVariants.{Short, Trailing}
 use Rattle.trace_format.specs.declared.fault.TraceFault.{TraceFault}
 use Rattle.trace_records.specs.Front.{Front, no_records, after}
-use Rattle.trace_records.specs.Records.{full_slot, holder, next, ring}
+use Rattle.trace_records.specs.Records.{content, file_at, full_slot, holder, next, ring, seek, set}
 use Rattle.trace_records.specs.Start.{start}
 use Rattle.trace_records.specs.Whole.{Behind, Begins, Ends, NextBreaks, HasMore, SpellsTrace, HasFault, IsRefusal}
 use Rattle.trace_records.specs.declared.record.Record.{Record}
@@ -60,7 +60,7 @@ behind_push front (q ∷ rs) r = behind_push (after front q) rs r
 -- what is kept of a start decides the same records
 next_same : (items others : List Item) (descriptions : List Description) (size : ℕ) (full none : List Descriptor) (front : Front)
     → next (record { items = items; descriptions = descriptions; table_size = size; descriptors = full }) front ≡ next (record { items = others; descriptions = descriptions; table_size = size; descriptors = none }) front
-unfolding next ring full_slot holder
+unfolding next set content file_at seek ring full_slot holder
 next_same items others descriptions size full none front = refl
 
 next_as : (core b : Start) (front : Front) → IsCoreOf core b → next core front ≡ next b front

@@ -1,14 +1,12 @@
 -- Records that are counted as they come.
-use Rattle.std.proofs.Common.{◌≡◌, ◌∙◌, ◌+◌, ◌++◌, ◌∷◌, [], ℕ, true, false, List, length, cond, Option, None, Some, sym, ap, add-zero, length-append, arith, is_some, IfSome}
-use Rattle.std.proofs.lemmas.List.{length-set}
+use Rattle.std.proofs.Common.{◌≡◌, ◌∙◌, ◌+◌, ◌++◌, ◌∷◌, [], ℕ, true, false, List, length, cond, Option, None, Some, sym, ap, add-zero, arith, is_some, IfSome}
 use Rattle.std.proofs.lemmas.List.Sums.{sum_by-cons}
 use Rattle.trace_records.specs.declared.counting.Tally.{Tally}
-use Rattle.trace_records.specs.declared.front.Sizes.{Sizes}
 use Rattle.trace_records.specs.declared.record.Record.{Record}
 use Rattle.trace_records.specs.declared.start.Start.{Start}
-use Rattle.trace_records.specs.declared.record.Record.TheVariants.{Enter, Fill, RingStarts, RingEnds}
-use Rattle.trace_records.specs.Front.{Front, no_records, after, places_of, rings_after, sizes_of}
+use Rattle.trace_records.specs.Front.{Front, no_records, after, places_of, rings_after}
 use Rattle.trace_records.specs.Tallies.{places, rings, is_ring}
+use Rattle.trace_records.proofs.Counted.{rings-after}
 use Rattle.trace_stream.proofs.Going.{Going, ended}
 use Rattle.trace_stream.specs.Streams.{behind, trace_of, Steps, Gives, HasTally, ReadsAll}
 use Rattle.trace_stream.specs.declared.stream.Stream.{Stream}
@@ -21,17 +19,11 @@ behind_places front (r ∷ rs) =
     let same : (front.places + places_of r) + places rs ≡ front.places + places (r ∷ rs) = omega (arith, one) in
     behind_places (after front r) rs ∙ same
 
-rings_more : (so_far : List (Option Sizes)) (r : Record) → length (rings_after so_far r) ≡ length so_far + cond (is_ring r) 1 0
-rings_more so_far (Enter ring entries) = sym (add-zero (length so_far))
-rings_more so_far (Fill ring buffer offset filling) = sym (add-zero (length so_far))
-rings_more so_far (RingStarts ring) = length-append so_far (Some (sizes_of ring) ∷ [])
-rings_more so_far (RingEnds ring) = length-set so_far ring None ∙ sym (add-zero (length so_far))
-
 behind_rings : (front : Front) (rs : List Record) → length (behind front rs).rings ≡ length front.rings + rings rs
 behind_rings front [] = sym (add-zero (length front.rings))
 behind_rings front (r ∷ rs) =
     let one : rings (r ∷ rs) ≡ cond (is_ring r) 1 0 + rings rs = sum_by-cons (λ x. cond (is_ring x) 1 0) r rs in
-    let same : length (rings_after front.rings r) + rings rs ≡ length front.rings + rings (r ∷ rs) = omega (arith, one, rings_more front.rings r) in
+    let same : length (rings_after front.rings r) + rings rs ≡ length front.rings + rings (r ∷ rs) = omega (arith, one, rings-after front.rings r) in
     behind_rings (after front r) rs ∙ same
 
 zero-add : (n : ℕ) → 0 + n ≡ n

@@ -12,6 +12,9 @@ use std::marker::Model;
 /// The most bytes that one call reads.
 const PIECE: usize = 65_536;
 
+/// Room for so many bytes at most is kept for those that come.
+const KEPT: usize = 8_388_608;
+
 /// Nothing is read behind so many bytes of a text: numbers of places have 64 bits.
 const MOST: u64 = 4_611_686_018_427_387_904;
 
@@ -97,7 +100,7 @@ impl Held {
         self.least = 0;
     }
 
-    /// Lets go of the bytes that were used.
+    /// Lets go of the bytes that were used. Their room stays, for those that come, where it is small.
     fn let_go(&mut self, alloc: Global) -> Result<(), AllocError>
         ensures same { OnOk result (self.new ≡ self.old) }
         ensures bound { self.new.place + length self.new.rest < 2 ^ 63 }
@@ -105,9 +108,15 @@ impl Held {
         if self.used == 0 {
             return Ok(());
         }
-        let mut bytes = Vec::new(alloc);
-        bytes.extend_from_slice(&self.bytes[self.used..])?;
-        self.bytes = bytes;
+        if self.bytes.capacity() <= KEPT {
+            let left = self.bytes.len() - self.used;
+            self.bytes.copy_within(self.used.., 0);
+            self.bytes.truncate(left);
+        } else {
+            let mut bytes = Vec::new(alloc);
+            bytes.extend_from_slice(&self.bytes[self.used..])?;
+            self.bytes = bytes;
+        }
         self.used = 0;
         Ok(())
     }

@@ -80,6 +80,15 @@ fn fill_len(bytes: &[u8]) -> usize {
     }
 }
 
+/// That of a set.
+fn set_len(bytes: &[u8]) -> usize {
+    match bytes.get(10) {
+        Some(1) => behind(25, u16_at(bytes, 23).unwrap_or(0) as usize),
+        Some(2) => 20,
+        _ => 11,
+    }
+}
+
 /// That of a new ring.
 fn ring_len(bytes: &[u8]) -> usize {
     let end = behind_fields(13, u32_at(bytes, 9).unwrap_or(0), 13);
@@ -92,6 +101,8 @@ pub(crate) fn record_len(bytes: &[u8]) -> usize {
     match bytes.first() {
         Some(1) => entries_len(bytes),
         Some(2) => fill_len(bytes),
+        Some(3) => set_len(bytes),
+        Some(4) => 18,
         Some(5) => ring_len(bytes),
         _ => 1,
     }

@@ -1,6 +1,6 @@
 use Rattle.std.proofs.Common.{arith, ◌∙◌, ◌-◌}
 use Rattle.std.proofs.lemmas.Option.{slice_get_within}
-use Rattle.recording.proofs.Spots.{found_here, place_back, same_place, index_read, first_read, step_read, enter_step, fill_step, register_step}
+use Rattle.recording.proofs.Spots.{found_here, place_back, same_place, index_read, first_read, step_read, enter_step, one_step, one_step_on}
 use Rattle.recording.proofs.kept.Grown.step.Goals as goal
 
 pub index-index-requires : goal.index-index-requires
@@ -39,10 +39,22 @@ pub returns-in-Fill : goal.returns-in-Fill
 returns-in-Fill c =
     let f = found_here _ _ _ _ _ _ c.self.invariant.0 c.self.invariant.1 c.self.view_is c.requires.behind c.requires.within in
     let r = rw c.in-Fill.is at (step_read f _ c.index-index.ensures c.args.place _ _ (place_back _ _ _ _ c.self.view_is c.requires.behind) c.index-first.ensures c.index.ensures) in
-    same_place _ _ _ _ c.self.view_is ∙ r.1 ∙ fill_step _ _ _ _ _ _ r.0
+    same_place _ _ _ _ c.self.view_is ∙ r.1 ∙ one_step _ _ r.0
 
 pub returns-in-Register : goal.returns-in-Register
 returns-in-Register c =
     let f = found_here _ _ _ _ _ _ c.self.invariant.0 c.self.invariant.1 c.self.view_is c.requires.behind c.requires.within in
     let r = rw c.in-Register.is at (step_read f _ c.index-index.ensures c.args.place _ _ (place_back _ _ _ _ c.self.view_is c.requires.behind) c.index-first.ensures c.index.ensures) in
-    same_place _ _ _ _ c.self.view_is ∙ r.1 ∙ register_step _ _ _ _ r.0
+    same_place _ _ _ _ c.self.view_is ∙ r.1 ∙ one_step _ _ r.0
+
+pub returns-in-Set : goal.returns-in-Set
+returns-in-Set c =
+    let f = found_here _ _ _ _ _ _ c.self.invariant.0 c.self.invariant.1 c.self.view_is c.requires.behind c.requires.within in
+    let r = rw c.in-Set.is at (step_read f _ c.index-index.ensures c.args.place _ _ (place_back _ _ _ _ c.self.view_is c.requires.behind) c.index-first.ensures c.index.ensures) in
+    same_place _ _ _ _ c.self.view_is ∙ r.1 ∙ one_step_on _ _ _ r.0 c.ring_of.ensures
+
+pub returns-in-Seek : goal.returns-in-Seek
+returns-in-Seek c =
+    let f = found_here _ _ _ _ _ _ c.self.invariant.0 c.self.invariant.1 c.self.view_is c.requires.behind c.requires.within in
+    let r = rw c.in-Seek.is at (step_read f _ c.index-index.ensures c.args.place _ _ (place_back _ _ _ _ c.self.view_is c.requires.behind) c.index-first.ensures c.index.ensures) in
+    same_place _ _ _ _ c.self.view_is ∙ r.1 ∙ one_step_on _ _ _ r.0 c.ring_of-in-Seek.ensures

@@ -2,9 +2,9 @@ use Rattle.std.proofs.Common.{◌∙◌, sym, rules, tests, eqb}
 use Rattle.std.specs.List.{slice_split}
 use Rattle.std.proofs.lemmas.Iterator.Search.{any_from_yields_List}
 use Rattle.std.proofs.lemmas.Iterator.Splits.{YieldsList-from_slice_split}
-use Rattle.entry_checks.specs.Check.{is_dots}
-use Rattle.entry_checks.proofs.Words.{dots-filtered}
-use Rattle.entry_checks.proofs.paths.has_dots.Goals as goal
+use Rattle.trace_records.specs.Opens.{is_dots}
+use Rattle.trace_records.proofs.Words.{dots-filtered}
+use Rattle.trace_records.proofs.opens.has_dots.Goals as goal
 
 pub returns : goal.returns
 returns c =

@@ -4,7 +4,7 @@ use Rattle.std.specs.Prelude.{unwrap_or}
 use Rattle.std.specs.List.{list_any, last_or}
 use Rattle.std.specs.Prelude.{filter}
 use Rattle.std.proofs.lemmas.Bool.Decides.{nat_tests}
-use Rattle.entry_checks.specs.Check.{is_dots}
+use Rattle.trace_records.specs.Opens.{is_dots}
 
 pub last_at : (o : Option ℕ) (xs : List ℕ) → 0 < length xs → unwrap_or (last_or o xs) 0 ≡ get_or xs (length xs - 1) 0
 last_at o [] lt = absurd (omega arith)
