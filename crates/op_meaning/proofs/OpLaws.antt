@@ -14,7 +14,7 @@ use Rattle.trace_format.specs.Sides.{most_moved}
 use Rattle.recording.specs.Accepted.{IsAccepted}
 use Rattle.recording.specs.Limits.{table_limit}
 use Rattle.trace_records.specs.declared.record.FullSlot.{FullSlot}
-use Rattle.entry_checks.specs.Operation.{Operation, nop, readv, writev, fsync, read_fixed, write_fixed, fallocate, openat, close, read, write, renameat, unlinkat, mkdirat, linkat, ftruncate, sync_file_range, fadvise, statx, statx_file, statx_root, given, File, Span, Path, OpenFlags, asked, file_limit, at_position, in_slot, at_descriptor}
+use Rattle.entry_checks.specs.Operation.{Operation, nop, readv, writev, fsync, read_fixed, write_fixed, fallocate, openat, close, read, write, renameat, unlinkat, mkdirat, linkat, ftruncate, sync_file_range, fadvise, statx, statx_file, statx_root, given, hold_nothing, hold_path, hold_copy, hold_other, seek, File, Span, Path, OpenFlags, asked, file_limit, at_position, in_slot, at_descriptor}
 use Rattle.entry_checks.specs.Check.{has, io_hardlink, skip_success}
 use Rattle.chain_plan.specs.declared.role.Role.{Role}
 use Rattle.chain_plan.specs.Chain.{role}
@@ -24,8 +24,8 @@ use Rattle.world_parts.specs.World.{World, Change, quiet, loud, break_chain, slo
 use Rattle.world_parts.specs.Paths.{is_file_name}
 use Rattle.world_parts.proofs.FileNames.{Named, AllNaming, named_place, named_changes, named_start}
 use Rattle.op_meaning.specs.Site.{at_place, in_ring, sited}
-use Rattle.op_meaning.specs.Meaning.{Effect, done, bytes_in, Handle, handle, held, slot_count, can_write, is_bad_offset, span_start, span_destination, span_bytes, advance, Destination, reply, into, delivered, read_effect, readable, read_meaning, write_start, write_effect, writable, write_meaning, Allocation, extend, reserve, punch, zero_extend, zero_within, allocation, allocate, fallocate_meaning, ftruncate_meaning, room, lowest_free, filled, may_open, open_changes, open_as, openat_meaning, close_meaning, may_remove, unlinkat_meaning, mkdirat_meaning, linkat_meaning, may_replace, moved_name, move_meaning, exchange_meaning, goes_below, rename_to, renameat_meaning, node_told, measured, statx_meaning, statx_file_meaning, made_node, made_description, meaning}
-use Rattle.op_meaning.specs.Step.{Turn, filled as fills, registered, filled_slot, refused, canceled, runs, breaks, failed, changes_of, changes_in, turn, step_world, run_world}
+use Rattle.op_meaning.specs.Meaning.{Effect, done, bytes_in, Handle, handle, held, slot_count, can_write, is_bad_offset, span_start, span_destination, span_bytes, advance, Destination, reply, into, delivered, read_effect, readable, read_meaning, write_start, write_effect, writable, write_meaning, Allocation, extend, reserve, punch, zero_extend, zero_within, allocation, allocate, fallocate_meaning, ftruncate_meaning, room, lowest_free, filled, may_open, open_changes, open_as, opened_in, openat_meaning, put, held_in, held_path, held_other, sought, close_meaning, may_remove, unlinkat_meaning, mkdirat_meaning, linkat_meaning, may_replace, moved_name, move_meaning, exchange_meaning, goes_below, rename_to, renameat_meaning, node_told, measured, statx_meaning, statx_file_meaning, made_node, made_description, meaning}
+use Rattle.op_meaning.specs.Step.{Turn, filled as fills, registered, called, filled_slot, refused, canceled, runs, breaks, failed, changes_of, changes_in, turn, step_world, run_world}
 use Rattle.op_meaning.proofs.Fallible.{and_then, and_so, after}
 
 -- Parts of changes.
@@ -54,6 +54,10 @@ fills_room r (at_descriptor n) d = (tt, tt)
 opens_at : (g : OpenFlags) (i : ℕ) (p : Place) → T (is_file_name p.name) → (o : Option Target) → AllNaming (open_changes g i p o)
 opens_at g i p good None = (tt, (good, tt))
 opens_at g i p good (Some x) = either g.truncate _ _ (tt, tt) tt
+
+puts : (r : ℕ) (f : File) (d : Option ℕ) → AllNaming (put r f d ∷ [])
+puts r (in_slot n) d = (tt, tt)
+puts r (at_descriptor n) d = (tt, tt)
 
 -- The names that walks find.
 named : (tree : Tree) (path : Path) → IfOk (walk tree path) (λ p. T (is_file_name p.name))
@@ -213,6 +217,20 @@ module _ (P : Type 0) where
       and_so (λ p. T (is_file_name p.name)) Owed (walk s.nodes old) _ (named s.nodes old) (λ p good.
       and_so (λ q. T (is_file_name q.name)) Owed (walk s.nodes new) _ (named s.nodes new) (λ q fine. and_then Owed (ok_or p.target ENOENT) _ (λ x. renames s p q x good fine old new flags)))
 
+  -- What slots and descriptors hold.
+  opened_names : (t : Recording) (k r : ℕ) (s : World) (p : Path) (g : OpenFlags) (f : File) → IfOk (opened_in (sited t k r) g (Ok f) (walk s.nodes p)) (λ x. AllNaming x.changes)
+  opened_names t k r s p g f =
+      and_so (λ q. T (is_file_name q.name)) (λ (x : Effect). AllNaming x.changes) (walk s.nodes p) _ (named s.nodes p) (λ q good.
+      after (λ (x : Effect). AllNaming x.changes) (may_open g q.target) _ (both (open_changes g (made_node t k) q q.target) _ (opens_at g (made_node t k) q good q.target) (tt, fills_room r f (made_description t k))))
+
+  holding_path : (t : Recording) (k r : ℕ) (f : File) (at : ℕ) (x : Result Effect Errno) → IfOk x (λ y. AllNaming y.changes) → Owed (held_path (sited t k r) f at x)
+  holding_path t k r f at (Ok x) h = still _ (both x.changes _ h (tt, tt))
+  holding_path t k r f at (Err e) h = still _ (puts r f None)
+
+  seeking : (at : ℕ) (x : Option Handle) → Owed (sought at x)
+  seeking at None = still _ tt
+  seeking at (Some h) = still _ (tt, tt)
+
   -- Kinds and sizes.
   tells : (s : World) (x : Target) → Owed (measured s x)
   tells s x = which (is_directory x.kind)
@@ -255,6 +273,11 @@ owes t k r s (statx p) = measuring _ s (walk s.nodes p)
 owes t k r s (statx_file f) = measuring_open _ s (handle (in_ring t r) s f)
 owes t k r s statx_root = record { small = λ p. none; names = tt }
 owes t k r s (given q fails) = still _ [] tt
+owes t k r s (hold_nothing f) = still _ _ (puts r f None)
+owes t k r s (hold_path f p g at) = holding_path _ t k r f at (opened_in (sited t k r) g (Ok f) (walk s.nodes p)) (opened_names (Asks t (hold_path f p g at)) t k r s p g f)
+owes t k r s (hold_copy f q source) = still _ _ (puts r f (held_in s q source))
+owes t k r s (hold_other f) = still _ _ (tt, puts r f (Some (made_description t k)))
+owes t k r s (seek f at) = seeking _ at (handle (in_ring t r) s f)
 
 -- An answer whose count one call can move.
 abbrev pub Small : Effect → Type 0
@@ -277,6 +300,7 @@ slots_filled r s (x ∷ xs) = (tt, slots_filled r s xs)
 names_of_turn : (t : Recording) (k : ℕ) (s : World) (x : Turn) → AllNaming (changes_in t k s x)
 names_of_turn t k s (fills r b at new) = (tt, tt)
 names_of_turn t k s (registered r slots) = slots_filled r s slots
+names_of_turn t k s (called r o) = changed (Asks t o) (meaning (sited t k r) s o) (owes t k r s o)
 names_of_turn t k s (refused e posted) = tt
 names_of_turn t k s (canceled posted) = tt
 names_of_turn t k s (runs r e o) =

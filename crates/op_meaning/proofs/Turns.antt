@@ -8,15 +8,18 @@ use Rattle.sqe_codec.specs.declared.errno.Errno.{Errno}
 use Rattle.recording.specs.declared.steps.Step as borrowed
 use Rattle.recording.specs.declared.steps.Action.TheVariants as actions
 use Rattle.trace_format.specs.declared.entry.Entry.{Entry}
+use Rattle.trace_records.specs.declared.record.Content.{Content}
+use Rattle.trace_records.specs.declared.record.Content.TheVariants as contents
+use Rattle.trace_records.specs.declared.record.FileAt.{FileAt}
 use Rattle.trace_records.specs.declared.record.FullSlot.{FullSlot}
 use Rattle.recording.specs.declared.recording.Recording.{Recording}
-use Rattle.recording.specs.Steps.{Step, Action, submit, fill, register, step_at, step_meant, action_meant}
+use Rattle.recording.specs.Steps.{Step, Action, submit, fill, register, set, seek as seek_file, step_at, step_meant, action_meant}
 use Rattle.chain_plan.specs.declared.role.Role.{Role}
 use Rattle.chain_plan.specs.Chain.{role}
 use Rattle.entry_checks.specs.Check.{check}
-use Rattle.entry_checks.specs.Operation.{Operation}
+use Rattle.entry_checks.specs.Operation.{Operation, seek, asked}
 use Rattle.world_parts.specs.World.{World, Broken, apply_all}
-use Rattle.op_meaning.specs.Step.{Turn, filled, registered, runs, doomed_turn, running_turn, entry_turn, turn, turn_under, reply_of, changes_in, step_reply, step_world}
+use Rattle.op_meaning.specs.Step.{Turn, filled, registered, called, runs, file_in, set_operation, doomed_turn, running_turn, entry_turn, turn, turn_under, reply_of, changes_in, step_reply, step_world}
 
 -- of an entry
 pub submitted : (t : Recording) (k : ℕ) (b : Option Broken) (x : borrowed.Step) (e : Entry) (c : Role) → step_at t k ≡ Some (step_meant x) → x.action ≡ actions.Submit e → c ≡ role t k
@@ -38,6 +41,26 @@ pub registers : (t : Recording) (k : ℕ) (b : Option Broken) (x : borrowed.Step
 registers t k b x slots there is =
     let here : step_at t k ≡ Some (record { ring = x.ring; from_record = x.record_number; action = register slots.now }) = there ∙ ap (λ a. Some (record { ring = x.ring; from_record = x.record_number; action = action_meant a })) is in
     rw here refl
+
+-- where a record sets what a slot or a descriptor holds, or gives the position of that
+pub sets : (t : Recording) (k : ℕ) (b : Option Broken) (x : borrowed.Step) (file : FileAt) (content : Bor Content) → step_at t k ≡ Some (step_meant x) → x.action ≡ actions.Set file content
+    → Some (called x.ring (set_operation file content.now)) ≡ turn_under t k b
+sets t k b x file content there is =
+    let here : step_at t k ≡ Some (record { ring = x.ring; from_record = x.record_number; action = set file content.now }) = there ∙ ap (λ a. Some (record { ring = x.ring; from_record = x.record_number; action = action_meant a })) is in
+    rw here refl
+
+pub seeks : (t : Recording) (k : ℕ) (b : Option Broken) (x : borrowed.Step) (file : FileAt) (position : ℕ) → step_at t k ≡ Some (step_meant x) → x.action ≡ actions.Seek file position
+    → Some (called x.ring (seek (file_in file) position)) ≡ turn_under t k b
+seeks t k b x file position there is =
+    let here : step_at t k ≡ Some (record { ring = x.ring; from_record = x.record_number; action = seek_file file position }) = there ∙ ap (λ a. Some (record { ring = x.ring; from_record = x.record_number; action = action_meant a })) is in
+    rw here refl
+
+-- a set moves no bytes
+pub sets_ask_none : (file : FileAt) (content : Content) → asked (set_operation file content) ≡ None
+sets_ask_none file contents.Nothing = refl
+sets_ask_none file (contents.Path flags position path) = refl
+sets_ask_none file (contents.Copy source) = refl
+sets_ask_none file contents.Taken = refl
 
 -- what a place does that isn't canceled, and the same in a chain that broke
 abbrev pub under_flag : Role → Option Broken → Turn → Turn
@@ -61,11 +84,15 @@ by_flag t k b = at (step_at t k)
     of : Option Broken → ℕ → Action → Turn
     of f r (fill buffer p new) = filled r buffer p new
     of f r (register slots) = registered r slots
+    of f r (set file content) = called r (set_operation file content)
+    of f r (seek_file file position) = called r (seek (file_in file) position)
     of f r (submit e) = entry_turn r e (role t k) f (check t.version e)
 
     act : (r : ℕ) (x : Action) → of b r x ≡ under_flag (role t k) b (of None r x)
     act r (fill buffer p new) = refl
     act r (register slots) = refl
+    act r (set file content) = refl
+    act r (seek_file file position) = refl
     act r (submit e) = entry_alike (role t k) b r e (check t.version e)
 
     at : (x : Option Step) → option_map (λ (y : Step). of b y.ring y.action) x ≡ option_map (under_flag (role t k) b) (option_map (λ (y : Step). of None y.ring y.action) x)

@@ -1,21 +1,22 @@
 -- A view of code: what an operation does that is accepted, as it was decided on.
-use Rattle.std.specs.Prelude.{ℕ, ◌+◌, ◌^◌, ◌<◌, ◌≤◌, [], ◌∷◌, None, length, unwrap_or}
+use Rattle.std.specs.Prelude.{ℕ, ◌+◌, ◌^◌, ◌<◌, ◌≤◌, [], ◌∷◌, None, Ok, length, unwrap_or}
 use Rattle.entry_checks.specs.Operation.{file_limit}
 use Rattle.entry_checks.specs.declared.operation.FileNumber.{FileNumber}
 use Rattle.entry_checks.specs.declared.operation.FileNumber.TheVariants.{Slot, Descriptor}
+use Rattle.entry_checks.specs.Meant.{file_meant}
 use Rattle.extent_bytes.specs.Bytes.{range_of}
 use Rattle.trace_format.specs.Blobs.{sliced}
 use Rattle.trace_format.specs.Sides.{most_moved}
-use Rattle.world_parts.specs.World.{World, buffer, set_descriptor, set_size, set_slot}
+use Rattle.world_parts.specs.World.{World, buffer, set_descriptor, set_position, set_size, set_slot}
 use Rattle.op_meaning.specs.declared.allocating.RangeAllocation.{RangeAllocation}
 use Rattle.op_meaning.specs.declared.decision.Decision.{Decision}
-use Rattle.op_meaning.specs.declared.decision.Decision.TheVariants.{Nothing, Tell, Read, Write, ReadFixed, WriteFixed, Allocate, Resize, Open, Empty, MakeDirectory, ChangeNames}
+use Rattle.op_meaning.specs.declared.decision.Decision.TheVariants.{Nothing, Tell, Read, Write, ReadFixed, WriteFixed, Allocate, Resize, Open, Empty, MakeDirectory, ChangeNames, Hold, HoldPath, HoldOther, Seek}
 use Rattle.op_meaning.specs.declared.transfers.BufferRead.{BufferRead}
 use Rattle.op_meaning.specs.declared.transfers.BufferWrite.{BufferWrite}
 use Rattle.op_meaning.specs.declared.transfers.FileRead.{FileRead}
 use Rattle.op_meaning.specs.declared.transfers.FileWrite.{FileWrite}
 use Rattle.op_meaning.specs.Handles.{allocation_meant, handle_meant}
-use Rattle.op_meaning.specs.Meaning.{Effect, Site, allocate, done, into, node_told, read_effect, reply, write_effect}
+use Rattle.op_meaning.specs.Meaning.{Effect, Site, allocate, done, held_other, held_path, into, node_told, put, read_effect, reply, write_effect}
 use Rattle.op_meaning.specs.NameChanges.{changes_meant, directory_effect}
 use Rattle.op_meaning.specs.Opening.{opened_as}
 
@@ -56,6 +57,10 @@ effect_of site s (Open x) = opened_as site s.nodes x
 effect_of site s (Empty x) = emptied site.ring x
 effect_of site s (MakeDirectory p) = directory_effect site p
 effect_of site s (ChangeNames x) = changes_meant s.nodes x
+effect_of site s (Hold f d) = done (put site.ring (file_meant f) d ∷ [])
+effect_of site s (HoldPath x at) = held_path site (file_meant x.room) at (Ok (opened_as site s.nodes x))
+effect_of site s (HoldOther f) = held_other site (file_meant f)
+effect_of site s (Seek d at) = done (set_position d at ∷ [])
 
 -- whether what was decided on keeps to the limits: it writes no more than one call moves, from within the buffer, and makes no file longer than the largest
 abbrev pub IsWithinLimits : World → ℕ → Decision → Type 0

@@ -12,9 +12,9 @@ use Rattle.recording.specs.declared.recording.Ring.{Ring}
 use Rattle.recording.specs.Rings.{slots_of}
 use Rattle.trace_format.specs.declared.trace.Buffer.{Buffer}
 use Rattle.sqe_codec.specs.Answers.{◌>>=◌, ◌>>◌, require}
-use Rattle.entry_checks.specs.Operation.{Operation, nop, readv, writev, fsync, read_fixed, write_fixed, fallocate, openat, close, read, write, renameat, unlinkat, mkdirat, linkat, ftruncate, sync_file_range, fadvise, statx, statx_file, statx_root, given, File, in_slot, at_descriptor, Span, Path, OpenFlags, file_limit, at_position}
+use Rattle.entry_checks.specs.Operation.{Operation, nop, readv, writev, fsync, read_fixed, write_fixed, fallocate, openat, close, read, write, renameat, unlinkat, mkdirat, linkat, ftruncate, sync_file_range, fadvise, statx, statx_file, statx_root, given, hold_nothing, hold_path, hold_copy, hold_other, seek, File, in_slot, at_descriptor, Span, Path, OpenFlags, file_limit, at_position}
 use Rattle.trace_format.specs.Sides.{most_moved}
-use Rattle.op_meaning.specs.Shape.{Shape, idle, looking, moving, allocating, resizing, closing, opening, measuring, making, freeing, linking, renaming, Look, at_nothing, at_file, at_path, at_paths, look}
+use Rattle.op_meaning.specs.Shape.{Shape, idle, looking, moving, allocating, resizing, closing, opening, measuring, making, freeing, linking, renaming, holding, holding_path, holding_copy, holding_other, seeking, Look, at_nothing, at_file, at_path, at_paths, look}
 use Rattle.file_tree.specs.Tree.{a_directory, a_file, Target}
 use Rattle.world_parts.specs.World.{World, Opened, opened, position, bytes, name_count, slot, descriptor, buffer, Change, set_name, make_node, set_slot, set_descriptor, make_description, set_position, set_size, write_bytes, zero_bytes, write_buffer}
 use Rattle.file_tree.specs.Walk.{Place, walk, is_above, is_directory}
@@ -266,12 +266,16 @@ open_as site g at p =
     let last = filled site.ring at d in
     record last { changes = open_changes g i p p.target ++ make_description d (opened_with g (found_or_made i p.target)) ∷ last.changes }
 
-abbrev pub openat_meaning : Site → World → OpenFlags → (asked : Option ℕ) → Result Place Errno → Result Effect Errno
-openat_meaning site s g asked led = do
-  at ← room site s asked
+-- What opens in a room for its description, by where its path leads.
+abbrev pub opened_in : Site → OpenFlags → (room : Result File Errno) → Result Place Errno → Result Effect Errno
+opened_in site g room led = do
+  at ← room
   p ← led
   may_open g p.target
   Ok (open_as site g at p)
+
+abbrev pub openat_meaning : Site → World → OpenFlags → (asked : Option ℕ) → Result Place Errno → Result Effect Errno
+openat_meaning site s g asked led = opened_in site g (room site s asked) led
 
 abbrev pub close_meaning : Site → World → File → Result Effect Errno
 close_meaning site s (at_descriptor n) = require (is_some (held site s (at_descriptor n))) EBADF >> Ok (done (set_descriptor n None ∷ []))
@@ -370,6 +374,35 @@ statx_file_meaning s there = do
   h ← ok_or there EBADF
   Ok (measured s h.opened.target)
 
+-- A slot of a ring, or a descriptor, gets a description, or becomes empty.
+abbrev pub put : (ring : ℕ) → File → (description : Option ℕ) → Change
+put r (in_slot n) d = set_slot r n d
+put r (at_descriptor n) d = set_descriptor n d
+
+-- What it holds.
+abbrev pub held_in : World → (ring : ℕ) → File → Option ℕ
+held_in s r (in_slot n) = slot s r n
+held_in s r (at_descriptor n) = descriptor s n
+
+-- A new description of a path has its position; where openat refuses the path, nothing is held.
+abbrev pub held_path : Site → File → (position : ℕ) → Result Effect Errno → Effect
+held_path site f at (Ok x) = done (x.changes ++ set_position (made_description site.trace site.place) at ∷ [])
+held_path site f at (Err e) = done (put site.ring f None ∷ [])
+
+-- What is no file of the tree only takes the number: it is the root, open to be read.
+abbrev pub no_file : Opened
+no_file = record { target = record { node = 0; kind = Some a_directory }; access = Read; append = false }
+
+abbrev pub held_other : Site → File → Effect
+held_other site f =
+    let d = made_description site.trace site.place in
+    done (make_description d no_file ∷ put site.ring f (Some d) ∷ [])
+
+-- The position of what is open, where a file is.
+abbrev pub sought : (position : ℕ) → Option Handle → Effect
+sought at None = done []
+sought at (Some h) = done (set_position h.description at ∷ [])
+
 -- What an operation finds where it looks: the open file, and where its path leads, or the old one of two and the new one.
 pub record Found : Type 0 where
   pub file : Option Handle
@@ -410,6 +443,11 @@ behavior (statx p) = record { shape = measuring p; meaning = λ site s z. statx_
 behavior (statx_file f) = record { shape = moving false f 0 0 None; meaning = λ site s z. statx_file_meaning s z.file }
 behavior statx_root = record { shape = idle; meaning = λ site s z. Ok (node_told 1 0) }
 behavior (given r fails) = record { shape = idle; meaning = λ site s z. Ok (done []) }
+behavior (hold_nothing f) = record { shape = holding f; meaning = λ site s z. Ok (done (put site.ring f None ∷ [])) }
+behavior (hold_path f p g at) = record { shape = holding_path f p g; meaning = λ site s z. Ok (held_path site f at (opened_in site g (Ok f) z.place)) }
+behavior (hold_copy f r source) = record { shape = holding_copy f r source; meaning = λ site s z. Ok (done (put site.ring f (held_in s r source) ∷ [])) }
+behavior (hold_other f) = record { shape = holding_other f; meaning = λ site s z. Ok (held_other site f) }
+behavior (seek f at) = record { shape = seeking f; meaning = λ site s z. Ok (sought at z.file) }
 
 abbrev pub shape : Operation → Shape
 shape o = (behavior o).shape

@@ -16,6 +16,11 @@ pub data Shape : Type 0 where
   freeing : (path : Path) (removes_directory : Bool) → Shape
   linking : (old new : Path) → Shape
   renaming : (old new : Path) → Shape
+  holding : (file : File) → Shape
+  holding_path : (file : File) (path : Path) (flags : OpenFlags) → Shape
+  holding_copy : (file : File) (ring : ℕ) (source : File) → Shape
+  holding_other : (file : File) → Shape
+  seeking : (file : File) → Shape
 
 -- What an operation looks up before anything else is decided: nothing, what is open at a file number, where a path leads, or where each of two does.
 pub data Look : Type 0 where
@@ -37,3 +42,8 @@ look (making p) = at_path p
 look (freeing p removes) = at_path p
 look (linking old new) = at_paths old new
 look (renaming old new) = at_paths old new
+look (holding f) = at_nothing
+look (holding_path f p g) = at_path p
+look (holding_copy f r source) = at_nothing
+look (holding_other f) = at_nothing
+look (seeking f) = at_file f

@@ -6,6 +6,7 @@ ghost use Rattle.op_meaning.specs.Site.{IsSite, site_meant};
 ghost use Rattle.world_parts.specs.World.{apply_all};
 
 use crate::allocating::RangeAllocation;
+use crate::holding::{hold_other, hold_path, put};
 use crate::measuring::tell;
 use crate::names::{NameChanges, change_names};
 use crate::naming::make_directory;
@@ -25,17 +26,36 @@ use world_parts::State;
 #[derive(Clone, Copy)]
 pub(crate) enum Decision<'a> {
     Nothing,
-    Tell { kind: u8, size: u64 },
+    Tell {
+        kind: u8,
+        size: u64,
+    },
     Read(FileRead),
     Write(FileWrite<'a>),
     ReadFixed(BufferRead),
     WriteFixed(BufferWrite),
     Allocate(RangeAllocation),
-    Resize { node: u32, size: u64 },
+    Resize {
+        node: u32,
+        size: u64,
+    },
     Open(Opening<'a>),
     Empty(FileNumber),
     MakeDirectory(Place<'a>),
     ChangeNames(NameChanges<'a>),
+    Hold {
+        file: FileNumber,
+        holds: Option<u32>,
+    },
+    HoldPath {
+        opening: Opening<'a>,
+        position: u64,
+    },
+    HoldOther(FileNumber),
+    Seek {
+        description: u32,
+        position: u64,
+    },
 }
 
 /// Does what was decided on where an entry stands.
@@ -73,6 +93,20 @@ pub(crate) fn carry_out(
         }
         Decision::ChangeNames(changes) => {
             finished_after(alloc, change_names(alloc, changes, state))
+        }
+        Decision::Hold { file, holds } => {
+            finished_after(alloc, put(site.ring, file, holds, state))
+        }
+        Decision::HoldPath { opening, position } => {
+            finished_after(alloc, hold_path(alloc, site, opening, position, state))
+        }
+        Decision::HoldOther(file) => finished_after(alloc, hold_other(site, file, state)),
+        Decision::Seek {
+            description,
+            position,
+        } => {
+            state.set_position(description, position);
+            Ok(finished(alloc))
         }
     }
 }

@@ -1,5 +1,5 @@
 //! The operation that opens files: OPENAT.
-ghost use Rattle.std.specs.Prelude.{◌≡◌, IfOk, OnOk};
+ghost use Rattle.std.specs.Prelude.{◌≡◌, IfOk, Ok, OnOk};
 ghost use Rattle.std.specs.Option.{option_map};
 ghost use Rattle.entry_checks.specs.Meant.{file_meant, flags_meant, path_meant};
 ghost use Rattle.file_tree.specs.Found.{place_meant};
@@ -9,7 +9,7 @@ ghost use Rattle.op_meaning.specs.Meaning as meaning;
 ghost use Rattle.op_meaning.specs.Deciding.{Decides};
 ghost use Rattle.op_meaning.specs.Decision.{effect_of, IsWithinLimits};
 ghost use Rattle.op_meaning.specs.Lookups.{FindsPlace, Tells};
-ghost use Rattle.op_meaning.specs.Meaning.{found_or_made, openat_meaning};
+ghost use Rattle.op_meaning.specs.Meaning.{found_or_made, opened_in, openat_meaning};
 ghost use Rattle.op_meaning.specs.Opening.{changes_at, opened_as, room_found};
 ghost use Rattle.op_meaning.specs.Outcomes.{Gives};
 ghost use Rattle.op_meaning.specs.Site.{IsSite, in_ring, site_meant};
@@ -87,6 +87,30 @@ fn may_open(state: &State, flags: OpenAtFlags, node: Option<u32>) -> Result<(), 
     }
 }
 
+/// What opens where there is room for its description, after open(2).
+///
+/// # Errors
+///
+/// That of the first test that fails: those of the walk, ENOENT, EEXIST, EISDIR, ENOTDIR.
+pub(crate) fn opening_in<'a>(
+    site: Site<'_>,
+    room: FileNumber,
+    path: PathAt<'a>,
+    lookup: &Lookup<'a>,
+    flags: OpenAtFlags,
+    state: &State,
+) -> Result<Opening<'a>, Errno>
+    requires { Tells lookup.now (FindsPlace state.now (path_meant path) lookup.now) }
+    ensures { Decides
+        (opened_in (site_meant site.entry) (flags_meant flags) (Ok (file_meant room))
+        (walk state.now.nodes (path_meant path.entry)))
+        (opened_as (site_meant site.entry) state.now.nodes) result }
+{
+    let place = lookup.place_at(path, state)?;
+    may_open(state, flags, place.node)?;
+    Ok(Opening { place, flags, room })
+}
+
 /// What OPENAT opens, after open(2), and where the description goes: into the slot that is asked
 /// for, or where none is to the lowest free descriptor.
 ///
@@ -111,9 +135,8 @@ pub(crate) fn find_opening<'a>(
     ensures limits { IfOk result (IsWithinLimits state.now site.entry.ring) }
 {
     let room = find_room(site.trace, site.ring, asked, state)?;
-    let place = lookup.place_at(path, state)?;
-    may_open(state, flags, place.node)?;
-    Ok(Decision::Open(Opening { place, flags, room }))
+    let opening = opening_in(site, room, path, lookup, flags, state)?;
+    Ok(Decision::Open(opening))
 }
 
 /// The access that the flags of open(2) ask for: 0 to read, 1 to write, 2 for both.

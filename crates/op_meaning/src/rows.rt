@@ -17,6 +17,7 @@ ghost use Rattle.world_parts.specs.World.{World};
 
 use crate::allocating::AllocationRequest;
 use crate::decision::{Decision, carry_out};
+use crate::holding::{held_in, holding_path, seeking};
 use crate::lookup::Lookup;
 use crate::measuring::{measuring, measuring_open};
 use crate::names::NameChanges;
@@ -90,6 +91,19 @@ fn decide_on_rest<'a>(
         Op::Statx { path } => measuring(site, path, lookup, state),
         Op::StatxFile { file } => measuring_open(site, file, lookup, state),
         Op::StatxRoot => Ok(Decision::Tell { kind: 1, size: 0 }),
+        Op::HoldNothing { file } => Ok(Decision::Hold { file, holds: None }),
+        Op::HoldPath {
+            file,
+            path,
+            flags,
+            position,
+        } => Ok(holding_path(site, file, path, lookup, flags, position, state)),
+        Op::HoldCopy { file, ring, source } => Ok(Decision::Hold {
+            file,
+            holds: held_in(ring, source, state),
+        }),
+        Op::HoldOther { file } => Ok(Decision::HoldOther(file)),
+        Op::Seek { file, position } => Ok(seeking(site, file, lookup, position, state)),
         // A NOP or one whose result is given, since transfers don't come here.
         _ => Ok(Decision::Nothing),
     }

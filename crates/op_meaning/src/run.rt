@@ -1,6 +1,6 @@
 //! A place of a trace, run on a part of the world.
 ghost use Rattle.std.specs.Prelude.{◌≡◌, ◌<◌, ◌≤◌, ◌^◌, [], map, IfOk, IfSome};
-ghost use Rattle.std.specs.Prelude.{OnOk, Some, false, pos, true};
+ghost use Rattle.std.specs.Prelude.{None, OnOk, Some, false, pos, true};
 ghost use Rattle.chain_plan.specs.Chain.{role};
 ghost use Rattle.entry_checks.specs.Meant.{meant};
 ghost use Rattle.entry_checks.specs.Operation.{asked, told};
@@ -86,6 +86,10 @@ pub fn run_on_state(
             register(alloc, ring, slots.as_slice(), state)?;
             Ok(silent(alloc))
         }
+        TurnKind::Calls { op } => {
+            let site = Site { trace, place, ring };
+            call(alloc, site, *op, state)
+        }
         TurnKind::Refused { error, posted } => Ok(refused(alloc, *error, *posted)),
         TurnKind::Canceled { posted } => Ok(refused(alloc, Errno::ECANCELED, *posted)),
         TurnKind::Runs { entry, op } => {
@@ -93,6 +97,22 @@ pub fn run_on_state(
             run(alloc, site, entry, *op, role_there, state)
         }
     }
+}
+
+/// Does what a call of the program did.
+#[inline(never)]
+fn call(alloc: Global, site: Site<'_>, op: Op<'_>, state: &mut State) -> Result<Reply, AllocError>
+    requires site { IsSite site }
+    requires moves_none { asked (meant op) ≡ None }
+    ensures reply { IfOk result (λ reply. reply
+        ≡ reply_of site.entry.trace.now site.entry.place state.old
+        (step.called site.entry.ring (meant op.entry))) }
+    ensures state { OnOk result (state.new
+        ≡ turn_world site.entry.trace.now site.entry.place state.old
+        (step.called site.entry.ring (meant op.entry))) }
+{
+    let _ = run_operation(alloc, site, op, state)?;
+    Ok(silent(alloc))
 }
 
 /// What a slot of a new ring gets.

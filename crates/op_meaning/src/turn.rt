@@ -3,22 +3,28 @@ ghost use Rattle.std.specs.Prelude.{◌≡◌, ◌<◌, ◌≤◌, ℕ, IfSome, 
 ghost use Rattle.std.specs.Option.{option_map};
 ghost use Rattle.chain_plan.specs.Chain.{role};
 ghost use Rattle.entry_checks.specs.Check.{check};
-ghost use Rattle.entry_checks.specs.Meant.{meant};
+ghost use Rattle.entry_checks.specs.Meant.{file_meant, meant};
 ghost use Rattle.entry_checks.specs.Operation.{asked};
 ghost use Rattle.op_meaning.specs.Step as step;
 ghost use Rattle.op_meaning.specs.Turns.{IsShort, kind_meant, turn_meant};
 ghost use Rattle.op_meaning.specs.Step.{ring_at};
 ghost use Rattle.trace_format.specs.Sides.{most_moved, SideFits};
-ghost use Rattle.recording.specs.Steps.{places};
+ghost use Rattle.recording.specs.Steps.{places, ring_of};
 ghost use Rattle.recording.specs.Accepted.{IsAccepted};
 ghost use Rattle.world_parts.specs.Uses.{broken_meant};
 ghost use Rattle.world_parts.specs.World.{broken};
 
 use chain_plan::Role;
-use entry_checks::{Op, check};
-use recording::{Action, Blob, Entry, FullSlot, Recording, Series};
+use entry_checks::{FileNumber, Op, PathAt, check, open_flags_of};
+use recording::{Action, Blob, Content, Entry, FileAt, FullSlot, Recording, Series};
 use sqe_codec::Errno;
 use world_parts::{Broken, State};
+
+/// `AT_FDCWD`, the working directory.
+const WORKING_DIRECTORY: i32 = -100;
+
+/// The ring of what is on none: all rings have numbers below it.
+const NO_RING: u32 = 1_048_576;
 
 /// What a place does, and the ring of which it is.
 #[derive(Drop)]
@@ -40,6 +46,10 @@ pub enum TurnKind<'a> {
     },
     /// It fills slots of its ring, which is new, with what others hold.
     Registers(&'a Series<FullSlot>),
+    /// It does what a call of the program did, which replies 0 whatever came of it.
+    Calls {
+        op: Op<'a>,
+    },
     /// It fails its tests, or stands in a chain in which a member does: its error, and whether a
     /// completion is posted.
     Refused {
@@ -86,10 +96,68 @@ pub fn turn_under<'a>(
             bytes: *bytes,
         },
         Action::Register(slots) => TurnKind::Registers(*slots),
+        Action::Set { file, content } => TurnKind::Calls {
+            op: set_operation(*file, *content),
+        },
+        Action::Seek { file, position } => TurnKind::Calls {
+            op: Op::Seek {
+                file: file_in(*file),
+                position: *position,
+            },
+        },
     };
     Turn {
         ring: step.ring,
         kind,
+    }
+}
+
+/// A slot or a descriptor, by its number.
+fn file_in(file: FileAt) -> FileNumber
+    ensures { file_meant result ≡ step.file_in file }
+{
+    match file {
+        FileAt::Slot { ring: _, number } => FileNumber::Slot(number),
+        FileAt::Descriptor { number } => FileNumber::Descriptor(number),
+    }
+}
+
+/// The ring of a slot. A descriptor is on none.
+fn ring_of(file: FileAt) -> u32
+    ensures { result ≡ ring_of file }
+{
+    match file {
+        FileAt::Slot { ring, number: _ } => ring,
+        FileAt::Descriptor { number: _ } => NO_RING,
+    }
+}
+
+/// What a set does.
+fn set_operation<'a>(file: FileAt, content: &'a Content) -> Op<'a>
+    ensures { meant result ≡ step.set_operation file content.entry.now }
+{
+    let number = file_in(file);
+    match content {
+        Content::Nothing => Op::HoldNothing { file: number },
+        Content::Path {
+            flags,
+            position,
+            path,
+        } => Op::HoldPath {
+            file: number,
+            path: PathAt {
+                directory: WORKING_DIRECTORY,
+                text: path.as_slice(),
+            },
+            flags: open_flags_of(*flags),
+            position: *position,
+        },
+        Content::Copy { of } => Op::HoldCopy {
+            file: number,
+            ring: ring_of(*of),
+            source: file_in(*of),
+        },
+        Content::Taken => Op::HoldOther { file: number },
     }
 }
 

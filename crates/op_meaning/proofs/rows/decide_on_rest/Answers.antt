@@ -1,3 +1,4 @@
+use Rattle.std.proofs.Common.{Ok, ap, sym}
 use Rattle.op_meaning.specs.Site.{site_meant}
 use Rattle.op_meaning.proofs.rows.decide_on_rest.Goals as goal
 
@@ -81,3 +82,15 @@ returns-in-StatxFile-clause-meaning c = rw c.in-StatxFile.is c.measuring_open.en
 
 pub returns-in-StatxFile-clause-limits : goal.returns-in-StatxFile-clause-limits
 returns-in-StatxFile-clause-limits c = c.measuring_open.ensures.limits
+
+pub returns-in-HoldPath-clause-meaning : goal.returns-in-HoldPath-clause-meaning
+returns-in-HoldPath-clause-meaning c = rw c.in-HoldPath.is (ap Ok (sym c.holding_path.ensures.meaning))
+
+pub returns-in-HoldPath-clause-limits : goal.returns-in-HoldPath-clause-limits
+returns-in-HoldPath-clause-limits c = c.holding_path.ensures.limits
+
+pub returns-in-Seek-clause-meaning : goal.returns-in-Seek-clause-meaning
+returns-in-Seek-clause-meaning c = rw c.in-Seek.is (ap Ok (sym c.seeking.ensures.meaning))
+
+pub returns-in-Seek-clause-limits : goal.returns-in-Seek-clause-limits
+returns-in-Seek-clause-limits c = c.seeking.ensures.limits

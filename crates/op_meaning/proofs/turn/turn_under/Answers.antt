@@ -1,9 +1,11 @@
-use Rattle.std.proofs.Common.{Some, ap, ◌∙◌}
+use Rattle.std.proofs.Common.{Some, refl, ap, ◌∙◌}
 use Rattle.std.specs.Option.{option_map}
 use Rattle.recording.specs.Steps.{step_meant, action_meant}
 use Rattle.world_parts.specs.Uses.{broken_meant}
-use Rattle.op_meaning.proofs.Turns.{fills, registers, submitted}
-use Rattle.op_meaning.proofs.turn.turn_under.Goals.{in-Submit, in-Fill, in-Register}
+use Rattle.entry_checks.specs.Operation.{asked}
+use Rattle.op_meaning.specs.Step.{called}
+use Rattle.op_meaning.proofs.Turns.{fills, registers, seeks, sets, sets_ask_none, submitted}
+use Rattle.op_meaning.proofs.turn.turn_under.Goals.{in-Submit, in-Fill, in-Register, in-Set, in-Seek}
 use Rattle.op_meaning.proofs.turn.turn_under.Goals as goal
 
 pub submitted-kind-requires : goal.submitted-kind-requires
@@ -18,4 +20,15 @@ returns-clause-turn c =
       | in-Submit w ↦ rw w.kind-is (ap Some (w.submitted-kind.ensures.turn x.ring) ∙ submitted t c.args.place flag x w.in-Submit.entry c.args.role_there.now c.step-step.ensures w.in-Submit.is c.requires.role)
       | in-Fill w ↦ rw w.kind-is (fills t c.args.place flag x w.in-Fill.buffer w.in-Fill.offset w.in-Fill.bytes c.step-step.ensures w.in-Fill.is)
       | in-Register w ↦ rw w.kind-is (registers t c.args.place flag x w.in-Register.slots c.step-step.ensures w.in-Register.is)
+      | in-Set w ↦ rw w.kind-is (ap (λ o. Some (called x.ring o)) w.set_operation.ensures ∙ sets t c.args.place flag x w.in-Set.file w.in-Set.content c.step-step.ensures w.in-Set.is)
+      | in-Seek w ↦ rw (w.kind-is, w.file_in.ensures) (seeks t c.args.place flag x w.in-Seek.file w.in-Seek.position c.step-step.ensures w.in-Seek.is)
     ]
+
+pub returns-clause-short : goal.returns-clause-short
+returns-clause-short c = elim c.match-step.branch [
+  | in-Submit w ↦ rw w.kind-is w.submitted-kind.ensures.short
+  | in-Fill w ↦ rw w.kind-is tt
+  | in-Register w ↦ rw w.kind-is tt
+  | in-Set w ↦ rw w.kind-is (ap asked w.set_operation.ensures ∙ sets_ask_none _ _)
+  | in-Seek w ↦ rw w.kind-is refl
+]
