@@ -19,8 +19,8 @@ use Rattle.file_tree.specs.Walk.{Place, walk, walk_from, names_from, directory_a
 use Rattle.op_meaning.specs.Site.{at_place, in_ring, sited}
 use Rattle.op_meaning.specs.Meaning.{made_node, made_description, slot_count, Handle, handle, handle_of, held, is_file, allocation, Allocation, found, shape}
 use Rattle.world_parts.specs.Items.{Atom, description_at, position_of, size_of, byte_at, name_at, names_in, buffer_byte, Item, one, file_bytes, buffer_bytes, member_of, Use, reads, writes, Footprint, has_atom}
-use Rattle.foot_print.specs.Footprint.{foreseen, shape_row, look_reads, uses, file_seen, content_of, moved_content, moved_uses, opened_at, directory_made, name_freed, allocation_uses, open_uses, use_of, held_item, file_reads, range_of, transfer_range, position_written, position_use, span_use, path_reads, name_written, directory_names, allocated_content, resized_content, size_read, measured_at}
-use Rattle.op_meaning.specs.Shape.{Shape, idle, looking, moving, allocating, resizing, closing, opening, measuring, making, freeing, linking, renaming, Look, at_nothing, at_file, at_path, at_paths, look}
+use Rattle.foot_print.specs.Footprint.{foreseen, shape_row, look_reads, uses, file_seen, content_of, moved_content, moved_uses, opened_at, directory_made, name_freed, allocation_uses, open_uses, use_of, held_item, file_reads, range_of, transfer_range, position_written, position_use, span_use, path_reads, name_written, directory_names, allocated_content, resized_content, size_read, measured_at, file_item, position_sought}
+use Rattle.op_meaning.specs.Shape.{Shape, idle, looking, moving, allocating, resizing, closing, opening, measuring, making, freeing, linking, renaming, holding, holding_path, holding_copy, holding_other, seeking, Look, at_nothing, at_file, at_path, at_paths, look}
 use Rattle.foot_print.specs.Reach.{taken}
 use Rattle.foot_print.specs.Replayed.{IsBefore, is_earlier}
 use Rattle.world_parts.proofs.Collision.{same_atom-eq}
@@ -75,6 +75,11 @@ module _ (t : Recording) (k : ℕ) (s : World) (w : IsWorld s) (before : IsBefor
   bound_held v r (in_slot n) = elim (ltb n (slot_count t r)) as (λ c. Bound (map (use_of v) (cond c (one (Rattle.world_parts.specs.Items.slot_at r n) ∷ []) []))) [ true ↦ bound_one (Rattle.world_parts.specs.Items.slot_at r n) v tt | false ↦ bound_nothing ]
   bound_held v r (at_descriptor n) = elim (ltb n (length t.descriptors)) as (λ c. Bound (map (use_of v) (cond c (one (Rattle.world_parts.specs.Items.descriptor_at n) ∷ []) []))) [ true ↦ bound_one (Rattle.world_parts.specs.Items.descriptor_at n) v tt | false ↦ bound_nothing ]
 
+  -- The slot or descriptor of any number.
+  bound_file : (v : Bool) (q : ℕ) (f : File) → Bound (record { item = file_item q f; written = v } ∷ [])
+  bound_file v q (in_slot n) = bound_one (Rattle.world_parts.specs.Items.slot_at q n) v tt
+  bound_file v q (at_descriptor n) = bound_one (Rattle.world_parts.specs.Items.descriptor_at n) v tt
+
   module _ (r : ℕ) where
     held_leads : (f : File) → IfSome (held (in_ring t r) s f) (λ d. IsSome (opened s d))
     held_leads f = let slots = λ (n : ℕ). w.slots_lead r n in let descriptors = w.descriptors_lead in grind (arith, slots, descriptors)
@@ -114,6 +119,10 @@ module _ (t : Recording) (k : ℕ) (s : World) (w : IsWorld s) (before : IsBefor
     bound_positions : (o : ℕ) (x : Option Handle) → Before x → Bound (position_use o x)
     bound_positions o None l = bound_nothing
     bound_positions o (Some h) l = bound_position o h l.1
+
+    bound_sought : (x : Option Handle) → Before x → Bound (position_sought x)
+    bound_sought None l = bound_nothing
+    bound_sought (Some h) l = bound_one (position_of h.description) true l.1
 
     bound_transferred : (v : Bool) (b : Bool) (i o n : ℕ) → T (ltb i (made_node t k)) → Bound (record { item = transfer_range i b o n; written = v } ∷ [])
     bound_transferred v true i o n e = bound_range i 0 (min file_limit file_limit) v e
@@ -232,6 +241,11 @@ module _ (t : Recording) (k : ℕ) (s : World) (w : IsWorld s) (before : IsBefor
     bound_uses (freeing p removes) = bound_freed removes (walk s.nodes p) (placed p)
     bound_uses (linking old new) = bound_place name_written (λ q e l. bound_name q e) (walk s.nodes new) (placed new)
     bound_uses (renaming old new) = bound_all (each_ok name_written (walk s.nodes old)) _ (bound_place name_written (λ q e l. bound_name q e) (walk s.nodes old) (placed old)) (bound_freed true (walk s.nodes new) (placed new))
+    bound_uses (holding f) = bound_file true r f
+    bound_uses (holding_path f p g) = bound_all (writes (file_item r f) ∷ []) _ (bound_file true r f) (bound_place (opened_at (at_place t k) foreseen g) (λ q e l. bound_opened g q e q.target l) (walk s.nodes p) (placed p))
+    bound_uses (holding_copy f q source) = bound_all (reads (file_item q source) ∷ []) (writes (file_item r f) ∷ []) (bound_file false q source) (bound_file true r f)
+    bound_uses (holding_other f) = bound_all (reads (one (names_in 0)) ∷ []) (writes (file_item r f) ∷ []) (bound_one (names_in 0) false root_before) (bound_file true r f)
+    bound_uses (seeking f) = bound_sought (handle (in_ring t r) s f) (handle_before f)
 
     shape_bound : (x : Shape) → Bound (shape_row (sited t k r) s foreseen x)
     shape_bound x = bound_all (look_reads (in_ring t r) s (look x)) _ (bound_look (look x)) (bound_uses x)

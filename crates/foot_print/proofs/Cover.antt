@@ -3,7 +3,7 @@ use native.Mathlib.Omega.{arith}
 use Rattle.std.specs.Prelude.{◌≡◌, ℕ, min, Ok}
 use Rattle.recording.specs.declared.recording.Recording.{Recording}
 use Rattle.trace_format.specs.Sides.{most_moved}
-use Rattle.entry_checks.specs.Operation.{Operation, nop, readv, writev, fsync, read_fixed, write_fixed, fallocate, openat, close, read, write, renameat, unlinkat, mkdirat, linkat, ftruncate, sync_file_range, fadvise, statx, statx_file, statx_root, given}
+use Rattle.entry_checks.specs.Operation.{Operation, nop, readv, writev, fsync, read_fixed, write_fixed, fallocate, openat, close, read, write, renameat, unlinkat, mkdirat, linkat, ftruncate, sync_file_range, fadvise, statx, statx_file, statx_root, given, hold_nothing, hold_path, hold_copy, hold_other, seek}
 use Rattle.world_parts.specs.World.{World, IsWorld}
 use Rattle.op_meaning.specs.Site.{in_ring, sited}
 use Rattle.file_tree.specs.Walk.{walk}
@@ -11,16 +11,17 @@ use Rattle.op_meaning.specs.Meaning.{Effect, handle, meaning, reply, span_destin
 use Rattle.foot_print.specs.Laws.{Awaits, FootprintsCover}
 use Rattle.foot_print.proofs.CoverOperation.{Owes, owed_covers}
 use Rattle.foot_print.proofs.CoverTurn.{footprints_cover}
-use Rattle.foot_print.proofs.CoverHandles.{nop_owes, fsync_owes, close_owes, sync_file_range_owes, fadvise_owes, given_owes}
+use Rattle.foot_print.proofs.CoverHandles.{nop_owes, fsync_owes, close_owes, sync_file_range_owes, fadvise_owes, given_owes, hold_nothing_owes, hold_copy_owes, seek_owes}
 use Rattle.foot_print.proofs.CoverMeasures.{statx_owes, statx_file_owes, statx_root_owes}
 use Rattle.foot_print.proofs.CoverSizes.{fallocate_owes, ftruncate_owes}
 use Rattle.foot_print.proofs.CoverReads.{read_owes, readv_owes, read_fixed_owes}
 use Rattle.foot_print.proofs.CoverWrites.{write_owes, writev_owes, write_fixed_owes}
 use Rattle.foot_print.proofs.CoverNames.{unlinkat_owes, renameat_owes, mkdirat_owes, linkat_owes}
-use Rattle.foot_print.proofs.CoverOpen.{openat_owes}
+use Rattle.foot_print.proofs.CoverOpen.{openat_owes, hold_path_owes, hold_other_owes}
 use Rattle.foot_print.proofs.KeepNames.{Keeps, mkdirat_keeps, linkat_keeps, unlinkat_keeps}
 use Rattle.foot_print.proofs.KeepRenames.{renameat_keeps}
 use Rattle.foot_print.proofs.KeepOpen.{openat_keeps}
+use Rattle.foot_print.proofs.KeepHolding.{hold_nothing_keeps, hold_path_keeps, hold_copy_keeps, hold_other_keeps, seek_keeps}
 use Rattle.foot_print.proofs.KeepContents.{AllOfContents, contents_leave, read_contents, write_contents, fallocate_contents, ftruncate_contents, close_contents, statx_contents, statx_file_contents}
 
 -- What an operation owes in a world: what it uses tells what it does and supports it, and it keeps a world.
@@ -55,6 +56,11 @@ laws t k r (statx p) s w = of_contents t k r s (statx p) (statx_owes t k r s p w
 laws t k r (statx_file f) s w = of_contents t k r s (statx_file f) (statx_file_owes t k r s f w) w.is_world (statx_file_contents s (handle (in_ring t r) s f))
 laws t k r statx_root s w = of_contents t k r s statx_root (statx_root_owes t k r s w) w.is_world (λ x e. grind arith)
 laws t k r (given q fails) s w = of_contents t k r s (given q fails) (given_owes t k r s q fails w) w.is_world (λ x e. grind arith)
+laws t k r (hold_nothing f) s w = record { owes = hold_nothing_owes t k r s f w; keeps = hold_nothing_keeps t k r s f w.is_world }
+laws t k r (hold_path f p g at) s w = record { owes = hold_path_owes t k r s f p g at w; keeps = hold_path_keeps t k r s f p g at w }
+laws t k r (hold_copy f q source) s w = record { owes = hold_copy_owes t k r s f q source w; keeps = hold_copy_keeps t k r s f q source w.is_world }
+laws t k r (hold_other f) s w = record { owes = hold_other_owes t k r s f w; keeps = hold_other_keeps t k r s f w }
+laws t k r (seek f at) s w = record { owes = seek_owes t k r s f at w; keeps = seek_keeps t k r s f at w.is_world }
 laws t k r (ftruncate f n) s w = of_contents t k r s (ftruncate f n) (ftruncate_owes t k r s f n w) w.is_world (ftruncate_contents t s r f n)
 
 -- Every access set covers its place.

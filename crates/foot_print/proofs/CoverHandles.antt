@@ -1,22 +1,23 @@
--- Operations that use no more than the slot or descriptor of a file number.
+-- Operations that use no more than the slots or descriptors of file numbers, and the position of what is open there.
 use native.Mathlib.Omega.{arith}
-use Rattle.std.specs.Prelude.{◌≡◌, ℕ, ℤ, ◌+◌, ◌^◌, Bool, cond, leb, ltb, T, List, [], ◌∷◌, map, length, Option, None, Ok, refl}
+use Rattle.std.specs.Prelude.{◌≡◌, ℕ, ℤ, ◌+◌, ◌^◌, Bool, false, cond, leb, ltb, T, List, [], ◌∷◌, map, length, Option, Some, None, Ok, refl}
 use Rattle.std.specs.Option.{is_some}
 use mathlib.Core.Path.{sym, subst, ap}
 use lib.Dec.{eqb_refl}
 use Rattle.sqe_codec.specs.declared.errno.Errno.TheVariants.{EBADF, EINVAL}
 use Rattle.recording.specs.declared.recording.Recording.{Recording}
 use Rattle.sqe_codec.specs.Answers.{◌>>◌, require}
-use Rattle.entry_checks.specs.Operation.{nop, fsync, close, sync_file_range, fadvise, given, File, in_slot, at_descriptor}
+use Rattle.entry_checks.specs.Operation.{nop, fsync, close, sync_file_range, fadvise, given, hold_nothing, hold_copy, seek, File, in_slot, at_descriptor}
 use Rattle.world_parts.specs.World.{World, slot, set_slot, set_descriptor}
 use Rattle.op_meaning.specs.Site.{in_ring}
-use Rattle.op_meaning.specs.Meaning.{done, slot_count, held, sync_file_range_meaning, fadvise_meaning}
-use Rattle.world_parts.specs.Items.{Atom, slot_at, descriptor_at, Item, one, reads, writes, has_atom, writes_atom, Agree}
-use Rattle.foot_print.specs.Footprint.{held_item, file_reads}
+use Rattle.op_meaning.specs.Meaning.{done, slot_count, held, Handle, handle, sync_file_range_meaning, fadvise_meaning, put, held_in, sought}
+use Rattle.world_parts.specs.Items.{Atom, slot_at, descriptor_at, Item, one, reads, writes, Footprint, has_atom, writes_atom, Agree, Holds}
+use Rattle.foot_print.specs.Footprint.{held_item, file_reads, file_item, position_sought}
 use Rattle.foot_print.specs.Laws.{Awaits}
 use Rattle.world_parts.proofs.Collision.{either_left, true_of, same_atom_refl}
-use Rattle.foot_print.proofs.Agreement.{held_same}
-use Rattle.foot_print.proofs.Accepted.{ok_require, after_require, supports_effect}
+use Rattle.foot_print.proofs.Agreement.{held_same, agree_head}
+use Rattle.foot_print.proofs.Accepted.{ok_require, after_require, supports_effect, holds_right}
+use Rattle.foot_print.proofs.CoverChanges.{SupportsAll}
 use Rattle.foot_print.proofs.CoverOperation.{Owes}
 
 pub nop_owes : (t : Recording) (k r : ℕ) (s : World) → Awaits t k s → Owes t k r nop s
@@ -107,3 +108,44 @@ close_owes t k r s (in_slot n) w = record {
   where
     slot_same : (u : World) → T (ltb n (slot_count t r)) → Agree (map writes (held_item (in_ring t r) (in_slot n))) s u → slot u r n ≡ slot s r n
     slot_same u h a = sym (a.same (slot_at r n) (subst (λ b. T (has_atom (map writes (cond b (one (slot_at r n) ∷ []) [])) (slot_at r n))) (sym (true_of _ h)) (either_left _ _ (same_atom_refl (slot_at r n)))))
+
+-- What is put into a slot or a descriptor is supported where that is written.
+pub put_supported : (g : Footprint) (u : World) (r : ℕ) (f : File) (d : Option ℕ) → Holds g (writes (file_item r f) ∷ []) → SupportsAll g u (put r f d ∷ [])
+put_supported g u r (in_slot n) d h = (h.writes (slot_at r n) (either_left _ _ (same_atom_refl (slot_at r n))), tt)
+put_supported g u r (at_descriptor n) d h = (h.writes (descriptor_at n) (either_left _ _ (eqb_refl n)), tt)
+
+pub hold_nothing_owes : (t : Recording) (k r : ℕ) (s : World) (f : File) → Awaits t k s → Owes t k r (hold_nothing f) s
+hold_nothing_owes t k r s f w = record {
+  tells = λ u b a d. record { same_meaning = refl; same_uses = λ c. refl };
+  supports = λ u v a d e q. supports_effect (writes (file_item r f) ∷ []) u (done (put r f None ∷ [])) e q (put_supported (writes (file_item r f) ∷ []) u r f None (record { has = λ x m. m; writes = λ x m. m }));
+}
+
+-- What a slot or a descriptor holds is the same where it is read.
+held_in_same : (s u : World) (r : ℕ) (f : File) (g : Footprint) → Agree (reads (file_item r f) ∷ g) s u → held_in u r f ≡ held_in s r f
+held_in_same s u r (in_slot n) g a = sym (agree_head s u (slot_at r n) false g a)
+held_in_same s u r (at_descriptor n) g a = sym (agree_head s u (descriptor_at n) false g a)
+
+pub hold_copy_owes : (t : Recording) (k r : ℕ) (s : World) (f : File) (q : ℕ) (source : File) → Awaits t k s → Owes t k r (hold_copy f q source) s
+hold_copy_owes t k r s f q source w = record {
+  tells = λ u b a d. record {
+    same_meaning = ap (λ x. Ok (done (put r f x ∷ []))) (held_in_same s u q source (writes (file_item r f) ∷ []) d);
+    same_uses = λ c. refl;
+  };
+  supports = λ u v a d e h.
+      let held_there = held_in u q source in
+      let row = reads (file_item q source) ∷ writes (file_item r f) ∷ [] in
+      supports_effect row u (done (put r f held_there ∷ [])) e h (put_supported row u r f held_there (holds_right (reads (file_item q source) ∷ []) (writes (file_item r f) ∷ [])));
+}
+
+-- The position of what is open is written.
+sought_supported : (u : World) (at : ℕ) (x : Option Handle) → SupportsAll (position_sought x) u (sought at x).changes
+sought_supported u at None = tt
+sought_supported u at (Some h) = (either_left _ _ (eqb_refl h.description), tt)
+
+pub seek_owes : (t : Recording) (k r : ℕ) (s : World) (f : File) (at : ℕ) → Awaits t k s → Owes t k r (seek f at) s
+seek_owes t k r s f at w = record {
+  tells = λ u b a d. record { same_meaning = refl; same_uses = λ c. refl };
+  supports = λ u v a d e q.
+      let there = handle (in_ring t r) u f in
+      supports_effect (position_sought there) u (sought at there) e q (sought_supported u at there);
+}

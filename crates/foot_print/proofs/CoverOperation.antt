@@ -1,5 +1,5 @@
 -- From the row of an operation to the place that runs it: where the row tells the operation's meaning and supports its changes, the access set covers the place.
-use Rattle.std.specs.Prelude.{◌≡◌, ℕ, Bool, true, cond, ◌&&◌, leb, ltb, ◌+◌, ◌<◌, T, List, [], ◌∷◌, ◌++◌, Some, Result, Ok, Err, refl, is_ok, not}
+use Rattle.std.specs.Prelude.{◌≡◌, ℕ, Bool, true, cond, ◌&&◌, leb, ltb, ◌+◌, ◌<◌, T, List, [], ◌∷◌, ◌++◌, Option, Some, Result, Ok, Err, refl, is_ok, not}
 use Rattle.std.specs.List.{list_any}
 use mathlib.Core.Path.{sym, subst, ap, ◌∙◌}
 use native.Mathlib.Omega.{arith}
@@ -16,22 +16,23 @@ use Rattle.world_parts.specs.World.{World, Change, break_chain, apply, apply_all
 use Rattle.op_meaning.specs.Site.{in_ring, sited}
 use Rattle.op_meaning.specs.Meaning.{Effect, Found, found, meaning_by, meaning, shape}
 use Rattle.op_meaning.specs.Shape.{look}
-use Rattle.op_meaning.specs.Step.{runs, turn, step_world, step_changes, changes_in, changes_of, breaks, queue_at}
+use Rattle.op_meaning.specs.Step.{Turn, called, runs, turn, step_world, step_changes, changes_in, changes_of, breaks, queue_at}
 use Rattle.world_parts.specs.Items.{Atom, chain_flag, member_of, value, one, Use, writes, Footprint, has_atom, writes_atom, Agree, Holds}
 use Rattle.foot_print.specs.Footprint.{tried, uses, uses_in, row_in, as_reads, order_uses, turn_uses, footprint}
 use Rattle.foot_print.specs.Reach.{seen}
 use Rattle.foot_print.specs.Laws.{Awaits, Unused, Covers}
 use Rattle.world_parts.proofs.Collision.{either_left, either_right, true_of, same_atom_refl}
+use Rattle.world_parts.proofs.Trees.{some_same, some_apart}
 use Rattle.foot_print.proofs.Agreement.{in_left, in_right, agree_left, agree_right, agree_taken}
 use Rattle.foot_print.proofs.Looks.{found_same, looks_same}
 use Rattle.foot_print.proofs.Accepted.{holds_over, holds_right}
 use Rattle.foot_print.proofs.Awaiting.{awaits_unused}
-use Rattle.foot_print.proofs.CoverPlace.{Decided, footprint_same, step_reply_same, step_changes_same}
+use Rattle.foot_print.proofs.CoverPlace.{done_by, Decided, footprint_same, step_reply_same, step_changes_same}
 use Rattle.foot_print.proofs.CoverChanges.{SupportsAll, supports_all_held, agree_after_changes, kept_by_changes}
 
 -- A place whose operation is decided by its row, and whose access set supports its changes, is covered by it.
 pub covers : (t : Recording) (k : ℕ) (s : World)
-    → ((u : World) (r : ℕ) (e : Entry) (o : Operation) → turn t k s ≡ Some (runs r e o) → Agree (row_in (sited t k r) s o) s u → Decided t k r s u o)
+    → ((u : World) (r : ℕ) (o : Operation) → done_by (turn t k s) ≡ Some (r, o) → Agree (row_in (sited t k r) s o) s u → Decided t k r s u o)
     → ((u : World) → Unused t k u → Agree (footprint t k s) s u → SupportsAll (footprint t k s) u (step_changes t k s))
     → Awaits t k s → Covers t k (footprint t k s) s
 covers t k s decided supports w u v agree =
@@ -64,9 +65,6 @@ breaks_supported c r e rest fails v = when (fails && not (has e.sqe.flags io_har
 
     when : (a b : Bool) → (T b → T (writes_atom F (chain_flag c.chain))) → SupportsAll F v (cond (a && b) (break_chain c.chain (cond (has e.sqe.flags skip_success) quiet loud) ∷ []) [])
     when a b g = grind arith
-
-pub same_run : (r q : ℕ) (e d : Entry) (o p : Operation) → Some (runs r e o) ≡ Some (runs q d p) → ◌≡◌ {A = ℕ × Operation} (r, o) (q, p)
-same_run r q e d o p h = let rings : r ≡ q = cc in let operations : o ≡ p = cc in λ i. (rings i, operations i)
 
 -- What an operation finds in a world, and uses of it, by whether the world accepts the operation.
 abbrev pub found_by : Recording → ℕ → World → Operation → Found
@@ -126,14 +124,14 @@ module _ (t : Recording) (k r : ℕ) (s : World) (o : Operation) (u : World) (te
           supports_all_held F (used t k r s true o) u y.changes (subst (Holds F) uses_are within)
           (subst (λ f. SupportsAll f u y.changes) (uses_same true) (supports looks here y (means ∙ q)))
 
--- The access set of a place covers it where the row of the operation that it runs tells the meaning and supports the changes.
-pub operation_covers : (t : Recording) (k : ℕ) (s : World) (r : ℕ) (e : Entry) (o : Operation) → turn t k s ≡ Some (runs r e o)
+-- The access set of a place covers it where the row of the operation that it does tells the meaning and supports the changes.
+pub operation_covers : (t : Recording) (k : ℕ) (s : World) (r : ℕ) (o : Operation) → done_by (turn t k s) ≡ Some (r, o)
     → ((u : World) → RowTells t k r s u o) → ((u : World) → Unused t k u → Agree (seen (in_ring t r) s o) s u → Agree (used t k r u true o) s u → RowSupports t k r u o)
     → Awaits t k s → Covers t k (footprint t k s) s
-operation_covers t k s r e o h tells supports w = covers t k s decides supports_changes w
+operation_covers t k s r o h tells supports w = covers t k s decides (λ u v a. supports_changes u v a (turn t k s) h) w
   where
-    decides : (u : World) (q : ℕ) (d : Entry) (p : Operation) → turn t k s ≡ Some (runs q d p) → Agree (row_in (sited t k q) s p) s u → Decided t k q s u p
-    decides u q d p g = subst (λ x. Agree (row_in (sited t k x.0) s x.1) s u → Decided t k x.0 s u x.1) (same_run r q e d o p (sym h ∙ g)) (λ a. decided t k r s o u (tells u) a)
+    decides : (u : World) (q : ℕ) (p : Operation) → done_by (turn t k s) ≡ Some (q, p) → Agree (row_in (sited t k q) s p) s u → Decided t k q s u p
+    decides u q p g = subst (λ x. Agree (row_in (sited t k x.0) s x.1) s u → Decided t k x.0 s u x.1) (some_same (r, o) (q, p) (sym h ∙ g)) (λ a. decided t k r s o u (tells u) a)
 
     F : Footprint
     F = footprint t k s
@@ -141,17 +139,28 @@ operation_covers t k s r e o h tells supports w = covers t k s decides supports_
     order : Footprint
     order = order_uses (queue_at t k) (role t k)
 
+    row_of : (x : Option Turn) → done_by x ≡ Some (r, o) → each (turn_uses t k s) x ≡ row_in (sited t k r) s o
+    row_of (Some (runs q e p)) g = ap (λ y. row_in (sited t k y.0) s y.1) (some_same (q, p) (r, o) g)
+    row_of (Some (called q p)) g = ap (λ y. row_in (sited t k y.0) s y.1) (some_same (q, p) (r, o) g)
+    row_of _ g = absurd (some_apart (sym g))
+
     up : (p : Use → Bool) → T (list_any p (row_in (sited t k r) s o)) → T (list_any p F)
-    up p m = in_right p order (each (turn_uses t k s) (turn t k s)) (subst (λ x. T (list_any p (each (turn_uses t k s) x))) (sym h) m)
+    up p m = in_right p order (each (turn_uses t k s) (turn t k s)) (subst (λ f. T (list_any p f)) (sym (row_of (turn t k s) h)) m)
 
     holds : Holds F (row_in (sited t k r) s o)
     holds = record { has = λ a m. up (λ (x : Use). member_of x.item a) m; writes = λ a m. up (λ (x : Use). x.written && member_of x.item a) m }
 
-    supports_changes : (u : World) → Unused t k u → Agree F s u → SupportsAll F u (step_changes t k s)
-    supports_changes u v a =
-        subst (λ x. SupportsAll F u (each (changes_in t k s) x)) (sym h)
-        (supports_append F (changes_of (meaning (sited t k r) s o)) _ u (supported t k r s o u (tells u) (record { same = λ b m. a.same b (holds.has b m) }) F (supports u v) holds)
-        (λ z. breaks_supported (role t k) (queue_at t k) e (each (turn_uses t k s) (turn t k s)) _ z))
+    operation_supported : (u : World) → Unused t k u → Agree F s u → (q : ℕ) (p : Operation) → ◌≡◌ {A = Option (ℕ × Operation)} (Some (q, p)) (Some (r, o)) → SupportsAll F u (changes_of (meaning (sited t k q) s p))
+    operation_supported u v a q p g =
+        subst (λ y. SupportsAll F u (changes_of (meaning (sited t k y.0) s y.1))) (sym (some_same (q, p) (r, o) g))
+        (supported t k r s o u (tells u) (record { same = λ b m. a.same b (holds.has b m) }) F (supports u v) holds)
+
+    supports_changes : (u : World) → Unused t k u → Agree F s u → (x : Option Turn) → done_by x ≡ Some (r, o) → SupportsAll F u (each (changes_in t k s) x)
+    supports_changes u v a (Some (runs q e p)) g =
+        supports_append F (changes_of (meaning (sited t k q) s p)) _ u (operation_supported u v a q p g)
+        (λ z. breaks_supported (role t k) (queue_at t k) e (each (turn_uses t k s) (turn t k s)) _ z)
+    supports_changes u v a (Some (called q p)) g = operation_supported u v a q p g
+    supports_changes u v a _ g = absurd (some_apart (sym g))
 
 -- An access set has all uses of another.
 pub record Contains (f g : Footprint) : Type 0 where
@@ -162,10 +171,10 @@ pub record Owes (t : Recording) (k r : ℕ) (o : Operation) (s : World) : Type 0
   pub tells : (u : World) → RowTells t k r s u o
   pub supports : (u : World) → Unused t k u → Agree (seen (in_ring t r) s o) s u → Agree (used t k r u true o) s u → RowSupports t k r u o
 
--- The statement of cover for one operation at every place that runs it.
+-- The statement of cover for one operation at every place that does it.
 abbrev pub OperationCovers : Operation → Type 0
-OperationCovers o = (t : Recording) (k : ℕ) (s : World) (r : ℕ) (e : Entry) → turn t k s ≡ Some (runs r e o) → Awaits t k s → Covers t k (footprint t k s) s
+OperationCovers o = (t : Recording) (k : ℕ) (s : World) (r : ℕ) → done_by (turn t k s) ≡ Some (r, o) → Awaits t k s → Covers t k (footprint t k s) s
 
 -- An operation that pays what it owes in every world is covered.
 pub owed_covers : (o : Operation) → ((t : Recording) (k r : ℕ) (s : World) → Awaits t k s → Owes t k r o s) → OperationCovers o
-owed_covers o owes t k s r e h w = operation_covers t k s r e o h (owes t k r s w).tells (owes t k r s w).supports w
+owed_covers o owes t k s r h w = operation_covers t k s r o h (owes t k r s w).tells (owes t k r s w).supports w

@@ -2,20 +2,25 @@
 use Rattle.std.specs.Prelude.{◌≡◌, ℕ, true, false, cond, leb, [], ◌∷◌, ◌++◌, Option, Some, None, refl, if◌then◌else◌}
 use Rattle.std.specs.Option.{option_map}
 use mathlib.Core.Path.{sym, ap, ◌∙◌}
-use Rattle.trace_format.specs.declared.entry.Entry.{Entry}
 use Rattle.recording.specs.declared.recording.Recording.{Recording}
 use Rattle.entry_checks.specs.Operation.{Operation}
 use Rattle.chain_plan.specs.Chain.{role}
 use Rattle.world_parts.specs.World.{World, Broken}
 use Rattle.op_meaning.specs.Site.{sited}
 use Rattle.op_meaning.specs.Meaning.{meaning}
-use Rattle.op_meaning.specs.Step.{Turn, registered, runs, turn_under, turn, reply_of, changes_in, step_reply, step_changes, run_reply, changes_of, breaks, failed, queue_at}
+use Rattle.op_meaning.specs.Step.{Turn, registered, called, runs, turn_under, turn, reply_of, changes_in, step_reply, step_changes, run_reply, changes_of, breaks, failed, queue_at}
 use Rattle.sqe_codec.specs.Answers.{each}
 use Rattle.world_parts.specs.Items.{chain_flag, one, writes, Agree}
 use Rattle.foot_print.specs.Footprint.{use_of, row_in, order_uses, turn_uses, footprint}
 use Rattle.op_meaning.proofs.Turns.{of_flag}
 use Rattle.foot_print.proofs.Agreement.{agree_left, agree_right, agree_head, agree_tail}
 use Rattle.foot_print.proofs.Registering.{registering_same}
+
+-- The ring and the operation of a turn that does one: it runs an entry, or does what a call of the program did.
+abbrev pub done_by : Option Turn → Option (ℕ × Operation)
+done_by (Some (runs r e o)) = Some (r, o)
+done_by (Some (called r o)) = Some (r, o)
+done_by _ = None
 
 -- An operation is decided by its row.
 pub record Decided (t : Recording) (k r : ℕ) (s u : World) (o : Operation) : Type 0 where
@@ -36,17 +41,19 @@ module _ (t : Recording) (k : ℕ) where
         | false ↦ λ e g. under_alone _ _ e
       ] refl a
 
-  module _ (s u : World) (decided : (r : ℕ) (e : Entry) (o : Operation) → turn t k s ≡ Some (runs r e o) → Agree (row_in (sited t k r) s o) s u → Decided t k r s u o) where
+  module _ (s u : World) (decided : (r : ℕ) (o : Operation) → done_by (turn t k s) ≡ Some (r, o) → Agree (row_in (sited t k r) s o) s u → Decided t k r s u o) where
     each_uses : (x : Option Turn) → turn t k s ≡ x → Agree (each (turn_uses t k s) x) s u → each (turn_uses t k u) x ≡ each (turn_uses t k s) x
-    each_uses (Some (runs r e o)) h a = (decided r e o h a).same_row
+    each_uses (Some (runs r e o)) h a = (decided r o (ap done_by h) a).same_row
+    each_uses (Some (called r o)) h a = (decided r o (ap done_by h) a).same_row
     each_uses _ h a = refl
 
     each_reply : (x : Option Turn) → turn t k s ≡ x → Agree (each (turn_uses t k s) x) s u → option_map (reply_of t k u) x ≡ option_map (reply_of t k s) x
-    each_reply (Some (runs r e o)) h a = ap (λ y. Some (run_reply e o y)) (decided r e o h a).same_meaning
+    each_reply (Some (runs r e o)) h a = ap (λ y. Some (run_reply e o y)) (decided r o (ap done_by h) a).same_meaning
     each_reply _ h a = refl
 
     each_changes : (x : Option Turn) → turn t k s ≡ x → Agree (each (turn_uses t k s) x) s u → each (changes_in t k u) x ≡ each (changes_in t k s) x
-    each_changes (Some (runs r e o)) h a = ap (λ x. changes_of x ++ breaks (role t k) e (failed o x)) (decided r e o h a).same_meaning
+    each_changes (Some (runs r e o)) h a = ap (λ x. changes_of x ++ breaks (role t k) e (failed o x)) (decided r o (ap done_by h) a).same_meaning
+    each_changes (Some (called r o)) h a = ap changes_of (decided r o (ap done_by h) a).same_meaning
     each_changes (Some (registered r slots)) h a = registering_same s u r slots a
     each_changes _ h a = refl
 

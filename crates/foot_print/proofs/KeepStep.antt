@@ -17,7 +17,7 @@ use Rattle.foot_print.specs.Laws.{Awaits}
 use Rattle.world_parts.proofs.KeepWorld.{breaking_world, all_unmade}
 use Rattle.foot_print.proofs.KeepNames.{Leaves, Keeps}
 
-leaves_append : (t : Recording) (k : ℕ) (s : World) (cs ds : List Change) → Leaves t k s cs → ((z : World) → IsWorld z → Leaves t k z ds) → Leaves t k s (cs ++ ds)
+pub leaves_append : (t : Recording) (k : ℕ) (s : World) (cs ds : List Change) → Leaves t k s cs → ((z : World) → IsWorld z → Leaves t k z ds) → Leaves t k s (cs ++ ds)
 leaves_append t k s [] ds w g = g s w.0
 leaves_append t k s (c ∷ cs) ds w g = (let rest = leaves_append t k (apply c s) cs ds (w.0, w.1.1) g in (rest.0, (w.1.0, rest.1)))
 
@@ -40,12 +40,16 @@ leaves_step t k s cs w = (
       record { is_world = w.0; no_node = u.0; no_description = u.1 },
 )
 
-pub operation_steps : (t : Recording) (k : ℕ) (s : World) (r : ℕ) (e : Entry) (o : Operation) → turn t k s ≡ Some (runs r e o) → IsWorld s → Keeps t k r s o → StepLeaves t k s
-operation_steps t k s r e o h w keeps =
-    subst (λ x. IsWorld (apply_all (each (changes_in t k s) x) s) × ((j : ℕ) → ¬ (j ≡ k) → Awaits t j s → Awaits t j (apply_all (each (changes_in t k s) x) s))) (sym h)
-    (leaves_step t k s (changes_of (meaning (sited t k r) s o) ++ breaks (role t k) e (failed o (meaning (sited t k r) s o)))
-    (leaves_append t k s (changes_of (meaning (sited t k r) s o)) _ (by (meaning (sited t k r) s o) refl) (λ z v. breaks_leave t k z (role t k) e (failed o (meaning (sited t k r) s o)) v)))
+-- What an operation that keeps worlds leaves, also where it is refused.
+pub operation_leaves : (t : Recording) (k : ℕ) (s : World) (r : ℕ) (o : Operation) → IsWorld s → Keeps t k r s o → Leaves t k s (changes_of (meaning (sited t k r) s o))
+operation_leaves t k s r o w keeps = by (meaning (sited t k r) s o) refl
   where
     by : (m : Result Effect Errno) → meaning (sited t k r) s o ≡ m → Leaves t k s (changes_of m)
     by (Err x) q = (w, tt)
     by (Ok x) q = keeps x q
+
+pub operation_steps : (t : Recording) (k : ℕ) (s : World) (r : ℕ) (e : Entry) (o : Operation) → turn t k s ≡ Some (runs r e o) → IsWorld s → Keeps t k r s o → StepLeaves t k s
+operation_steps t k s r e o h w keeps =
+    subst (λ x. IsWorld (apply_all (each (changes_in t k s) x) s) × ((j : ℕ) → ¬ (j ≡ k) → Awaits t j s → Awaits t j (apply_all (each (changes_in t k s) x) s))) (sym h)
+    (leaves_step t k s (changes_of (meaning (sited t k r) s o) ++ breaks (role t k) e (failed o (meaning (sited t k r) s o)))
+    (leaves_append t k s (changes_of (meaning (sited t k r) s o)) _ (operation_leaves t k s r o w keeps) (λ z v. breaks_leave t k z (role t k) e (failed o (meaning (sited t k r) s o)) v)))

@@ -11,7 +11,7 @@ use Rattle.sqe_codec.specs.Answers.{each}
 use Rattle.chain_plan.specs.Chain.{role}
 use Rattle.world_parts.specs.World.{World, IsWorld}
 use Rattle.world_parts.specs.Start.{start}
-use Rattle.op_meaning.specs.Step.{Turn, filled, registered, runs, turn_under, step_world}
+use Rattle.op_meaning.specs.Step.{Turn, filled, registered, called, runs, turn_under, step_world}
 use Rattle.world_parts.specs.Items.{Atom, chain_flag, descriptor_at, one, all_descriptors, member_of, Use, Footprint, has_atom, Agree}
 use Rattle.foot_print.specs.Footprint.{footprint, turn_uses}
 use Rattle.foot_print.specs.Laws.{Awaits, CoversAt, FootprintsCover}
@@ -52,34 +52,41 @@ module _ (t : Recording) where
   module _ (k : ℕ) where
     look_told : (s u : World) (x : Option Turn) → Agree (look_of t k s x).deciding s u → look_of t k u x ≡ look_of t k s x
     look_told s u (Some (runs r e o)) a = λ i. record { deciding = seen_same t r s u o a i; items = taken_same t r s u k o a i }
+    look_told s u (Some (called r o)) a = λ i. record { deciding = seen_same t r s u o a i; items = taken_same t r s u k o a i }
     look_told s u _ a = refl
 
     accepted_over : (s : World) (earlier : List Footprint) (x : Option Turn) → Over always ((look_of t k s x).items ++ extras_of t k s earlier x) (each (turn_uses t k s) x)
     accepted_over s earlier (Some (filled r b at new)) = over_first always (turn_uses t k s (filled r b at new)) [] _ (over_self always _)
     accepted_over s earlier (Some (registered r slots)) = over_self always _
     accepted_over s earlier (Some (runs r e o)) = accepted_over_row t k r s o earlier
+    accepted_over s earlier (Some (called r o)) = accepted_over_row t k r s o earlier
     accepted_over s earlier _ = over_nothing always _
 
     unresolved_over : (s : World) (x : Option Turn) → Over (is_earlier t k) (unresolved_of t k s x) (look_of t k s x).items
     unresolved_over s (Some (filled r b at new)) = over_self _ _
     unresolved_over s (Some (runs r e o)) = unresolved_over_taken t k r s o
+    unresolved_over s (Some (called r o)) = unresolved_over_taken t k r s o
     unresolved_over s _ = over_nothing _ _
 
     unresolved_same : (s u : World) (x : Option Turn) → unresolved_of t k u x ≡ unresolved_of t k s x
     unresolved_same s u (Some (runs r e o)) = refl
+    unresolved_same s u (Some (called r o)) = refl
     unresolved_same s u _ = refl
 
     extras_same : (s u : World) (earlier : List Footprint) → DifferOnlyBy (replayed t) earlier s u → (x : Option Turn) → extras_of t k u earlier x ≡ extras_of t k s earlier x
     extras_same s u earlier d (Some (runs r e o)) = ap (λ f. makes t k o ++ f) (room_same t r s u earlier o (λ h n. d (descriptor_at n) (unwritten t earlier all_descriptors (descriptor_at n) h tt)))
+    extras_same s u earlier d (Some (called r o)) = ap (λ f. makes t k o ++ f) (room_same t r s u earlier o (λ h n. d (descriptor_at n) (unwritten t earlier all_descriptors (descriptor_at n) h tt)))
     extras_same s u earlier d _ = refl
 
     extras_told : (s u : World) (earlier : List Footprint) (x : Option Turn) → Agree (each (turn_uses t k s) x) s u → extras_of t k u earlier x ≡ extras_of t k s earlier x
     extras_told s u earlier (Some (runs r e o)) a = ap (λ f. makes t k o ++ f) (room_told t k r s u earlier o a)
+    extras_told s u earlier (Some (called r o)) a = ap (λ f. makes t k o ++ f) (room_told t k r s u earlier o a)
     extras_told s u earlier _ a = refl
 
     extras_thin : (s : World) (earlier thin : List Footprint) → Thinner (replayed t) thin earlier → (x : Option Turn) → Over always (extras_of t k s earlier x) (extras_of t k s thin x)
     extras_thin s earlier thin n (Some (runs r e o)) = over_both always (makes t k o) _ (makes t k o) _ (over_self always _) (room_thin_held t k r s earlier thin o (written_thin t all_descriptors thin earlier n))
     extras_thin s earlier thin n (Some (registered r slots)) = over_self always _
+    extras_thin s earlier thin n (Some (called r o)) = over_both always (makes t k o) _ (makes t k o) _ (over_self always _) (room_thin_held t k r s earlier thin o (written_thin t all_descriptors thin earlier n))
     extras_thin s earlier thin n _ = over_nothing always _
 
     uses_agree : (s u : World) → AgreeOn (replayed t) (running_row t k s) s u → Agree (each (turn_uses t k s) (task t k)) s u
@@ -125,6 +132,7 @@ module _ (t : Recording) where
         filled_bound : (c : Atom) → T (has_atom (turn_uses t k s (filled r b at new)) c) → T (is_earlier t k c)
         filled_bound c m = grind arith
     look_bound (Some (runs r e o)) a h = true_of _ (taken_bound t k s w before r o a (holds_true _ h))
+    look_bound (Some (called r o)) a h = true_of _ (taken_bound t k s w before r o a (holds_true _ h))
     look_bound _ a h = absurd (holds_true _ h)
 
 module _ (t : Recording) (starts : IsWorld (start t)) where

@@ -7,16 +7,16 @@ use Rattle.sqe_codec.specs.declared.errno.Errno.{Errno}
 use Rattle.file_tree.specs.Tree.{Target}
 use Rattle.recording.specs.declared.recording.Recording.{Recording}
 use Rattle.sqe_codec.specs.Answers.{each_ok}
-use Rattle.entry_checks.specs.Operation.{Operation, File, Span, Path, OpenFlags, at_position, in_slot}
+use Rattle.entry_checks.specs.Operation.{Operation, File, Span, Path, OpenFlags, at_position, in_slot, at_descriptor}
 use Rattle.file_tree.specs.Walk.{Place, names_on}
 use Rattle.world_parts.specs.World.{World}
 use Rattle.world_parts.specs.Items.{Atom, chain_flag, descriptor_at, description_at, position_of, name_at, names_in, Item, one, buffer_bytes, Use, reads, writes, Footprint}
 use Rattle.world_parts.specs.Cutting.{is_narrow_use, is_narrow}
 use Rattle.op_meaning.specs.Site.{at_place, in_ring, sited}
 use Rattle.op_meaning.specs.Meaning.{meaning, made_node, span_start, Handle, held, allocation, Allocation, lowest_free, Found, found, shape}
-use Rattle.op_meaning.specs.Step.{Turn, registered, runs, turn, queue_at}
-use Rattle.foot_print.specs.Footprint.{moved_content, moved_uses, content_of, of_file, file_seen, look_reads, uses, opened_at, use_of, as_reads, Taken, tried, is_foreseen, held_item, file_reads, transfer_range, position_written, span_use, would_extend, allocation_uses, allocated_content, resized_content, path_reads, name_written, made_where, room_where, room_uses, description_made, open_uses, row_in, order_uses, turn_uses, directory_made, name_freed, measured_at}
-use Rattle.op_meaning.specs.Shape.{Shape, idle, looking, moving, allocating, resizing, closing, opening, measuring, making, freeing, linking, renaming, Look, at_nothing, at_file, at_path, at_paths, look}
+use Rattle.op_meaning.specs.Step.{Turn, called, registered, runs, turn, queue_at}
+use Rattle.foot_print.specs.Footprint.{moved_content, moved_uses, content_of, of_file, file_seen, look_reads, uses, opened_at, use_of, as_reads, Taken, tried, is_foreseen, held_item, file_item, file_reads, transfer_range, position_written, span_use, would_extend, allocation_uses, allocated_content, resized_content, path_reads, name_written, made_where, room_where, room_uses, description_made, open_uses, row_in, order_uses, turn_uses, directory_made, name_freed, measured_at}
+use Rattle.op_meaning.specs.Shape.{Shape, idle, looking, moving, allocating, resizing, closing, opening, measuring, making, freeing, linking, renaming, holding, holding_path, holding_copy, holding_other, seeking, Look, at_nothing, at_file, at_path, at_paths, look}
 use Rattle.foot_print.specs.Parts.{FootprintsAreNarrow}
 use Rattle.foot_print.proofs.Holding.{all_append, all_each, all_each_ok}
 use Rattle.foot_print.proofs.Registering.{registering_narrow}
@@ -32,6 +32,14 @@ reads_narrow (u ∷ f) h = both (is_narrow_use (reads u.item)) _ (let narrow = l
 -- The slot or descriptor of a number, and what an operation has of an open file.
 held_narrow : (g : Item → Use) → ((a : Atom) → T (is_narrow_use (g (one a)))) → (t : Recording) (r : ℕ) (f : File) → T (is_narrow (map g (held_item (in_ring t r) f)))
 held_narrow g h t r f = grind (arith, h)
+
+-- The slot or descriptor of any number.
+item_narrow : (w : Bool) (r : ℕ) (f : File) → T (is_narrow_use (use_of w (file_item r f)))
+item_narrow w r (in_slot n) = tt
+item_narrow w r (at_descriptor n) = tt
+
+item_written : (r : ℕ) (f : File) (rest : Footprint) → T (is_narrow rest) → T (is_narrow (writes (file_item r f) ∷ rest))
+item_written r f rest h = both (is_narrow_use (writes (file_item r f))) _ (item_narrow true r f) h
 
 module _ (t : Recording) (s : World) (r : ℕ) where
   seen_narrow : (f : File) → T (is_narrow (file_seen (in_ring t r) s f))
@@ -104,6 +112,14 @@ module _ (t : Recording) (s : World) (r : ℕ) where
   uses_narrow k x (freeing p removes) z = there_narrow (name_freed removes) z.place (λ q. grind arith)
   uses_narrow k x (linking old new) z = there_narrow name_written z.new_place (λ q. tt)
   uses_narrow k x (renaming old new) z = both_narrow (each_ok name_written z.place) _ (there_narrow name_written z.place (λ q. tt)) (there_narrow (name_freed true) z.new_place (λ q. grind arith))
+  uses_narrow k x (holding f) z = item_written r f [] tt
+  uses_narrow k x (holding_path f p g) z =
+      let led = each_ok (opened_at (at_place t k) x g) z.place in
+      item_written r f (made_where x (description_made t k) ++ led)
+      (both_narrow (made_where x (description_made t k)) led (made_narrow x (description_made t k) tt) (there_narrow (opened_at (at_place t k) x g) z.place (λ q. opened_narrow k x g q q.target)))
+  uses_narrow k x (holding_copy f q source) z = both (is_narrow_use (reads (file_item q source))) _ (item_narrow false q source) (item_written r f [] tt)
+  uses_narrow k x (holding_other f) z = item_written r f (made_where x (description_made t k)) (made_narrow x (description_made t k) tt)
+  uses_narrow k x (seeking f) z = all_each is_narrow_use (λ (h : Handle). writes (one (position_of h.description)) ∷ []) z.file (λ h. tt)
 
   row_in_narrow : (k : ℕ) (o : Operation) → T (is_narrow (row_in (sited t k r) s o))
   row_in_narrow k o = both_narrow (look_reads (in_ring t r) s (look (shape o))) _ (look_narrow (look (shape o))) (taken_narrow (is_ok (meaning (sited t k r) s o)))
@@ -120,5 +136,6 @@ all_narrow t k s = both_narrow (order_uses (queue_at t k) (role t k)) _ (order_n
   where
     by : (x : Turn) → T (is_narrow (turn_uses t k s x))
     by (runs r e o) = row_in_narrow t s r k o
+    by (called r o) = row_in_narrow t s r k o
     by (registered r slots) = registering_narrow r slots
     by _ = tt

@@ -20,7 +20,7 @@ use Rattle.world_parts.specs.World.{World, Broken, broken}
 use Rattle.foot_print.specs.Footprint.{look_reads, order_uses, row_in, turn_uses}
 use Rattle.op_meaning.specs.Site.{in_ring, sited}
 use Rattle.op_meaning.specs.Shape.{Shape, look}
-use Rattle.op_meaning.specs.Step.{Turn, filled, registered, refused, canceled, runs, posts, running_turn, turn_under, ring_at}
+use Rattle.op_meaning.specs.Step.{Turn, filled, registered, called, refused, canceled, runs, posts, running_turn, turn_under, ring_at}
 use Rattle.recording.specs.Rings.{queue_of}
 use Rattle.trace_records.specs.declared.record.FullSlot.{FullSlot}
 use Rattle.op_meaning.proofs.Turns.{by_flag, under_flag}
@@ -29,7 +29,7 @@ use Rattle.foot_print.specs.Foreseen.{meets_written, may_run, unresolved_given, 
 use Rattle.foot_print.specs.Outlook.{takes_lowest, turn_takes_lowest, IsFirstWritten, WaitsBy, items_awaited, IsOutlook, Awaits, AwaitsAsOperation, MemberAwaits}
 use Rattle.foot_print.specs.declared.reaching.Awaited.TheVariants.{Items, Reach}
 use Rattle.foot_print.specs.declared.reaching.Outlook.{Outlook}
-use Rattle.foot_print.proofs.Given.{filled_given, member_is_given, refused_given, registered_given}
+use Rattle.foot_print.proofs.Given.{called_given, filled_given, member_is_given, refused_given, registered_given}
 
 -- the first of some items that is written
 module _ (w : Item → Bool) where
@@ -105,9 +105,13 @@ module _ (t : Recording) (k : ℕ) (s : World) (w : Item → Bool) (o : Outlook)
   abbrev awaits_at : Footprint → Bool → Option Turn → Option Turn → Type 0
   awaits_at order waits x y = Awaits w (look_of t k s x).deciding (order ++ each (turn_uses t k s) x) (if waits then true else (if is_canceled y then false else true)) (turn_takes_lowest x) o
 
-  -- a fill, and a place that is refused, run whatever earlier places do
+  -- a fill, a call, and a place that is refused, run whatever earlier places do
+  always_runs : (deciding row : Footprint) (waits takes : Bool) → Awaits w deciding row true takes o → Awaits w deciding row (if waits then true else true) takes o
+  always_runs deciding row true takes a = a
+  always_runs deciding row false takes a = a
+
   settled : (row : Footprint) (waits : Bool) → Awaits w [] row true false o → Awaits w [] row (if waits then true else true) false o
-  settled row waits a = grind arith
+  settled row waits a = always_runs [] row waits false a
 
   running_at : (order : Footprint) (waits : Bool) (r : ℕ) (e : Entry) (c : Role) (b : Option Broken) (p : Operation)
       → AwaitsAsOperation (sited t k r) s order w p (member_runs c b waits) o → awaits_at order waits (Some (runs r e p)) (Some (running_turn r e c b p))
@@ -137,6 +141,10 @@ module _ (t : Recording) (k : ℕ) (s : World) (w : Item → Bool) (o : Outlook)
       let row = order_of t k ++ turn_uses t k s (registered r slots) in
       at_task (registered r slots) is (ap (λ o. o.reach) e ∙ registered_given t k s w r slots is) (settled row _ (subst (Awaits w [] row true false) (sym e) (record { by = inr (refl, refl); told = refl; lowest = refl })))
 
+  pub called_outlook : (r : ℕ) (p : Operation) → Some (called r p) ≡ task t k → o.reach ≡ operation_given (sited t k r) s (order_of t k) w p → AwaitsAsOperation (sited t k r) s (order_of t k) w p true o → IsOutlook t k s w o
+  called_outlook r p is reach awaits =
+      at_task (called r p) is (reach ∙ called_given t k s w r p is) (always_runs (seen (in_ring t r) s p) (order_of t k ++ row_in (sited t k r) s p) _ (takes_lowest p) awaits)
+
   pub refused_outlook : (x : Errno) (p : Bool) → Some (refused x p) ≡ task t k → o ≡ record { reach = order_of t k; waits_by = Reach; takes_lowest = false } → IsOutlook t k s w o
   refused_outlook x p is e =
       at_task (refused x p) is (ap (λ o. o.reach) e ∙ refused_given t k s w x p is)
@@ -152,3 +160,9 @@ pub members_outlook : {E : Type 0} (t : Recording) (k : ℕ) (s : World) (w : It
 members_outlook t k s w r c x p here own is (Ok o) reach awaits =
     member_outlook t k s w o r x p is (reach ∙ (λ i. member_given (sited t k r) s (order_uses (queue_of t (here i)) (own i)) w (own i) p)) (transport (λ i. MemberAwaits (sited t k r) s (order_uses (queue_of t (here i)) (own i)) w (own i) p o) awaits)
 members_outlook t k s w r c x p here own is (Err e) _ _ = tt
+
+pub calls_outlook : {E : Type 0} (t : Recording) (k : ℕ) (s : World) (w : Item → Bool) (r : ℕ) (c : Role) (p : Operation) → r ≡ ring_at t k → c ≡ role t k → Some (called r p) ≡ task t k → (o : Result Outlook E)
+    → IfOk o (λ o. o.reach ≡ operation_given (sited t k r) s (order_uses (queue_of t r) c) w p) → IfOk o (AwaitsAsOperation (sited t k r) s (order_uses (queue_of t r) c) w p true) → IfOk o (IsOutlook t k s w)
+calls_outlook t k s w r c p here own is (Ok o) reach awaits =
+    called_outlook t k s w o r p is (reach ∙ (λ i. operation_given (sited t k r) s (order_uses (queue_of t (here i)) (own i)) w p)) (transport (λ i. AwaitsAsOperation (sited t k r) s (order_uses (queue_of t (here i)) (own i)) w p true o) awaits)
+calls_outlook t k s w r c p here own is (Err e) _ _ = tt

@@ -7,7 +7,7 @@ use Rattle.sqe_codec.specs.Answers.{each}
 use Rattle.entry_checks.specs.Operation.{Operation, nop}
 use Rattle.finite_maps.specs.Table.{empty}
 use Rattle.world_parts.specs.World.{World, IsWorld}
-use Rattle.op_meaning.specs.Step.{Turn, runs}
+use Rattle.op_meaning.specs.Step.{Turn, called, runs}
 use Rattle.world_parts.specs.Items.{Atom, chain_flag, value, has_atom, Agree}
 use Rattle.foot_print.specs.Footprint.{footprint, row_in, turn_uses}
 use Rattle.foot_print.specs.Laws.{Awaits, FootprintsCover}
@@ -25,6 +25,7 @@ module _ (t : Recording) (k : ℕ) where
 
   uses_unbroken : (s : World) (x : Option Turn) → each (turn_uses t k (unbroken s)) x ≡ each (turn_uses t k s) x
   uses_unbroken s (Some (runs r e o)) = row_unbroken r s o
+  uses_unbroken s (Some (called r o)) = row_unbroken r s o
   uses_unbroken s _ = refl
 
   row_is_footprint : (s : World) → footprint t k (unbroken s) ≡ running_row t k s

@@ -5,15 +5,15 @@ use mathlib.Core.Path.{subst}
 use Rattle.sqe_codec.specs.declared.errno.Errno.{Errno}
 use Rattle.recording.specs.declared.recording.Recording.{Recording}
 use Rattle.sqe_codec.specs.Answers.{each, each_ok}
-use Rattle.entry_checks.specs.Operation.{Operation, Path, OpenFlags, at_position, file_limit}
+use Rattle.entry_checks.specs.Operation.{Operation, File, Path, OpenFlags, at_position, file_limit}
 use Rattle.world_parts.specs.World.{World}
 use Rattle.file_tree.specs.Tree.{Target}
 use Rattle.file_tree.specs.Walk.{Place}
 use Rattle.op_meaning.specs.Site.{at_place, in_ring, sited}
 use Rattle.op_meaning.specs.Meaning.{meaning, made_node, Handle, allocation, Allocation, extend, zero_extend, Found, found, shape}
 use Rattle.world_parts.specs.Items.{Atom, description_at, position_of, size_of, byte_at, name_at, names_in, same_atom, Item, one, file_bytes, all_names, all_bytes_and_sizes, all_descriptors, member_of, Use, reads, writes, Footprint, has_atom, writes_atom}
-use Rattle.foot_print.specs.Footprint.{shape_row, look_reads, uses, allocated_content, content_of, moved_uses, position_use, position_written, transfer_range, write_content, tried, foreseen, use_of, span_use, allocation_uses, name_written, made_where, room_uses, description_made, open_uses, opening_uses, directory_made, row_in, would_extend}
-use Rattle.op_meaning.specs.Shape.{Shape, moving, allocating, opening, making, look}
+use Rattle.foot_print.specs.Footprint.{shape_row, look_reads, uses, allocated_content, content_of, moved_uses, position_use, position_written, transfer_range, write_content, tried, foreseen, use_of, span_use, allocation_uses, name_written, made_where, room_uses, description_made, open_uses, opened_at, opening_uses, file_item, held_path_uses, directory_made, row_in, would_extend}
+use Rattle.op_meaning.specs.Shape.{Shape, moving, allocating, opening, making, holding_path, holding_other, look}
 use Rattle.foot_print.specs.Reach.{written_by, shape_makes, shape_asked, room_at, node_made, room_taken}
 use Rattle.world_parts.proofs.Collision.{same_atom-eq}
 use Rattle.foot_print.proofs.Holding.{Over, always, drop_false, over_self, over_nothing, over_trans, over_all, over_first, over_second, over_both, over_written, over_reads, over_taken, over_content}
@@ -63,13 +63,25 @@ module _ (t : Recording) (k r : ℕ) (s : World) where
   made_held true q f h = h
   made_held false q f h = over_nothing always q
 
+  placed_held : (b : Bool) (g : OpenFlags) (q : Place) (y : Option Target) (z : Footprint) → Over always z (open_uses (at_place t k) foreseen g q y) → Over always z (writes (one (size_of (made_node t k))) ∷ []) → Over always z (open_uses (at_place t k) (tried b) g q y)
+  placed_held b g q None z h m =
+      elim g.create as (λ c. Over always z (cond c (name_written q ++ []) []) → Over always z (cond c (name_written q ++ made_where (tried b) (writes (one (size_of (made_node t k))) ∷ [])) [])) [
+        | true ↦ λ w. over_all always z (name_written q) _ w (made_held b z _ m)
+        | false ↦ λ w. w
+      ] h
+  placed_held b g q (Some y) z h m = h
+
+  led_held : (b : Bool) (g : OpenFlags) (w : Result Place Errno) (z : Footprint) → Over always z (each_ok (opened_at (at_place t k) foreseen g) w) → Over always z (writes (one (size_of (made_node t k))) ∷ []) → Over always z (each_ok (opened_at (at_place t k) (tried b) g) w)
+  led_held b g (Ok q) z h m = placed_held b g q q.target z h m
+  led_held b g (Err e) z h m = over_nothing always z
+
   open_held : (b : Bool) (p : Path) (g : OpenFlags) (asked : Option ℕ) (z : Found) (earlier : List Footprint) → Over always (uses_part earlier (opening p g asked) z) (opening_uses (sited t k r) s (tried b) g asked z.place)
   open_held b p g asked z earlier =
       over_all always whole (room_uses (in_ring t r) s asked ++ made_where (tried b) (description_made t k)) _
       (over_all always whole (room_uses (in_ring t r) s asked) _
       (over_second always (uses (sited t k r) s foreseen o z) _ _ (over_second always (shape_makes t k o) _ _ (room_held asked earlier)))
       (made_held b whole _ (made (description_made t k) (over_second always (node_made t k) (description_made t k) _ (over_self always _)))))
-      (at z.place whole (over_first always (uses (sited t k r) s foreseen o z) _ _ (over_self always _)) (made (writes (one (size_of (made_node t k))) ∷ []) (over_first always (node_made t k) (description_made t k) _ (over_first always (writes (one (size_of (made_node t k))) ∷ []) _ _ (over_self always _)))))
+      (led_held b g z.place whole (over_first always (uses (sited t k r) s foreseen o z) _ _ (over_self always _)) (made (writes (one (size_of (made_node t k))) ∷ []) (over_first always (node_made t k) (description_made t k) _ (over_first always (writes (one (size_of (made_node t k))) ∷ []) _ _ (over_self always _)))))
     where
       o : Shape
       o = opening p g asked
@@ -80,17 +92,34 @@ module _ (t : Recording) (k r : ℕ) (s : World) where
       made : (f : Footprint) → Over always (shape_makes t k o) f → Over always whole f
       made f h = over_second always (uses (sited t k r) s foreseen o z) _ f (over_first always (shape_makes t k o) _ f h)
 
-      placed : (q : Place) (y : Option Target) (z : Footprint) → Over always z (open_uses (at_place t k) foreseen g q y) → Over always z (writes (one (size_of (made_node t k))) ∷ []) → Over always z (open_uses (at_place t k) (tried b) g q y)
-      placed q None z h m =
-          elim g.create as (λ c. Over always z (cond c (name_written q ++ []) []) → Over always z (cond c (name_written q ++ made_where (tried b) (writes (one (size_of (made_node t k))) ∷ [])) [])) [
-            | true ↦ λ w. over_all always z (name_written q) _ w (made_held b z _ m)
-            | false ↦ λ w. w
-          ] h
-      placed q (Some y) z h m = h
+  -- A new description of a path, behind the slot or descriptor that gets it.
+  path_held : (b : Bool) (f : File) (p : Path) (g : OpenFlags) (z : Found) (earlier : List Footprint) → Over always (uses_part earlier (holding_path f p g) z) (writes (file_item r f) ∷ held_path_uses (sited t k r) (tried b) g z.place)
+  path_held b f p g z earlier =
+      over_all always whole (writes (file_item r f) ∷ []) _ (seen (writes (file_item r f) ∷ []) (over_first always (writes (file_item r f) ∷ []) led _ (over_self always _)))
+      (over_all always whole (made_where (tried b) (description_made t k)) _
+      (made_held b whole _ (made (description_made t k) (over_second always (node_made t k) (description_made t k) _ (over_self always _))))
+      (led_held b g z.place whole (seen led (over_second always (writes (file_item r f) ∷ []) led _ (over_self always _))) (made (writes (one (size_of (made_node t k))) ∷ []) (over_first always (node_made t k) (description_made t k) _ (over_first always (writes (one (size_of (made_node t k))) ∷ []) _ _ (over_self always _))))))
+    where
+      o : Shape
+      o = holding_path f p g
 
-      at : (w : Result Place Errno) (z : Footprint) → Over always z (each_ok (λ (q : Place). open_uses (at_place t k) foreseen g q q.target) w) → Over always z (writes (one (size_of (made_node t k))) ∷ []) → Over always z (each_ok (λ (q : Place). open_uses (at_place t k) (tried b) g q q.target) w)
-      at (Ok q) z h m = placed q q.target z h m
-      at (Err e) z h m = over_nothing always z
+      whole : Footprint
+      whole = uses_part earlier o z
+
+      led : Footprint
+      led = each_ok (opened_at (at_place t k) foreseen g) z.place
+
+      seen : (h : Footprint) → Over always (writes (file_item r f) ∷ led) h → Over always whole h
+      seen h x = over_first always (uses (sited t k r) s foreseen o z) _ h x
+
+      made : (h : Footprint) → Over always (shape_makes t k o) h → Over always whole h
+      made h x = over_second always (uses (sited t k r) s foreseen o z) _ h (over_first always (shape_makes t k o) _ h x)
+
+  -- A description of what is no file.
+  other_held : (b : Bool) (f : File) (z : Found) (earlier : List Footprint) → Over always (uses_part earlier (holding_other f) z) (reads (one (names_in 0)) ∷ writes (file_item r f) ∷ made_where (tried b) (description_made t k))
+  other_held b f z earlier =
+      over_both always (reads (one (names_in 0)) ∷ writes (file_item r f) ∷ []) (description_made t k ++ []) (reads (one (names_in 0)) ∷ writes (file_item r f) ∷ []) (made_where (tried b) (description_made t k)) (over_self always _)
+      (made_held b (description_made t k ++ []) _ (over_first always (description_made t k) [] _ (over_self always _)))
 
   mkdir_held : (b : Bool) (p : Path) (z : Found) (earlier : List Footprint) → Over always (uses_part earlier (making p) z) (each_ok (directory_made (at_place t k) (tried b)) z.place)
   mkdir_held b p z earlier =
@@ -110,6 +139,8 @@ module _ (t : Recording) (k r : ℕ) (s : World) where
   uses_held b (allocating f o n mode) z earlier = over_first always (uses (sited t k r) s foreseen (allocating f o n mode) z) _ _ (over_content always (allocated_content s foreseen o n mode) (allocated_content s (tried b) o n mode) (λ i h. allocation_held (would_extend s i (o + n)) i o (o + n) (allocation mode)) z.file)
   uses_held b (opening p g asked) z earlier = open_held b p g asked z earlier
   uses_held b (making p) z earlier = mkdir_held b p z earlier
+  uses_held b (holding_path f p g) z earlier = path_held b f p g z earlier
+  uses_held b (holding_other f) z earlier = other_held b f z earlier
   uses_held b x z earlier = over_first always (uses (sited t k r) s foreseen x z) _ _ (over_self always _)
 
   pub accepted_over_row : (o : Operation) (earlier : List Footprint) → Over always (accepted_part earlier o) (row_in (sited t k r) s o)

@@ -13,12 +13,12 @@ use Rattle.file_tree.specs.Walk.{Place, walk, is_directory, names_on}
 use Rattle.op_meaning.specs.Site.{at_place, in_ring, sited}
 use Rattle.op_meaning.specs.Meaning.{made_node, Handle, handle, held, shape}
 use Rattle.world_parts.specs.Items.{Atom, description_at, position_of, size_of, byte_at, name_at, names_in, Item, one, file_bytes, all_bytes_and_sizes, member_of, Use, reads, writes, Footprint, has_atom, writes_atom}
-use Rattle.foot_print.specs.Footprint.{foreseen, shape_row, file_seen, of_file, content_of, moved_content, moved_uses, open_uses, opened_at, file_reads, range_of, position_written, span_use, path_reads, name_written, allocated_content, resized_content, transfer_range, directory_made, name_freed, size_read, measured_at}
-use Rattle.op_meaning.specs.Shape.{Shape, idle, looking, moving, allocating, resizing, closing, opening, measuring, making, freeing, linking, renaming}
-use Rattle.foot_print.specs.Reach.{unresolved_shape, taken, all_files, any_name, any_size, unresolved_file, unresolved_row}
+use Rattle.foot_print.specs.Footprint.{foreseen, shape_row, file_seen, of_file, content_of, moved_content, moved_uses, open_uses, opened_at, file_reads, range_of, position_written, span_use, path_reads, name_written, allocated_content, resized_content, transfer_range, directory_made, name_freed, size_read, measured_at, file_item, position_sought}
+use Rattle.op_meaning.specs.Shape.{Shape, idle, looking, moving, allocating, resizing, closing, opening, measuring, making, freeing, linking, renaming, holding, holding_path, holding_copy, holding_other, seeking}
+use Rattle.foot_print.specs.Reach.{unresolved_shape, taken, all_files, any_name, any_position, any_size, unresolved_file, unresolved_row}
 use Rattle.foot_print.specs.Replayed.{is_earlier}
 use Rattle.world_parts.proofs.Collision.{both, left, right, either_left, same_atom-eq}
-use Rattle.foot_print.proofs.Holding.{Over, drop_false, over_self, over_nothing, over_all, over_first, over_second, over_both, over_uses, all_append, all_each, all_each_ok}
+use Rattle.foot_print.proofs.Holding.{Over, drop_false, over_self, over_nothing, over_all, over_first, over_second, over_both, over_more, over_uses, all_append, all_each, all_each_ok}
 
 -- Uses of a file and its description, and of names.
 abbrev pub is_file_use : Use → Bool
@@ -38,6 +38,15 @@ is_name_use u = sort u.item
     sort (one (name_at d n)) = true
     sort (one (names_in d)) = true
     sort _ = false
+
+-- Uses of positions, and of descriptions that are read.
+abbrev pub is_position_use : Use → Bool
+is_position_use u = sort u.item u.written
+  where
+    sort : Item → Bool → Bool
+    sort (one (position_of d)) w = true
+    sort (one (description_at d)) w = not w
+    sort _ w = false
 
 module _ (t : Recording) (k : ℕ) where
   abbrev earlier : Atom → Bool
@@ -65,11 +74,17 @@ module _ (t : Recording) (k : ℕ) where
   name_use (one (names_in d)) w h = at_atom (any_name t k) (names_in d) w (λ e. either_left _ _ e) (λ e v. either_left _ _ e)
   name_use _ w h = absurd h
 
+  position_use : (x : Item) (w : Bool) → T (is_position_use (record { item = x; written = w })) → Over earlier (any_position t k) (record { item = x; written = w } ∷ [])
+  position_use x w h = grind (arith, at_atom, either_left, over_first)
+
   files_held : (f : Footprint) → T (list_all is_file_use f) → Over earlier (all_files t k) f
   files_held f h = over_uses earlier (all_files t k) is_file_use (λ (u : Use) m. file_use u.item u.written m) f h
 
   names_held : (f : Footprint) → T (list_all is_name_use f) → Over earlier (any_name t k) f
   names_held f h = over_uses earlier (any_name t k) is_name_use (λ (u : Use) m. name_use u.item u.written m) f h
+
+  positions_held : (f : Footprint) → T (list_all is_position_use f) → Over earlier (any_position t k) f
+  positions_held f h = over_uses earlier (any_position t k) is_position_use (λ (u : Use) m. position_use u.item u.written m) f h
 
   module _ (r : ℕ) (s : World) where
     position_uses : (o : ℕ) (h : Handle) → T (list_all is_file_use (position_written h o))
@@ -127,12 +142,29 @@ module _ (t : Recording) (k : ℕ) where
         go true false = over_nothing earlier _
         go true true = over_second earlier (any_name t k) _ _ (truncated y.node)
 
+    led_held : (g : OpenFlags) (z : Result Place Errno) → Over earlier (any_name t k ++ cut g.truncate) (each_ok (opened_at (at_place t k) foreseen g) z)
+    led_held g (Ok q) = opened_held g q q.target
+    led_held g (Err e) = over_nothing earlier _
+
+    looked_held : (p : Path) (b : Bool) → Over earlier (any_name t k ++ cut b) (path_reads s p)
+    looked_held p b = over_first earlier (any_name t k) _ _ (names_held _ (path_names p))
+
     open_held : (p : Path) (g : OpenFlags) (z : Result Place Errno) → Over earlier (any_name t k ++ cut g.truncate) (path_reads s p ++ each_ok (opened_at (at_place t k) foreseen g) z)
-    open_held p g z = over_all earlier _ (path_reads s p) _ (over_first earlier (any_name t k) _ _ (names_held _ (path_names p))) (at z)
-      where
-        at : (w : Result Place Errno) → Over earlier (any_name t k ++ cut g.truncate) (each_ok (opened_at (at_place t k) foreseen g) w)
-        at (Ok q) = opened_held g q q.target
-        at (Err e) = over_nothing earlier _
+    open_held p g z = over_all earlier _ (path_reads s p) _ (looked_held p g.truncate) (led_held g z)
+
+    -- So is what a new description of a path opens, behind the slot or descriptor that gets it.
+    path_held : (f : File) (p : Path) (g : OpenFlags) (z : Result Place Errno)
+        → Over earlier (writes (file_item r f) ∷ (any_name t k ++ cut g.truncate)) (path_reads s p ++ writes (file_item r f) ∷ each_ok (opened_at (at_place t k) foreseen g) z)
+    path_held f p g z =
+        over_all earlier _ (path_reads s p) _ (over_second earlier (writes (file_item r f) ∷ []) (any_name t k ++ cut g.truncate) _ (looked_held p g.truncate))
+        (over_more earlier (any_name t k ++ cut g.truncate) _ (writes (file_item r f)) (led_held g z))
+
+    -- What a seek uses is held among all positions.
+    seek_held : (f : File) → Over earlier (file_reads (in_ring t r) f ++ any_position t k) (file_seen (in_ring t r) s f ++ position_sought (handle (in_ring t r) s f))
+    seek_held f =
+        over_all earlier _ (file_seen (in_ring t r) s f) _
+        (over_both earlier (file_reads (in_ring t r) f) (any_position t k) (file_reads (in_ring t r) f) _ (over_self earlier (file_reads (in_ring t r) f)) (positions_held _ (all_each is_position_use (λ d. reads (one (description_at d)) ∷ []) (held (in_ring t r) s f) (λ d. tt))))
+        (over_second earlier (file_reads (in_ring t r) f) (any_position t k) _ (positions_held _ (all_each is_position_use (λ (h : Handle). writes (one (position_of h.description)) ∷ []) (handle (in_ring t r) s f) (λ h. tt))))
 
     -- What a measured path reads is held among all names and sizes.
     names_read : (es : List (ℕ × List ℕ)) → Over earlier (any_size t k) (map (λ (e : ℕ × List ℕ). reads (one (name_at e.0 e.1))) es)
@@ -170,6 +202,11 @@ module _ (t : Recording) (k : ℕ) where
     unresolved_over_shape (linking old new) = names_held _ (names_behind (path_reads s old ++ path_reads s new) name_written (walk s.nodes new) (two_paths old new) (λ q. tt))
     unresolved_over_shape (renaming old new) = names_held _ (all_append is_name_use (path_reads s old ++ path_reads s new) _ (two_paths old new)
         (names_behind (each_ok name_written (walk s.nodes old)) (name_freed true) (walk s.nodes new) (all_each_ok is_name_use name_written (walk s.nodes old) (λ q. tt)) (λ q. grind arith)))
+    unresolved_over_shape (holding f) = over_self earlier _
+    unresolved_over_shape (holding_path f p g) = path_held f p g (walk s.nodes p)
+    unresolved_over_shape (holding_copy f q source) = over_self earlier _
+    unresolved_over_shape (holding_other f) = over_self earlier _
+    unresolved_over_shape (seeking f) = seek_held f
 
     pub unresolved_over_taken : (o : Operation) → Over earlier (unresolved_row (sited t k r) o) (taken (sited t k r) s o)
     unresolved_over_taken o = unresolved_over_shape (shape o)

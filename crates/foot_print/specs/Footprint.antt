@@ -14,8 +14,8 @@ use Rattle.world_parts.specs.World.{World}
 use Rattle.file_tree.specs.Tree.{Target}
 use Rattle.file_tree.specs.Walk.{Place, names_on, is_directory}
 use Rattle.op_meaning.specs.Meaning.{Site, meaning, made_node, made_description, slot_count, span_start, Handle, held, is_file, bytes_in, allocation, Allocation, extend, reserve, punch, zero_extend, zero_within, lowest_free, Found, found, shape}
-use Rattle.op_meaning.specs.Shape.{Shape, idle, looking, moving, allocating, resizing, closing, opening, measuring, making, freeing, linking, renaming, Look, at_nothing, at_file, at_path, at_paths, look}
-use Rattle.op_meaning.specs.Step.{Turn, filled, registered, refused, canceled, runs, turn, queue_at}
+use Rattle.op_meaning.specs.Shape.{Shape, idle, looking, moving, allocating, resizing, closing, opening, measuring, making, freeing, linking, renaming, holding, holding_path, holding_copy, holding_other, seeking, Look, at_nothing, at_file, at_path, at_paths, look}
+use Rattle.op_meaning.specs.Step.{Turn, filled, registered, called, refused, canceled, runs, turn, queue_at}
 use Rattle.world_parts.specs.Items.{chain_flag, ring_order, slot_at, descriptor_at, description_at, position_of, size_of, name_at, names_in, Item, one, file_bytes, buffer_bytes, all_descriptors, Use, reads, writes, Footprint}
 
 abbrev pub use_of : Bool → Item → Use
@@ -177,6 +177,19 @@ abbrev pub through : Site → (into_file : Bool) → Option Span → Footprint �
 through site w None f = f
 through site w (Some x) f = f ++ span_use site (not w) x
 
+-- The slot of a ring, or the descriptor, of a file number.
+abbrev pub file_item : (ring : ℕ) → File → Item
+file_item r (in_slot n) = one (slot_at r n)
+file_item r (at_descriptor n) = one (descriptor_at n)
+
+-- What a new description of a path uses beside its room: what it makes, and what it opens.
+abbrev pub held_path_uses : Site → Taken → OpenFlags → Result Place Errno → Footprint
+held_path_uses site x g led = made_where x (description_made site.trace site.place) ++ each_ok (opened_at site x g) led
+
+-- The position of what is open, which a seek writes.
+abbrev pub position_sought : Option Handle → Footprint
+position_sought x = each (λ h. writes (one (position_of h.description)) ∷ []) x
+
 -- What an operation reads where it looks.
 abbrev pub look_reads : Site → World → Look → Footprint
 look_reads site s at_nothing = []
@@ -184,7 +197,7 @@ look_reads site s (at_file f) = file_seen site s f
 look_reads site s (at_path p) = path_reads s p
 look_reads site s (at_paths old new) = path_reads s old ++ path_reads s new
 
--- What an operation of a shape uses by what it finds there, all written that it writes where it is accepted.
+-- What an operation of a shape uses by what it finds there, all written that it writes where it is accepted. What is no file is open as the root, and reads that it is a directory by its number of names.
 abbrev pub uses : Site → World → Taken → Shape → Found → Footprint
 uses site s x idle z = []
 uses site s x (looking f) z = file_reads site f
@@ -198,6 +211,11 @@ uses site s x (making p) z = each_ok (directory_made site x) z.place
 uses site s x (freeing p removes) z = each_ok (name_freed removes) z.place
 uses site s x (linking old new) z = each_ok name_written z.new_place
 uses site s x (renaming old new) z = each_ok name_written z.place ++ each_ok (name_freed true) z.new_place
+uses site s x (holding f) z = writes (file_item site.ring f) ∷ []
+uses site s x (holding_path f p g) z = writes (file_item site.ring f) ∷ held_path_uses site x g z.place
+uses site s x (holding_copy f r source) z = reads (file_item r source) ∷ writes (file_item site.ring f) ∷ []
+uses site s x (holding_other f) z = reads (one (names_in 0)) ∷ writes (file_item site.ring f) ∷ made_where x (description_made site.trace site.place)
+uses site s x (seeking f) z = position_sought z.file
 
 -- All that an operation of a shape uses: what it reads where it looks, and what it uses by what it finds.
 abbrev pub shape_row : Site → World → Taken → Shape → Footprint
@@ -231,6 +249,7 @@ slot_uses r x = reads (holder_item x.holds) ∷ writes (one (slot_at r x.number)
 abbrev pub turn_uses : (trace : Recording) (place : ℕ) → World → Turn → Footprint
 turn_uses t k s (filled r b at new) = writes (buffer_bytes r b at (at + length new)) ∷ []
 turn_uses t k s (registered r slots) = flat_map (slot_uses r) slots
+turn_uses t k s (called r o) = row_in (record { trace = t; place = k; ring = r }) s o
 turn_uses t k s (refused e posted) = []
 turn_uses t k s (canceled posted) = []
 turn_uses t k s (runs r e o) = row_in (record { trace = t; place = k; ring = r }) s o

@@ -7,7 +7,7 @@ use Rattle.world_parts.specs.World.{World, broken}
 use Rattle.world_parts.specs.Items.{Item, one, chain_flag, Use, Footprint}
 use Rattle.foot_print.specs.Footprint.{row_in}
 use Rattle.op_meaning.specs.Meaning.{Site}
-use Rattle.op_meaning.specs.Step.{Turn, runs}
+use Rattle.op_meaning.specs.Step.{Turn, called, runs}
 use Rattle.foot_print.specs.Reach.{seen, look_of, task, running_row}
 use Rattle.foot_print.specs.Foreseen.{meets_written, may_run, member_runs, reach_given}
 use Rattle.foot_print.specs.declared.reaching.Awaited.{Awaited}
@@ -21,6 +21,7 @@ takes_lowest _ = false
 
 abbrev pub turn_takes_lowest : Option Turn → Bool
 turn_takes_lowest (Some (runs r e o)) = takes_lowest o
+turn_takes_lowest (Some (called r o)) = takes_lowest o
 turn_takes_lowest _ = false
 
 -- Of the items that decide which others a place uses, those up to the first one that is written.

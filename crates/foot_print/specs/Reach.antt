@@ -3,15 +3,15 @@ use Rattle.std.specs.Prelude.{ℕ, Bool, true, false, List, [], ◌∷◌, ◌++
 use Rattle.std.specs.List.{list_any}
 use Rattle.recording.specs.declared.recording.Recording.{Recording}
 use Rattle.sqe_codec.specs.Answers.{each}
-use Rattle.entry_checks.specs.Operation.{Operation, File, file_limit}
+use Rattle.entry_checks.specs.Operation.{Operation, File, OpenFlags, file_limit}
 use Rattle.chain_plan.specs.Chain.{role}
 use Rattle.world_parts.specs.World.{World}
 use Rattle.op_meaning.specs.Meaning.{Site, made_node, made_description, shape}
-use Rattle.op_meaning.specs.Step.{Turn, filled, registered, canceled, runs, turn, turn_under, queue_at}
+use Rattle.op_meaning.specs.Step.{Turn, filled, registered, called, canceled, runs, turn, turn_under, queue_at}
 use Rattle.world_parts.specs.Items.{Item, file_bytes, chain_flag, size_of, names_in, one, all_names, all_bytes_and_sizes, all_positions, all_descriptions, all_descriptors, reads, writes, Footprint}
 pub use Rattle.item_index.specs.Touching.{written_by}
-use Rattle.foot_print.specs.Footprint.{foreseen, look_reads, shape_row, through, file_reads, room_uses, description_made, closing_uses, order_uses, turn_uses}
-use Rattle.op_meaning.specs.Shape.{Shape, idle, looking, moving, allocating, resizing, closing, opening, measuring, making, freeing, linking, renaming, look}
+use Rattle.foot_print.specs.Footprint.{foreseen, look_reads, shape_row, through, file_item, file_reads, room_uses, description_made, closing_uses, order_uses, turn_uses}
+use Rattle.op_meaning.specs.Shape.{Shape, idle, looking, moving, allocating, resizing, closing, opening, measuring, making, freeing, linking, renaming, holding, holding_path, holding_copy, holding_other, seeking, look}
 
 -- Whether one of some access sets writes an atom of an item of an access set.
 abbrev pub is_met : Footprint → List Footprint → Bool
@@ -33,6 +33,8 @@ node_made t k = writes (one (size_of (made_node t k))) ∷ writes (file_bytes (m
 abbrev pub shape_makes : (trace : Recording) (place : ℕ) → Shape → Footprint
 shape_makes t k (opening p g asked) = node_made t k ++ description_made t k
 shape_makes t k (making p) = node_made t k ++ description_made t k
+shape_makes t k (holding_path f p g) = node_made t k ++ description_made t k
+shape_makes t k (holding_other f) = description_made t k
 shape_makes t k _ = []
 
 abbrev pub makes : (trace : Recording) (place : ℕ) → Operation → Footprint
@@ -69,6 +71,14 @@ any_size t k = reads (all_names (made_node t k)) ∷ reads (all_bytes_and_sizes 
 abbrev pub unresolved_file : Site → File → Footprint
 unresolved_file site f = file_reads site f ++ all_files site.trace site.place
 
+-- What an opening may use while it isn't known what its path leads to.
+abbrev pub unresolved_opening : Site → OpenFlags → Footprint
+unresolved_opening site g = any_name site.trace site.place ++ (if g.truncate then writes (all_bytes_and_sizes (made_node site.trace site.place)) ∷ [] else [])
+
+-- The positions of all descriptions that are there at the start or are made before a place.
+abbrev pub any_position : (trace : Recording) (place : ℕ) → Footprint
+any_position t k = writes (all_positions (made_description t k)) ∷ reads (all_descriptions (made_description t k)) ∷ []
+
 -- What an operation may use, apart from what it makes and its room, where an item that decides its others isn't known yet.
 abbrev pub unresolved_shape : Site → Shape → Footprint
 unresolved_shape site idle = []
@@ -77,12 +87,17 @@ unresolved_shape site (moving w f o n x) = through site w x (unresolved_file sit
 unresolved_shape site (allocating f o n mode) = unresolved_file site f
 unresolved_shape site (resizing f n) = unresolved_file site f
 unresolved_shape site (closing f) = closing_uses site f
-unresolved_shape site (opening p g asked) = any_name site.trace site.place ++ (if g.truncate then writes (all_bytes_and_sizes (made_node site.trace site.place)) ∷ [] else [])
+unresolved_shape site (opening p g asked) = unresolved_opening site g
 unresolved_shape site (measuring p) = any_size site.trace site.place
 unresolved_shape site (making p) = any_name site.trace site.place
 unresolved_shape site (freeing p removes) = any_name site.trace site.place
 unresolved_shape site (linking old new) = any_name site.trace site.place
 unresolved_shape site (renaming old new) = any_name site.trace site.place
+unresolved_shape site (holding f) = writes (file_item site.ring f) ∷ []
+unresolved_shape site (holding_path f p g) = writes (file_item site.ring f) ∷ unresolved_opening site g
+unresolved_shape site (holding_copy f r source) = reads (file_item r source) ∷ writes (file_item site.ring f) ∷ []
+unresolved_shape site (holding_other f) = reads (one (names_in 0)) ∷ writes (file_item site.ring f) ∷ []
+unresolved_shape site (seeking f) = file_reads site f ++ any_position site.trace site.place
 
 abbrev pub unresolved_row : Site → Operation → Footprint
 unresolved_row site o = unresolved_shape site (shape o)
@@ -102,17 +117,20 @@ pub record LookedUp : Type 0 where
 
 abbrev pub look_of : (trace : Recording) (place : ℕ) → World → Option Turn → LookedUp
 look_of t k s (Some (runs r e o)) = record { deciding = seen (record { trace = t; place = k; ring = r }) s o; items = taken (record { trace = t; place = k; ring = r }) s o }
+look_of t k s (Some (called r o)) = record { deciding = seen (record { trace = t; place = k; ring = r }) s o; items = taken (record { trace = t; place = k; ring = r }) s o }
 look_of t k s (Some (filled r b at new)) = record { deciding = []; items = turn_uses t k s (filled r b at new) }
 look_of t k s _ = record { deciding = []; items = [] }
 
 -- What a turn may use that isn't looked up: what it may make, and the slots of a new ring with what they get.
 abbrev pub extras_of : (trace : Recording) (place : ℕ) → World → List Footprint → Option Turn → Footprint
 extras_of t k s earlier (Some (runs r e o)) = makes t k o ++ room_taken (record { trace = t; place = k; ring = r }) s earlier o
+extras_of t k s earlier (Some (called r o)) = makes t k o ++ room_taken (record { trace = t; place = k; ring = r }) s earlier o
 extras_of t k s earlier (Some (registered r slots)) = turn_uses t k s (registered r slots)
 extras_of t k s earlier _ = []
 
 abbrev pub unresolved_of : (trace : Recording) (place : ℕ) → World → Option Turn → Footprint
 unresolved_of t k s (Some (runs r e o)) = unresolved_row (record { trace = t; place = k; ring = r }) o
+unresolved_of t k s (Some (called r o)) = unresolved_row (record { trace = t; place = k; ring = r }) o
 unresolved_of t k s (Some (filled r b at new)) = turn_uses t k s (filled r b at new)
 unresolved_of t k s _ = []
 

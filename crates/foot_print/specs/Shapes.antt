@@ -4,7 +4,7 @@ use Rattle.entry_checks.specs.Meant.{file_meant, flags_meant, path_meant, span_m
 use Rattle.foot_print.specs.declared.shape.Shape.{Shape}
 use Rattle.foot_print.specs.declared.shape.Shape.TheVariants as code
 use Rattle.op_meaning.specs.Shape as model
-use Rattle.op_meaning.specs.Shape.{idle, looking, moving, allocating, resizing, closing, opening, measuring, making, freeing, linking, renaming}
+use Rattle.op_meaning.specs.Shape.{idle, looking, moving, allocating, resizing, closing, opening, measuring, making, freeing, linking, renaming, holding, holding_path, holding_copy, holding_other, seeking}
 
 abbrev pub shape_meant : Shape → model.Shape
 shape_meant code.Idle = idle
@@ -19,3 +19,8 @@ shape_meant (code.Making p) = making (path_meant p)
 shape_meant (code.Freeing p removes) = freeing (path_meant p) removes
 shape_meant (code.Linking old new) = linking (path_meant old) (path_meant new)
 shape_meant (code.Renaming old new) = renaming (path_meant old) (path_meant new)
+shape_meant (code.Holding f) = holding (file_meant f)
+shape_meant (code.HoldingPath f p g) = holding_path (file_meant f) (path_meant p) (flags_meant g)
+shape_meant (code.HoldingCopy f r source) = holding_copy (file_meant f) r (file_meant source)
+shape_meant (code.HoldingOther f) = holding_other (file_meant f)
+shape_meant (code.Seeking f) = seeking (file_meant f)

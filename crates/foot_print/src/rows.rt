@@ -11,7 +11,8 @@ ghost use Rattle.op_meaning.specs.Site.{IsSite, site_meant};
 
 use crate::attempt::{Attempt, Taken};
 use crate::file_rows::{
-    FileRange, allocated_uses, file_reads, file_writes, moved_uses, resized_uses, span_use,
+    FileRange, allocated_uses, file_item, file_reads, file_writes, moved_uses, position_sought,
+    resized_uses, span_use,
 };
 use crate::path_rows::{
     description_taken, freed_at, made_at, measured_at, opened_at, room_taken, written_at,
@@ -21,7 +22,7 @@ use crate::shape::{Shape, shape_of};
 use entry_checks::Op;
 use op_meaning::{Lookup, Site, accepts};
 use std::alloc::{AllocError, Global};
-use world_parts::{Footprint, State};
+use world_parts::{Footprint, Item, State};
 
 /// What an operation at a place of a ring uses in a world. Where the world refuses it, it only
 /// reads.
@@ -163,5 +164,21 @@ fn push_uses(
             written_at(alloc, lookup.place(), footprint)?;
             freed_at(alloc, lookup.new_place(), true, state, footprint)
         }
+        Shape::Holding { file } => footprint.writes(file_item(site.ring, file)),
+        Shape::HoldingPath { file, flags, .. } => {
+            footprint.writes(file_item(site.ring, file))?;
+            description_taken(attempt, footprint)?;
+            opened_at(alloc, attempt, flags, lookup.place(), state, footprint)
+        }
+        Shape::HoldingCopy { file, ring, source } => {
+            footprint.reads(file_item(ring, source))?;
+            footprint.writes(file_item(site.ring, file))
+        }
+        Shape::HoldingOther { file } => {
+            footprint.reads(Item::Names(0))?;
+            footprint.writes(file_item(site.ring, file))?;
+            description_taken(attempt, footprint)
+        }
+        Shape::Seeking { .. } => position_sought(lookup.file(), state, footprint),
     }
 }

@@ -33,16 +33,21 @@ pub(crate) fn shape_seen<'a>(
         (site_meant site.entry) state.now (look (shape_meant shape.entry))) }
 {
     match shape {
-        Shape::Idle | Shape::Looking { .. } | Shape::Closing { .. } => Ok(Lookup::Nothing),
+        Shape::Idle
+        | Shape::Looking { .. }
+        | Shape::Closing { .. }
+        | Shape::Holding { .. }
+        | Shape::HoldingCopy { .. }
+        | Shape::HoldingOther { .. } => Ok(Lookup::Nothing),
         Shape::Moving { file, .. }
         | Shape::Allocating { file, .. }
-        | Shape::Resizing { file, .. } => {
-            Ok(Lookup::File(file_seen(site, file, state, footprint)?))
-        }
+        | Shape::Resizing { file, .. }
+        | Shape::Seeking { file } => { Ok(Lookup::File(file_seen(site, file, state, footprint)?)) }
         Shape::Opening { path, .. }
         | Shape::Measuring { path }
         | Shape::Making { path }
-        | Shape::Freeing { path, .. } => {
+        | Shape::Freeing { path, .. }
+        | Shape::HoldingPath { path, .. } => {
             Ok(Lookup::Path(names_seen(alloc, path, state, footprint)?))
         }
         Shape::Linking { old, new } => paths_seen(alloc, old, new, state, footprint),

@@ -58,6 +58,25 @@ pub(crate) enum Shape<'a> {
         old: PathAt<'a>,
         new: PathAt<'a>,
     },
+    Holding {
+        file: FileNumber,
+    },
+    HoldingPath {
+        file: FileNumber,
+        path: PathAt<'a>,
+        flags: OpenAtFlags,
+    },
+    HoldingCopy {
+        file: FileNumber,
+        ring: u32,
+        source: FileNumber,
+    },
+    HoldingOther {
+        file: FileNumber,
+    },
+    Seeking {
+        file: FileNumber,
+    },
 }
 
 /// The shape of an operation.
@@ -161,5 +180,15 @@ pub(crate) fn shape_of(op: Op<'_>) -> Shape<'_>
         Op::Mkdirat { path } => Shape::Making { path },
         Op::Linkat { old, new } => Shape::Linking { old, new },
         Op::Ftruncate { file, size } => Shape::Resizing { file, size },
+        Op::HoldNothing { file } => Shape::Holding { file },
+        Op::HoldPath {
+            file,
+            path,
+            flags,
+            ..
+        } => Shape::HoldingPath { file, path, flags },
+        Op::HoldCopy { file, ring, source } => Shape::HoldingCopy { file, ring, source },
+        Op::HoldOther { file } => Shape::HoldingOther { file },
+        Op::Seek { file, .. } => Shape::Seeking { file },
     }
 }

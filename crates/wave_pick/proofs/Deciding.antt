@@ -20,7 +20,7 @@ use Rattle.op_meaning.specs.Site.{in_ring}
 use Rattle.op_meaning.specs.Meaning.{slot_count, shape}
 use Rattle.foot_print.specs.Footprint.{file_seen, look_reads, path_reads}
 use Rattle.op_meaning.specs.Shape.{Look, at_nothing, at_file, at_path, at_paths, look}
-use Rattle.op_meaning.specs.Step.{Turn, runs}
+use Rattle.op_meaning.specs.Step.{Turn, called, runs}
 use Rattle.foot_print.specs.Reach.{is_met, seen, is_taken_to_run, look_of, task}
 use Rattle.foot_print.specs.Replayed.{replayed}
 use Rattle.foot_print.proofs.Agreement.{in_left, agree_left, agree_tail, agree_head}
@@ -113,6 +113,7 @@ module _ (s u : World) where
 
   goes_deciding : (t : Recording) (k : ℕ) (x : Option Turn) → Goes s u (look_of t k s x).deciding (look_of t k u x).deciding
   goes_deciding t k (Some (runs r e o)) = goes_seen t r o
+  goes_deciding t k (Some (called r o)) = goes_seen t r o
   goes_deciding t k _ = goes_nothing []
 
 module _ (t : Recording) (spelled : IsAccepted t) (window r k : ℕ) (waits : Waits t window (suc r) k) (may_run : is_taken_to_run t k (world_after t window r) (reaches_after t window r k) ≡ true) where

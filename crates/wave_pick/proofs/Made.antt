@@ -8,17 +8,17 @@ use Rattle.recording.specs.declared.recording.Recording.{Recording}
 use Rattle.trace_records.specs.declared.record.FullSlot.{FullSlot}
 use Rattle.sqe_codec.specs.Answers.{each}
 use Rattle.chain_plan.specs.Chain.{role}
-use Rattle.entry_checks.specs.Operation.{File, Span, file_limit, in_slot, at_descriptor}
+use Rattle.entry_checks.specs.Operation.{File, OpenFlags, Span, file_limit, in_slot, at_descriptor}
 use Rattle.world_parts.specs.World.{World}
 use Rattle.world_parts.specs.Items.{Atom, chain_flag, ring_order, slot_at, descriptor_at, description_at, position_of, size_of, byte_at, name_at, names_in, buffer_byte, Item, one, file_bytes, buffer_bytes, all_names, all_bytes_and_sizes, all_positions, all_descriptions, all_descriptors, member_of, Use, reads, writes, Footprint, writes_atom}
 use Rattle.world_parts.proofs.Collision.{left, right, true_of, writes-has, same_atom-eq}
 use Rattle.world_parts.proofs.Sharing.{holds_true}
 use Rattle.op_meaning.specs.Site.{in_ring, sited}
 use Rattle.op_meaning.specs.Meaning.{made_node, made_description, slot_count, span_start, lowest_free, shape}
-use Rattle.foot_print.specs.Footprint.{use_of, held_item, file_reads, span_use, description_made, holder_item, slot_uses}
-use Rattle.op_meaning.specs.Shape.{Shape, idle, looking, moving, allocating, resizing, closing, opening, measuring, making, freeing, linking, renaming}
-use Rattle.op_meaning.specs.Step.{Turn, filled, registered, runs, queue_at}
-use Rattle.foot_print.specs.Reach.{shape_makes, room_asked, room_at, unresolved_shape, written_by, is_met, node_made, makes, all_files, any_name, unresolved_file, unresolved_of, extras_of, task, look_of, order_of, running_row, accepted_row, wide_row, is_taken_to_run, reach}
+use Rattle.foot_print.specs.Footprint.{use_of, held_item, file_item, file_reads, span_use, description_made, holder_item, slot_uses}
+use Rattle.op_meaning.specs.Shape.{Shape, idle, looking, moving, allocating, resizing, closing, opening, measuring, making, freeing, linking, renaming, holding, holding_path, holding_copy, holding_other, seeking}
+use Rattle.op_meaning.specs.Step.{Turn, filled, registered, called, runs, queue_at}
+use Rattle.foot_print.specs.Reach.{shape_makes, room_asked, room_at, unresolved_shape, written_by, is_met, node_made, makes, all_files, any_name, any_position, unresolved_file, unresolved_opening, unresolved_of, extras_of, task, look_of, order_of, running_row, accepted_row, wide_row, is_taken_to_run, reach}
 use Rattle.foot_print.specs.Replayed.{is_earlier, Known}
 use Rattle.foot_print.proofs.Cover.{all_covered}
 use Rattle.foot_print.proofs.Holding.{split, drop_false}
@@ -103,21 +103,29 @@ module _ (t : Recording) where
     held v r (in_slot n) = elim (ltb n (slot_count t r)) as (λ c. Bound (map (use_of v) (cond c (one (slot_at r n) ∷ []) []))) [ true ↦ atom (slot_at r n) v tt | false ↦ nothing ]
     held v r (at_descriptor n) = elim (ltb n (length t.descriptors)) as (λ c. Bound (map (use_of v) (cond c (one (descriptor_at n) ∷ []) []))) [ true ↦ atom (descriptor_at n) v tt | false ↦ nothing ]
 
+    -- the slot or the descriptor of any number, which is written
+    file_written : (r : ℕ) (f : File) → Bound (writes (file_item r f) ∷ [])
+    file_written r (in_slot n) = atom (slot_at r n) true tt
+    file_written r (at_descriptor n) = atom (descriptor_at n) true tt
+
     order : Bound (order_of t k)
     order = all (use_of (role t k).barrier (one (ring_order (queue_at t k))) ∷ []) _ (atom (ring_order (queue_at t k)) (role t k).barrier tt)
         (cond_both (leb 2 (role t k).length) _ _ Bound (λ _. atom (chain_flag (role t k).chain) true tt) (λ _. nothing))
+
+    description : Bound (description_made t k)
+    description = all (writes (one (description_at (made_description t k))) ∷ []) _ (atom (description_at (made_description t k)) true description_here) (atom (position_of (made_description t k)) true description_here)
 
     made : Bound (node_made t k ++ description_made t k)
     made =
         all (writes (one (size_of (made_node t k))) ∷ []) _ (atom (size_of (made_node t k)) true node_here)
         (all (writes (file_bytes (made_node t k) 0 file_limit) ∷ []) _ (item (file_bytes (made_node t k) 0 file_limit) true of_made_file)
-        (all (writes (one (names_in (made_node t k))) ∷ []) _ (atom (names_in (made_node t k)) true node_here)
-        (all (writes (one (description_at (made_description t k))) ∷ []) _ (atom (description_at (made_description t k)) true description_here)
-        (atom (position_of (made_description t k)) true description_here))))
+        (all (writes (one (names_in (made_node t k))) ∷ []) (description_made t k) (atom (names_in (made_node t k)) true node_here) description))
 
     makes_bound : (x : Shape) → Bound (shape_makes t k x)
     makes_bound (opening p g asked) = made
     makes_bound (making p) = made
+    makes_bound (holding_path f p g) = made
+    makes_bound (holding_other f) = description
     makes_bound _ = nothing
 
     room_bound : (s : World) (r : ℕ) (earlier : List Footprint) (x : Option (Option ℕ)) → Bound (each (room_at (in_ring t r) s (written_by earlier)) x)
@@ -146,6 +154,10 @@ module _ (t : Recording) where
     names_bound : Bound (any_name t k)
     names_bound = item _ true of_names
 
+    opening_bound : (r : ℕ) (g : OpenFlags) → Bound (unresolved_opening (sited t k r) g)
+    opening_bound r g = all (any_name t k) _ names_bound
+        (cond_both g.truncate _ _ Bound (λ _. item (all_bytes_and_sizes (made_node t k)) true of_files) (λ _. nothing))
+
     shape_bound : (r : ℕ) (x : Shape) → Bound (unresolved_shape (sited t k r) x)
     shape_bound r idle = nothing
     shape_bound r (looking f) = held false r f
@@ -154,13 +166,18 @@ module _ (t : Recording) where
     shape_bound r (allocating f o n mode) = file_bound r f
     shape_bound r (resizing f n) = file_bound r f
     shape_bound r (closing f) = held true r f
-    shape_bound r (opening p g asked) = all (any_name t k) _ names_bound
-        (cond_both g.truncate _ _ Bound (λ _. item (all_bytes_and_sizes (made_node t k)) true of_files) (λ _. nothing))
+    shape_bound r (opening p g asked) = opening_bound r g
     shape_bound r (measuring p) = all (reads (all_names (made_node t k)) ∷ []) _ (read (all_names (made_node t k))) (read (all_bytes_and_sizes (made_node t k)))
     shape_bound r (making p) = names_bound
     shape_bound r (freeing p removes) = names_bound
     shape_bound r (linking old new) = names_bound
     shape_bound r (renaming old new) = names_bound
+    shape_bound r (holding f) = file_written r f
+    shape_bound r (holding_path f p g) = all (writes (file_item r f) ∷ []) _ (file_written r f) (opening_bound r g)
+    shape_bound r (holding_copy f q source) = all (reads (file_item q source) ∷ []) _ (read (file_item q source)) (file_written r f)
+    shape_bound r (holding_other f) = all (reads (one (names_in 0)) ∷ []) _ (read (one (names_in 0))) (file_written r f)
+    shape_bound r (seeking f) = all (file_reads (in_ring t r) f) (any_position t k) (held false r f)
+        (all (writes (all_positions (made_description t k)) ∷ []) _ (item _ true of_positions) (item _ false of_descriptions))
 
     -- What the slots of a new ring get is read, and the slots are written.
     slots_bound : (r : ℕ) (slots : List FullSlot) → Bound (flat_map (slot_uses r) slots)
@@ -171,11 +188,13 @@ module _ (t : Recording) where
       unresolved_of_bound : (x : Option Turn) → Bound (unresolved_of t k s x)
       unresolved_of_bound (Some (filled r b at new)) = item _ true (of_buffer r b at (at + length new))
       unresolved_of_bound (Some (runs r e o)) = shape_bound r (shape o)
+      unresolved_of_bound (Some (called r o)) = shape_bound r (shape o)
       unresolved_of_bound _ = nothing
 
       extras_bound : (x : Option Turn) → Bound (extras_of t k s earlier x)
       extras_bound (Some (registered r slots)) = slots_bound r slots
       extras_bound (Some (runs r e o)) = all (makes t k o) _ (makes_bound (shape o)) (room_bound s r earlier (room_asked o))
+      extras_bound (Some (called r o)) = all (makes t k o) _ (makes_bound (shape o)) (room_bound s r earlier (room_asked o))
       extras_bound _ = nothing
 
       wide_bound : Bound (wide_row t k s earlier)
@@ -218,20 +237,26 @@ module _ (t : Recording) where
     own_one : (b : Atom) → (T (is_earlier t k b) → ⊥) → written_by (reach t i s earlier ∷ []) (one b) ≡ false
     own_one b apart = unwritten_own (one b) (own_atom k b apart)
 
+    own_description_unmet : is_met (description_made t k) (reach t i s earlier ∷ []) ≡ false
+    own_description_unmet = λ j.
+        own_one (description_at (made_description t k)) (below_itself (made_description t k)) j
+        || (own_one (position_of (made_description t k)) (below_itself (made_description t k)) j || false)
+
     own_unmet : is_met (node_made t k ++ description_made t k) (reach t i s earlier ∷ []) ≡ false
     own_unmet = λ j.
         own_one (size_of (made_node t k)) (below_itself (made_node t k)) j
         || (unwritten_own (file_bytes (made_node t k) 0 file_limit) (own_file k) j
-        || (own_one (names_in (made_node t k)) (below_itself (made_node t k)) j
-        || (own_one (description_at (made_description t k)) (below_itself (made_description t k)) j
-        || (own_one (position_of (made_description t k)) (below_itself (made_description t k)) j || false))))
+        || (own_one (names_in (made_node t k)) (below_itself (made_node t k)) j || own_description_unmet j))
 
     makes_unmet : (x : Shape) → is_met (shape_makes t k x) (reach t i s earlier ∷ []) ≡ false
     makes_unmet (opening p g asked) = own_unmet
     makes_unmet (making p) = own_unmet
+    makes_unmet (holding_path f p g) = own_unmet
+    makes_unmet (holding_other f) = own_description_unmet
     makes_unmet _ = refl
 
     -- The may-access set of an earlier place writes nothing that a turn makes.
     pub made_unmet : (x : Option Turn) → is_met (made_of t k x) (reach t i s earlier ∷ []) ≡ false
     made_unmet (Some (runs r e o)) = makes_unmet (shape o)
+    made_unmet (Some (called r o)) = makes_unmet (shape o)
     made_unmet _ = refl

@@ -82,7 +82,7 @@ write_alone t window r i k lt now h = record {
 
 -- Where a turn doesn't take the lowest free descriptor, what it may make and its room are told by neither world nor may-access sets.
 same_extras : (t : Recording) (k : ℕ) (s u : World) (earlier later : List Footprint) (x : Option Turn) → turn_takes_lowest x ≡ false → extras_of t k u later x ≡ extras_of t k s earlier x
-same_extras t k s u earlier later x e = extras_same t k s u earlier later x (λ r y o is. room r o (ap turn_takes_lowest (sym is) ∙ e))
+same_extras t k s u earlier later x e = extras_same t k s u earlier later x (λ r y o is. room r o (ap turn_takes_lowest (sym is) ∙ e)) (λ r o is. room r o (ap turn_takes_lowest (sym is) ∙ e))
   where
     room : (r : ℕ) (o : Operation) → takes_lowest o ≡ false → room_taken (in_ring t r) u later o ≡ room_taken (in_ring t r) s earlier o
     room r (openat p g None) h = absurd (cc h)

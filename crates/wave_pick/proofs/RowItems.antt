@@ -5,17 +5,17 @@ use Rattle.std.proofs.Common.{inl, inr, sym, subst, ap}
 use Rattle.sqe_codec.specs.declared.errno.Errno.{Errno}
 use Rattle.sqe_codec.specs.Answers.{each, each_ok}
 use Rattle.recording.specs.declared.recording.Recording.{Recording}
-use Rattle.entry_checks.specs.Operation.{Operation, OpenFlags}
+use Rattle.entry_checks.specs.Operation.{Operation, File, OpenFlags}
 use Rattle.file_tree.specs.Tree.{Target}
 use Rattle.file_tree.specs.Walk.{Place}
 use Rattle.world_parts.specs.World.{World}
-use Rattle.world_parts.specs.Items.{Atom, descriptor_at, size_of, one, all_descriptors, member_of, Use, reads, writes, Footprint, has_atom}
+use Rattle.world_parts.specs.Items.{Atom, descriptor_at, size_of, names_in, one, all_descriptors, member_of, Use, reads, writes, Footprint, has_atom}
 use Rattle.world_parts.proofs.Collision.{either_left, same_atom-eq}
 use Rattle.op_meaning.specs.Site.{at_place, in_ring, sited}
 use Rattle.op_meaning.specs.Meaning.{Found, found, meaning, made_node, Handle, is_file, allocation, Allocation, extend, lowest_free, shape}
-use Rattle.foot_print.specs.Footprint.{tried, foreseen, shape_row, look_reads, uses, uses_in, content_of, moved_uses, opening_uses, opened_at, directory_made, as_reads, would_extend, position_use, span_use, allocation_uses, name_written, made_where, room_uses, description_made, open_uses, row_in, turn_uses, write_content}
-use Rattle.op_meaning.specs.Shape.{Shape, moving, allocating, opening, making, look}
-use Rattle.op_meaning.specs.Step.{Turn, filled, registered, runs}
+use Rattle.foot_print.specs.Footprint.{tried, foreseen, shape_row, look_reads, uses, uses_in, content_of, moved_uses, opening_uses, opened_at, directory_made, file_item, held_path_uses, as_reads, would_extend, position_use, span_use, allocation_uses, name_written, made_where, room_uses, description_made, open_uses, row_in, turn_uses, write_content}
+use Rattle.op_meaning.specs.Shape.{Shape, moving, allocating, opening, making, holding_path, holding_other, look}
+use Rattle.op_meaning.specs.Step.{Turn, filled, registered, called, runs}
 use Rattle.foot_print.specs.Reach.{shape_asked, room_asked, room_at, written_by, is_met, taken, makes, room_taken, LookedUp, look_of, task, order_of, running_row}
 use Rattle.foot_print.proofs.Agreement.{in_left, in_right, has_atom-as_reads}
 use Rattle.foot_print.proofs.Holding.{split, drop_false}
@@ -73,19 +73,23 @@ module _ (t : Recording) (k r : ℕ) (s : World) where
   room_has None = has_self (room_uses (in_ring t r) s None)
   room_has (Some n) = has_self (room_uses (in_ring t r) s (Some n))
 
+  opened_has : (b : Bool) (g : OpenFlags) (w : Result Place Errno) → Has (each_ok (opened_at (at_place t k) (tried b) g) w) (each_ok (opened_at (at_place t k) foreseen g) w)
+  opened_has b g (Err e) = has_nothing []
+  opened_has b g (Ok q) = placed q.target
+    where
+      placed : (y : Option Target) → Has (open_uses (at_place t k) (tried b) g q y) (open_uses (at_place t k) foreseen g q y)
+      placed None = elim g.create as (λ c. Has (cond c (name_written q ++ made_where (tried b) (writes (one (size_of (made_node t k))) ∷ [])) []) (cond c (name_written q ++ []) [])) [ true ↦ has_first (name_written q) _ _ (has_self (name_written q)) | false ↦ has_nothing [] ]
+      placed (Some y) = has_self (open_uses (at_place t k) foreseen g q (Some y))
+
   open_has : (b : Bool) (g : OpenFlags) (asked : Option ℕ) (z : Result Place Errno) → Has (opening_uses (sited t k r) s (tried b) g asked z) (each_ok (opened_at (at_place t k) foreseen g) z ++ room_at (in_ring t r) s (written_by []) asked)
   open_has b g asked z =
       has_all (opening_uses (sited t k r) s (tried b) g asked z) (each_ok (opened_at (at_place t k) foreseen g) z) _
-      (has_second (room_uses (in_ring t r) s asked ++ made_where (tried b) (description_made t k)) _ _ (at z))
+      (has_second (room_uses (in_ring t r) s asked ++ made_where (tried b) (description_made t k)) _ _ (opened_has b g z))
       (has_first _ _ _ (has_first _ _ _ (room_has asked)))
-    where
-      placed : (q : Place) (y : Option Target) → Has (open_uses (at_place t k) (tried b) g q y) (open_uses (at_place t k) foreseen g q y)
-      placed q None = elim g.create as (λ c. Has (cond c (name_written q ++ made_where (tried b) (writes (one (size_of (made_node t k))) ∷ [])) []) (cond c (name_written q ++ []) [])) [ true ↦ has_first (name_written q) _ _ (has_self (name_written q)) | false ↦ has_nothing [] ]
-      placed q (Some y) = has_self (open_uses (at_place t k) foreseen g q (Some y))
 
-      at : (w : Result Place Errno) → Has (each_ok (opened_at (at_place t k) (tried b) g) w) (each_ok (opened_at (at_place t k) foreseen g) w)
-      at (Ok q) = placed q q.target
-      at (Err e) = has_nothing []
+  held_path_has : (b : Bool) (f : File) (g : OpenFlags) (z : Result Place Errno) → Has (writes (file_item r f) ∷ held_path_uses (sited t k r) (tried b) g z) (writes (file_item r f) ∷ held_path_uses (sited t k r) foreseen g z)
+  held_path_has b f g z = has_both (writes (file_item r f) ∷ []) _ (writes (file_item r f) ∷ []) _ (has_self (writes (file_item r f) ∷ []))
+      (has_second (made_where (tried b) (description_made t k)) _ _ (opened_has b g z))
 
   mkdir_has : (b : Bool) (z : Result Place Errno) → Has (each_ok (directory_made (at_place t k) (tried b)) z) (each_ok (directory_made (at_place t k) foreseen) z)
   mkdir_has b (Ok q) = has_both (name_written q) _ (name_written q) [] (has_self (name_written q)) (has_nothing _)
@@ -97,6 +101,8 @@ module _ (t : Recording) (k r : ℕ) (s : World) where
   uses_has b (allocating f o n mode) z = only _ _ (has_content _ _ (λ i h. allocation_has (would_extend s i (o + n)) i o (o + n) (allocation mode)) z.file)
   uses_has b (opening p g asked) z = open_has b g asked z.place
   uses_has b (making p) z = only _ _ (mkdir_has b z.place)
+  uses_has b (holding_path f p g) z = only _ _ (held_path_has b f g z.place)
+  uses_has b (holding_other f) z = only _ _ (has_first (reads (one (names_in 0)) ∷ writes (file_item r f) ∷ []) (made_where (tried b) (description_made t k)) _ (has_self (reads (one (names_in 0)) ∷ writes (file_item r f) ∷ [])))
   uses_has b x z = only (uses (sited t k r) s foreseen x z) (uses (sited t k r) s foreseen x z) (has_self (uses (sited t k r) s foreseen x z))
 
   in_row : (b : Bool) (f : Footprint) → Has (cond b f (as_reads f)) f
@@ -159,6 +165,7 @@ module _ (t : Recording) (k : ℕ) (s u : World) where
   turn_items (Some (filled r b at new)) same = has_self _
   turn_items (Some (registered r slots)) same = has_self _
   turn_items (Some (runs r e o)) same = operation_items r o (ap (λ (l : LookedUp). l.items) same)
+  turn_items (Some (called r o)) same = operation_items r o (ap (λ (l : LookedUp). l.items) same)
   turn_items _ same = has_nothing _
 
   abbrev made : Footprint

@@ -14,7 +14,7 @@ use Rattle.world_parts.specs.Items.{Atom, descriptor_at, value, all_descriptors,
 use Rattle.world_parts.proofs.Collision.{true_of}
 use Rattle.world_parts.proofs.Sharing.{holds_true}
 use Rattle.foot_print.specs.Footprint.{room_uses}
-use Rattle.op_meaning.specs.Step.{Turn, runs}
+use Rattle.op_meaning.specs.Step.{Turn, called, runs}
 use Rattle.foot_print.specs.Reach.{written_by, is_met, is_taken_to_run, makes, room_taken, task, look_of, extras_of, unresolved_of, order_of, running_row, accepted_row, wide_row}
 use Rattle.foot_print.specs.Replayed.{replayed}
 use Rattle.foot_print.proofs.Agreement.{in_right}
@@ -30,16 +30,18 @@ use Rattle.wave_pick.proofs.Staying.{keeps_value}
 use Rattle.wave_pick.proofs.Waiting.{value_stays, row_in_reach, look_next}
 
 module _ (t : Recording) (k : ℕ) where
-  -- What a turn may make and its room are the same where the room is of what it runs.
+  -- What a turn may make and its room are the same where the room is of what it runs or what a call did.
   pub extras_same : (s u : World) (earlier later : List Footprint) (x : Option Turn)
       → ((r : ℕ) (e : Entry) (o : Operation) → x ≡ Some (runs r e o) → room_taken (in_ring t r) u later o ≡ room_taken (in_ring t r) s earlier o)
+      → ((r : ℕ) (o : Operation) → x ≡ Some (called r o) → room_taken (in_ring t r) u later o ≡ room_taken (in_ring t r) s earlier o)
       → extras_of t k u later x ≡ extras_of t k s earlier x
-  extras_same s u earlier later (Some (runs r e o)) room = ap (λ f. makes t k o ++ f) (room r e o refl)
-  extras_same s u earlier later _ room = refl
+  extras_same s u earlier later (Some (runs r e o)) room by_call = ap (λ f. makes t k o ++ f) (room r e o refl)
+  extras_same s u earlier later (Some (called r o)) room by_call = ap (λ f. makes t k o ++ f) (by_call r o refl)
+  extras_same s u earlier later _ room by_call = refl
 
   -- The room is told by whether a may-access set before the place writes a descriptor, and by the descriptors.
   extras_by_writing : (s : World) (earlier others : List Footprint) → written_by earlier all_descriptors ≡ written_by others all_descriptors → (x : Option Turn) → extras_of t k s earlier x ≡ extras_of t k s others x
-  extras_by_writing s earlier others same x = extras_same s s others earlier x (λ r e o _. room r o)
+  extras_by_writing s earlier others same x = extras_same s s others earlier x (λ r e o _. room r o) (λ r o _. room r o)
     where
       room : (r : ℕ) (o : Operation) → room_taken (in_ring t r) s earlier o ≡ room_taken (in_ring t r) s others o
       room r (openat p g None) = ap (λ b. if b then writes all_descriptors ∷ [] else room_uses (in_ring t r) s None) same
@@ -50,6 +52,7 @@ module _ (t : Recording) (k : ℕ) where
       → extras_of t k u earlier x ≡ extras_of t k s earlier x
   extras_in_world s u earlier x same = extras_same s u earlier earlier x
       (λ r e o is. room r o (λ a none h. same a none (ap (λ y. has_atom (extras_of t k s earlier y) a) is ∙ h)))
+      (λ r o is. room r o (λ a none h. same a none (ap (λ y. has_atom (extras_of t k s earlier y) a) is ∙ h)))
     where
       descriptors_there : (r : ℕ) (b : Bool) (n : ℕ) → T (has_atom (if b then writes all_descriptors ∷ [] else room_uses (in_ring t r) s None) (descriptor_at n))
       descriptors_there r true n = tt
@@ -66,6 +69,7 @@ module _ (t : Recording) (k : ℕ) where
 
   pub unresolved_in_world : (s u : World) (x : Option Turn) → unresolved_of t k u x ≡ unresolved_of t k s x
   unresolved_in_world s u (Some (runs r e o)) = refl
+  unresolved_in_world s u (Some (called r o)) = refl
   unresolved_in_world s u _ = refl
 
   extras_behind : (s : World) (earlier : List Footprint) (middle : Footprint) (a : Atom) → has_atom (extras_of t k s earlier (task t k)) a ≡ true → has_atom (order_of t k ++ (middle ++ extras_of t k s earlier (task t k))) a ≡ true

@@ -7,7 +7,7 @@ use Rattle.recording.specs.Steps.{places}
 use Rattle.chain_plan.specs.Chain.{role}
 use Rattle.world_parts.specs.World.{World}
 use Rattle.world_parts.specs.Items.{chain_flag, one, all_descriptors, Use, Footprint}
-use Rattle.op_meaning.specs.Step.{Turn, runs, turn}
+use Rattle.op_meaning.specs.Step.{Turn, called, runs, turn}
 use Rattle.foot_print.specs.Reach.{written_by, is_met, makes, LookedUp, look_of, task, is_canceled, is_taken_to_run, order_of, running_row, accepted_row, wide_row}
 use Rattle.wave_pick.specs.Orders.{InOrder}
 use Rattle.wave_pick.specs.Rounds.{state_after, wave_after}
@@ -95,6 +95,7 @@ WideStays t = (window r k : ℕ) → Waits t window (suc r) k → is_taken_to_ru
 -- What a turn writes of the node and the description that it may make.
 abbrev pub made_of : Recording → ℕ → Option Turn → Footprint
 made_of t k (Some (runs r e o)) = makes t k o
+made_of t k (Some (called r o)) = makes t k o
 made_of t k _ = []
 
 -- Where a place looks up the same in two worlds, its row as running meets the same may-access sets in both, so far as these write nothing that it makes.

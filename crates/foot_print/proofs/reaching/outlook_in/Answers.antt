@@ -4,7 +4,7 @@ use Rattle.entry_checks.specs.Meant.{meant}
 use Rattle.recording.specs.Rings.{queue_of}
 use Rattle.trace_records.specs.declared.record.FullSlot.{FullSlot}
 use Rattle.foot_print.proofs.Given.{uncanceled}
-use Rattle.foot_print.proofs.Outlooks.{filled_outlook, members_outlook, refused_outlook, registered_outlook}
+use Rattle.foot_print.proofs.Outlooks.{calls_outlook, filled_outlook, members_outlook, refused_outlook, registered_outlook}
 use Rattle.foot_print.specs.Reach.{is_canceled}
 use Rattle.foot_print.specs.declared.reaching.Awaited.TheVariants.{Reach}
 use Rattle.item_index.specs.Ahead.{written_before}
@@ -62,3 +62,11 @@ returns-in-Runs c =
     let task = ap (λ kind. Some (kind_meant r kind)) (sym f.is) ∙ c.turn_under-ring.ensures.turn in
     members_outlook c.args.trace.now c.args.place c.args.state.now (written_before c.args.behind.now) r c.args.role_there.now f.entry (meant f.op) c.turn_under-ring.ensures.ring c.requires.role task
     c.running_outlook.result c.running_outlook.ensures.reach c.running_outlook.ensures.awaits
+
+pub returns-in-Calls : goal.returns-in-Calls
+returns-in-Calls c =
+    let r = c.turn_under-ring.result.ring in
+    let f = c.in-Calls in
+    let task = ap (λ kind. Some (kind_meant r kind)) (sym f.is) ∙ c.turn_under-ring.ensures.turn in
+    calls_outlook c.args.trace.now c.args.place c.args.state.now (written_before c.args.behind.now) r c.args.role_there.now (meant f.op) c.turn_under-ring.ensures.ring c.requires.role task
+    c.operation_outlook.result c.operation_outlook.ensures.reach c.operation_outlook.ensures.awaits
