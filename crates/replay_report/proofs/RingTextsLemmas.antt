@@ -11,7 +11,7 @@ use Rattle.std.proofs.lemmas.List.FromFn.{fill_by_all, length-map-range_with_len
 use Rattle.sqe_codec.specs.Answers.{each}
 use Rattle.recording.specs.declared.recording.Recording.{Recording}
 use Rattle.recording.specs.declared.recording.Ring.{Ring}
-use Rattle.recording.specs.Steps.{Action, Step, fill, register, places, step_at, submit}
+use Rattle.recording.specs.Steps.{Action, Step, fill, register, set as set_file, seek, places, step_at, submit}
 use Rattle.op_meaning.specs.declared.reply.Reply.{Reply}
 use Rattle.world_parts.specs.World.{World}
 use Rattle.replay_report.specs.declared.showing.Lines.{Lines}
@@ -33,11 +33,13 @@ text_grown t reply lines n ring step r stands answers =
     range_grown (heading lines ring) (text_below t reply lines n ring) (text_below t reply lines n ring ++ step_line lines ring n step r) (line_in t reply lines ring) n refl
     (rw (stands, answers) refl)
 
--- a fill and a new ring have no line
+-- only an entry has a line
 fill_silent : (lines : Lines) (place ring : ℕ) (action : Action) (r : Reply) → submits action ≡ false → action_line lines place ring action r ≡ []
 fill_silent lines place ring (submit entry) r none = absurd (false≢true (sym none))
 fill_silent lines place ring (fill buffer offset bytes) r none = refl
 fill_silent lines place ring (register slots) r none = refl
+fill_silent lines place ring (set_file file content) r none = refl
+fill_silent lines place ring (seek file position) r none = refl
 
 no_line : (lines : Lines) (list place : ℕ) (step : Step) (r : Reply) → submits step.action ≡ false → step_line lines list place step r ≡ []
 no_line lines list place step r none = elim (cases_Bool (list_of lines step == list)) [
@@ -92,6 +94,8 @@ line_shown lines place ring (submit entry) answer reply shown =
     (ap (λ posted. entry_outcome posted answer.bytes) shown.posted ∙ entry_outcome_shown reply.posted answer.bytes reply.bytes shown.bytes))
 line_shown lines place ring (fill buffer offset bytes) answer reply shown = refl
 line_shown lines place ring (register slots) answer reply shown = refl
+line_shown lines place ring (set_file file content) answer reply shown = refl
+line_shown lines place ring (seek file position) answer reply shown = refl
 
 -- So the texts grow by the line of a place where they grow by what is shown of its reply.
 pub answer_walked : (t : Recording) (reply : ℕ → Option Reply) (lines : Lines) (n rings : ℕ) (step : Step) (answer r : Reply) (texts : List (List ℕ)) → step_at t n ≡ Some step → reply n ≡ Some r

@@ -10,7 +10,7 @@ use Rattle.trace_format.specs.Submitted.{Submitted}
 use Rattle.trace_format.specs.declared.given.Given.{Given}
 use Rattle.recording.specs.declared.recording.Recording.{Recording}
 use Rattle.recording.specs.declared.recording.Ring.{Ring}
-use Rattle.recording.specs.Steps.{Step, Action, submit, fill, register, places, step_at}
+use Rattle.recording.specs.Steps.{Step, Action, submit, fill, register, set, seek, places, step_at}
 use Rattle.world_parts.specs.World.{World, bytes, size, buffer}
 use Rattle.world_parts.specs.Image.{image_of}
 use Rattle.world_parts.specs.declared.image.NameEntry.{NameEntry}
@@ -80,11 +80,13 @@ abbrev pub entry_line : Lines → ℕ → ℕ → Submitted → Reply → List �
 entry_line lines place ring entry reply =
     line (entry_head lines.in_order place ring entry.sqe.user_data reply.res ++ entry_outcome reply.posted reply.bytes ++ names_text lines.names entry.sqe.opcode reply.res ++ given_fact entry.given)
 
--- The line of what a step of a ring does: a fill of a buffer and a new ring have none.
+-- The line of what a step of a ring does: only an entry has one.
 abbrev pub action_line : Lines → ℕ → ℕ → Action → Reply → List ℕ
 action_line lines place ring (submit entry) reply = entry_line lines place ring entry reply
 action_line lines place ring (fill buffer offset bytes) reply = []
 action_line lines place ring (register slots) reply = []
+action_line lines place ring (set file content) reply = []
+action_line lines place ring (seek file position) reply = []
 
 -- Entries stand in a list for each ring, or all in one.
 abbrev pub list_of : Lines → Step → ℕ

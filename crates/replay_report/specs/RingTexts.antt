@@ -3,7 +3,7 @@ use Rattle.std.specs.Prelude.{◌≡◌, ℕ, Bool, true, false, List, [], ◌++
 use Rattle.std.specs.List.{flat_map, range_with_len}
 use Rattle.sqe_codec.specs.Answers.{each}
 use Rattle.recording.specs.declared.recording.Recording.{Recording}
-use Rattle.recording.specs.Steps.{Action, Step, fill, register, step_at, submit}
+use Rattle.recording.specs.Steps.{Action, Step, fill, register, set, seek, step_at, submit}
 use Rattle.op_meaning.specs.declared.reply.Reply.{Reply}
 use Rattle.replay_report.specs.declared.showing.Lines.{Lines}
 use Rattle.replay_report.specs.Report.{action_line, heading, list_count, list_of, step_line}
@@ -28,6 +28,8 @@ abbrev pub submits : Action → Bool
 submits (submit entry) = true
 submits (fill buffer offset bytes) = false
 submits (register slots) = false
+submits (set file content) = false
+submits (seek file position) = false
 
 -- The texts once a place more has run.
 abbrev pub with_line : Lines → ℕ → Step → Reply → List (List ℕ) → List (List ℕ)

@@ -30,12 +30,7 @@ pub fn push_line(
 {
     match &step.action {
         Action::Submit(entry) => push_entry(text, place, step.ring, entry, answer, lines),
-        Action::Fill {
-            buffer: _,
-            offset: _,
-            bytes: _,
-        } => Ok(()),
-        Action::Register(_) => Ok(()),
+        _ => Ok(()),
     }
 }
 

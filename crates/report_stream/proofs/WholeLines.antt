@@ -8,7 +8,7 @@ use Rattle.sqe_codec.specs.Answers.{each}
 use Rattle.trace_records.specs.declared.record.Record.{Record}
 use Rattle.trace_records.specs.declared.start.Start.{Start}
 use Rattle.recording.specs.declared.recording.Recording.{Recording}
-use Rattle.recording.specs.Steps.{Action, fill, register, step_at, submit}
+use Rattle.recording.specs.Steps.{Action, fill, register, set, seek, step_at, submit}
 use Rattle.op_meaning.specs.declared.reply.Reply.{Reply}
 use Rattle.op_meaning.specs.Step.{sequential_reply}
 use Rattle.stream_laws.specs.Streamed.{recording_of}
@@ -30,6 +30,8 @@ action_whole : (lines : Lines) (place ring : ℕ) (action : Action) (reply : Rep
 action_whole lines place ring (submit entry) reply = line_whole _
 action_whole lines place ring (fill buffer offset bytes) reply = empty_whole
 action_whole lines place ring (register slots) reply = empty_whole
+action_whole lines place ring (set file content) reply = empty_whole
+action_whole lines place ring (seek file position) reply = empty_whole
 
 entries_whole : (t : Recording) (replies : ℕ → Option Reply) (lines : Lines) (n : ℕ) → IsWhole (entry_lines t replies lines n)
 entries_whole t replies lines n =

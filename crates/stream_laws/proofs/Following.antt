@@ -28,8 +28,12 @@ same_test a b c d m n e f = elim (cases_eq a b) [
   | inr ne ↦ ne_eqb a b ne ∙ sym (ne_eqb c d (λ g. ne (omega (arith, e, f, g))))
 ]
 
--- A buffer of a ring that is there is written.
-module _ (v u : Recording) (r : ℕ) (there : r < length v.rings) where
+-- A ring that is there.
+abbrev pub IsRingOf : Recording → ℕ → Type 0
+IsRingOf v r = r < length v.rings
+
+-- A buffer of such a ring is written.
+module _ (v u : Recording) (r : ℕ) (there : IsRingOf v r) where
   elsewhere : (m : Table pair_cmp (List ℕ)) (b : ℕ) (x : Option (List ℕ)) (q n : ℕ) → length v.rings ≤ q → get (assign pair_keys.total m (r, b) x) (q, n) ≡ get m (q, n)
   elsewhere m b x q n le =
       let other : eq_by_cmp pair_cmp (q, n) (r, b) ≡ false = pair_tied q n r b ∙ ap (λ e. e && n == b) (ne_eqb q r (λ e. absurd (omega (arith, e, le, there)))) in
@@ -48,33 +52,32 @@ module _ (v u : Recording) (r : ℕ) (there : r < length v.rings) where
 
 module _ {v u : Recording} {first : ℕ} where
   -- Changes that break no chain.
-  module _ (r : ℕ) (there : r < length v.rings) where
-    changed : (c : Change) (s w : World) → IsIn r c → Follows v u first s w → Follows v u first (apply c s) (apply c w)
-    changed (set_name d n x) s w i f =
-        record { nodes = ap (λ t. adjust_number (renamed_node n (node_of x)) t d) f.nodes; descriptions = f.descriptions; slots = f.slots; descriptors = f.descriptors; buffers = f.buffers; chains = f.chains }
-    changed (make_node j k) s w i f =
-        record { nodes = ap (λ t. insert number_keys.total t j (new_node k)) f.nodes; descriptions = f.descriptions; slots = f.slots; descriptors = f.descriptors; buffers = f.buffers; chains = f.chains }
-    changed (set_slot q n d) s w i f =
-        record { nodes = f.nodes; descriptions = f.descriptions; slots = ap (λ t. assign pair_keys.total t (q, n) d) f.slots; descriptors = f.descriptors; buffers = f.buffers; chains = f.chains }
-    changed (set_descriptor n d) s w i f =
-        record { nodes = f.nodes; descriptions = f.descriptions; slots = f.slots; descriptors = ap (λ t. assign number_keys.total t n d) f.descriptors; buffers = f.buffers; chains = f.chains }
-    changed (make_description n o) s w i f =
-        record { nodes = f.nodes; descriptions = ap (λ t. insert number_keys.total t n (new_description o)) f.descriptions; slots = f.slots; descriptors = f.descriptors; buffers = f.buffers; chains = f.chains }
-    changed (set_position d p) s w i f =
-        record { nodes = f.nodes; descriptions = ap (λ t. adjust_number (λ e. record e { position = p }) t d) f.descriptions; slots = f.slots; descriptors = f.descriptors; buffers = f.buffers; chains = f.chains }
-    changed (set_size j n) s w i f =
-        record { nodes = ap (λ t. adjust_number (rewritten_node (λ bs. resized bs n)) t j) f.nodes; descriptions = f.descriptions; slots = f.slots; descriptors = f.descriptors; buffers = f.buffers; chains = f.chains }
-    changed (write_bytes j at new) s w i f =
-        record { nodes = ap (λ t. adjust_number (rewritten_node (λ bs. overwritten bs at new)) t j) f.nodes; descriptions = f.descriptions; slots = f.slots; descriptors = f.descriptors; buffers = f.buffers; chains = f.chains }
-    changed (zero_bytes j low high) s w i f =
-        record { nodes = ap (λ t. adjust_number (rewritten_node (λ bs. zeroed bs low high)) t j) f.nodes; descriptions = f.descriptions; slots = f.slots; descriptors = f.descriptors; buffers = f.buffers; chains = f.chains }
-    changed (write_buffer q b at new) s w i f =
-        record { nodes = f.nodes; descriptions = f.descriptions; slots = f.slots; descriptors = f.descriptors; buffers = written v u q (omega (arith, i, there)) s.buffers w.buffers b (λ bs. overlaid bs at new) f.buffers; chains = f.chains }
-    changed (break_chain c x) s w i f = absurd i
+  changed : (c : Change) (s w : World) → IsIn (IsRingOf v) c → Follows v u first s w → Follows v u first (apply c s) (apply c w)
+  changed (set_name d n x) s w i f =
+      record { nodes = ap (λ t. adjust_number (renamed_node n (node_of x)) t d) f.nodes; descriptions = f.descriptions; slots = f.slots; descriptors = f.descriptors; buffers = f.buffers; chains = f.chains }
+  changed (make_node j k) s w i f =
+      record { nodes = ap (λ t. insert number_keys.total t j (new_node k)) f.nodes; descriptions = f.descriptions; slots = f.slots; descriptors = f.descriptors; buffers = f.buffers; chains = f.chains }
+  changed (set_slot q n d) s w i f =
+      record { nodes = f.nodes; descriptions = f.descriptions; slots = ap (λ t. assign pair_keys.total t (q, n) d) f.slots; descriptors = f.descriptors; buffers = f.buffers; chains = f.chains }
+  changed (set_descriptor n d) s w i f =
+      record { nodes = f.nodes; descriptions = f.descriptions; slots = f.slots; descriptors = ap (λ t. assign number_keys.total t n d) f.descriptors; buffers = f.buffers; chains = f.chains }
+  changed (make_description n o) s w i f =
+      record { nodes = f.nodes; descriptions = ap (λ t. insert number_keys.total t n (new_description o)) f.descriptions; slots = f.slots; descriptors = f.descriptors; buffers = f.buffers; chains = f.chains }
+  changed (set_position d p) s w i f =
+      record { nodes = f.nodes; descriptions = ap (λ t. adjust_number (λ e. record e { position = p }) t d) f.descriptions; slots = f.slots; descriptors = f.descriptors; buffers = f.buffers; chains = f.chains }
+  changed (set_size j n) s w i f =
+      record { nodes = ap (λ t. adjust_number (rewritten_node (λ bs. resized bs n)) t j) f.nodes; descriptions = f.descriptions; slots = f.slots; descriptors = f.descriptors; buffers = f.buffers; chains = f.chains }
+  changed (write_bytes j at new) s w i f =
+      record { nodes = ap (λ t. adjust_number (rewritten_node (λ bs. overwritten bs at new)) t j) f.nodes; descriptions = f.descriptions; slots = f.slots; descriptors = f.descriptors; buffers = f.buffers; chains = f.chains }
+  changed (zero_bytes j low high) s w i f =
+      record { nodes = ap (λ t. adjust_number (rewritten_node (λ bs. zeroed bs low high)) t j) f.nodes; descriptions = f.descriptions; slots = f.slots; descriptors = f.descriptors; buffers = f.buffers; chains = f.chains }
+  changed (write_buffer q b at new) s w i f =
+      record { nodes = f.nodes; descriptions = f.descriptions; slots = f.slots; descriptors = f.descriptors; buffers = written v u q i s.buffers w.buffers b (λ bs. overlaid bs at new) f.buffers; chains = f.chains }
+  changed (break_chain c x) s w i f = absurd i
 
-    pub all_changed : (cs : List Change) (s w : World) → AllIn r cs → Follows v u first s w → Follows v u first (apply_all cs s) (apply_all cs w)
-    all_changed [] s w i f = f
-    all_changed (c ∷ cs) s w i f = all_changed cs (apply c s) (apply c w) i.1 (changed c s w i.0 f)
+  pub all_changed : (cs : List Change) (s w : World) → AllIn (IsRingOf v) cs → Follows v u first s w → Follows v u first (apply_all cs s) (apply_all cs w)
+  all_changed [] s w i f = f
+  all_changed (c ∷ cs) s w i f = all_changed cs (apply c s) (apply c w) i.1 (changed c s w i.0 f)
 
   -- The chain of a place breaks in both worlds.
   module _ (stands : StandsFor v u first) (k : ℕ) (from : first ≤ k) (lt : k < places v) where

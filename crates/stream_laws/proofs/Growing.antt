@@ -10,7 +10,7 @@ use Rattle.std.proofs.lemmas.Option.{slice_get_cases, get_or_from_slice_get}
 use Rattle.trace_format.specs.Submitted.{Submitted}
 use Rattle.trace_format.proofs.Spots.{slice_get-append_left, slice_get-append_right}
 use Rattle.trace_records.specs.declared.record.Record.{Record}
-use Rattle.trace_records.specs.declared.record.Record.TheVariants.{Enter, Fill, RingStarts, RingEnds}
+use Rattle.trace_records.specs.declared.record.Record.TheVariants.{Enter, Fill, Set, Seek, RingStarts, RingEnds}
 use Rattle.trace_records.specs.declared.start.Start.{Start}
 use Rattle.recording.specs.declared.recording.Recording.{Recording}
 use Rattle.recording.specs.declared.recording.Ring.{Ring}
@@ -52,12 +52,16 @@ end_same rings n = elim (slice_get_cases rings n).1 [
 abbrev pub added : (place rings : ℕ) → Record → List Step
 added p n (Enter ring entries) = record_steps p (kept.Enter ring (map submitted entries))
 added p n (Fill ring buffer offset filling) = record_steps p (kept.Fill ring buffer offset (filling_bytes filling))
+added p n (Set file content) = record_steps p (kept.Set file content)
+added p n (Seek file position) = record_steps p (kept.Seek file position)
 added p n (RingStarts ring) = record_steps p (kept.Register n ring.full)
 added p n (RingEnds ring) = []
 
 pub steps_added : (g : Grown) (r : Record) → (with_record g r).steps ≡ g.steps ++ added (length g.steps) (length g.rings) r
 steps_added g (Enter ring entries) = refl
 steps_added g (Fill ring buffer offset filling) = refl
+steps_added g (Set file content) = refl
+steps_added g (Seek file position) = refl
 steps_added g (RingStarts ring) = refl
 steps_added g (RingEnds ring) = sym (append-nil g.steps)
 
@@ -68,6 +72,8 @@ blank_steps g = record g { steps = blanks (length g.steps) }
 pub rings_alike : (g : Grown) (r : Record) → (with_record (blank_steps g) r).rings ≡ (with_record g r).rings
 rings_alike g (Enter ring entries) = refl
 rings_alike g (Fill ring buffer offset filling) = refl
+rings_alike g (Set file content) = refl
+rings_alike g (Seek file position) = refl
 rings_alike g (RingStarts ring) = refl
 rings_alike g (RingEnds ring) = refl
 
@@ -81,6 +87,8 @@ one_of p x e = All-cons (IsOf p) x [] e (All-nil (IsOf p))
 added_of : (p n : ℕ) (r : Record) → All (IsOf p) (added p n r)
 added_of p n (Enter ring entries) = All-map (IsOf p) (λ (e : Submitted). record { ring = ring; from_record = p; action = submit e }) (map submitted entries) (λ k d lt. refl)
 added_of p n (Fill ring buffer offset filling) = one_of p _ refl
+added_of p n (Set file content) = one_of p _ refl
+added_of p n (Seek file position) = one_of p _ refl
 added_of p n (RingStarts ring) = one_of p _ refl
 added_of p n (RingEnds ring) = All-nil (IsOf p)
 
@@ -106,6 +114,8 @@ grows_not g = record { rest = []; steps = sym (append-nil g.steps); first = tt; 
 ring_front : (g : Grown) (r : Record) → IsFrontOf g.rings (with_record g r).rings
 ring_front g (Enter ring entries) = front_all g.rings
 ring_front g (Fill ring buffer offset filling) = front_all g.rings
+ring_front g (Set file content) = front_all g.rings
+ring_front g (Seek file position) = front_all g.rings
 ring_front g (RingStarts ring) =
     let x = new_ring g.rings ring in
     record { later = x ∷ []; same = map-append still_open g.rings (x ∷ []); empty = All-cons StartsEmpty x [] refl (All-nil StartsEmpty) }

@@ -7,7 +7,7 @@ use Rattle.std.specs.Prelude.{All, Option, Some}
 use Rattle.std.specs.List.{slice_get}
 use Rattle.trace_format.proofs.Spots.{slice_get-append_right}
 use Rattle.trace_records.specs.declared.record.Record.{Record}
-use Rattle.trace_records.specs.declared.record.Record.TheVariants.{Enter, Fill, RingStarts, RingEnds}
+use Rattle.trace_records.specs.declared.record.Record.TheVariants.{Enter, Fill, Set, Seek, RingStarts, RingEnds}
 use Rattle.trace_records.specs.declared.start.Start.{Start}
 use Rattle.recording.specs.declared.recording.Recording.{Recording}
 use Rattle.recording.specs.declared.recording.Ring.{Ring}
@@ -128,6 +128,8 @@ stays b front r back s as_many w f =
 comes : (b : Start) (front : List Record) (r : Record) (back : List Record) (s : World) → IsNew b front r back s (world_before b front r s)
 comes b front (Enter ring entries) back s w f = stays b front (Enter ring entries) back s refl w f
 comes b front (Fill ring buffer_number offset filling) back s w f = stays b front (Fill ring buffer_number offset filling) back s refl w f
+comes b front (Set file content) back s w f = stays b front (Set file content) back s refl w f
+comes b front (Seek file position) back s w f = stays b front (Seek file position) back s refl w f
 comes b front (RingEnds number) back s w f =
     let rings = (with_records no_records front).rings in
     stays b front (RingEnds number) back s (sym (length-map rings still_open) ∙ ap length (sym (end_same rings number)) ∙ length-map (with_end rings number) still_open) w f

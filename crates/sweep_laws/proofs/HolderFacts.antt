@@ -8,14 +8,14 @@ use Rattle.std.proofs.lemmas.Option.{none-some, same_Some}
 use Rattle.trace_format.proofs.Apart.{AnyText, keeps_any, Own, apart, at_place, at_test, test_passed, at_known, at_done, at_choice, each}
 use Rattle.trace_records.specs.Fields.{number_of}
 use Rattle.trace_records.specs.Front.{Front, after, no_records}
-use Rattle.trace_records.specs.Records.{slot_holder, other_holder, holder, full_slot, ring, enter, filled, fill, ring_starts, ring_ends, body, next}
+use Rattle.trace_records.specs.Records.{slot_holder, other_holder, holder, full_slot, ring, enter, filled, fill, set, seek, ring_starts, ring_ends, body, next}
 use Rattle.trace_records.specs.Whole.{Behind}
 use Rattle.trace_records.specs.declared.record.FullSlot.{FullSlot}
 use Rattle.trace_records.specs.declared.record.Holder.{Holder}
 use Rattle.trace_records.specs.declared.record.Holder.TheVariants.{Descriptor, Description}
 use Rattle.trace_records.specs.declared.record.Ring.{Ring}
 use Rattle.trace_records.specs.declared.record.Record.{Record}
-use Rattle.trace_records.specs.declared.record.Record.TheVariants.{Enter, Fill, RingStarts, RingEnds}
+use Rattle.trace_records.specs.declared.record.Record.TheVariants.{Enter, Fill, Set, Seek, RingStarts, RingEnds}
 use Rattle.trace_records.specs.declared.start.Start.{Start}
 use Rattle.recording.specs.Fronts.{IsSpelledFront}
 use Rattle.sweep_laws.specs.Holding.{HolderFits}
@@ -92,6 +92,8 @@ ring_fits s f r o =
 abbrev pub RecordHolds : (started : ℕ) → Record → Type 0
 RecordHolds d (Enter ring entries) = Unit {0}
 RecordHolds d (Fill ring buffer offset filling) = Unit {0}
+RecordHolds d (Set file content) = Unit {0}
+RecordHolds d (Seek file position) = Unit {0}
 RecordHolds d (RingStarts ring) = RingFits d ring
 RecordHolds d (RingEnds ring) = Unit {0}
 
@@ -119,6 +121,20 @@ fill_holds d f r o =
     let buffer = apart keeps_any (at_place ring.after) in
     filled_holds d ring.x buffer.x _ r (at_known buffer.after)
 
+set_holds : (d : ℕ) (s : Start) (f : Front) (r : Record) → Own AnyText (set s f) r → RecordHolds d r
+unfolding set
+set_holds d s f r o =
+    let file = apart keeps_any o in
+    let content = apart keeps_any file.after in
+    subst (RecordHolds d) (sym (at_done content.after).1) tt
+
+seek_holds : (d : ℕ) (s : Start) (f : Front) (r : Record) → Own AnyText (seek s f) r → RecordHolds d r
+unfolding seek
+seek_holds d s f r o =
+    let file = apart keeps_any o in
+    let position = apart keeps_any file.after in
+    subst (RecordHolds d) (sym (at_done position.after).1) tt
+
 ring_starts_holds : (s : Start) (f : Front) (r : Record) → Own AnyText (ring_starts s f) r → RecordHolds (length s.descriptions) r
 ring_starts_holds s f r o =
     let ring = apart keeps_any o in
@@ -135,8 +151,14 @@ body_holds s f begin kind r o = elim (at_choice o) [
   | inr b ↦ elim (at_choice b.1) [
     | inl c ↦ fill_holds (length s.descriptions) f r c.1
     | inr c ↦ elim (at_choice c.1) [
-      | inl e ↦ ring_starts_holds s f r e.1
-      | inr e ↦ ring_ends_holds (length s.descriptions) f r e.1
+      | inl e ↦ set_holds (length s.descriptions) s f r e.1
+      | inr e ↦ elim (at_choice e.1) [
+        | inl g ↦ seek_holds (length s.descriptions) s f r g.1
+        | inr g ↦ elim (at_choice g.1) [
+          | inl i ↦ ring_starts_holds s f r i.1
+          | inr i ↦ ring_ends_holds (length s.descriptions) f r i.1
+        ]
+      ]
     ]
   ]
 ]

@@ -6,7 +6,7 @@ use Rattle.std.proofs.lemmas.List.Elements.{All-nil, All-cons, All-map}
 use Rattle.trace_format.specs.Submitted.{Submitted}
 use Rattle.trace_format.proofs.Spots.{slice_get-append_right}
 use Rattle.trace_records.specs.declared.record.Record.{Record}
-use Rattle.trace_records.specs.declared.record.Record.TheVariants.{Enter, Fill, RingStarts, RingEnds}
+use Rattle.trace_records.specs.declared.record.Record.TheVariants.{Enter, Fill, Set, Seek, RingStarts, RingEnds}
 use Rattle.trace_records.specs.declared.start.Start.{Start}
 use Rattle.recording.specs.Forgotten.{blanks}
 use Rattle.recording.specs.Fronts.{IsSpelledFront}
@@ -28,6 +28,8 @@ added_holds : (d p n : ℕ) (r : Record) → RecordHolds d r → All (StepHolds 
 added_holds d p n (Enter ring entries) h =
     All-map (StepHolds d) (λ (e : Submitted). record { ring = ring; from_record = p; action = submit e }) (map submitted entries) (λ k x lt. tt)
 added_holds d p n (Fill ring buffer offset filling) h = All-cons (StepHolds d) _ [] tt (All-nil (StepHolds d))
+added_holds d p n (Set file content) h = All-cons (StepHolds d) _ [] tt (All-nil (StepHolds d))
+added_holds d p n (Seek file position) h = All-cons (StepHolds d) _ [] tt (All-nil (StepHolds d))
 added_holds d p n (RingStarts ring) h = All-cons (StepHolds d) _ [] h (All-nil (StepHolds d))
 added_holds d p n (RingEnds ring) h = All-nil (StepHolds d)
 

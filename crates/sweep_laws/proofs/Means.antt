@@ -7,13 +7,13 @@ use Rattle.sqe_codec.specs.declared.errno.Errno.{Errno}
 use Rattle.sqe_codec.specs.declared.errno.Errno.TheVariants.{EBADF, EEXIST, EFAULT, EFBIG, EINVAL, EISDIR, EMFILE, ENOENT, ENOTDIR, ENOTEMPTY, EOPNOTSUPP}
 use Rattle.sqe_codec.specs.Answers.{◌>>=◌, ◌>>◌, require}
 use Rattle.trace_format.specs.Sides.{most_moved}
-use Rattle.entry_checks.specs.Operation.{Operation, nop, readv, writev, fsync, read_fixed, write_fixed, fallocate, openat, close, read, write, renameat, unlinkat, mkdirat, linkat, ftruncate, sync_file_range, fadvise, statx, statx_file, statx_root, given, File, in_slot, at_descriptor, Span, Path, file_limit, at_position}
+use Rattle.entry_checks.specs.Operation.{Operation, nop, readv, writev, fsync, read_fixed, write_fixed, fallocate, openat, close, read, write, renameat, unlinkat, mkdirat, linkat, ftruncate, sync_file_range, fadvise, statx, statx_file, statx_root, given, hold_nothing, hold_path, hold_copy, hold_other, seek, File, in_slot, at_descriptor, Span, Path, file_limit, at_position}
 use Rattle.finite_maps.specs.Table.{Table, get, pair_cmp}
 use Rattle.std.specs.Ordering.{nat_cmp}
 use Rattle.file_tree.specs.Tree.{Target, bytes_of_node, count_of_node}
 use Rattle.file_tree.specs.Walk.{Place, walk, is_above, is_directory}
 use Rattle.world_parts.specs.World.{World, Change, opened, position, slot, descriptor, buffer, set_size, zero_bytes, set_slot, set_descriptor, write_bytes}
-use Rattle.op_meaning.specs.Meaning.{Site, Effect, done, slot_count, span_start, held, Handle, handle_of, handle, can_read, can_write, is_bad_offset, is_file, bytes_in, transfer_start, advance, Destination, reply, delivered, readable, read_meaning, write_start, write_effect, writable, write_meaning, span_destination, span_bytes, Allocation, extend, reserve, punch, zero_extend, zero_within, allocation, allocate, fallocate_meaning, sync_file_range_meaning, fadvise_meaning, room, may_open, open_as, has_names, may_remove, unlinkat_meaning, may_replace, moved_name, move_meaning, exchanged, goes_below, exchange_meaning, rename_to, renameat_meaning, node_told, measured, statx_meaning, statx_file_meaning, found, meaning_by, meaning, shape}
+use Rattle.op_meaning.specs.Meaning.{Site, Effect, done, slot_count, span_start, held, Handle, handle_of, handle, can_read, can_write, is_bad_offset, is_file, bytes_in, transfer_start, advance, Destination, reply, delivered, readable, read_meaning, write_start, write_effect, writable, write_meaning, span_destination, span_bytes, Allocation, extend, reserve, punch, zero_extend, zero_within, allocation, allocate, fallocate_meaning, sync_file_range_meaning, fadvise_meaning, room, may_open, open_as, has_names, may_remove, unlinkat_meaning, may_replace, moved_name, move_meaning, exchanged, goes_below, exchange_meaning, rename_to, renameat_meaning, node_told, measured, statx_meaning, statx_file_meaning, put, held_in, found, meaning_by, meaning, shape}
 use Rattle.op_meaning.specs.Shape.{Look, at_nothing, at_file, at_path, at_paths, look}
 use Rattle.sweep_laws.specs.Within.{IsWithin}
 use Rattle.sweep_laws.proofs.Alike.{HasNode, HasDescription, HasTarget, HasPlace, description_there, names_on_same, node_there, opened_same, placed, walk_same}
@@ -197,6 +197,10 @@ module _ {started : ℕ} (s w : World) (h : IsWithin started s w) where
     slot_same : (n : ℕ) → slot w site.ring n ≡ slot s site.ring n
     slot_same n = ap (λ (m : Table pair_cmp ℕ). get m (site.ring, n)) h.slots
 
+    held_in_same : (r : ℕ) (f : File) → held_in w r f ≡ held_in s r f
+    held_in_same r (in_slot n) = ap (λ (m : Table pair_cmp ℕ). get m (r, n)) h.slots
+    held_in_same r (at_descriptor n) = ap (λ (m : Table nat_cmp ℕ). get m n) h.descriptors
+
     found_same : (l : Look) → found site w l ≡ found site s l
     found_same at_nothing = refl
     found_same (at_file f) = λ i. record { file = handle_same f i; place = Err ENOENT; new_place = Err ENOENT }
@@ -228,6 +232,11 @@ module _ {started : ℕ} (s w : World) (h : IsWithin started s w) where
     by_same (statx_file f) = statx_file_same (handle site w f) (handle_there f)
     by_same statx_root = refl
     by_same (given r fails) = refl
+    by_same (hold_nothing f) = refl
+    by_same (hold_path f p g at) = refl
+    by_same (hold_copy f r source) = ap (λ (x : Option ℕ). Ok (done (put site.ring f x ∷ []))) (held_in_same r source)
+    by_same (hold_other f) = refl
+    by_same (seek f at) = refl
 
     pub means_same : (o : Operation) → meaning site w o ≡ meaning site s o
     means_same o = by_same o ∙ ap (meaning_by site s o) (found_same (look (shape o)))

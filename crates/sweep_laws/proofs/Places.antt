@@ -11,8 +11,8 @@ use Rattle.trace_records.specs.declared.record.FullSlot.{FullSlot}
 use Rattle.trace_records.specs.declared.record.Holder.{Holder}
 use Rattle.trace_records.specs.declared.record.Holder.TheVariants.{Slot, Descriptor, Description}
 use Rattle.recording.specs.declared.recording.Recording.{Recording}
-use Rattle.recording.specs.Steps.{Step, Action, submit, fill, register, step_at}
-use Rattle.entry_checks.specs.Operation.{Operation}
+use Rattle.recording.specs.Steps.{Step, Action, submit, fill, register, set as set_file, seek as seek_file, step_at}
+use Rattle.entry_checks.specs.Operation.{Operation, seek}
 use Rattle.entry_checks.specs.Check.{check}
 use Rattle.chain_plan.specs.declared.role.Role.{Role}
 use Rattle.chain_plan.specs.Chain.{role}
@@ -21,7 +21,7 @@ use Rattle.std.specs.Ordering.{nat_cmp}
 use Rattle.world_parts.specs.World.{World, Broken, Opened, broken, set_slot, apply_all}
 use Rattle.op_meaning.specs.Site.{sited}
 use Rattle.op_meaning.specs.Meaning.{made_node, made_description}
-use Rattle.op_meaning.specs.Step.{Turn, filled, registered, refused, canceled, runs, entry_turn, turn, turn_under, reply_of, run_reply, changes_in, changes_of, breaks, failed, held_by, filled_slot, step_changes, step_world}
+use Rattle.op_meaning.specs.Step.{Turn, filled, registered, called, refused, canceled, runs, entry_turn, turn, turn_under, reply_of, run_reply, changes_in, changes_of, breaks, failed, held_by, filled_slot, file_in, set_operation, step_changes, step_world}
 use Rattle.foot_print.specs.Laws.{Awaits}
 use Rattle.foot_print.proofs.Keep.{steps_keep_worlds}
 use Rattle.sweep_laws.specs.Holding.{HolderFits, ActionHolds, PlaceHolds}
@@ -45,11 +45,15 @@ turn_holds t k b = at (step_at t k)
     of : ℕ → Action → Turn
     of r (fill buffer p new) = filled r buffer p new
     of r (register slots) = registered r slots
+    of r (set_file file content) = called r (set_operation file content)
+    of r (seek_file file position) = called r (seek (file_in file) position)
     of r (submit e) = entry_turn r e (role t k) b (check t.version e)
 
     act : (r : ℕ) (x : Action) → ActionHolds (length t.descriptions) x → TurnHolds (length t.descriptions) (of r x)
     act r (fill buffer p new) h = tt
     act r (register slots) h = h
+    act r (set_file file content) h = tt
+    act r (seek_file file position) h = tt
     act r (submit e) h = entry_holds (length t.descriptions) r e (role t k) b (check t.version e)
 
     at : (x : Option Step) → ((y : Step) → x ≡ Some y → ActionHolds (length t.descriptions) y.action) → IfSome (option_map (λ (y : Step). of y.ring y.action) x) (TurnHolds (length t.descriptions))
@@ -81,6 +85,7 @@ module _ (t : Recording) (k : ℕ) (s w : World) (h : IsWithin (length t.descrip
   reply_same None = refl
   reply_same (Some (filled r b at new)) = refl
   reply_same (Some (registered r slots)) = refl
+  reply_same (Some (called r o)) = refl
   reply_same (Some (refused e posted)) = refl
   reply_same (Some (canceled posted)) = refl
   reply_same (Some (runs r e o)) = ap (λ m. Some (run_reply e o m)) (means_same s w h (sited t k r) o)
@@ -89,6 +94,7 @@ module _ (t : Recording) (k : ℕ) (s w : World) (h : IsWithin (length t.descrip
   changes_same None fits = refl
   changes_same (Some (filled r b at new)) fits = refl
   changes_same (Some (registered r slots)) fits = slots_same r slots (recursion_from_All (λ (x : FullSlot). HolderFits started x.holds) slots fits)
+  changes_same (Some (called r o)) fits = ap changes_of (means_same s w h (sited t k r) o)
   changes_same (Some (refused e posted)) fits = refl
   changes_same (Some (canceled posted)) fits = refl
   changes_same (Some (runs r e o)) fits = ap (λ m. changes_of m ++ breaks (role t k) e (failed o m)) (means_same s w h (sited t k r) o)

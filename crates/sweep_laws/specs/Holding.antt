@@ -5,7 +5,7 @@ use Rattle.trace_records.specs.declared.record.FullSlot.{FullSlot}
 use Rattle.trace_records.specs.declared.record.Holder.{Holder}
 use Rattle.trace_records.specs.declared.record.Holder.TheVariants.{Slot, Descriptor, Description}
 use Rattle.recording.specs.declared.recording.Recording.{Recording}
-use Rattle.recording.specs.Steps.{Action, submit, fill, register, Step, step_at}
+use Rattle.recording.specs.Steps.{Action, submit, fill, register, set, seek, Step, step_at}
 
 -- a description is one of so many, which the trace starts with
 abbrev pub HolderFits : (started : ℕ) → Holder → Type 0
@@ -18,6 +18,8 @@ abbrev pub ActionHolds : (started : ℕ) → Action → Type 0
 ActionHolds n (register slots) = All (λ (x : FullSlot). HolderFits n x.holds) slots
 ActionHolds n (fill buffer offset bytes) = Unit {0}
 ActionHolds n (submit e) = Unit {0}
+ActionHolds n (set file content) = Unit {0}
+ActionHolds n (seek file position) = Unit {0}
 
 -- and those of a place of a recording
 abbrev pub PlaceHolds : Recording → (place : ℕ) → Type 0
