@@ -4,15 +4,17 @@ use Rattle.std.specs.List.{flat_map}
 use Rattle.std.specs.Borrow.{Bor}
 use Rattle.trace_records.specs.declared.record.Entry.{Entry}
 use Rattle.trace_records.specs.declared.record.Record.{Record}
-use Rattle.trace_records.specs.declared.record.Record.TheVariants.{Enter, Fill, RingStarts, RingEnds}
+use Rattle.trace_records.specs.declared.record.Record.TheVariants.{Enter, Fill, Set, Seek, RingStarts, RingEnds}
 use Rattle.trace_records.specs.declared.trace.Trace.{Trace}
 use Rattle.trace_text.specs.Below.{brief, with_lines}
 use Rattle.records_text.specs.Shown.{submitted_words}
 
--- The lines of a record's places. A fill and a new ring have none, and the end of a ring is no place.
+-- The lines of a record's places. A fill, a set, a seek and a new ring have none, and the end of a ring is no place.
 abbrev pub place_lines : Record → List (List ℕ)
 place_lines (Enter ring entries) = map (submitted_words brief) entries
 place_lines (Fill ring buffer offset filling) = [] ∷ []
+place_lines (Set file content) = [] ∷ []
+place_lines (Seek file position) = [] ∷ []
 place_lines (RingStarts ring) = [] ∷ []
 place_lines (RingEnds ring) = []
 

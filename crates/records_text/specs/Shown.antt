@@ -19,17 +19,21 @@ use Rattle.trace_records.specs.declared.record.Filling.{Filling}
 use Rattle.trace_records.specs.declared.record.Filling.TheVariants.{Stored, Zeros}
 use Rattle.trace_records.specs.declared.record.Holder.{Holder}
 use Rattle.trace_records.specs.declared.record.Holder.TheVariants as holder
+use Rattle.trace_records.specs.declared.record.FileAt.{FileAt}
+use Rattle.trace_records.specs.declared.record.FileAt.TheVariants as files
+use Rattle.trace_records.specs.declared.record.Content.{Content}
+use Rattle.trace_records.specs.declared.record.Content.TheVariants as contents
 use Rattle.trace_records.specs.declared.record.FullSlot.{FullSlot}
 use Rattle.trace_records.specs.declared.record.Ring.{Ring}
 use Rattle.trace_records.specs.declared.record.Record.{Record}
-use Rattle.trace_records.specs.declared.record.Record.TheVariants.{Enter, Fill, RingStarts, RingEnds}
+use Rattle.trace_records.specs.declared.record.Record.TheVariants.{Enter, Fill, Set, Seek, RingStarts, RingEnds}
 use Rattle.trace_records.specs.declared.trace.Trace.{Trace}
 use Rattle.trace_records.specs.Fields.{end_of}
 use Rattle.trace_records.specs.Front.{places_of}
 use Rattle.trace_records.specs.Start.{range_end}
 use Rattle.trace_records.specs.Tallies.{rings}
 use Rattle.text_forms.specs.Strings.{path_text}
-use Rattle.trace_text.specs.Fields.{unless, field, decimal_word, later_words}
+use Rattle.trace_text.specs.Fields.{unless, field, decimal_word, op_flags_word, later_words}
 use Rattle.trace_text.specs.Entry.{data_text, default_len, front_words, head_words, place_comment, words_of}
 use Rattle.trace_text.specs.Shown.{buffer_line, empty_slots, enter_line, fill_words, node_by, numbered, opened}
 use Rattle.trace_text.specs.declared.look.Look.{Look}
@@ -85,10 +89,15 @@ descriptor_word d = decimal d.description
 abbrev pub descriptors_line : Start → List ℕ
 descriptors_line s = table_line (codes "descriptors") (λ d. d.number) descriptor_word s.table_size s.descriptors
 
+-- A slot or a descriptor.
+abbrev pub file_text : FileAt → List ℕ
+file_text (files.Slot ring number) = decimal ring ++ codes ":" ++ decimal number
+file_text (files.Descriptor number) = codes "fd:" ++ decimal number
+
 -- What a slot of a new ring gets.
 abbrev pub holder_text : Holder → List ℕ
-holder_text (holder.Slot ring number) = decimal ring ++ codes ":" ++ decimal number
-holder_text (holder.Descriptor number) = codes "fd:" ++ decimal number
+holder_text (holder.Slot ring number) = file_text (files.Slot ring number)
+holder_text (holder.Descriptor number) = file_text (files.Descriptor number)
 holder_text (holder.Description number) = decimal number
 
 abbrev pub full_slot_word : FullSlot → List ℕ
@@ -148,11 +157,27 @@ abbrev pub filling_words : Look → Filling → List ℕ
 filling_words look (Stored bytes) = data_text look (codes " \\\n  ") bytes
 filling_words look (Zeros len) = zeros_word len
 
+-- What it holds from then on. The flags of a new description are those of OPENAT, and they and its position are left out where they are 0.
+abbrev pub content_words : Content → List ℕ
+content_words contents.Nothing = codes " nothing"
+content_words (contents.Path flags position path) = field (codes "path") (path_text path) ++ op_flags_word 18 flags ++ decimal_word (codes "pos") position
+content_words (contents.Copy of) = field (codes "of") (file_text of)
+content_words contents.Taken = codes " taken"
+
+abbrev pub set_line : FileAt → Content → List ℕ
+set_line file content = codes "set " ++ file_text file ++ content_words content ++ codes "\n"
+
+-- The position of what it holds.
+abbrev pub seek_line : FileAt → ℕ → List ℕ
+seek_line file position = codes "seek " ++ file_text file ++ field (codes "pos") (decimal position) ++ codes "\n"
+
 -- What a record has, from a place on, behind so many rings.
 abbrev pub record_lines : Look → ℕ → ℕ → Record → List ℕ
 record_lines look place n (Enter ring entries) = enter_line ring ++ numbered (submitted_line look) place entries
 record_lines look place n (Fill ring buffer offset filling) =
     place_comment look [] place ++ fill_words ring buffer offset ++ filling_words look filling ++ codes "\n"
+record_lines look place n (Set file content) = place_comment look [] place ++ set_line file content
+record_lines look place n (Seek file position) = place_comment look [] place ++ seek_line file position
 record_lines look place n (RingStarts ring) = place_comment look [] place ++ ring_lines n ring
 record_lines look place n (RingEnds ring) = end_line ring
 

@@ -52,11 +52,11 @@ fn add_record<'t>(places: &mut Vec<Option<&'t Entry>>, made: &'t Record) -> Resu
 {
     match made {
         Record::Enter { ring: _, entries } => add_entries(places, entries.as_slice()),
-        Record::Fill { .. } | Record::RingStarts { .. } => {
+        Record::RingEnds { ring: _ } => Ok(()),
+        _ => {
             places.push(None)?;
             Ok(())
         }
-        Record::RingEnds { ring: _ } => Ok(()),
     }
 }
 

@@ -7,6 +7,7 @@
 mod below;
 mod records;
 mod rings;
+mod sets;
 mod show;
 mod start;
 

@@ -8,6 +8,7 @@ ghost use Rattle.records_text.specs.Shown.{given_word, given_words, submitted_li
 ghost use Rattle.records_text.specs.Shown.{zeros_len, zeros_word, zeros_words};
 
 use crate::rings::push_ring;
+use crate::sets::{push_seek, push_set};
 use sqe_codec::Sqe;
 use std::alloc::AllocError;
 use text_forms::{push_bytes, push_decimal, push_signed};
@@ -170,6 +171,14 @@ fn push_record(
             push_filling(text, look, filling)?;
             push_bytes(text, b"\n")
         }
+        Record::Set { file, content } => {
+            push_place(text, look, b"", place as u64)?;
+            push_set(text, *file, content)
+        }
+        Record::Seek { file, position } => {
+            push_place(text, look, b"", place as u64)?;
+            push_seek(text, *file, *position)
+        }
         Record::RingStarts { ring } => {
             push_place(text, look, b"", place as u64)?;
             push_ring(text, rings, ring)
@@ -184,8 +193,8 @@ fn places_of(made: &Record) -> usize
 {
     match made {
         Record::Enter { ring: _, entries } => entries.as_slice().len(),
-        Record::Fill { .. } | Record::RingStarts { .. } => 1,
         Record::RingEnds { ring: _ } => 0,
+        _ => 1,
     }
 }
 

@@ -5,9 +5,10 @@ ghost use Rattle.records_text.specs.Shown.{descriptor_word, descriptors_line, fu
 ghost use Rattle.records_text.specs.Shown.{holder_text, queue_word, ring_lines, table_from};
 ghost use Rattle.records_text.specs.Shown.{table_line};
 
+use crate::sets::push_file;
 use std::alloc::AllocError;
 use text_forms::{push_bytes, push_decimal};
-use trace_records::{Descriptor, FullSlot, Holder, Ring, Start};
+use trace_records::{Descriptor, FileAt, FullSlot, Holder, Ring, Start};
 use trace_text::{push_buffers, push_empty, push_key};
 
 /// The empty slots before one that is full.
@@ -62,15 +63,8 @@ fn push_holder(text: &mut Vec<u8>, holder: Holder) -> Result<(), AllocError>
     ensures { OnOk result (text.new.items ≡ text.old.items ++ holder_text holder) }
 {
     match holder {
-        Holder::Slot { ring, number } => {
-            push_decimal(text, u64::from(ring))?;
-            push_bytes(text, b":")?;
-            push_decimal(text, u64::from(number))
-        }
-        Holder::Descriptor { number } => {
-            push_bytes(text, b"fd:")?;
-            push_decimal(text, u64::from(number))
-        }
+        Holder::Slot { ring, number } => push_file(text, FileAt::Slot { ring, number }),
+        Holder::Descriptor { number } => push_file(text, FileAt::Descriptor { number }),
         Holder::Description { number } => push_decimal(text, u64::from(number)),
     }
 }

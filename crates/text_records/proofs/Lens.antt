@@ -1,15 +1,20 @@
 -- How many bytes parts of a trace have.
 use Rattle.std.proofs.Common.{◌≡◌, ℕ, suc, ◌+◌, ◌*◌, ◌<◌, List, [], ◌∷◌, ◌++◌, cond, length, drop, get_or, refl, sym, ap, ◌∙◌, drop-cons, length-append, arith}
+use Rattle.std.specs.Int.{to_le_bytes, w64}
 use Rattle.std.specs.List.{flat_map}
 use Rattle.std.proofs.lemmas.List.Sums.{sum_by-append}
+use Rattle.trace_records.specs.declared.record.Content.{Content}
+use Rattle.trace_records.specs.declared.record.FileAt.{FileAt}
+use Rattle.trace_records.specs.declared.record.FileAt.TheVariants as files
 use Rattle.trace_records.specs.declared.record.Record.{Record}
+use Rattle.trace_records.specs.declared.record.Record.TheVariants.{Seek, Set}
 use Rattle.trace_records.specs.Tallies.{is_ring, rings}
 use Rattle.trace_records.specs.declared.record.FullSlot.{FullSlot}
 use Rattle.trace_records.specs.declared.record.Holder.{Holder}
 use Rattle.trace_records.specs.declared.record.Holder.TheVariants.{Slot, Descriptor as OfDescriptor, Description}
 use Rattle.trace_records.specs.declared.start.Descriptor.{Descriptor}
 use Rattle.trace_records.specs.declared.start.Range.{Range}
-use Rattle.trace_records.specs.Spelling.{descriptor_bytes, full_slot_bytes, holder_bytes, range_bytes}
+use Rattle.trace_records.specs.Spelling.{content_bytes, descriptor_bytes, file_bytes, full_slot_bytes, holder_bytes, range_bytes, record_bytes}
 
 -- full descriptors are eight bytes each
 pub descriptors_len : (full : List Descriptor) → length (flat_map descriptor_bytes full) ≡ length full * 8
@@ -25,6 +30,18 @@ holder_len (Description number) = refl
 pub full_len : (full : List FullSlot) → length (flat_map full_slot_bytes full) ≡ length full * 13
 full_len [] = refl
 full_len (s ∷ full) = omega (arith, holder_len s.holds, full_len full, length-append (holder_bytes s.holds) (flat_map full_slot_bytes full))
+
+-- a slot or a descriptor is nine bytes
+pub file_len : (f : FileAt) → length (file_bytes f) ≡ 9
+file_len (files.Slot ring number) = refl
+file_len (files.Descriptor number) = refl
+
+-- a set and a seek have their number, a slot or a descriptor, and what follows it
+pub set_len : (f : FileAt) (c : Content) (n m : ℕ) → n ≡ length (file_bytes f) → m ≡ length (content_bytes c) → n + m + 1 ≡ length (record_bytes (Set f c))
+set_len f c n m file content = omega (arith, file, content, length-append (file_bytes f) (content_bytes c))
+
+pub seek_len : (f : FileAt) (position n : ℕ) → n ≡ length (file_bytes f) → n + 9 ≡ length (record_bytes (Seek f position))
+seek_len f position n file = omega (arith, file, length-append (file_bytes f) (to_le_bytes w64 position))
 
 -- one record more
 pub rings_push : (rs : List Record) (r : Record) → rings (rs ++ r ∷ []) ≡ rings rs + rings (r ∷ [])

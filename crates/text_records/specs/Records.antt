@@ -1,4 +1,4 @@
--- The model: the records of a text: entries, fills, rings and their ends.
+-- The model: the records of a text: entries, fills, sets, seeks, rings and their ends.
 use Rattle.std.specs.Prelude.{ℕ, List, [], ◌∷◌, ◌++◌, length, Option, None, Some, Result, Ok, codes, option_map, unwrap_or, if◌then◌else◌}
 use Rattle.std.specs.List.{flat_map}
 use Rattle.std.specs.Str.{bytes_eq}
@@ -27,6 +27,7 @@ use Rattle.text_records.specs.declared.records.Step.TheVariants as step
 use Rattle.text_records.specs.declared.slots.Table.TheVariants as table
 use Rattle.text_records.specs.Entry.{entry_of}
 use Rattle.text_records.specs.Pieces.{with_piece}
+use Rattle.text_records.specs.Sets.{seek_of, set_of}
 use Rattle.text_records.specs.Slots.{slots_line}
 
 -- Below, what is read has three parts: the values, which line made which bytes, and what is left to read.
@@ -99,6 +100,17 @@ one_fill pieces r = do
   x ← fill_of r
   Ok (made_by pieces r x.0 x.1)
 
+-- those of a `set` and a `seek`
+unfoldable pub one_set : List Piece → Rest → Result (Record × List Piece × Rest) Fault
+one_set pieces r = do
+  x ← set_of r
+  Ok (made_by pieces r x.0 x.1)
+
+unfoldable pub one_seek : List Piece → Rest → Result (Record × List Piece × Rest) Fault
+one_seek pieces r = do
+  x ← seek_of r
+  Ok (made_by pieces r x.0 x.1)
+
 -- the end of a ring
 unfoldable pub ring_end : List Piece → Rest → Result (Record × List Piece × Rest) Fault
 ring_end pieces r = do
@@ -152,12 +164,15 @@ ring_step r = if bytes_eq (next_word (behind_next (behind_first r))).bytes (code
 abbrev pub step_of : Rest → Option Step
 step_of r =
     if begins (codes "enter") r then Some step.Enter else if begins (codes "fill") r then Some step.Fill
+    else if begins (codes "set") r then Some step.Set else if begins (codes "seek") r then Some step.Seek
     else if begins (codes "ring") r then Some (ring_step r) else None
 
 -- a record by those words, behind so many rings
 abbrev pub record_of : Step → ℕ → List Piece → Rest → Result (Record × List Piece × Rest) Fault
 record_of step.Enter n pieces r = enter_of pieces r
 record_of step.Fill n pieces r = one_fill pieces r
+record_of step.Set n pieces r = one_set pieces r
+record_of step.Seek n pieces r = one_seek pieces r
 record_of step.RingStarts n pieces r = ring_start n pieces r
 record_of step.RingEnds n pieces r = ring_end pieces r
 

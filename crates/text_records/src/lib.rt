@@ -6,6 +6,7 @@ mod entry;
 mod make;
 mod pieces;
 mod records;
+mod sets;
 mod slots;
 mod start;
 

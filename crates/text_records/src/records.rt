@@ -1,4 +1,4 @@
-//! The records of a text: entries, fills, rings and their ends.
+//! The records of a text: entries, fills, sets, seeks, rings and their ends.
 ghost use Rattle.std.specs.Prelude.{◌≡◌, ◌≤◌, ◌<◌, ◌∷◌, [], ◌+◌, ◌-◌, ◌^◌, ℕ, IfOk, OnOk, length};
 ghost use Rattle.std.specs.List.{flat_map};
 ghost use Rattle.trace_format.specs.Spelling.{buffer_bytes};
@@ -8,12 +8,14 @@ ghost use Rattle.trace_records.specs.declared.record.Record.TheVariants.{Fill, R
 ghost use Rattle.text_words.specs.Read.{Gives, rest_of};
 ghost use Rattle.text_records.specs.Records.{buffers_of, enter_line, enter_of, entries_of};
 ghost use Rattle.text_records.specs.Records.{fill_buffer, fill_of, filling_of, one_buffer};
-ghost use Rattle.text_records.specs.Records.{one_entry, one_fill, one_record, record_of};
+ghost use Rattle.text_records.specs.Records.{one_entry, one_fill, one_record, one_seek};
+ghost use Rattle.text_records.specs.Records.{one_set, record_of};
 ghost use Rattle.text_records.specs.Records.{records_of, ring_end, ring_line, ring_slots};
 ghost use Rattle.text_records.specs.Records.{ring_start, ring_step, step_of, stored_of};
 
 use crate::entry::entry_of;
 use crate::pieces::{Pieces, add_piece};
+use crate::sets::{seek_of, set_of};
 use crate::slots::{Table, slots_line};
 use std::alloc::Global;
 use text_trace::{begins, buffer_of, keyed_word, next_number, opcode_of};
@@ -208,6 +210,32 @@ fn one_fill<'a>(
     Ok((made, after))
 }
 
+/// The record of a `set`.
+#[tactic(auto, unfolding(crate::specs::Records::one_set))]
+fn one_set<'a>(
+    alloc: Global,
+    pieces: &mut Pieces,
+    source: Source<'a>,
+) -> Result<(Record, Source<'a>), ReadError>
+    ensures { Gives (λ x. (x.0, pieces.new.items, rest_of x.1)) result
+        (one_set pieces.old.items (rest_of source.entry)) }
+{
+    let (made, len, after) = set_of(alloc, source)?;
+    add_piece(pieces, len, first_word(source).left)?;
+    Ok((made, after))
+}
+
+/// The record of a `seek`.
+#[tactic(auto, unfolding(crate::specs::Records::one_seek))]
+fn one_seek<'a>(pieces: &mut Pieces, source: Source<'a>) -> Result<(Record, Source<'a>), ReadError>
+    ensures { Gives (λ x. (x.0, pieces.new.items, rest_of x.1)) result
+        (one_seek pieces.old.items (rest_of source.entry)) }
+{
+    let (made, len, after) = seek_of(source)?;
+    add_piece(pieces, len, first_word(source).left)?;
+    Ok((made, after))
+}
+
 /// The end of a ring.
 #[tactic(auto, unfolding(crate::specs::Records::ring_end))]
 fn ring_end<'a>(pieces: &mut Pieces, source: Source<'a>) -> Result<(Record, Source<'a>), ReadError>
@@ -340,6 +368,8 @@ fn ring_start<'a>(
 enum Step {
     Enter,
     Fill,
+    Set,
+    Seek,
     RingStarts,
     RingEnds,
 }
@@ -363,6 +393,10 @@ fn step_of(source: Source<'_>) -> Option<Step>
         Some(Step::Enter)
     } else if begins(b"fill", source) {
         Some(Step::Fill)
+    } else if begins(b"set", source) {
+        Some(Step::Set)
+    } else if begins(b"seek", source) {
+        Some(Step::Seek)
     } else if begins(b"ring", source) {
         Some(ring_step(source))
     } else {
@@ -384,6 +418,8 @@ fn record_of<'a>(
     match step {
         Step::Enter => enter_of(alloc, pieces, source),
         Step::Fill => one_fill(alloc, pieces, source),
+        Step::Set => one_set(alloc, pieces, source),
+        Step::Seek => one_seek(pieces, source),
         Step::RingStarts => ring_start(alloc, count, pieces, source),
         Step::RingEnds => ring_end(pieces, source),
     }

@@ -67,7 +67,7 @@ fn description_at(word: Word<'_>) -> Result<Holder, ReadError>
 
 /// What a slot of a ring gets.
 #[tactic(auto, unfolding(crate::specs::Slots::holder_at))]
-fn holder_at(word: Word<'_>) -> Result<Holder, ReadError>
+pub(crate) fn holder_at(word: Word<'_>) -> Result<Holder, ReadError>
     ensures { Gives (λ h. h) result (holder_at (word_of word.entry)) }
 {
     if word.bytes.starts_with(b"fd:") {

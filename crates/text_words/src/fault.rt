@@ -69,6 +69,12 @@ pub enum Reason {
     Error,
     /// There is one more of its kind than a trace may have.
     TooMany,
+    /// It is neither a slot of a ring nor a descriptor.
+    File,
+    /// It is nothing that a slot or a descriptor may hold.
+    Content,
+    /// A position is missing.
+    Position,
     /// Nothing more is expected on this line.
     End,
     /// The line makes bytes that are no part of a trace.
@@ -143,6 +149,9 @@ fn words_of(reason: Reason) -> &'static str {
         Reason::Both => "expected strings or zeros=N, not both",
         Reason::Error => "expected an error from -4095 to -1",
         Reason::TooMany => "there is one more of these than a trace may have",
+        Reason::File => "expected a slot or a descriptor: RING:N or fd:N",
+        Reason::Content => "expected nothing, path=PATH, of=RING:N, of=fd:N or taken",
+        Reason::Position => "expected pos=N",
         Reason::End => "expected the end of the line",
         Reason::Bits(_) | Reason::Next(_) => "expected another number",
         Reason::Trace(kind) => trace_words(kind),

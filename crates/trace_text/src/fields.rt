@@ -166,7 +166,12 @@ fn push_op_flags_field(text: &mut Vec<u8>, opcode: u8, number: u32) -> Result<()
     }
 }
 
-fn push_op_flags(text: &mut Vec<u8>, opcode: u8, number: u32) -> Result<(), AllocError>
+/// The field `op_flags`, as an operation names it. It is left out where it is 0.
+///
+/// # Errors
+///
+/// Out of memory.
+pub fn push_op_flags(text: &mut Vec<u8>, opcode: u8, number: u32) -> Result<(), AllocError>
     ensures { OnOk result (text.new.items ≡ text.old.items ++ op_flags_word opcode number) }
 {
     if number == 0 {

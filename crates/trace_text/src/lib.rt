@@ -20,7 +20,7 @@ mod show;
 
 pub use below::{BRIEF, Placed, with_entries, with_lines};
 pub use entry::{default_len, push_data, push_front, push_head, push_place, push_words};
-pub use fields::{fd_key, len_key, off_key, push_key, push_later, push_number};
+pub use fields::{fd_key, len_key, off_key, push_key, push_later, push_number, push_op_flags};
 pub use lines::{
     push_buffers, push_empty, push_enter, push_fill, push_item_number, push_opening,
     push_path_or_number,
