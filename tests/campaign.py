@@ -5,6 +5,7 @@ import os
 import re
 import shutil
 import subprocess
+import sys
 import tempfile
 import xml.etree.ElementTree
 from functools import partial
@@ -20,6 +21,9 @@ from mounted import Passthrough
 from player import Player
 from record_traces import DESCRIPTION, DESCRIPTOR, SLOT, stored
 from traces import AT_FDCWD, DRAIN, FIXED_FILE, LINK, NOP, OPENAT, READ, WRITE, description, entry
+
+sys.path.append(os.path.join(TOP, "tools", "shared"))
+import trace_parts
 
 MINIMISE, CAMPAIGN = (os.path.join(TOP, "tools", it) for it in ("uring_minimise", "uring_campaign"))
 SECONDS, FEW = 300, 10
@@ -105,6 +109,37 @@ def least_of_version_3(player: Player) -> List[Outcome]:
     is_well = got.status == 0 and lines[:3] == [b"uring-report 2", b"2 ring=1 user=0 res=13 posted", b"tree"]
     is_well = is_well and MODELS.run(["serial", "--sums"], written["trace"]).output == written["report"] and b"1 different" in written["diff"]
     return [Outcome(name, None if is_well else "{} {!r}".format(shown(got), written))]
+
+
+def of_sets() -> bytes:
+    """A trace of version 3 whose last WRITE goes through a descriptor that a set gave to a path, below sets and seeks that do not matter."""
+    low, held, slot = (DESCRIPTOR, 0, 0), (DESCRIPTOR, 0, 2), (SLOT, 1, 0)
+    writes = [entry(READ, 0, 2, length=5), entry(WRITE, 0, 2, 3, 13, b"thirteen byte", user_data=9)]
+    records = [record_traces.ring(1), record_traces.set_path(low, b"/a", 2), record_traces.ring(2), record_traces.set_copy(slot, low), record_traces.seek(slot, 4),
+               record_traces.set_taken((SLOT, 1, 1)), record_traces.set_path(held, b"/a", 0x402, 7), record_traces.seek(held, 3), record_traces.set_nothing(low),
+               record_traces.enter(0, [stored(it) for it in writes]), record_traces.set_copy(low, slot)]
+    return b"".join([record_traces.head(1, 0, 4), record_traces.file(b"/a", 40, [(2, b"a")]), *records, record_traces.END])
+
+
+def least_of_sets(player: Player) -> List[Outcome]:
+    """Of such a trace the write is left, and the set that it needs, of flags that it needs."""
+    got, written = minimised(player, MODELS, of_sets(), ["--player", wrong_player(player)])
+    parts = trace_parts.parts_of(written["trace"]) if got.status == 0 else None
+    lines = written.get("report", b"").split(b"\n")
+    is_well = parts and [type(it).__name__ for it in parts.records] == ["NewRing", "Setting", "Enter"] and lines[1] == b"2 ring=0 user=0 res=13 posted"
+    is_well = is_well and parts.records[1] == trace_parts.Setting((DESCRIPTOR, 0, 0), trace_parts.OF_PATH, None, 2, 0, b"/a")
+    return [Outcome("uring_minimise: a trace with sets and seeks", None if is_well else "{} {!r}".format(shown(got), written))]
+
+
+def in_parts(seeds: range) -> List[Outcome]:
+    """A drawn trace of version 3 is what its parts are written as, and they have its places."""
+    faults = []
+    for seed in seeds:
+        trace = record_traces.Records(seed).trace()
+        parts = trace_parts.parts_of(trace)
+        is_well = parts.text() == trace and b"ok %d places " % parts.places() in MODELS.run(["check"], trace).output
+        faults += [] if is_well else ["seed {}".format(seed)]
+    return [Outcome("the parts of drawn traces of version 3", first(faults))]
 
 
 def told(program: Program, trace: bytes) -> bytes:
@@ -336,5 +371,5 @@ def jobs(programs: List[Program]) -> List[Job]:
     if lacking:
         return [lambda: skipped("the tools that look for differences", lacking)]
     found: List[Job] = [partial(it, player, program) for it in (least, raced, refusals, collected, campaign_words, over_lower)]
-    found.append(partial(least_of_version_3, player))
+    found += [partial(least_of_version_3, player), partial(least_of_sets, player), partial(in_parts, range(200))]
     return found + [partial(by_parallel, player, program, it) for it in ("parallel", "xargs")]

@@ -285,7 +285,7 @@ def of_version_3(files: List[str]) -> Outcome:
             opened.write(text)
     status, picture = timeline(files, b"")
     is_well = status == 0 and nodes_in(picture, "title") == texts[0].count(b" round=") + texts[0].count(b" after=")
-    lanes = [it for it in (b">ring 0<", b">ring 1<", b">fills, rings<") if picture.count(it) != 1]
+    lanes = [it for it in (b">ring 0<", b">ring 1<", b">other steps<") if picture.count(it) != 1]
     return Outcome("tools/uring_timeline: a trace of version 3", None if is_well and not lanes else "status {}, lacks {}".format(status, lanes))
 
 

@@ -17,7 +17,7 @@ import model_records
 import record_traces
 from harness import TOP, Answer, Job, Outcome, Program, Timed, difference, first, shown
 from model import A_DIRECTORY, CREAT
-from record_traces import DESCRIPTION, SLOT, Carried, Records, file_of, stored
+from record_traces import DESCRIPTION, DESCRIPTOR, SLOT, Carried, Records, file_of, stored
 from records import lot
 from streams import BY_MODEL, Bounded, in_memory
 from traces import AT_FDCWD, CLOSE, FADVISE, FIXED_FILE, FSYNC, FTRUNCATE, LINK, LINKAT, MKDIRAT, NOP, OPENAT, READ, RENAMEAT, STATX, UNLINKAT, WRITE
@@ -368,8 +368,8 @@ def reads(slot: int, user: int, offset: int = 0) -> bytes:
 
 
 def of_what_stays() -> Tuple[bytes, List[Tuple[int, int, int, bytes]]]:
-    """A trace in which files that are open but removed, and descriptions of the start that only a later ring takes, are read behind many temporary
-    files; and of each other entry its user_data, its ring, its result and what it reads."""
+    """A trace in which files that are open but removed, by an entry or a set, and descriptions of the start that only a later ring takes, are read behind
+    many temporary files; and of each other entry its user_data, its ring, its result and what it reads."""
     at = {"fd": AT_FDCWD}
     items = [file_of(b"/a", 10, b"0123456789"), file_of(b"/b", 5, b"bcdef"), file_of(b"/c", 3, b"xyz"), directory(b"/d")]
     described = [description(1), description(2, position=1), description(3), description(4, 0)]
@@ -384,19 +384,22 @@ def of_what_stays() -> Tuple[bytes, List[Tuple[int, int, int, bytes]]]:
     ]
     over = entry(RENAMEAT, length=AT_FDCWD & LAST, side=two_paths(b"/c", b"/over"), user_data=11, **at)
     gone = entry(UNLINKAT, own_flags=REMOVES_DIRECTORY, side=b"/d", user_data=12, **at)
-    held = [reads(2, 13), entry(READ, 0, 0, 0, 10, user_data=14)]
-    taken = [reads(1, 20, POSITION), reads(2, 21), reads(3, 22), reads(4, 23), reads(5, 24)]
+    put = [entry(WRITE, FIXED_FILE, 0, 0, 3, b"put", user_data=15), entry(UNLINKAT, side=b"/put", user_data=16, **at)]
+    # (from then on descriptor 1 alone holds that file)
+    moved = [record_traces.set_copy((DESCRIPTOR, 0, 1), (SLOT, 0, 0)), record_traces.set_nothing((SLOT, 0, 0))]
+    held = [reads(2, 13), entry(READ, 0, 0, 0, 10, user_data=14), entry(READ, 0, 1, 0, 10, user_data=17)]
+    taken = [reads(1, 20, POSITION), reads(2, 21), reads(3, 22), reads(4, 23), reads(5, 24), entry(READ, 0, 1, 0, 10, user_data=27)]
     opens = [entry(OPENAT, own_flags=0, file_index=7, side=b"/over", user_data=25, **at), reads(6, 26)]
     records = [
-        first_ring, told_of(0, before + breaks), temporaries(0, 700), told_of(0, [over, gone]), temporaries(0, 700), told_of(0, held + breaks),
+        first_ring, record_traces.set_path((SLOT, 0, 0), b"/put", CREAT | 2), told_of(0, before + breaks + put), *moved, temporaries(0, 700), told_of(0, [over, gone]), temporaries(0, 700), told_of(0, held + breaks),
         second_ring, record_traces.ring_ends(0), temporaries(1, 700), told_of(1, taken + opens), temporaries(1, 700), told_of(1, taken),
     ]
     broken = [(9, 0, 10, b"0123456789"), (10, 0, -125, b"")]
     wanted = [
         (1, 0, 10, b"0123456789"), (2, 0, 0, b""), (3, 0, 0, b""), (4, 0, 0, b""), (5, 0, 4, b""), (6, 0, 0, b""), (7, 0, 0, b""), (8, 0, 4, b""), *broken,
-        (11, 0, 0, b""), (12, 0, 0, b""), (13, 0, 4, b"held"), (14, 0, 4, b"over"), *broken,
-        (20, 1, 4, b"cdef"), (21, 1, 10, b"0123456789"), (22, 1, 3, b"xyz"), (23, 1, 4, b"held"), (24, 1, -21, b""), (25, 1, 0, b""), (26, 1, 3, b"xyz"),
-        (20, 1, 0, b""), (21, 1, 10, b"0123456789"), (22, 1, 3, b"xyz"), (23, 1, 4, b"held"), (24, 1, -21, b""),
+        (15, 0, 3, b""), (16, 0, 0, b""), (11, 0, 0, b""), (12, 0, 0, b""), (13, 0, 4, b"held"), (14, 0, 4, b"over"), (17, 0, 3, b"put"), *broken,
+        (20, 1, 4, b"cdef"), (21, 1, 10, b"0123456789"), (22, 1, 3, b"xyz"), (23, 1, 4, b"held"), (24, 1, -21, b""), (27, 1, 3, b"put"), (25, 1, 0, b""), (26, 1, 3, b"xyz"),
+        (20, 1, 0, b""), (21, 1, 10, b"0123456789"), (22, 1, 3, b"xyz"), (23, 1, 4, b"held"), (24, 1, -21, b""), (27, 1, 3, b"put"),
     ]
     return b"".join([record_traces.head(len(items), len(described), 2), *items, *described, *records, record_traces.END]), wanted
 

@@ -21,7 +21,8 @@ WORDS = (b"fd=1", b"len=4", b"-", b"-*3", b'"a"*16', b"x\"00\"", b"@1", b"of=/a"
          b"ring", b"enter 0", b"\nNOP", b"\ndir /q", b"rw_flags=RWF_SYNC|1", b"off=-1", b"1", b"00", b"18446744073709551616")
 # Those that version 3 has besides.
 WORDS_OF_RECORDS = (b"at=4", b"at=18446744073709551615", b"zeros=3", b"queue=0", b"fd:1", b"0:1", b":", b"ends", b"\nring 0 ends", b"\nring 1", b"\nfill 0 buffer=0 zeros=2", b"-*1048576",
-                    b"given=5", b"given=-2147483648", b"failed=-4", b"failed=4294967295", b"refused=-22", b"refused=0", b"\nPOLL_ADD refused=-4095")
+                    b"given=5", b"given=-2147483648", b"failed=-4", b"failed=4294967295", b"refused=-22", b"refused=0", b"\nPOLL_ADD refused=-4095", b"nothing", b"taken", b"of=fd:0",
+                    b"open_flags=O_RDWR", b"\nset 0:1 taken", b"\nset fd:1 of=0:0", b"\nset 0:2 path=/a open_flags=O_RDWR pos=4", b"\nseek 0:0 pos=5")
 FRONT = "uring-trace 2\nfile /a \"abc\"\nopen 0 /a O_RDWR\ndescriptors 0 -\nring 0\n  slots 0 -*3\n  buffer 0 0x1000 16\n"
 FRONT_OF_RECORDS = FRONT.replace("trace 2", "trace 3")
 
@@ -114,6 +115,20 @@ MISTAKES: Tuple[Tuple[str, str], ...] = (
     (FRONT + "enter 0\n  READ given=1\n", "9:8: expected a flag, a field of this operation or a string"),
     (FRONT_OF_RECORDS + "fill 0 buffer=0 zeros=17\n", "8:1: Reference: a number on this line names nothing above"),
     (FRONT_OF_RECORDS + "fill 0 buffer=0 zeros=1 \"a\"\n", "8:25: expected the end of the line"),
+    (FRONT_OF_RECORDS + "set 0:0\n", "8:8: expected nothing, path=PATH, of=RING:N, of=fd:N or taken"),
+    (FRONT_OF_RECORDS + "set 0:0 empty\n", "8:9: expected nothing, path=PATH, of=RING:N, of=fd:N or taken"),
+    (FRONT_OF_RECORDS + "set 0 nothing\n", "8:5: expected a slot or a descriptor: RING:N or fd:N"),
+    (FRONT_OF_RECORDS + "set 0:1 of=0\n", "8:12: expected a slot or a descriptor: RING:N or fd:N"),
+    (FRONT_OF_RECORDS + "set 0:4 nothing\n", "8:1: Reference: a number on this line names nothing above"),
+    (FRONT_OF_RECORDS + "set fd:0 of=fd:2\n", "8:1: Reference: a number on this line names nothing above"),
+    (FRONT_OF_RECORDS + "set fd:0 nothing pos=1\n", "8:18: expected the end of the line"),
+    (FRONT_OF_RECORDS + "set fd:0 path=/a open_flags=3\n", "8:1: Limit: a number on this line is out of its range"),
+    (FRONT_OF_RECORDS + "set fd:0 path=/a open_flags=O_RDWR|O_WRONGLY\n", "8:29: expected a number or a flag of this field"),
+    (FRONT_OF_RECORDS + "set fd:0 path=/a pos=1 open_flags=O_RDWR\n", "8:24: expected the end of the line"),
+    (FRONT_OF_RECORDS + "seek fd:0\n", "8:10: expected pos=N"),
+    (FRONT_OF_RECORDS + "seek 0:0 pos=\n", "8:14: expected a number"),
+    (FRONT_OF_RECORDS + "seek 0:0 pos=9223372036854775808\n", "8:1: Limit: a number on this line is out of its range"),
+    (FRONT + "set 0:0 nothing\n", "8:1: expected a line of a trace, or an operation"),
 )
 
 
@@ -195,6 +210,8 @@ def by_hand() -> Iterator[Tuple[str, str]]:
     three = front.replace("trace 1", "trace 3")
     yield three + "ring 0 ends\nring 1 queue=0\n", "\n# of version 3\n  uring-trace\t3 \\\n\n" + three[len("uring-trace 3\n") :] + "ring 0x0 ends # 0\nring 0x1 queue=00"
     yield three + "enter 0\n  WRITE FIXED_FILE zeros=512\n  WRITEV FIXED_FILE [4,8] zeros=28\n", three + "enter 0\nWRITE zeros=0x200 len=512 FIXED_FILE\nOP_2 zeros=034 [4,010] FIXED_FILE len=2\n"
+    sets = "set 0:1 of=0:0\nset 0:2 path=/a open_flags=O_RDWR pos=9\nset 0:3 path=/a\nset 0:0 nothing\nseek 0:1 pos=3\n"
+    yield three + sets, three + "set 0:0x1 of=0:00 # 0\n set 0:2 \\\n path=/\\x61 open_flags=2 pos=0x9\nset 0:3 path=/a open_flags=0 pos=0\nset\t0:0 nothing\nseek 0:1 pos=03"
     yield "uring-trace 3\nfile /a \"abc\" at=8 \"d\"*8\n", "uring-trace 3\nfile /a size=16 at=0 \"a\" \"bc\" at=8 x\"6464\"*4\n"
     yield "uring-trace 3\ndescriptors - -*2\nring 0\n  slots fd:2 -*3\n", "uring-trace 3\ndescriptors -*3\nring 0\nslots fd:0x2 - - -\n"
 
@@ -234,7 +251,8 @@ def hostile() -> Iterator[Tuple[str, bytes]]:
     three = FRONT_OF_RECORDS.encode()
     for label, start, piece, end in (("slots that get what is held", b"ring 1\nslots ", b"0:0 ", b"\n"), ("tables of empty slots", b"ring 1\nslots ", b"-*1048576 ", b"\n"),
                                      ("zeros", b"enter 0\n", b"WRITE zeros=4294967295\n", b""), ("fills of zeros", b"", b"fill 0 buffer=0 zeros=16\n", b""),
-                                     ("rings that end", b"", b"ring 0 ends\n", b""), ("entries of version 3", b"enter 0\n", b"NOP\n", b"")):
+                                     ("rings that end", b"", b"ring 0 ends\n", b""), ("entries of version 3", b"enter 0\n", b"NOP\n", b""),
+                                     ("sets", b"", b"set 0:0 nothing\n", b""), ("a long path of a set", b"set 0:0 path=", b"/a", b"\n"), ("seeks", b"", b"seek fd:0 pos=1\n", b"")):
         yield label, three + start + piece * (most // len(piece)) + end
     yield "rings", b"uring-trace 3\n" + b"".join(b"ring %d\n" % number for number in range(most // 12))
     yield "ranges", b"uring-trace 3\nfile /a" + b"".join(b" at=%d \"a\"" % (2 * number) for number in range(most // 14)) + b"\n"

@@ -191,6 +191,28 @@ class NewRing(NamedTuple):
     full: Sequence[Tuple[int, Holder]]
 
 
+# What a slot or a descriptor holds once a record said so.
+NOTHING, OF_PATH, COPY, TAKEN = range(4)
+
+
+class Setting(NamedTuple):
+    """What a slot or a descriptor holds from there on: nothing, a new description of a path at a position, what another one holds, or what is no file."""
+
+    file: Holder
+    what: int
+    source: Optional[Holder] = None
+    flags: int = 0
+    position: int = 0
+    path: bytes = b""
+
+
+class Seek(NamedTuple):
+    """The position of what a slot or a descriptor holds."""
+
+    file: Holder
+    position: int
+
+
 class Reply(NamedTuple):
     result: int
     posted: bool
@@ -199,7 +221,7 @@ class Reply(NamedTuple):
 
 
 Answer = Tuple[int, Optional[bytes]]
-Step = Union[Entry, Fill, NewRing]
+Step = Union[Entry, Fill, NewRing, Setting, Seek]
 
 
 class Chain:
@@ -395,7 +417,37 @@ class World:
         """The number of the description that a slot, a descriptor or the start has."""
         if holder.what == DESCRIPTION:
             return holder.number
-        return (self.slots[holder.ring] if holder.what == SLOT else self.table)[holder.number]
+        return self.handles_with(holder)[holder.number]
+
+    def handles_with(self, holder: Holder) -> List[Optional[int]]:
+        """The slots of a ring, or the descriptors, of which one is meant."""
+        return self.slots[holder.ring] if holder.what == SLOT else self.table
+
+    def set_held(self, place: int, step: Setting) -> None:
+        """A slot or a descriptor holds something else."""
+        handles, number = self.handles_with(step.file), step.file.number
+        made = self.described + place
+        if step.what == COPY:
+            handles[number] = self.held_by(step.source)
+        elif step.what == TAKEN:
+            self.descriptions[made] = Description(0, 0, 0, 0)
+            handles[number] = made
+        else:
+            handles[number] = None
+        if step.what == OF_PATH:
+            going = self.opening(place, handles, number, AT_FDCWD, step.path, step.flags)
+            try:
+                next(going)
+            except Failed:
+                return
+            next(going, None)
+            self.descriptions[made].position = step.position
+
+    def seek(self, step: Seek) -> None:
+        """What a slot or a descriptor holds gets a position, where it holds something."""
+        number = self.held_by(step.file)
+        if number is not None:
+            self.descriptions[number].position = step.position
 
     def held(self, ring: int, entry: Entry) -> Optional[int]:
         """The number of the description to which `fd` leads."""
@@ -522,16 +574,23 @@ class World:
         self.nodes[description.node].resize(entry.offset)
 
     def open_at(self, place: int, ring: int, entry: Entry) -> Iterator[Answer]:
-        flags, access = entry.own_flags, entry.own_flags & 3
         handles, number = self.room(ring, entry)
-        parent, name, found = self.walk_from(entry.fd, entry.side)
+        going = self.opening(place, handles, number, entry.fd, entry.side, entry.own_flags)
+        next(going)
+        yield 0 if entry.file_index else number, None
+        next(going, None)
+
+    def opening(self, place: int, handles: List[Optional[int]], number: int, fd: int, path: bytes, flags: int) -> Iterator[None]:
+        """Opens a path where a description of it is to be held: is Failed, or changes the world only where it is asked to go on."""
+        access = flags & 3
+        parent, name, found = self.walk_from(fd, path)
         node = self.items + 1 + place if found is None else found
         is_directory = found is not None and self.is_directory(found)
         need(found is not None or bool(flags & CREAT), ENOENT)
         need(found is None or not (flags & CREAT and flags & EXCL), EEXIST)
         need(not is_directory or not flags & (CREAT | TRUNC) and access == 0, EISDIR)
         need(found is None or is_directory or not flags & A_DIRECTORY, ENOTDIR)
-        yield 0 if entry.file_index else number, None
+        yield
         if found is None:
             self.nodes[node] = Bytes(0)
             parent[name] = node
@@ -662,16 +721,35 @@ def test(version: int, entry: Entry) -> None:
     if opcode == STATX:
         need(entry.length < 1 << 31 and not own & ~STATX_FLAGS and own & BOTH_SYNCS != BOTH_SYNCS, EINVAL)
     if opcode == OPENAT:
-        need(own & 3 != 3 and not own & ~KNOWN and not (own & CREAT and own & A_DIRECTORY), EINVAL)
-        need(not (own & CLOEXEC and entry.file_index) and entry.file_index != LAST, EINVAL)
+        need(are_open_flags(own, entry.file_index), EINVAL)
     if opcode == CLOSE:
         need(not (entry.file_index and entry.fd) and entry.file_index != LAST, EINVAL)
     allowed = {RENAMEAT: (0, 1) if version == 1 else (0, 1, 2), UNLINKAT: (0, 0x200), LINKAT: (0, 0x400)}
     need(opcode not in allowed or own in allowed[opcode], EINVAL)
     for path in entry.paths() if opcode in (*names, STATX) and not entry.has_no_path() else ():
-        need(path != b"", ENOENT)
-        need(len(path) <= 4095, ENAMETOOLONG)
-        need(not path.endswith(b"/") and not {b".", b".."} & set(path.split(b"/")), EINVAL)
+        test_path(path)
+
+
+def are_open_flags(flags: int, index: int) -> bool:
+    """Whether OPENAT takes these flags with this file index."""
+    is_known = flags & 3 != 3 and not flags & ~KNOWN and not (flags & CREAT and flags & A_DIRECTORY)
+    return is_known and not (flags & CLOEXEC and index) and index != LAST
+
+
+def test_path(path: bytes) -> None:
+    """The tests of a path of a call."""
+    need(path != b"", ENOENT)
+    need(len(path) <= 4095, ENAMETOOLONG)
+    need(not path.endswith(b"/") and not {b".", b".."} & set(path.split(b"/")), EINVAL)
+
+
+def is_call_path(path: bytes) -> bool:
+    """Whether a path passes these, and has no zero byte."""
+    try:
+        test_path(path)
+    except Failed:
+        return False
+    return 0 not in path
 
 
 def run_step(world: World, chain: Chain, at: int) -> Reply:
@@ -683,6 +761,9 @@ def run_step(world: World, chain: Chain, at: int) -> Reply:
     if isinstance(step, NewRing):
         for number, holder in step.full:
             world.slots[chain.ring][number] = world.held_by(holder)
+        return Reply(0, False)
+    if isinstance(step, (Setting, Seek)):
+        world.set_held(chain.first + at, step) if isinstance(step, Setting) else world.seek(step)
         return Reply(0, False)
     if chain.is_doomed:
         return Reply(-(chain.faults[at] or ECANCELED), at == 0 or not chain.steps[0].flags & SKIP)

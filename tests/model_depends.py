@@ -73,13 +73,13 @@ class Handling(NamedTuple):
 
 
 def handlings(uses: Sequence[Use]) -> List[Handling]:
-    """One, unless it is a new ring, which may read several descriptors, or none."""
+    """One, unless it reads several descriptors, as a new ring may, or reads one and writes another, or uses none."""
     own = [it for it in uses if isinstance(it.item, Item) and it.item.kind == DESCRIPTOR]
-    is_wide = any(isinstance(it.item, All) for it in uses)
     written = next((it.item for it in own if it.is_written), None)
-    if is_wide or written:
-        return [Handling(is_wide, written, next((it.item for it in own if not is_wide and not it.is_written), None))]
-    return [Handling(False, None, it.item) for it in own]
+    if any(isinstance(it.item, All) for it in uses):
+        return [Handling(True, written, None)]
+    read = [Handling(False, None, it.item) for it in own if it.item != written]
+    return [*read, *([Handling(False, written, None)] if written else [])]
 
 
 def in_conflict(ways: Sequence[Handling], others: Sequence[Handling]) -> bool:
@@ -92,7 +92,7 @@ class Descriptors:
     """All descriptors, as one part of the world."""
 
     def __init__(self) -> None:
-        self.each: Dict[Item, Part] = {}
+        self.each: Dict[AnyItem, Part] = {}
         self.taker: Optional[User] = None
         # Those that have closed one, or looked in vain, since one was taken.
         self.since: List[User] = []
@@ -110,13 +110,11 @@ class Descriptors:
         return runs[-1] if runs else self.latest()
 
     def before(self, way: Handling) -> List[User]:
-        """For whom a place waits that uses the descriptors so."""
+        """For whom a place may wait that uses the descriptors so."""
+        own = self.each.get(way.written or way.read or ALL_DESCRIPTORS, Part())
         if not way.written:
-            return self.alike(True) if way.is_wide else self.each.get(way.read, Part()).writers()
-        others, own = self.last_alike() if way.is_wide else self.alike(False), self.each.get(way.written, Part())
-        # Who wrote this descriptor is left out where others have used it since.
-        passed = [it.place for it in own.writers() if own.readers]
-        return [*own.readers, *(it for it in others if it.place not in passed)]
+            return self.alike(True) if way.is_wide else own.writers()
+        return [*(self.last_alike() if way.is_wide else self.alike(False)), *own.writers(), *own.readers]
 
     def add(self, place: int, way: Handling) -> None:
         if way.is_wide and way.written:
@@ -166,9 +164,8 @@ class Known:
         return dict(sorted(found.items()))
 
     def is_passed(self, place: int, ways: List[Handling]) -> bool:
-        """Whether one of both uses several descriptors, and a place between them conflicts with both."""
-        is_several = max(len(ways), len(self.ways[place])) > 1
-        return is_several and any(in_conflict(it, self.ways[place]) and in_conflict(it, ways) for it in self.ways[place + 1 :])
+        """Whether a place between them conflicts with both."""
+        return any(in_conflict(it, self.ways[place]) and in_conflict(it, ways) for it in self.ways[place + 1 :])
 
     def add(self, place: int, uses: Sequence[Use]) -> None:
         self.ways.append(handlings(uses))

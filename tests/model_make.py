@@ -5,7 +5,7 @@ from typing import Any, Callable, Dict, List, NamedTuple, Optional, Tuple
 
 import record_traces
 from drawing import LAST
-from model_text import ACCESSES, BITS, ENTRY_FLAGS, ESCAPES, KEYS, OPERATIONS, ORDER, Table, style_of
+from model_text import ACCESSES, BITS, ENTRY_FLAGS, ESCAPES, KEYS, OPEN, OPERATIONS, ORDER, Table, style_of
 from record_traces import DESCRIPTION, DESCRIPTOR, SLOT, Holder
 from traces import ENTRY, READV, WRITE, WRITEV, description, directory, file, fill, head, name, two_paths, with_side
 
@@ -524,12 +524,16 @@ class RecordsReader(Reader):
 
     def records(self) -> int:
         rings = count = 0
-        while self.first().text in (b"ring", b"enter", b"fill"):
+        while self.first().text in (b"ring", b"enter", b"fill", b"set", b"seek"):
             line = self.pass_word(self.first())
             if line.text == b"enter":
                 self.enter(line, 0)
             elif line.text == b"fill":
                 self.fill(line)
+            elif line.text == b"set":
+                self.set(line)
+            elif line.text == b"seek":
+                self.seek(line)
             elif self.is_end_of_ring():
                 self.ring_ends(line)
             else:
@@ -537,6 +541,48 @@ class RecordsReader(Reader):
                 rings += 1
             count += 1
         return count
+
+    def held(self, word: Word) -> Holder:
+        """A slot or a descriptor."""
+        held = self.holder(word)
+        if held[0] == DESCRIPTION:
+            raise Refused(word.at, "expected a slot or a descriptor: RING:N or fd:N")
+        return held
+
+    def set(self, line: Word) -> None:
+        held = self.held(self.next())
+        word = self.peek()
+        path, other = word.value("path"), word.value("of")
+        if word.text in (b"nothing", b"taken"):
+            made = record_traces.set_nothing(held) if word.text == b"nothing" else record_traces.set_taken(held)
+            self.next()
+        elif other is not None:
+            made = record_traces.set_copy(held, self.held(other))
+            self.next()
+        elif path is not None:
+            made = self.opened(held, path)
+        else:
+            raise Refused(word.at, "expected nothing, path=PATH, of=RING:N, of=fd:N or taken")
+        self.end()
+        self.add(line, made)
+
+    def opened(self, held: Holder, path: Word) -> bytes:
+        """What holds a new description of a path."""
+        text = path_of(path)
+        self.next()
+        word, flags = self.peek().value("open_flags"), 0
+        if word is not None:
+            flags = number_of(word, 32, "flags", OPEN)
+            self.next()
+        return record_traces.set_path(held, text, flags, self.keyed("pos", 64) or 0)
+
+    def seek(self, line: Word) -> None:
+        held = self.held(self.next())
+        position = self.keyed("pos", 64)
+        if position is None:
+            raise Refused(self.peek().at, "expected pos=N")
+        self.end()
+        self.add(line, record_traces.seek(held, position))
 
     def is_end_of_ring(self) -> bool:
         """Whether the second word from here is `ends`."""

@@ -3,14 +3,14 @@ Traces of other versions are model.py's."""
 from typing import List, Optional, Tuple
 
 import model
-from model import DESCRIPTOR, LAST, SLOT, Bytes, Chain, Entry, Fill, Given, Holder, NewRing, Reader, Refused, World, entry_of, within
+from model import COPY, DESCRIPTION, DESCRIPTOR, HALF, LAST, OF_PATH, SLOT, TAKEN, Bytes, Chain, Entry, Fill, Given, Holder, NewRing, Reader, Refused, Seek, Setting, World, entry_of, within
 from traces import GREATEST_SIZE, WRITE, WRITEV
 
 MOST_ITEMS, MOST_NUMBERS, MOST_BUFFERS, MOST_OF_RECORD, MOST_PLACES = 1 << 24, 1 << 20, 16_384, 32_768, 1 << 31
 BEGINNING = b"URINGTRC\3\0\0\0"
 # The forms of an entry. What begins a record.
 STORED, ZEROS, GIVEN, REFUSED = range(4)
-ENTRIES, FILL, RING, RING_ENDS, END = 1, 2, 5, 6, 7
+ENTRIES, FILL, SET, SEEK, RING, RING_ENDS, END = range(1, 8)
 
 
 class Records(World):
@@ -68,8 +68,8 @@ class Records(World):
         """Reads the next record, if it is not the end."""
         source, begin = self.source, self.source.next
         kind = source.field("B")
-        within(kind in (ENTRIES, FILL, RING, RING_ENDS, END), "Limit", begin)
-        within(kind not in (FILL, RING) or self.places < MOST_PLACES, "Limit", begin)
+        within(ENTRIES <= kind <= END, "Limit", begin)
+        within(kind not in (FILL, SET, SEEK, RING) or self.places < MOST_PLACES, "Limit", begin)
         within(kind != RING or len(self.slots) < MOST_NUMBERS, "Limit", begin)
         if kind == ENTRIES:
             ring, count = self.ring(), source.number("H", MOST_OF_RECORD)
@@ -78,6 +78,12 @@ class Records(World):
         elif kind == FILL:
             ring = self.ring()
             self.add_step(ring, self.next_fill(ring))
+        elif kind == SET:
+            file = self.holder(DESCRIPTOR)
+            self.add_step(file.ring if file.what == SLOT else LAST, self.next_setting(file))
+        elif kind == SEEK:
+            file = self.holder(DESCRIPTOR)
+            self.add_step(file.ring if file.what == SLOT else LAST, Seek(file, source.number("Q", HALF - 1)))
         elif kind == RING:
             made = self.new_ring()
             self.add_step(len(self.slots) - 1, made)
@@ -86,8 +92,9 @@ class Records(World):
         return kind != END
 
     def add_step(self, ring: int, step: model.Step) -> None:
-        """A step that is a chain of its own."""
-        self.chains.append(Chain(len(self.chains), self.places, ring, [step], queue=self.queues[ring]))
+        """A step that is a chain of its own. One on a descriptor has a queue that no entry has."""
+        queue = LAST if ring == LAST else self.queues[ring]
+        self.chains.append(Chain(len(self.chains), self.places, ring, [step], queue=queue))
         self.places += 1
 
     def ring(self) -> int:
@@ -124,6 +131,20 @@ class Records(World):
         within(offset + count <= buffers[buffer][1].size, "Reference", at)
         return Fill(buffer, offset, Bytes(count, source.take(count if form == 0 else 0)))
 
+    def next_setting(self, file: Holder) -> Setting:
+        source = self.source
+        what = source.number("B", TAKEN)
+        if what == COPY:
+            return Setting(file, what, self.holder(DESCRIPTOR))
+        if what != OF_PATH:
+            return Setting(file, what)
+        flags = source.field("I")
+        within(model.are_open_flags(flags, 0), "Limit", source.at)
+        position = source.number("Q", HALF - 1)
+        path = source.take(source.field("H"))
+        within(model.is_call_path(path), "Path", source.at)
+        return Setting(file, what, None, flags, position, path)
+
     def new_ring(self) -> NewRing:
         queue = self.source.field("I")
         within(queue == LAST or queue < len(self.slots), "Reference", self.source.at)
@@ -136,8 +157,8 @@ class Records(World):
         self.slots.append([None] * size)
         return NewRing(full)
 
-    def holder(self) -> Holder:
-        what = self.source.number("B", 2)
+    def holder(self, most: int = DESCRIPTION) -> Holder:
+        what = self.source.number("B", most)
         ring = self.ring() if what == SLOT else self.number(0)
         count = len(self.slots[ring]) if what == SLOT else len(self.table) if what == DESCRIPTOR else self.described
         return Holder(what, ring, self.number(count - 1, 0, "Reference"))

@@ -3,7 +3,8 @@ from typing import Any, Dict, Iterable, Iterator, List, NamedTuple, Optional, Se
 
 import model
 import model_records
-from model import ADVICE, AT_POSITION, CREAT, LAST, READS, TRUNC, WRITES, Chain, Entry, Fill, Holder, NewRing, Step, World, run_step, visible
+from model import ADVICE, AT_POSITION, COPY, CREAT, LAST, OF_PATH, READS, TAKEN, TRUNC, WRITES, Chain, Entry, Fill, Holder, NewRing, Seek, Setting, Step, World, run_step
+from model import visible
 from traces import AT_FDCWD, CLOSE, FALLOCATE, FIXED_FILE, FSYNC, FTRUNCATE, GREATEST_SIZE, LINKAT, MKDIRAT, OPENAT, READ_FIXED
 from traces import RENAMEAT, STATX, UNLINKAT, WRITE_FIXED
 
@@ -84,7 +85,7 @@ def common(one: AnyItem, other: AnyItem) -> Optional[AnyItem]:
     if isinstance(one, All):
         one, other = other, one
     if isinstance(other, All):
-        return one if one.kind in other.kinds and one.owner < other.end else None
+        return one if one.kind in other.kinds and one.owner < other.end and one.low < one.end else None
     low, end = max(one.low, other.low), min(one.end, other.end)
     return one._replace(low=low, end=end) if one[:3] == other[:3] and low < end else None
 
@@ -172,6 +173,10 @@ def row(world: World, place: Place) -> List[Use]:
         return [written(BUFFER, (ring, step.buffer), step.offset, step.offset + step.data.size)]
     if isinstance(step, NewRing):
         return row_of_ring(ring, step)
+    if isinstance(step, Setting):
+        return row_of_setting(world, place, step)
+    if isinstance(step, Seek):
+        return row_of_seek(world, step)
     if step.given:
         return []
     if step.opcode in (*MOVING, *SYNCING):
@@ -204,6 +209,31 @@ def size_read(world: World, node: Optional[int]) -> List[Use]:
 def row_of_ring(ring: int, step: NewRing) -> List[Use]:
     """A new ring reads, of each of its full slots, what gives it its content, and writes the slot."""
     return [it for number, holder in step.full for it in (*(Use(item, False) for item in item_of(holder)), written(SLOT, (ring, number)))]
+
+
+def row_of_setting(world: World, place: Place, step: Setting) -> List[Use]:
+    """A set writes its slot or descriptor; what another one holds is read; a new description is made, by a path as OPENAT makes it."""
+    held = [Use(it, True) for it in item_of(step.file)]
+    if step.what == COPY:
+        return [*(Use(it, False) for it in item_of(step.source)), *held]
+    if step.what == TAKEN:
+        return [read(COUNT, 0), *held, *new_description(world, place)]
+    if step.what != OF_PATH:
+        return held
+    path = way(world, AT_FDCWD, step.path)
+    return [*path.looked_up(), *held, *new_description(world, place), *row_of_way(world, place, path, step.flags)]
+
+
+def row_of_seek(world: World, step: Seek) -> List[Use]:
+    """A seek reads what leads to a description, and writes the position."""
+    held = world.held_by(step.file)
+    opened = [] if held is None else [read(DESCRIPTION, held), written(POSITION, held)]
+    return [*(Use(it, False) for it in item_of(step.file)), *opened]
+
+
+def new_description(world: World, place: Place) -> List[Use]:
+    number = world.described + place.number
+    return [made(DESCRIPTION, number), made(POSITION, number)]
 
 
 def item_of(holder: Holder) -> List[Item]:
@@ -264,13 +294,17 @@ def lengthens(world: World, held: int, entry: Entry) -> bool:
 
 
 def row_of_open(world: World, place: Place, entry: Entry) -> List[Use]:
-    path, description = way(world, entry.fd, entry.side), world.described + place.number
-    uses = [*path.looked_up(), *room(world, place.chain.ring, entry), made(DESCRIPTION, description), made(POSITION, description)]
-    if path.last and path.found is None and entry.own_flags & CREAT:
-        uses += [*path.changed(), made(SIZE, world.items + 1 + place.number)]
-    if path.found is not None and not world.is_directory(path.found) and entry.own_flags & TRUNC:
-        uses += [written(SIZE, path.found), written(BYTES, path.found, 0, GREATEST_SIZE)]
-    return uses
+    path = way(world, entry.fd, entry.side)
+    return [*path.looked_up(), *room(world, place.chain.ring, entry), *new_description(world, place), *row_of_way(world, place, path, entry.own_flags)]
+
+
+def row_of_way(world: World, place: Place, path: Way, flags: int) -> List[Use]:
+    """What is opened where a path leads: the name of a file that is made, all of one that is cut."""
+    if path.last and path.found is None and flags & CREAT:
+        return [*path.changed(), made(SIZE, world.items + 1 + place.number)]
+    if path.found is not None and not world.is_directory(path.found) and flags & TRUNC:
+        return [written(SIZE, path.found), written(BYTES, path.found, 0, GREATEST_SIZE)]
+    return []
 
 
 def room(world: World, ring: int, entry: Entry) -> List[Use]:
@@ -316,6 +350,10 @@ def used(world: World, place: Place, own: List[Use]) -> List[Use]:
 
 def decides(step: Step, item: AnyItem) -> bool:
     """Whether it hangs on this item of a step which ones the others are."""
+    if isinstance(step, Seek):
+        return bool({SLOT, DESCRIPTOR, DESCRIPTION} & set(kinds(item)))
+    if isinstance(step, Setting):
+        return step.what == OF_PATH and NAME in kinds(item)
     if not isinstance(step, Entry):
         return False
     if step.opcode in MOVING or step.has_no_path():
@@ -346,6 +384,12 @@ def unknown(world: World, place: Place, own: List[Use]) -> List[Use]:
     """What an operation reaches for of which the items are not known."""
     entry, nodes, descriptions = place.step(), world.items + 1 + place.number, world.described + place.number
     contents, names = Use(All((BYTES, SIZE), nodes), True), Use(All((NAME, COUNT), nodes), True)
+    if isinstance(entry, Seek):
+        kept = [it for it in own if {SLOT, DESCRIPTOR} & set(kinds(it.item))]
+        return [*kept, Use(All((POSITION,), descriptions), True), Use(All((DESCRIPTION,), descriptions), False)]
+    if isinstance(entry, Setting):
+        kept = [it for it in own if {SLOT, DESCRIPTOR} & set(kinds(it.item))]
+        return [*kept, names, *([contents] if entry.flags & TRUNC else [])]
     if entry.opcode in MOVING or entry.has_no_path():
         kept = [it for it in own if {SLOT, DESCRIPTOR, BUFFER} & set(kinds(it.item))]
         return [*kept, contents, Use(All((POSITION,), descriptions), True), Use(All((DESCRIPTION,), descriptions), False)]
@@ -355,11 +399,12 @@ def unknown(world: World, place: Place, own: List[Use]) -> List[Use]:
 
 
 def new_ones(world: World, place: Place) -> List[Use]:
-    """All that an OPENAT or a MKDIRAT may make."""
-    step, node, description = place.step(), world.items + 1 + place.number, world.described + place.number
-    if not isinstance(step, Entry) or step.opcode not in (OPENAT, MKDIRAT):
-        return []
-    return [*(made(kind, node) for kind in (SIZE, BYTES, COUNT)), made(DESCRIPTION, description), made(POSITION, description)]
+    """All that an OPENAT, a MKDIRAT or a set may make."""
+    step, node = place.step(), world.items + 1 + place.number
+    if isinstance(step, Setting) and step.what == TAKEN:
+        return new_description(world, place)
+    makes = step.what == OF_PATH if isinstance(step, Setting) else isinstance(step, Entry) and step.opcode in (OPENAT, MKDIRAT)
+    return [*(made(kind, node) for kind in (SIZE, BYTES, COUNT)), *new_description(world, place)] if makes else []
 
 
 def reached_room(step: Step, own: List[Use], reached: Reached) -> List[Use]:

@@ -311,7 +311,7 @@ class Records:
             (kind,) = self.source.numbers("B")
             if kind == 7:
                 return
-            yield from {1: self.enter, 2: self.fill, 5: self.ring, 6: self.ring_ends}[kind]()
+            yield from {1: self.enter, 2: self.fill, 3: self.set, 4: self.seek, 5: self.ring, 6: self.ring_ends}[kind]()
 
     def comment(self, indent: str) -> str:
         """What stands before the next place."""
@@ -347,6 +347,26 @@ class Records:
         ring, buffer, form, offset, length = self.source.numbers("IHBII")
         data = data_text(self.source.bytes(length), "  ", self.most) if form == 0 else " zeros={}".format(length)
         yield self.comment("") + fill_text(ring, buffer, offset, data)
+
+    def holder(self) -> str:
+        """A slot or a descriptor."""
+        return holder_text(*self.source.numbers("BII"))
+
+    def set(self) -> Iterator[str]:
+        yield "{}set {}{}\n".format(self.comment(""), self.holder(), self.content(*self.source.numbers("B")))
+
+    def content(self, what: int) -> str:
+        """What it holds from there on."""
+        if what == 2:
+            return " of={}".format(self.holder())
+        if what != 1:
+            return " nothing" if what == 0 else " taken"
+        flags, position, length = self.source.numbers("IQH")
+        own = " open_flags={}".format(flags_text(flags, OPEN)) if flags else ""
+        return " path={}{}{}".format(path_text(self.source.bytes(length)), own, " pos={}".format(position) if position else "")
+
+    def seek(self) -> Iterator[str]:
+        yield "{}seek {} pos={}\n".format(self.comment(""), self.holder(), *self.source.numbers("Q"))
 
     def ring(self) -> Iterator[str]:
         queue, slots, full = self.source.numbers("3I")

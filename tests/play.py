@@ -301,6 +301,45 @@ def rings_go(player: Player) -> List[Outcome]:
     return outcomes
 
 
+def of_calls() -> bytes:
+    """A trace of version 3 with sets and seeks of each kind, of slots and at a full table, between reads that move a position. What a slot of the second
+    ring gets comes late, but a set of another slot of that ring needs nothing before it."""
+    slot, number = (lambda ring, it: (record_traces.SLOT, ring, it)), (lambda it: (record_traces.DESCRIPTOR, 0, it))
+
+    def read_at(where: record_traces.Holder) -> bytes:
+        fixed = FIXED_FILE if where[0] == record_traces.SLOT else 0
+        return record_traces.enter(min(where[1], 1), [record_traces.stored(entry(READ, fixed, where[2], AT_POSITION, 3))])
+
+    records = [
+        record_traces.ring(3, [(0, (record_traces.DESCRIPTION, 0, 0))]), read_at(slot(0, 0)),
+        record_traces.set_copy(number(1), slot(0, 0)), record_traces.seek(number(1), 5), read_at(slot(0, 0)), record_traces.set_copy(slot(0, 1), number(1)),
+        record_traces.set_nothing(slot(0, 0)), read_at(slot(0, 0)), read_at(slot(0, 1)), record_traces.set_path(number(0), b"/new", 0x42, 1 << 60),
+        record_traces.set_path(slot(0, 2), b"d/new", 0x442), read_at(number(0)), record_traces.set_path(number(0), b"/a", 2, 4), read_at(number(0)),
+        record_traces.set_taken(slot(0, 1)), read_at(slot(0, 1)), record_traces.set_copy(slot(0, 0), slot(0, 2)), record_traces.seek(slot(0, 0), 7),
+        record_traces.set_copy(number(0), number(0)), record_traces.set_path(number(1), b"/no", 0), read_at(number(1)),
+        record_traces.ring(2, [(0, number(0))]), record_traces.set_path(slot(1, 1), b"/a", 0, 8), read_at(slot(1, 0)), read_at(slot(1, 1)),
+        record_traces.seek(number(1), 1), record_traces.set_taken(number(1)), record_traces.ring_ends(0),
+    ]
+    front = [record_traces.head(2, 1, 2, 2), record_traces.file_of(b"/a", 10, b"0123456789"), directory(b"/d"), description(1)]
+    return b"".join([*front, *(record_traces.descriptor(it, 0) for it in range(2)), *records, record_traces.END])
+
+
+def calls(player: Player) -> List[Outcome]:
+    """Sets and seeks are calls of the player's, in each order. Where a kernel does not show what a slot holds, such a one is not played; where a path
+    cannot be opened for a reason that OPENAT does not have, that is told."""
+    trace = of_calls()
+    outcomes = played(player, MODELS, "sets and seeks", trace, player.directories())
+    front, held = record_traces.of_one_file(10, b"0123456789"), (record_traces.SLOT, 0, 0)
+    for label, record, wanted in (("a seek", record_traces.seek(held, 4), UNTRIED), ("a copy", record_traces.set_copy(held, held), UNTRIED),
+                                  ("a set", record_traces.set_nothing(held), 0), ("a set of a path", record_traces.set_path(held, b"/a"), 0)):
+        got = player.with_less(lacking=54).play([], front + record + record_traces.END)
+        is_well = got.status == wanted and (b"what a slot of a ring holds" in got.errors) == (wanted == UNTRIED)
+        outcomes.append(Outcome("the player: {} of a slot, on a kernel without opcode 54".format(label), None if is_well else shown(got)))
+    got = player.with_less(opens=5).play([], front + record_traces.set_path(held, b"/denied", 0x42) + record_traces.END)
+    is_well = got.status == 0 and got.errors == b"uring_play: place 1: /denied cannot be opened: Input/output error\n" and b"tree\nfile /a" in got.output
+    return [*outcomes, Outcome("the player: a path of a set that cannot be opened", None if is_well else shown(got))]
+
+
 def sparse(player: Player) -> List[Outcome]:
     """A file by ranges has its bytes, and takes little room."""
     ranges, name = ((0, b"begin"), (1 << 30, b"middle" * 1_000), ((1 << 33) - 3, b"end")), "the player: files by ranges are sparse"
@@ -411,7 +450,7 @@ def jobs(programs: List[Program]) -> List[Job]:
     program = programs[0]
     shares = (Share("drawn traces"), Share("drawn traces of version 3"))
     each: List[Job] = [partial(it, player, program) for it in (limits_of_version_3, long_chains, silences, stuck, on_less, notices, made_up_for, prepared, play_rows.outcomes)]
-    each += [partial(it, player) for it in (limits, unread, interrupted, too_small, rings_go, sparse, statuses)]
+    each += [partial(it, player) for it in (limits, unread, interrupted, too_small, rings_go, calls, sparse, statuses)]
     each += [partial(compiles, player, it) for it in ("gcc", "clang")]
     each += [partial(play_rows.words_agree, listed_words()), *play_contained.jobs(player, program)]
     each += [partial(drawn, player, program, shares[0], Played, range(at, at + EACH)) for at in range(0, DRAWN, EACH)]

@@ -5,6 +5,7 @@ import tempfile
 from functools import partial
 from typing import Iterator, List, Sequence, Tuple
 
+import record_traces
 from harness import Answer, Job, Outcome, Program, first, shown
 from player import UNTRIED, Player
 from traces import AT_FDCWD, CLOSE, FALLOCATE, FIXED_FILE, FSYNC, FTRUNCATE, LINKAT, MKDIRAT, OPENAT, RENAMEAT, UNLINKAT, WRITE
@@ -120,7 +121,22 @@ def contained(player: Player, program: Program, mode: str, words: Sequence[str],
     return [Outcome(name, first(faults))]
 
 
+def sets(player: Player) -> List[Outcome]:
+    """A set of a path that climbs is refused, and so is one of a number that the table does not have."""
+    front, faults = record_traces.head(0, 0, 3), []
+    each = [(record_traces.set_path((record_traces.DESCRIPTOR, 0, 0), it, 0x242), b"Path at %d\n" % (len(front) + 25)) for it in CLIMBING]
+    each += [(record_traces.set_taken((record_traces.DESCRIPTOR, 0, it)), b"Reference at %d\n" % (len(front) + 6)) for it in (3, 64, (1 << 32) - 1)]
+    with tempfile.TemporaryDirectory(dir=player.folder.name) as top:
+        inner = baited(top)
+        before = seen(top)
+        for record, said in each:
+            got = player.play(["--raw"], front + record, inner)
+            is_well = got == Answer(1, b"", b"uring_play: trace refused: " + said) and seen(top) == before
+            faults += [] if is_well else ["{!r}: {}".format(record, shown(got))]
+    return [Outcome("play: nothing leaves the directory: sets", first(faults))]
+
+
 def jobs(player: Player, program: Program) -> List[Job]:
     places, alone = player.directories(), player.with_less(root=1)
     each: List[Job] = [partial(contained, player, program, mode, words, place) for mode, words in MODES for place in places]
-    return each + [partial(contained, alone, program, mode + ", without chroot", words, places[-1]) for mode, words in ALONE]
+    return [*each, partial(sets, player)] + [partial(contained, alone, program, mode + ", without chroot", words, places[-1]) for mode, words in ALONE]

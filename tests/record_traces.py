@@ -3,18 +3,18 @@ descriptions are those of traces.py. What is of version 2 becomes a part of vers
 import random
 import re
 import struct
-from typing import Any, Dict, List, Sequence, Tuple
+from typing import Any, Dict, Iterator, List, Sequence, Tuple
 
 import traces
 from drawing import ADDRESSES, LAST, WEIGHTS, Second, altered
-from model import READS, WRITES
+from model import READS, WRITES, is_call_path
 from traces import AT_FDCWD, ENTRY, FADVISE, STATX, SYNC_FILE_RANGE, WRITE, WRITEV
 
 END = b"\7"
 # Opcodes that are given, and results of an entry that is given, and of one that is refused on submission.
 POLL_ADD, TIMEOUT, LINK_TIMEOUT, EPOLL_CTL = 6, 11, 15, 29
 RESULTS, REFUSALS = (0, 0, 1, 5, -4, -125, -125, -(1 << 31), (1 << 31) - 1), (-1, -22, -22, -125, -4_095)
-# What a new ring gets in a slot.
+# What a new ring gets in a slot; a set and a seek are about the first two of these.
 SLOT, DESCRIPTOR, DESCRIPTION = 0, 1, 2
 
 Holder = Tuple[int, int, int]
@@ -53,6 +53,31 @@ def fill(number: int, buffer: int, offset: int, data: bytes) -> bytes:
 
 def fill_of_zeros(number: int, buffer: int, offset: int, count: int) -> bytes:
     return struct.pack("<BIHBII", 2, number, buffer, 1, offset, count)
+
+
+def set_nothing(held: Holder) -> bytes:
+    """A slot or a descriptor holds nothing from there on."""
+    return struct.pack("<BBIIB", 3, *held, 0)
+
+
+def set_path(held: Holder, path: bytes, flags: int = 0, position: int = 0) -> bytes:
+    """It holds a new description of a path."""
+    return struct.pack("<BBIIBIQH", 3, *held, 1, flags, position, len(path)) + path
+
+
+def set_copy(held: Holder, other: Holder) -> bytes:
+    """It holds what another one does."""
+    return struct.pack("<BBIIBBII", 3, *held, 2, *other)
+
+
+def set_taken(held: Holder) -> bytes:
+    """It holds what is no file of the tree."""
+    return struct.pack("<BBIIB", 3, *held, 3)
+
+
+def seek(held: Holder, position: int) -> bytes:
+    """The position of what it holds."""
+    return struct.pack("<BBIIQ", 4, *held, position)
 
 
 def stored(entry: bytes) -> bytes:
@@ -144,8 +169,8 @@ class Records(Second):
     tables, fewest, records = (0, 1, 3, 5, 40), 0, 14
     weights = {**WEIGHTS, SYNC_FILE_RANGE: 3, FADVISE: 3, STATX: 7}
     # Of how many entries one is given, and of how many transfers one has flags of its own. Of how many records one is a ring, and of the others the
-    # end of one.
-    each_given, each_flagged, each_ring, each_end = 7, 6, 5, 12
+    # end of one, and of these a set or a seek.
+    each_given, each_flagged, each_ring, each_end, each_set = 7, 6, 5, 12, 4
 
     def __init__(self, seed: int) -> None:
         super().__init__(seed)
@@ -171,6 +196,10 @@ class Records(Second):
         return file(path, size, ranges)
 
     def next_record(self) -> bytes:
+        if (self.there or self.table) and self.rarely(self.each_set):
+            made = self.setting()
+            if made:
+                return made
         if not self.there or self.rarely(self.each_ring):
             return self.new_ring()
         number = self.one(self.there)
@@ -188,6 +217,36 @@ class Records(Second):
         self.slots.append(slots)
         self.buffers.append(buffers)
         return ring(slots, full, buffers, queue)
+
+    def setting(self) -> bytes:
+        """A set or a seek, where there is a slot or a descriptor."""
+        held, other = self.held(), self.held()
+        if not held:
+            return b""
+        what = self.source.randrange(7)
+        if what == 0:
+            return set_nothing(held[0])
+        if what == 1:
+            return set_copy(held[0], other[0])
+        if what == 2:
+            return set_taken(held[0])
+        position = self.one((*self.offsets, (1 << 63) - 1)) if self.rarely(2) else 0
+        if what == 3:
+            return seek(held[0], position)
+        flags = self.one((0, 1, 2, 2)) | self.some(((0x40, 2), (0x80, 6), (0x200, 4), (0x400, 5)))
+        flags |= 0x10000 * (not flags & 0x40 and self.rarely(8)) | 0x80000 * self.rarely(4)
+        path = self.path()
+        return set_path(held[0], path if is_call_path(path) else b"/z", flags, position)
+
+    def held(self) -> List[Holder]:
+        """A slot of a ring that is there, or a descriptor; none where there is neither."""
+        with_slots = [it for it in self.there if self.slots[it]]
+        if self.table and (not with_slots or self.rarely(2)):
+            return [(DESCRIPTOR, 0, self.source.randrange(self.table))]
+        if not with_slots:
+            return []
+        number = self.one(with_slots)
+        return [(SLOT, number, self.source.randrange(self.slots[number]))]
 
     def holder(self) -> Holder:
         with_slots = [it for it in self.there if self.slots[it]]
@@ -252,8 +311,21 @@ def past_limits() -> List[Tuple[str, bytes]]:
         ("a refusal", start + ring() + enter(0, [given_refused(bytes(64), -4_096)])),
         ("a refusal without an error", start + ring() + enter(0, [given_refused(bytes(64), 0)])),
         ("bytes of a record", start + ring() + enter(0, [bytes(64) + struct.pack("<BI", 0, last)])), ("zeros", start + ring() + enter(0, [bytes(64) + b"\1"])),
-        ("forms of a fill", start + ring(buffers=[(0, 9)]) + struct.pack("<BIHB", 2, 0, 0, 2)), ("kinds", start + b"\x08"),
+        ("forms of a fill", start + ring(buffers=[(0, 9)]) + struct.pack("<BIHB", 2, 0, 0, 2)), ("kinds", start + b"\x08"), *past_limits_of_calls(start),
     ]
+
+
+def past_limits_of_calls(start: bytes) -> Iterator[Tuple[str, bytes]]:
+    """The same of sets and seeks, behind the start of a trace with three descriptors."""
+    last = (DESCRIPTOR, 0, 2)
+    for what, made in (("a set", set_nothing), ("a copy", lambda it: set_copy(last, it)), ("a seek", lambda it: seek(it, 0))):
+        for word, held in (("thing", (DESCRIPTION, 0, 0)), ("descriptor", (DESCRIPTOR, 0, 3)), ("ring of a descriptor", (DESCRIPTOR, 1, 0)), ("ring", (SLOT, 1, 0)), ("slot", (SLOT, 0, 2))):
+            yield "the {} of {}".format(word, what), start + ring(2) + made(held)
+    yield "what a set has", start + set_nothing(last)[:-1] + b"\4"
+    yield from (("flags {:#x} of a set".format(it), start + set_path(last, b"/a", it)) for it in (3, 0x10040, 0x200000))
+    yield "the position of a set", start + set_path(last, b"/a", 0, 1 << 63)
+    yield from (("the path {!r} of a set".format(it[:8]), start + set_path(last, it)) for it in (b"", b"/" * 4_096, b"/a/", b"/../a", b"./a", b"/a/.", b"a\0"))
+    yield "the position of a seek", start + seek(last, 1 << 63)
 
 
 def changed(seed: int) -> bytes:

@@ -218,7 +218,9 @@ def looked(at: int) -> bytes:
 def of_sizes() -> List[Tuple[str, List[bytes]]]:
     """Records of each size: an entry, forty, a write of 100 KB, one of 1 MB, one of zeros, and none."""
     zeros = record_traces.zeros(entry(WRITE, FIXED_FILE, length=1 << 24, side=bytes(1 << 24), offset=1 << 21, user_data=9))
-    others = [record_traces.ring(buffers=[(0, 4096)]), record_traces.fill(1, 0, 5, b"abc"), record_traces.enter(0, []), record_traces.ring_ends(1)]
+    slot = (record_traces.SLOT, 0, 0)
+    others = [record_traces.ring(buffers=[(0, 4096)]), record_traces.fill(1, 0, 5, b"abc"), record_traces.enter(0, []), record_traces.ring_ends(1),
+              record_traces.set_path(slot, b"/a", 2), record_traces.seek(slot, 9), record_traces.set_copy(slot, slot)]
     return [
         ("an entry each", [record_traces.enter(0, [looked(it)]) for it in range(5)]),
         ("forty entries each", [record_traces.enter(0, [looked(at + it) for it in range(40)]) for at in range(0, 120, 40)]),

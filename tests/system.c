@@ -5,14 +5,17 @@
  * SYSTEM_RINGS=ERROR: io_uring_setup(2) fails with the error.
  * SYSTEM_LACKING=N: the kernel says that it does not serve the opcode N (IORING_REGISTER_PROBE).
  * SYSTEM_THREADS=1: the kernel refuses entries with IOSQE_ASYNC (EINVAL).
- * SYSTEM_ROOT=ERROR: chroot(2) and unshare(2) fail with the error. */
+ * SYSTEM_ROOT=ERROR: chroot(2) and unshare(2) fail with the error.
+ * SYSTEM_OPENS=ERROR: openat(2) of the path `denied` fails with the error. */
 #define _GNU_SOURCE
 #include <dlfcn.h>
 #include <errno.h>
+#include <fcntl.h>
 #include <linux/io_uring.h>
 #include <sched.h>
 #include <stdarg.h>
 #include <stdlib.h>
+#include <string.h>
 #include <sys/mman.h>
 #include <sys/syscall.h>
 #include <unistd.h>
@@ -51,6 +54,17 @@ int unshare(int flags)
     int (*real)(int) = (int (*)(int))dlsym(RTLD_NEXT, "unshare");
 
     return setting("SYSTEM_ROOT") ? fail(setting("SYSTEM_ROOT")) : real(flags);
+}
+
+int openat(int directory, const char *path, int flags, ...)
+{
+    int (*real)(int, const char *, int, ...) = (int (*)(int, const char *, int, ...))dlsym(RTLD_NEXT, "openat");
+    va_list list;
+
+    va_start(list, flags);
+    mode_t mode = flags & O_CREAT ? va_arg(list, mode_t) : 0;
+    va_end(list);
+    return setting("SYSTEM_OPENS") && !strcmp(path, "denied") ? fail(setting("SYSTEM_OPENS")) : real(directory, path, flags, mode);
 }
 
 /* The entries of the ring that was mapped last. */

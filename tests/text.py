@@ -17,6 +17,8 @@ from harness import Answer, Job, Outcome, Program, difference, first, read
 DRAWN, LOTS = 3_000, 6
 OPCODES = (*range(64), 64, 255)
 NUMBERS = (0, 0, 0, 1, 2, 7, 63, 100, (1 << 31) - 1, 1 << 31, (1 << 32) - 100, (1 << 32) - 1, 1 << 32, (1 << 63) + 5, (1 << 64) - 1)
+# Flags that openat takes, whichever of them they are.
+OPEN_FLAGS = 0x1EDFC2
 PATHS = (b"/a", b"a/b c", b"", b"/\xff\\\n", b"/" + b"n" * 90, b"#", b'"')
 
 
@@ -77,7 +79,7 @@ def of_trace(program: Program, trace: bytes, most: int) -> Optional[str]:
 
 
 class FieldsOfRecords(Fields):
-    """The same of version 3: rings that continue queues and get slots of each kind, and entries of both forms."""
+    """The same of version 3: rings that continue queues and get slots of each kind, entries of both forms, and sets and seeks."""
 
     def written(self) -> bytes:
         """An entry, with zeros where it may have some, or with a result that is given."""
@@ -102,6 +104,18 @@ class FieldsOfRecords(Fields):
             return what, self.source.randrange(rings), self.source.randrange(30)
         return (record_traces.DESCRIPTOR, 0, self.source.randrange(table)) if what and table else (record_traces.DESCRIPTION, 0, self.source.randrange(2))
 
+    def held(self, table: int, rings: int) -> record_traces.Holder:
+        found = self.holder(table, rings)
+        return (record_traces.SLOT, 0, 0) if found[0] == record_traces.DESCRIPTION else found
+
+    def call(self, table: int, rings: int) -> bytes:
+        """A set or a seek, with any position, and flags that openat takes."""
+        held, path = self.held(table, rings), self.source.choice(PATHS) or b"a"
+        return self.source.choice((
+            record_traces.set_nothing(held), record_traces.set_taken(held), record_traces.set_copy(held, self.held(table, rings)),
+            record_traces.seek(held, self.number(63)), record_traces.set_path(held, path, self.number(32) & OPEN_FLAGS, self.number(63)),
+        ))
+
     def trace(self) -> bytes:
         ranges, table = self.ranges(), self.source.randrange(30)
         size = ranges[-1][0] + len(ranges[-1][1]) if ranges else 0
@@ -118,6 +132,7 @@ class FieldsOfRecords(Fields):
             data = self.data()[:1_000]
             records.append(record_traces.enter(ring, [self.written() for _ in range(self.source.randrange(6))]))
             records += [record_traces.fill(ring, 0, 0, data), record_traces.fill_of_zeros(ring, 0, self.source.randrange(9), len(data) // 2)]
+            records.append(self.call(table, ring + 1))
         front = record_traces.head(len(items), len(described), table, len(full))
         return b"".join([front, *items, *described, *full, *records, record_traces.ring_ends(ring), record_traces.END])
 
