@@ -4,13 +4,15 @@ from typing import Iterator, List, NamedTuple, Optional, Tuple, Union
 
 import record_traces
 import traces
-from record_traces import DESCRIPTION
+from record_traces import DESCRIPTION, Holder
 from traces import WRITE, WRITEV
 
 DIRECTORY, FILE, NAME = 1, 2, 3
 # The forms of an entry of version 3; what begins a record.
 STORED, ZEROS, GIVEN, REFUSED = range(4)
-ENTER, FILL, RING, RING_ENDS, END = 1, 2, 5, 6, 7
+ENTER, FILL, SET, SEEK, RING, RING_ENDS, END = range(1, 8)
+# What a slot or a descriptor holds once a set said so.
+NOTHING, OF_PATH, COPY, TAKEN = range(4)
 # The queue of a ring that continues no other, and the most bytes that a write moves.
 OWN, MOST_MOVED = (1 << 32) - 1, 0x7FFFF000
 
@@ -109,7 +111,7 @@ class NewRing(NamedTuple):
     of the text, and its slots get descriptions of the start."""
 
     slots: int
-    full: Tuple[Tuple[int, record_traces.Holder], ...]
+    full: Tuple[Tuple[int, Holder], ...]
     buffers: Tuple[Tuple[int, int], ...]
     queue: int = OWN
 
@@ -127,7 +129,35 @@ class RingEnds(NamedTuple):
         return record_traces.ring_ends(self.ring)
 
 
-Record = Union[Enter, Fill, NewRing, RingEnds]
+class Setting(NamedTuple):
+    """What a slot or a descriptor holds from there on: nothing, a path that is opened, what another one holds, or what is no file of the tree."""
+
+    file: Holder
+    what: int
+    source: Optional[Holder] = None
+    flags: int = 0
+    position: int = 0
+    path: bytes = b""
+
+    def text(self, _: int) -> bytes:
+        if self.what == OF_PATH:
+            return record_traces.set_path(self.file, self.path, self.flags, self.position)
+        if self.source:
+            return record_traces.set_copy(self.file, self.source)
+        return (record_traces.set_taken if self.what == TAKEN else record_traces.set_nothing)(self.file)
+
+
+class Seek(NamedTuple):
+    """The position of what a slot or a descriptor holds."""
+
+    file: Holder
+    position: int
+
+    def text(self, _: int) -> bytes:
+        return record_traces.seek(self.file, self.position)
+
+
+Record = Union[Enter, Fill, NewRing, RingEnds, Setting, Seek]
 
 
 class Trace(NamedTuple):
@@ -156,7 +186,7 @@ class Trace(NamedTuple):
         """How many places a record has."""
         if isinstance(record, Enter):
             return len(record.entries)
-        return int(isinstance(record, Fill) or isinstance(record, NewRing) and self.version == 3)
+        return int(isinstance(record, (Fill, Setting, Seek)) or isinstance(record, NewRing) and self.version == 3)
 
     def entries(self) -> Iterator[Tuple[int, int, int, Entry]]:
         """Each entry, behind the number of its record, its number there, and its place."""
@@ -254,11 +284,25 @@ def fill_of(source: Source, ring: int) -> Fill:
     return Fill(ring, buffer, offset, count, None if form else source.take(count))
 
 
+def set_of(source: Source) -> Setting:
+    file, what = source.fields("BII"), source.number("B")
+    if what == COPY:
+        return Setting(file, what, source.fields("BII"))
+    if what != OF_PATH:
+        return Setting(file, what)
+    flags, position, length = source.fields("IQH")
+    return Setting(file, what, None, flags, position, source.take(length))
+
+
 def records_of(source: Source) -> Iterator[Record]:
     kind = source.number("B")
     while kind != END:
         if kind == RING:
             yield new_ring_of(source)
+        elif kind == SET:
+            yield set_of(source)
+        elif kind == SEEK:
+            yield Seek(source.fields("BII"), source.number("Q"))
         else:
             ring = source.number("I")
             if kind == ENTER:

@@ -5,17 +5,13 @@
 
 #include <errno.h>
 
-/* open(2) on x86-64; the profile has no other flags. */
-#define KNOWN_OPEN_FLAGS 0x1fdfc3U
-#define CREATED_DIRECTORY 0x10040U
-
 /* Modes of FALLOCATE that some Linux serves and the profile does not: linux/falloc.h. */
 enum { COLLAPSE = 0x08, INSERT = 0x20, UNSHARE = 0x40, WRITE_ZEROES = 0x80 };
 enum { OTHER_MODES = COLLAPSE | INSERT | UNSHARE | WRITE_ZEROES };
 enum { RENAME_NOT_ONTO = 1, RENAME_SWAPS = 2, RENAME_LEAVES_A_DEVICE = 4 };
 enum { LINK_EMPTY_PATH = 0x1000, LINK_FOLLOWS = 0x400 };
 
-enum { MOST_PATH = 4095, MOST_ALLOCATED = 64 << 20 };
+enum { MOST_ALLOCATED = 64 << 20 };
 
 /* Vectors behind the first that are as long reach beyond the addresses of a process. */
 #define LONG_VECTOR (1ULL << 46)
@@ -32,27 +28,6 @@ const char *const apart_words[APARTS] = {
 
 /* --- Entries that are not played ----------------------------------------------------------------
  */
-
-/* A last slash, or a component `.` or `..`. */
-static bool is_odd(struct span path)
-{
-	u64 from = 0;
-
-	if (!path.length || path.length > MOST_PATH)
-		return false;
-	if (path.bytes[path.length - 1] == '/')
-		return true;
-	for (u64 at = 0; at <= path.length; at++) {
-		if (at < path.length && path.bytes[at] != '/')
-			continue;
-		if (at - from == 1 && path.bytes[from] == '.')
-			return true;
-		if (at - from == 2 && path.bytes[from] == '.' && path.bytes[from + 1] == '.')
-			return true;
-		from = at + 1;
-	}
-	return false;
-}
 
 static bool has_odd_path(const struct entry *entry)
 {

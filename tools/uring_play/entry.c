@@ -56,6 +56,26 @@ struct span new_path_of(const struct entry *entry)
 	return (struct span){ entry->side + 2 + length, entry->side_length - 2 - length };
 }
 
+bool is_odd(struct span path)
+{
+	u64 from = 0;
+
+	if (!path.length || path.length > MOST_PATH)
+		return false;
+	if (path.bytes[path.length - 1] == '/')
+		return true;
+	for (u64 at = 0; at <= path.length; at++) {
+		if (at < path.length && path.bytes[at] != '/')
+			continue;
+		if (at - from == 1 && path.bytes[from] == '.')
+			return true;
+		if (at - from == 2 && path.bytes[from] == '.' && path.bytes[from + 1] == '.')
+			return true;
+		from = at + 1;
+	}
+	return false;
+}
+
 bool is_advice(u8 opcode)
 {
 	return trace.version == 3 && (opcode == OP_SYNC_FILE_RANGE || opcode == OP_FADVISE);

@@ -19,8 +19,16 @@ struct span {
 	const u8 *bytes;
 	u64 length;
 };
+/* Whether it has a last slash, or a component `.` or `..`; one that is empty or too long has not.
+ */
+bool is_odd(struct span path);
+enum { MOST_PATH = 4095 };
 struct span path_of(const struct entry *entry);
 struct span new_path_of(const struct entry *entry);
+/* open(2) on x86-64; the profile has no other flags. */
+#define KNOWN_OPEN_FLAGS 0x1fdfc3U
+#define CREATED_DIRECTORY 0x10040U
+
 /* Whether an opcode has a path, and whether it has two. */
 bool is_on_names(u8 opcode);
 bool has_two_paths(u8 opcode);

@@ -20,7 +20,7 @@
 
 enum { ARENAS = 4, ARENA = 64 << 20, GREAT = 4 << 20, FOLDED = 64 << 20, PAGE = 4096 };
 /* A process has some 65,000 mappings at most, and a great read some 33. */
-enum { BEHIND_FIELDS = 48, CROWDED = 64, MODE_OF_FILES = 0644, MODE_OF_DIRECTORIES = 0755 };
+enum { BEHIND_FIELDS = 48, CROWDED = 64, MODE_OF_DIRECTORIES = 0755 };
 enum { KIND_DIRECTORY = 1, KIND_FILE = 2 };
 /* Low enough that vectors of many bytes stay below the end of all addresses, where it is free. */
 #define LOW_ADDRESS ((u8 *)(1UL << 45))
@@ -300,8 +300,13 @@ static bool looks_at_flags(u8 opcode)
 	       (is_on_names(opcode) && opcode != OP_MKDIRAT);
 }
 
+u32 kept_open_flags(u32 flags)
+{
+	return options.raw ? flags : flags & ~(FLAG_DIRECT | FLAG_NO_ACCESS_TIME);
+}
+
 /* The fields that the profile does not look at become zero, unless all is played as it stands, and
- * two flags that have no effect by it, and ask much of a file system. */
+ * so do some flags. */
 static void keep_named(struct io_uring_sqe *sqe)
 {
 	const struct io_uring_sqe all = *sqe;
@@ -326,7 +331,7 @@ static void keep_named(struct io_uring_sqe *sqe)
 	if (opcode == OP_OPENAT || opcode == OP_CLOSE)
 		named.file_index = all.file_index;
 	if (opcode == OP_OPENAT)
-		named.open_flags &= ~(FLAG_DIRECT | FLAG_NO_ACCESS_TIME);
+		named.open_flags = kept_open_flags(all.open_flags);
 	*sqe = named;
 }
 

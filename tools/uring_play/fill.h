@@ -13,6 +13,10 @@ u32 hold_memory(void);
 void let_memory_go(u32 number);
 /* Fills a submission entry. */
 void fill_entry(struct entry *entry, struct io_uring_sqe *sqe);
+/* The mode of a file that is made; and flags of open(2), but for those that have no effect by the
+ * profile and ask much of a file system, unless all is played as it stands. */
+enum { MODE_OF_FILES = 0644 };
+u32 kept_open_flags(u32 flags);
 /* The bytes that a WRITE or WRITEV brings. */
 const u8 *bytes_written(const struct entry *entry);
 /* Keeps the first bytes that a played read brought. */

@@ -77,7 +77,7 @@ static u32 *make_units(void)
 	parts = allocate(trace.places * sizeof *parts);
 	for (u32 number = 0; number < trace.record_count; number++) {
 		const struct record *record = &trace.records[number];
-		if (record->kind == RECORD_FILL || record->kind == RECORD_RING)
+		if (is_step(record))
 			add_unit(unit_of, record, record->place, 1);
 		for (u32 from = 0, count; from < record->count; from += count) {
 			count = chain_length(record, from);
@@ -93,17 +93,14 @@ static u32 *make_units(void)
 /* Of a place that uses rings which the trace makes, the units that make them. */
 static void each_maker(u32 place, const u32 *unit_of, void (*each)(u32 earlier, u32 unit))
 {
-	const struct record *record = trace.record_at[place];
-	u32 ring = record ? record->ring : trace.by_place[place]->ring;
-	u32 maker = unit_of[trace.rings[ring].place];
+	u32 ring = ring_of(place), unit = unit_of[place];
+	const struct holder *it;
 
-	if (maker != unit_of[place])
-		each(maker, unit_of[place]);
-	for (u32 at = 0; record && record->kind == RECORD_RING && at < trace.rings[ring].full_count;
-	     at++) {
-		const struct full_slot *it = &trace.rings[ring].full[at];
+	if (ring != NO_RING && unit_of[trace.rings[ring].place] != unit)
+		each(unit_of[trace.rings[ring].place], unit);
+	for (u32 at = 0; (it = holder_at(place, at)); at++) {
 		if (it->kind == OF_SLOT)
-			each(unit_of[trace.rings[it->ring].place], unit_of[place]);
+			each(unit_of[trace.rings[it->ring].place], unit);
 	}
 }
 
@@ -232,12 +229,13 @@ static void fly(u32 number, const struct part *part)
 }
 
 /* Goes on with a unit, of which nothing is in flight, as far as that can be; false where there is
- * no room. What is made up for is so where nothing else is in flight, and a ring is made there. */
+ * no room. What is made up for is so where nothing else is in flight, and so are rings, sets and
+ * seeks. */
 static bool advance(u32 number)
 {
 	struct unit *unit = &units[number];
 
-	if (unit->record && unit->record->kind == RECORD_RING && flying_count) {
+	if (unit->record && is_quiet_step(unit->record) && flying_count) {
 		quiet[quiet_count++] = number;
 		return true;
 	}

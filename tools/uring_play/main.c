@@ -3,6 +3,7 @@
  *
  * docs/PLAYING.md says how it is used, README.md how it works. */
 #include "answers.h"
+#include "calls.h"
 #include "depends.h"
 #include "figures.h"
 #include "fill.h"
@@ -27,7 +28,6 @@
 #include <sys/prctl.h>
 #include <sys/resource.h>
 #include <sys/stat.h>
-#include <unistd.h>
 
 enum { MOST_PATIENCE = 86400 };
 
@@ -259,8 +259,7 @@ static u32 most_at_once(void)
 	return options.depends ? (u32)min64(options.in_flight, trace.places) : 0;
 }
 
-/* Opens the descriptions of the trace. A position that the file system cannot have is another one
- * behind the greatest file, where nothing can be read or written either. */
+/* Opens the descriptions of the trace. */
 static int *open_descriptions(void)
 {
 	int *opened = allocate(trace.description_count * sizeof *opened);
@@ -270,9 +269,7 @@ static int *open_descriptions(void)
 		int flags = it->access == 0 ? O_RDONLY : it->access == 1 ? O_WRONLY : O_RDWR;
 		go_on();
 		opened[at] = move_up(open_item(it->node, flags | (it->append ? O_APPEND : 0)));
-		bool is_far = it->position > 1ULL << 62 ||
-			      lseek(opened[at], (off_t)it->position, SEEK_SET) < 0;
-		if (is_far && lseek(opened[at], (off_t)STAND_IN, SEEK_SET) < 0)
+		if (!put_position(opened[at], it->position))
 			say("description %u: its position cannot be had: %s", at, strerror(errno));
 	}
 	return opened;

@@ -1,5 +1,6 @@
 #include "pieces.h"
 #include "apart.h"
+#include "calls.h"
 #include "chains.h"
 #include "fill.h"
 #include "keeper.h"
@@ -288,6 +289,10 @@ void play_record(const struct record *record)
 {
 	bool is_fill = record->kind == RECORD_FILL;
 
+	if (record->call) {
+		play_call(record);
+		return;
+	}
 	/* In rounds a fill may come before its ring: that is there before, with empty slots. */
 	if (!is_fill || !is_open(record->ring)) {
 		let_open();

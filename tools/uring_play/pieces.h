@@ -53,8 +53,8 @@ void look_at(struct entry *entry);
 /* Where something never ends nothing more can be played or looked at. What was submitted and has
  * not ended is silent, so that it differs; what was not is outside. */
 void give_up(void) __attribute__((noreturn));
-/* Plays a step that is no entry: bytes of a registered buffer, or a new ring, for which nothing may
- * be in flight. */
+/* Plays a step that is no entry: bytes of a registered buffer, or one for which nothing may be in
+ * flight. */
 void play_record(const struct record *record);
 
 #endif

@@ -60,7 +60,7 @@ void play_chains(void)
 	make_pieces(1);
 	for (u32 at = 0; at < trace.record_count; at++) {
 		const struct record *record = &trace.records[at];
-		if (record->kind == RECORD_FILL || record->kind == RECORD_RING)
+		if (is_step(record))
 			play_record(record);
 		if (record->kind == RECORD_RING_ENDS)
 			end_ring(record->ring);
@@ -152,7 +152,7 @@ static bool fill_alone(struct entry *entry)
 }
 
 /* Fills the queues with places of a round, as many as there is room for; gives how many places were
- * taken. A new ring is taken only where nothing is filled. */
+ * taken. A new ring, a set and a seek are taken only where nothing is filled. */
 static u32 fill_batch(const u32 *places, u32 count)
 {
 	bool is_filled = false;
@@ -161,7 +161,7 @@ static u32 fill_batch(const u32 *places, u32 count)
 	for (at = 0; at < count && !is_crowded(); at++) {
 		struct entry *entry = trace.by_place[places[at]];
 		const struct record *record = trace.record_at[places[at]];
-		if (record && record->kind == RECORD_RING && is_filled)
+		if (record && is_quiet_step(record) && is_filled)
 			break;
 		if (record)
 			play_record(record);

@@ -5,6 +5,7 @@
 #include "uring.h"
 
 #include <stdlib.h>
+#include <string.h>
 
 enum {
 	MOST_ITEMS = 1 << 24,
@@ -93,9 +94,10 @@ static u32 take_ring_number(void)
 /* --- Rings --------------------------------------------------------------------------------------
  */
 
-static void take_full_slot(struct full_slot *it)
+/* What holds something, of a kind up to one. */
+static void take_holder(struct holder *it, enum holder_kind most)
 {
-	it->kind = (u8)take_limited(1, OF_START, "Limit");
+	it->kind = (u8)take_limited(1, most, "Limit");
 	if (it->kind == OF_SLOT) {
 		it->ring = take_ring_number();
 		it->number = take_below(trace.rings[it->ring].slot_count);
@@ -129,7 +131,7 @@ static void take_new_ring(void)
 		struct full_slot *it = &ring.full[ring.full_count];
 		it->slot = take_rising(low, ring.slot_count);
 		low = it->slot + 1;
-		take_full_slot(it);
+		take_holder(&it->source, OF_START);
 	}
 	take_buffers(&ring, MOST_BUFFERS);
 	GROW(trace.rings, trace.ring_count, ring_room);
@@ -223,19 +225,56 @@ static void take_fill(struct record *record)
 	record->bytes = is_zeros ? NULL : take(record->length);
 }
 
+/* --- Sets and seeks -----------------------------------------------------------------------------
+ */
+
+/* A path that is opened, with flags that openat takes. No such path leads out of the directory. */
+static void take_opened(struct call *call)
+{
+	u64 at = text_at();
+
+	call->flags = (u32)take_number(4);
+	if ((call->flags & 3) == 3 || call->flags & ~KNOWN_OPEN_FLAGS ||
+	    (call->flags & CREATED_DIRECTORY) == CREATED_DIRECTORY)
+		refuse("Limit", at);
+	call->position = take_between(8, 0, INT64_MAX, "Limit");
+	u64 length = take_number(2);
+	at = text_at();
+	struct span path = { take(length), length };
+	if (!length || length > MOST_PATH || is_odd(path) || memchr(path.bytes, 0, length))
+		refuse("Path", at);
+	call->path = copy_bytes(path.bytes, length);
+}
+
+static void take_call(struct record *record)
+{
+	struct call *call = allocate(sizeof *call);
+
+	record->call = call;
+	take_holder(&call->file, OF_DESCRIPTOR);
+	if (record->kind == RECORD_SEEK) {
+		call->position = take_between(8, 0, INT64_MAX, "Limit");
+		return;
+	}
+	call->content = (u8)take_limited(1, CONTENT_TAKEN, "Limit");
+	if (call->content == CONTENT_COPY)
+		take_holder(&call->source, OF_DESCRIPTOR);
+	if (call->content == CONTENT_PATH)
+		take_opened(call);
+}
+
 /* --- Records ------------------------------------------------------------------------------------
  */
 
-/* The kind of a record: what is not served, and what there is no more room for, is refused. */
+/* The kind of a record; one that there is no more room for is refused. */
 static u8 take_kind(void)
 {
 	u64 at = text_at();
 	u8 kind = (u8)take_number(1);
-	bool is_served_kind = (kind >= RECORD_ENTRIES && kind <= RECORD_FILL) ||
-			      (kind >= RECORD_RING && kind <= RECORD_END);
-	bool is_step = kind == RECORD_FILL || kind == RECORD_RING;
+	bool is_kind = kind >= RECORD_ENTRIES && kind <= RECORD_END;
+	bool has_place = kind >= RECORD_FILL && kind <= RECORD_RING;
 
-	if (!is_served_kind || (is_step && trace.places == MOST_PLACES) ||
+	if (!is_kind || (has_place && trace.places == MOST_PLACES) ||
 	    (kind == RECORD_RING && trace.ring_count == MOST_NUMBERS))
 		refuse("Limit", at);
 	return kind;
@@ -252,6 +291,10 @@ static bool take_record(struct record *record)
 		return true;
 	case RECORD_FILL:
 		take_fill(record);
+		break;
+	case RECORD_SET:
+	case RECORD_SEEK:
+		take_call(record);
 		break;
 	case RECORD_RING:
 		record->ring = trace.ring_count;

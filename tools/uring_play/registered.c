@@ -34,8 +34,8 @@ void hold_descriptions(int *opened)
 	for (u32 ring = 0; ring < trace.ring_count; ring++) {
 		const struct ring_of_trace *it = &trace.rings[ring];
 		for (u32 at = 0; at < it->full_count; at++) {
-			if (it->full[at].kind == OF_START)
-				description_uses[it->full[at].number]++;
+			if (it->full[at].source.kind == OF_START)
+				description_uses[it->full[at].source.number]++;
 		}
 	}
 }
@@ -156,9 +156,7 @@ void end_ring(u32 ring)
 /* --- What full slots get -------------------------------------------------------------------------
  */
 
-/* An open descriptor of what a slot gets, or -1 where that is nothing; one of a slot is to be
- * closed, and has no number that another slot may get. */
-static int source_of(const struct full_slot *it)
+int held_by(const struct holder *it)
 {
 	if (it->kind == OF_START)
 		return descriptions[it->number];
@@ -190,16 +188,25 @@ static void put_slots(u32 ring, const struct full_slot *first, u32 count)
 						.fds = (u64)(uintptr_t)files };
 
 	for (u32 at = 0; at < count; at++)
-		files[at] = source_of(&first[at]);
+		files[at] = held_by(&first[at].source);
 	if (register_with(ring, IORING_REGISTER_FILES_UPDATE, &update, count) != (long)count)
 		die("files cannot be registered: %s", strerror(errno));
 	for (u32 at = 0; at < count; at++) {
-		if (first[at].kind == OF_SLOT && files[at] >= 0)
+		if (first[at].source.kind == OF_SLOT && files[at] >= 0)
 			close(files[at]);
-		if (first[at].kind == OF_START)
-			leave_description(first[at].number);
+		if (first[at].source.kind == OF_START)
+			leave_description(first[at].source.number);
 	}
 	go_on();
+}
+
+void put_slot(u32 ring, u32 slot, int file)
+{
+	struct io_uring_files_update update = { .offset = slot, .fds = (u64)(uintptr_t)&file };
+
+	make_ring(ring);
+	if (register_with(ring, IORING_REGISTER_FILES_UPDATE, &update, 1) != 1)
+		die("slot %u of ring %u cannot be registered: %s", slot, ring, strerror(errno));
 }
 
 void fill_slots(u32 ring)
@@ -218,18 +225,14 @@ void fill_slots(u32 ring)
 /* Each ring that a place uses, as often as it does. */
 static void each_ring(u32 place, void (*each)(u32 ring))
 {
-	const struct record *record = trace.record_at[place];
+	const struct holder *it;
 
-	if (!record) {
-		each(trace.by_place[place]->ring);
-		return;
+	for (u32 at = 0; (it = holder_at(place, at)); at++) {
+		if (it->kind == OF_SLOT)
+			each(it->ring);
 	}
-	const struct ring_of_trace *ring = &trace.rings[record->ring];
-	for (u32 at = 0; record->kind == RECORD_RING && at < ring->full_count; at++) {
-		if (ring->full[at].kind == OF_SLOT)
-			each(ring->full[at].ring);
-	}
-	each(record->ring);
+	if (ring_of(place) != NO_RING)
+		each(ring_of(place));
 }
 
 static void count_use(u32 ring)

@@ -2,7 +2,7 @@
 #ifndef REGISTERED_H
 #define REGISTERED_H
 
-#include "common.h"
+#include "trace.h"
 
 /* Takes the open descriptors of the descriptions of the start, until no ring is to get them. */
 void hold_descriptions(int *opened);
@@ -13,6 +13,11 @@ void let_descriptions_go(void);
 void make_ring(u32 ring);
 /* The full slots of a ring get what their sources hold now. Nothing may be in flight. */
 void fill_slots(u32 ring);
+/* An open descriptor of what something holds, or -1 where that is nothing; one of a slot is the
+ * player's own, to be closed, and no number of the trace's. Nothing may be in flight. */
+int held_by(const struct holder *it);
+/* A slot gets an open file, or nothing for -1. */
+void put_slot(u32 ring, u32 slot, int file);
 void end_ring(u32 ring);
 
 /* Where places do not run in recorded order: counts which rings they use; a ring that the trace

@@ -158,7 +158,7 @@ static void take_ring(struct ring_of_trace *ring)
 		u32 held = take_limited(4, trace.description_count, "Reference");
 		if (held)
 			ring->full[ring->full_count++] =
-				(struct full_slot){ at, OF_START, 0, held - 1 };
+				(struct full_slot){ at, { OF_START, 0, held - 1 } };
 	}
 	take_buffers(ring, MOST_REGISTERED);
 }
@@ -226,17 +226,52 @@ static void take_fill(struct record *record)
 	trace.places++;
 }
 
+bool is_quiet_step(const struct record *record)
+{
+	return record->kind == RECORD_RING || record->kind == RECORD_SET ||
+	       record->kind == RECORD_SEEK;
+}
+
+bool is_step(const struct record *record)
+{
+	return record->kind == RECORD_FILL || is_quiet_step(record);
+}
+
 static void number_places(void)
 {
 	trace.by_place = allocate(trace.places * sizeof(struct entry *));
 	trace.record_at = allocate(trace.places * sizeof(struct record *));
 	for (u32 at = 0; at < trace.record_count; at++) {
 		struct record *record = &trace.records[at];
-		if (record->kind == RECORD_FILL || record->kind == RECORD_RING)
+		if (is_step(record))
 			trace.record_at[record->place] = record;
 		for (u32 in = 0; in < record->count; in++)
 			trace.by_place[record->place + in] = &record->entries[in];
 	}
+}
+
+u32 ring_of(u32 place)
+{
+	const struct record *record = trace.record_at[place];
+
+	if (!record)
+		return trace.by_place[place]->ring;
+	return record->call ? NO_RING : record->ring;
+}
+
+const struct holder *holder_at(u32 place, u32 at)
+{
+	const struct record *record = trace.record_at[place];
+
+	if (!record || record->kind == RECORD_FILL)
+		return NULL;
+	if (record->kind == RECORD_RING) {
+		const struct ring_of_trace *ring = &trace.rings[record->ring];
+		return at < ring->full_count ? &ring->full[at].source : NULL;
+	}
+	if (at && record->call->content != CONTENT_COPY)
+		return NULL;
+	return at > 1 ? NULL : at ? &record->call->source : &record->call->file;
 }
 
 static void take_record(struct record *record)

@@ -38,12 +38,25 @@ struct buffer {
 	u8 *memory;
 };
 enum holder_kind { OF_SLOT, OF_DESCRIPTOR, OF_START };
-/* What a slot of a new ring gets: what a slot of an earlier ring holds, or a descriptor, or a
- * description of the start. */
-struct full_slot {
-	u32 slot;
+/* A slot of a ring, a descriptor, or a description of the start. */
+struct holder {
 	u8 kind;
 	u32 ring, number;
+};
+/* A slot of a new ring, and what it gets: what another one holds. */
+struct full_slot {
+	u32 slot;
+	struct holder source;
+};
+enum content { CONTENT_NOTHING, CONTENT_PATH, CONTENT_COPY, CONTENT_TAKEN };
+/* What a call of the program did between two submissions: what a slot or a descriptor holds from
+ * then on, or the position of what it holds. */
+struct call {
+	struct holder file, source; /* the source of a copy */
+	u8 content;
+	u32 flags; /* of a path, as of open(2) */
+	u64 position;
+	char *path;
 };
 
 /* What is known of an entry once it was played. */
@@ -105,14 +118,22 @@ struct entry {
 	u8 data[DATA_SHOWN + 1];
 	u64 data_length;
 };
-/* A new ring and its end are records of version 3 alone; an end has no place. */
-enum record_kind { RECORD_ENTRIES = 1, RECORD_FILL = 2, RECORD_RING = 5, RECORD_RING_ENDS = 6 };
+/* All but entries and fills are records of version 3 alone; an end has no place. */
+enum record_kind {
+	RECORD_ENTRIES = 1,
+	RECORD_FILL = 2,
+	RECORD_SET = 3,
+	RECORD_SEEK = 4,
+	RECORD_RING = 5,
+	RECORD_RING_ENDS = 6,
+};
 struct record {
 	u8 kind;
 	u32 ring, count, place;
 	struct entry *entries; /* of other records none */
 	u32 buffer, offset, length;
-	const u8 *bytes; /* NULL for zeros */
+	const u8 *bytes;   /* NULL for zeros */
+	struct call *call; /* of a set and of a seek, which have no ring */
 };
 struct ring_of_trace {
 	u32 slot_count, full_count, buffer_count;
@@ -137,6 +158,16 @@ struct trace {
 extern struct trace trace;
 /* Whether its rings are records, and not there from the start on. */
 bool has_ring_records(void);
+/* Whether a record is one step that is no entry; and whether nothing may be in flight where it is
+ * played, since that takes calls of the player's. */
+bool is_step(const struct record *record);
+bool is_quiet_step(const struct record *record);
+/* The ring that a place is of; NO_RING of a set and of a seek. */
+#define NO_RING UINT32_MAX
+u32 ring_of(u32 place);
+/* What a place has to do with beside: what the slots of a new ring get, or what a set and a seek
+ * are about. NULL behind the last one. */
+const struct holder *holder_at(u32 place, u32 at);
 
 /* Reads a trace, or ends the player with status 1 and the line of docs/FORMAT.md. The judge is
  * uring_replay check. */
