@@ -203,7 +203,7 @@ def sixteen(tools: Tools, programs: List[Program], words: Sequence[str]) -> List
     said = got.errors.decode("utf-8", "replace")
     if got.status:
         return [Outcome(label, shown(got))]
-    faults = ["it lacks {!r}".format(it) for it in SAID if it not in said]
+    faults = ["it lacks {!r}".format(it) for it in (SAID_OF_2 if "--format" in words else SAID) if it not in said]
     if (ORDER in said) == ("--drain" in words):
         faults.append("with --drain, and only there, entries are in order: {!r}".format(said))
     outcomes = [Outcome(label + ": the summary", first(faults))]
@@ -217,7 +217,7 @@ def sixteen(tools: Tools, programs: List[Program], words: Sequence[str]) -> List
 
 
 # What the summary of sixteen.c has to say: an entry outside, a position that lseek(2) moved, two in flight at once.
-SAID = ("opcode 1", "a position that ordinary calls moved is made right")
+SAID, SAID_OF_2 = ("opcode 1", " and 1 seeks between submissions"), ("opcode 1", "a position that ordinary calls moved is made right")
 ORDER = "requests in flight at once touch the same name"
 
 

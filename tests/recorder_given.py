@@ -11,13 +11,12 @@ from harness import EXAMPLES, Job, Outcome, Program, first, skipped
 from recorded import FOLDERS, SOURCES, compared, read_file, traces_in
 from recorder import UNTRIED, Built, accepted, fault_of, ran_in, replayed, tools
 from recorder_streams import LOCK, record, streams
-from traces import CLOSE, FADVISE, FSYNC, READ, READ_FIXED, SYNC_FILE_RANGE, WRITE_FIXED
+from traces import FADVISE, FSYNC, READ, READ_FIXED, SYNC_FILE_RANGE, WRITE_FIXED
 
 # The opcodes that the profile does not serve, of those that are recorded here.
 UNSERVED = POLL_ADD, TIMEOUT, ASYNC_CANCEL, LINK_TIMEOUT, STATX, MADVISE, RECV, EPOLL_CTL, SYMLINKAT, NONE = 6, 11, 14, 15, 21, 25, 27, 29, 38, 200
-# Of kept recordings those opcodes that are served and given: fio leaves an address or a number of a buffer in these, which the kernel refuses,
-# and stress-ng closes what is no file of the tree.
-GIVEN_IN = {"fio_syncs_of_ranges": [SYNC_FILE_RANGE], "fio_syncs_that_are_refused": [FSYNC], "stress_ng": [CLOSE]}
+# Of kept recordings those opcodes that are served and given: fio leaves an address or a number of a buffer in these, which the kernel refuses.
+GIVEN_IN = {"fio_syncs_of_ranges": [SYNC_FILE_RANGE], "fio_syncs_that_are_refused": [FSYNC]}
 # An opcode with the result that the trace gives: it fails, or not, or was refused on submission.
 Told = Tuple[int, int, str]
 PASSES, FAILS, REFUSED = "passes", "fails", "refused"

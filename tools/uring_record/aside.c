@@ -4,6 +4,7 @@
 #include "memory.h"
 #include "notes.h"
 #include "paths.h"
+#include "sets.h"
 #include "table.h"
 
 #include <errno.h>
@@ -22,9 +23,13 @@ enum {
 	OP_SPLICE = 30,
 	OP_MSG_RING = 40,
 	OP_SOCKET = 45,
+	OP_FD_INSTALL = 54,
+	OP_PIPE = 62,
 	OP_WRITEV_FIXED = 61,
 };
 enum { SENDS_DESCRIPTOR = 1, NO_SLOT = 65535, MOST_SIDE = 4095 };
+/* Of the descriptors of a FILES_UPDATE: one that leads to what is no file. */
+enum { NO_FILE = -2 };
 
 /* A name in a directory that no tree has: it is not found, and nothing can be made there. */
 static const char aside_name[] = "/.uring_record.outside/-";
@@ -56,9 +61,39 @@ void take_outside_slot(struct flight *flight, u32 index, struct opened *opened)
 	}
 	flight->takes_place = flight->is_outside = true;
 	flight->slot = index;
+	struct change *changed = &flight->ring->changed[index - 1];
+	if (changed->sequence <= flight->sequence)
+		*changed = (struct change){ flight->sequence, flight->chain };
 	release(flight->foreign_before);
 	flight->foreign_before = flight->ring->foreign[index - 1];
 	flight->ring->foreign[index - 1] = opened;
+}
+
+bool may_take_number(const struct flight *flight)
+{
+	switch (flight->asked_for.opcode) {
+	case OP_OPENAT:
+		return flight->entry->is_aside && !flight->asked_for.file_index;
+	case OP_ACCEPT:
+	case OP_OPENAT2:
+	case OP_SOCKET:
+	case OP_PIPE:
+		return !flight->asked_for.file_index;
+	case OP_FD_INSTALL:
+		return true;
+	default:
+		return false;
+	}
+}
+
+/* Whether an entry of the same call before this one has taken a number that its replay does not
+ * take: then this one gets another. */
+static bool is_behind_taker(const struct entry *entry)
+{
+	const struct record *record = entry->record;
+
+	return options.format == 3 && record->has_taken &&
+	       (u32)(entry - record->entries) >= record->taker;
 }
 
 /* Something that is no file of the tree. */
@@ -89,6 +124,27 @@ static void look_at_openat2(struct flight *flight, pid_t thread)
 					   : new_unknown());
 }
 
+/* FILES_UPDATE: the files that its descriptors lead to. These may be closed, or written over,
+ * before its completion is seen. */
+static void look_at_descriptors(struct flight *flight, pid_t thread)
+{
+	const struct io_uring_sqe *sqe = &flight->asked_for;
+
+	if (options.format != 3 || sqe->len > MOST_SLOTS)
+		return;
+	flight->copies = allocate(sqe->len * sizeof *flight->copies);
+	flight->copy_count = sqe->len;
+	for (u32 at = 0; at < sqe->len; at++) {
+		int number = (int)fetch_word(thread, sqe->addr + 4ULL * at);
+		int copy = copy_descriptor(flight->process, number);
+		if (copy >= 0 && !is_file_or_directory(copy)) { /* (it would stay open) */
+			close(copy);
+			copy = NO_FILE;
+		}
+		flight->copies[at] = copy;
+	}
+}
+
 void look_at_unserved(struct flight *flight, pid_t thread)
 {
 	const struct io_uring_sqe *sqe = &flight->asked_for;
@@ -100,6 +156,9 @@ void look_at_unserved(struct flight *flight, pid_t thread)
 		break;
 	case OP_OPENAT2:
 		look_at_openat2(flight, thread);
+		break;
+	case OP_FILES_UPDATE:
+		look_at_descriptors(flight, thread);
 		break;
 	case OP_SPLICE:
 	case OP_WRITEV_FIXED:
@@ -164,9 +223,11 @@ enum outside outside_by_result(const struct flight *flight, i32 result)
 		return OUTSIDE_POLLED;
 	if (is_renumbered(flight, result))
 		return OUTSIDE_THREAD;
-	if (options.format == 3 && closes_in_table(sqe) && flight->was_taken && result < 0)
+	if (options.format == 3 && sqe->opcode == OP_CLOSE && flight->was_taken && result < 0 &&
+	    result != -ECANCELED)
 		return OUTSIDE_DESCRIPTOR;
-	if (result >= 0 && opens_in_table(sqe) && (u32)result >= trace.table_size)
+	if (result >= 0 && opens_in_table(sqe) &&
+	    ((u32)result >= trace.table_size || is_behind_taker(entry)))
 		return OUTSIDE_DESCRIPTOR;
 	if (result >= 0 && end_in_file(sqe, result) > MOST_SIZE)
 		return OUTSIDE_LARGE;
@@ -220,6 +281,27 @@ static char *name_of_opened(const struct flight *flight, i32 result)
 	return name;
 }
 
+/* A slot that an open filled which is outside has its file in the replay too, where that is one of
+ * the tree, and nothing else has changed the slot since. */
+static void tell_opened(struct flight *flight, i32 result)
+{
+	struct ring *ring = flight->ring;
+	u32 slot = flight->slot - 1, flags = flight->open_flags;
+	bool is_last = ring->changed[slot].sequence == flight->sequence &&
+		       flight->renewals == ring->renewals &&
+		       reason_of(flight->entry) != OUTSIDE_SLOT;
+	bool is_plain = !(flags & (O_PATH | __O_TMPFILE)) && (flags & O_ACCMODE) != O_ACCMODE;
+	char *name = is_last && is_plain ? name_of_opened(flight, result) : NULL;
+
+	if (name) {
+		flags &= O_ACCMODE | O_APPEND;
+		set_path(of_slot(ring, slot), name, flags, 0);
+		slot_holds(ring, slot, new_direct(name, flags));
+		flight->takes_place = flight->is_outside = false;
+	}
+	free(name);
+}
+
 /* An open: what it made or cut is made or cut by an entry of the recorder. */
 static void open_ended(struct flight *flight, i32 result)
 {
@@ -238,6 +320,23 @@ static void open_ended(struct flight *flight, i32 result)
 				  flight->names[0]
 					  ? new_direct(flight->names[0], flight->open_flags)
 					  : new_unknown());
+	if (options.format == 3 && flight->takes_place && flight->is_outside)
+		tell_opened(flight, result);
+}
+
+/* An open for which no slot was left has made its file, which stays; false where there is none. */
+static bool make_what_stays(const struct flight *flight)
+{
+	char *name = name_of_opened(flight, 0);
+	struct opened **slot = &our_ring()->now[0];
+	bool is_there = name;
+
+	if (name) {
+		*slot = release(*slot);
+		make_open(our_ring(), 1, name, flight->open_flags & (O_ACCMODE | O_CREAT), 0);
+	}
+	free(name);
+	return is_there;
 }
 
 /* Whether an opcode takes a name as it is. */
@@ -248,12 +347,14 @@ static bool reads_name(const struct flight *flight)
 
 /* An open into a slot failed: the kernel may have made or cut the file before it looked at the
  * slot. */
-static void open_failed(const struct flight *flight)
+static void open_failed(const struct flight *flight, i32 result)
 {
 	u32 made = flight->open_flags & (O_CREAT | O_TRUNC);
 	const char *name = flight->names[0];
 
 	if (!flight->asked_for.file_index || !made || !name)
+		return;
+	if (options.format == 3 && result == -ENFILE && made == O_CREAT && make_what_stays(flight))
 		return;
 	doubt_name((const u8 *)name, (u32)strlen(name), OUTSIDE_SLOT);
 }
@@ -270,25 +371,89 @@ static void message_ended(struct flight *flight, i32 result)
 		release(sent);
 		return;
 	}
+	to->changed[slot] = (struct change){ to->sequence, NO_CHAIN };
+	struct opened *passed =
+		options.format == 3 ? set_slot_of(of_slot(to, slot), flight->ring, (u32)sqe->addr3)
+				    : NULL;
+	if (passed) {
+		release(sent);
+		slot_holds(to, slot, passed);
+		return;
+	}
 	if (to->now[slot])
-		make_close(to, slot + 1, 0);
+		give_up_slot(to, slot);
 	to->now[slot] = release(to->now[slot]);
 	release(to->foreign[slot]);
 	to->foreign[slot] = sent ? sent : new_unknown();
 }
 
+/* Whether a later entry, or a call, has changed a slot. */
+static bool is_changed_since(const struct flight *flight, u32 slot)
+{
+	return slot < flight->ring->slot_count &&
+	       flight->ring->changed[slot].sequence > flight->sequence;
+}
+
+/* A slot was changed by an entry, whenever that is seen. */
+static void has_changed(const struct flight *flight, u32 slot)
+{
+	struct ring *ring = flight->ring;
+
+	if (slot < ring->slot_count)
+		ring->changed[slot] = (struct change){ flight->sequence, flight->chain };
+}
+
+/* A slot that a FILES_UPDATE filled has one of its files; false where that is not known. */
+static bool put_copy(struct flight *flight, u32 at, u32 slot)
+{
+	struct ring *ring = flight->ring;
+	int copy = at < flight->copy_count ? flight->copies[at] : -1;
+
+	if (copy == -1 || slot >= ring->slot_count)
+		return false;
+	if (copy == NO_FILE) {
+		if (ring->now[slot])
+			give_up_slot(ring, slot);
+		ring->now[slot] = release(ring->now[slot]);
+		release(ring->foreign[slot]);
+		ring->foreign[slot] = new_unknown();
+	} else {
+		put_into_slot(ring, slot, copy);
+		flight->copies[at] = -1;
+	}
+	return true;
+}
+
 /* FILES_UPDATE: the slots are those of a list, or such as the kernel chose. */
-static void files_ended(struct flight *flight, pid_t thread, u32 count)
+static void files_ended(struct flight *flight, pid_t thread, i32 done)
 {
 	const struct io_uring_sqe *sqe = &flight->asked_for;
+	struct ring *ring = flight->ring;
+	u32 count = done < 0 ? 0 : (u32)done, from = (u32)sqe->off;
+	bool is_chosen = from == IORING_FILE_INDEX_ALLOC;
 
-	if ((u32)sqe->off != IORING_FILE_INDEX_ALLOC) {
-		update_slots(flight->ring, thread, (u32)sqe->off, sqe->addr, count);
+	if (options.format != 3 && !is_chosen) {
+		update_slots(ring, thread, from, sqe->addr, count, done);
 		return;
 	}
-	for (u32 at = 0; at < count; at++)
-		take_outside_slot(flight, fetch_word(thread, sqe->addr + 4ULL * at) + 1,
-				  new_unknown());
+	for (u32 at = 0; at < count; at++) {
+		u64 place = sqe->addr + 4ULL * at;
+		u32 slot = is_chosen ? fetch_word(thread, place) : from + at;
+		if (is_changed_since(flight, slot))
+			continue;
+		if (put_copy(flight, at, slot))
+			;
+		else if (is_chosen)
+			take_outside_slot(flight, slot + 1, new_unknown());
+		else
+			update_slots(ring, thread, slot, place, 1, 1);
+		has_changed(flight, slot);
+	}
+	bool has_failed = !is_chosen && count < sqe->len && (count || done == -EBADF);
+	if (!has_failed || is_changed_since(flight, from + count))
+		return;
+	update_slots(ring, thread, from + count, sqe->addr + 4ULL * count, 1, -EBADF);
+	has_changed(flight, from + count);
 }
 
 /* Names that an entry outside made, moved or took away are so by an entry of the recorder. */
@@ -327,7 +492,9 @@ static void slot_ended(struct flight *flight)
 
 	if (!flight->is_outside || !index || !ring->now[index - 1])
 		return;
-	make_close(ring, index, 0);
+	if (options.format == 3 && ring->changed[index - 1].sequence > flight->sequence)
+		return; /* (a later entry has changed it) */
+	give_up_slot(ring, index - 1);
 	ring->now[index - 1] = release(ring->now[index - 1]);
 }
 
@@ -354,6 +521,48 @@ static void names_may_differ(const struct flight *flight)
 	}
 }
 
+/* FIXED_FD_INSTALL: a number has what the slot had, if that is there still. */
+static void installed(struct flight *flight, i32 number)
+{
+	u32 slot = (u32)flight->asked_for.fd;
+
+	if (!is_changed_since(flight, slot) && flight->renewals == flight->ring->renewals)
+		number_installed(flight->process, number, flight->ring, slot);
+}
+
+/* The file that a slot has is changed in a way that has no entry. */
+static void unsettle_slot(const struct ring *ring, u32 slot)
+{
+	struct opened *known = ring->foreign[slot] ? ring->foreign[slot] : ring->now[slot];
+
+	if (known) {
+		look_at_direct(known);
+		unsettle(known, OUTSIDE_CHANGED);
+	}
+}
+
+/* What an entry did that is given or not served. */
+static void tell_ended(struct flight *flight, pid_t thread, i32 result)
+{
+	const struct io_uring_sqe *sqe = &flight->asked_for;
+	u8 opcode = sqe->opcode;
+
+	if (opcode == OP_OPENAT || opcode == OP_OPENAT2)
+		open_ended(flight, result);
+	else if (opcode == OP_ACCEPT && sqe->file_index == IORING_FILE_INDEX_ALLOC)
+		take_outside_slot(flight, (u32)result + 1, new_unknown());
+	else if (opcode == OP_SOCKET && sqe->file_index == IORING_FILE_INDEX_ALLOC)
+		take_outside_slot(flight, (u32)result + 1, new_unknown());
+	else if (opcode == OP_MSG_RING)
+		message_ended(flight, result);
+	else if (opcode == OP_FD_INSTALL && options.format == 3)
+		installed(flight, result);
+	else if (opcode == OP_FILES_UPDATE)
+		files_ended(flight, thread, result);
+	else
+		names_ended(flight);
+}
+
 void outside_ended(struct flight *flight, pid_t thread, i32 result)
 {
 	const struct entry *entry = flight->entry;
@@ -361,7 +570,9 @@ void outside_ended(struct flight *flight, pid_t thread, i32 result)
 	u8 opcode = sqe->opcode;
 
 	if (result < 0) {
-		open_failed(flight);
+		open_failed(flight, result);
+		if (opcode == OP_FILES_UPDATE)
+			files_ended(flight, thread, result);
 		return;
 	}
 	if (flight->is_nowhere && !reads_name(flight))
@@ -373,24 +584,19 @@ void outside_ended(struct flight *flight, pid_t thread, i32 result)
 		look_at_direct(flight->changes);
 		unsettle(flight->changes, OUTSIDE_CHANGED);
 	}
+	if (flight->is_blind && changes_file(opcode))
+		unsettle_slot(flight->ring, (u32)sqe->fd);
+	if (flight->is_blind && opcode == OP_CLOSE) {
+		empty_slot(flight->ring, sqe->file_index - 1);
+		has_changed(flight, sqe->file_index - 1);
+	}
 	if (opcode == OP_OPENAT || opcode == OP_OPENAT2)
 		look_at_opened(flight);
 	if (!entry->is_aside && entry->outside != OUTSIDE_OPCODE) {
 		names_may_differ(flight);
 		return;
 	}
-	if (opcode == OP_OPENAT || opcode == OP_OPENAT2)
-		open_ended(flight, result);
-	else if (opcode == OP_ACCEPT && sqe->file_index == IORING_FILE_INDEX_ALLOC)
-		take_outside_slot(flight, (u32)result + 1, new_unknown());
-	else if (opcode == OP_SOCKET && sqe->file_index == IORING_FILE_INDEX_ALLOC)
-		take_outside_slot(flight, (u32)result + 1, new_unknown());
-	else if (opcode == OP_MSG_RING)
-		message_ended(flight, result);
-	else if (opcode == OP_FILES_UPDATE)
-		files_ended(flight, thread, (u32)result);
-	else
-		names_ended(flight);
+	tell_ended(flight, thread, result);
 	slot_ended(flight);
 }
 

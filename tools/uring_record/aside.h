@@ -10,6 +10,8 @@
 void look_at_unserved(struct flight *flight, pid_t thread);
 /* A slot of the command gets what the replay's slot does not have; `opened` becomes its own. */
 void take_outside_slot(struct flight *flight, u32 index, struct opened *opened);
+/* Whether an entry may take a number of the table that its replay does not take. */
+bool may_take_number(const struct flight *flight);
 /* The file that the number of an entry leads to now, or NULL. */
 struct opened *file_now(const struct flight *flight);
 /* Where an entry that writes bytes, or changes a size, ends in its file: 0 where it is not one, or

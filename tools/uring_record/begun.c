@@ -7,8 +7,7 @@ enum { OF_SLOT = 0, OF_DESCRIPTION = 2, OWN_QUEUE = -1 };
 /* The bytes of a ring without its slots and buffers, of a full slot, and of a buffer. */
 enum { RING_BYTES = 14, SLOT_BYTES = 13, BUFFER_BYTES = 12 };
 
-/* Adds a number to the bytes of a record. */
-static void add_number(struct record *record, u64 number, u32 bytes)
+void add_number(struct record *record, u64 number, u32 bytes)
 {
 	for (u32 at = 0; at < bytes; at++)
 		record->bytes[record->length++] = (u8)(number >> (8 * at));
@@ -102,6 +101,7 @@ void renew_ring(struct ring *ring)
 	if (options.format != 3 || !ring->is_begun)
 		return;
 	ring->is_begun = false;
+	memset(ring->taken, 0, sizeof ring->taken);
 	ring->renewals++;
 }
 
@@ -112,4 +112,5 @@ void end_ring(struct ring *ring)
 	if (ring->has_number)
 		add_end(ring);
 	ring->has_number = ring->is_begun = false;
+	memset(ring->taken, 0, sizeof ring->taken);
 }

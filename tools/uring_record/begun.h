@@ -12,5 +12,7 @@ void begin_ring(struct ring *ring);
 void renew_ring(struct ring *ring);
 /* In version 3: a ring is closed. What is on it later is on a ring of its own. */
 void end_ring(struct ring *ring);
+/* Adds a number to the bytes of a record, which have room for it. */
+void add_number(struct record *record, u64 number, u32 bytes);
 
 #endif

@@ -8,6 +8,7 @@
 #include "notes.h"
 #include "paths.h"
 #include "positions.h"
+#include "sets.h"
 #include "start.h"
 #include "table.h"
 
@@ -58,22 +59,41 @@ static void is_told_by(struct call *call, struct entry *entry)
 
 /* Calls by a descriptor */
 
+/* Opens what a descriptor of the recorder leads to in the slot of the recorder's ring. Without a
+ * name it has to be in the replay already: else there is NULL. */
+static struct opened *open_ours(int copy)
+{
+	struct holder ours = of_slot(our_ring(), 0);
+	int again = fcntl(copy, F_DUPFD_CLOEXEC, 0);
+	char *name = name_of(copy);
+	struct opened *known = name || options.format != 3 ? NULL : set_known(ours, again);
+
+	if (name && options.format == 3)
+		set_path(ours, name, O_RDWR, 0);
+	else if (name)
+		make_open(our_ring(), 1, name, O_RDWR, 0);
+	if (name)
+		known = new_opened(again, 0);
+	else if (!known)
+		close(again);
+	free(name);
+	return known;
+}
+
 /* The slot of the recorder's ring, opened on what a descriptor of the recorder leads to; false
- * without a name. */
+ * where it cannot be. */
 static bool open_our_slot(int copy)
 {
 	struct opened **slot = &our_ring()->now[0];
 
 	if (*slot && is_same((*slot)->descriptor, copy))
 		return true;
-	char *name = name_of(copy);
-	if (name) {
-		make_open(our_ring(), 1, name, O_RDWR, 0);
+	struct opened *opened = open_ours(copy);
+	if (opened) {
 		release(*slot);
-		*slot = new_opened(fcntl(copy, F_DUPFD_CLOEXEC, 0), 0);
+		*slot = opened;
 	}
-	free(name);
-	return name != NULL;
+	return opened;
 }
 
 /* A change of a file that no path leads to is only noted: its bytes are not told from here on. */
@@ -99,12 +119,13 @@ static void add_on_file(struct call *call, struct io_uring_sqe *sqe, bool moves,
 	bool has_table = file != NONE && options.format != 1 && call->process == home_process();
 	struct opened *opened = has_table ? opened_at((int)call->arguments[file]) : NULL;
 	bool is_there = opened && !opened->is_unsure && is_same(opened->descriptor, copy);
+	bool has_number = is_there && (trace.uses_table || options.format == 3);
 
-	if (!(is_there && trace.uses_table) && open_our_slot(copy)) {
+	if (!has_number && open_our_slot(copy)) {
 		sqe->fd = 0;
 		sqe->flags = FLAG_FIXED;
 	} else if (is_there) {
-		trace.uses_table = true;
+		trace.uses_table |= options.format != 3;
 		sqe->fd = (int)call->arguments[file];
 		if (moves && opened->position == sqe->off && !opened->moving) {
 			sqe->off = AT_POSITION;
@@ -359,6 +380,8 @@ static void ended_open(struct call *call, i64 result)
 		struct opened **slot = &our_ring()->now[0];
 		*slot = release(*slot);
 		is_told_by(call, make_open(our_ring(), 1, name, kept, 0));
+		if (options.format == 3) /* (what is written by this open has its slot) */
+			*slot = new_opened(fcntl(copy, F_DUPFD_CLOEXEC, 0), 0);
 	}
 	if (name && trace.uses_table && options.format != 1 && call->process == home_process()) {
 		begin_batch();

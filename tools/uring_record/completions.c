@@ -144,6 +144,8 @@ void put_back_place(struct flight *flight)
 		if (!flight->is_outside) {
 			release(*slot);
 			*slot = flight->before;
+			flight->ring->taken[flight->slot - 1] =
+				flight->was_taken && flight->renewals == flight->ring->renewals;
 		}
 		slot = &flight->ring->foreign[flight->slot - 1];
 		release(*slot);
@@ -169,6 +171,43 @@ static void result_is_outside(struct flight *flight, i32 result, enum outside wh
 	put_aside(flight->entry, why);
 }
 
+/* Whether a slot has been changed behind an entry that is seen to have filled it: which came first
+ * is told where one chain has both. */
+static bool is_behind_change(const struct flight *flight, u32 slot)
+{
+	const struct ring *ring = flight->ring;
+	const struct change *change = &ring->changed[slot];
+
+	if (flight->renewals != ring->renewals)
+		return true;
+	if (change->sequence > flight->sequence)
+		return change->chain != flight->chain;
+	return ring->now[slot] || ring->foreign[slot];
+}
+
+/* The slot of an OPENAT that the kernel chose: the trace asks for it. */
+static void slot_came(struct flight *flight, i32 result)
+{
+	struct entry *entry = flight->entry;
+	struct ring *ring = flight->ring;
+	u32 slot = (u32)result;
+
+	if (result < 0) { /* (it fails by its path, whatever the slot is) */
+		entry->sqe.file_index = 1;
+		return;
+	}
+	if (slot >= ring->slot_count || is_behind_change(flight, slot)) {
+		note("a slot that the kernel chose, and the replay has otherwise", entry);
+		put_aside(entry, OUTSIDE_SLOT);
+		return;
+	}
+	entry->sqe.file_index = entry->chosen = slot + 1;
+	entry->result = 0;
+	look_at_direct(flight->used);
+	if (ring->changed[slot].sequence <= flight->sequence)
+		slot_holds(ring, slot, hold(flight->used));
+}
+
 /* What follows from the result of an entry. */
 static void completed(struct flight *flight, pid_t thread, i32 result, bool is_fresh)
 {
@@ -178,12 +217,15 @@ static void completed(struct flight *flight, pid_t thread, i32 result, bool is_f
 	entry->state = ENTRY_POSTED;
 	entry->result = result;
 	entry->completed = time_now();
+	entry->record->has_taken |= result >= 0 && may_take_number(flight);
 	enum outside why =
 		entry->replaced && result < 0 ? OUTSIDE_OPCODE : outside_by_result(flight, result);
 	if (why == OUTSIDE_OPCODE)
 		put_outside(entry, why);
 	else if (why != INSIDE && entry->outside != OUTSIDE_OPCODE && !is_given(entry))
 		result_is_outside(flight, result, why);
+	if (awaits_slot(entry))
+		slot_came(flight, result);
 	if (flight->is_late)
 		late_write_came(flight, thread, result, is_fresh);
 	if (result > 0 && (opcode == OP_READ || opcode == OP_READV))
@@ -206,6 +248,8 @@ static void completed(struct flight *flight, pid_t thread, i32 result, bool is_f
 		look_at_direct(flight->used);
 	if (flight->moves && !entry->is_aside)
 		position_moved(flight->moves, result);
+	else if (is_given(entry))
+		given_moved(flight, result);
 }
 
 /* Finds the entry of a completion, and lets it go. */

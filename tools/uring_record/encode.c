@@ -268,8 +268,10 @@ void put_record(const struct record *record)
 	case RECORD_FILL:
 		put_fill(record);
 		break;
+	case RECORD_SET:
+	case RECORD_SEEK:
 	case RECORD_RING:
-		put_number(RECORD_RING, 1);
+		put_number(record->kind, 1);
 		put(record->bytes, record->length);
 		break;
 	case RECORD_RING_ENDS:

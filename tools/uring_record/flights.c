@@ -10,6 +10,7 @@
 #include <fcntl.h>
 #include <stdlib.h>
 #include <string.h>
+#include <unistd.h>
 
 /* So many flights that post nothing are kept in a ring. */
 enum { MOST_QUIET = 4096, MOST_LOOKS = 64, MOST_ALIKE = 65536 };
@@ -89,6 +90,26 @@ static void land_a_quiet_one(struct ring *ring)
 	}
 }
 
+/* Whether an entry fills slots in a way that is told behind it: those of a FILES_UPDATE, or such as
+ * the kernel chooses. */
+static bool fills_slots(const struct flight *flight)
+{
+	const struct io_uring_sqe *sqe = &flight->asked_for;
+
+	switch (sqe->opcode) {
+	case IORING_OP_FILES_UPDATE:
+		return true;
+	case IORING_OP_OPENAT:
+		return flight->entry->is_aside && sqe->file_index == IORING_FILE_INDEX_ALLOC;
+	case IORING_OP_OPENAT2:
+	case IORING_OP_ACCEPT:
+	case IORING_OP_SOCKET:
+		return sqe->file_index == IORING_FILE_INDEX_ALLOC;
+	default:
+		return false;
+	}
+}
+
 void launch(struct flight *flight)
 {
 	struct ring *ring = flight->ring;
@@ -104,9 +125,25 @@ void launch(struct flight *flight)
 	flight->opens = opens_in_table(&flight->entry->sqe) && !flight->entry->is_aside;
 	opens_in_flight += flight->opens;
 	ring->in_flight++;
+	flight->fills = fills_slots(flight);
+	ring->updating += flight->fills;
 	ring->has_quiet |= is_quiet(flight);
 	if (is_quiet(flight) && ++quiet_count > MOST_QUIET)
 		land_a_quiet_one(ring);
+}
+
+bool is_updating(const struct ring *ring, u32 slot)
+{
+	for (const struct flight *it = ring->updating ? ring->first : NULL; it; it = it->next) {
+		const struct io_uring_sqe *sqe = &it->asked_for;
+		u32 from = sqe->opcode == IORING_OP_FILES_UPDATE ? (u32)sqe->off
+								 : IORING_FILE_INDEX_ALLOC;
+		/* (the kernel chooses empty ones) */
+		bool is_any = from == IORING_FILE_INDEX_ALLOC && !ring->now[slot];
+		if (it->fills && (is_any || (slot >= from && slot - from < sqe->len)))
+			return true;
+	}
+	return false;
 }
 
 void mark_alike(struct entry *entry)
@@ -127,6 +164,16 @@ static void settle_alike(struct entry *entry)
 		entry->alike = NULL;
 		entry->is_alike = false;
 	}
+}
+
+/* Closes the copies that a flight has of descriptors. */
+static void let_go_of_copies(struct flight *flight)
+{
+	for (u32 at = 0; at < flight->copy_count; at++) {
+		if (flight->copies[at] >= 0)
+			close(flight->copies[at]);
+	}
+	free(flight->copies);
 }
 
 void land(struct flight *flight)
@@ -158,8 +205,10 @@ void land(struct flight *flight)
 	release(flight->changes);
 	free(flight->names[0]);
 	free(flight->names[1]);
+	let_go_of_copies(flight);
 	quiet_count -= is_quiet(flight);
 	ring->in_flight--;
+	ring->updating -= flight->fills;
 	flight->next = spare;
 	spare = flight;
 	if (record && record->is_gone) {

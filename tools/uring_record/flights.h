@@ -34,6 +34,8 @@ struct flight {
 	u64 renewals;	  /* those of its ring when it was submitted */
 	bool is_deferred; /* it may begin later than its submission */
 	bool opens;	  /* it opens a number of the table in the replay */
+	bool fills;	  /* it fills slots, which is told behind it */
+	bool is_blind;	  /* what its slot has was not known when it was submitted */
 	struct entry *alike; /* entries that may have had its completion, with their result */
 	i32 alike_result;
 	u32 alike_count;
@@ -54,6 +56,8 @@ struct flight {
 	char *names[2];	 /* of an entry that is outside: what it names, without dots and links */
 	bool is_nowhere; /* from where a name starts is not known */
 	u32 open_flags;	 /* of an open that is outside */
+	int *copies;	 /* of a FILES_UPDATE: the files of its descriptors */
+	u32 copy_count;
 	struct opened *moves; /* the description whose position it moves */
 	bool takes_place; /* a slot or number is taken, and has to be put back where the entry fails
 			   */
@@ -61,7 +65,7 @@ struct flight {
 	bool is_outside;  /* what comes into it is outside: the replay's slot stays as it is */
 	struct opened *before;
 	struct opened *foreign_before; /* (what is no file of the tree, in the slot) */
-	bool was_taken;		       /* (the same of a number) */
+	bool was_taken;		       /* (the same of a number, or of a slot in the replay) */
 
 	struct flight *next, *previous, *next_same, *previous_same;
 
@@ -74,6 +78,8 @@ struct flight {
 struct flight *new_flight(struct ring *ring, struct entry *entry, pid_t process);
 void launch(struct flight *flight);
 void land(struct flight *flight);
+/* Whether an entry in flight may put another file into a slot, which is told behind it. */
+bool is_updating(const struct ring *ring, u32 slot);
 /* The flight that a completion is of, or NULL. `is_sure` is false where it may be of another. */
 struct flight *flight_of(struct ring *ring, u64 user_data, i32 result, bool *is_sure);
 /* Marks entries that may have had each other's results. */

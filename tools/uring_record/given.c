@@ -333,6 +333,8 @@ void give_results(struct record *record)
 	struct entry *head = record->entries, *end = head + record->count;
 
 	for (struct entry *it = head; it < end; it++) {
+		if (awaits_slot(it))
+			put_aside(it, OUTSIDE_SLOT);
 		if (it + 1 < end && goes_on(&it->sqe))
 			continue;
 		give_chain(head, it + 1);

@@ -239,6 +239,11 @@ void summary(u64 places, u64 bytes, u32 rings)
 		"uring_record: %" PRIu64 " ordinary calls; %" PRIu64 " fills of %" PRIu64
 		" bytes\n",
 		counts.calls, counts.fills, counts.filled);
+	if (counts.sets + counts.seeks)
+		fprintf(stderr,
+			"uring_record: %" PRIu64 " sets and %" PRIu64
+			" seeks between submissions\n",
+			counts.sets, counts.seeks);
 	if (counts.not_taken)
 		fprintf(stderr,
 			"uring_record: %" PRIu64 " entries were left in the queue by a call\n",

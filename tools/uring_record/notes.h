@@ -18,6 +18,7 @@ struct counts {
 	u64 by_slot, by_descriptor, at_position;
 	u64 calls;	   /* ordinary calls that are recorded */
 	u64 fills, filled; /* fills, and their bytes */
+	u64 sets, seeks;   /* of version 3 */
 	u64 side_bytes;
 	u64 outside[OUTSIDE_COUNT]; /* entries of the trace by why they are not compared */
 	u64 given[OUTSIDE_COUNT];   /* and by why their results are given */

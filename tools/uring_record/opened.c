@@ -65,6 +65,12 @@ bool is_same(int one, int other)
 	return !syscall(SYS_kcmp, getpid(), getpid(), KCMP_FILE, one, other);
 }
 
+bool is_copy_of(const struct opened *opened, int copy, const struct stat *status)
+{
+	return opened && !opened->is_unsure && opened->inode == status->st_ino &&
+	       opened->device == status->st_dev && is_same(opened->descriptor, copy);
+}
+
 char *name_of(int descriptor)
 {
 	struct stat status, named;
@@ -147,6 +153,21 @@ struct opened *let_go_of(struct opened *opened)
 		close(opened->descriptor);
 	opened->descriptor = -1;
 	return opened;
+}
+
+struct opened *leave_opened(struct opened *opened)
+{
+	struct opened *left = opened;
+
+	if (options.format == 3 && opened->holders > 1) {
+		release(opened);
+		left = allocate(sizeof *left);
+		left->holders = 1;
+		left->descriptor = -1;
+	}
+	let_go_of(left);
+	left->is_unsure = true;
+	return left;
 }
 
 bool is_file_or_directory(int descriptor)

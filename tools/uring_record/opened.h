@@ -4,6 +4,8 @@
 
 #include "common.h"
 
+#include <sys/stat.h>
+
 /* A description that the replay has under some numbers of the table or slots. */
 struct opened {
 	u32 holders;	/* numbers and slots that lead to it */
@@ -26,6 +28,9 @@ bool is_open(pid_t process, int descriptor);
 bool leads_to(pid_t process, int descriptor, const struct opened *opened);
 /* Whether two descriptors of the recorder lead to one description. */
 bool is_same(int one, int other);
+/* Whether the replay is sure to have what a descriptor of the recorder leads to, whose status is
+ * this, as a description. */
+bool is_copy_of(const struct opened *opened, int copy, const struct stat *status);
 
 /* The name below the root of what a descriptor of the recorder leads to, in memory of its own, or
  * NULL. */
@@ -42,6 +47,9 @@ struct opened *new_opened(int descriptor, u64 position);
 struct opened *new_foreign(int descriptor);
 /* Closes the recorder's descriptor of one. */
 struct opened *let_go_of(struct opened *opened);
+/* The same for one that holds it, which is looked at anew where it is used: gives what it has from
+ * then on. In version 3 others that hold it keep it. */
+struct opened *leave_opened(struct opened *opened);
 /* Whether a descriptor of the recorder leads to a file or a directory. */
 bool is_file_or_directory(int descriptor);
 /* One that only a slot of the command leads to, by the path of the trace that it was opened by. */

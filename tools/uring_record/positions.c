@@ -1,6 +1,7 @@
 #include "positions.h"
 #include "made.h"
 #include "notes.h"
+#include "sets.h"
 #include "table.h"
 
 #include <fcntl.h>
@@ -87,12 +88,34 @@ void correct_position(struct ring *ring, struct entry *entry)
 	off_t position = lseek(opened->descriptor, 0, SEEK_CUR);
 	if (position < 0 || (u64)position == opened->position)
 		return;
+	if (options.format == 3) {
+		bool is_slot = entry->sqe.flags & FLAG_FIXED;
+		seek_to(is_slot ? of_slot(ring, (u32)entry->sqe.fd) : of_number(entry->sqe.fd),
+			(u64)position);
+		opened->position = (u64)position;
+		return;
+	}
 	if (set_position(ring, &entry->sqe, (u64)position)) {
 		note("a position that ordinary calls moved is made right by entries", entry);
 		return;
 	}
 	note("a position that ordinary calls moved, and that entries cannot make right", entry);
 	put_aside(entry, OUTSIDE_POSITION);
+}
+
+void given_moved(const struct flight *flight, i32 result)
+{
+	const struct io_uring_sqe *sqe = &flight->asked_for;
+	struct ring *ring = flight->ring;
+	u32 slot = (u32)sqe->fd;
+	bool is_moved = result > 0 && moves_bytes(sqe->opcode) && sqe->off == AT_POSITION &&
+			sqe->flags & FLAG_FIXED;
+
+	if (!is_moved || !flight->used || flight->used->descriptor >= 0 || flight->used->appends ||
+	    slot >= ring->slot_count || ring->now[slot] != flight->used)
+		return;
+	flight->used->position += (u64)result;
+	seek_to(of_slot(ring, slot), flight->used->position);
 }
 
 void position_moved(struct opened *opened, i32 result)

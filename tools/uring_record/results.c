@@ -254,6 +254,8 @@ static void write_entry(const struct record *record, const struct entry *entry)
 	if (is_given(entry))
 		fputs(" given=1", file);
 	fprintf(file, " op=%u", entry->opcode);
+	if (entry->chosen)
+		fprintf(file, " slot=%u", entry->chosen - 1);
 	if (entry->state == ENTRY_MADE)
 		fputs(" by=recorder", file);
 	if (entry->outside != INSIDE && !is_given(entry))

@@ -4,9 +4,11 @@
 #include "memory.h"
 #include "notes.h"
 #include "paths.h"
+#include "sets.h"
 #include "start.h"
 #include "table.h"
 
+#include <errno.h>
 #include <linux/kcmp.h>
 #include <stdio.h>
 #include <stdlib.h>
@@ -69,7 +71,9 @@ static void close_ring(struct ring *ring)
 	ring->descriptor = -1;
 	ring->sq = ring->cq = ring->sqes = 0;
 	for (u32 slot = 0; slot < ring->slot_count; slot++) {
-		if (ring->now[slot])
+		if (options.format == 3) /* (what else holds it keeps it) */
+			ring->now[slot] = release(ring->now[slot]);
+		else if (ring->now[slot])
 			let_go_of(ring->now[slot]);
 	}
 	end_ring(ring);
@@ -87,7 +91,7 @@ void let_go_of_process(pid_t process)
 	}
 	let_go_of_numbers(process);
 	if (ours && ours->now[0])
-		let_go_of(ours->now[0]);
+		ours->now[0] = leave_opened(ours->now[0]);
 	for (u64 at = 0; is_started() && process == home_process() && at < trace.description_count;
 	     at++)
 		let_go_of(trace.descriptions[at].opened);
@@ -101,7 +105,7 @@ void let_go_of_closed_files(void)
 			close_ring(ring);
 	}
 	if (ours && ours->now[0])
-		let_go_of(ours->now[0]);
+		ours->now[0] = leave_opened(ours->now[0]);
 	let_go_of_closed();
 	for (u64 at = 0; at < trace.description_count; at++) {
 		if (trace.descriptions[at].opened && trace.descriptions[at].opened->holders == 1)
@@ -187,15 +191,46 @@ bool kernel_count(const struct ring *ring, const char *word, u32 *count)
 	return is_told;
 }
 
+void slot_holds(struct ring *ring, u32 slot, struct opened *opened)
+{
+	release(ring->now[slot]);
+	ring->now[slot] = opened;
+	ring->foreign[slot] = release(ring->foreign[slot]);
+	ring->taken[slot] = false;
+}
+
+/* A slot has what is no file of the tree. */
+static void fill_with_foreign(struct ring *ring, u32 slot, int copy)
+{
+	if (is_started())
+		note("a registered file that is no file of the root", NULL);
+	ring->foreign[slot] = new_foreign(copy);
+}
+
+/* Opens the file of a descriptor of the recorder in a slot, or gives NULL. */
+static struct opened *open_in_slot(struct ring *ring, u32 slot, int copy)
+{
+	struct opened *opened = NULL;
+
+	if (options.format == 3) {
+		opened = set_opened(of_slot(ring, slot), copy);
+		ring->taken[slot] = ring->taken[slot] && !opened;
+		return opened;
+	}
+	char *name = name_of(copy);
+	if (name)
+		opened = make_again(ring, slot + 1, name, copy, 0);
+	free(name);
+	return opened;
+}
+
 /* Puts a file of the tree into a slot: at the start of the trace where that is the same, else by an
- * entry. */
+ * entry or a set. */
 static void fill_slot(struct ring *ring, u32 slot, int copy)
 {
 	ring->foreign[slot] = release(ring->foreign[slot]);
 	if (!is_file_or_directory(copy)) {
-		if (is_started())
-			note("a registered file that is no file of the root", NULL);
-		ring->foreign[slot] = new_foreign(copy);
+		fill_with_foreign(ring, slot, copy);
 		return;
 	}
 	if (!is_started()) {
@@ -209,25 +244,33 @@ static void fill_slot(struct ring *ring, u32 slot, int copy)
 		close(copy);
 		return;
 	}
-	char *name = name_of(copy);
-	if (name) {
-		ring->now[slot] = make_again(ring, slot + 1, name, copy, 0);
-	} else {
-		note("a registered file that is no file of the root", NULL);
-		ring->foreign[slot] = new_foreign(copy);
-	}
-	free(name);
+	ring->now[slot] = open_in_slot(ring, slot, copy);
+	if (!ring->now[slot])
+		fill_with_foreign(ring, slot, copy);
 }
 
-/* Empties a slot: at the start where that is the same, else by an entry. */
-static void empty_slot(struct ring *ring, u32 slot)
+/* Empties a slot: at the start where that is the same, else by an entry or a set. */
+void empty_slot(struct ring *ring, u32 slot)
 {
 	if (!is_started() || !ring->is_begun)
 		ring->slots[slot] = 0;
+	else if (options.format == 3 && (ring->now[slot] || ring->taken[slot]))
+		set_nothing(of_slot(ring, slot));
 	else if (ring->now[slot])
 		make_close(ring, slot + 1, 0);
+	ring->taken[slot] = false;
 	ring->now[slot] = release(ring->now[slot]);
 	ring->foreign[slot] = release(ring->foreign[slot]);
+}
+
+void give_up_slot(struct ring *ring, u32 slot)
+{
+	if (options.format == 3) {
+		set_taken(of_slot(ring, slot));
+		ring->taken[slot] = true;
+	} else {
+		make_close(ring, slot + 1, 0);
+	}
 }
 
 u32 most_slots(void)
@@ -360,15 +403,29 @@ static void set_slot(struct ring *ring, u32 slot, int descriptor)
 	if (descriptor == IORING_REGISTER_FILES_SKIP)
 		return;
 	int copy = copy_descriptor(ring->process, descriptor);
-	if (copy < 0) {
-		empty_slot(ring, slot);
+	if (copy >= 0) {
+		put_into_slot(ring, slot, copy);
+		return;
+	}
+	ring->changed[slot] = (struct change){ ring->sequence, NO_CHAIN };
+	empty_slot(ring, slot);
+}
+
+void put_into_slot(struct ring *ring, u32 slot, int copy)
+{
+	bool is_there = !ring->foreign[slot] && ring->now[slot] &&
+			is_same(ring->now[slot]->descriptor, copy);
+
+	ring->changed[slot] = (struct change){ ring->sequence, NO_CHAIN };
+	if (options.format == 3 && (is_there || slot >= ring->slot_count)) {
+		close(copy);
 		return;
 	}
 	bool was_full = ring->now[slot] && is_started() && ring->is_begun;
 	ring->now[slot] = release(ring->now[slot]);
 	fill_slot(ring, slot, copy);
 	if (was_full && ring->foreign[slot])
-		make_close(ring, slot + 1, 0);
+		give_up_slot(ring, slot);
 }
 
 /* Puts a list of descriptors into slots; without a list the slots are emptied. */
@@ -378,9 +435,39 @@ static void set_slots(struct ring *ring, pid_t thread, u32 from, u64 list, u32 c
 		set_slot(ring, from + at, list ? (int)fetch_word(thread, list + 4ULL * at) : -1);
 }
 
-void update_slots(struct ring *ring, pid_t thread, u32 from, u64 list, u32 count)
+/* Empties the slot of the descriptor of a list at which the kernel stopped. */
+static void empty_failed(struct ring *ring, pid_t thread, u32 slot, u64 address)
 {
-	set_slots(ring, thread, from, list, count);
+	int number;
+
+	if (slot >= ring->slot_count || !fetch(thread, address, &number, sizeof number) ||
+	    number == -1 || number == IORING_REGISTER_FILES_SKIP)
+		return;
+	ring->changed[slot] = (struct change){ ring->sequence, NO_CHAIN };
+	empty_slot(ring, slot);
+}
+
+void update_slots(struct ring *ring, pid_t thread, u32 from, u64 list, u32 count, i64 done)
+{
+	if (options.format != 3) {
+		set_slots(ring, thread, from, list, done < 0 ? 0 : count);
+		return;
+	}
+	u32 put = done < 0 ? 0 : (u32)done;
+	set_slots(ring, thread, from, list, put);
+	if (put < count && (done > 0 || done == -EBADF))
+		empty_failed(ring, thread, from + put, list + 4ULL * put);
+}
+
+void updated_files(struct ring *ring, pid_t thread, u32 operation, u64 argument, u32 count,
+		   i64 done)
+{
+	struct io_uring_rsrc_update2 update = { 0 };
+	bool has_count = operation == IORING_REGISTER_FILES_UPDATE2;
+
+	if (fetch(thread, argument, &update, has_count ? sizeof update : 16))
+		update_slots(ring, thread, update.offset, update.data,
+			     has_count ? update.nr : count, done);
 }
 
 /* Registers a list of descriptors, which says how many slots there are. */
@@ -493,7 +580,6 @@ static void registered_files(struct ring *ring, pid_t thread, u32 operation, u64
 			     u32 count)
 {
 	struct io_uring_rsrc_register all = { 0 };
-	struct io_uring_rsrc_update2 update = { 0 };
 
 	switch (operation) {
 	case IORING_REGISTER_FILES:
@@ -507,14 +593,6 @@ static void registered_files(struct ring *ring, pid_t thread, u32 operation, u64
 	case IORING_REGISTER_FILES2:
 		fetch(thread, argument, &all, sizeof all);
 		add_slots(ring, thread, all.data, all.nr);
-		break;
-	case IORING_REGISTER_FILES_UPDATE:
-		fetch(thread, argument, &update, 16);
-		set_slots(ring, thread, update.offset, update.data, count);
-		break;
-	case IORING_REGISTER_FILES_UPDATE2:
-		fetch(thread, argument, &update, sizeof update);
-		set_slots(ring, thread, update.offset, update.data, update.nr);
 		break;
 	}
 }

@@ -16,6 +16,12 @@ struct buffer {
 
 struct flight;
 
+/* The entry that changed a slot last, by its number and its chain; or a call before an entry. */
+struct change {
+	u64 sequence, chain;
+};
+#define NO_CHAIN UINT64_MAX
+
 struct ring {
 	u32 number;
 	bool has_number; /* of version 3: there is a ring with its number in the trace */
@@ -38,6 +44,7 @@ struct ring {
 	bool overflows; /* completions wait behind the queue: they are not as new as they seem */
 	bool has_quiet; /* an entry asked for CQE_SKIP_SUCCESS */
 	bool has_index; /* a thread has it by an index of its own */
+	u32 updating;	/* how many of them fill slots, which is told behind them */
 	pid_t user;	/* the thread of the last call */
 	bool is_shared; /* several threads use it: no call of it is made to wait */
 
@@ -50,6 +57,8 @@ struct ring {
 	struct opened *now[MOST_SLOTS];
 	struct opened
 		*foreign[MOST_SLOTS]; /* what is no file of the tree, which the command has there */
+	bool taken[MOST_SLOTS];	      /* the replay has something there that is none, too */
+	struct change changed[MOST_SLOTS]; /* what changed the slot last */
 
 	/* Buffers of the trace, and which of them, from 1, the command's indexes are: 0 for none,
 	 * less for one that is left out. */
@@ -94,8 +103,22 @@ bool kernel_count(const struct ring *ring, const char *word, u32 *count);
 /* What io_uring_register(2) did: `from` is the ring that buffers are cloned from. */
 void registered(struct ring *ring, const struct ring *from, pid_t thread, u32 operation,
 		u64 argument, u32 count);
-/* Puts a list of descriptors of the command into slots. */
-void update_slots(struct ring *ring, pid_t thread, u32 from, u64 list, u32 count);
+/* Puts a list of descriptors of the command into slots, of which the kernel has done so many. It
+ * has emptied the slot of the next one, which is none. (Versions 1 and 2 take all or none.) */
+void update_slots(struct ring *ring, pid_t thread, u32 from, u64 list, u32 count, i64 done);
+/* The same for io_uring_register(2), also where it failed. */
+void updated_files(struct ring *ring, pid_t thread, u32 operation, u64 argument, u32 count,
+		   i64 done);
+/* Puts what a descriptor of the recorder leads to into a slot that a trace has. The descriptor
+ * becomes the slot's. */
+void put_into_slot(struct ring *ring, u32 slot, int copy);
+/* The command has nothing in a slot. */
+void empty_slot(struct ring *ring, u32 slot);
+/* The command has something in a slot that is no file of the tree: what the replay has there goes.
+ */
+void give_up_slot(struct ring *ring, u32 slot);
+/* The replay has a description in a slot from here on, which becomes the slot's. */
+void slot_holds(struct ring *ring, u32 slot, struct opened *opened);
 /* So many slots a ring of the command may have in the trace. */
 u32 most_slots(void);
 /* Puts the slots at the start of the trace; slots that are no files of the tree stay empty. */

@@ -1,6 +1,7 @@
 #include "submissions.h"
 #include "ahead.h"
 #include "aside.h"
+#include "begun.h"
 #include "completions.h"
 #include "given.h"
 #include "meetings.h"
@@ -75,12 +76,22 @@ static bool has_other_stat_flags(const struct io_uring_sqe *sqe)
 	return sqe->statx_flags & ~served || (sqe->statx_flags & both) == both || sqe->len >> 31;
 }
 
+/* Whether an entry opens or closes a slot that the trace cannot tell: in version 3 one that the
+ * kernel chooses is told once it is known. */
+static bool has_other_slot(const struct ring *ring, const struct io_uring_sqe *sqe)
+{
+	if (sqe->opcode != OP_OPENAT && sqe->opcode != OP_CLOSE)
+		return false;
+	if (sqe->file_index == IORING_FILE_INDEX_ALLOC)
+		return options.format != 3 || sqe->opcode != OP_OPENAT || !ring->registered;
+	return sqe->file_index > ring->registered || sqe->file_index > most_slots();
+}
+
 /* Why an entry asks for what lies outside the profile by its fields, and the replay may answer
  * otherwise. */
 static enum outside outside_by_fields(const struct ring *ring, const struct io_uring_sqe *sqe)
 {
 	u8 opcode = sqe->opcode;
-	bool has_index = opcode == OP_OPENAT || opcode == OP_CLOSE;
 
 	if (!is_served(opcode))
 		return OUTSIDE_OPCODE;
@@ -100,8 +111,7 @@ static enum outside outside_by_fields(const struct ring *ring, const struct io_u
 		return OUTSIDE_FLAGS;
 	if (opcode == OP_STATX && has_other_stat_flags(sqe))
 		return OUTSIDE_FLAGS;
-	if (has_index && (sqe->file_index == IORING_FILE_INDEX_ALLOC ||
-			  sqe->file_index > ring->registered || sqe->file_index > most_slots()))
+	if (has_other_slot(ring, sqe))
 		return OUTSIDE_SLOT;
 	if (opcode == OP_OPENAT) {
 		u32 made = O_CREAT | O_DIRECTORY;
@@ -200,6 +210,55 @@ static void number_leads_elsewhere(struct flight *flight)
 	release(foreign);
 }
 
+/* Whether an entry in flight puts something into a slot that is no file of the tree. */
+static bool is_filled_in_flight(const struct ring *ring, u32 slot)
+{
+	for (const struct flight *it = ring->first; it; it = it->next) {
+		if (it->takes_place && it->is_outside && it->slot == slot + 1)
+			return true;
+	}
+	return false;
+}
+
+/* Whether the replay decides a CLOSE of a slot that has what is no file of the tree: it is taken
+ * there, too. */
+static bool closes_foreign(struct flight *flight)
+{
+	struct ring *ring = flight->ring;
+	u32 slot = flight->entry->sqe.file_index - 1;
+
+	if (options.format != 3 || flight->entry->is_aside || is_filled_in_flight(ring, slot))
+		return false;
+	if (!ring->taken[slot])
+		give_up_slot(ring, slot);
+	return true;
+}
+
+/* An entry on a slot of which it is not known yet what another one in flight puts there: that is
+ * told behind it. */
+static void slot_is_updated(struct flight *flight)
+{
+	leads_elsewhere(flight->entry, true);
+	flight->is_blind = true;
+}
+
+/* Whether the slot of an entry is one that another one in flight may fill so. */
+static bool is_updated(struct flight *flight)
+{
+	struct ring *ring = flight->ring;
+	const struct io_uring_sqe *sqe = &flight->entry->sqe;
+	bool uses = uses_file(sqe) && sqe->flags & FLAG_FIXED;
+	bool closes = sqe->opcode == OP_CLOSE && sqe->file_index;
+	u32 slot = uses ? (u32)sqe->fd : sqe->file_index - 1;
+
+	if (options.format != 3 || !(uses || closes) || slot >= ring->slot_count)
+		return false;
+	bool is_any = is_updating(ring, slot);
+	if (is_any)
+		slot_is_updated(flight);
+	return is_any;
+}
+
 /* Makes the descriptor or slot of an entry lead in the replay where it leads in the command. */
 static void ensure_place(struct flight *flight)
 {
@@ -208,6 +267,8 @@ static void ensure_place(struct flight *flight)
 	struct io_uring_sqe *sqe = &entry->sqe;
 	bool closes = closes_in_table(sqe);
 
+	if (is_updated(flight))
+		return;
 	if (uses_file(sqe) && sqe->flags & FLAG_FIXED) {
 		u32 slot = (u32)sqe->fd;
 		struct opened *foreign = foreign_in(ring, slot);
@@ -217,15 +278,16 @@ static void ensure_place(struct flight *flight)
 			slot_is_beyond(ring, entry);
 		return;
 	}
-	if (sqe->opcode == OP_CLOSE && foreign_in(ring, sqe->file_index - 1)) {
+	if (sqe->opcode == OP_CLOSE && foreign_in(ring, sqe->file_index - 1) &&
+	    !closes_foreign(flight))
 		leads_elsewhere(entry, true);
-	}
 	if (!uses_file(sqe) && !closes)
 		return;
 	enum leads leads = (options.format == 1) ? ensure_slot(ring, flight->process, sqe->fd)
 						 : ensure_number(flight->process, sqe->fd);
 	/* (where the replay has the root at a number, to close it is the same) */
-	if (leads == LEADS_ELSEWHERE && !(options.format == 3 && closes && is_taken(sqe->fd)))
+	bool is_decided = options.format == 3 && closes && !entry->is_aside;
+	if (leads == LEADS_ELSEWHERE && !(is_decided && take_as_other(sqe->fd)))
 		number_leads_elsewhere(flight);
 	if (options.format != 1 || leads != LEADS_TO_FILE)
 		return;
@@ -247,15 +309,19 @@ static void take_place(struct flight *flight)
 
 	if (sqe->opcode == OP_OPENAT && flight->entry->is_aside) {
 		take_outside_slot(flight, sqe->file_index, hold(flight->used));
-	} else if (closes_in_table(sqe) && flight->entry->is_aside) {
-		return; /* (that it is closed is seen when the number is looked at) */
+	} else if (flight->is_blind || (closes_in_table(sqe) && flight->entry->is_aside)) {
+		return; /* (that it is closed is seen when the number is looked at, or at its end)
+			 */
 	} else if (sqe->file_index && slot < flight->ring->slot_count) {
 		flight->takes_place = true;
 		flight->slot = sqe->file_index;
 		flight->before = flight->ring->now[slot];
 		flight->foreign_before = flight->ring->foreign[slot];
+		flight->was_taken = flight->ring->taken[slot];
 		flight->ring->now[slot] = sqe->opcode == OP_OPENAT ? hold(flight->used) : NULL;
 		flight->ring->foreign[slot] = NULL;
+		flight->ring->taken[slot] = false;
+		flight->ring->changed[slot] = (struct change){ flight->sequence, flight->chain };
 	} else if (closes_in_table(sqe)) {
 		flight->takes_place = true;
 		flight->before = take_number(sqe->fd, &flight->was_taken);
@@ -402,6 +468,8 @@ static void take_entry(struct ring *ring, struct entry *entry, struct chain *cha
 		options.format != 3 && (entry->is_aside || entry->outside == OUTSIDE_DESCRIPTOR ||
 					(why == OUTSIDE_OPCODE && !entry->replaced));
 	chain->may_fill |= is_given(entry) && may_fill_memory(entry);
+	if (!entry->record->taker && may_take_number(flight))
+		entry->record->taker = (u32)(entry - entry->record->entries) + 1;
 	launch(flight);
 }
 
@@ -540,6 +608,8 @@ struct record *submission(struct ring *ring, pid_t thread, pid_t process, u32 wa
 		trace.uses_table |=
 			options.format != 1 && sqe->opcode == OP_RENAMEAT && sqe->rename_flags & 2;
 	}
+	if (options.format == 3) /* (with its slots as they are before these entries) */
+		begin_ring(ring);
 	if (opens && options.format != 1)
 		match_lowest(ring->submitter, opens, count_opens_in_flight());
 	take_entries(ring, thread, record);

@@ -1,6 +1,7 @@
 #include "table.h"
 #include "made.h"
 #include "notes.h"
+#include "sets.h"
 #include "start.h"
 
 #include <fcntl.h>
@@ -48,6 +49,15 @@ struct opened *opened_at(int number)
 	return number < 0 || (u32)number >= trace.table_size ? NULL : places[number].opened;
 }
 
+int number_with(int copy, const struct stat *status)
+{
+	for (u32 number = 0; number < trace.table_size; number++) {
+		if (is_copy_of(places[number].opened, copy, status))
+			return (int)number;
+	}
+	return -1;
+}
+
 bool is_taken(int number)
 {
 	return number >= 0 && (u32)number < trace.table_size && places[number].state != PLACE_FREE;
@@ -56,9 +66,24 @@ bool is_taken(int number)
 /* Closes a number in the replay. */
 static void close_number(int number)
 {
-	make_close(our_ring(), 0, number);
+	if (options.format == 3)
+		set_nothing(of_number(number));
+	else
+		make_close(our_ring(), 0, number);
 	places[number].opened = release(places[number].opened);
 	places[number].state = PLACE_FREE;
+}
+
+/* A number has what is no file of the tree, in place of what the replay has there. */
+static void leave_number(int number)
+{
+	if (options.format != 3) {
+		close_number(number);
+		return;
+	}
+	set_taken(of_number(number));
+	places[number].opened = release(places[number].opened);
+	places[number].state = PLACE_TAKEN;
 }
 
 /* Opens a path at a number: lower ones that are free are taken meanwhile. The descriptor becomes
@@ -81,6 +106,33 @@ static void open_number(pid_t process, int number, const char *path, int copy)
 		make_close(our_ring(), 0, lower[--count]);
 }
 
+/* Opens the file of a descriptor of the recorder at a number in place of what is there; false where
+ * neither a path nor the replay has it. */
+static bool open_at_number(pid_t process, int number, int copy)
+{
+	struct place *place = &places[number];
+
+	if (options.format == 3) {
+		struct opened *opened = set_opened(of_number(number), copy);
+		if (opened) {
+			release(place->opened);
+			*place = (struct place){ .state = PLACE_FILE,
+						 .opened = opened,
+						 .process = process,
+						 .batch = place->batch };
+		}
+		return opened;
+	}
+	char *name = name_of(copy);
+	if (!name)
+		return false;
+	if (place->state != PLACE_FREE)
+		close_number(number);
+	open_number(process, number, name, copy);
+	free(name);
+	return true;
+}
+
 /* Makes a number that leads elsewhere than in the replay lead there. */
 static enum leads correct_number(pid_t process, int number)
 {
@@ -92,21 +144,14 @@ static enum leads correct_number(pid_t process, int number)
 			close_number(number);
 		return LEADS_NOWHERE;
 	}
-	char *name = name_of(copy);
-	if (!name) {
-		/* (a file that lost its name is as good as any that the replay may have here) */
-		bool is_kept =
-			place->state == PLACE_FILE && is_same(copy, place->opened->descriptor);
-		if (place->state == PLACE_FILE && !is_kept)
-			close_number(number);
-		close(copy);
-		return is_kept ? LEADS_TO_FILE : LEADS_ELSEWHERE;
-	}
-	if (place->state != PLACE_FREE)
-		close_number(number);
-	open_number(process, number, name, copy);
-	free(name);
-	return LEADS_TO_FILE;
+	if (open_at_number(process, number, copy))
+		return LEADS_TO_FILE;
+	/* (a file that lost its name is as good as any that the replay may have here) */
+	bool is_kept = place->state == PLACE_FILE && is_same(copy, place->opened->descriptor);
+	if (place->state == PLACE_FILE && !is_kept)
+		leave_number(number);
+	close(copy);
+	return is_kept ? LEADS_TO_FILE : LEADS_ELSEWHERE;
 }
 
 enum leads ensure_number(pid_t process, int number)
@@ -156,14 +201,28 @@ enum leads ensure_slot(struct ring *ring, pid_t process, int number)
 	return ring->now[slot] ? LEADS_TO_FILE : LEADS_ELSEWHERE;
 }
 
+bool take_as_other(int number)
+{
+	if (number < 0 || (u32)number >= trace.table_size)
+		return false;
+	struct place *place = &places[number];
+	if (place->state != PLACE_FREE)
+		return place->state == PLACE_TAKEN;
+	if (options.format == 3) {
+		set_taken(of_number(number));
+	} else {
+		make_open(our_ring(), 0, taken_name, O_CREAT, number);
+		make_path(OP_UNLINKAT, 0, taken_name);
+	}
+	place->state = PLACE_TAKEN;
+	return true;
+}
+
 /* A number that is open in the command and free in the replay is taken there too. */
 static void take_in_replay(pid_t process, int number)
 {
-	if (ensure_number(process, number) == LEADS_TO_FILE)
-		return;
-	make_open(our_ring(), 0, taken_name, O_CREAT, number);
-	make_path(OP_UNLINKAT, 0, taken_name);
-	places[number].state = PLACE_TAKEN;
+	if (ensure_number(process, number) != LEADS_TO_FILE)
+		take_as_other(number);
 }
 
 void match_lowest(pid_t process, u32 opens, u32 opens_in_flight)
@@ -193,11 +252,9 @@ void match_lowest(pid_t process, u32 opens, u32 opens_in_flight)
 void let_go_of_numbers(pid_t process)
 {
 	for (u32 number = 0; number < MOST_TABLE; number++) {
-		struct opened *opened = places[number].opened;
-		if (!opened || places[number].process != process)
-			continue;
-		let_go_of(opened);
-		opened->is_unsure = true;
+		struct place *place = &places[number];
+		if (place->opened && place->process == process)
+			place->opened = leave_opened(place->opened);
 	}
 }
 
@@ -208,8 +265,7 @@ void let_go_of_closed(void)
 		if (!place->opened || place->opened->descriptor < 0 ||
 		    leads_to(place->process, (int)number, place->opened))
 			continue;
-		let_go_of(place->opened);
-		place->opened->is_unsure = true;
+		place->opened = leave_opened(place->opened);
 	}
 }
 
@@ -258,6 +314,20 @@ void number_closed(int number)
 		places[number].is_closing = false;
 }
 
+void number_installed(pid_t process, int number, struct ring *ring, u32 slot)
+{
+	if (number < 0 || (u32)number >= trace.table_size || places[number].is_closing)
+		return;
+	struct opened *opened = set_slot_of(of_number(number), ring, slot);
+	if (!opened)
+		return;
+	if (opened->descriptor < 0) /* (its position can be seen from here on) */
+		opened->descriptor = copy_descriptor(process, number);
+	release(places[number].opened);
+	places[number] =
+		(struct place){ .state = PLACE_FILE, .opened = opened, .process = process };
+}
+
 void number_opened(pid_t process, int number, bool is_unsure)
 {
 	if (number < 0 || (u32)number >= trace.table_size)
@@ -270,10 +340,17 @@ void number_opened(pid_t process, int number, bool is_unsure)
 		is_unsure = true;
 	}
 	release(place->opened);
+	if (options.format == 3 && copy < 0) { /* (it is closed again, maybe not by an entry) */
+		place->opened = NULL;
+		close_number(number);
+		return;
+	}
 	if (copy >= 0 && !is_file_or_directory(copy)) {
 		close(copy);
 		copy = -1;
 	}
+	if (options.format == 3 && copy < 0)
+		set_taken(of_number(number));
 	place->state = copy < 0 ? PLACE_TAKEN : PLACE_FILE;
 	place->process = process;
 	place->opened = copy < 0 ? NULL : new_opened(copy, 0);

@@ -15,6 +15,9 @@ void begin_batch(void);
 
 /* Whether the replay has something at a number. */
 bool is_taken(int number);
+/* A number that leads to what is no file of the tree is taken in the replay, too; false where the
+ * trace cannot have it. */
+bool take_as_other(int number);
 /* Makes a number lead in the replay where it leads in the command. */
 enum leads ensure_number(pid_t process, int number);
 /* The same for version 1, with a slot of the ring for the number. */
@@ -33,6 +36,9 @@ void let_go_of_closed(void);
 
 /* What the replay has at a number, or NULL. */
 struct opened *opened_at(int number);
+/* The number at which the replay has what a descriptor of the recorder leads to, whose status is
+ * this, or -1. */
+int number_with(int copy, const struct stat *status);
 /* An entry in flight closes a number; the description is the caller's. `was_taken` says that it is
  * no file. */
 struct opened *take_number(int number, bool *was_taken);
@@ -40,6 +46,8 @@ struct opened *take_number(int number, bool *was_taken);
 void give_back_number(int number, struct opened *opened, bool was_taken);
 /* The entry is in flight no more. */
 void number_closed(int number);
+/* In version 3: an entry of the command gave a number what a slot of a ring has. */
+void number_installed(pid_t process, int number, struct ring *ring, u32 slot);
 /* An entry of the command opened a number. */
 void number_opened(pid_t process, int number, bool is_unsure);
 

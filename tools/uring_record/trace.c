@@ -243,11 +243,17 @@ static void look_at_places(u64 places)
 		end_recording("the trace has 1,048,576 places, as many as it may have");
 }
 
+/* The bytes of a record that is none of entries, beside its first ones. */
+static u64 bytes_beside(const struct record *record)
+{
+	return record->kind == RECORD_FILL ? stored_of(record->length) : record->length;
+}
+
 void append_record(struct record *record)
 {
 	u64 bytes = record->kind == RECORD_ENTRIES
 			    ? more_of(ENTRIES_BYTES, MORE_OF_ENTRIES)
-			    : more_of(FILL_BYTES, MORE_OF_FILL) + stored_of(record->length);
+			    : more_of(FILL_BYTES, MORE_OF_FILL) + bytes_beside(record);
 	u32 places = places_of(record);
 
 	for (u32 at = 0; at < record->count; at++)
@@ -352,6 +358,12 @@ bool opens_in_table(const struct io_uring_sqe *sqe)
 bool closes_in_table(const struct io_uring_sqe *sqe)
 {
 	return sqe->opcode == OP_CLOSE && !sqe->file_index;
+}
+
+bool awaits_slot(const struct entry *entry)
+{
+	return options.format == 3 && entry->sqe.opcode == OP_OPENAT && !entry->is_aside &&
+	       entry->sqe.file_index == IORING_FILE_INDEX_ALLOC;
 }
 
 bool goes_on(const struct io_uring_sqe *sqe)

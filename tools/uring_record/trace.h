@@ -107,19 +107,22 @@ struct entry {
 	u64 data_length;	  /* how many bytes it read into the program's memory */
 	u8 data[DATA_SHOWN];
 	u64 place;
+	u32 chosen; /* of an OPENAT whose slot the kernel chose: the slot, from 1 */
 	const struct entry *told_by; /* of an ordinary call that ran: the entry that it became */
 };
 
-/* (the last two are of version 3) */
+/* (all but the first two are of version 3) */
 enum record_kind {
 	RECORD_ENTRIES = 1,
 	RECORD_FILL = 2,
+	RECORD_SET = 3,
+	RECORD_SEEK = 4,
 	RECORD_RING = 5,
 	RECORD_RING_ENDS = 6,
 };
 
-/* What one call submitted, bytes that the program put into a registered buffer, or a ring's begin
- * or end. */
+/* What one call submitted, bytes that the program put into a registered buffer, what a slot or
+ * number holds, a position, or a ring's begin or end. */
 struct record {
 	enum record_kind kind;
 	struct ring *of;
@@ -135,6 +138,8 @@ struct record {
 	u32 final;    /* so many will have no other result or mark */
 	u32 from;     /* where in the queue its call begins */
 	u32 claimed;  /* how many places of the queue its call takes, or would have taken */
+	u32 taker; /* the first entry, from 1, that may take a number which the replay does not */
+	bool has_taken; /* such an entry did */
 	struct entry *entries;
 	u16 buffer;
 	u32 offset;
@@ -215,6 +220,9 @@ bool changes_file(u8 opcode);
 /* Whether an OPENAT or CLOSE is of the descriptor table. */
 bool opens_in_table(const struct io_uring_sqe *sqe);
 bool closes_in_table(const struct io_uring_sqe *sqe);
+/* Whether an OPENAT that the replay decides is to have the slot that the kernel chooses, which is
+ * not known yet. */
+bool awaits_slot(const struct entry *entry);
 /* Whether the chain of an entry goes on behind it. */
 bool goes_on(const struct io_uring_sqe *sqe);
 

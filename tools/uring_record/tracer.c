@@ -456,7 +456,10 @@ static void register_ended(struct thread *thread, i64 result)
 	u32 operation = (u32)arguments[1] & ~REGISTER_USE_REGISTERED_RING;
 	bool is_by_index = arguments[1] & REGISTER_USE_REGISTERED_RING;
 
-	if (result < 0)
+	bool updates_files = operation == IORING_REGISTER_FILES_UPDATE ||
+			     operation == IORING_REGISTER_FILES_UPDATE2;
+
+	if (result < 0 && !updates_files)
 		return;
 	if (operation == REGISTER_RING_FDS || operation == UNREGISTER_RING_FDS) {
 		rings_registered(thread, operation == REGISTER_RING_FDS);
@@ -466,7 +469,11 @@ static void register_ended(struct thread *thread, i64 result)
 	if (operation == REGISTER_CLONE_BUFFERS)
 		from = ring_of(thread, fetch_word(thread->id, arguments[2]),
 			       fetch_word(thread->id, arguments[2] + 4) & 1);
-	if (ring && !trace.is_ended)
+	if (!ring || trace.is_ended)
+		return;
+	if (updates_files)
+		updated_files(ring, thread->id, operation, arguments[2], (u32)arguments[3], result);
+	else
 		registered(ring, from, thread->id, operation, arguments[2], (u32)arguments[3]);
 }
 
