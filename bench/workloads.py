@@ -17,8 +17,9 @@
                                   WRITE, READ_FIXED or WRITE_FIXED of as many in turn; 64 buffers
     workloads.py appends N           WRITEs of 64 bytes to a file that is open to append
     workloads.py files N KB          WRITEs of KB kilobytes to 64 files in turn, one behind another; nothing collides
+    workloads.py lone N KB           the same, each in a record of its own
 
-Enter records have 64 entries (`rings`: 16), rings take turns. N is at most 1,048,576.
+Enter records have 64 entries (`rings`: 16, `lone`: 1), rings take turns. N is at most 1,048,576.
 """
 import os
 import random
@@ -225,24 +226,29 @@ def appends(n):
     records(n, 64, 1, make)
 
 
-def files(n, kb):
+def files(n, kb, per=64):
     r = random.Random(9)
     size = kb << 10
 
     def items():
         for i in range(64):
             yield from file(b"/file%02d" % i, 0)
-    start(items(), 64, range(1, 65), [(range(1, 65), [])], n, 64)
+    start(items(), 64, range(1, 65), [(range(1, 65), [])], n, per)
     data = r.randbytes(size + 65536)
 
     def make(k, ring):
         at = k * 613 & 0xffff
         return entry(WRITE, FIXED_FILE, k % 64, k // 64 * size, length=size, user_data=k, side=data[at:at + size])
-    records(n, 64, 1, make)
+    records(n, per, 1, make)
+
+
+def lone(n, kb):
+    files(n, kb, 1)
 
 
 KINDS = {"rw": (rw, 3), "rings": (rings, 1), "one_file": (one_file, 1), "paths": (paths, 1), "chains": (chains, 1),
-         "big": (big, 2), "position": (position, 2), "pages": (pages, 2), "appends": (appends, 1), "files": (files, 2)}
+         "big": (big, 2), "position": (position, 2), "pages": (pages, 2), "appends": (appends, 1), "files": (files, 2),
+         "lone": (lone, 2)}
 
 
 def main(a):
