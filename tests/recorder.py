@@ -135,6 +135,12 @@ def record(program: Program, name: str, words: Sequence[str], command: Sequence[
     return Recording(ran, path, fault)
 
 
+def record_strictly(program: Program, name: str, words: Sequence[str], command: Sequence[str]) -> Recording:
+    """A recording by the recorder that checks itself, of a program that has to end well."""
+    made = record(program, name, words, command, "strict_record")
+    return made._replace(fault=fault_of(made.ran)) if made.ran.status or "runtime error" in made.ran.said() else made
+
+
 def same(program: Program, mode: Sequence[str], words: Sequence[str], recorder: str = "uring_record", compares: bool = True) -> Outcome:
     """A program ends as it does alone, and says the same."""
     built = tools()

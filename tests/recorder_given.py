@@ -9,7 +9,7 @@ import model
 import model_records
 from harness import EXAMPLES, Job, Outcome, Program, first, skipped
 from recorded import FOLDERS, SOURCES, compared, read_file, traces_in
-from recorder import UNTRIED, Built, accepted, fault_of, ran_in, replayed, tools
+from recorder import UNTRIED, Built, accepted, fault_of, ran_in, record_strictly, replayed, tools
 from recorder_streams import LOCK, record, streams
 from traces import FADVISE, FSYNC, READ, READ_FIXED, SYNC_FILE_RANGE, WRITE_FIXED
 
@@ -71,11 +71,9 @@ def of_mode(program: Program, mode: Mode, words: Sequence[str]) -> List[Outcome]
     """A program: it ends as alone, what the trace gives is right, and the replay is what the kernel gave."""
     found = built()
     label = "given results: {}{}".format(mode.name, "".join(" " + it for it in words))
-    path = found.directory("given-" + mode.name + "".join(words))
-    ran = ran_in(path, [found.file("strict_record"), *words, "-o", path + ".trace", "-k", path + ".kernel", "--", found.file("given"), mode.name])
+    ran, path, fault = record_strictly(program, "given-" + mode.name + "".join(words), words, [found.file("given"), mode.name])
     if ran.status == UNTRIED:
         return skipped(label, ran.said().split("\n")[0])
-    fault = fault_of(ran) if ran.status or "runtime error" in ran.said() else accepted(program, path + ".trace") or replayed(program, path)
     if fault:
         return [Outcome(label, fault)]
     trace, kernel = read_file(path + ".trace"), read_file(path + ".kernel").decode()

@@ -10,7 +10,7 @@ import model_records
 from harness import Job, Outcome, Program, first, skipped
 from model import COPY, NOTHING, OF_PATH, TAKEN
 from recorded import SOURCES, compared, read_file
-from recorder import UNTRIED, VERSION_2, Built, accepted, fault_of, ran_in, replayed, tools
+from recorder import UNTRIED, VERSION_2, Built, record_strictly, tools
 from recorder_given import given_in
 from recorder_streams import LOCK
 from traces import CLOSE, OPENAT, RENAMEAT, UNLINKAT, WRITE
@@ -77,11 +77,9 @@ def of_mode(program: Program, mode: Mode, words: Sequence[str]) -> List[Outcome]
     """A program: it ends as alone, no line of its replay differs, and in version 3 all of it is told by sets and seeks."""
     found = built()
     label = "sets: {}{}".format(mode.name, "".join(" " + it for it in words))
-    path = found.directory("sets-" + mode.name + "".join(words))
-    ran = ran_in(path, [found.file("strict_record"), *words, "-o", path + ".trace", "-k", path + ".kernel", "--", found.file("between"), mode.name])
+    ran, path, fault = record_strictly(program, "sets-" + mode.name + "".join(words), words, [found.file("between"), mode.name])
     if ran.status == UNTRIED:
         return skipped(label, ran.said().split("\n")[0])
-    fault = fault_of(ran) if ran.status or "runtime error" in ran.said() else accepted(program, path + ".trace") or replayed(program, path)
     if not fault and words != VERSION_2:
         fault = first(told_of(mode, read_file(path + ".trace"), read_file(path + ".kernel").decode()))
     said = " sets and {} seeks between submissions".format(mode.seeks)
@@ -94,12 +92,10 @@ def drawn(program: Program, seed: int) -> List[Outcome]:
     """Any calls and entries: it ends as alone, and no line of the replay differs. The recorder makes entries for changes of the tree alone."""
     found = built()
     label = "sets: any {}".format(seed)
-    path = found.directory("sets-any-{}".format(seed))
     words = [["--wait"], ["--drain"], []][seed // 2 % 3]
-    ran = ran_in(path, [found.file("strict_record"), *words, "-o", path + ".trace", "-k", path + ".kernel", "--", found.file("between"), "any", str(seed)])
+    ran, path, fault = record_strictly(program, "sets-any-{}".format(seed), words, [found.file("between"), "any", str(seed)])
     if ran.status == UNTRIED:
         return skipped(label, ran.said().split("\n")[0])
-    fault = fault_of(ran) if ran.status or "runtime error" in ran.said() else accepted(program, path + ".trace") or replayed(program, path)
     if fault:
         return [Outcome(label, fault)]
     kernel = read_file(path + ".kernel").decode()
