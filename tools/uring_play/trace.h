@@ -3,6 +3,7 @@
 #define TRACE_H
 
 #include "common.h"
+#include "record_kinds.h"
 
 enum {
 	MOST_BYTES = 1 << 30,
@@ -117,15 +118,6 @@ struct entry {
 	u64 submitted, completed; /* nanoseconds from the start of the play */
 	u8 data[DATA_SHOWN + 1];
 	u64 data_length;
-};
-/* All but entries and fills are records of version 3 alone; an end has no place. */
-enum record_kind {
-	RECORD_ENTRIES = 1,
-	RECORD_FILL = 2,
-	RECORD_SET = 3,
-	RECORD_SEEK = 4,
-	RECORD_RING = 5,
-	RECORD_RING_ENDS = 6,
 };
 struct record {
 	u8 kind;

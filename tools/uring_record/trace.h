@@ -4,6 +4,7 @@
 
 #include "common.h"
 #include "ranges.h"
+#include "record_kinds.h"
 #include "uring.h"
 
 #include <sys/stat.h>
@@ -109,16 +110,6 @@ struct entry {
 	u64 place;
 	u32 chosen; /* of an OPENAT whose slot the kernel chose: the slot, from 1 */
 	const struct entry *told_by; /* of an ordinary call that ran: the entry that it became */
-};
-
-/* (all but the first two are of version 3) */
-enum record_kind {
-	RECORD_ENTRIES = 1,
-	RECORD_FILL = 2,
-	RECORD_SET = 3,
-	RECORD_SEEK = 4,
-	RECORD_RING = 5,
-	RECORD_RING_ENDS = 6,
 };
 
 /* What one call submitted, bytes that the program put into a registered buffer, what a slot or
