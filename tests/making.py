@@ -34,7 +34,7 @@ MISTAKES: Tuple[Tuple[str, str], ...] = (
     ("uring-trace 1 2\n", "1:15: expected the end of the line"),
     ("uring-trace 1\nfiel /a\n", "2:1: expected a line of a trace, or an operation"),
     ("uring-trace 1\nfile\n", "2:5: expected a path"),
-    ("uring-trace 1\nfile a\n", "2:1: Path: expected a slash before each name of 1 to 255 bytes"),
+    ("uring-trace 1\nfile a\n", "2:1: Path: expected names of 1 to 255 bytes, one slash apart; an item begins with one"),
     ("uring-trace 1\nfile /d/a\n", "2:1: NoParent: expected a line above for the directory of this path"),
     ("uring-trace 1\nfile /a\n\ndir /a\n", "4:1: Exists: a line above has the same path"),
     ("uring-trace 1\nfile /a\\20b\n", "2:8: expected a visible character, or `\\xHH` for a byte"),

@@ -18,7 +18,7 @@ BLANKS, BETWEEN, WORD = re.compile(rb"(?:[ \t\r]|\\[ \t\r]*(?:\n|\Z))*"), re.com
 LETTERS = {letter: byte for byte, letter in ESCAPES.items()}
 # Why bytes are no trace, by the name that `check` tells.
 OF_TRACE = {
-    "Path": "Path: expected a slash before each name of 1 to 255 bytes",
+    "Path": "Path: expected names of 1 to 255 bytes, one slash apart; an item begins with one",
     "NoParent": "NoParent: expected a line above for the directory of this path",
     "Exists": "Exists: a line above has the same path",
     "Reference": "Reference: a number on this line names nothing above",

@@ -161,7 +161,9 @@ fn words_of(reason: Reason) -> &'static str {
 /// Why the bytes of a line are no part of a trace.
 fn trace_words(kind: Kind) -> &'static str {
     match kind {
-        Kind::Path => "Path: expected a slash before each name of 1 to 255 bytes",
+        Kind::Path => {
+            "Path: expected names of 1 to 255 bytes, one slash apart; an item begins with one"
+        }
         Kind::NoParent => "NoParent: expected a line above for the directory of this path",
         Kind::Exists => "Exists: a line above has the same path",
         Kind::Reference => "Reference: a number on this line names nothing above",
