@@ -6,6 +6,10 @@ use Rattle.std.specs.Io.KnownBytes.{Appends, Consumes}
 abbrev pub AppendsPart : Option (List ℕ) → Option (List ℕ) → List ℕ → Type 0
 AppendsPart old new output = (n : ℕ) × (n < length output) × Appends old new (take n output)
 
+-- the same, perhaps by all
+abbrev pub AppendsSome : Option (List ℕ) → Option (List ℕ) → List ℕ → Type 0
+AppendsSome old new output = (n : ℕ) × (n ≤ length output) × Appends old new (take n output)
+
 -- the known bytes lost their first bytes, perhaps none
 abbrev pub Takes : Option (List ℕ) → Option (List ℕ) → Type 0
 Takes old new = (bytes : List ℕ) × Consumes old new bytes

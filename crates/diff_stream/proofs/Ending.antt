@@ -7,7 +7,8 @@ use Rattle.std.specs.Str.{bytes_eq}
 use Rattle.std.specs.Io.KnownBytes.{Appends, Consumes}
 use Rattle.std.proofs.lemmas.List.{append-nil}
 use Rattle.std.proofs.KnownBytes.{Appends-nil, Appends-trans, Consumes-nil, Consumes-trans}
-use Rattle.byte_transfer.specs.Transfer.{Takes}
+use Rattle.byte_transfer.specs.Transfer.{AppendsSome, Takes}
+use Rattle.byte_transfer.proofs.Beginnings.{some_behind, some_of_all, some_of_none}
 use Rattle.json_lines.specs.Forms.{written_as}
 use Rattle.json_lines.specs.declared.form.Form.{Form}
 use Rattle.json_lines.proofs.Whole.{empty_whole, written_behind, written_empty}
@@ -26,11 +27,10 @@ use Rattle.diff_stream.specs.declared.held.Side.{Side}
 use Rattle.diff_stream.specs.declared.held.Sides.{Sides}
 use Rattle.diff_stream.specs.declared.fault.CompareFault.{CompareFault}
 use Rattle.diff_stream.specs.declared.fault.CompareFault.TheVariants.{Refused, Memory, Read, Write}
-use Rattle.diff_stream.specs.Compared.{AppendsSome, ReadsBoth, WritesComparison, WritesSome, WritesUpTo}
+use Rattle.diff_stream.specs.Compared.{ReadsBoth, WritesComparison, WritesSome, WritesUpTo}
 use Rattle.diff_stream.specs.Faults.{IsOutside, of_diff}
 use Rattle.diff_stream.specs.Steps.{Begins, Begun, FrontsEnd, HoldsAll, IsOther, LeavesAll, SideEnds, Stands}
 use Rattle.diff_stream.proofs.FirstLines.{first_of_lines, first_of_whole, no_whole, passed_on}
-use Rattle.diff_stream.proofs.Moving.{some_of_all, some_of_none}
 
 -- a fault that is no reason of the texts
 pub up_to : (form : Form) (l l' r r' w w' : Option (List ℕ)) (e : CompareFault) → IsOutside e → WritesSome form l l' r r' w w' → WritesUpTo form l l' r r' w w' e
@@ -156,7 +156,7 @@ pub part_compared : (form : Form) (a b : Side) (m : Merging) (l l1 l2 r r1 r2 w 
     → LeavesAll a l1 l2 all → LeavesAll b r1 r2 all2 → (comparison : Comparison) → (text : List ℕ) → text ≡ comparison.text.items
     → ComparesBehind it.is.taken (heading ∷ it.is.one ++ lines all) (heading ∷ it.is.other ++ lines all2) comparison
     → AppendsSome w1 w2 (written_as form text) → WritesSome form l l2 r r2 w w2
-part_compared form a b m l l1 l2 r r1 r2 w w1 w2 all all2 it leaves leaves2 comparison text same compares (out, rest, is, wrote) =
+part_compared form a b m l l1 l2 r r1 r2 w w1 w2 all all2 it leaves leaves2 comparison text same compares part =
     let read = it.read l2 r2 leaves leaves2 in
     record {
       first = text_of (heading ∷ it.is.one) ++ all;
@@ -168,12 +168,8 @@ part_compared form a b m l l1 l2 r r1 r2 w w1 w2 all all2 it leaves leaves2 comp
         rw (it.first_lines, it.second_lines) compares.reports,
         ap (λ x. it.is.taken ++ x) same ∙ sym (differences_are form a b m l l1 r r1 w w1 all all2 it comparison compares),
       );
-      wrote = (
-        written_as form it.is.taken ++ out,
-        rest,
-        written_behind form it.is.taken text it.is.whole ∙ ap (λ x. written_as form it.is.taken ++ x) is ∙ sym (append_assoc (written_as form it.is.taken) out rest),
-        Appends-trans w w1 w2 (written_as form it.is.taken) out it.is.wrote wrote,
-      );
+      wrote = subst (AppendsSome w w2) (sym (written_behind form it.is.taken text it.is.whole))
+          (some_behind w w1 w2 (written_as form it.is.taken) (written_as form text) it.is.wrote part);
     }
 
 -- texts of which one does not begin as a report of version 2

@@ -1,9 +1,10 @@
 -- What was found and is written, or not.
-use Rattle.std.proofs.Common.{◌≡◌, ◌⊎◌, ◌++◌, ℕ, List, [], Option, take, drop, inl, inr, refl, sym, ap, subst, ◌∙◌}
+use Rattle.std.proofs.Common.{◌≡◌, ◌⊎◌, ◌++◌, ℕ, List, [], Option, inl, inr, refl, sym, ap, subst, ◌∙◌, arith}
 use Rattle.std.specs.Io.KnownBytes.{Appends}
 use Rattle.std.proofs.KnownBytes.{Appends-nil, Appends-trans}
-use Rattle.std.proofs.lemmas.List.{append-nil, take-append-drop}
-use Rattle.byte_transfer.specs.Transfer.{AppendsPart}
+use Rattle.std.proofs.lemmas.List.{append-nil}
+use Rattle.byte_transfer.specs.Transfer.{AppendsPart, AppendsSome}
+use Rattle.byte_transfer.proofs.Beginnings.{some_of_all, some_of_part}
 use Rattle.json_lines.specs.Forms.{IsWhole, written_as}
 use Rattle.json_lines.specs.Lines.{json_lines}
 use Rattle.json_lines.specs.declared.form.Form.{Form}
@@ -11,14 +12,10 @@ use Rattle.json_lines.specs.declared.form.Form.TheVariants.{Text, Json}
 use Rattle.json_lines.proofs.Whole.{written_behind, written_empty}
 use Rattle.report_diff.specs.declared.fronts.Merging.{Merging}
 use Rattle.report_diff.specs.Merging.{Merges}
-use Rattle.diff_stream.specs.Compared.{AppendsSome}
 use Rattle.diff_stream.specs.Steps.{Moves, StopsAt}
 use Rattle.diff_stream.proofs.FoundLines.{merged_whole}
 
--- ---- beginnings of a text
-
-some_of_part : (w w' : Option (List ℕ)) (text : List ℕ) → AppendsPart w w' text → AppendsSome w w' text
-some_of_part w w' text part = (take part.0 text, drop part.0 text, sym (take-append-drop part.0 text), part.2)
+-- ---- beginnings of a text in a form
 
 pub some_of_text : (form : Form) (w w' : Option (List ℕ)) (text : List ℕ) → form ≡ Text → AppendsPart w w' text → AppendsSome w w' (written_as form text)
 some_of_text form w w' text is part = subst (λ f. AppendsSome w w' (written_as f text)) (sym is) (some_of_part w w' text part)
@@ -27,12 +24,6 @@ pub some_of_json : (form : Form) (w w' : Option (List ℕ)) (text json : List �
     → AppendsSome w w' (written_as form text)
 some_of_json form w w' text json is objects part =
     subst (λ f. AppendsSome w w' (written_as f text)) (sym is) (subst (AppendsSome w w') objects (some_of_part w w' json part))
-
-pub some_of_none : (w : Option (List ℕ)) (text : List ℕ) → AppendsSome w w text
-some_of_none w text = ([], text, refl, Appends-nil w)
-
-pub some_of_all : (w w' : Option (List ℕ)) (text : List ℕ) → Appends w w' text → AppendsSome w w' text
-some_of_all w w' text wrote = (text, [], sym (append-nil text), wrote)
 
 -- ---- what was found
 
@@ -58,7 +49,7 @@ moved_stops form m m' w w' moves = by moves.all
         let same : moves.out ≡ m.told.text.items = sym (append-nil moves.out) ∙ ap (λ x. moves.out ++ x) (sym none) ∙ sym moves.text in
         some_of_all w w' (written_as form m.told.text.items) (subst (λ x. Appends w w' (written_as form x)) same moves.wrote)
     by (inr none) =
-        ([], written_as form m.told.text.items, refl, subst (Appends w w') (ap (written_as form) none ∙ written_empty form) moves.wrote)
+        (0, omega arith, subst (Appends w w') (ap (written_as form) none ∙ written_empty form) moves.wrote)
 
 -- it is whole lines behind whole lines
 pub moved_whole : (form : Form) (m m' : Merging) (w w' : Option (List ℕ)) (one other : List (List ℕ)) (taken : List ℕ) → Merges m one other taken → IsWhole taken

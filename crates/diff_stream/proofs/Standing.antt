@@ -3,8 +3,9 @@ use Rattle.std.proofs.Common.{◌≡◌, ◌≤◌, ◌⊎◌, ◌++◌, ◌∷�
 use Rattle.std.specs.List.{after_first}
 use Rattle.std.specs.Io.KnownBytes.{Consumes, IsAtEnd}
 use Rattle.std.proofs.lemmas.List.{append-nil}
-use Rattle.std.proofs.KnownBytes.{Appends-trans, Consumes-nil, Consumes-trans}
-use Rattle.byte_transfer.specs.Transfer.{Takes}
+use Rattle.std.proofs.KnownBytes.{Consumes-nil, Consumes-trans}
+use Rattle.byte_transfer.specs.Transfer.{AppendsSome, Takes}
+use Rattle.byte_transfer.proofs.Beginnings.{some_behind, some_more, some_of_none}
 use Rattle.json_lines.specs.Forms.{written_as}
 use Rattle.json_lines.specs.declared.form.Form.{Form}
 use Rattle.json_lines.proofs.Whole.{written_behind}
@@ -18,7 +19,7 @@ use Rattle.diff_stream.specs.Compared.{WritesSome}
 use Rattle.diff_stream.specs.Steps.{AtEnds, FrontsEnd, HasLine, Moves, Stands, StopsAt}
 use Rattle.diff_stream.proofs.FirstLines.{passed_on, plain_line, stays}
 use Rattle.diff_stream.proofs.FoundLines.{merged_whole}
-use Rattle.diff_stream.proofs.Moving.{moved_whole, moved_wrote, some_of_none}
+use Rattle.diff_stream.proofs.Moving.{moved_whole, moved_wrote}
 
 -- bytes come behind those that are held
 comes : (all : List (List ℕ)) (a b c : Option (List ℕ)) (held held' more : List ℕ) → Consumes a b (text_of all ++ held) → Consumes b c more → held' ≡ held ++ more
@@ -154,7 +155,7 @@ remains form a b m m' l l1 r r1 w w1 at merges awaits = record {
 -- a beginning of what the bytes tell was written
 pub some_written : (form : Form) (a b : Side) (m : Merging) (l l1 l2 r r1 r2 w w1 w2 : Option (List ℕ)) → Stands form a b m l l1 r r1 w w1 → Takes l1 l2 → Takes r1 r2 → StopsAt form m w1 w2
     → WritesSome form l l2 r r2 w w2
-some_written form a b m l l1 l2 r r1 r2 w w1 w2 at more more2 (out, rest, is, wrote) =
+some_written form a b m l l1 l2 r r1 r2 w w1 w2 at more more2 part =
     let held = text_of (heading ∷ at.one) ++ a.lines in
     let held2 = text_of (heading ∷ at.other) ++ b.lines in
     let begins = early_so_far m at.one at.other at.taken (a.lines ++ more.0) (b.lines ++ more2.0) at.merges at.plain at.plain_other in
@@ -167,20 +168,12 @@ some_written form a b m l l1 l2 r r1 r2 w w1 w2 at more more2 (out, rest, is, wr
       other = Consumes-trans r r1 r2 held2 more2.0 at.second_taken more2.1;
       text = (at.taken ++ m.told.text.items) ++ begins.0;
       told = inl (sym same);
-      wrote = (
-        written_as form at.taken ++ out,
-        rest ++ written_as form begins.0,
-        written_behind form (at.taken ++ m.told.text.items) begins.0 (merged_whole m at.one at.other at.taken at.merges)
-            ∙ ap (λ x. x ++ written_as form begins.0) (written_behind form at.taken m.told.text.items at.whole)
-            ∙ joined (written_as form at.taken) out rest (written_as form begins.0) (written_as form m.told.text.items) is,
-        Appends-trans w w1 w2 (written_as form at.taken) out at.wrote wrote,
-      );
+      wrote = subst (AppendsSome w w2)
+          (sym (written_behind form (at.taken ++ m.told.text.items) begins.0 (merged_whole m at.one at.other at.taken at.merges)
+          ∙ ap (λ x. x ++ written_as form begins.0) (written_behind form at.taken m.told.text.items at.whole)))
+          (some_more w w2 (written_as form at.taken ++ written_as form m.told.text.items) (written_as form begins.0)
+          (some_behind w w1 w2 (written_as form at.taken) (written_as form m.told.text.items) at.wrote part));
     }
-  where
-    joined : (taken out rest more text : List ℕ) → text ≡ out ++ rest → (taken ++ text) ++ more ≡ (taken ++ out) ++ (rest ++ more)
-    joined taken out rest more text e =
-        ap (λ x. (taken ++ x) ++ more) e ∙ append_assoc taken (out ++ rest) more ∙ ap (λ x. taken ++ x) (append_assoc out rest more)
-        ∙ sym (append_assoc taken out (rest ++ more))
 
 -- what is awaited of the next line
 pub awaits_line : (form : Form) (a b : Side) (m : Merging) (l l1 r r1 w w1 : Option (List ℕ)) (line : List ℕ) → Stands form a b m l l1 r r1 w w1 → first_line a.lines ≡ Some line → Awaits m line

@@ -1,6 +1,7 @@
 -- The model: what is written of two reports that are compared while they are read.
-use Rattle.std.specs.Prelude.{◌≡◌, ◌⊎◌, ◌++◌, ℕ, Bool, List, Option, None, Some}
+use Rattle.std.specs.Prelude.{◌≡◌, ◌⊎◌, ℕ, Bool, List, Option, None, Some}
 use Rattle.std.specs.Io.KnownBytes.{Appends, Consumes, IsAtEnd}
+use Rattle.byte_transfer.specs.Transfer.{AppendsSome}
 use Rattle.report_diff.specs.Inputs.{are_alike_of_two, differences_of_two, refusal_of_two}
 use Rattle.report_diff.specs.Merging.{early_text_of_two}
 use Rattle.report_diff.specs.Refusals.{refusal_text}
@@ -37,10 +38,6 @@ pub record WritesRefused (form : Form) (why : Refusal) (left left' more more' wr
 -- What bytes tell of two reports: what is told early of them, or the whole text of their comparison, where they are two reports.
 abbrev pub Tells : List ℕ → List ℕ → List ℕ → Type 0
 Tells first second text = (text ≡ early_text_of_two first second) ⊎ ((refusal_of_two first second ≡ None) × (text ≡ differences_of_two first second))
-
--- The known bytes grew by the first bytes of a text, perhaps by none, perhaps by all.
-abbrev pub AppendsSome : Option (List ℕ) → Option (List ℕ) → List ℕ → Type 0
-AppendsSome old new text = (out : List ℕ) × (rest : List ℕ) × (text ≡ out ++ rest) × Appends old new out
 
 -- The writer took a beginning of what the bytes that were read tell, in this form, and nothing else.
 pub record WritesSome (form : Form) (left left' more more' written written' : Option (List ℕ)) : Type 0 where

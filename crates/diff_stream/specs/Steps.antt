@@ -2,6 +2,7 @@
 use Rattle.std.specs.Prelude.{◌≡◌, ◌⊎◌, ◌≤◌, ◌++◌, ℕ, Bool, true, false, is_some, List, [], ◌∷◌, Option, None, Some}
 use Rattle.std.specs.List.{list_any}
 use Rattle.std.specs.Io.KnownBytes.{Appends, Consumes, IsAtEnd}
+use Rattle.byte_transfer.specs.Transfer.{AppendsSome}
 use Rattle.report_diff.specs.declared.fronts.Merging.{Merging}
 use Rattle.report_diff.specs.Merging.{IsAwaited, Merges, goes_on, heading, is_feed, passed_lines, text_of}
 use Rattle.text_lines.specs.Lines.{first_line}
@@ -10,7 +11,6 @@ use Rattle.json_lines.specs.declared.form.Form.{Form}
 use Rattle.std.specs.Str.{bytes_eq}
 use Rattle.diff_stream.specs.declared.held.Side.{Side}
 use Rattle.diff_stream.specs.declared.held.Sides.{Sides}
-use Rattle.diff_stream.specs.Compared.{AppendsSome}
 
 -- What was found is written, or is kept as it was.
 pub record Moves (form : Form) (m m' : Merging) (written written' : Option (List ℕ)) : Type 0 where

@@ -1,8 +1,8 @@
 //! A text that is written in the form that is asked for.
 ghost use Rattle.std.specs.Prelude.{◌≡◌, ◌+◌, ◌-◌, ◌<◌, ◌^◌, IfErr, OnOk};
 ghost use Rattle.std.specs.Io.KnownBytes.{Appends};
+ghost use Rattle.byte_transfer.specs.Transfer.{AppendsSome};
 ghost use Rattle.json_lines.specs.Forms.{written_as};
-ghost use Rattle.diff_stream.specs.Compared.{AppendsSome};
 ghost use Rattle.diff_stream.specs.Faults.{IsOutside, writes_failed};
 
 use crate::fault::CompareFault;

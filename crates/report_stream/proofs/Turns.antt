@@ -1,10 +1,10 @@
 -- What holds while a report is written, from record to record, and what that tells where it ends.
-use Rattle.std.proofs.Common.{◌≡◌, ◌≢◌, ◌∙◌, ◌+◌, ◌++◌, ◌∷◌, [], ℕ, Bool, true, false, not, List, Option, None, Some, Result, Ok, Err, IfErr, IfOk, IsErrAnd, OnOk, length, take, sym, ap, subst, inl, inr, refl, append_assoc, length-append, arith}
+use Rattle.std.proofs.Common.{◌≡◌, ◌≢◌, ◌∙◌, ◌++◌, ◌∷◌, [], ℕ, Bool, true, false, not, List, Option, None, Some, Result, Ok, Err, IfErr, IfOk, IsErrAnd, OnOk, sym, ap, subst, inl, inr, refl, append_assoc}
 use Rattle.std.specs.Io.KnownBytes.{Appends}
 use Rattle.std.proofs.KnownBytes.{Appends-nil, Appends-trans, Consumes-nil, Consumes-trans, Keeps-refl}
-use Rattle.std.proofs.Math.Seq.{take-append-add, take-length}
-use Rattle.std.proofs.lemmas.List.{append-nil, take-append-le}
-use Rattle.byte_transfer.specs.Transfer.{AppendsPart, Takes}
+use Rattle.std.proofs.lemmas.List.{append-nil}
+use Rattle.byte_transfer.specs.Transfer.{AppendsSome, Takes}
+use Rattle.byte_transfer.proofs.Beginnings.{some_behind, some_more, some_of_all, some_of_none, some_of_part}
 use Rattle.json_lines.specs.Forms.{IsWhole, written_as}
 use Rattle.json_lines.specs.declared.form.Form.{Form}
 use Rattle.json_lines.proofs.Whole.{both_whole, empty_whole, rest_whole, written_behind, written_empty}
@@ -30,7 +30,7 @@ use Rattle.stream_laws.specs.Streamed.{place_behind, recording_of}
 use Rattle.report_stream.proofs.WholeLines.{text_whole}
 use Rattle.report_stream.proofs.WholeReport.{whole_report}
 use Rattle.report_stream.specs.Steps.{AddsLines, AtCut, AtEnd, EndsEarly, GoesTo, IsNotShort, IsNotWritten, IsToldAs, Moves, RanLast, StopsAt, StopsWith, UnderWay}
-use Rattle.report_stream.specs.Written.{AppendsFirst, HasFront, IsFrontText, IsTextTo, Writes, WritesBefore, WritesCut, WritesReport, WritesSome, WritesUpTo, lines_in, report}
+use Rattle.report_stream.specs.Written.{HasFront, IsFrontText, IsTextTo, Writes, WritesBefore, WritesCut, WritesReport, WritesSome, WritesUpTo, lines_in, report}
 use Rattle.report_stream.specs.declared.fault.ReportFault.{ReportFault}
 use Rattle.report_stream.specs.declared.fault.ReportFault.TheVariants.{Trace, Memory, Read, Write}
 use Rattle.report_stream.specs.declared.turn.Turn.{Turn}
@@ -38,32 +38,9 @@ use Rattle.report_stream.specs.declared.turn.Turn.TheVariants.{Next, Last, Cut}
 
 -- ---- bytes that went out
 
-first_of : (a b : Option (List ℕ)) (text : List ℕ) → AppendsPart a b text → AppendsFirst a b text
-first_of a b text part = (part.0, omega (arith, part.1), part.2)
-
-pub all_of : (a b : Option (List ℕ)) (text : List ℕ) → Appends a b text → AppendsFirst a b text
-all_of a b text wrote = (length text, omega arith, subst (Appends a b) (sym (take-length text)) wrote)
-
-none_of : (a : Option (List ℕ)) (text : List ℕ) → AppendsFirst a a text
-none_of a text = (0, omega arith, Appends-nil a)
-
-first_behind : (a b c : Option (List ℕ)) (out text : List ℕ) → Appends a b out → AppendsFirst b c text → AppendsFirst a c (out ++ text)
-first_behind a b c out text wrote first = (
-  length out + first.0,
-  omega (arith, first.1, length-append out text),
-  subst (Appends a c) (sym (take-append-add out text first.0)) (Appends-trans a b c out (take first.0 text) wrote first.2),
-)
-
-first_more : (a b : Option (List ℕ)) (text more : List ℕ) → AppendsFirst a b text → AppendsFirst a b (text ++ more)
-first_more a b text more (n, within, wrote) = (
-  n,
-  omega (arith, within, length-append text more),
-  subst (Appends a b) (sym (take-append-le n text more within)) wrote,
-)
-
-part_of : (a b : Option (List ℕ)) (text : List ℕ) (f : ReportFault) → IsNotWritten a b text f → AppendsFirst a b text
-part_of a b text Write part = first_of a b text part
-part_of a b text Memory keeps = subst (λ (x : Option (List ℕ)). AppendsFirst a x text) (sym keeps) (none_of a text)
+part_of : (a b : Option (List ℕ)) (text : List ℕ) (f : ReportFault) → IsNotWritten a b text f → AppendsSome a b text
+part_of a b text Write part = some_of_part a b text part
+part_of a b text Memory keeps = subst (λ (x : Option (List ℕ)). AppendsSome a x text) (sym keeps) (some_of_none a text)
 part_of a b text Read part = absurd part
 part_of a b text (Trace f) part = absurd part
 
@@ -79,14 +56,14 @@ module _ (form : Form) where
   out_behind a b c out text whole wrote behind =
       subst (Appends a c) (sym (written_behind form out text whole)) (Appends-trans a b c (written_as form out) (written_as form text) wrote behind)
 
-  part_behind : (a b c : Option (List ℕ)) (out text : List ℕ) → IsWhole out → Appends a b (written_as form out) → AppendsFirst b c (written_as form text) → AppendsFirst a c (written_as form (out ++ text))
+  part_behind : (a b c : Option (List ℕ)) (out text : List ℕ) → IsWhole out → Appends a b (written_as form out) → AppendsSome b c (written_as form text) → AppendsSome a c (written_as form (out ++ text))
   part_behind a b c out text whole wrote first =
-      subst (AppendsFirst a c) (sym (written_behind form out text whole)) (first_behind a b c (written_as form out) (written_as form text) wrote first)
+      subst (AppendsSome a c) (sym (written_behind form out text whole)) (some_behind a b c (written_as form out) (written_as form text) wrote first)
 
   -- whole lines are a beginning of themselves and what follows
-  part_front : (a b : Option (List ℕ)) (out text all : List ℕ) → IsWhole out → Appends a b (written_as form out) → all ≡ out ++ text → AppendsFirst a b (written_as form all)
+  part_front : (a b : Option (List ℕ)) (out text all : List ℕ) → IsWhole out → Appends a b (written_as form out) → all ≡ out ++ text → AppendsSome a b (written_as form all)
   part_front a b out text all whole wrote is =
-      subst (λ (x : List ℕ). AppendsFirst a b (written_as form x)) (sym is) (part_behind a b b out text whole wrote (none_of b (written_as form text)))
+      subst (λ (x : List ℕ). AppendsSome a b (written_as form x)) (sym is) (part_behind a b b out text whole wrote (some_of_none b (written_as form text)))
 
 -- ---- the end of a report is written
 
@@ -104,14 +81,14 @@ last_early form (Ok done) a b text last is part = tt
 last_early form (Err e) a b text last is part = early_of a b (written_as form last) e (subst (λ (x : List ℕ). IsNotWritten a b (written_as form x) e) is part)
 
 pub ends_part : (a b : Option (List ℕ)) (text last : List ℕ) (f : ReportFault) → IsNotWritten a b text f → EndsEarly a b (text ++ last) f
-ends_part a b text last Write part = first_more a b text last (part_of a b text Write part)
-ends_part a b text last Memory part = first_more a b text last (part_of a b text Memory part)
+ends_part a b text last Write part = some_more a b text last (part_of a b text Write part)
+ends_part a b text last Memory part = some_more a b text last (part_of a b text Memory part)
 ends_part a b text last Read part = absurd part
 ends_part a b text last (Trace f) part = absurd part
 
 pub ends_behind : (a b c : Option (List ℕ)) (text last : List ℕ) (f : ReportFault) → Appends a b text → EndsEarly b c last f → EndsEarly a c (text ++ last) f
-ends_behind a b c text last Write wrote early = first_behind a b c text last wrote early
-ends_behind a b c text last Memory wrote early = first_behind a b c text last wrote early
+ends_behind a b c text last Write wrote early = some_behind a b c text last wrote early
+ends_behind a b c text last Memory wrote early = some_behind a b c text last wrote early
 ends_behind a b c text last Read wrote early = absurd early
 ends_behind a b c text last (Trace f) wrote early = absurd early
 
@@ -127,7 +104,7 @@ adds_all b rs shown form n w v before text empty is wrote none =
 
 pub adds_part : (b : Start) (rs : List Record) (shown : Shown) (form : Form) (n : ℕ) (w v : Option (List ℕ)) (before text left : List ℕ) (e : ReportFault) → IsTextTo b rs shown n (before ++ text) → IsNotWritten w v (written_as form text) e
     → AddsLines (Err e) b rs shown form n w v before left
-adds_part b rs shown form n w v before text left Write is part = (text, is, first_of w v (written_as form text) part)
+adds_part b rs shown form n w v before text left Write is part = (text, is, some_of_part w v (written_as form text) part)
 adds_part b rs shown form n w v before text left Memory is keeps = keeps
 adds_part b rs shown form n w v before text left Read is part = absurd part
 adds_part b rs shown form n w v before text left (Trace f) is part = absurd part
@@ -141,8 +118,8 @@ no_memory f P is other = absurd (other (ap (λ (x : TraceFault). x.kind) is))
 -- a fault of the stream, once the text went out
 pub told_stops : (form : Form) (b c v u : Option (List ℕ)) (s : Stream) (text : List ℕ) (e : StreamFault) (f : ReportFault) → IsToldAs e f → Takes b c → GivesFault b c s e → Appends v u (written_as form text) → StopsWith form b c v u s text f
 told_stops form b c v u s text e (Trace f) told takes gives wrote = (subst (GivesFault b c s) told.0 gives, told.1, wrote)
-told_stops form b c v u s text e Memory told takes gives wrote = (takes, all_of v u (written_as form text) wrote)
-told_stops form b c v u s text e Read told takes gives wrote = (takes, all_of v u (written_as form text) wrote)
+told_stops form b c v u s text e Memory told takes gives wrote = (takes, some_of_all v u (written_as form text) wrote)
+told_stops form b c v u s text e Read told takes gives wrote = (takes, some_of_all v u (written_as form text) wrote)
 told_stops form b c v u s text e Write told takes gives wrote = absurd told
 
 pub part_stops : (form : Form) (b c v u : Option (List ℕ)) (s : Stream) (text : List ℕ) (f : ReportFault) → Takes b c → IsNotWritten v u (written_as form text) f → StopsWith form b c v u s text f
@@ -187,7 +164,7 @@ has_front ahead so_far start s rs st more =
     }
 
 -- a beginning of their lines was written
-some_told : (may : Bool) (ahead : List ℕ) (a b c w u : Option (List ℕ)) (start : Start) (s : Stream) (rs : List Record) (shown : Shown) (form : Form) (text : List ℕ) → Going ahead a b start s rs → Takes b c → IsFrontText start rs shown text → AppendsFirst w u (written_as form text)
+some_told : (may : Bool) (ahead : List ℕ) (a b c w u : Option (List ℕ)) (start : Start) (s : Stream) (rs : List Record) (shown : Shown) (form : Form) (text : List ℕ) → Going ahead a b start s rs → Takes b c → IsFrontText start rs shown text → AppendsSome w u (written_as form text)
     → WritesSome may ahead shown form a c w u
 some_told may ahead a b c w u start s rs shown form text g takes is wrote = record {
   more = g.more ++ takes.0;
@@ -217,10 +194,10 @@ module _ (ahead : List ℕ) (a b w v : Option (List ℕ)) (s : Stream) (p : Repl
   all_out : (u : Option (List ℕ)) → Appends v u (written_as form text) → Appends w u (written_as form (h.out ++ text))
   all_out u wrote = out_behind form w v u h.out text h.whole h.wrote wrote
 
-  part_out : (u : Option (List ℕ)) → AppendsFirst v u (written_as form text) → AppendsFirst w u (written_as form (h.out ++ text))
+  part_out : (u : Option (List ℕ)) → AppendsSome v u (written_as form text) → AppendsSome w u (written_as form (h.out ++ text))
   part_out u first = part_behind form w v u h.out text h.whole h.wrote first
 
-  some_written : (may : Bool) (c u : Option (List ℕ)) → Takes b c → AppendsFirst v u (written_as form text) → WritesSome may ahead shown form a c w u
+  some_written : (may : Bool) (c u : Option (List ℕ)) → Takes b c → AppendsSome v u (written_as form text) → WritesSome may ahead shown form a c w u
   some_written may c u takes first = some_told may ahead a b c w u h.start s h.rs shown form (h.out ++ text) going takes h.so_far (part_out u first)
 
   -- memory runs out behind a part of the text
@@ -389,13 +366,13 @@ module _ (ahead : List ℕ) (a c w u : Option (List ℕ)) (p : Replaying) (text 
     );
   }
 
-  some : (may : Bool) (x : Option (List ℕ)) → AppendsFirst u x (written_as form text ++ written_as form (last_lines p.recording p.state shown)) → WritesSome may ahead shown form a c w x
+  some : (may : Bool) (x : Option (List ℕ)) → AppendsSome u x (written_as form text ++ written_as form (last_lines p.recording p.state shown)) → WritesSome may ahead shown form a c w x
   some may x wrote = record {
     more = h.all.more;
     taken = h.all.taken;
     text = report (trace_of h.start h.rs) shown;
     told = inr (inr (inl (trace_of h.start h.rs, h.all.is, refl)));
-    wrote = subst (λ (t : List ℕ). AppendsFirst w x (written_as form t)) all_text (part_behind form w u x h.out (text ++ last_lines p.recording p.state shown) h.whole h.wrote (subst (AppendsFirst u x) end_text wrote));
+    wrote = subst (λ (t : List ℕ). AppendsSome w x (written_as form t)) all_text (part_behind form w u x h.out (text ++ last_lines p.recording p.state shown) h.whole h.wrote (subst (AppendsSome u x) end_text wrote));
   }
 
   pub ends_early : (may : Bool) (x : Option (List ℕ)) (e : ReportFault) → EndsEarly u x (written_as form text ++ written_as form (last_lines p.recording p.state shown)) e → WritesUpTo may ahead shown form a c w x e
@@ -457,13 +434,13 @@ module _ (ahead : List ℕ) (a c w u : Option (List ℕ)) (p : Replaying) (shown
   }
 
   -- or a beginning of it
-  cut_some : (x : Option (List ℕ)) → AppendsFirst u x (written_as form (last_lines p.recording p.state shown)) → WritesSome true ahead shown form a c w x
+  cut_some : (x : Option (List ℕ)) → AppendsSome u x (written_as form (last_lines p.recording p.state shown)) → WritesSome true ahead shown form a c w x
   cut_some x wrote = record {
     more = h.all.more;
     taken = h.all.taken;
     text = report (trace_of h.start h.rs) shown;
     told = inr (inr (inr (refl, h.start, h.rs, at, h.all.is.0, refl)));
-    wrote = subst (λ (t : List ℕ). AppendsFirst w x (written_as form t)) cut_text (part_behind form w u x h.text (last_lines p.recording p.state shown) cut_lines h.wrote wrote);
+    wrote = subst (λ (t : List ℕ). AppendsSome w x (written_as form t)) cut_text (part_behind form w u x h.text (last_lines p.recording p.state shown) cut_lines h.wrote wrote);
   }
 
   cut_told : (x : Option (List ℕ)) (e : ReportFault) → EndsEarly u x (written_as form (last_lines p.recording p.state shown)) e → WritesUpTo true ahead shown form a c w x e
@@ -486,7 +463,7 @@ ran_last b front r p q same run = record { b = b; front = front; r = r; run = su
 -- ---- before the first record
 
 pub nothing_yet : (may : Bool) (ahead : List ℕ) (a b w : Option (List ℕ)) (shown : Shown) (form : Form) → Takes a b → WritesSome may ahead shown form a b w w
-nothing_yet may ahead a b w shown form takes = record { more = takes.0; taken = takes.1; text = []; told = inl refl; wrote = none_of w (written_as form []) }
+nothing_yet may ahead a b w shown form takes = record { more = takes.0; taken = takes.1; text = []; told = inl refl; wrote = some_of_none w (written_as form []) }
 
 start_told : (may : Bool) (ahead : List ℕ) (a b w : Option (List ℕ)) (shown : Shown) (form : Form) (f : TraceFault) → f.kind ≢ kind.Memory → TellsOfStart ahead a b (stream.Trace f) → WritesBefore may ahead shown form f a b w w
 start_told may ahead a b w shown form f other (inl memory) = no_memory f (WritesBefore may ahead shown form f a b w w) memory other

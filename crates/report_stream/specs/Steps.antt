@@ -1,7 +1,7 @@
 -- A helper: what stands between two records while a report is written, and what the parts of one turn do.
 use Rattle.std.specs.Prelude.{◌≡◌, ◌≢◌, ◌<◌, ◌^◌, ◌++◌, ⊤, ℕ, List, Option, Result, Ok, Err}
 use Rattle.std.specs.Io.KnownBytes.{Appends, Consumes}
-use Rattle.byte_transfer.specs.Transfer.{AppendsPart, Takes}
+use Rattle.byte_transfer.specs.Transfer.{AppendsPart, AppendsSome, Takes}
 use Rattle.json_lines.specs.Forms.{IsWhole, written_as}
 use Rattle.json_lines.specs.declared.form.Form.{Form}
 use Rattle.trace_format.specs.declared.fault.Kind.TheVariants as kind
@@ -16,7 +16,7 @@ use Rattle.trace_stream.specs.declared.stream.Stream.{Stream}
 use Rattle.replay_report.specs.declared.showing.Shown.{Shown}
 use Rattle.replay_stream.specs.Replayed.{HasRun, HasRunNext}
 use Rattle.replay_stream.specs.declared.replaying.Replaying.{Replaying}
-use Rattle.report_stream.specs.Written.{AppendsFirst, IsCutOff, IsFrontText, IsTextTo}
+use Rattle.report_stream.specs.Written.{IsCutOff, IsFrontText, IsTextTo}
 use Rattle.report_stream.specs.declared.fault.ReportFault.{ReportFault}
 use Rattle.report_stream.specs.declared.fault.ReportFault.TheVariants.{Trace, Memory, Read, Write}
 use Rattle.report_stream.specs.declared.turn.Turn.{Turn}
@@ -49,7 +49,7 @@ Moves form written written' text text' = (out : List ℕ) × Appends written wri
 abbrev pub StopsWith : Form → (left left' written written' : Option (List ℕ)) → Stream → List ℕ → ReportFault → Type 0
 StopsWith form left left' written written' s text (Trace f) =
     GivesFault left left' s (stream.Trace f) × (f.kind ≢ kind.Memory) × Appends written written' (written_as form text)
-StopsWith form left left' written written' s text other = Takes left left' × AppendsFirst written written' (written_as form text)
+StopsWith form left left' written written' s text other = Takes left left' × AppendsSome written written' (written_as form text)
 
 -- The replay has just run the last of some records.
 pub record RanLast (p : Replaying) : Type 0 where
@@ -63,15 +63,15 @@ abbrev pub AddsLines : Result (Unit {0}) ReportFault → three.Start → List Re
 AddsLines (Ok done) b rs shown form place written written' before text =
     (out : List ℕ) × Appends written written' (written_as form out) × IsWhole out × IsTextTo b rs shown place ((before ++ out) ++ text)
 AddsLines (Err Write) b rs shown form place written written' before text =
-    (lines : List ℕ) × IsTextTo b rs shown place (before ++ lines) × AppendsFirst written written' (written_as form lines)
+    (lines : List ℕ) × IsTextTo b rs shown place (before ++ lines) × AppendsSome written written' (written_as form lines)
 AddsLines (Err Memory) b rs shown form place written written' before text = written' ≡ written
 AddsLines (Err Read) b rs shown form place written written' before text = ⊥
 AddsLines (Err (Trace f)) b rs shown form place written written' before text = ⊥
 
 -- The writer took a beginning of the text, or memory ran out behind that.
 abbrev pub EndsEarly : (written written' : Option (List ℕ)) → List ℕ → ReportFault → Type 0
-EndsEarly written written' text Write = AppendsFirst written written' text
-EndsEarly written written' text Memory = AppendsFirst written written' text
+EndsEarly written written' text Write = AppendsSome written written' text
+EndsEarly written written' text Memory = AppendsSome written written' text
 EndsEarly written written' text Read = ⊥
 EndsEarly written written' text (Trace f) = ⊥
 

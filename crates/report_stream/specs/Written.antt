@@ -1,6 +1,7 @@
 -- The model: what is written of a trace of version 3 that is replayed record by record: its report, or so much of it as the records so far tell.
-use Rattle.std.specs.Prelude.{◌≡◌, ◌≢◌, ◌≤◌, ◌⊎◌, ◌++◌, ℕ, Bool, true, [], List, length, take, Option, None, Some}
+use Rattle.std.specs.Prelude.{◌≡◌, ◌≢◌, ◌⊎◌, ◌++◌, ℕ, Bool, true, [], List, length, Option, None, Some}
 use Rattle.std.specs.Io.KnownBytes.{Appends, Consumes, IsAtEnd, Keeps}
+use Rattle.byte_transfer.specs.Transfer.{AppendsSome}
 use Rattle.json_lines.specs.Forms.{written_as}
 use Rattle.json_lines.specs.declared.form.Form.{Form}
 use Rattle.trace_format.specs.Grammar.{Breaks}
@@ -61,10 +62,6 @@ Tells may bytes shown text =
     ⊎ ((t : whole.Trace) × SpellsTrace bytes t × (text ≡ report t shown))
     ⊎ ((may ≡ true) × (b : three.Start) × (rs : List Record) × (at : ℕ) × IsCutOff bytes b rs at × (text ≡ report (trace_of b rs) shown))
 
--- The known bytes grew by the first bytes of a text, perhaps by none, perhaps by all.
-abbrev pub AppendsFirst : Option (List ℕ) → Option (List ℕ) → List ℕ → Type 0
-AppendsFirst old new text = (n : ℕ) × (n ≤ length text) × Appends old new (take n text)
-
 -- The reader was read to its end, what was read ahead and what it had left spells a trace, and the writer took the report of that in the form, and nothing else.
 abbrev pub WritesReport : List ℕ → Shown → Form → (left left' written written' : Option (List ℕ)) → Type 0
 WritesReport ahead shown form left left' written written' =
@@ -103,7 +100,7 @@ pub record WritesSome (may_be_cut : Bool) (ahead : List ℕ) (shown : Shown) (fo
   pub taken : Consumes left left' more
   pub text : List ℕ
   pub told : Tells may_be_cut (ahead ++ more) shown text
-  pub wrote : AppendsFirst written written' (written_as form text)
+  pub wrote : AppendsSome written written' (written_as form text)
 
 -- What was written before a fault.
 abbrev pub WritesUpTo : (may_be_cut : Bool) → List ℕ → Shown → Form → (left left' written written' : Option (List ℕ)) → ReportFault → Type 0

@@ -18,9 +18,9 @@ use trace_records::Start;
 use trace_stream::Stream;
 
 /// Writes the report of the trace of version 3 whose first bytes were read ahead, and whose others
-/// the reader has left, as text or as objects. The lines of a record are written before the reader is asked for the bytes
-/// behind it. The answer is at which byte the trace is cut off, where that may be, and none where it
-/// is whole.
+/// the reader has left, as text or as objects. The lines of a record are written before the reader
+/// is asked for the bytes behind it. The answer is at which byte the trace is cut off, where that
+/// may be, and none where it is whole.
 ///
 /// # Errors
 ///

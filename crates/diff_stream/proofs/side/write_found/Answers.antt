@@ -1,7 +1,7 @@
 use Rattle.std.proofs.Common.{inl, sym, rules, subst}
 use Rattle.std.proofs.lemmas.List.{append-nil}
+use Rattle.byte_transfer.specs.Transfer.{AppendsSome}
 use Rattle.json_lines.specs.Forms.{written_as}
-use Rattle.diff_stream.specs.Compared.{AppendsSome}
 use Rattle.diff_stream.proofs.side.write_found.Goals as goal
 
 pub returns-in_err-write_as-clause-err : goal.returns-in_err-write_as-clause-err
