@@ -11,58 +11,44 @@ use crate::record::Record;
 use crate::recording::{Recording, Ring};
 use crate::steps::Steps;
 use std::alloc::{AllocError, Global};
-use trace_format::{Blob, Entries, EntriesBuilder, Series, Version};
+use trace_format::{Blob, Gathered, GatheredBuilder, Series, Version};
 use trace_records::{Beside, Descriptor, Entry, Filling, Start, Trace};
 
 /// Bytes, and zeros behind them, so many in all.
-fn with_zeros(alloc: Global, front: &[u8], len: usize) -> Result<Vec<u8>, AllocError>
-    ensures { IfOk result (λ v. v.items ≡ meant.with_zeros front.now len) }
+fn with_zeros(alloc: Global, front: &[u8], len: usize) -> Result<Blob, AllocError>
+    ensures { IfOk result (λ b. b ≡ meant.with_zeros front.now len) }
 {
     let len = len.max(front.len());
+    if len == 0 {
+        return Ok(Blob::empty());
+    }
     let mut bytes = Vec::with_capacity(alloc, len)?;
     bytes.extend_from_slice(front)?;
     bytes.resize(len, 0)?;
-    Ok(bytes)
+    Blob::from_vec(alloc, bytes)
 }
 
 /// Adds an entry with the bytes beside it, which are stored, or its lengths and zeros; or with what
-/// is given of it.
-fn push_entry(alloc: Global, entries: &mut EntriesBuilder, entry: &Entry) -> Result<(), AllocError>
-    ensures { OnOk result (entries.new ≡ entries.old ++ meant.submitted entry.now ∷ []) }
+/// is given of it. Stored bytes are not copied.
+fn push_entry(alloc: Global, entries: &mut GatheredBuilder, entry: Entry) -> Result<(), AllocError>
+    ensures { OnOk result (entries.new ≡ entries.old ++ meant.submitted entry ∷ []) }
 {
-    match &entry.beside {
-        Beside::Stored { bytes } => entries.push(&entry.sqe, bytes.as_slice()),
-        Beside::Zeros { lengths, len } => {
-            let bytes = with_zeros(alloc, lengths.as_slice(), *len as usize)?;
-            entries.push(&entry.sqe, bytes.as_slice())
-        }
-        Beside::Given { given } => entries.push_given(&entry.sqe, *given),
-    }
-}
-
-/// How many bytes stand beside an entry.
-fn len_beside(beside: &Beside) -> usize {
+    let Entry { sqe, beside } = entry;
     match beside {
-        Beside::Stored { bytes } => bytes.as_slice().len(),
-        Beside::Zeros { len, .. } => *len as usize,
-        Beside::Given { .. } => 0,
+        Beside::Stored { bytes } => entries.push(&sqe, bytes, None),
+        Beside::Zeros { lengths, len } => {
+            let bytes = with_zeros(alloc, lengths.as_slice(), len as usize)?;
+            entries.push(&sqe, bytes, None)
+        }
+        Beside::Given { given } => entries.push(&sqe, Blob::empty(), Some(given)),
     }
-}
-
-/// How many bytes stand beside entries.
-fn len_beside_all(entries: &[Entry]) -> usize {
-    let mut len = 0usize;
-    for entry in entries {
-        len = len.saturating_add(len_beside(&entry.beside));
-    }
-    len
 }
 
 /// The entries of a record.
-fn entries_of(alloc: Global, entries: &[Entry]) -> Result<Entries, AllocError>
-    ensures { IfOk result (λ e. e ≡ map meant.submitted entries.now) }
+fn entries_of(alloc: Global, entries: Vec<Entry>) -> Result<Gathered, AllocError>
+    ensures { IfOk result (λ e. e ≡ map meant.submitted entries.items) }
 {
-    let mut made = EntriesBuilder::with_room(alloc, entries.len(), len_beside_all(entries))?;
+    let mut made = GatheredBuilder::with_room(alloc, entries.len())?;
     for entry in entries {
         push_entry(alloc, &mut made, entry)?;
     }
@@ -75,7 +61,7 @@ fn bytes_of(alloc: Global, filling: Filling) -> Result<Blob, AllocError>
 {
     match filling {
         Filling::Stored { bytes } => Ok(bytes),
-        Filling::Zeros { len } => Blob::from_vec(alloc, with_zeros(alloc, &[], len as usize)?),
+        Filling::Zeros { len } => with_zeros(alloc, &[], len as usize),
     }
 }
 
@@ -156,7 +142,7 @@ fn grown_by(
     let steps = growing.steps;
     let steps = match next {
         trace_records::Record::Enter { ring, entries } => {
-            let entries = entries_of(alloc, entries.as_slice())?;
+            let entries = entries_of(alloc, entries.into_vec())?;
             steps.with(Record::Enter { ring, entries })?
         }
         trace_records::Record::Fill {

@@ -61,8 +61,8 @@ fn add_record(
     indexes.resize(indexes.len() + count, index)
 }
 
-/// The ring of a slot. A descriptor is on none.
-fn ring_of(file: FileAt) -> u32
+/// The ring of a slot, or 1,048,576 for a descriptor, which is on none.
+pub fn ring_of(file: FileAt) -> u32
     ensures { result ≡ ring_of file }
 {
     match file {

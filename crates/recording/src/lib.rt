@@ -17,6 +17,7 @@ mod recording;
 mod steps;
 mod whole;
 
+pub use kept::ring_of;
 pub use recording::{Recording, Ring};
 pub use steps::{Action, Step, Steps};
 pub use trace_format::{Access, Blob, Buffer, Description, Entry, Series, Version};

@@ -2,7 +2,7 @@
 ghost use Rattle.std.specs.Prelude.{◌≡◌};
 ghost use Rattle.recording.specs.Records.{step_count};
 
-use trace_format::{Blob, Entries, Series};
+use trace_format::{Blob, Gathered, Series};
 use trace_records::{Content, FileAt, FullSlot};
 
 /// A record that has steps.
@@ -11,7 +11,7 @@ pub enum Record {
     /// Entries of a ring, a step each.
     Enter {
         ring: u32,
-        entries: Entries,
+        entries: Gathered,
     },
     /// Bytes for a part of a registered buffer of a ring, a step.
     Fill {

@@ -10,7 +10,9 @@ pub mod Spots
 pub mod KnownNames
 pub mod KnownSpans
 pub mod Apart
+pub mod Lasting
 pub mod Spotted
+pub mod Nears
 pub mod Slices
 mod Exits
 pub mod Facts

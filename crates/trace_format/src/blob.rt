@@ -23,11 +23,19 @@ impl<'a> TextSlice<'a> {
     ghost use Rattle.trace_format.specs.Blobs.{sliced};
 
     /// So many bytes of a text, from a place on.
+    #[inline(always)]
     pub(crate) fn of(text: &'a Text, from: usize, len: usize) -> Self
         requires { from + len ≤ length text.now.value.items }
         ensures { sliced result ≡ take len (drop from text.entry.now.value.items) }
     {
         TextSlice { text, from, len }
+    }
+
+    /// No bytes of a text.
+    pub(crate) fn empty(text: &'a Text) -> Self
+        ensures { sliced result ≡ [] }
+    {
+        TextSlice::of(text, 0, 0)
     }
 
     /// How many there are.
@@ -45,6 +53,7 @@ impl<'a> TextSlice<'a> {
     }
 
     /// The bytes as a slice.
+    #[inline(always)]
     pub fn as_slice(self) -> &'a [u8]
         ensures { result.now ≡ sliced self.entry }
     {
@@ -145,6 +154,7 @@ impl Blob {
     }
 
     /// The bytes with the text that they lie in, if they lie in one.
+    #[inline(always)]
     pub fn slice(&self) -> Option<TextSlice<'_>>
         ensures some { IfSome result (λ bytes. sliced bytes ≡ self.now) }
         ensures none { IfNone result (self.now ≡ []) }

@@ -3,25 +3,37 @@ ghost use Rattle.std.specs.Prelude.{◌≡◌, ◌<◌, [], ◌∷◌, ◌++◌,
 ghost use Rattle.std.specs.Int.{w32, to_le_bytes};
 ghost use Rattle.std.specs.List.{slice_get};
 ghost use Rattle.std.specs.Prelude.{OnOk, OnErr};
-ghost use Rattle.trace_format.specs.Entries.{IsInside, entry_at, given_in, side_len};
+ghost use Rattle.trace_format.specs.Entries.{IsInside, entry_at};
 
-use crate::blob::Text;
+use crate::blob::{Text, TextSlice};
 use crate::entry::Entry;
-use crate::given::{Form, Given};
 use sqe_codec::{Sqe, pack};
 use std::alloc::{AllocError, Global};
 use std::marker::Model;
 use std::mem;
 use std::sync::Arc;
 
-/// How many bytes of a text an entry has without those beside it: its 64, and a length.
-const FIELDS: usize = 68;
+/// How many bytes a text has of an entry before those beside it: its fields, and four more, which
+/// have the length of what is beside it where that was read.
+const HEAD: usize = 68;
 
-/// Where a text has an entry, and what is behind its fields.
+/// Where a text has an entry, and how many bytes are beside it there.
 #[derive(Clone, Copy)]
 pub(crate) struct Spot {
     pub at: u32,
-    pub form: Form,
+    pub len: u32,
+}
+
+impl Spot {
+    /// The entry that a text has here.
+    #[inline(always)]
+    fn entry(self, text: &Text) -> Entry<'_>
+        requires { IsInside text.now.value.items self }
+        ensures { result ≡ entry_at text.entry.now.value.items self }
+    {
+        let side = TextSlice::of(text, self.at as usize + HEAD, self.len as usize);
+        Entry::of(text, self.at, side, None)
+    }
 }
 
 /// Entries of one io_uring_enter(2), in the order of their submission. They are ranges of a text
@@ -65,11 +77,12 @@ impl Entries {
     }
 
     /// The entry of a number, from 0.
+    #[inline(always)]
     pub fn at(&self, number: usize) -> Entry<'_>
         requires { number < length self.now }
         ensures { slice_get self.now number ≡ Some result }
     {
-        Entry::of(&self.text, self.spots[number])
+        self.spots[number].entry(&self.text)
     }
 }
 
@@ -121,21 +134,6 @@ impl EntriesBuilder {
         }
     }
 
-    /// No entries, with room for so many, which have so many bytes beside them in all.
-    ///
-    /// # Errors
-    ///
-    /// `AllocError` where an allocation was refused.
-    pub fn with_room(alloc: Global, count: usize, bytes: usize) -> Result<Self, AllocError>
-        ensures { IfOk result (λ e. e ≡ []) }
-    {
-        let fields = count.saturating_mul(FIELDS);
-        Ok(EntriesBuilder {
-            text: Vec::with_capacity(alloc, fields.saturating_add(bytes))?,
-            spots: Vec::with_capacity(alloc, count)?,
-        })
-    }
-
     /// Adds an entry of these fields, with these bytes beside it.
     ///
     /// # Errors
@@ -150,40 +148,13 @@ impl EntriesBuilder {
         if side.len() > u32::MAX as usize {
             return Err(AllocError);
         }
-        let len = side.len() as u32;
-        self.add(sqe, side, Form::Stored { len })
-    }
-
-    /// Adds an entry of these fields, of which this is given.
-    ///
-    /// # Errors
-    ///
-    /// `AllocError` where an allocation was refused, or where the text of all entries before it is
-    /// longer than a `u32` tells. There is no new entry then.
-    pub fn push_given(&mut self, sqe: &Sqe, given: Given) -> Result<(), AllocError>
-        ensures added { OnOk result
-            (self.new ≡ self.old ++ record { sqe = sqe.now; side = []; given = Some given } ∷ []) }
-        ensures kept { OnErr result (self.new ≡ self.old) }
-    {
-        self.add(sqe, &[], Form::of(given))
-    }
-
-    /// Adds an entry of these fields and this form.
-    fn add(&mut self, sqe: &Sqe, side: &[u8], form: Form) -> Result<(), AllocError>
-        requires { side_len form ≡ length side.now }
-        ensures added { OnOk result (self.new
-            ≡ self.old ++ record { sqe = sqe.now; side = side.now; given = given_in form } ∷ []) }
-        ensures kept { OnErr result (self.new ≡ self.old) }
-    {
         let at = self.text.len();
         if at > u32::MAX as usize {
             return Err(AllocError);
         }
-        add_text(&mut self.text, &pack(sqe), form.side_len(), side)?;
-        self.spots.push(Spot {
-            at: at as u32,
-            form,
-        })?;
+        let len = side.len() as u32;
+        add_text(&mut self.text, &pack(sqe), len, side)?;
+        self.spots.push(Spot { at: at as u32, len })?;
         Ok(())
     }
 

@@ -1,45 +1,61 @@
-//! Entries, as they lie in a text.
-ghost use Rattle.std.specs.Prelude.{◌≡◌};
+//! Entries, as they lie in texts.
+ghost use Rattle.std.specs.Prelude.{◌≡◌, ◌+◌, ◌≤◌, length, take, drop};
+ghost use Rattle.sqe_codec.specs.Fields.{entry_of};
 ghost use Rattle.trace_format.specs.Blobs.{sliced};
-ghost use Rattle.trace_format.specs.Entries.{IsInside, entry_at};
 
 use crate::blob::{Text, TextSlice};
-use crate::entries::Spot;
 use crate::given::Given;
 use sqe_codec::{Sqe, unpack};
 use std::marker::Model;
 
-/// How many bytes a text has of an entry before those beside it: its fields, and four more, which
-/// have the length of what is beside it where that was read.
-pub(crate) const HEAD: usize = 68;
-
-/// A submitted entry, and the bytes in memory that it speaks of, as they lie in a text: neither
+/// A submitted entry, and the bytes in memory that it speaks of, as they lie in texts: neither
 /// its fields nor the bytes are copied.
 #[derive(Drop)]
 pub struct Entry<'a> {
+    /// Where its 64 bytes lie.
     text: &'a Text,
-    spot: Spot,
+    /// Where in that text they begin.
+    at: u32,
+    side: TextSlice<'a>,
+    given: Option<Given>,
 }
 
 impl<'a> Model for Entry<'a> {
+    ghost use Rattle.std.specs.Prelude.{◌+◌, ◌≤◌, length, take, drop};
+    ghost use Rattle.sqe_codec.specs.Fields.{entry_of};
     ghost use Rattle.trace_format.specs.Submitted.{Submitted};
 
     ghost Value = { Submitted };
 
-    ghost use Rattle.trace_format.specs.Entries.{IsInside, entry_at};
+    ghost use Rattle.trace_format.specs.Blobs.{sliced};
 
-    ghost view = { λ e. entry_at e.text.now.value.items e.spot };
+    ghost view = { λ e. record {
+      sqe = entry_of (take 64 (drop e.at e.text.now.value.items));
+      side = sliced e.side;
+      given = e.given;
+    } };
 
-    ghost invariant = { λ e. IsInside e.text.now.value.items e.spot };
+    ghost invariant = { λ e. e.at + 64 ≤ length e.text.now.value.items };
 }
 
 impl<'a> Entry<'a> {
-    /// The entry at a spot of a text.
-    pub(crate) fn of(text: &'a Text, spot: Spot) -> Self
-        requires { IsInside text.now.value.items spot }
-        ensures { result ≡ entry_at text.entry.now.value.items spot }
+    /// The entry whose fields are in a text from a place on, with these bytes beside it and what is
+    /// given of it.
+    #[inline(always)]
+    pub(crate) fn of(text: &'a Text, at: u32, side: TextSlice<'a>, given: Option<Given>) -> Self
+        requires { at + 64 ≤ length text.now.value.items }
+        ensures { result ≡ record {
+          sqe = entry_of (take 64 (drop at text.entry.now.value.items));
+          side = sliced side.entry;
+          given = given;
+        } }
     {
-        Entry { text, spot }
+        Entry {
+            text,
+            at,
+            side,
+            given,
+        }
     }
 
     /// The same entry. It takes no memory.
@@ -48,7 +64,9 @@ impl<'a> Entry<'a> {
     {
         Entry {
             text: self.text,
-            spot: self.spot,
+            at: self.at,
+            side: self.side,
+            given: self.given,
         }
     }
 
@@ -56,32 +74,34 @@ impl<'a> Entry<'a> {
     pub fn sqe(&self) -> Sqe
         ensures { result ≡ self.now.sqe }
     {
-        let from = self.spot.at as usize;
+        let from = self.at as usize;
         let mut bytes = [0; 64];
         bytes.copy_from_slice(&self.text[from..from + 64]);
         unpack(&bytes)
     }
 
     /// The lengths of its vector, the bytes that it writes, or its paths: see [`crate::fits`].
+    #[inline(always)]
     pub fn side(&self) -> &'a [u8]
         ensures { result.now ≡ self.now.side }
     {
-        self.side_slice().as_slice()
+        self.side.as_slice()
     }
 
     /// The same bytes, with the text that they lie in.
+    #[inline(always)]
     pub fn side_slice(&self) -> TextSlice<'a>
         ensures { sliced result ≡ self.now.side }
     {
-        let from = self.spot.at as usize + HEAD;
-        TextSlice::of(self.text, from, self.spot.form.side_len() as usize)
+        self.side
     }
 
     /// What the trace gives of it in place of having it decided. Traces of versions 1 and 2 give
     /// nothing.
+    #[inline(always)]
     pub fn given(&self) -> Option<Given>
         ensures { result ≡ self.now.given }
     {
-        self.spot.form.given()
+        self.given
     }
 }

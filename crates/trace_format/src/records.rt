@@ -9,7 +9,6 @@ ghost use Rattle.trace_format.specs.Text.{entry, enter, fill, one_record, buffer
 
 use crate::entries::{Entries, Spot};
 use crate::fault::{Kind, ReadError, refused};
-use crate::given::Form;
 use crate::sides::fits_early;
 use crate::source::{Source, blob_of, bytes_of, u8_of, u16_of, u16_to, u32_of};
 use crate::steps::{Records, step_count};
@@ -43,8 +42,7 @@ fn spot_of(source: Source<'_>) -> Result<(Spot, Source<'_>), ReadError>
         return Err(refused(Kind::Side, place));
     }
     let at = start.place as u32;
-    let form = Form::Stored { len };
-    Ok((Spot { at, form }, source))
+    Ok((Spot { at, len }, source))
 }
 
 fn entries_of(
