@@ -15,20 +15,9 @@ ghost use Rattle.entry_checks.specs.Answer.{check_submission, check_vector};
 use crate::operation::{BufferSpan, FileNumber, Op, OpenAtFlags};
 use sqe_codec::{BUFFER_SELECT, Errno, FIXED_FILE, Sqe, has_flag};
 use trace_format::{TextSlice, Version, vector_total};
-use trace_records::are_open_flags;
-
-// The flags of open(2), as asm-generic/fcntl.h has them.
-const ACCESS: u32 = 0o3;
-
-const CREATE: u32 = 0o100;
-
-const EXCLUSIVE: u32 = 0o200;
-
-const TRUNCATE: u32 = 0o1000;
-
-const APPEND: u32 = 0o2000;
-
-const DIRECTORY: u32 = 0o200000;
+use trace_records::{
+    ACCESS, ALLOCATED_SLOT, APPEND, CREATE, DIRECTORY, EXCLUSIVE, TRUNCATE, are_open_flags,
+};
 
 // The flags of statx(2), as linux/fcntl.h has them.
 const EMPTY_PATH: u32 = 0x1000;
@@ -45,9 +34,6 @@ const RESERVED: u32 = 1 << 31;
 
 /// `AT_FDCWD`, the working directory, without its sign.
 const WORKING_DIRECTORY: u32 = 4_294_967_196;
-
-/// `IORING_FILE_INDEX_ALLOC`, by which the kernel would choose the slot.
-const ALLOCATED_SLOT: u32 = u32::MAX;
 
 pub(crate) fn require(holds: bool, error: Errno) -> Result<(), Errno>
     ensures { result ≡ require holds error }

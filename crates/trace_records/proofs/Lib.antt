@@ -5,7 +5,6 @@ pub mod Numbered
 pub mod Stays
 pub mod Whole
 pub mod OneSpelling
-pub mod Pieces
 pub mod Ends
 pub mod Taken
 pub mod Going

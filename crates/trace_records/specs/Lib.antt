@@ -2,7 +2,7 @@ pub mod Fields
 pub mod Start
 pub mod Opens
 pub mod Front
-pub mod Found
+pub mod Shared
 pub mod Records
 pub mod Whole
 pub mod Spelling

@@ -73,6 +73,7 @@ fn trace_tally(alloc: Global, bytes: &[u8]) -> Result<Tally, ReadError>
     ensures fault { IfErr result (λ e. OnFault e (HasFault bytes.now)) }
 {
     let source = Source {
+        shared: None,
         rest: bytes,
         place: 0,
     };

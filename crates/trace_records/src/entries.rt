@@ -11,11 +11,10 @@ ghost use Rattle.trace_records.specs.Records.{beside, entry, enter};
 ghost use Rattle.trace_records.specs.declared.record.Beside.TheVariants.{Zeros};
 
 use crate::fault::{ReadError, refused};
-use crate::found::{Draft, Found, owned_all};
 use crate::front::{Front, PLACES};
-use crate::record::Record;
+use crate::record::{Beside, Entry, Record};
 use crate::rings::ring_there_of;
-use crate::source::{Source, bytes_of, u8_of, u8_to, u16_to, u32_of};
+use crate::source::{Source, blob_of, bytes_of, u8_of, u8_to, u16_to, u32_of};
 use sqe_codec::{Sqe, unpack};
 use std::alloc::Global;
 use trace_format::{Given, Kind, Series, fits, vector_total};
@@ -86,10 +85,11 @@ fn zeros_fit(sqe: &Sqe, lengths: &[u8], len: u32) -> bool
 
 #[tactic(auto, unfolding(crate::specs::Records::stored))]
 fn stored_of<'a>(
+    alloc: Global,
     begin: u64,
     sqe: &Sqe,
     source: Source<'a>,
-) -> Result<(Found<'a>, Source<'a>), ReadError>
+) -> Result<(Beside, Source<'a>), ReadError>
     requires { begin < 2 ^ 63 }
     ensures { Gives with_rest result (reading_from source.entry (stored begin sqe.now)) }
 {
@@ -98,30 +98,34 @@ fn stored_of<'a>(
     if source.place + u64::from(len) > begin + LONGEST {
         return Err(refused(Kind::Limit, place));
     }
-    let (bytes, source) = bytes_of(source, len as usize)?;
-    if !fits(sqe, bytes) {
+    let (bytes, source) = blob_of(alloc, source, len as usize)?;
+    if !fits(sqe, bytes.as_slice()) {
         return Err(refused(Kind::Side, place));
     }
-    Ok((Found::stored(bytes), source))
+    Ok((Beside::Stored { bytes }, source))
 }
 
 #[tactic(auto, unfolding(crate::specs::Records::zeros))]
-fn zeros_of<'a>(sqe: &Sqe, source: Source<'a>) -> Result<(Found<'a>, Source<'a>), ReadError>
+fn zeros_of<'a>(
+    alloc: Global,
+    sqe: &Sqe,
+    source: Source<'a>,
+) -> Result<(Beside, Source<'a>), ReadError>
     requires { may_be_zeros sqe.now ≡ true }
     ensures { Gives with_rest result (reading_from source.entry (zeros sqe.now)) }
 {
     let place = source.place;
     let (len, source) = u32_of(source)?;
-    let (lengths, source) = bytes_of(source, lengths_len(sqe, len) as usize)?;
-    if !zeros_fit(sqe, lengths, len) {
+    let (lengths, source) = blob_of(alloc, source, lengths_len(sqe, len) as usize)?;
+    if !zeros_fit(sqe, lengths.as_slice(), len) {
         return Err(refused(Kind::Side, place));
     }
-    Ok((Found::zeros(lengths, len), source))
+    Ok((Beside::Zeros { lengths, len }, source))
 }
 
 /// A given result, and whether it is a failure.
 #[tactic(auto, unfolding(crate::specs::Records::passed))]
-fn passed_of(source: Source<'_>) -> Result<(Found<'_>, Source<'_>), ReadError>
+fn passed_of(source: Source<'_>) -> Result<(Beside, Source<'_>), ReadError>
     ensures { Gives with_rest result (reading_from source.entry passed) }
 {
     let (word, source) = u32_of(source)?;
@@ -130,12 +134,12 @@ fn passed_of(source: Source<'_>) -> Result<(Found<'_>, Source<'_>), ReadError>
         result: word.cast_signed(),
         fails: fails == 1,
     };
-    Ok((Found::given(given), source))
+    Ok((Beside::Given { given }, source))
 }
 
 /// A given error.
 #[tactic(auto, unfolding(crate::specs::Records::refused))]
-fn error_of(source: Source<'_>) -> Result<(Found<'_>, Source<'_>), ReadError>
+fn error_of(source: Source<'_>) -> Result<(Beside, Source<'_>), ReadError>
     ensures { Gives with_rest result (reading_from source.entry given_error) }
 {
     let place = source.place;
@@ -145,23 +149,24 @@ fn error_of(source: Source<'_>) -> Result<(Found<'_>, Source<'_>), ReadError>
     }
     let error = (u32::MAX - word + 1) as u16;
     let given = Given::Refused { error };
-    Ok((Found::given(given), source))
+    Ok((Beside::Given { given }, source))
 }
 
 /// What an entry of this form has behind it.
 fn beside_of<'a>(
+    alloc: Global,
     begin: u64,
     form: u8,
     sqe: &Sqe,
     source: Source<'a>,
-) -> Result<(Found<'a>, Source<'a>), ReadError>
+) -> Result<(Beside, Source<'a>), ReadError>
     requires begun { begin < 2 ^ 63 }
     requires form { is_form sqe.now form ≡ true }
     ensures { Gives with_rest result (reading_from source.entry (beside begin sqe.now form)) }
 {
     match form {
-        0 => stored_of(begin, sqe, source),
-        1 => zeros_of(sqe, source),
+        0 => stored_of(alloc, begin, sqe, source),
+        1 => zeros_of(alloc, sqe, source),
         2 => passed_of(source),
         _ => error_of(source),
     }
@@ -175,7 +180,11 @@ fn is_form(sqe: &Sqe, form: u8) -> bool
 }
 
 #[tactic(auto, unfolding(crate::specs::Records::entry))]
-fn entry_from(begin: u64, source: Source<'_>) -> Result<(Draft<'_>, Source<'_>), ReadError>
+fn entry_from(
+    alloc: Global,
+    begin: u64,
+    source: Source<'_>,
+) -> Result<(Entry, Source<'_>), ReadError>
     requires { begin < 2 ^ 63 }
     ensures { Gives with_rest result (reading_from source.entry (entry begin)) }
 {
@@ -188,31 +197,31 @@ fn entry_from(begin: u64, source: Source<'_>) -> Result<(Draft<'_>, Source<'_>),
     if !is_form(&sqe, form) {
         return Err(refused(Kind::Limit, place));
     }
-    let (found, source) = beside_of(begin, form, &sqe, source)?;
-    Ok((Draft::new(sqe, found), source))
+    let (beside, source) = beside_of(alloc, begin, form, &sqe, source)?;
+    Ok((Entry { sqe, beside }, source))
 }
 
-/// So many entries, where the text has them.
-fn drafts_of(
+/// So many entries.
+fn entries_of(
     alloc: Global,
     count: u16,
     begin: u64,
     source: Source<'_>,
-) -> Result<(Vec<Draft<'_>>, Source<'_>), ReadError>
+) -> Result<(Vec<Entry>, Source<'_>), ReadError>
     requires { begin < 2 ^ 63 }
     ensures read { Gives (λ x. with_rest (x.0.items, x.1)) result
         (reading_from source.entry (several count (λ _. entry begin) [])) }
     ensures len { IfOk result (λ x. length x.0.items ≡ count) }
 {
     let most = usize::from(count).min(source.rest.len() / SMALLEST_ENTRY);
-    let mut drafts = Vec::with_capacity(alloc, most)?;
+    let mut entries = Vec::with_capacity(alloc, most)?;
     let mut source = source;
     for _ in 0..count {
-        let (draft, after) = entry_from(begin, source)?;
-        drafts.push(draft)?;
+        let (entry, after) = entry_from(alloc, begin, source)?;
+        entries.push(entry)?;
         source = after;
     }
-    Ok((drafts, source))
+    Ok((entries, source))
 }
 
 /// Entries of one ring, in a record that began there.
@@ -233,8 +242,7 @@ pub(crate) fn enter_of<'a>(
     if front.places() + u32::from(count) > PLACES {
         return Err(refused(Kind::Limit, place));
     }
-    let (drafts, source) = drafts_of(alloc, count, begin, source)?;
-    let entries = owned_all(alloc, drafts.as_slice())?;
+    let (entries, source) = entries_of(alloc, count, begin, source)?;
     let entries = Series::from_vec(entries);
     Ok((Record::Enter { ring, entries }, source))
 }

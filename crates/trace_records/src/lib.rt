@@ -22,7 +22,6 @@ mod descriptions;
 mod entries;
 mod fault;
 mod fills;
-mod found;
 mod front;
 mod header;
 mod items;
@@ -43,7 +42,10 @@ mod writing;
 
 pub use counting::{Tally, count_trace};
 pub use front::{Front, Sizes};
-pub use opens::{are_open_flags, check_path};
+pub use opens::{
+    ACCESS, ALLOCATED_SLOT, APPEND, CREATE, DIRECTORY, EXCLUSIVE, TRUNCATE, are_open_flags,
+    check_path,
+};
 pub use reading::{read_record, read_start, read_trace};
 pub use record::{Beside, Content, Entry, FileAt, Filling, FullSlot, Holder, Record, Ring};
 pub use start::{Descriptor, Item, Node, Range, Start};

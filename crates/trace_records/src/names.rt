@@ -10,7 +10,7 @@ ghost use Rattle.trace_records.specs.Start.{new_path};
 
 use crate::fault::{ReadError, refused};
 use crate::paths::{is_path, parent_of};
-use crate::source::{Source, blob, bytes_of, u16_of};
+use crate::source::{Source, bytes_of, copied, u16_of};
 use std::alloc::{AllocError, Global};
 use std::collections::BTreeMap;
 use trace_format::{Blob, Kind};
@@ -68,5 +68,5 @@ pub(crate) fn path_of<'a>(
     if has_name(names, bytes) {
         return Err(refused(Kind::Exists, place));
     }
-    Ok((blob(alloc, bytes)?, bytes, source))
+    Ok((copied(alloc, bytes)?, bytes, source))
 }

@@ -10,19 +10,33 @@ use sqe_codec::{Errno, has_flag};
 const LONGEST_PATH: usize = 4_095;
 
 // The flags of open(2), as asm-generic/fcntl.h has them.
-const ACCESS: u32 = 0o3;
 
-const CREATE: u32 = 0o100;
+/// `O_ACCMODE`, the bits of the access.
+pub const ACCESS: u32 = 0o3;
 
-const DIRECTORY: u32 = 0o200000;
+/// `O_CREAT`: a file that is not there is made.
+pub const CREATE: u32 = 0o100;
 
+/// `O_EXCL`: the file must not be there yet.
+pub const EXCLUSIVE: u32 = 0o200;
+
+/// `O_TRUNC`: the file loses its bytes.
+pub const TRUNCATE: u32 = 0o1000;
+
+/// `O_APPEND`: writes go to the end of the file.
+pub const APPEND: u32 = 0o2000;
+
+/// `O_DIRECTORY`: what is opened must be a directory.
+pub const DIRECTORY: u32 = 0o200000;
+
+/// `O_CLOEXEC`, which is for an ordinary descriptor.
 const CLOSE_ON_EXEC: u32 = 0o2000000;
 
 /// All flags that openat takes.
 const OPEN_FLAGS: u32 = 0x1f_dfc3;
 
 /// `IORING_FILE_INDEX_ALLOC`, by which the kernel would choose the slot.
-const ALLOCATED_SLOT: u32 = u32::MAX;
+pub const ALLOCATED_SLOT: u32 = u32::MAX;
 
 fn is_dots(run: &[u8]) -> bool
     ensures { result ≡ is_dots run.now }

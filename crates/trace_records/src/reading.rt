@@ -1,6 +1,6 @@
 //! Reading a trace.
 ghost use Rattle.std.specs.Prelude.{◌≡◌, ◌+◌, ◌<◌, ◌≤◌, ◌^◌, ◌⊎◌};
-ghost use Rattle.std.specs.Prelude.{IfOk, IfErr, IfSome, List, length, take};
+ghost use Rattle.std.specs.Prelude.{IfOk, IfErr, IfSome, List, drop, length, take};
 ghost use Rattle.trace_format.specs.Grammar.{Breaks, Spells, fault};
 ghost use Rattle.trace_format.specs.declared.fault.Kind.TheVariants.{Memory};
 ghost use Rattle.trace_records.specs.Front.{no_records, places_of, places_limit};
@@ -23,7 +23,7 @@ use crate::source::Source;
 use crate::start::Start;
 use crate::trace::Trace;
 use std::alloc::Global;
-use trace_format::{Kind, Series, TraceFault};
+use trace_format::{Kind, Series, Text, TraceFault};
 
 #[tactic(auto, unfolding(crate::specs::Start::start))]
 pub(crate) fn start_of(alloc: Global, source: Source<'_>) -> Result<(Start, Source<'_>), ReadError>
@@ -63,6 +63,7 @@ pub fn read_start(alloc: Global, bytes: &[u8]) -> Result<(Start, usize), TraceFa
     ensures fault { IfErr result (λ f. (f ≡ fault Memory 0) ⊎ Breaks start 0 bytes.now f) }
 {
     let source = Source {
+        shared: None,
         rest: bytes,
         place: 0,
     };
@@ -72,8 +73,31 @@ pub fn read_start(alloc: Global, bytes: &[u8]) -> Result<(Start, usize), TraceFa
     }
 }
 
-/// The record that the bytes begin with, none where the trace ends, and how many bytes it has. The
-/// bytes stand at a place of a text, behind its start and the records that `front` stands for.
+/// The record that what is left of a text begins with, none where the trace ends, and how many
+/// bytes it has.
+fn record_from(
+    alloc: Global,
+    start: &Start,
+    front: &Front,
+    source: Source<'_>,
+) -> Result<(Option<Record>, usize), TraceFault>
+    ensures taken { IfOk result (λ x. (0 < x.1) × (x.1 ≤ length source.entry.rest.now)
+        × Spells (next start.now front.now) source.entry.place
+        (take x.1 source.entry.rest.now) x.0) }
+    ensures within { IfOk result
+        (λ x. IfSome x.0 (λ r. front.now.places + places_of r ≤ places_limit)) }
+    ensures fault { IfErr result (λ f. (f ≡ fault Memory 0)
+        ⊎ Breaks (next start.now front.now) source.entry.place source.entry.rest.now f) }
+{
+    match next_of(alloc, start, front, source) {
+        Ok((record, after)) => Ok((record, source.rest.len() - after.rest.len())),
+        Err(error) => Err(as_fault(error)),
+    }
+}
+
+/// The record that the bytes of a buffer from an index on begin with, none where the trace ends, and
+/// how many bytes it has. The bytes stand at a place of a trace, behind its start and the records
+/// that `front` stands for. What is read shares the buffer: no byte is copied.
 ///
 /// # Errors
 ///
@@ -83,25 +107,32 @@ pub fn read_record(
     alloc: Global,
     start: &Start,
     front: &Front,
-    bytes: &[u8],
+    buffer: &Text,
+    from: usize,
     place: u64,
 ) -> Result<(Option<Record>, usize), TraceFault>
-    requires { place + length bytes.now < 2 ^ 63 }
+    requires inside { from ≤ length buffer.now.value.items }
+    requires fits { place + length (drop from buffer.now.value.items) < 2 ^ 63 }
     // What is read is spelled so by the bytes that were taken, at least one.
-    ensures taken { IfOk result (λ x. (0 < x.1) × (x.1 ≤ length bytes.now)
-        × Spells (next start.now front.now) place (take x.1 bytes.now) x.0) }
+    ensures taken { IfOk result
+        (λ x. (0 < x.1) × (x.1 ≤ length (drop from buffer.now.value.items))
+        × Spells (next start.now front.now) place
+        (take x.1 (drop from buffer.now.value.items)) x.0) }
     // It may be added to the front.
     ensures within { IfOk result
         (λ x. IfSome x.0 (λ r. front.now.places + places_of r ≤ places_limit)) }
     // A fault is one of the bytes, unless memory ran out.
-    ensures fault { IfErr result
-        (λ f. (f ≡ fault Memory 0) ⊎ Breaks (next start.now front.now) place bytes.now f) }
+    ensures fault { IfErr result (λ f. (f ≡ fault Memory 0)
+        ⊎ Breaks (next start.now front.now) place (drop from buffer.now.value.items) f) }
 {
-    let source = Source { rest: bytes, place };
-    match next_of(alloc, start, front, source) {
-        Ok((record, after)) => Ok((record, bytes.len() - after.rest.len())),
-        Err(error) => Err(as_fault(error)),
-    }
+    let (_, rest) = buffer.split_at(from);
+    let shared = Some(buffer);
+    let source = Source {
+        shared,
+        rest,
+        place,
+    };
+    record_from(alloc, start, front, source)
 }
 
 /// The records of a trace, to its end.
@@ -136,6 +167,7 @@ fn trace_of(alloc: Global, bytes: &[u8]) -> Result<Trace, ReadError>
     ensures fault { IfErr result (λ e. OnFault e (HasFault bytes.now)) }
 {
     let source = Source {
+        shared: None,
         rest: bytes,
         place: 0,
     };

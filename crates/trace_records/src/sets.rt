@@ -12,7 +12,7 @@ use crate::opens::{are_open_flags, check_path};
 use crate::paths::has_zero;
 use crate::record::{Content, FileAt, Record};
 use crate::rings::{other_holder_of, ring_there_of};
-use crate::source::{Source, blob, bytes_of, number_of, u8_to, u16_of, u32_of, u64_to};
+use crate::source::{Source, blob_of, number_of, u8_to, u16_of, u32_of, u64_to};
 use crate::start::Start;
 use std::alloc::Global;
 use trace_format::Kind;
@@ -79,11 +79,10 @@ fn opened_of(alloc: Global, source: Source<'_>) -> Result<(Content, Source<'_>),
     let (position, source) = position_of(source)?;
     let (len, source) = u16_of(source)?;
     let place = source.place;
-    let (bytes, source) = bytes_of(source, len as usize)?;
-    if !is_call_path(bytes) {
+    let (path, source) = blob_of(alloc, source, len as usize)?;
+    if !is_call_path(path.as_slice()) {
         return Err(refused(Kind::Path, place));
     }
-    let path = blob(alloc, bytes)?;
     Ok((
         Content::Path {
             flags,

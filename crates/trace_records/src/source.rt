@@ -1,21 +1,26 @@
 //! What is left of a text, and the place where that starts.
 ghost use Rattle.std.specs.Prelude.{◌≡◌, ◌+◌, ◌<◌, ◌≤◌, ◌^◌, IfOk, length};
 ghost use Rattle.std.specs.Int.{w8, w16, w32, w64};
+ghost use Rattle.std.specs.Option.{ForSome};
 ghost use Rattle.trace_format.specs.Grammar.{Bytes, number, number_to};
 ghost use Rattle.trace_records.specs.Fields.{number_in, number_of};
 ghost use Rattle.trace_records.specs.Read.{Gives};
+ghost use Rattle.trace_records.specs.Shared.{IsEndOf};
 ghost use Rattle.trace_format.specs.Read.{reading};
 
 use crate::fault::{ReadError, refused};
 use std::alloc::{AllocError, Global};
-use trace_format::{Blob, Kind};
+use trace_format::{Blob, Kind, Text};
 
 /// The bytes that haven't been read, and the place of the first of them in the text.
 #[derive(Clone, Copy)]
 pub(crate) struct Source<'a> {
+    /// The memory that they are the end of, where what is read may share it. Else it is copied.
+    pub shared: Option<&'a Text>,
     pub rest: &'a [u8],
     pub place: u64,
     ghost fits: { place + length rest.now < 2 ^ 63 },
+    ghost end: { ForSome shared (λ text. IsEndOf text.now.value.items rest.now) },
 }
 
 pub(crate) fn bytes_of(source: Source<'_>, count: usize) -> Result<(&[u8], Source<'_>), ReadError>
@@ -30,6 +35,7 @@ pub(crate) fn bytes_of(source: Source<'_>, count: usize) -> Result<(&[u8], Sourc
     Ok((
         front,
         Source {
+            shared: source.shared,
             rest,
             place: source.place + count as u64,
         },
@@ -37,7 +43,7 @@ pub(crate) fn bytes_of(source: Source<'_>, count: usize) -> Result<(&[u8], Sourc
 }
 
 /// A copy of bytes. Of none it takes no memory.
-pub(crate) fn blob(alloc: Global, bytes: &[u8]) -> Result<Blob, AllocError>
+pub(crate) fn copied(alloc: Global, bytes: &[u8]) -> Result<Blob, AllocError>
     ensures { IfOk result (λ b. b ≡ bytes.now) }
 {
     if bytes.is_empty() {
@@ -48,7 +54,7 @@ pub(crate) fn blob(alloc: Global, bytes: &[u8]) -> Result<Blob, AllocError>
     Blob::from_vec(alloc, copy)
 }
 
-/// So many bytes, copied.
+/// So many bytes, which share the memory that they lie in, where they may, or are copied.
 pub(crate) fn blob_of(
     alloc: Global,
     source: Source<'_>,
@@ -57,8 +63,12 @@ pub(crate) fn blob_of(
     ensures { Gives (λ x. (x.0, x.1.place, x.1.rest.now)) result
         (reading (Bytes count) source.entry.place source.entry.rest.now) }
 {
-    let (bytes, source) = bytes_of(source, count)?;
-    Ok((blob(alloc, bytes)?, source))
+    let (bytes, after) = bytes_of(source, count)?;
+    let made = match source.shared {
+        None => copied(alloc, bytes)?,
+        Some(text) => Blob::part(text, (text.len() - source.rest.len()) as u64, count)?,
+    };
+    Ok((made, after))
 }
 
 pub(crate) fn u8_of(source: Source<'_>) -> Result<(u8, Source<'_>), ReadError>

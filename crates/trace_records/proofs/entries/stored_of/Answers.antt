@@ -15,4 +15,4 @@ pub returns-in_err-bytes : goal.returns-in_err-bytes
 unfolding stored
 returns-in_err-bytes c =
     let room : nat_le (c.in_ok-len.source.place + c.in_ok-len.len) (c.args.begin + (2 ^ 32 - 1)) ≡ true = le-leb _ _ (omega arith) in
-    goes_out with_rest _ _ _ _ c.from_residual-in_err-bytes.ensures.1 c.in_err-bytes.ensures.read (λ f e. rw (c.in_ok-len.ensures, room, e) refl)
+    goes_out with_rest _ _ _ _ c.from_residual-in_err-bytes.ensures.1 c.in_err-bytes.ensures (λ f e. rw (c.in_ok-len.ensures, room, e) refl)

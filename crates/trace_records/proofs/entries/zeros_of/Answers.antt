@@ -12,4 +12,4 @@ returns-in_err-len c =
 pub returns-in_err-lengths : goal.returns-in_err-lengths
 unfolding zeros
 returns-in_err-lengths c =
-    goes_out with_rest _ _ _ _ c.from_residual-in_err-lengths.ensures.1 (rw c.lengths_len.ensures at c.in_err-lengths.ensures.read) (λ f e. rw (c.in_ok-len.ensures, e) refl)
+    goes_out with_rest _ _ _ _ c.from_residual-in_err-lengths.ensures.1 (rw c.lengths_len.ensures at c.in_err-lengths.ensures) (λ f e. rw (c.in_ok-len.ensures, e) refl)

@@ -22,11 +22,11 @@ returns-then-has_name-clause-read c items knows =
     let there : has_directory items c.parent_of.result.now ≡ true = rw (← knows.directories c.parent_of.result.now) (sym c.if-not-has_directory.ensures) in
     rw (c.refused-then-has_name.ensures, c.in_ok-len.ensures, c.in_ok-bytes.ensures.read, ← c.if-not-is_path.ensures, ← c.parent_of.ensures, there, ← knows.all c.in_ok-bytes.bytes.now, ← c.if-has_name.ensures) refl
 
-pub returns-in_err-blob-clause-read : goal.returns-in_err-blob-clause-read
-returns-in_err-blob-clause-read c items knows = no_memory (λ x. with_rest (x.0, x.2)) _ _ c.from_residual-in_err-blob.ensures.1
+pub returns-in_err-copied-clause-read : goal.returns-in_err-copied-clause-read
+returns-in_err-copied-clause-read c items knows = no_memory (λ x. with_rest (x.0, x.2)) _ _ c.from_residual-in_err-copied.ensures.1
 
 pub returns-clause-read : goal.returns-clause-read
 unfolding new_path
 returns-clause-read c items knows =
     let there : has_directory items c.parent_of.result.now ≡ true = rw (← knows.directories c.parent_of.result.now) (sym c.if-not-has_directory.ensures) in
-    rw (c.in_ok-len.ensures, c.in_ok-bytes.ensures.read, ← c.if-not-is_path.ensures, ← c.parent_of.ensures, there, ← knows.all c.in_ok-bytes.bytes.now, ← c.if-has_name.ensures, c.in_ok-blob.ensures) refl
+    rw (c.in_ok-len.ensures, c.in_ok-bytes.ensures.read, ← c.if-not-is_path.ensures, ← c.parent_of.ensures, there, ← knows.all c.in_ok-bytes.bytes.now, ← c.if-has_name.ensures, c.in_ok-copied.ensures) refl

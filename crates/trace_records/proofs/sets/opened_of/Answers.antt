@@ -1,7 +1,7 @@
-use Rattle.std.proofs.Common.{refl}
+use Rattle.std.proofs.Common.{ap, refl, ◌∙◌}
 use Rattle.trace_records.specs.Sources.{with_rest}
-use Rattle.trace_records.specs.Records.{opened}
-use Rattle.trace_records.proofs.Exits.{goes_out, no_memory}
+use Rattle.trace_records.specs.Records.{is_call_path, opened}
+use Rattle.trace_records.proofs.Exits.{goes_out}
 use Rattle.trace_records.proofs.sets.opened_of.Goals as goal
 
 pub returns-in_err-flags : goal.returns-in_err-flags
@@ -24,20 +24,19 @@ unfolding opened
 returns-in_err-len c =
     goes_out with_rest _ _ _ _ c.from_residual-in_err-len.ensures.1 c.in_err-len.ensures (λ f e. rw (c.in_ok-flags.ensures, ← c.if-not-are_open_flags.ensures, c.in_ok-position.ensures, e) refl)
 
-pub returns-in_err-bytes : goal.returns-in_err-bytes
+pub returns-in_err-path : goal.returns-in_err-path
 unfolding opened
-returns-in_err-bytes c =
-    goes_out with_rest _ _ _ _ c.from_residual-in_err-bytes.ensures.1 c.in_err-bytes.ensures.read (λ f e. rw (c.in_ok-flags.ensures, ← c.if-not-are_open_flags.ensures, c.in_ok-position.ensures, c.in_ok-len.ensures, e) refl)
+returns-in_err-path c =
+    goes_out with_rest _ _ _ _ c.from_residual-in_err-path.ensures.1 c.in_err-path.ensures (λ f e. rw (c.in_ok-flags.ensures, ← c.if-not-are_open_flags.ensures, c.in_ok-position.ensures, c.in_ok-len.ensures, e) refl)
 
 pub returns-then-not-is_call_path : goal.returns-then-not-is_call_path
 unfolding opened
 returns-then-not-is_call_path c =
-    rw (c.refused-then-not-is_call_path.ensures, c.in_ok-flags.ensures, ← c.if-not-are_open_flags.ensures, c.in_ok-position.ensures, c.in_ok-len.ensures, c.in_ok-bytes.ensures.read, ← c.if-not-is_call_path.ensures) refl
-
-pub returns-in_err-path : goal.returns-in_err-path
-returns-in_err-path c = no_memory with_rest _ _ c.from_residual-in_err-path.ensures.1
+    let bad = c.if-not-is_call_path.ensures ∙ ap is_call_path c.as_slice.ensures in
+    rw (c.refused-then-not-is_call_path.ensures, c.in_ok-flags.ensures, ← c.if-not-are_open_flags.ensures, c.in_ok-position.ensures, c.in_ok-len.ensures, c.in_ok-path.ensures, ← bad) refl
 
 pub returns : goal.returns
 unfolding opened
 returns c =
-    rw (c.in_ok-flags.ensures, ← c.if-not-are_open_flags.ensures, c.in_ok-position.ensures, c.in_ok-len.ensures, c.in_ok-bytes.ensures.read, ← c.if-not-is_call_path.ensures, c.in_ok-path.ensures) refl
+    let good = c.if-not-is_call_path.ensures ∙ ap is_call_path c.as_slice.ensures in
+    rw (c.in_ok-flags.ensures, ← c.if-not-are_open_flags.ensures, c.in_ok-position.ensures, c.in_ok-len.ensures, c.in_ok-path.ensures, ← good) refl
