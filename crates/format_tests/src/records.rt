@@ -1,10 +1,12 @@
 //! Traces of version 3 as bytes, whole and a part at a time.
 
 use std::alloc::{AllocError, Global};
+use std::sync::Arc;
 use std::test::Fail;
-use trace_format::Kind;
+use trace_format::{Kind, Text};
 use trace_records::{
-    Front, read_record, read_start, read_trace, write_end, write_record, write_start, write_trace,
+    Beside, Front, Record, read_record, read_start, read_trace, write_end, write_record,
+    write_start, write_trace,
 };
 
 /// One file `/a` of ten bytes, a ring with it in slot 0, and one READ of it.
@@ -54,11 +56,12 @@ fn is_written_by_parts(alloc: Global, bytes: &[u8], records: u32) -> Result<bool
     let mut text = Vec::new(alloc);
     write_start(&mut text, &start)?;
     let mut front = Front::new(alloc);
+    let buffer = Arc::new(alloc, Vec::from_slice(alloc, bytes)?)?;
     for _ in 0..records {
-        let Some(rest) = bytes.get(at..) else {
+        if at > buffer.len() {
             return Ok(false);
-        };
-        let Ok((made, used)) = read_record(alloc, &start, &front, rest, at as u64) else {
+        }
+        let Ok((made, used)) = read_record(alloc, &start, &front, &buffer, at, at as u64) else {
             return Ok(false);
         };
         at = at.saturating_add(used);
@@ -81,6 +84,53 @@ pub(crate) fn is_written(alloc: Global, bytes: &[u8], records: u32) -> Result<bo
 #[test]
 fn parts_of_a_trace(rt: HostRuntime) -> Result<(), Fail> {
     assert!(rt; is_written(rt.alloc(), READ_FOUR_BYTES.as_slice(), 3)?);
+    Ok(())
+}
+
+/// A file, a ring and a WRITE of the four bytes `abcd`, which begin at 201.
+fn a_write(alloc: Global) -> Result<Text, AllocError> {
+    let mut text = Vec::from_slice(alloc, &READ_FOUR_BYTES[..132])?;
+    text.push(23)?;
+    text.extend_from_slice(&READ_FOUR_BYTES[133..197])?;
+    text.extend_from_slice(b"\x04\0\0\0abcd\x07")?;
+    Ok(Arc::new(alloc, text)?)
+}
+
+/// Whether the first entry has the bytes `abcd` beside it, which lie in the buffer at 201.
+fn is_in_the_buffer(record: &Record) -> bool {
+    if let Record::Enter { entries, .. } = record
+        && let Some(entry) = entries.as_slice().first()
+        && let Beside::Stored { bytes } = &entry.beside
+        && let Some(bytes) = bytes.slice()
+    {
+        return bytes.from == 201 && bytes.as_slice() == b"abcd".as_slice();
+    }
+    false
+}
+
+/// Whether the bytes beside an entry that is read share the buffer.
+fn shares_the_buffer(alloc: Global, buffer: &Text) -> Result<bool, AllocError> {
+    let Ok((start, at)) = read_start(alloc, buffer.as_slice()) else {
+        return Ok(false);
+    };
+    let mut front = Front::new(alloc);
+    let Ok((ring, used)) = read_record(alloc, &start, &front, buffer, at, at as u64) else {
+        return Ok(false);
+    };
+    if let Some(ring) = ring {
+        front.add(alloc, &ring)?;
+    }
+    let at = at + used;
+    match read_record(alloc, &start, &front, buffer, at, at as u64) {
+        Ok((Some(record), _)) => Ok(is_in_the_buffer(&record) && Arc::strong_count(buffer) == 2),
+        _ => Ok(false),
+    }
+}
+
+#[test]
+fn bytes_that_are_shared(rt: HostRuntime) -> Result<(), Fail> {
+    let buffer = a_write(rt.alloc())?;
+    assert!(rt; shares_the_buffer(rt.alloc(), &buffer)?);
     Ok(())
 }
 

@@ -2,7 +2,8 @@
 
 use sqe_codec::unpack;
 use std::alloc::{AllocError, Global};
-use trace_format::{Blob, EntriesBuilder, Given, TextSlice};
+use std::sync::Arc;
+use trace_format::{Blob, EntriesBuilder, GatheredBuilder, Given, TextSlice};
 
 /// Whether they are the six bytes `abcdef` at this place of their text, and so are their parts.
 fn is_the_word(bytes: TextSlice<'_>, from: usize) -> bool {
@@ -35,25 +36,29 @@ fn is_beside_an_entry(alloc: Global) -> Result<bool, AllocError> {
     Ok(entries.len() == 2 && is_the_word(entries.at(1).side_slice(), 138))
 }
 
-/// Whether entries that are given have that, and nothing beside them, and the one before them is
-/// not given.
-fn is_given(alloc: Global) -> Result<bool, AllocError> {
+/// Whether entries that are gathered have beside them the bytes of their blobs, where those lie,
+/// and what is given of them. The second has the word behind two bytes of a text, the first and
+/// the third have none.
+fn is_gathered(alloc: Global) -> Result<bool, AllocError> {
     let sqe = unpack(&[0; 64]);
     let failed = Given::Passed {
         result: 4,
         fails: true,
     };
-    let mut builder = EntriesBuilder::new(alloc);
-    builder.push(&sqe, b"xy")?;
-    builder.push_given(&sqe, failed)?;
-    builder.push_given(&sqe, Given::Refused { error: 22 })?;
+    let text = Arc::new(alloc, Vec::from_slice(alloc, b"xyabcdef")?)?;
+    let mut builder = GatheredBuilder::with_room(alloc, 3)?;
+    builder.push(&sqe, Blob::empty(), Some(failed))?;
+    builder.push(&sqe, Blob::part(&text, 2, 6)?, None)?;
+    builder.push(&sqe, Blob::empty(), None)?;
     let entries = builder.build(alloc)?;
     Ok(
         entries.len() == 3
-            && entries.at(0).given().is_none()
-            && entries.at(1).given() == Some(failed)
-            && entries.at(1).side().is_empty()
-            && entries.at(2).given() == Some(Given::Refused { error: 22 }),
+            && entries.at(0).given() == Some(failed)
+            && entries.at(0).side().is_empty()
+            && entries.at(1).given().is_none()
+            && is_the_word(entries.at(1).side_slice(), 2)
+            && entries.at(2).given().is_none()
+            && entries.at(2).side().is_empty(),
     )
 }
 
@@ -63,6 +68,6 @@ fn slices_of_a_text(rt: HostRuntime) {
     assert!(rt;
         matches!(is_in_a_blob(alloc), Ok(true))
             && matches!(is_beside_an_entry(alloc), Ok(true))
-            && matches!(is_given(alloc), Ok(true))
+            && matches!(is_gathered(alloc), Ok(true))
     );
 }

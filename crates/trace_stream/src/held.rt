@@ -1,5 +1,6 @@
 //! Bytes that were taken from a reader and not used yet.
-ghost use Rattle.std.specs.Prelude.{◌≡◌, ◌+◌, ◌-◌, ◌<◌, ◌≤◌, ◌^◌, drop, length, IfOk, IfErr, OnOk};
+ghost use Rattle.std.specs.Prelude.{◌≡◌, ◌+◌, ◌-◌, ◌<◌, ◌≤◌, ◌^◌, ◌++◌, drop, length};
+ghost use Rattle.std.specs.Prelude.{IfOk, IfErr, OnOk, OnErr};
 ghost use Rattle.byte_transfer.specs.Transfer.{Takes};
 ghost use Rattle.trace_stream.specs.Held.{Gains, IsOutside, failed};
 
@@ -8,11 +9,15 @@ use crate::lengths::{StartWalk, record_len};
 use byte_transfer::{Failed, Source};
 use std::alloc::{AllocError, Global};
 use std::marker::Model;
+use std::mem;
+use std::sync::Arc;
+use trace_format::Text;
 
 /// The most bytes that one call reads.
 const PIECE: usize = 65_536;
 
-/// Room for so many bytes at most is kept for those that come.
+/// The buffer that had the start is kept where it has room for so many bytes at most. Those of
+/// records are kept whatever their room.
 const KEPT: usize = 8_388_608;
 
 /// Nothing is read behind so many bytes of a text: numbers of places have 64 bits.
@@ -30,10 +35,57 @@ enum Part {
     Record,
 }
 
+/// Lets go of the first bytes of a buffer. Its room stays.
+fn drop_front(bytes: &mut Vec<u8>, count: usize)
+    requires { count ≤ length bytes.old.items }
+    ensures { bytes.new.items ≡ drop count bytes.old.items }
+{
+    let left = bytes.len() - count;
+    bytes.copy_within(count.., 0);
+    bytes.truncate(left);
+}
+
+/// A buffer with a copy of these bytes.
+fn buffer_of(alloc: Global, bytes: &[u8]) -> Result<Text, AllocError>
+    ensures { IfOk result (λ buffer. buffer.value.items ≡ bytes.now) }
+{
+    let mut copy = Vec::new(alloc);
+    copy.extend_from_slice(bytes)?;
+    Ok(Arc::new(alloc, copy)?)
+}
+
+/// Makes a buffer one of these bytes. It is written over, or made anew where it is shared.
+fn refill(alloc: Global, buffer: &mut Text, bytes: &[u8]) -> Result<(), AllocError>
+    ensures { OnOk result (buffer.new.value.items ≡ bytes.now) }
+{
+    if let Some(own) = Arc::get_mut(buffer) {
+        own.clear();
+        return own.extend_from_slice(bytes);
+    }
+    *buffer = buffer_of(alloc, bytes)?;
+    Ok(())
+}
+
+/// Puts bytes behind those of a buffer, or of a copy of it where it is shared.
+fn append(buffer: &mut Text, bytes: &[u8]) -> Result<(), AllocError>
+    ensures ok { OnOk result (buffer.new.value.items ≡ buffer.old.value.items ++ bytes.now) }
+    ensures err { OnErr result (buffer.new.value.items ≡ buffer.old.value.items) }
+{
+    Arc::make_mut(buffer)?.extend_from_slice(bytes)
+}
+
 /// The bytes of a text that were taken and not used yet, and where in the text they stand.
+///
+/// They lie in a buffer, which the records that are read from it share. Two buffers take turns:
+/// while a record keeps one of them, what comes next is read into the other. So no memory is given
+/// back and asked for again, where a record is let go before the one after the next is read.
 #[derive(Drop)]
 pub(crate) struct Held {
-    bytes: Vec<u8>,
+    bytes: Text,
+    // The buffer that takes the next turn.
+    spare: Text,
+    // Whether the buffer had the start of the text.
+    had_start: bool,
     used: usize,
     place: u64,
     part: Part,
@@ -46,32 +98,34 @@ pub(crate) struct Held {
 }
 
 impl Model for Held {
-    ghost use Rattle.std.specs.Prelude.{◌≤◌, ◌<◌, ◌+◌, ◌^◌, drop, vec_len};
+    ghost use Rattle.std.specs.Prelude.{◌≤◌, ◌<◌, ◌+◌, ◌^◌, drop, length, vec_len};
     ghost use Rattle.trace_stream.specs.Held as meant;
 
     ghost Value = { meant.Held };
 
-    ghost view = { λ h. record { rest = drop h.used h.bytes.items; place = h.place } };
+    ghost view = { λ h. record { rest = drop h.used h.bytes.value.items; place = h.place } };
 
-    ghost invariant = { λ h. (h.used ≤ vec_len h.bytes)
-        × (h.place + vec_len h.bytes < h.used + 2 ^ 63)
+    ghost invariant = { λ h. (h.used ≤ length h.bytes.value.items)
+        × (h.place + length h.bytes.value.items < h.used + 2 ^ 63)
         × (vec_len h.piece ≤ 65536) };
 }
 
 impl Held {
     /// The first bytes of a text.
-    pub(crate) fn new(alloc: Global, bytes: Vec<u8>) -> Self
-        ensures { result ≡ record { rest = bytes.items; place = 0 } }
+    pub(crate) fn new(alloc: Global, bytes: Vec<u8>) -> Result<Self, AllocError>
+        ensures { IfOk result (λ held. held ≡ record { rest = bytes.items; place = 0 }) }
     {
-        Held {
-            bytes,
+        Ok(Held {
+            bytes: Arc::new(alloc, bytes)?,
+            spare: Arc::new(alloc, Vec::new(alloc))?,
+            had_start: true,
             used: 0,
             place: 0,
             part: Part::Start(StartWalk::new()),
             least: 0,
             credit: PIECE as u64,
             piece: Vec::new(alloc),
-        }
+        })
     }
 
     pub(crate) fn rest(&self) -> &[u8]
@@ -79,6 +133,15 @@ impl Held {
         ensures bound { self.now.place + length self.now.rest < 2 ^ 63 }
     {
         &self.bytes[self.used..]
+    }
+
+    /// The buffer that the bytes lie in, and where they begin there.
+    pub(crate) fn buffer(&self) -> (&Text, usize)
+        ensures rest { drop result.1 result.0.now.value.items ≡ self.now.rest }
+        ensures inside { result.1 ≤ length result.0.now.value.items }
+        ensures bound { self.now.place + length self.now.rest < 2 ^ 63 }
+    {
+        (&self.bytes, self.used)
     }
 
     pub(crate) fn place(&self) -> u64
@@ -100,7 +163,9 @@ impl Held {
         self.least = 0;
     }
 
-    /// Lets go of the bytes that were used. Their room stays, for those that come, where it is small.
+    /// Lets go of the bytes that were used. Where a record shares the buffer, those that are left
+    /// go into the spare one, which takes its turn. A large buffer that had the start is given
+    /// back.
     fn let_go(&mut self, alloc: Global) -> Result<(), AllocError>
         ensures same { OnOk result (self.new ≡ self.old) }
         ensures bound { self.new.place + length self.new.rest < 2 ^ 63 }
@@ -108,15 +173,15 @@ impl Held {
         if self.used == 0 {
             return Ok(());
         }
-        if self.bytes.capacity() <= KEPT {
-            let left = self.bytes.len() - self.used;
-            self.bytes.copy_within(self.used.., 0);
-            self.bytes.truncate(left);
+        if self.had_start && self.bytes.capacity() > KEPT {
+            self.bytes = buffer_of(alloc, &self.bytes[self.used..])?;
+        } else if let Some(bytes) = Arc::get_mut(&mut self.bytes) {
+            drop_front(bytes, self.used);
         } else {
-            let mut bytes = Vec::new(alloc);
-            bytes.extend_from_slice(&self.bytes[self.used..])?;
-            self.bytes = bytes;
+            refill(alloc, &mut self.spare, &self.bytes[self.used..])?;
+            mem::swap(&mut self.bytes, &mut self.spare);
         }
+        self.had_start = false;
         self.used = 0;
         Ok(())
     }
@@ -139,7 +204,7 @@ impl Held {
         }
         match reader.read_some(&mut self.piece) {
             Ok(0) => Ok(false),
-            Ok(count) => match self.bytes.extend_from_slice(&self.piece[..count]) {
+            Ok(count) => match append(&mut self.bytes, &self.piece[..count]) {
                 Ok(()) => {
                     self.credit = self.credit.saturating_add(AGAIN * count as u64);
                     Ok(true)

@@ -1,5 +1,6 @@
-//! Traces of version 3 that are read from a reader, a record at a time. The text is never in memory:
-//! a count takes that of the start and one record, and reading that of the trace besides.
+//! Traces of version 3 that are read from a reader, a record at a time. Records share the buffers
+//! that they were read into. A count takes the memory of the start and one record, and reading that
+//! of the trace with these buffers.
 #![tactic(auto)]
 
 mod counting;

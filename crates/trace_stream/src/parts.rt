@@ -107,7 +107,8 @@ fn try_record<R: Source>(
     ensures failures { R.failures reader.new ≡ R.failures reader.old + failed result }
     ensures bound { IfOk result (λ _. held.new.place + length held.new.rest < 2 ^ 63) }
 {
-    match read_record(alloc, start, front, held.rest(), held.place()) {
+    let (buffer, from) = held.buffer();
+    match read_record(alloc, start, front, buffer, from, held.place()) {
         Ok((record, count)) => {
             held.skip(count);
             Ok(Some(record))

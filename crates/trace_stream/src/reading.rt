@@ -39,8 +39,8 @@ fn add_next<R: Source>(
     }
 }
 
-/// The trace whose first bytes were read ahead, and whose others the reader has left. It takes the
-/// memory of the trace and of the bytes of one record.
+/// The trace whose first bytes were read ahead, and whose others the reader has left. Its records
+/// share the buffers that they were read into.
 ///
 /// # Errors
 ///

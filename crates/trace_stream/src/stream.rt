@@ -14,7 +14,8 @@ use trace_format::{Kind, Series, TraceFault};
 use trace_records::{Front, Record, Start, Tally, read_record};
 
 /// The records of a trace of version 3 that is taken from a reader, which stands beside it. It
-/// keeps the bytes of one record, and of the start what decides its records.
+/// keeps the buffers of two records at most, which these share, and of the start what decides its
+/// records.
 #[derive(Drop)]
 pub struct Stream {
     held: Held,
@@ -101,7 +102,7 @@ impl Stream {
         ensures taken { Takes (R.left reader.old) (R.left reader.new) }
         ensures failures { R.failures reader.new ≡ R.failures reader.old + failed result }
     {
-        let mut held = Held::new(alloc, ahead);
+        let mut held = Held::new(alloc, ahead)?;
         let start = start_on(alloc, &mut held, reader)?;
         let core = core_of(alloc, &start)?;
         let stream = Stream {
@@ -179,8 +180,9 @@ impl Stream {
             × (self.new.held.place < 2 ^ 63))) }
         ensures failures { failed result ≡ 0 }
     {
+        let (buffer, from) = self.held.buffer();
         let place = self.held.place();
-        match read_record(alloc, &self.core, &self.front, self.held.rest(), place) {
+        match read_record(alloc, &self.core, &self.front, buffer, from, place) {
             Ok((next, count)) => match next {
                 Some(record) => {
                     self.held.skip(count);
