@@ -9,8 +9,8 @@ kept_bytes (Plain bytes) = bytes.items
 kept_bytes (Part part) = part
 kept_bytes (Shared pages) = pages.value.list
 
--- few are plain; more are shared, and where they lie in several pages their first 64 are plain too
+-- those in one page are a part of it; of others few are plain, and more are shared, with their first 64 plain too
 abbrev pub IsKept : Kept → Type 0
 IsKept (Plain bytes) = length bytes.items ≤ 2048
-IsKept (Part part) = 2048 < length part
+IsKept (Part part) = Unit
 IsKept (Shared pages) = (2048 < length pages.value.list) × (pages.value.front.items ≡ take 64 pages.value.list)

@@ -282,6 +282,7 @@ impl Extents {
 
     /// The bytes from `lo` up to `hi` as a part of the page that they lie in, which is shared; none
     /// where they lie in several, or it isn't stored.
+    #[inline(always)]
     pub(crate) fn part(&self, lo: u64, hi: u64) -> Result<Option<PagePart>, AllocError>
         requires forward { lo ≤ hi }
         requires inside { hi ≤ length self.now }

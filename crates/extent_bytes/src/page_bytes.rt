@@ -82,6 +82,7 @@ pub(crate) fn part_of_page(pages: &Pages, number: u64, from: usize, to: usize) -
 }
 
 // A part of one page, which is shared; none where the page is not stored.
+#[inline(always)]
 pub(crate) fn shared_part(
     pages: &Pages,
     number: u64,

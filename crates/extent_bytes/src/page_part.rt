@@ -26,6 +26,7 @@ impl Model for PagePart {
 
 impl PagePart {
     // The bytes of a page from one place up to another.
+    #[inline(always)]
     pub(crate) fn of(page: &Page, from: usize, to: usize) -> Result<PagePart, AllocError>
         requires forward { from ≤ to }
         requires inside { to ≤ PAGE_SIZE }

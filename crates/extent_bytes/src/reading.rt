@@ -10,9 +10,9 @@ use crate::shared_pages::SharedPages;
 use std::alloc::{AllocError, Global};
 use std::marker::Model;
 
-/// The most bytes that are copied. More are shared: half a page, so that a page that is changed
-/// after it was read, and so copied then, has cost no more than twice what a copy of the bytes
-/// would have.
+/// The most bytes that are copied where they are kept, or do not lie in one stored page. More are
+/// shared: half a page, so that a page that is changed after it was read, and so copied then, has
+/// cost no more than twice what a copy of the bytes would have.
 pub const MOST_COPIED: u64 = 2_048;
 
 /// The most bytes that [`ReadBytes::front`] shows.
@@ -29,13 +29,16 @@ pub(crate) struct SharedBytes {
 #[derive(Drop)]
 pub(crate) enum Kept {
     Plain(Vec<u8>),
-    // All of them lie in one page, which is stored.
+    // All of them lie in one page, which is stored. They may be few.
     Part(PagePart),
     Shared(Box<SharedBytes>),
 }
 
-/// Bytes that were read. Up to 2,048 of them are a copy, and more share the pages that they were
-/// read from, so that zeros take no memory.
+/// Bytes that were read. Those that lie in one stored page share it. Of others up to 2,048 are a
+/// copy, and more share the pages that they were read from, so that zeros take no memory.
+///
+/// Few bytes share their page while they are looked at. Who keeps them copies what
+/// [`ReadBytes::few`] gives, so that the page has one owner again.
 #[derive(Drop)]
 pub struct ReadBytes {
     kept: Kept,
@@ -84,14 +87,28 @@ impl ReadBytes {
         requires inside { hi ≤ length list.now }
         ensures { IfOk result (λ bytes. bytes ≡ range_of list.now lo hi) }
     {
+        if lo == hi {
+            return Ok(ReadBytes::none(alloc));
+        }
+        match list.part(lo, hi)? {
+            Some(part) => Ok(ReadBytes {
+                kept: Kept::Part(part),
+            }),
+            None => ReadBytes::spread(alloc, list, lo, hi),
+        }
+    }
+
+    /// Bytes of a list that do not lie in one stored page. It is a function of its own, so that
+    /// [`ReadBytes::of`] stays short where it is inlined.
+    #[inline(never)]
+    fn spread(alloc: Global, list: &Extents, lo: u64, hi: u64) -> Result<Self, AllocError>
+        requires forward { lo ≤ hi }
+        requires inside { hi ≤ length list.now }
+        ensures { IfOk result (λ bytes. bytes ≡ range_of list.now lo hi) }
+    {
         if hi - lo <= MOST_COPIED {
             return Ok(ReadBytes {
                 kept: Kept::Plain(list.read(lo, hi)?),
-            });
-        }
-        if let Some(part) = list.part(lo, hi)? {
-            return Ok(ReadBytes {
-                kept: Kept::Part(part),
             });
         }
         let front = list.read(lo, lo + FRONT as u64)?;
@@ -114,7 +131,7 @@ impl ReadBytes {
         }
     }
 
-    /// All of them, where they are a copy. It takes no memory.
+    /// All of them, where there are at most 2,048. It takes no memory.
     pub fn few(&self) -> Option<&[u8]>
         ensures all { IfSome result (λ few. few.now ≡ self.now) }
         ensures few { IfSome result (λ few. length few.now ≤ MOST_COPIED) }
@@ -122,7 +139,15 @@ impl ReadBytes {
     {
         match &self.kept {
             Kept::Plain(bytes) => Some(bytes),
-            Kept::Part(_) | Kept::Shared(_) => None,
+            Kept::Part(part) => {
+                let bytes = part.as_slice();
+                if bytes.len() as u64 <= MOST_COPIED {
+                    Some(bytes)
+                } else {
+                    None
+                }
+            }
+            Kept::Shared(_) => None,
         }
     }
 
@@ -168,6 +193,8 @@ impl ReadBytes {
     {
         match (&self.kept, &other.kept) {
             (Kept::Plain(bytes), Kept::Plain(others)) => bytes.as_slice() == others.as_slice(),
+            (Kept::Plain(bytes), Kept::Part(part)) => bytes.as_slice() == part.as_slice(),
+            (Kept::Part(part), Kept::Plain(bytes)) => part.as_slice() == bytes.as_slice(),
             (Kept::Part(part), Kept::Part(others)) => part.as_slice() == others.as_slice(),
             (Kept::Part(part), Kept::Shared(shared)) => shared.list.is_slice(part.as_slice()),
             (Kept::Shared(shared), Kept::Part(part)) => shared.list.is_slice(part.as_slice()),

@@ -64,7 +64,8 @@ impl Tree {
         bytes.read(lo, hi)
     }
 
-    /// What [`Tree::read`] gives, as bytes that share the file's pages where they are many.
+    /// What [`Tree::read`] gives, as bytes that share the file's pages where they lie in one or are
+    /// many.
     ///
     /// # Errors
     ///

@@ -180,6 +180,43 @@ fn keeps_bytes_that_were_read(rt: HostRuntime) -> Result<(), Fail> {
     Ok(())
 }
 
+/// Whether both are the same bytes, whichever is asked.
+fn alike(some: &ReadBytes, others: &ReadBytes) -> bool {
+    some.same(others) && others.same(some)
+}
+
+/// Whether all of few bytes are these.
+fn are(few: &ReadBytes, bytes: &[u8]) -> bool {
+    match few.few() {
+        Some(few) => few == bytes,
+        None => false,
+    }
+}
+
+/// Whether few bytes within a stored page are the same as those across two, and zeros there the
+/// same as those of a page that is not stored, and all of them stay where the list is written to.
+fn few_are_alike(alloc: Global, list: &mut Extents) -> Result<bool, AllocError>
+    requires { length list.old ≡ 10 }
+{
+    list.write(4_094, b"2345")?;
+    list.set_len(MAX_LEN)?;
+    let within = ReadBytes::of(alloc, list, 2, 6)?;
+    let across = ReadBytes::of(alloc, list, 4_094, 4_098)?;
+    let zeros_within = ReadBytes::of(alloc, list, 20, 24)?;
+    let zeros = ReadBytes::of(alloc, list, 50_000, 50_004)?;
+    list.write(0, b"xxxxxxxxxxxxxxxxxxxxxxxx")?;
+    let stay = are(&within, b"2345") && are(&zeros_within, b"\0\0\0\0");
+    let told_apart = !alike(&within, &zeros) && !alike(&across, &zeros_within);
+    Ok(stay && told_apart && alike(&within, &across) && alike(&zeros_within, &zeros))
+}
+
+#[test]
+fn few_bytes_are_the_same_anywhere(rt: HostRuntime) -> Result<(), Fail> {
+    let mut list = digits(rt.alloc())?;
+    assert!(rt; few_are_alike(rt.alloc(), &mut list)?);
+    Ok(())
+}
+
 /// A text of many x, one y at 9,999, and then many z.
 fn marked_text(alloc: Global) -> Result<Arc<Vec<u8>>, AllocError> {
     let mut bytes = Vec::new(alloc);

@@ -142,7 +142,8 @@ impl State {
         self.nodes.read(alloc, node, low, high)
     }
 
-    /// What [`State::bytes`] gives, as bytes that share the file's pages where they are many.
+    /// What [`State::bytes`] gives, as bytes that share the file's pages where they lie in one or
+    /// are many.
     ///
     /// # Errors
     ///

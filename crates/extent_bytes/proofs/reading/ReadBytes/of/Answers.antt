@@ -1,26 +1,10 @@
--- More than 2,048 bytes are shared, and the first 64 of those in several pages are the range's.
-use Rattle.std.proofs.Common.{◌≡◌, ◌+◌, ◌-◌, ◌≤◌, IfSome, length, take, drop, arith, ap, subst, sym, ◌∙◌}
-use Rattle.std.proofs.lemmas.List.{take-take}
+-- Of no bytes the range is empty.
+use Rattle.std.proofs.Common.{◌≡◌, ◌-◌, take, drop, arith, ap, ◌∙◌}
 use Rattle.extent_bytes.specs.Bytes.{range_of}
-use Rattle.extent_bytes.proofs.Lists.{length-part}
 use Rattle.extent_bytes.proofs.reading.ReadBytes.of.Goals as goal
 
-pub invariant_of-result-in-Some : goal.invariant_of-result-in-Some
+pub returns-then-lo-hi : goal.returns-then-lo-hi
 unfolding range_of
-invariant_of-result-in-Some c =
-    let list = c.args.list.now in
-    let same = subst (λ o. IfSome o (λ part. part ≡ range_of list c.args.lo c.args.hi)) c.in-Some.is c.in_ok-part.ensures in
-    omega (arith, ap length same, length-part list c.args.lo c.args.hi c.requires.forward c.requires.inside, c.if-hi-lo-le-MOST_COPIED.false)
-
-pub invariant_of-result-2 : goal.invariant_of-result-2
-unfolding range_of
-invariant_of-result-2 c =
-    let kept = c.in_ok-shared.ensures.ok in
-    let lo = c.args.lo in
-    let whole = drop lo c.args.list.now in
-    let some : 64 ≤ c.args.hi - lo = omega (arith, c.if-hi-lo-le-MOST_COPIED.false) in
-    let count : lo + 64 - lo ≡ 64 = omega arith in (
-      omega (arith, ap (λ k. length k.list) kept, c.in_ok-list.ensures.len, c.if-hi-lo-le-MOST_COPIED.false),
-      ap (λ k. k.front.items) kept ∙ c.in_ok-front.ensures.value ∙ ap (λ n. take n whole) count
-          ∙ sym (take-take 64 (c.args.hi - lo) whole some) ∙ ap (take 64) (sym c.in_ok-list.ensures.value) ∙ ap (λ k. take 64 k.list) (sym kept),
-    )
+returns-then-lo-hi c =
+    let none : 0 ≡ c.args.hi - c.args.lo = omega (arith, c.if-lo-hi.true) in
+    c.none.ensures ∙ ap (λ n. take n (drop c.args.lo c.args.list.now)) none
